@@ -1,0 +1,16 @@
+//! Numbers, byte strings, maps and machines that every crate above speaks of.
+#![tactic(auto)]
+
+mod ballot;
+mod bytes;
+mod machine;
+mod memory;
+mod place;
+mod version;
+
+pub use ballot::{Ballot, Epoch, Stamp};
+pub use bytes::Bytes;
+pub use machine::Machine;
+pub use memory::Memory;
+pub use place::{LogId, NodeId, Tag};
+pub use version::{Step, Version};

@@ -1,0 +1,51 @@
+//! What every node that answers asks is.
+ghost use Rattle.std.specs.Prelude.{◌≡◌, List, ℕ, IfOk, OnErr, IsOk};
+ghost use Rattle.fr_base.specs.HighWater.{NoneFell};
+
+use crate::memory::Memory;
+use std::alloc::Global;
+
+/// A machine that answers each ask with a tell. What it answers and where it then stands are functions
+/// of where it stood and of the ask alone.
+pub trait Machine {
+    /// What a machine is asked.
+    type Ask;
+
+    /// What it answers.
+    type Tell;
+
+    /// The states that a machine can stand in.
+    ghost IsReached: { Self → Type 0 };
+
+    /// What an ask is told.
+    ghost told: { Self → Self.Ask → Self.Tell };
+
+    /// The state after an ask.
+    ghost after: { Self → Self.Ask → Self };
+
+    /// The values that never go back.
+    ghost high_water: { Self → List ℕ };
+
+    /// The asks that are answered without memory.
+    ghost TakesNone: { Self → Self.Ask → Type 0 };
+
+    /// Answers an ask. Want of memory changes nothing.
+    fn step(&mut self, alloc: Global, ask: Self::Ask) -> Result<Self::Tell, Memory>
+        ensures reached { IsReached self.new }
+        ensures told { IfOk result (λ tell. tell ≡ told self.old ask) }
+        ensures after { IfOk result (λ _. self.new ≡ after self.old ask) }
+        ensures err { OnErr result (self.new ≡ self.old) }
+        ensures free { TakesNone self.old ask → IsOk result };
+
+    /// An ask leaves a state that can be reached in such a state.
+    ghost stays_reached: { (s : Self) (a : Self.Ask) → IsReached s → IsReached (after s a) };
+
+    /// An ask repeated at once is told the same.
+    ghost told_again: { (s : Self) (a : Self.Ask) → IsReached s → told (after s a) a ≡ told s a };
+
+    /// An ask repeated at once changes nothing.
+    ghost after_again: { (s : Self) (a : Self.Ask) → IsReached s → after (after s a) a ≡ after s a };
+
+    /// No ask lowers a high-water value.
+    ghost never_back: { (s : Self) (a : Self.Ask) → IsReached s → NoneFell (high_water s) (high_water (after s a)) };
+}
