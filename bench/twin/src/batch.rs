@@ -1,0 +1,150 @@
+//! Mutations, batches and their limits.
+
+use std::cmp::Ordering;
+
+const MOST_MUTATIONS: usize = 1_000;
+const LONGEST_KEY: usize = 10_000;
+const LONGEST_VALUE: usize = 100_000;
+
+pub enum Mutation {
+    Set {
+        key: Vec<u8>,
+        value: Vec<u8>,
+    },
+    Clear {
+        begin: Vec<u8>,
+        end: Vec<u8>,
+    },
+    Combine {
+        how: Combine,
+        key: Vec<u8>,
+        param: Vec<u8>,
+    },
+}
+
+/// How a parameter is put together with the value that stands.
+#[derive(Clone, Copy)]
+pub enum Combine {
+    Add,
+    And,
+    Or,
+    Xor,
+    Max,
+    Min,
+}
+
+/// Mutations within the limits, applied from first to last.
+pub struct Batch(Box<[Mutation]>);
+
+/// The first limit that a list of mutations breaks.
+#[derive(Clone, Copy, Debug, PartialEq)]
+pub enum BatchFault {
+    TooMany,
+    KeyTooLong,
+    ValueTooLong,
+    Inverted,
+}
+
+impl BatchFault {
+    pub fn name(self) -> &'static str {
+        match self {
+            BatchFault::TooMany => "TooMany",
+            BatchFault::KeyTooLong => "KeyTooLong",
+            BatchFault::ValueTooLong => "ValueTooLong",
+            BatchFault::Inverted => "Inverted",
+        }
+    }
+}
+
+impl Batch {
+    pub fn new(mutations: Vec<Mutation>) -> Result<Self, BatchFault> {
+        if mutations.len() > MOST_MUTATIONS {
+            return Err(BatchFault::TooMany);
+        }
+        mutations.iter().try_for_each(Mutation::check)?;
+        Ok(Batch(mutations.into_boxed_slice()))
+    }
+
+    pub fn into_mutations(self) -> Box<[Mutation]> {
+        self.0
+    }
+}
+
+impl Mutation {
+    fn check(&self) -> Result<(), BatchFault> {
+        match self {
+            Mutation::Set { key, value: text }
+            | Mutation::Combine {
+                key, param: text, ..
+            } => {
+                if key.len() > LONGEST_KEY {
+                    return Err(BatchFault::KeyTooLong);
+                }
+                if text.len() > LONGEST_VALUE {
+                    return Err(BatchFault::ValueTooLong);
+                }
+            }
+            Mutation::Clear { begin, end } => {
+                if begin.len() > LONGEST_KEY || end.len() > LONGEST_KEY {
+                    return Err(BatchFault::KeyTooLong);
+                }
+                if begin > end {
+                    return Err(BatchFault::Inverted);
+                }
+            }
+        }
+        Ok(())
+    }
+}
+
+impl Combine {
+    /// The new value, made in the parameter's own place. The old value counts as cut, or extended by
+    /// zero bytes, to the parameter's length.
+    pub fn apply(self, old: Option<&[u8]>, mut param: Vec<u8>) -> Vec<u8> {
+        match (self, old) {
+            (Combine::And | Combine::Max | Combine::Min, None) => {}
+            (Combine::Add, old) => add(&mut param, old.unwrap_or_default()),
+            (Combine::Or, old) => zip(&mut param, old.unwrap_or_default(), |p, o| p | o),
+            (Combine::Xor, old) => zip(&mut param, old.unwrap_or_default(), |p, o| p ^ o),
+            (Combine::And, Some(old)) => zip(&mut param, old, |p, o| p & o),
+            (Combine::Max, Some(old)) => choose(&mut param, old, Ordering::Greater),
+            (Combine::Min, Some(old)) => choose(&mut param, old, Ordering::Less),
+        }
+        param
+    }
+}
+
+/// Joins each byte of the parameter with the old value's, which is zero past its end.
+fn zip(param: &mut [u8], old: &[u8], join: impl Fn(u8, u8) -> u8) {
+    let (front, rest) = param.split_at_mut(old.len().min(param.len()));
+    for (p, o) in front.iter_mut().zip(old) {
+        *p = join(*p, *o);
+    }
+    for p in rest {
+        *p = join(*p, 0);
+    }
+}
+
+/// The little-endian sum; what goes past the last byte is dropped.
+fn add(param: &mut [u8], old: &[u8]) {
+    let mut carry = false;
+    let old = old.iter().copied().chain(std::iter::repeat(0));
+    for (p, o) in param.iter_mut().zip(old) {
+        let (sum, over) = p.overflowing_add(o);
+        let (sum, over_again) = sum.overflowing_add(u8::from(carry));
+        *p = sum;
+        carry = over || over_again;
+    }
+}
+
+/// Takes the old value where it stands to the parameter as wanted, both as little-endian numbers.
+fn choose(param: &mut [u8], old: &[u8], wanted: Ordering) {
+    let old_byte = |at: usize| old.get(at).copied().unwrap_or(0);
+    let order = (0..param.len())
+        .rev()
+        .map(|at| old_byte(at).cmp(&param[at]))
+        .find(|order| order.is_ne());
+    if order == Some(wanted) {
+        zip(param, old, |_, o| o);
+    }
+}

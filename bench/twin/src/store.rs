@@ -1,0 +1,175 @@
+//! A store with undo rows.
+
+use crate::batch::{Batch, Mutation};
+use std::collections::btree_map::{BTreeMap, Entry};
+use std::collections::VecDeque;
+use std::mem;
+
+/// A key and the value that it had before, if any.
+type Row = (Vec<u8>, Option<Vec<u8>>);
+
+/// The undo rows of one version; never none.
+struct Undo {
+    version: u64,
+    rows: Box<[Row]>,
+}
+
+/// Keys with their values, and for each version above the floor what its batch changed.
+#[derive(Default)]
+pub struct Store {
+    values: BTreeMap<Vec<u8>, Vec<u8>>,
+    undo: VecDeque<Undo>,
+    undo_rows: usize,
+    applied: u64,
+    floor: u64,
+}
+
+#[derive(Clone, Copy, Debug, PartialEq)]
+pub enum StoreFault {
+    NotAfter,
+    BelowFloor,
+    AboveApplied,
+}
+
+impl StoreFault {
+    pub fn name(self) -> &'static str {
+        match self {
+            StoreFault::NotAfter => "NotAfter",
+            StoreFault::BelowFloor => "BelowFloor",
+            StoreFault::AboveApplied => "AboveApplied",
+        }
+    }
+}
+
+impl Store {
+    pub fn applied(&self) -> u64 {
+        self.applied
+    }
+
+    pub fn floor(&self) -> u64 {
+        self.floor
+    }
+
+    pub fn undo_rows(&self) -> usize {
+        self.undo_rows
+    }
+
+    /// The keys with their values, in order.
+    pub fn values(&self) -> impl Iterator<Item = (&[u8], &[u8])> {
+        self.values
+            .iter()
+            .map(|(k, v)| (k.as_slice(), v.as_slice()))
+    }
+
+    pub fn apply(&mut self, version: u64, batch: Batch) -> Result<(), StoreFault> {
+        self.advance(version)?;
+        let mutations = batch.into_mutations();
+        let mut changes = Vec::with_capacity(mutations.len());
+        for mutation in mutations {
+            match mutation {
+                Mutation::Set { key, value } => self.write(key, &mut changes, |_| value),
+                Mutation::Combine { how, key, param } => {
+                    self.write(key, &mut changes, |old| how.apply(old, param))
+                }
+                Mutation::Clear { begin, end } => {
+                    let gone = self.values.extract_if(begin..end, |_, _| true);
+                    changes.extend(gone.map(|(key, value)| (key, Some(value))));
+                }
+            }
+        }
+        let rows = self.rows_of(changes);
+        if !rows.is_empty() {
+            self.undo_rows += rows.len();
+            self.undo.push_back(Undo { version, rows });
+        }
+        Ok(())
+    }
+
+    /// Writes a key, and notes the value before where that differs.
+    fn write(
+        &mut self,
+        key: Vec<u8>,
+        changes: &mut Vec<Row>,
+        new: impl FnOnce(Option<&[u8]>) -> Vec<u8>,
+    ) {
+        match self.values.entry(key) {
+            Entry::Occupied(mut entry) => {
+                let value = new(Some(entry.get()));
+                if value != *entry.get() {
+                    let old = mem::replace(entry.get_mut(), value);
+                    changes.push((entry.key().clone(), Some(old)));
+                }
+            }
+            Entry::Vacant(entry) => {
+                changes.push((entry.key().clone(), None));
+                entry.insert(new(None));
+            }
+        }
+    }
+
+    /// The undo rows of a batch, from its single changes in their order. A key that was changed once
+    /// has another value now; one that was changed again may be back at its first.
+    fn rows_of(&self, mut changes: Vec<Row>) -> Box<[Row]> {
+        if changes.len() < 2 {
+            return changes.into_boxed_slice();
+        }
+        changes.sort_by(|one, other| one.0.cmp(&other.0));
+        let mut rows = Vec::with_capacity(changes.len());
+        let mut changes = changes.into_iter().peekable();
+        while let Some((key, before)) = changes.next() {
+            let mut again = false;
+            while changes.next_if(|next| next.0 == key).is_some() {
+                again = true;
+            }
+            if !again || self.values.get(&key) != before.as_ref() {
+                rows.push((key, before));
+            }
+        }
+        rows.into_boxed_slice()
+    }
+
+    /// Goes back to the state at a version; later rows first, so that the earliest stands.
+    pub fn undo_to(&mut self, version: u64) -> Result<(), StoreFault> {
+        if version < self.floor {
+            return Err(StoreFault::BelowFloor);
+        }
+        while let Some(undo) = self.undo.pop_back() {
+            if undo.version <= version {
+                self.undo.push_back(undo);
+                break;
+            }
+            self.undo_rows -= undo.rows.len();
+            for (key, before) in undo.rows {
+                match before {
+                    Some(value) => self.values.insert(key, value),
+                    None => self.values.remove(&key),
+                };
+            }
+        }
+        self.applied = self.applied.min(version);
+        Ok(())
+    }
+
+    pub fn forget_through(&mut self, version: u64) -> Result<(), StoreFault> {
+        if version > self.applied {
+            return Err(StoreFault::AboveApplied);
+        }
+        self.floor = self.floor.max(version);
+        while let Some(undo) = self.undo.pop_front() {
+            if undo.version > self.floor {
+                self.undo.push_front(undo);
+                break;
+            }
+            self.undo_rows -= undo.rows.len();
+        }
+        Ok(())
+    }
+
+    pub fn advance(&mut self, version: u64) -> Result<(), StoreFault> {
+        if version <= self.applied {
+            return Err(StoreFault::NotAfter);
+        }
+        self.applied = version;
+        Ok(())
+    }
+}
