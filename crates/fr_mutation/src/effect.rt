@@ -1,68 +1,48 @@
 //! What a batch makes of a map.
-ghost use Rattle.std.specs.Prelude.{◌≡◌, List, ℕ, OnOk, IfOk, None, Some, [], unwrap_or};
-ghost use Rattle.std.specs.Option.{option_copied};
+ghost use Rattle.std.specs.Prelude.{◌≡◌, ℕ, List, OnOk, OnErr};
 ghost use Rattle.std.specs.BTreeMap as tree;
+ghost use Rattle.std.specs.BTreeMap.{IsUnchanged};
 ghost use Rattle.fr_base.specs.Bytes.{bytes_cmp};
 ghost use Rattle.fr_base.specs.Map.{map_of};
-ghost use Rattle.fr_mutation.specs.Mutation.{value_after, after, is_between};
-ghost use Rattle.fr_mutation.specs.declared.mutation.Mutation.TheVariants.{Set, Clear, Add};
+ghost use Rattle.fr_mutation.specs.Mutation.{value_after, after, is_between, IsAfterFront};
+ghost use Rattle.fr_mutation.specs.declared.mutation.Mutation.TheVariants.{Clear};
 
-use crate::add::sum;
-use crate::mutation::{Batch, Mutation};
+use crate::batch::Batch;
+use crate::mutation::Mutation;
 use fr_base::{Bytes, Memory};
 use std::alloc::Global;
 use std::collections::BTreeMap;
 
-/// Applies the mutations from first to last. Want of memory may leave a front of them applied.
-pub fn apply(
-    alloc: Global,
-    rows: &mut BTreeMap<Bytes, Bytes>,
-    batch: &Batch,
-) -> Result<(), Memory>
-    ensures { OnOk result (map_of rows.new ≡ after (map_of rows.old) batch.now) }
+/// Lets the mutations act on the rows, from first to last. Want of memory leaves the rows as some first
+/// mutations made them.
+pub fn apply(alloc: Global, rows: &mut BTreeMap<Bytes, Bytes>, batch: &Batch) -> Result<(), Memory>
+    ensures ok { OnOk result (map_of rows.new ≡ after (map_of rows.old) batch.now) }
+    ensures front { OnErr result (IsAfterFront (map_of rows.old) batch.now (map_of rows.new)) }
 {
     for mutation in batch.mutations() {
-        match mutation {
-            Mutation::Set { key, value } => set(rows, key, value)?,
-            Mutation::Clear { begin, end } => clear(rows, begin, end),
-            Mutation::Add { key, param } => add(alloc, rows, key, param)?,
+        act(alloc, rows, mutation)?;
+    }
+    Ok(())
+}
+
+/// Lets one mutation act on the rows. Want of memory changes nothing.
+fn act(alloc: Global, rows: &mut BTreeMap<Bytes, Bytes>, mutation: &Mutation) -> Result<(), Memory>
+    ensures ok { OnOk result ((q : List ℕ) → tree.get bytes_cmp rows.new q ≡ value_after mutation.now q (tree.get bytes_cmp rows.old q)) }
+    ensures err { OnErr result (IsUnchanged rows.old rows.new) }
+{
+    if let Mutation::Clear { begin, end } = mutation {
+        clear(rows, begin, end);
+    } else if let Some(key) = mutation.key() {
+        if let Some(value) = mutation.new_value(alloc, rows.get(key))? {
+            rows.insert(key.copy()?, value)?;
         }
     }
     Ok(())
 }
 
-fn set(rows: &mut BTreeMap<Bytes, Bytes>, key: &Bytes, value: &Bytes) -> Result<(), Memory>
-    ensures { OnOk result ((q : List ℕ) → tree.get bytes_cmp rows.new q ≡ value_after (Set key.now value.now) q (tree.get bytes_cmp rows.old q)) }
-{
-    rows.insert(key.copy()?, value.copy()?)?;
-    Ok(())
-}
-
+/// Removes the rows whose keys are at least `begin` and below `end`; the others are not looked at.
 fn clear(rows: &mut BTreeMap<Bytes, Bytes>, begin: &Bytes, end: &Bytes)
     ensures { (q : List ℕ) → tree.get bytes_cmp rows.new q ≡ value_after (Clear begin.now end.now) q (tree.get bytes_cmp rows.old q) }
 {
-    rows.retain(|key, _| !is_within(begin, end, key));
-}
-
-fn add(
-    alloc: Global,
-    rows: &mut BTreeMap<Bytes, Bytes>,
-    key: &Bytes,
-    param: &Bytes,
-) -> Result<(), Memory>
-    ensures { OnOk result ((q : List ℕ) → tree.get bytes_cmp rows.new q ≡ value_after (Add key.now param.now) q (tree.get bytes_cmp rows.old q)) }
-{
-    let new = match rows.get(key) {
-        Some(old) => sum(alloc, old.as_slice(), param.as_slice())?,
-        None => sum(alloc, &[], param.as_slice())?,
-    };
-    rows.insert(key.copy()?, Bytes::from_vec(new))?;
-    Ok(())
-}
-
-/// Whether the key is at least `begin` and below `end`.
-fn is_within(begin: &Bytes, end: &Bytes, key: &Bytes) -> bool
-    ensures { result ≡ is_between begin.now end.now key.now }
-{
-    begin.cmp(key).is_le() && key.cmp(end).is_lt()
+    rows.retain(|key, _| !(begin.cmp(key).is_le() && key.cmp(end).is_lt()));
 }

@@ -1,0 +1,1 @@
+-- What `extract_if` with a test that always holds leaves of the entries.
