@@ -1,12 +1,33 @@
 -- What holds of the definitions.
-use Rattle.std.specs.Prelude.{◌≡◌, ℕ, List, ◌++◌}
+use Rattle.std.specs.Prelude.{◌≡◌, ◌↔◌, ℕ, true, false, ◌&&◌, List, [], ◌++◌}
 use Rattle.std.specs.FinMap.{get}
 use Rattle.fr_base.specs.Map.{Map}
 use Rattle.fr_mutation.specs.declared.mutation.Mutation.{Mutation}
-use Rattle.fr_mutation.specs.Mutation.{after, value_after_all}
+use Rattle.fr_mutation.specs.Mutation.{after, value_after_all, touched}
+use Rattle.fr_mutation.specs.Clip.{clipped}
+use Rattle.fr_mutation.specs.Shard.{in_shard, part}
+use Rattle.fr_mutation.specs.declared.shard.Shard.{Shard}
 
+-- the map after mutations has at each key the value after them of the value before
 abbrev pub ValueAfterLaw : Type 0
 ValueAfterLaw = (m : Map) (mutations : List Mutation) (q : List ℕ) → get (after m mutations) q ≡ value_after_all mutations q (get m q)
 
+-- the map after the mutations of two lists is the map after the second of the map after the first
 abbrev pub AfterAllLaw : Type 0
 AfterAllLaw = (m : Map) (first second : List Mutation) → after m (first ++ second) ≡ after (after m first) second
+
+-- what a clip makes of a shard's part of a map is that part of what the mutations make of the map
+abbrev pub ClipLaw : Type 0
+ClipLaw = (m : Map) (mutations : List Mutation) (s : Shard) → after (part m s) (clipped mutations s) ≡ part (after m mutations) s
+
+-- a clip acts on the keys of the shard on which the mutations act
+abbrev pub ClipTouchesLaw : Type 0
+ClipTouchesLaw = (mutations : List Mutation) (s : Shard) (q : List ℕ) → touched (clipped mutations s) q ≡ (touched mutations q && in_shard s q)
+
+-- a clip is empty exactly where the mutations act on no key of the shard
+abbrev pub ClipEmptyLaw : Type 0
+ClipEmptyLaw = (mutations : List Mutation) (s : Shard) → (clipped mutations s ≡ []) ↔ ((q : List ℕ) → in_shard s q ≡ true → touched mutations q ≡ false)
+
+-- a clip is its own clip
+abbrev pub ClipTwiceLaw : Type 0
+ClipTwiceLaw = (mutations : List Mutation) (s : Shard) → clipped (clipped mutations s) s ≡ clipped mutations s

@@ -43,6 +43,14 @@ impl Batch {
         }
     }
 
+    /// The batch of mutations that keep the limits.
+    pub(crate) fn within(mutations: Vec<Mutation>) -> Self
+        requires { batch_fault mutations.items ≡ None }
+        ensures { result ≡ mutations.items }
+    {
+        Batch { mutations }
+    }
+
     /// The mutations, from first to last.
     pub fn mutations(&self) -> &[Mutation]
         ensures mutations { result.now ≡ self.now }

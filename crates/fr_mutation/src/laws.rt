@@ -1,5 +1,5 @@
 //! Laws of the definitions, in the words of who uses a map.
-ghost use Rattle.fr_mutation.specs.Laws.{ValueAfterLaw, AfterAllLaw};
+ghost use Rattle.fr_mutation.specs.Laws.{ValueAfterLaw, AfterAllLaw, ClipLaw, ClipTouchesLaw, ClipEmptyLaw, ClipTwiceLaw};
 
 /// The map after a batch has at each key the value that the mutations make, one after the other, of the
 /// value before.
@@ -11,4 +11,24 @@ pub fn after_law()
 /// after the first.
 pub fn after_all_law()
     ensures { AfterAllLaw }
+{}
+
+/// What a clip makes of a shard's part of a map is that part of what the batch makes of the map.
+pub fn clip_law()
+    ensures { ClipLaw }
+{}
+
+/// A clip acts on those keys on which the batch acts and which are in the shard.
+pub fn clip_touches_law()
+    ensures { ClipTouchesLaw }
+{}
+
+/// A clip has no mutation exactly where the batch acts on no key of the shard.
+pub fn clip_empty_law()
+    ensures { ClipEmptyLaw }
+{}
+
+/// A clip that is clipped again to the same shard stays as it is.
+pub fn clip_twice_law()
+    ensures { ClipTwiceLaw }
 {}

@@ -1,21 +1,30 @@
 //! Why a store refuses.
 use fr_base::Memory as NoMemory;
+use thiserror::Error;
 
-#[derive(Clone, Copy, Debug, PartialEq, Eq)]
+/// Why a call of a store was refused. In the order of the variants their numbers are 1 to 7.
+#[derive(Clone, Copy, Debug, PartialEq, Eq, Error)]
 pub enum StoreFault {
-    /// The device failed.
+    /// The device failed in this call. The store answers `Failed` until it is opened again.
+    #[error("the store's device failed")]
     Device,
-    /// There is no room.
+    /// The device has no room for what the call writes.
+    #[error("the store's device has no room")]
     Full,
-    /// The store failed before and was not opened again.
+    /// The device failed in an earlier call, and the store was not opened again since.
+    #[error("the store failed before and was not opened again")]
     Failed,
-    /// There is no memory.
+    /// A growth of memory was refused.
+    #[error("out of memory")]
     Memory,
     /// The version is not after the one applied.
+    #[error("the version is not after the one applied")]
     NotAfter,
     /// The version is below the floor.
+    #[error("the version is below the floor")]
     BelowFloor,
     /// The version is above the one applied.
+    #[error("the version is above the one applied")]
     AboveApplied,
 }
 

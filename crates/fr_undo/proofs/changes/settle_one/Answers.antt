@@ -1,0 +1,17 @@
+use Rattle.std.proofs.Common.{ap, ◌∙◌, cond, Some}
+use Rattle.std.specs.Map.{lookup}
+use Rattle.std.specs.BTreeMap as tree
+use Rattle.std.specs.BTreeMap.{is_at}
+use Rattle.fr_undo.specs.State.{place_cmp}
+use Rattle.fr_undo.proofs.RowLemmas.{lower_place}
+use Rattle.fr_undo.proofs.changes.settle_one.Goals as goal
+
+pub returns-in_err-insert-2-clause-below : goal.returns-in_err-insert-2-clause-below
+returns-in_err-insert-2-clause-below c = λ p lt.
+    c.in_ok-insert.ensures.updates.0 p
+    ∙ ap (λ b. cond b (Some c.args.before) (tree.get place_cmp c.args.rows.now p)) (lower_place c.args.version c.in_ok-copy.field-0 p lt)
+
+pub returns-in_ok-insert-2-clause-below : goal.returns-in_ok-insert-2-clause-below
+returns-in_ok-insert-2-clause-below c = λ p lt.
+    c.in_ok-insert.ensures.updates.0 p
+    ∙ ap (λ b. cond b (Some c.args.before) (tree.get place_cmp c.args.rows.now p)) (lower_place c.args.version c.in_ok-copy.field-0 p lt)

@@ -1,0 +1,28 @@
+-- The trees in which a store in memory keeps its state.
+use Rattle.std.specs.Prelude.{◌≡◌, ◌<◌, ◌≤◌, ℕ, cond, List, Option, None, Some, IsSome}
+use Rattle.std.specs.BTreeMap as tree
+use Rattle.std.specs.BTreeMap.{BTreeMap, is_at}
+use Rattle.fr_undo.specs.State.{Place, place_cmp}
+
+-- keys with their values
+abbrev pub Contents : Type 0
+Contents = BTreeMap (List ℕ) (List ℕ)
+
+-- keys with a value, or none
+abbrev pub Kept : Type 0
+Kept = BTreeMap (List ℕ) (Option (List ℕ))
+
+-- what keys held before versions
+abbrev pub Rows : Type 0
+Rows = BTreeMap Place (Option (List ℕ))
+
+-- no row is above the version
+abbrev pub IsUpTo : Rows → ℕ → Type 0
+IsUpTo rows t = (version : ℕ) (key : List ℕ) → IsSome (tree.get place_cmp rows (version, key)) → version ≤ t
+
+-- the row at a place above the version, after which no version has a row, is taken
+pub record PopsAbove (rows : Rows) (t : ℕ) (place : Place) (before : Option (List ℕ)) (left : Rows) : Type 0 where
+  pub above : t < place.0
+  pub was : tree.get place_cmp rows place ≡ Some before
+  pub greatest : IsUpTo rows place.0
+  pub updates : (p : Place) → tree.get place_cmp left p ≡ cond (is_at (place_cmp place) p) None (tree.get place_cmp rows p)
