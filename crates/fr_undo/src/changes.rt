@@ -7,7 +7,7 @@ ghost use Rattle.std.specs.BTreeMap.{is_at};
 ghost use Rattle.fr_base.specs.Bytes.{bytes_cmp, is_same};
 ghost use Rattle.fr_mutation.specs.Mutation.{is_between};
 ghost use Rattle.fr_undo.specs.State.{Place, place_cmp};
-ghost use Rattle.fr_undo.specs.Touched.{AreTouched, touches};
+ghost use Rattle.fr_undo.specs.Touched.{AreTouched, may_change};
 ghost use Rattle.fr_undo.specs.Undo.{same_value, before_if_changed};
 ghost use Rattle.fr_undo.specs.Changes.{change_settled, row_settled};
 
@@ -89,14 +89,13 @@ pub(crate) fn touch_all(
 ) -> Result<(), Memory>
     requires { AreTouched contents.now before.old values.old }
     ensures kept { OnOk result (AreTouched contents.now before.new values.new) }
-    ensures touched { OnOk result ((q : List ℕ) → is_some (tree.get bytes_cmp before.new q) ≡ (list_any (touches q (is_some (tree.get bytes_cmp contents.now q))) batch.now || is_some (tree.get bytes_cmp before.old q))) }
+    ensures touched { OnOk result ((q : List ℕ) → is_some (tree.get bytes_cmp before.new q) ≡ (list_any (may_change q (is_some (tree.get bytes_cmp contents.now q))) batch.now || is_some (tree.get bytes_cmp before.old q))) }
 {
     for mutation in batch.mutations() {
-        match mutation {
-            Mutation::Set { key, .. } | Mutation::Add { key, .. } => {
-                touch(contents, before, values, key)?
-            }
-            Mutation::Clear { begin, end } => touch_range(contents, before, values, begin, end)?,
+        if let Mutation::Clear { begin, end } = mutation {
+            touch_range(contents, before, values, begin, end)?;
+        } else if let Some(key) = mutation.key() {
+            touch(contents, before, values, key)?;
         }
     }
     Ok(())

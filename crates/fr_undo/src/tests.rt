@@ -23,7 +23,7 @@ fn undo_gives_the_earlier_value(rt: HostRuntime) -> Result<(), Fail> {
     let mut store = MapStore::new(alloc);
     let mut first = Vec::new(alloc);
     first.push(set(alloc, b"a", b"\x01")?)?;
-    store.apply(alloc, five, &Batch::from_vec(first))?;
+    store.apply(alloc, five, &Batch::new(first)?)?;
     assert_eq!(rt; store.undo_rows(), 1);
     let mut second = Vec::new(alloc);
     second.push(set(alloc, b"a", b"\x02")?)?;
@@ -35,7 +35,7 @@ fn undo_gives_the_earlier_value(rt: HostRuntime) -> Result<(), Fail> {
         key: bytes(alloc, b"a")?,
         param: bytes(alloc, b"\x05")?,
     })?;
-    let second = Batch::from_vec(second);
+    let second = Batch::new(second)?;
     store.apply(alloc, six, &second)?;
     assert_eq!(rt; store.applied().get(), 6);
     assert_eq!(rt; store.undo_rows(), 2);
