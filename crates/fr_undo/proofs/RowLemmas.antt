@@ -1,6 +1,6 @@
 -- Undo rows, from the newest version down and from the oldest up.
 use Rattle.std.proofs.Common.{◌≡◌, ℕ, zero, suc, ◌+◌, ◌<◌, ◌≤◌, Bool, true, false, not, cond, ◌&&◌, List, [], ◌∷◌, length, Option, None, Some, IsSome, IfSome, refl, sym, ap, ◌∙◌, subst, arith}
-use Rattle.std.specs.Prelude.{◌==◌, is_some, is_none, nat_le}
+use Rattle.std.specs.Prelude.{◌==◌, is_some, is_none, nat_le, nat_lt}
 use Rattle.std.specs.declared.cmp.Ordering.{Ordering}
 use Rattle.std.specs.declared.cmp.Ordering.TheVariants.{Less, Equal, Greater}
 use Rattle.std.specs.Option.{option_or}
@@ -13,13 +13,13 @@ use Rattle.std.specs.List.{filter, AllByRecursion}
 use Rattle.std.specs.List.Sorted.{IsStrictlySortedBy}
 use Rattle.std.proofs.lemmas.Map.Keys.{sorted_head, sorted_tail}
 use Rattle.std.specs.FinMap.{get}
-use Rattle.std.proofs.lemmas.Bool.{leb-true, leb-false}
+use Rattle.std.proofs.lemmas.Bool.{leb-true, leb-false, ltb-false}
 use Rattle.fr_base.specs.Bytes.{bytes_cmp, is_same, bytes_exact}
 use Rattle.fr_base.specs.Map.{map_of}
 use Rattle.fr_base.proofs.MapLemmas.{get-map_of, one_key, is_same-comm}
 use Rattle.fr_undo.specs.State.{Place, place_cmp, UndoRows}
 use Rattle.fr_undo.specs.declared.changes.Change.{Change}
-use Rattle.fr_undo.specs.Trees.{Contents, Rows, IsUpTo, PopsAbove}
+use Rattle.fr_undo.specs.Trees.{Contents, Rows, IsUpTo, IsAbove, PopsAbove}
 use Rattle.fr_undo.specs.Changes.{Changes, KnowNew, after_of, first_row}
 use Rattle.fr_undo.specs.Undo.{least_row}
 use Rattle.fr_undo.proofs.UndoLemmas.{place_total, is_eq_second}
@@ -134,7 +134,29 @@ above_from_not_le a b e = from (nat_cmp a b) refl
     from Equal t = absurd (clash (sym e ∙ ap is_le t))
     from Greater t = ranked a b Greater (sym t)
 
--- ---- rows walked from the oldest up
+-- ---- rows from the oldest up
+
+pub from_not_gt : (p q : Place) → is_gt (place_cmp p q) ≡ false → p.0 ≤ q.0
+from_not_gt p q e = from (nat_cmp p.0 q.0) refl
+  where
+    from : (r : Ordering) → nat_cmp p.0 q.0 ≡ r → p.0 ≤ q.0
+    from Less t = let lt : p.0 < q.0 = ranked p.0 q.0 Less (sym t) in omega arith
+    from Equal t = let is : p.0 ≡ q.0 = ranked p.0 q.0 Equal (sym t) in omega arith
+    from Greater t = absurd (greater (sym (ap (λ r. is_gt (ordering_then r (bytes_cmp p.1 q.1))) t) ∙ e))
+      where
+        greater : true ≡ false → ⊥
+        greater h = cc
+
+pub above_left : (rows : Rows) (f : ℕ) → IsAbove rows f → (p : Place) → tree.get place_cmp rows p ≡ cond (nat_lt f p.0) (tree.get place_cmp rows p) None
+above_left rows f above p =
+    elim (nat_lt f p.0) as (λ b. nat_lt f p.0 ≡ b → tree.get place_cmp rows p ≡ cond b (tree.get place_cmp rows p) None) [
+      | true ↦ λ e. refl
+      | false ↦ λ e. none (tree.get place_cmp rows p) refl (ltb-false f p.0 e)
+    ] refl
+  where
+    none : (o : Option (Option (List ℕ))) → tree.get place_cmp rows p ≡ o → p.0 ≤ f → o ≡ None
+    none None is at = refl
+    none (Some x) is at = absurd (let lt = above p.0 p.1 (ap is_some is) in omega arith)
 
 -- of n versions after t the first that has something
 least_by : (ℕ → Option (Option (List ℕ))) → ℕ → ℕ → Option (Option (List ℕ))

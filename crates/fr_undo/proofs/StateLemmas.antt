@@ -1,17 +1,17 @@
 -- States of a store: what stays sound, and what changes nothing.
 use Rattle.std.proofs.Common.{◌≡◌, ℕ, ◌+◌, ◌-◌, ◌<◌, ◌≤◌, Bool, true, false, cond, List, Option, None, Some, IsSome, inl, inr, ⊎_elim, refl, sym, ap, ◌∙◌, arith}
-use Rattle.std.specs.Prelude.{unwrap_or, is_some, nat_le, ◌==◌, ◌⊎◌}
+use Rattle.std.specs.Prelude.{unwrap_or, is_some, nat_le, nat_lt, ◌==◌, ◌⊎◌}
 use Rattle.std.specs.Option.{option_or}
 use Rattle.std.specs.Cmp.{unsigned_Decides}
 use Rattle.std.specs.FinMap.{get, same_map, get-empty}
-use Rattle.std.proofs.lemmas.Bool.{leb-true, leb-false}
+use Rattle.std.proofs.lemmas.Bool.{leb-true, leb-false, ltb-true, ltb-false}
 use Rattle.fr_base.specs.Bytes.{bytes_total, bytes_exact}
 use Rattle.fr_base.specs.Map.{Map}
 use Rattle.fr_mutation.specs.declared.mutation.Mutation.{Mutation}
 use Rattle.fr_mutation.specs.Mutation.{after}
 use Rattle.fr_undo.specs.State.{Place, place_cmp, StoreState, IsStoreState, fresh}
-use Rattle.fr_undo.specs.Undo.{undone, extended, advanced, row_at, before_if_changed, rows}
-use Rattle.fr_undo.proofs.UndoLemmas.{place_total, place_exact, get-contents_undone, get-rows_through, same_state, least_row-none, get-joined, get-rows}
+use Rattle.fr_undo.specs.Undo.{undone, extended, forgotten, advanced, row_at, before_if_changed, rows}
+use Rattle.fr_undo.proofs.UndoLemmas.{place_total, place_exact, get-contents_undone, get-rows_through, get-rows_above, same_state, least_row-none, get-joined, get-rows}
 
 -- ---- undoing
 
@@ -84,6 +84,35 @@ advanced_sound s v sound later = record {
   above = sound.above;
   upto = λ w q some. let le = sound.upto w q some in omega arith;
 }
+
+-- ---- forgetting
+
+pub forgotten_sound : (s : StoreState) (f : ℕ) → IsStoreState s → f ≤ s.applied → IsStoreState (forgotten s f)
+forgotten_sound s f sound within = record {
+  floor = let le = sound.floor in omega arith;
+  above = λ w q some.
+      let h = some_left (nat_lt f w) _ (ap is_some (sym (get-rows_above s.undo f (w, q))) ∙ some) in
+      let beyond = ltb-true f w h.0 in
+      let above = sound.above w q h.1 in
+      omega arith;
+  upto = λ w q some. sound.upto w q (some_left (nat_lt f w) _ (ap is_some (sym (get-rows_above s.undo f (w, q))) ∙ some)).1;
+}
+
+-- to forget through a version that is not above the floor changes nothing
+pub forgotten_nothing : (s : StoreState) (f : ℕ) → IsStoreState s → f ≤ s.floor → forgotten s f ≡ s
+forgotten_nothing s f sound le = same_state _ _ refl
+    (same_map place_total place_exact _ _ (λ p. get-rows_above s.undo f p ∙ all_left p))
+    refl (omega arith) refl
+  where
+    all_left : (p : Place) → cond (nat_lt f p.0) (get s.undo p) None ≡ get s.undo p
+    all_left p = elim (nat_lt f p.0) as (λ b. nat_lt f p.0 ≡ b → cond b (get s.undo p) None ≡ get s.undo p) [
+      | true ↦ λ e. refl
+      | false ↦ λ e. sym (none (get s.undo p) refl (ltb-false f p.0 e))
+    ] refl
+      where
+        none : (o : Option (Option (List ℕ))) → get s.undo p ≡ o → p.0 ≤ f → o ≡ None
+        none None is at = refl
+        none (Some x) is at = absurd (let above = sound.above p.0 p.1 (ap is_some is) in omega arith)
 
 -- ---- a new store
 

@@ -1,11 +1,20 @@
 //! Copies of what a store keeps.
-ghost use Rattle.std.specs.Prelude.{◌≡◌, IfOk, OnOk};
+ghost use Rattle.std.specs.Prelude.{◌≡◌, ℕ, List, IfOk};
+ghost use Rattle.std.specs.FinMap as map;
 ghost use Rattle.std.specs.BTreeMap as tree;
+ghost use Rattle.std.specs.BTreeMap.Range.{entries_between, IsLeBy, IsLtBy};
+ghost use Rattle.std.specs.Range.Bound.{bound_map, IsForward};
+ghost use Rattle.std.specs.declared.ops.Bound.TheVariants.{Included};
+ghost use Rattle.fr_base.specs.Map.{map_of};
+ghost use Rattle.fr_mutation.specs.Shard.{part};
+ghost use Rattle.fr_undo.specs.State.{Place, place_cmp};
 ghost use Rattle.fr_base.specs.Bytes.{bytes_cmp};
 
-use fr_base::{Bytes, Memory};
+use fr_base::{Bytes, Memory, Version};
+use fr_mutation::Shard;
 use std::alloc::Global;
 use std::collections::BTreeMap;
+use std::ops::Bound;
 
 /// A copy of a value, or none.
 pub(crate) fn copy_of(value: &Option<Bytes>) -> Result<Option<Bytes>, Memory>
@@ -30,17 +39,78 @@ pub(crate) fn value_copy(
     }
 }
 
+/// Copies of the keys from `begin` up to an end, with their values, in the order of the keys.
+fn between_copy(
+    alloc: Global,
+    contents: &BTreeMap<Bytes, Bytes>,
+    begin: &Bytes,
+    end: Bound<&Bytes>,
+) -> Result<Vec<(Bytes, Bytes)>, Memory>
+    requires { IsForward (IsLeBy bytes_cmp) (IsLtBy bytes_cmp) (Included begin.now) (bound_map (λ x. x.now) end) }
+    ensures { IfOk result (λ entries. entries.items ≡ entries_between bytes_cmp (Included begin.now) (bound_map (λ x. x.now) end.entry) (map.entries {R = bytes_cmp} (map_of contents.now))) }
+{
+    let mut entries = Vec::new(alloc);
+    for (key, value) in contents.range((Bound::Included(begin), end)) {
+        entries.push((key.copy()?, value.copy()?))?;
+    }
+    Ok(entries)
+}
+
+/// Copies of the keys of a shard with their values, in the order of the keys.
+pub(crate) fn range_copy(
+    alloc: Global,
+    contents: &BTreeMap<Bytes, Bytes>,
+    shard: &Shard,
+) -> Result<Vec<(Bytes, Bytes)>, Memory>
+    ensures { IfOk result (λ entries. entries.items ≡ map.entries (part (map_of contents.now) shard.now)) }
+{
+    match &shard.end {
+        None => between_copy(alloc, contents, &shard.begin, Bound::Unbounded),
+        Some(end) if shard.begin <= *end => {
+            between_copy(alloc, contents, &shard.begin, Bound::Excluded(end))
+        }
+        Some(_) => Ok(Vec::new(alloc)),
+    }
+}
+
 /// Copies of all keys with their values, in the order of the keys.
 pub(crate) fn entries_copy(
     alloc: Global,
     contents: &BTreeMap<Bytes, Bytes>,
 ) -> Result<Vec<(Bytes, Bytes)>, Memory>
-    ensures entries { IfOk result (λ entries. entries.items ≡ contents.now.entries) }
-    ensures ordered { OnOk result (tree.IsOrdered bytes_cmp contents.now) }
+    ensures { IfOk result (λ entries. entries.items ≡ map.entries {R = bytes_cmp} (map_of contents.now)) }
 {
     let mut entries = Vec::new(alloc);
     for (key, value) in contents.iter() {
         entries.push((key.copy()?, value.copy()?))?;
     }
     Ok(entries)
+}
+
+/// A copy of all keys with their values.
+pub(crate) fn contents_copy(
+    alloc: Global,
+    contents: &BTreeMap<Bytes, Bytes>,
+) -> Result<BTreeMap<Bytes, Bytes>, Memory>
+    ensures { IfOk result (λ copy. (q : List ℕ) → tree.get bytes_cmp copy q ≡ tree.get bytes_cmp contents.now q) }
+{
+    let mut copy = BTreeMap::new(alloc);
+    for (key, value) in contents.iter() {
+        copy.insert(key.copy()?, value.copy()?)?;
+    }
+    Ok(copy)
+}
+
+/// A copy of all undo rows.
+pub(crate) fn rows_copy(
+    alloc: Global,
+    rows: &BTreeMap<(Version, Bytes), Option<Bytes>>,
+) -> Result<BTreeMap<(Version, Bytes), Option<Bytes>>, Memory>
+    ensures { IfOk result (λ copy. (p : Place) → tree.get place_cmp copy p ≡ tree.get place_cmp rows.now p) }
+{
+    let mut copy = BTreeMap::new(alloc);
+    for (place, before) in rows.iter() {
+        copy.insert((place.0, place.1.copy()?), copy_of(before)?)?;
+    }
+    Ok(copy)
 }

@@ -1,12 +1,12 @@
 //! Undo rows, from the newest version down and from the oldest up.
-ghost use Rattle.std.specs.Prelude.{◌≡◌, ◌+◌, ◌<◌, ℕ, List, None, Some, OnOk, IfOk, IfSome, IfNone, cond, is_some, nat_le};
+ghost use Rattle.std.specs.Prelude.{◌≡◌, ◌+◌, ◌<◌, ℕ, List, None, Some, OnOk, IfOk, IfSome, IfNone, cond, is_some, nat_le, nat_lt};
 ghost use Rattle.std.specs.Option.{option_or};
 ghost use Rattle.std.specs.BTreeMap as tree;
 ghost use Rattle.std.specs.BTreeMap.{IsUnchanged, btree_map_len};
 ghost use Rattle.fr_base.specs.Bytes.{bytes_cmp, is_same};
 ghost use Rattle.fr_base.specs.Map.{map_of};
 ghost use Rattle.fr_undo.specs.State.{Place, place_cmp};
-ghost use Rattle.fr_undo.specs.Trees.{IsUpTo, PopsAbove};
+ghost use Rattle.fr_undo.specs.Trees.{IsUpTo, IsAbove, PopsAbove, PopsThrough};
 ghost use Rattle.fr_undo.specs.Changes.{KnowNew, after_of};
 ghost use Rattle.fr_undo.specs.Undo.{least_row};
 
@@ -37,6 +37,29 @@ pub(crate) fn drop_above(rows: &mut BTreeMap<(Version, Bytes), Option<Bytes>>, v
     ensures { (p : Place) → tree.get place_cmp rows.new p ≡ cond (nat_le p.0 version) (tree.get place_cmp rows.old p) None }
 {
     while let Some(_) = pop_above(rows, version) {}
+}
+
+/// Takes the oldest row, if it is at most at `version`.
+fn pop_through(
+    rows: &mut BTreeMap<(Version, Bytes), Option<Bytes>>,
+    version: Version,
+) -> Option<((Version, Bytes), Option<Bytes>)>
+    ensures some { IfSome result (λ row. PopsThrough rows.old version row.0 rows.new) }
+    ensures none { IfNone result (IsAbove rows.old version) }
+    ensures same { IfNone result (IsUnchanged rows.old rows.new) }
+    ensures len { btree_map_len rows.new + (cond (is_some result) 1 0) ≡ btree_map_len rows.old }
+{
+    match rows.first_key_value() {
+        Some((place, _)) if place.0 <= version => rows.pop_first(),
+        _ => None,
+    }
+}
+
+/// Removes the rows through a version.
+pub(crate) fn drop_through(rows: &mut BTreeMap<(Version, Bytes), Option<Bytes>>, version: Version)
+    ensures { (p : Place) → tree.get place_cmp rows.new p ≡ cond (nat_lt version p.0) (tree.get place_cmp rows.old p) None }
+{
+    while let Some(_) = pop_through(rows, version) {}
 }
 
 /// The version after one that is below another.

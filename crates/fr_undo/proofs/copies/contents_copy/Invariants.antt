@@ -1,0 +1,17 @@
+use Rattle.std.proofs.Common.{◌≡◌, ℕ, List}
+use Rattle.std.specs.List.Sorted.{IsStrictlySortedBy}
+use Rattle.std.specs.Map.{lookup, keys_of}
+use Rattle.std.specs.Option.{option_or}
+use Rattle.std.specs.BTreeMap as tree
+use Rattle.std.specs.BTreeMap.{is_at}
+use Rattle.fr_base.specs.Bytes.{bytes_cmp}
+use Rattle.fr_undo.proofs.copies.contents_copy.Given as goal
+
+-- what is left and what is copied are all
+abbrev pub invariant-loop-key : goal.invariant-loop-key
+invariant-loop-key l = record {
+  can : (goal.iterator-loop-key).can_next l.key-iterator;
+  ends : (goal.iterator-loop-key).is_finite l.key-iterator;
+  sorted : IsStrictlySortedBy bytes_cmp (keys_of l.key-iterator);
+  value : (q : List ℕ) → option_or (lookup (is_at (bytes_cmp q)) l.key-iterator) (tree.get bytes_cmp l.copy q) ≡ lookup (is_at (bytes_cmp q)) l.initial.key-iterator;
+}

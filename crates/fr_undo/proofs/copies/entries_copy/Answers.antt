@@ -1,0 +1,13 @@
+use Rattle.std.proofs.Common.{◌++◌, ap, sym, ◌∙◌, append-nil}
+use Rattle.fr_base.specs.Bytes.{bytes_cmp, bytes_total, bytes_exact}
+use Rattle.fr_undo.proofs.TreeLemmas.{entries-map_of}
+use Rattle.fr_undo.proofs.copies.entries_copy.Goals as goal
+
+pub returns : goal.returns
+returns c =
+    sym (append-nil c.loop-key.entries.items)
+    ∙ sym (ap (λ es. c.loop-key.entries.items ++ es) c.in-None.ensures.steps.0)
+    ∙ c.loop-key.invariant.rows
+    ∙ c.into_iter-key-iterator.ensures.into_iter_gives
+    ∙ c.iter-key-items.ensures.rest
+    ∙ sym (entries-map_of bytes_cmp bytes_total bytes_exact c.args.contents.now c.iter-key-items.ensures.ordered)
