@@ -22,6 +22,7 @@ use Rattle.fr_mutation.specs.Limits.{clear_fault, mutation_fault, first_fault, b
 use Rattle.fr_mutation.specs.declared.fault.BatchFault.TheVariants.{KeyTooLong, Inverted, TooMany}
 use Rattle.fr_mutation.specs.Clip.{later, earlier, clear_of, clip_clear, clip_one, clipped}
 use Rattle.fr_mutation.proofs.MutationLemmas.{touches_key, get-after, or_none}
+use Rattle.fr_mutation.proofs.LimitLemmas.{cond_none, option_or_none}
 use Rattle.fr_mutation.proofs.Order.{later_le, earlier_lt, nothing_between, le_itself, lt_one_way}
 
 -- what a clip of one mutation is
@@ -251,14 +252,6 @@ clipped-clipped (mutation ∷ mutations) s = go (clip_one s mutation) refl (clip
     go (Some kept) e rest = λ i. cons_option (clip_again s mutation kept e i) (rest i)
 
 -- ---- within the limits
-
-cond_none : {X : Type 0} (b : Bool) (x : X) (o : Option X) → cond b (Some x) o ≡ None → (b ≡ false) × (o ≡ None)
-cond_none true x o e = cc
-cond_none false x o e = (refl, e)
-
-option_or_none : {X : Type 0} (o p : Option X) → option_or o p ≡ None → (o ≡ None) × (p ≡ None)
-option_or_none None p e = (refl, e)
-option_or_none (Some x) p e = cc
 
 fits : (key : List ℕ) → length key ≤ 10000 → nat_lt 10000 (length key) ≡ false
 fits key h = grind (arith, nat_tests)

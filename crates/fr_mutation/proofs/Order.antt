@@ -72,6 +72,10 @@ not_false false e = cc
 pub le_from_not_lt : (a b : List ℕ) → is_lt (bytes_cmp a b) ≡ false → is_le (bytes_cmp b a) ≡ true
 le_from_not_lt a b e = not_false (is_le (bytes_cmp b a)) (sym (lt-le a b) ∙ e)
 
+-- the two ends of a clear, as a range is asked for them
+pub not_gt_from_not_lt : (a b : List ℕ) → is_lt (bytes_cmp a b) ≡ false → is_gt (bytes_cmp b a) ≡ false
+not_gt_from_not_lt a b e = gt_from_le (bytes_cmp b a) (le_from_not_lt a b e)
+
 -- one of two tests implies the other
 pub and_right : (a b : Bool) → (b ≡ true → a ≡ true) → b ≡ (a && b)
 and_right true b h = refl

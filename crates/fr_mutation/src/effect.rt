@@ -1,10 +1,12 @@
 //! What a batch makes of a map.
-ghost use Rattle.std.specs.Prelude.{◌≡◌, ℕ, List, OnOk, OnErr};
+ghost use Rattle.std.specs.Prelude.{◌≡◌, ℕ, List, None, false, OnOk, IfOk, OnErr, filter};
+ghost use Rattle.std.specs.Ordering.{is_lt};
 ghost use Rattle.std.specs.BTreeMap as tree;
 ghost use Rattle.std.specs.BTreeMap.{IsUnchanged};
 ghost use Rattle.fr_base.specs.Bytes.{bytes_cmp};
 ghost use Rattle.fr_base.specs.Map.{map_of};
 ghost use Rattle.fr_mutation.specs.Mutation.{value_after, after, is_between, IsAfterFront};
+ghost use Rattle.fr_mutation.specs.Limits.{mutation_fault};
 ghost use Rattle.fr_mutation.specs.declared.mutation.Mutation.TheVariants.{Clear};
 
 use crate::batch::Batch;
@@ -27,12 +29,14 @@ pub fn apply(alloc: Global, rows: &mut BTreeMap<Bytes, Bytes>, batch: &Batch) ->
 
 /// Lets one mutation act on the rows. Want of memory changes nothing.
 fn act(alloc: Global, rows: &mut BTreeMap<Bytes, Bytes>, mutation: &Mutation) -> Result<(), Memory>
+    requires { mutation_fault mutation.now ≡ None }
     ensures ok { OnOk result ((q : List ℕ) → tree.get bytes_cmp rows.new q ≡ value_after mutation.now q (tree.get bytes_cmp rows.old q)) }
     ensures err { OnErr result (IsUnchanged rows.old rows.new) }
 {
     if let Mutation::Clear { begin, end } = mutation {
-        clear(rows, begin, end);
-    } else if let Some(key) = mutation.key() {
+        return clear(alloc, rows, begin, end);
+    }
+    if let Some(key) = mutation.key() {
         if let Some(value) = mutation.new_value(alloc, rows.get(key))? {
             rows.insert(key.copy()?, value)?;
         }
@@ -40,9 +44,38 @@ fn act(alloc: Global, rows: &mut BTreeMap<Bytes, Bytes>, mutation: &Mutation) ->
     Ok(())
 }
 
-/// Removes the rows whose keys are at least `begin` and below `end`; the others are not looked at.
-fn clear(rows: &mut BTreeMap<Bytes, Bytes>, begin: &Bytes, end: &Bytes)
-    ensures { (q : List ℕ) → tree.get bytes_cmp rows.new q ≡ value_after (Clear begin.now end.now) q (tree.get bytes_cmp rows.old q) }
+/// Removes the rows whose keys are at least `begin` and below `end`; it walks these rows alone. Want of
+/// memory changes nothing, as their keys are copied before the first of them goes.
+fn clear(
+    alloc: Global,
+    rows: &mut BTreeMap<Bytes, Bytes>,
+    begin: &Bytes,
+    end: &Bytes,
+) -> Result<(), Memory>
+    requires { is_lt (bytes_cmp end.now begin.now) ≡ false }
+    ensures ok { OnOk result ((q : List ℕ) → tree.get bytes_cmp rows.new q ≡ value_after (Clear begin.now end.now) q (tree.get bytes_cmp rows.old q)) }
+    ensures err { OnErr result (IsUnchanged rows.old rows.new) }
 {
-    rows.retain(|key, _| !(begin.cmp(key).is_le() && key.cmp(end).is_lt()));
+    let keys = keys_between(alloc, rows, begin, end)?;
+    for key in keys.as_slice() {
+        rows.remove(key);
+    }
+    Ok(())
+}
+
+/// The keys of the rows that are at least `begin` and below `end`.
+fn keys_between(
+    alloc: Global,
+    rows: &BTreeMap<Bytes, Bytes>,
+    begin: &Bytes,
+    end: &Bytes,
+) -> Result<Vec<Bytes>, Memory>
+    requires { is_lt (bytes_cmp end.now begin.now) ≡ false }
+    ensures { IfOk result (λ keys. keys.items ≡ filter (is_between begin.now end.now) (tree.keys rows.now)) }
+{
+    let mut keys = Vec::new(alloc);
+    for (key, _) in rows.range(begin..end) {
+        keys.push(key.copy()?)?;
+    }
+    Ok(keys)
 }

@@ -1,0 +1,130 @@
+-- A mutation that is read is the one that was written, and what was written is read again.
+use Rattle.std.proofs.Common.{◌≡◌, ℕ, Bool, true, false, cond, List, [], ◌∷◌, ◌++◌, Option, Some, None, Ok, Err, refl, sym, ap, subst, ◌∙◌, append_assoc}
+use Rattle.std.specs.Prelude.{find, ◌==◌}
+use Rattle.std.specs.Ordering.{is_lt}
+use Rattle.std.proofs.lemmas.Bool.{eqb-true}
+use Rattle.fr_base.specs.Bytes.{bytes_cmp}
+use Rattle.fr_mutation.specs.declared.codec.fault.DecodeFault.TheVariants.{Inverted}
+use Rattle.fr_mutation.specs.declared.codec.kind.Kind.{Kind}
+use Rattle.fr_mutation.specs.declared.codec.kind.Kind.TheVariants as kinds
+use Rattle.fr_mutation.specs.declared.mutation.Mutation.{Mutation}
+use Rattle.fr_mutation.specs.declared.mutation.Mutation.TheVariants.{Set, Clear, Add, And, Or, Xor, Max, Min}
+use Rattle.fr_mutation.specs.Limits.{keyed_fault, clear_fault, mutation_fault}
+use Rattle.fr_mutation.specs.CodecKind.{kind_byte, all_kinds, kind_of, mutation_of}
+use Rattle.fr_mutation.specs.CodecSpelling.{spelled_key, spelled_operand, spelled_keyed, spelled_mutation}
+use Rattle.fr_mutation.specs.CodecReading.{◌>>=◌, known, kind_at, key_at, operand_at, clear_at, keyed_at, fields_at, mutation_at}
+use Rattle.fr_mutation.proofs.CodecLimits.{keyed_limits, keyed_within, clear_limits, clear_within}
+use Rattle.fr_mutation.proofs.CodecFields.{IsBytes, IsBytes-rest, bind_ok, guard_ok, ok_is, Takes, Takes-then, key_takes, key_again, operand_takes, operand_again}
+
+-- ---- kinds
+
+find_passes : {X : Type 0} (p : X → Bool) (xs : List X) (x : X) → find p xs ≡ Some x → p x ≡ true
+find_passes p [] x e = absurd cc
+find_passes p (y ∷ ys) x e = go (p y) refl e (find_passes p ys x)
+  where
+    go : (b : Bool) → p y ≡ b → cond b (Some y) (find p ys) ≡ Some x → (find p ys ≡ Some x → p x ≡ true) → p x ≡ true
+    go true h f later = let same : y ≡ x = cc in rw (← same) h
+    go false h f later = later f
+
+kind_is : (byte : ℕ) (kind : Kind) → kind_of byte ≡ Some kind → byte ≡ kind_byte kind
+kind_is byte kind e = eqb-true _ _ (find_passes (λ k. byte == kind_byte k) all_kinds kind e)
+
+known_ok : (o : Option Kind) (kind : Kind) → known o ≡ Ok kind → o ≡ Some kind
+known_ok None kind e = absurd cc
+known_ok (Some k) kind e = cc
+
+kind_takes : (bytes : List ℕ) (x : Kind × List ℕ) → IsBytes bytes → kind_at bytes ≡ Ok x → Takes bytes (kind_byte x.0 ∷ []) x.1
+unfolding kind_at
+kind_takes [] x fits e = absurd cc
+kind_takes (byte ∷ rest) x fits e =
+    let a = bind_ok (known (kind_of byte)) (λ kind. Ok (kind, rest)) x e in
+    let is : byte ≡ kind_byte a.0 = kind_is byte a.0 (known_ok (kind_of byte) a.0 a.1) in
+    subst (λ (p : Kind × List ℕ). Takes (byte ∷ rest) (kind_byte p.0 ∷ []) p.1) (ok_is (a.0, rest) x a.2)
+    (record { parts = ap (λ (b : ℕ). b ∷ rest) is; rest_fits = IsBytes-rest byte rest fits })
+
+-- ---- fields
+
+-- what was read behind a kind's byte, as it is spelled and within the limits
+pub record TakesFields (kind : Kind) (bytes : List ℕ) (x : Mutation × List ℕ) : Type 0 where
+  pub text : List ℕ
+  pub spells : spelled_mutation x.0 ≡ kind_byte kind ∷ text
+  pub takes : Takes bytes text x.1
+  pub within : mutation_fault x.0 ≡ None
+
+clear_takes : (bytes : List ℕ) (x : Mutation × List ℕ) → IsBytes bytes → clear_at bytes ≡ Ok x → TakesFields kinds.Clear bytes x
+unfolding clear_at
+clear_takes bytes x fits e =
+    let a = bind_ok (key_at bytes) (λ begin. key_at begin.1 >>= λ end. cond (is_lt (bytes_cmp end.0 begin.0)) (Err Inverted) (Ok (mutation_of kinds.Clear begin.0 end.0, end.1))) x e in
+    let b = bind_ok (key_at a.0.1) (λ end. cond (is_lt (bytes_cmp end.0 a.0.0)) (Err Inverted) (Ok (mutation_of kinds.Clear a.0.0 end.0, end.1))) x a.2 in
+    let g = guard_ok (is_lt (bytes_cmp b.0.0 a.0.0)) Inverted (Clear a.0.0 b.0.0, b.0.1) x b.2 in
+    let s = key_takes bytes a.0 fits a.1 in
+    let t = key_takes a.0.1 b.0 s.0.rest_fits b.1 in
+    subst (λ (p : Mutation × List ℕ). TakesFields kinds.Clear bytes p) g.1 (record {
+      text = spelled_key a.0.0 ++ spelled_key b.0.0;
+      spells = refl;
+      takes = Takes-then bytes (spelled_key a.0.0) a.0.1 (spelled_key b.0.0) b.0.1 s.0 t.0;
+      within = clear_within a.0.0 b.0.0 s.1 t.1 g.0;
+    })
+
+keyed_takes : (kind : Kind) → ((key operand : List ℕ) → spelled_mutation (mutation_of kind key operand) ≡ spelled_keyed kind key operand)
+    → ((key operand : List ℕ) → mutation_fault (mutation_of kind key operand) ≡ keyed_fault key operand)
+    → (bytes : List ℕ) (x : Mutation × List ℕ) → IsBytes bytes → keyed_at kind bytes ≡ Ok x → TakesFields kind bytes x
+unfolding keyed_at
+keyed_takes kind spells faults bytes x fits e =
+    let a = bind_ok (key_at bytes) (λ key. operand_at key.1 >>= λ operand. Ok (mutation_of kind key.0 operand.0, operand.1)) x e in
+    let b = bind_ok (operand_at a.0.1) (λ operand. Ok (mutation_of kind a.0.0 operand.0, operand.1)) x a.2 in
+    let s = key_takes bytes a.0 fits a.1 in
+    let t = operand_takes a.0.1 b.0 s.0.rest_fits b.1 in
+    let made : Mutation × List ℕ = (mutation_of kind a.0.0 b.0.0, b.0.1) in
+    subst (λ (p : Mutation × List ℕ). TakesFields kind bytes p) (ok_is made x b.2) (record {
+      text = spelled_key a.0.0 ++ spelled_operand b.0.0;
+      spells = spells a.0.0 b.0.0;
+      takes = Takes-then bytes (spelled_key a.0.0) a.0.1 (spelled_operand b.0.0) b.0.1 s.0 t.0;
+      within = faults a.0.0 b.0.0 ∙ keyed_within a.0.0 b.0.0 s.1 t.1;
+    })
+
+fields_take : (kind : Kind) (bytes : List ℕ) (x : Mutation × List ℕ) → IsBytes bytes → fields_at kind bytes ≡ Ok x → TakesFields kind bytes x
+fields_take kinds.Set = keyed_takes kinds.Set (λ k o. refl) (λ k o. refl)
+fields_take kinds.Clear = clear_takes
+fields_take kinds.Add = keyed_takes kinds.Add (λ k o. refl) (λ k o. refl)
+fields_take kinds.And = keyed_takes kinds.And (λ k o. refl) (λ k o. refl)
+fields_take kinds.Or = keyed_takes kinds.Or (λ k o. refl) (λ k o. refl)
+fields_take kinds.Xor = keyed_takes kinds.Xor (λ k o. refl) (λ k o. refl)
+fields_take kinds.Max = keyed_takes kinds.Max (λ k o. refl) (λ k o. refl)
+fields_take kinds.Min = keyed_takes kinds.Min (λ k o. refl) (λ k o. refl)
+
+clear_again : (begin end rest : List ℕ) → clear_fault begin end ≡ None → clear_at ((spelled_key begin ++ spelled_key end) ++ rest) ≡ Ok (Clear begin end, rest)
+unfolding clear_at
+clear_again begin end rest e =
+    let l = clear_limits begin end e in
+    ap clear_at (append_assoc (spelled_key begin) (spelled_key end) rest)
+    ∙ rw (key_again begin (spelled_key end ++ rest) l.0, key_again end rest l.1, l.2) refl
+
+keyed_again : (kind : Kind) (key operand rest : List ℕ) → keyed_fault key operand ≡ None → keyed_at kind ((spelled_key key ++ spelled_operand operand) ++ rest) ≡ Ok (mutation_of kind key operand, rest)
+unfolding keyed_at
+keyed_again kind key operand rest e =
+    let l = keyed_limits key operand e in
+    ap (keyed_at kind) (append_assoc (spelled_key key) (spelled_operand operand) rest)
+    ∙ rw (key_again key (spelled_operand operand ++ rest) l.0, operand_again operand rest l.1) refl
+
+-- ---- mutations
+
+pub mutation_takes : (bytes : List ℕ) (x : Mutation × List ℕ) → IsBytes bytes → mutation_at bytes ≡ Ok x → Takes bytes (spelled_mutation x.0) x.1 × (mutation_fault x.0 ≡ None)
+unfolding mutation_at
+mutation_takes bytes x fits e =
+    let a = bind_ok (kind_at bytes) (λ kind. fields_at kind.0 kind.1) x e in
+    let s = kind_takes bytes a.0 fits a.1 in
+    let t = fields_take a.0.0 a.0.1 x s.rest_fits a.2 in
+    let both : Takes bytes (kind_byte a.0.0 ∷ t.text) x.1 = Takes-then bytes (kind_byte a.0.0 ∷ []) a.0.1 t.text x.1 s t.takes in
+    (subst (λ (p : List ℕ). Takes bytes p x.1) (sym t.spells) both, t.within)
+
+pub mutation_again : (m : Mutation) (rest : List ℕ) → mutation_fault m ≡ None → mutation_at (spelled_mutation m ++ rest) ≡ Ok (m, rest)
+unfolding mutation_at kind_at
+mutation_again (Set key value) rest e = keyed_again kinds.Set key value rest e
+mutation_again (Clear begin end) rest e = clear_again begin end rest e
+mutation_again (Add key param) rest e = keyed_again kinds.Add key param rest e
+mutation_again (And key param) rest e = keyed_again kinds.And key param rest e
+mutation_again (Or key param) rest e = keyed_again kinds.Or key param rest e
+mutation_again (Xor key param) rest e = keyed_again kinds.Xor key param rest e
+mutation_again (Max key param) rest e = keyed_again kinds.Max key param rest e
+mutation_again (Min key param) rest e = keyed_again kinds.Min key param rest e

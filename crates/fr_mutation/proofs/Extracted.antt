@@ -1,1 +1,0 @@
--- What `extract_if` with a test that always holds leaves of the entries.

@@ -1,0 +1,200 @@
+//! Reads batches from bytes.
+ghost use Rattle.std.specs.Prelude.{◌≡◌, ◌≢◌, ◌≤◌, ◌↔◌, take, length, IfOk, IsOk, Err, Ok};
+ghost use Rattle.std.specs.Int.{w16, w32};
+ghost use Rattle.fr_mutation.specs.declared.codec.fault.DecodeFault.{DecodeFault};
+ghost use Rattle.fr_mutation.specs.CodecFields.{lent_mutation};
+ghost use Rattle.fr_mutation.specs.CodecSpelling.{spelled};
+ghost use Rattle.fr_mutation.specs.CodecReading.{Reads, byte_at, bytes_at, number_at, key_at, operand_at, kind_at, clear_at, keyed_at, mutation_at, mutations_at, header_at, rest_of, items_of, decoded};
+
+use crate::batch::{Batch, MAX_MUTATIONS};
+use crate::codec::FORMAT;
+use crate::codec::fault::DecodeFault;
+use crate::codec::fields::Fields;
+use crate::codec::kind::Kind;
+use crate::mutation::{MAX_KEY, MAX_VALUE, Mutation};
+use fr_base::Memory;
+use std::alloc::Global;
+
+/// A byte, and what follows it.
+fn byte_at(bytes: &[u8]) -> Result<(u8, &[u8]), DecodeFault>
+    ensures { Reads (λ x. (x.0, x.1.now)) result (byte_at bytes.now) }
+{
+    match bytes {
+        [] => Err(DecodeFault::Short),
+        [byte, rest @ ..] => Ok((*byte, rest)),
+    }
+}
+
+/// So many bytes, and what follows them.
+fn bytes_at(bytes: &[u8], len: usize) -> Result<(&[u8], &[u8]), DecodeFault>
+    ensures { Reads (λ x. (x.0.now, x.1.now)) result (bytes_at len bytes.now) }
+{
+    bytes.split_at_checked(len).ok_or(DecodeFault::Short)
+}
+
+/// A number of two bytes, at most the limit, and what follows it.
+#[tactic(auto, unfolding(crate::specs::CodecReading::number_at))]
+fn u16_at(bytes: &[u8], limit: usize) -> Result<(usize, &[u8]), DecodeFault>
+    ensures { Reads (λ x. (x.0, x.1.now)) result (number_at w16 limit bytes.now) }
+{
+    let (front, rest) = bytes.split_first_chunk::<2>().ok_or(DecodeFault::Short)?;
+    let number = u16::from_be_bytes(*front) as usize;
+    if number > limit {
+        return Err(DecodeFault::OverLimit);
+    }
+    Ok((number, rest))
+}
+
+/// A number of four bytes, at most the limit, and what follows it.
+#[tactic(auto, unfolding(crate::specs::CodecReading::number_at))]
+fn u32_at(bytes: &[u8], limit: usize) -> Result<(usize, &[u8]), DecodeFault>
+    ensures { Reads (λ x. (x.0, x.1.now)) result (number_at w32 limit bytes.now) }
+{
+    let (front, rest) = bytes.split_first_chunk::<4>().ok_or(DecodeFault::Short)?;
+    let number = u32::from_be_bytes(*front) as usize;
+    if number > limit {
+        return Err(DecodeFault::OverLimit);
+    }
+    Ok((number, rest))
+}
+
+/// A key or an end of a clear, and what follows it.
+#[tactic(auto, unfolding(crate::specs::CodecReading::field_at))]
+fn key_at(bytes: &[u8]) -> Result<(&[u8], &[u8]), DecodeFault>
+    ensures { Reads (λ x. (x.0.now, x.1.now)) result (key_at bytes.now) }
+{
+    let (len, rest) = u16_at(bytes, MAX_KEY)?;
+    bytes_at(rest, len)
+}
+
+/// A value or a parameter, and what follows it.
+#[tactic(auto, unfolding(crate::specs::CodecReading::field_at))]
+fn operand_at(bytes: &[u8]) -> Result<(&[u8], &[u8]), DecodeFault>
+    ensures { Reads (λ x. (x.0.now, x.1.now)) result (operand_at bytes.now) }
+{
+    let (len, rest) = u32_at(bytes, MAX_VALUE)?;
+    bytes_at(rest, len)
+}
+
+/// The kind of a mutation, and what follows its byte.
+#[tactic(auto, unfolding(crate::specs::CodecReading::kind_at))]
+fn kind_at(bytes: &[u8]) -> Result<(Kind, &[u8]), DecodeFault>
+    ensures { Reads (λ x. (x.0, x.1.now)) result (kind_at bytes.now) }
+{
+    let (byte, rest) = byte_at(bytes)?;
+    match Kind::from_byte(byte) {
+        None => Err(DecodeFault::UnknownKind),
+        Some(kind) => Ok((kind, rest)),
+    }
+}
+
+/// The ends of a clear, and what follows them.
+#[tactic(auto, unfolding(crate::specs::CodecReading::clear_at))]
+fn clear_at(bytes: &[u8]) -> Result<(Fields<'_>, &[u8]), DecodeFault>
+    ensures { Reads (λ x. (lent_mutation x.0, x.1.now)) result (clear_at bytes.now) }
+{
+    let (first, rest) = key_at(bytes)?;
+    let (second, rest) = key_at(rest)?;
+    if second.cmp(first).is_lt() {
+        return Err(DecodeFault::Inverted);
+    }
+    let kind = Kind::Clear;
+    Ok((
+        Fields {
+            kind,
+            first,
+            second,
+        },
+        rest,
+    ))
+}
+
+/// A key with its value or parameter, and what follows them.
+#[tactic(auto, unfolding(crate::specs::CodecReading::keyed_at))]
+fn keyed_at(kind: Kind, bytes: &[u8]) -> Result<(Fields<'_>, &[u8]), DecodeFault>
+    ensures { Reads (λ x. (lent_mutation x.0, x.1.now)) result (keyed_at kind bytes.now) }
+{
+    let (first, rest) = key_at(bytes)?;
+    let (second, rest) = operand_at(rest)?;
+    Ok((
+        Fields {
+            kind,
+            first,
+            second,
+        },
+        rest,
+    ))
+}
+
+/// A mutation, and what follows it.
+#[tactic(auto, unfolding(crate::specs::CodecReading::mutation_at))]
+fn mutation_at(bytes: &[u8]) -> Result<(Fields<'_>, &[u8]), DecodeFault>
+    ensures { Reads (λ x. (lent_mutation x.0, x.1.now)) result (mutation_at bytes.now) }
+{
+    match kind_at(bytes)? {
+        (Kind::Clear, rest) => clear_at(rest),
+        (kind, rest) => keyed_at(kind, rest),
+    }
+}
+
+/// What follows so many mutations.
+fn skip_mutations(count: usize, bytes: &[u8]) -> Result<&[u8], DecodeFault>
+    ensures { Reads (λ x. x.now) result (rest_of (mutations_at count bytes.now)) }
+{
+    let mut rest = bytes;
+    for _ in 0..count {
+        let (_, after) = mutation_at(rest)?;
+        rest = after;
+    }
+    Ok(rest)
+}
+
+/// Copies so many mutations, which are known to stand in front.
+fn copy_mutations(alloc: Global, count: usize, bytes: &[u8]) -> Result<Vec<Mutation>, Memory>
+    requires { IsOk (mutations_at count bytes.now) }
+    ensures { IfOk result (λ mutations. items_of (mutations_at count bytes.now) ≡ Ok mutations.items) }
+{
+    let mut mutations = Vec::with_capacity(alloc, count)?;
+    let mut rest = bytes;
+    for _ in 0..count {
+        let Ok((fields, after)) = mutation_at(rest) else {
+            unreachable!()
+        };
+        mutations.push(fields.to_mutation(alloc)?)?;
+        rest = after;
+    }
+    Ok(mutations)
+}
+
+/// The number of mutations, and what follows it.
+#[tactic(auto, unfolding(crate::specs::CodecReading::header_at))]
+fn header_at(bytes: &[u8]) -> Result<(usize, &[u8]), DecodeFault>
+    ensures { Reads (λ x. (x.0, x.1.now)) result (header_at bytes.now) }
+{
+    let (format, rest) = byte_at(bytes)?;
+    if format != FORMAT {
+        return Err(DecodeFault::UnknownKind);
+    }
+    u16_at(rest, MAX_MUTATIONS)
+}
+
+/// Reads a batch of format 1 from the front of the bytes, and says how many of them it took; what
+/// follows is left. It answers the first fault from the left. The bytes are looked through before any
+/// is copied, so want of memory is answered only where there is no other fault.
+pub fn decode(alloc: Global, bytes: &[u8]) -> Result<(Batch, usize), DecodeFault>
+    ensures ok { IfOk result (λ found. decoded bytes.now ≡ Ok found) }
+    ensures spelled { IfOk result (λ found. (found.1 ≤ length bytes.now) × (take found.1 bytes.now ≡ spelled found.0)) }
+
+    // The first fault from the left is answered, and no fault hides behind want of memory.
+    ensures refused { (fault : DecodeFault) → fault ≢ DecodeFault.Memory → ((result ≡ Err fault) ↔ (decoded bytes.now ≡ Err fault)) }
+    ensures memory { result ≡ Err DecodeFault.Memory → IsOk (decoded bytes.now) }
+{
+    let (count, front) = header_at(bytes)?;
+    let rest = skip_mutations(count, front)?;
+    let mutations = copy_mutations(alloc, count, front)?;
+    // What was read is within the limits.
+    let Ok(batch) = Batch::new(mutations) else {
+        unreachable!()
+    };
+    Ok((batch, bytes.len() - rest.len()))
+}
