@@ -1,0 +1,4 @@
+pub mod Json
+pub mod Script
+pub mod Lines
+pub mod Text

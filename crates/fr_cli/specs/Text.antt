@@ -1,0 +1,28 @@
+-- What was read of an input, and what is still to be written of a text.
+use Rattle.std.specs.Prelude.{◌≡◌, ◌≤◌, ◌*◌, ℕ, List, ◌++◌, length, Option, Some, None, ⊤}
+use Rattle.std.specs.Io.KnownBytes.{Consumes, IsAtEnd}
+use Rattle.fr_cli.specs.declared.script.Operation.{Operation}
+use Rattle.fr_cli.specs.Script.{script_of}
+use Rattle.fr_cli.specs.declared.input.TheConstants.{MAX_READS, READ_SIZE}
+
+-- these bytes were read, and no more are left
+pub record IsInput (old new : Option (List ℕ)) (input : List ℕ) : Type 0 where
+  pub all : Consumes old new input
+  pub end : IsAtEnd new
+  pub few : length input ≤ MAX_READS * READ_SIZE
+
+-- the input was read whole, and is this script, or none
+pub record HasRead (old new : Option (List ℕ)) (script : Option (List Operation)) : Type 0 where
+  pub input : List ℕ
+  pub whole : IsInput old new input
+  pub meant : script_of input ≡ script
+
+-- what the writer holds now and the rest are together what it held first and all of the text
+abbrev pub Owes : Option (List ℕ) → Option (List ℕ) → List ℕ → List ℕ → Type 0
+Owes None now rest all = ⊤
+Owes (Some xs) None rest all = ⊥
+Owes (Some xs) (Some ys) rest all = ys ++ rest ≡ xs ++ all
+
+-- the writer has gained a front of the text
+abbrev pub GainsFront : Option (List ℕ) → Option (List ℕ) → List ℕ → Type 0
+GainsFront old new all = (rest : List ℕ) × Owes old new rest all

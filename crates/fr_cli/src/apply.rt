@@ -1,0 +1,63 @@
+//! The command `apply`.
+ghost use Rattle.std.specs.Prelude.{◌≡◌, ◌⊎◌, List, ℕ, Err, IfOk, OnOk, Some, None};
+ghost use Rattle.std.specs.Io.KnownBytes.{Appends};
+ghost use Rattle.fr_cli.specs.declared.script.Operation.{Operation};
+ghost use Rattle.fr_cli.specs.Text.{HasRead, GainsFront};
+ghost use Rattle.fr_cli.specs.Lines.{lines_of};
+
+use crate::fault::CliFault;
+use crate::input::read_input;
+use crate::operations::run_operations;
+use crate::script::read_script;
+use fr_undo::MapStore;
+use std::alloc::Global;
+use std::io::{Read, Write};
+
+/// What a store keeps its rows in.
+#[derive(Clone, Copy, Debug, PartialEq, Eq)]
+pub enum StoreKind {
+    /// A map in memory.
+    Map,
+}
+
+/// The options of `apply`.
+#[derive(Clone, Copy, Debug, PartialEq, Eq)]
+pub struct ApplyOptions {
+    /// The store that the operations run on.
+    pub store: StoreKind,
+}
+
+/// Runs the operations of a script on an empty store, and writes a line for each and then the rows.
+///
+/// The status is 0. A script is read whole before its first line is written, so what is no script
+/// writes nothing. A store that fails ends the command as want of memory does.
+pub fn run_apply<R: Read, W: Write>(
+    alloc: Global,
+    options: ApplyOptions,
+    reader: &mut R,
+    writer: &mut W,
+) -> Result<u8, CliFault>
+    ensures status { IfOk result (λ status. status ≡ 0) }
+    ensures lines { OnOk result ((script : List Operation)
+        × HasRead (R.remaining reader.old) (R.remaining reader.new) (Some script)
+        × Appends (W.contents writer.old) (W.contents writer.new) (lines_of script)) }
+    ensures front { (writer.new ≡ writer.old) ⊎ ((script : List Operation)
+        × HasRead (R.remaining reader.old) (R.remaining reader.new) (Some script)
+        × GainsFront (W.contents writer.old) (W.contents writer.new) (lines_of script)) }
+    ensures bad { result ≡ Err CliFault.BadScript
+        → HasRead (R.remaining reader.old) (R.remaining reader.new) None }
+    ensures unwritten { (result ≡ Err CliFault.BadScript) ⊎ (result ≡ Err CliFault.Input)
+        → writer.new ≡ writer.old }
+    ensures output { result ≡ Err CliFault.Output → (script : List Operation)
+        × HasRead (R.remaining reader.old) (R.remaining reader.new) (Some script) }
+{
+    let input = read_input(alloc, reader)?;
+    let script = read_script(alloc, input)?;
+    match options.store {
+        StoreKind::Map => run_operations(alloc, &mut MapStore::new(alloc), script, writer)?,
+    }
+    if writer.flush().is_err() {
+        return Err(CliFault::Output);
+    }
+    Ok(0)
+}

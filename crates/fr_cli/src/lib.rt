@@ -1,0 +1,20 @@
+//! The commands of `fdbrec`, each a function over a reader and a writer.
+#![tactic(auto)]
+
+mod apply;
+mod fault;
+mod input;
+mod json;
+mod mutations;
+mod operations;
+mod output;
+mod script;
+
+pub use apply::{ApplyOptions, StoreKind, run_apply};
+pub use fault::CliFault;
+pub use input::{MAX_READS, READ_SIZE};
+pub use mutations::Mutations;
+pub use script::Operation;
+
+#[cfg(test)]
+mod tests;

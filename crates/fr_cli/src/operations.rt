@@ -1,0 +1,128 @@
+//! The operations of a script, run on a store.
+ghost use Rattle.std.specs.Prelude.{◌≡◌, ◌⊎◌, IfOk, IfErr, OnOk, Some, None, MatchResult, string_bytes, option_map};
+ghost use Rattle.std.specs.Io.KnownBytes.{Appends};
+ghost use Rattle.std.specs.FinMap as map;
+ghost use Rattle.fr_cli.specs.Text.{GainsFront};
+ghost use Rattle.fr_cli.specs.Lines.{ok_line, line_of as line_text, lines_from, row_lines, outcome_of, state_after, name_in, name_of, limit_name};
+
+use crate::fault::CliFault;
+use crate::output::{put, put_rows};
+use crate::script::Operation;
+use fr_mutation::{Batch, BatchFault};
+use fr_undo::{ShardStore, StoreFault};
+use std::alloc::{AllocError, Global};
+use std::io::Write;
+
+/// Runs operations on a store, and writes a line for each and then the rows.
+pub(crate) fn run_operations<S: ShardStore, W: Write>(
+    alloc: Global,
+    store: &mut S,
+    operations: Vec<Operation>,
+    writer: &mut W,
+) -> Result<(), CliFault>
+    ensures ok { OnOk result (Appends (W.contents writer.old) (W.contents writer.new) (lines_from (S.state store.old) operations.items)) }
+    ensures front { GainsFront (W.contents writer.old) (W.contents writer.new) (lines_from (S.state store.old) operations.items) }
+    ensures fault { IfErr result (λ e. (e ≡ CliFault.Output) ⊎ (e ≡ CliFault.Memory)) }
+{
+    for operation in operations {
+        let line = line_of(alloc, store, operation)?;
+        put(writer, line.as_str())?;
+    }
+    put_contents(alloc, store, writer)
+}
+
+/// Runs an operation, and gives its line.
+fn line_of<S: ShardStore>(
+    alloc: Global,
+    store: &mut S,
+    operation: Operation,
+) -> Result<String, CliFault>
+    ensures ok { IfOk result (λ line. string_bytes line ≡ line_text (outcome_of (S.state store.old) operation)) }
+    ensures state { OnOk result (S.state store.new ≡ state_after (S.state store.old) (outcome_of (S.state store.old) operation)) }
+    ensures fault { IfErr result (λ e. e ≡ CliFault.Memory) }
+{
+    match run_operation(alloc, store, operation)? {
+        None => Ok(ok_line(alloc, store)?),
+        Some(name) => Ok(format!(in alloc; "refused {name}\n")?),
+    }
+}
+
+/// Runs an operation, and gives the name of its refusal where it is refused.
+fn run_operation<S: ShardStore>(
+    alloc: Global,
+    store: &mut S,
+    operation: Operation,
+) -> Result<Option<&'static str>, CliFault>
+    ensures ok { IfOk result (λ name. option_map (λ s. s.now) name ≡ name_in (outcome_of (S.state store.old) operation)) }
+    ensures state { OnOk result (S.state store.new ≡ state_after (S.state store.old) (outcome_of (S.state store.old) operation)) }
+    ensures fault { IfErr result (λ e. e ≡ CliFault.Memory) }
+{
+    let taken = match operation {
+        Operation::Apply { version, batch } => match Batch::new(batch.into_vec()) {
+            Ok(batch) => store.apply(alloc, version, &batch),
+            Err(fault) => return Ok(Some(limit_of(fault)?)),
+        },
+        Operation::Undo { to } => store.undo_to(alloc, to),
+        Operation::Forget { through } => store.forget_through(alloc, through),
+        Operation::Advance { version } => store.advance(version),
+    };
+    match taken {
+        Ok(()) => Ok(None),
+        Err(fault) => Ok(Some(refusal_of(fault)?)),
+    }
+}
+
+/// The name of the limit that a batch breaks.
+fn limit_of(fault: BatchFault) -> Result<&'static str, CliFault>
+    ensures { MatchResult result (λ name. name.now ≡ limit_name fault)
+        (λ e. (e ≡ CliFault.Memory) × (fault ≡ BatchFault.Memory)) }
+{
+    match fault {
+        BatchFault::KeyTooLong => Ok("KeyTooLong"),
+        BatchFault::ValueTooLong => Ok("ValueTooLong"),
+        BatchFault::Inverted => Ok("Inverted"),
+        BatchFault::TooMany => Ok("TooMany"),
+        BatchFault::Memory => Err(CliFault::Memory),
+    }
+}
+
+/// The name of a refusal. A store that found no memory, or failed, refused nothing.
+fn refusal_of(fault: StoreFault) -> Result<&'static str, CliFault>
+    ensures { MatchResult result (λ name. name_of fault ≡ Some name.now)
+        (λ e. (e ≡ CliFault.Memory) × (name_of fault ≡ None)) }
+{
+    match fault {
+        StoreFault::NotAfter => Ok("NotAfter"),
+        StoreFault::BelowFloor => Ok("BelowFloor"),
+        StoreFault::AboveApplied => Ok("AboveApplied"),
+        StoreFault::Device | StoreFault::Full | StoreFault::Failed | StoreFault::Memory => {
+            Err(CliFault::Memory)
+        }
+    }
+}
+
+/// The line of an operation that was done.
+fn ok_line<S: ShardStore>(alloc: Global, store: &S) -> Result<String, AllocError>
+    ensures { IfOk result (λ line. string_bytes line ≡ ok_line (S.state store.now)) }
+{
+    let applied = store.applied().get();
+    let floor = store.floor().get();
+    let rows = store.undo_rows();
+    format!(in alloc; "ok {applied} floor {floor} undo {rows}\n")
+}
+
+/// Writes the rows of a store, by key.
+fn put_contents<S: ShardStore, W: Write>(
+    alloc: Global,
+    store: &mut S,
+    writer: &mut W,
+) -> Result<(), CliFault>
+    ensures ok { OnOk result (Appends (W.contents writer.old) (W.contents writer.new) (row_lines (map.entries (S.state store.old).contents))) }
+    ensures front { GainsFront (W.contents writer.old) (W.contents writer.new) (row_lines (map.entries (S.state store.old).contents)) }
+    ensures fault { IfErr result (λ e. (e ≡ CliFault.Output) ⊎ (e ≡ CliFault.Memory)) }
+{
+    match store.dump(alloc) {
+        Ok(rows) => put_rows(alloc, rows, writer),
+        Err(_) => Err(CliFault::Memory),
+    }
+}

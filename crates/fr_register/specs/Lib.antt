@@ -1,0 +1,10 @@
+pub mod CellState
+pub mod Cell
+pub mod CellLaws
+pub mod Poll
+pub mod Tally
+pub mod Heard
+pub mod History
+pub mod Chosen
+pub mod Made
+pub mod Law

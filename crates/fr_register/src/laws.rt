@@ -1,0 +1,48 @@
+//! Laws of cells, of tallies, and of what is written after a choice.
+ghost use Rattle.fr_register.specs.Law.{CellsHoldTheirLast, PromisesAreKept};
+ghost use Rattle.fr_register.specs.Law.{ReadAnswersFirst, ReadHasGreatest, ReadHearsOnce, WriteAnswersFirst, WriteHearsOnce};
+ghost use Rattle.fr_register.specs.Law.{LaterInListDescends, ReadyInListDescends, StartInListIsLeast, OneInListIsChosen, EachListIsAHistory, ReadMajorityIsRead, WriteMajorityIsWritten, WrittenIsMade};
+ghost use Rattle.fr_register.specs.Law.{LaterDescends, ReadyDescends, StartIsLeast, OneIsChosen, ListHasParents, MadeIsReady};
+
+/// Whatever is delivered to the cells in whatever order: each cell has the greatest pair that it took,
+/// and where it promised a ballot it takes no pair between the one that it told then and that ballot.
+pub fn cell_law()
+    ensures holds { CellsHoldTheirLast }
+    ensures keeps { PromisesAreKept }
+{}
+
+/// Whatever tells a tally hears in whatever order: its answer is what the first tell that refuses or
+/// brings the majority makes of it, and its greatest pair is that of all promises that count.
+pub fn tally_law()
+    ensures read { ReadAnswersFirst }
+    ensures greatest { ReadHasGreatest }
+    ensures read_hears { ReadHearsOnce }
+    ensures write { WriteAnswersFirst }
+    ensures write_hears { WriteHearsOnce }
+{}
+
+/// What is written after a choice descends from it: over every list of deliveries to the cells, with
+/// losses, repeats and crashes, in which each ballot writes one value, made from its own read
+/// majority's greatest pair. It is the promise of disk Paxos (Gafni and Lamport, 2003), for values that
+/// each come from another.
+pub fn register_law()
+    ensures descends { LaterInListDescends }
+    ensures ready { ReadyInListDescends }
+    ensures least { StartInListIsLeast }
+    ensures one { OneInListIsChosen }
+    ensures any_list { EachListIsAHistory }
+    ensures read_tally { ReadMajorityIsRead }
+    ensures write_tally { WriteMajorityIsWritten }
+    ensures made { WrittenIsMade }
+{}
+
+/// The same over what each ballot has read, whenever it was told: where the greatest pair of each
+/// ballot's read majority is of a lower ballot, what is written after a choice descends from it.
+pub fn parent_law()
+    ensures descends { LaterDescends }
+    ensures ready { ReadyDescends }
+    ensures least { StartIsLeast }
+    ensures one { OneIsChosen }
+    ensures each_list { ListHasParents }
+    ensures each_made { MadeIsReady }
+{}

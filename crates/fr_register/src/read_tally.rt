@@ -1,0 +1,118 @@
+//! The tally of promises, which finds what a ballot writes over.
+ghost use Rattle.std.specs.Prelude.{◌≡◌, false, IfOk, OnErr, IsOk};
+ghost use Rattle.fr_register.specs.Tally.{progress_of, is_heard, new_read, hear_read, is_promise, takes_room};
+
+use crate::ask::CellTell;
+use crate::poll::{CellPoll, Progress};
+use crate::value::CellValue;
+use fr_base::{Ballot, Memory};
+use std::alloc::Global;
+use std::marker::Model;
+
+/// A tally of the promises to the reads of one ballot. What it answered stays, and it goes on hearing.
+#[derive(Debug, Drop)]
+pub struct ReadTally {
+    ballot: Ballot,
+    poll: CellPoll,
+    greatest_ballot: Ballot,
+    greatest_value: CellValue,
+}
+
+impl Model for ReadTally {
+    ghost use Rattle.fr_register.specs.Poll.{ReadState};
+
+    ghost Value = { ReadState };
+
+    ghost view = { λ t. record { ballot = t.ballot; poll = t.poll; greatest = record { ballot = t.greatest_ballot; value = t.greatest_value } } };
+}
+
+impl ReadTally {
+    /// A tally over this many cells, whose indexes are those below, for the reads of a ballot. It takes
+    /// no memory.
+    pub fn new(alloc: Global, cells: u8, ballot: Ballot) -> Self
+        ensures { result ≡ new_read cells ballot }
+    {
+        ReadTally {
+            ballot,
+            poll: CellPoll::new(alloc, cells),
+            greatest_ballot: Ballot::ZERO,
+            greatest_value: CellValue::empty(alloc),
+        }
+    }
+
+    /// Hears a tell of the cell of this index. Only a promise that counts takes memory, and want of
+    /// memory changes nothing.
+    pub fn hear(&mut self, index: u8, tell: CellTell) -> Result<Progress, Memory>
+        ensures state { IfOk result (λ _. self.new ≡ hear_read self.old index tell) }
+        ensures progress { IfOk result (λ progress. progress ≡ progress_of self.new.poll) }
+        ensures err { OnErr result (self.new ≡ self.old) }
+        ensures free { takes_room is_promise self.old.poll index tell ≡ false → IsOk result }
+    {
+        if self.poll.wants(index) {
+            match tell {
+                CellTell::Promise { written, value } => {
+                    let is_first_or_greater = self.poll.is_silent()
+                        || self.greatest_ballot < written;
+                    self.poll.add(index)?;
+                    if is_first_or_greater {
+                        self.greatest_ballot = written;
+                        self.greatest_value = value;
+                    }
+                }
+                CellTell::Written { .. } => {}
+                CellTell::Refused { promised } => self.poll.refuse(index, promised),
+                CellTell::TwoValues => self.poll.refuse(index, self.ballot),
+            }
+        }
+        Ok(self.poll.progress())
+    }
+
+    /// The promised pair of the greatest written ballot, of equal ones the one heard first; ballot 0 and
+    /// no bytes where no promise counted.
+    pub fn greatest(&self) -> (Ballot, &CellValue)
+        ensures ballot { result.0 ≡ self.now.greatest.ballot }
+        ensures value { result.1.now ≡ self.now.greatest.value }
+    {
+        (self.greatest_ballot, &self.greatest_value)
+    }
+
+    /// How far it has come.
+    pub fn progress(&self) -> Progress
+        ensures { result ≡ progress_of self.now.poll }
+    {
+        self.poll.progress()
+    }
+
+    /// Whether this cell gave a promise that counted, or the refusal that ended the tally.
+    pub fn has_heard(&self, index: u8) -> bool
+        ensures { result ≡ is_heard self.now.poll index }
+    {
+        self.poll.has_heard(index)
+    }
+
+    /// How many cells it asks.
+    pub fn cells(&self) -> u8
+        ensures { result ≡ self.now.poll.cells }
+    {
+        self.poll.cells()
+    }
+
+    /// The ballot whose reads it tallies.
+    pub fn ballot(&self) -> Ballot
+        ensures { result ≡ self.now.ballot }
+    {
+        self.ballot
+    }
+
+    /// An equal tally.
+    pub fn copy(&self) -> Result<Self, Memory>
+        ensures { IfOk result (λ tally. tally ≡ self.now) }
+    {
+        Ok(ReadTally {
+            ballot: self.ballot,
+            poll: self.poll.copy()?,
+            greatest_ballot: self.greatest_ballot,
+            greatest_value: self.greatest_value.copy()?,
+        })
+    }
+}

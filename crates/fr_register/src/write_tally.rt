@@ -1,0 +1,98 @@
+//! The tally of writes, which finds what is chosen.
+ghost use Rattle.std.specs.Prelude.{◌≡◌, false, IfOk, OnErr, IsOk};
+ghost use Rattle.fr_register.specs.Tally.{progress_of, is_heard, new_write, hear_write, is_written, takes_room};
+
+use crate::ask::CellTell;
+use crate::poll::{CellPoll, Progress};
+use fr_base::{Ballot, Memory};
+use std::alloc::Global;
+use std::marker::Model;
+
+/// A tally of the cells that hold the write of one ballot. What it answered stays.
+#[derive(Debug, Drop)]
+pub struct WriteTally {
+    ballot: Ballot,
+    poll: CellPoll,
+}
+
+impl Model for WriteTally {
+    ghost use Rattle.fr_register.specs.Poll.{WriteState};
+
+    ghost Value = { WriteState };
+
+    ghost view = { λ t. record { ballot = t.ballot; poll = t.poll } };
+}
+
+impl WriteTally {
+    /// A tally over this many cells, whose indexes are those below, for the write of a ballot. It takes
+    /// no memory.
+    pub fn new(alloc: Global, cells: u8, ballot: Ballot) -> Self
+        ensures { result ≡ new_write cells ballot }
+    {
+        WriteTally {
+            ballot,
+            poll: CellPoll::new(alloc, cells),
+        }
+    }
+
+    /// Hears a tell of the cell of this index. Only a `Written` that counts takes memory, and want of
+    /// memory changes nothing.
+    pub fn hear(&mut self, index: u8, tell: CellTell) -> Result<Progress, Memory>
+        ensures state { IfOk result (λ _. self.new ≡ hear_write self.old index tell) }
+        ensures progress { IfOk result (λ progress. progress ≡ progress_of self.new.poll) }
+        ensures err { OnErr result (self.new ≡ self.old) }
+        ensures free { takes_room (is_written self.old.ballot) self.old.poll index tell ≡ false → IsOk result }
+    {
+        if self.poll.wants(index) {
+            match tell {
+                CellTell::Promise { .. } => {}
+                CellTell::Written { ballot } => {
+                    if ballot == self.ballot {
+                        self.poll.add(index)?;
+                    }
+                }
+                CellTell::Refused { promised } => self.poll.refuse(index, promised),
+                CellTell::TwoValues => self.poll.refuse(index, self.ballot),
+            }
+        }
+        Ok(self.poll.progress())
+    }
+
+    /// How far it has come.
+    pub fn progress(&self) -> Progress
+        ensures { result ≡ progress_of self.now.poll }
+    {
+        self.poll.progress()
+    }
+
+    /// Whether this cell gave a `Written` that counted, or the refusal that ended the tally.
+    pub fn has_heard(&self, index: u8) -> bool
+        ensures { result ≡ is_heard self.now.poll index }
+    {
+        self.poll.has_heard(index)
+    }
+
+    /// How many cells it asks.
+    pub fn cells(&self) -> u8
+        ensures { result ≡ self.now.poll.cells }
+    {
+        self.poll.cells()
+    }
+
+    /// The ballot whose write it tallies.
+    pub fn ballot(&self) -> Ballot
+        ensures { result ≡ self.now.ballot }
+    {
+        self.ballot
+    }
+
+    /// An equal tally.
+    pub fn copy(&self) -> Result<Self, Memory>
+        ensures { IfOk result (λ tally. tally ≡ self.now) }
+    {
+        Ok(WriteTally {
+            ballot: self.ballot,
+            poll: self.poll.copy()?,
+        })
+    }
+}

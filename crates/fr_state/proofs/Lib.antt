@@ -1,0 +1,11 @@
+pub mod OrderLemmas
+pub mod ReadLemmas
+pub mod StateLemmas
+pub mod LastLemmas
+pub mod ListLemmas
+pub mod LookUpLemmas
+pub mod ExtendLemmas
+pub mod SameLemmas
+pub mod BigEndianLemmas
+pub mod SpellingLemmas
+pub mod DecodeLemmas

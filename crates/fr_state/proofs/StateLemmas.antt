@@ -1,0 +1,85 @@
+-- What was read is a state.
+use Rattle.std.proofs.Common.{◌≡◌, ℕ, zero, suc, ◌+◌, ◌*◌, ◌<◌, ◌≤◌, ◌^◌, ◌&&◌, Bool, true, false, cond, eqb, leb, List, [], ◌∷◌, length, drop, Result, Ok, Err, refl, sym, ap, ◌∙◌, arith, inl, inr}
+use Rattle.std.specs.Prelude.{All}
+use Rattle.std.specs.List.{list_all}
+use Rattle.std.proofs.lemmas.Bool.{and_parts, and_from, ltb-true, leb-true, lt-ltb, le-leb}
+use Rattle.std.proofs.lemmas.List.Elements.{All-nil, All-cons, All-head, All-tail}
+use Rattle.fr_state.specs.declared.fault.DecodeFault.{DecodeFault}
+use Rattle.fr_state.specs.declared.fault.DecodeFault.TheVariants.{Short, BadForm}
+use Rattle.fr_state.specs.Generations.{LogGeneration, CoordinatedState, IsGeneration, IsCoordinatedState}
+use Rattle.fr_state.specs.Reading.{header_at, generation_at, generations_at, is_within, is_list}
+use Rattle.fr_state.proofs.OrderLemmas.{AreOrdered-test, is_ordered-true}
+
+-- ---- the limits: the test and the fact
+
+pub IsGeneration-test : (g : LogGeneration) → is_within g ≡ true → IsGeneration g
+unfolding is_within
+IsGeneration-test g e =
+    let a = and_parts _ _ e in
+    let b = and_parts _ _ a.0 in
+    let epoch = and_parts _ _ b.0 in
+    let k = and_parts _ _ b.1 in
+    let logs = and_parts _ _ k.0 in
+    let v = and_parts _ _ a.1 in
+    let w = and_parts _ _ v.0 in
+    let first = and_parts _ _ w.0 in
+    record {
+      epoch_low = leb-true _ _ epoch.0;
+      epoch_high = ltb-true _ _ epoch.1;
+      k_low = leb-true _ _ logs.0;
+      k_high = leb-true _ _ logs.1;
+      m_high = leb-true _ _ k.1;
+      first_low = leb-true _ _ first.0;
+      first_high = ltb-true _ _ first.1;
+      seeded_to_low = leb-true _ _ w.1;
+      seeded_to_high = ltb-true _ _ v.1;
+    }
+
+pub is_within-true : (g : LogGeneration) → IsGeneration g → is_within g ≡ true
+unfolding is_within
+is_within-true g h =
+    and_from _ _
+    (and_from _ _ (and_from _ _ (le-leb _ _ h.epoch_low) (lt-ltb _ _ h.epoch_high))
+    (and_from _ _ (and_from _ _ (le-leb _ _ h.k_low) (le-leb _ _ h.k_high)) (le-leb _ _ h.m_high)))
+    (and_from _ _ (and_from _ _ (and_from _ _ (le-leb _ _ h.first_low) (lt-ltb _ _ h.first_high)) (le-leb _ _ h.seeded_to_low)) (lt-ltb _ _ h.seeded_to_high))
+
+pub All-within : (gens : List LogGeneration) → list_all is_within gens ≡ true → All IsGeneration gens
+All-within [] e = All-nil IsGeneration
+All-within (g ∷ gens) e = let a = and_parts (is_within g) (list_all is_within gens) e in All-cons IsGeneration g gens (IsGeneration-test g a.0) (All-within gens a.1)
+
+pub all_within-true : (gens : List LogGeneration) → All IsGeneration gens → list_all is_within gens ≡ true
+all_within-true [] h = refl
+all_within-true (g ∷ gens) h = and_from _ _ (is_within-true g (All-head IsGeneration g gens h)) (all_within-true gens (All-tail IsGeneration g gens h))
+
+-- ---- states
+
+pub length-generations_at : (n : ℕ) (bytes : List ℕ) → length (generations_at n bytes) ≡ n
+length-generations_at zero bytes = refl
+length-generations_at (suc n) bytes = ap suc (length-generations_at n (drop 26 bytes))
+
+pub list_sound : (n : ℕ) (bytes : List ℕ) → (1 ≤ n) × (n ≤ 64) → is_list (generations_at n bytes) ≡ true → IsCoordinatedState (record { gens = generations_at n bytes })
+list_sound n bytes count e =
+    let a = and_parts _ _ e in
+    record {
+      limits = All-within (generations_at n bytes) a.0;
+      ordered = AreOrdered-test (generations_at n bytes) a.1;
+      some = omega (arith, length-generations_at n bytes);
+      few = omega (arith, length-generations_at n bytes);
+    }
+
+taken : {A : Type 0} (b : Bool) (x y : A) (fault : DecodeFault) → cond b (Ok x) (Err fault) ≡ Ok y → (b ≡ true) × (x ≡ y)
+taken true x y fault e = (refl, cc)
+taken false x y fault e = absurd cc
+
+pub header_count : (bytes : List ℕ) (n : ℕ) (rest : List ℕ) → header_at bytes ≡ Ok (n, rest) → (1 ≤ n) × (n ≤ 64)
+header_count [] n rest e = absurd cc
+header_count (format ∷ []) n rest e = absurd (one_byte (eqb format 1) n rest e)
+  where
+    one_byte : (b : Bool) (n : ℕ) (rest : List ℕ) → ◌≡◌ {A = Result (ℕ × List ℕ) DecodeFault} (cond b (Err Short) (Err BadForm)) (Ok (n, rest)) → ⊥
+    one_byte true n rest e = cc
+    one_byte false n rest e = cc
+header_count (format ∷ count ∷ bytes) n rest e =
+    let t = taken (eqb format 1 && (leb 1 count && leb count 64)) (count, bytes) (n, rest) BadForm e in
+    let a = and_parts _ _ (and_parts _ _ t.0).1 in
+    let k : count ≡ n = ap (λ (p : ℕ × List ℕ). p.0) t.1 in
+    rw (← k) (leb-true _ _ a.0, leb-true _ _ a.1)

@@ -1,0 +1,60 @@
+-- What bytes are read as: a state, or the first fault.
+use Rattle.std.specs.Prelude.{ℕ, zero, suc, ◌+◌, ◌*◌, ◌^◌, Bool, ◌&&◌, nat_lt, nat_le, ◌==◌, List, [], ◌∷◌, length, drop, slice_index, Result, Ok, Err, if◌then◌else◌}
+use Rattle.std.specs.List.{list_all}
+use Rattle.std.specs.Int.{w64}
+use Rattle.fr_state.specs.declared.fault.DecodeFault.{DecodeFault}
+use Rattle.fr_state.specs.declared.fault.DecodeFault.TheVariants.{Short, BadForm, Trailing}
+use Rattle.fr_state.specs.BigEndian.{number_at}
+use Rattle.fr_state.specs.Generations.{LogGeneration, CoordinatedState}
+use Rattle.fr_state.specs.Order.{is_ordered}
+
+-- one step of reading after another: the first fault is the answer
+infixl 10 ◌>>=◌
+abbrev pub ◌>>=◌ : {A B : Type 0} → Result A DecodeFault → (A → Result B DecodeFault) → Result B DecodeFault
+(Ok x) >>= f = f x
+(Err fault) >>= f = Err fault
+
+-- how many generations there are, and the bytes after that number
+abbrev pub header_at : List ℕ → Result (ℕ × List ℕ) DecodeFault
+header_at [] = Err Short
+header_at (format ∷ []) = if format == 1 then Err Short else Err BadForm
+header_at (format ∷ n ∷ bytes) = if format == 1 && (nat_le 1 n && nat_le n 64) then Ok (n, bytes) else Err BadForm
+
+-- the generation that the first 26 bytes spell, whether or not it is within its limits
+unfoldable pub generation_at : List ℕ → LogGeneration
+generation_at bytes = record {
+  epoch = number_at w64 0 bytes;
+  m = slice_index bytes 8;
+  k = slice_index bytes 9;
+  first = number_at w64 10 bytes;
+  seeded_to = number_at w64 18 bytes;
+}
+
+-- the generations that the first n times 26 bytes spell
+abbrev pub generations_at : ℕ → List ℕ → List LogGeneration
+generations_at zero bytes = []
+generations_at (suc n) bytes = generation_at bytes ∷ generations_at n (drop 26 bytes)
+
+-- whether a generation is within its limits
+unfoldable pub is_within : LogGeneration → Bool
+is_within g =
+    nat_le 256 g.epoch && nat_lt g.epoch (2 ^ 48) && (nat_le 1 g.k && nat_le g.k g.m && nat_le g.m 16)
+    && (nat_le 1 g.first && nat_lt g.first (2 ^ 62) && nat_le g.first (g.seeded_to + 1) && nat_lt g.seeded_to (2 ^ 62))
+
+-- whether generations are within their limits and in order
+abbrev pub is_list : List LogGeneration → Bool
+is_list gens = list_all is_within gens && is_ordered gens
+
+-- the state of n generations that all of the bytes spell
+abbrev pub state_at : ℕ → List ℕ → Result CoordinatedState DecodeFault
+state_at n bytes =
+    if nat_lt (length bytes) (26 * n) then Err Short
+    else (if is_list (generations_at n bytes)
+    then (if nat_lt (26 * n) (length bytes) then Err Trailing else Ok (record { gens = generations_at n bytes }))
+    else Err BadForm)
+
+-- all of the bytes
+abbrev pub reading : List ℕ → Result CoordinatedState DecodeFault
+reading bytes = do
+  header ← header_at bytes
+  state_at header.0 header.1

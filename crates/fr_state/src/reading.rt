@@ -1,0 +1,137 @@
+//! A state from bytes.
+ghost use Rattle.std.specs.Prelude.{◌≡◌, ◌≢◌, ◌+◌, ◌*◌, ◌≤◌, IsTrue, IfOk, IfErr, IsOk, MatchOption, MatchResult, length, if◌then◌else◌};
+ghost use Rattle.std.specs.Int.{w64};
+ghost use Rattle.std.specs.List.{list_all};
+ghost use Rattle.fr_state.specs.BigEndian.{number_at};
+ghost use Rattle.fr_state.specs.Generations.{CoordinatedState, IsCoordinatedState};
+ghost use Rattle.fr_state.specs.Order.{may_follow};
+ghost use Rattle.fr_state.specs.Reading.{header_at, generation_at, generations_at, is_within, is_list, reading};
+ghost use Rattle.fr_state.specs.Spelling.{spelling};
+
+use crate::fault::DecodeFault;
+use crate::generation::Generation;
+use crate::spelling::{FORMAT, ROW};
+use crate::state::{CoordState, MOST_GENERATIONS};
+use fr_base::{Epoch, Memory, Version};
+use std::alloc::Global;
+
+/// The state that the bytes spell, all of them. The first fault is answered: Short where the format or the
+/// number of generations is missing, BadForm where one of them is wrong, the format before the number;
+/// Short where bytes of the generations are missing; BadForm where a generation is not within its limits
+/// or the list is not in order; Trailing where bytes follow; Memory last.
+pub fn decode(alloc: Global, bytes: &[u8]) -> Result<CoordState, DecodeFault>
+    ensures ok { IfOk result (λ s. reading bytes.now ≡ Ok s) }
+    ensures refused { IfErr result (λ fault. fault ≢ DecodeFault.Memory → reading bytes.now ≡ Err fault) }
+    ensures memory { result ≡ Err DecodeFault.Memory → IsOk (reading bytes.now) }
+
+    // What is read is a state, and is spelled so; what is spelled so is read, unless memory runs out.
+    ensures found { IfOk result (λ s. IsCoordinatedState s × (bytes.now ≡ spelling s)) }
+    ensures only { (s : CoordinatedState) → IsCoordinatedState s → bytes.now ≡ spelling s → MatchResult result (λ t. t ≡ s) (λ fault. fault ≡ DecodeFault.Memory) }
+{
+    state_of(alloc, bytes)
+}
+
+/// The state that the bytes spell, or the first fault.
+fn state_of(alloc: Global, bytes: &[u8]) -> Result<CoordState, DecodeFault>
+    ensures ok { IfOk result (λ s. reading bytes.now ≡ Ok s) }
+    ensures refused { IfErr result (λ fault. fault ≢ DecodeFault.Memory → reading bytes.now ≡ Err fault) }
+    ensures memory { result ≡ Err DecodeFault.Memory → IsOk (reading bytes.now) }
+{
+    let (count, rest) = header(bytes)?;
+    let end = ROW * count;
+    if rest.len() < end {
+        return Err(DecodeFault::Short);
+    }
+    if !is_list(count, rest) {
+        return Err(DecodeFault::BadForm);
+    }
+    if rest.len() > end {
+        return Err(DecodeFault::Trailing);
+    }
+    Ok(CoordState::from_ordered(generations(alloc, count, rest)?))
+}
+
+/// How many generations there are, and the bytes after that number.
+fn header(bytes: &[u8]) -> Result<(usize, &[u8]), DecodeFault>
+    ensures ok { IfOk result (λ h. header_at bytes.now ≡ Ok (h.0, h.1.now)) }
+    ensures err { IfErr result (λ fault. header_at bytes.now ≡ Err fault) }
+{
+    match bytes {
+        [] | [FORMAT] => Err(DecodeFault::Short),
+        [FORMAT, count, rest @ ..] if 1 <= *count && *count as usize <= MOST_GENERATIONS => {
+            Ok((*count as usize, rest))
+        }
+        _ => Err(DecodeFault::BadForm),
+    }
+}
+
+/// Whether the first `count` rows spell generations within their limits and in order.
+fn is_list(count: usize, bytes: &[u8]) -> bool
+    requires { 26 * count ≤ length bytes.now }
+    ensures { result ≡ is_list (generations_at count bytes.now) }
+{
+    let mut last = None;
+    let mut rest = bytes;
+    for _ in 0..count {
+        let Some(next) = generation(rest) else {
+            return false;
+        };
+        if !may_come(last, next) {
+            return false;
+        }
+        last = Some(next);
+        rest = rest.split_at(ROW).1;
+    }
+    true
+}
+
+/// Whether a generation may stand after the last one, if there is one.
+fn may_come(last: Option<Generation>, next: Generation) -> bool
+    ensures { MatchOption last (IsTrue result) (λ last. result ≡ may_follow last next) }
+{
+    match last {
+        Some(last) => last.may_precede(next),
+        None => true,
+    }
+}
+
+/// The generations that the first `count` rows spell.
+fn generations(alloc: Global, count: usize, bytes: &[u8]) -> Result<Vec<Generation>, Memory>
+    requires room { 26 * count ≤ length bytes.now }
+    requires within { IsTrue (list_all is_within (generations_at count bytes.now)) }
+    ensures { IfOk result (λ gens. gens.items ≡ generations_at count bytes.now) }
+{
+    let mut gens = Vec::with_capacity(alloc, count)?;
+    let mut rest = bytes;
+    for _ in 0..count {
+        match generation(rest) {
+            Some(next) => gens.push(next)?,
+            None => unreachable!(),
+        }
+        rest = rest.split_at(ROW).1;
+    }
+    Ok(gens)
+}
+
+/// The generation that the first row spells, where it is within its limits.
+#[tactic(auto, unfolding(crate::specs::Reading::generation_at, crate::specs::Reading::is_within))]
+fn generation(bytes: &[u8]) -> Option<Generation>
+    requires { 26 ≤ length bytes.now }
+    ensures { result ≡ (if is_within (generation_at bytes.now) then Some (generation_at bytes.now) else None) }
+{
+    let epoch = Epoch::new(number(bytes, 0))?;
+    let first = Version::new(number(bytes, 10))?;
+    let seeded_to = Version::new(number(bytes, 18))?;
+    Generation::new(epoch, bytes[8], bytes[9], first, seeded_to)
+}
+
+/// The number that the 8 bytes at a place spell.
+fn number(bytes: &[u8], at: usize) -> u64
+    requires { at + 8 ≤ length bytes.now }
+    ensures { result ≡ number_at w64 at bytes.now }
+{
+    let (front, _) = bytes[at..].split_at(8);
+    u64::from_be_bytes([
+        front[0], front[1], front[2], front[3], front[4], front[5], front[6], front[7],
+    ])
+}
