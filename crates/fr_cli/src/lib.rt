@@ -15,6 +15,3 @@ pub use fault::CliFault;
 pub use input::{MAX_READS, READ_SIZE};
 pub use mutations::Mutations;
 pub use script::Operation;
-
-#[cfg(test)]
-mod tests;

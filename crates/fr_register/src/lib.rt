@@ -17,6 +17,3 @@ pub use poll::Progress;
 pub use read_tally::ReadTally;
 pub use value::CellValue;
 pub use write_tally::WriteTally;
-
-#[cfg(test)]
-mod tests;

@@ -17,6 +17,3 @@ pub use laws::{
 pub use reading::decode;
 pub use spelling::encode;
 pub use state::CoordState;
-
-#[cfg(test)]
-mod tests;

@@ -1,4 +1,4 @@
-use crate::{Cell, CellAsk, CellTell, CellValue, Progress, ReadTally, WriteTally};
+use fr_register::{Cell, CellAsk, CellTell, CellValue, Progress, ReadTally, WriteTally};
 use fr_base::{Ballot, Machine};
 use std::alloc::Global;
 use std::test::Fail;

@@ -1,4 +1,4 @@
-use crate::{ApplyOptions, CliFault, StoreKind, run_apply};
+use fr_cli::{ApplyOptions, CliFault, StoreKind, run_apply};
 use std::alloc::Global;
 use std::io;
 use std::io::{Error, ErrorKind, Read, Write};

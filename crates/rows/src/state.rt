@@ -1,4 +1,4 @@
-use crate::{CoordState, DecodeFault, Generation, StateFault, decode, encode};
+use fr_state::{CoordState, DecodeFault, Generation, StateFault, decode, encode};
 use fr_base::{Epoch, Version};
 use std::alloc::Global;
 use std::test::Fail;

@@ -1,0 +1,15 @@
+//! Tests over all crates: worked examples, vectors, refused calls, and seeded runs against slow programs.
+#![tactic(auto)]
+
+#[cfg(test)]
+mod apply;
+#[cfg(test)]
+mod batch_bytes;
+#[cfg(test)]
+mod register;
+#[cfg(test)]
+mod slow_store;
+#[cfg(test)]
+mod state;
+#[cfg(test)]
+mod store_agrees;
