@@ -26,11 +26,10 @@ pub(crate) fn member_of<'v>(value: &'v Value, count: usize, name: &str) -> Optio
 pub(crate) fn take_member(value: &mut Value, count: usize, name: &str) -> Option<Value>
     ensures { option_map view result ≡ only count name.now (view value.old) }
 {
-    if value.as_object()?.len() == count {
-        Some(value.get_mut(name)?.take())
-    } else {
-        None
+    if value.as_object()?.len() != count {
+        return None;
     }
+    Some(value.get_mut(name)?.take())
 }
 
 /// The name and the value of an object's one member.
