@@ -159,27 +159,27 @@ above_left rows f above p =
     none (Some x) is at = absurd (let lt = above p.0 p.1 (ap is_some is) in omega arith)
 
 -- of n versions after t the first that has something
-least_by : (ℕ → Option (Option (List ℕ))) → ℕ → ℕ → Option (Option (List ℕ))
+pub least_by : (ℕ → Option (Option (List ℕ))) → ℕ → ℕ → Option (Option (List ℕ))
 least_by f t zero = None
 least_by f t (suc n) = option_or (f (t + 1)) (least_by f (t + 1) n)
 
-least_row-by : (undo : UndoRows) (q : List ℕ) (t n : ℕ) → least_row undo q t n ≡ least_by (λ w. get undo (w, q)) t n
+pub least_row-by : (undo : UndoRows) (q : List ℕ) (t n : ℕ) → least_row undo q t n ≡ least_by (λ w. get undo (w, q)) t n
 unfolding least_row least_by
 least_row-by undo q t zero = refl
 least_row-by undo q t (suc n) = ap (option_or (get undo (t + 1, q))) (least_row-by undo q (t + 1) n)
 
-least_by-none : (f : ℕ → Option (Option (List ℕ))) (t n : ℕ) → ((w : ℕ) → f w ≡ None) → least_by f t n ≡ None
+pub least_by-none : (f : ℕ → Option (Option (List ℕ))) (t n : ℕ) → ((w : ℕ) → f w ≡ None) → least_by f t n ≡ None
 unfolding least_by
 least_by-none f t zero none = refl
 least_by-none f t (suc n) none = λ i. option_or (none (t + 1) i) (least_by-none f (t + 1) n none i)
 
-least_by-same : (f g : ℕ → Option (Option (List ℕ))) (t n : ℕ) → ((w : ℕ) → t < w → f w ≡ g w) → least_by f t n ≡ least_by g t n
+pub least_by-same : (f g : ℕ → Option (Option (List ℕ))) (t n : ℕ) → ((w : ℕ) → t < w → f w ≡ g w) → least_by f t n ≡ least_by g t n
 unfolding least_by
 least_by-same f g t zero same = refl
 least_by-same f g t (suc n) same = λ i. option_or (same (t + 1) (omega arith) i) (least_by-same f g (t + 1) n (λ w lt. same w (omega arith)) i)
 
 -- it is at v where none is before
-least_by-at : (f : ℕ → Option (Option (List ℕ))) (v : ℕ) (x : Option (List ℕ)) → f v ≡ Some x → ((w : ℕ) → w < v → f w ≡ None) → (t n : ℕ) → t < v → v ≤ t + n → least_by f t n ≡ Some x
+pub least_by-at : (f : ℕ → Option (Option (List ℕ))) (v : ℕ) (x : Option (List ℕ)) → f v ≡ Some x → ((w : ℕ) → w < v → f w ≡ None) → (t n : ℕ) → t < v → v ≤ t + n → least_by f t n ≡ Some x
 unfolding least_by
 least_by-at f v x at none t zero lt le = absurd (omega arith)
 least_by-at f v x at none t (suc n) lt le =
