@@ -9,6 +9,7 @@ use Rattle.fr_mutation.specs.declared.codec.fault.DecodeFault.TheVariants.{Short
 use Rattle.fr_mutation.specs.declared.codec.kind.Kind.{Kind}
 use Rattle.fr_mutation.specs.declared.codec.kind.Kind.TheVariants as kinds
 use Rattle.fr_mutation.specs.declared.mutation.Mutation.{Mutation}
+use Rattle.fr_mutation.specs.declared.mutation.Mutation.TheVariants.{Clear}
 use Rattle.fr_mutation.specs.CodecKind.{kind_of, mutation_of}
 use Rattle.fr_mutation.specs.CodecReading.{◌>>=◌, byte_at, bytes_at, number_at, field_at, key_at, operand_at, known, kind_at, clear_at, keyed_at, fields_at, mutation_at, mutations_at, format_at, header_at, rest_of, items_of, read_batch, decoded}
 
@@ -60,7 +61,7 @@ unfolding clear_at
 clear_none bytes =
     then_none (key_at bytes) _ (field_none w16 10000 bytes) (λ (b : List ℕ × List ℕ).
     then_none (key_at b.1) _ (field_none w16 10000 b.1) (λ (x : List ℕ × List ℕ).
-    test_none (is_lt (bytes_cmp x.0 b.0)) (Err Inverted) (Ok (mutation_of kinds.Clear b.0 x.0, x.1)) (λ e. cc) (λ e. cc)))
+    test_none (is_lt (bytes_cmp x.0 b.0)) (Err Inverted) (Ok (Clear b.0 x.0, x.1)) (λ e. cc) (λ e. cc)))
 
 keyed_none : (kind : Kind) (bytes : List ℕ) → NoMemory (keyed_at kind bytes)
 unfolding keyed_at

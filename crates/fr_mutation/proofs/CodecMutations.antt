@@ -54,8 +54,8 @@ pub record TakesFields (kind : Kind) (bytes : List ℕ) (x : Mutation × List �
 clear_takes : (bytes : List ℕ) (x : Mutation × List ℕ) → IsBytes bytes → clear_at bytes ≡ Ok x → TakesFields kinds.Clear bytes x
 unfolding clear_at
 clear_takes bytes x fits e =
-    let a = bind_ok (key_at bytes) (λ begin. key_at begin.1 >>= λ end. cond (is_lt (bytes_cmp end.0 begin.0)) (Err Inverted) (Ok (mutation_of kinds.Clear begin.0 end.0, end.1))) x e in
-    let b = bind_ok (key_at a.0.1) (λ end. cond (is_lt (bytes_cmp end.0 a.0.0)) (Err Inverted) (Ok (mutation_of kinds.Clear a.0.0 end.0, end.1))) x a.2 in
+    let a = bind_ok (key_at bytes) (λ begin. key_at begin.1 >>= λ end. cond (is_lt (bytes_cmp end.0 begin.0)) (Err Inverted) (Ok (Clear begin.0 end.0, end.1))) x e in
+    let b = bind_ok (key_at a.0.1) (λ end. cond (is_lt (bytes_cmp end.0 a.0.0)) (Err Inverted) (Ok (Clear a.0.0 end.0, end.1))) x a.2 in
     let g = guard_ok (is_lt (bytes_cmp b.0.0 a.0.0)) Inverted (Clear a.0.0 b.0.0, b.0.1) x b.2 in
     let s = key_takes bytes a.0 fits a.1 in
     let t = key_takes a.0.1 b.0 s.0.rest_fits b.1 in

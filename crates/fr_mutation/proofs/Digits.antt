@@ -1,5 +1,8 @@
 -- Fitted byte strings, byte by byte, and the numbers that they spell.
 use Rattle.std.proofs.Common.{◌≡◌, ℕ, zero, suc, ◌+◌, ◌-◌, ◌*◌, ◌/◌, ◌%◌, ◌<◌, ◌≤◌, List, [], ◌∷◌, ◌++◌, length, min, get_or, take, drop, replicate, refl, sym, ap, ◌∙◌, arith, add-zero, append-nil}
+use Rattle.std.proofs.Common.{◌^◌}
+use Rattle.std.proofs.Math.Arith.{mod-mul}
+use Rattle.std.proofs.Math.Nat.{pow-suc}
 use Rattle.std.proofs.lemmas.List.{drop_more, get_or-drop, drop-drop, take_min, length-take}
 use Rattle.std.proofs.lemmas.Grind.{get_or_after_one}
 use Rattle.std.proofs.Common.{true}
@@ -142,3 +145,23 @@ pub number_order : (old param : List ℕ) (i : ℕ) → i < length param → ((k
 number_order old param i h olds params same Less e ne = nat_cmp_is _ _ Less (number_below old param i h olds same (ranked _ _ Less e))
 number_order old param i h olds params same Equal e ne = cc
 number_order old param i h olds params same Greater e ne = nat_cmp_is _ _ Greater (number_above old param i h params same (ranked _ _ Greater e))
+
+-- ---- low bytes
+
+pub length-low_bytes : (n x : ℕ) → length (low_bytes n x) ≡ n
+unfolding low_bytes
+length-low_bytes zero x = refl
+length-low_bytes (suc n) x = ap suc (length-low_bytes n (x / 256))
+
+some_power : (n : ℕ) → 0 < 256 ^ n
+some_power zero = omega arith
+some_power (suc n) = let rest : 0 < 256 ^ n = some_power n in let e : 256 ^ suc n ≡ 256 ^ n * 256 = pow-suc 256 n in omega arith
+
+pub number_of-low_bytes : (n x : ℕ) → number_of (low_bytes n x) ≡ x % 256 ^ n
+unfolding low_bytes
+number_of-low_bytes zero x = let one : x % 1 ≡ 0 = omega arith in sym one
+number_of-low_bytes (suc n) x =
+    let two : x % (256 ^ n * 256) ≡ (x / 256 % 256 ^ n) * 256 + x % 256 = mod-mul x (some_power n) (omega arith) in
+    let rest : number_of (low_bytes n (x / 256)) ≡ x / 256 % 256 ^ n = number_of-low_bytes n (x / 256) in
+    let digits : x % 256 + 256 * number_of (low_bytes n (x / 256)) ≡ (x / 256 % 256 ^ n) * 256 + x % 256 = omega arith in
+    digits ∙ sym two ∙ ap (λ m. x % m) (sym (pow-suc 256 n))

@@ -16,6 +16,7 @@ kind_byte kinds.Xor = 6
 kind_byte kinds.Max = 7
 kind_byte kinds.Min = 8
 
+-- every kind
 abbrev pub all_kinds : List Kind
 all_kinds = kinds.Set ∷ kinds.Clear ∷ kinds.Add ∷ kinds.And ∷ kinds.Or ∷ kinds.Xor ∷ kinds.Max ∷ kinds.Min ∷ []
 

@@ -24,6 +24,7 @@ spelled_keyed kind key operand = kind_byte kind ∷ (spelled_key key ++ spelled_
 abbrev pub spelled_clear : List ℕ → List ℕ → List ℕ
 spelled_clear begin end = kind_byte kinds.Clear ∷ (spelled_key begin ++ spelled_key end)
 
+-- one mutation
 abbrev pub spelled_mutation : Mutation → List ℕ
 spelled_mutation (Set key value) = spelled_keyed kinds.Set key value
 spelled_mutation (Clear begin end) = spelled_clear begin end

@@ -1,8 +1,10 @@
 -- What holds of the definitions.
-use Rattle.std.specs.Prelude.{◌≡◌, ◌↔◌, ℕ, true, false, ◌&&◌, List, [], ◌++◌}
+use Rattle.std.specs.Prelude.{◌≡◌, ◌↔◌, ℕ, true, false, ◌&&◌, List, [], ◌++◌, length, ◌+◌, ◌%◌, ◌^◌}
 use Rattle.std.specs.FinMap.{get}
 use Rattle.fr_base.specs.Map.{Map}
 use Rattle.fr_mutation.specs.declared.mutation.Mutation.{Mutation}
+use Rattle.fr_mutation.specs.LittleEndian.{number_of}
+use Rattle.fr_mutation.specs.Values.{fitted, sum_of}
 use Rattle.fr_mutation.specs.Mutation.{after, value_after_all, touched}
 use Rattle.fr_mutation.specs.Clip.{clipped}
 use Rattle.fr_mutation.specs.Shard.{in_shard, part}
@@ -31,3 +33,7 @@ ClipEmptyLaw = (mutations : List Mutation) (s : Shard) → (clipped mutations s 
 -- a clip is its own clip
 abbrev pub ClipTwiceLaw : Type 0
 ClipTwiceLaw = (mutations : List Mutation) (s : Shard) → clipped (clipped mutations s) s ≡ clipped mutations s
+
+-- a sum has as many bytes as the parameter, and spells the sum of the two numbers modulo 256 to the power of that
+abbrev pub SumLaw : Type 0
+SumLaw = (old param : List ℕ) → (length (sum_of old param) ≡ length param) × (number_of (sum_of old param) ≡ (number_of (fitted (length param) old) + number_of param) % 256 ^ length param)

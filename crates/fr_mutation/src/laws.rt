@@ -1,5 +1,5 @@
 //! Laws of the definitions, in the words of who uses a map.
-ghost use Rattle.fr_mutation.specs.Laws.{ValueAfterLaw, AfterAllLaw, ClipLaw, ClipTouchesLaw, ClipEmptyLaw, ClipTwiceLaw};
+ghost use Rattle.fr_mutation.specs.Laws.{ValueAfterLaw, AfterAllLaw, ClipLaw, ClipTouchesLaw, ClipEmptyLaw, ClipTwiceLaw, SumLaw};
 
 /// The map after a batch has at each key the value that the mutations make, one after the other, of the
 /// value before.
@@ -31,4 +31,10 @@ pub fn clip_empty_law()
 /// A clip that is clipped again to the same shard stays as it is.
 pub fn clip_twice_law()
     ensures { ClipTwiceLaw }
+{}
+
+/// A sum has as many bytes as the parameter, and spells the sum of the two numbers modulo 256 to the power
+/// of their number.
+pub fn sum_law()
+    ensures { SumLaw }
 {}

@@ -53,12 +53,7 @@ fn is_above(a: &[u8], b: &[u8]) -> bool {
 }
 
 /// Both values byte by byte.
-fn each(
-    alloc: Global,
-    a: &[u8],
-    b: &[u8],
-    kind: &Mutation,
-) -> Result<Vec<u8>, AllocError> {
+fn each(alloc: Global, a: &[u8], b: &[u8], kind: &Mutation) -> Result<Vec<u8>, AllocError> {
     let mut bytes = Vec::new(alloc);
     for (x, y) in a.iter().zip(b) {
         bytes.push(match kind {
@@ -81,7 +76,12 @@ fn taken(
     let fitted = fit(alloc, old.unwrap_or(&[]), param.len())?;
     match mutation {
         Mutation::Add { .. } => sum(alloc, fitted.as_slice(), param),
-        Mutation::Or { .. } | Mutation::Xor { .. } => each(alloc, fitted.as_slice(), param, mutation),
+        Mutation::Or { .. } | Mutation::Xor { .. } => each(
+            alloc,
+            fitted.as_slice(),
+            param,
+            mutation,
+        ),
         Mutation::And { .. } if present => each(alloc, fitted.as_slice(), param, mutation),
         Mutation::Max { .. } if present && is_above(fitted.as_slice(), param) => Ok(fitted),
         Mutation::Min { .. } if present && is_above(param, fitted.as_slice()) => Ok(fitted),
@@ -187,7 +187,11 @@ impl SlowStore {
         if find(self.data.as_slice(), key) != old {
             let before = copied(alloc, old)?;
             let key = key.to_vec(alloc)?;
-            self.undo.push(Row { version, key, before })?;
+            self.undo.push(Row {
+                version,
+                key,
+                before,
+            })?;
         }
         Ok(())
     }

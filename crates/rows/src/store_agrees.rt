@@ -40,9 +40,15 @@ fn mutation(alloc: Global, rng: &mut Pcg32) -> Result<Mutation, Memory> {
         6 => {
             let other = self::key(alloc, rng)?;
             if key <= other {
-                Mutation::Clear { begin: key, end: other }
+                Mutation::Clear {
+                    begin: key,
+                    end: other,
+                }
             } else {
-                Mutation::Clear { begin: other, end: key }
+                Mutation::Clear {
+                    begin: other,
+                    end: key,
+                }
             }
         }
         _ => Mutation::Set { key, value: param },
@@ -65,14 +71,21 @@ fn agree(alloc: Global, store: &mut MapStore, slow: &SlowStore) -> Result<bool, 
         && rows.iter().zip(slow_rows.iter()).all(|(row, other)| {
             row.0.as_slice() == other.0.as_slice() && row.1.as_slice() == other.1.as_slice()
         });
-    Ok(same_rows
-        && store.applied().get() == slow.applied
-        && store.floor().get() == slow.floor
-        && store.undo_rows() == slow.undo_rows())
+    Ok(
+        same_rows
+            && store.applied().get() == slow.applied
+            && store.floor().get() == slow.floor
+            && store.undo_rows() == slow.undo_rows(),
+    )
 }
 
 /// Whether a key has the same value in both.
-fn agree_at(alloc: Global, store: &mut MapStore, slow: &SlowStore, key: &Bytes) -> Result<bool, Fail> {
+fn agree_at(
+    alloc: Global,
+    store: &mut MapStore,
+    slow: &SlowStore,
+    key: &Bytes,
+) -> Result<bool, Fail> {
     Ok(match (store.get(alloc, key)?, slow.get(key.as_slice())) {
         (Some(value), Some(other)) => value.as_slice() == other,
         (None, None) => true,
@@ -147,9 +160,15 @@ fn agrees_with_the_slow_store(rt: HostRuntime) -> Result<(), Fail> {
         for turn in 0..200u32 {
             let same = call(alloc, &mut rng, &mut store, &mut slow)?;
             assert!(rt; same, "answers at {turn} of {seed}");
-            assert!(rt; agree(alloc, &mut store, &slow)?, "states at {turn} of {seed}");
+            assert!(rt;
+                agree(alloc, &mut store, &slow)?,
+                "states at {turn} of {seed}"
+            );
             let key = key(alloc, &mut rng)?;
-            assert!(rt; agree_at(alloc, &mut store, &slow, &key)?, "a value at {turn} of {seed}");
+            assert!(rt;
+                agree_at(alloc, &mut store, &slow, &key)?,
+                "a value at {turn} of {seed}"
+            );
             if turn % 20 == 19 {
                 agree_below(&rt, alloc, &store, &slow)?;
             }

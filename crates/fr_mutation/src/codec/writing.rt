@@ -39,17 +39,19 @@ fn spelled_len(mutations: &[Mutation]) -> usize
     len
 }
 
+/// How many bytes a mutation within its limits takes, 5 or 7 of them beside its two byte
+/// strings.
 fn mutation_len(mutation: &Mutation) -> usize
     requires { mutation_fault mutation.now ≡ None }
     ensures len { result ≡ length (spelled_mutation mutation.now) }
     ensures within { result ≤ 110007 }
 {
     let fields = Fields::of(mutation);
-    let lengths = match fields.kind {
-        Kind::Clear => 4,
-        _ => 6,
+    let before = match fields.kind {
+        Kind::Clear => 5,
+        _ => 7,
     };
-    1 + lengths + fields.first.len() + fields.second.len()
+    before + fields.first.len() + fields.second.len()
 }
 
 /// Writes a mutation at the end.

@@ -1,0 +1,171 @@
+//! Worked cases of the rules of mutations, on a map that a reader can follow by hand.
+use fr_base::{Bytes, Memory};
+use fr_mutation::{
+    Batch, BatchFault, MAX_KEY, MAX_MUTATIONS, MAX_VALUE, Mutation, Shard, apply, clip,
+};
+use std::alloc::Global;
+use std::collections::BTreeMap;
+use std::test::Fail;
+
+/// A mutation with the key and the value or parameter that it is given.
+#[derive(Clone, Copy)]
+enum Kind {
+    Set,
+    Add,
+    And,
+    Or,
+    Xor,
+    Max,
+    Min,
+}
+
+fn keyed(alloc: Global, kind: Kind, key: &[u8], param: &[u8]) -> Result<Mutation, Memory> {
+    let key = Bytes::from_slice(alloc, key)?;
+    let param = Bytes::from_slice(alloc, param)?;
+    Ok(match kind {
+        Kind::Set => Mutation::Set { key, value: param },
+        Kind::Add => Mutation::Add { key, param },
+        Kind::And => Mutation::And { key, param },
+        Kind::Or => Mutation::Or { key, param },
+        Kind::Xor => Mutation::Xor { key, param },
+        Kind::Max => Mutation::Max { key, param },
+        Kind::Min => Mutation::Min { key, param },
+    })
+}
+
+fn clear(alloc: Global, begin: &[u8], end: &[u8]) -> Result<Mutation, Memory> {
+    let begin = Bytes::from_slice(alloc, begin)?;
+    let end = Bytes::from_slice(alloc, end)?;
+    Ok(Mutation::Clear { begin, end })
+}
+
+fn batch(alloc: Global, keyed_by: &[(Kind, &[u8], &[u8])]) -> Result<Batch, Fail> {
+    let mut mutations = Vec::new(alloc);
+    for (kind, key, param) in keyed_by {
+        mutations.push(keyed(alloc, *kind, key, param)?)?;
+    }
+    Ok(Batch::new(mutations)?)
+}
+
+#[test]
+fn mutations_act_in_turn(rt: HostRuntime) -> Result<(), Fail> {
+    let alloc = rt.alloc();
+    let mut rows = BTreeMap::new(alloc);
+    let first = batch(
+        alloc,
+        &[(Kind::Set, b"a", &[0xff]), (Kind::Set, b"b", &[0xff])],
+    )?;
+    apply(alloc, &mut rows, &first)?;
+    let second: [(Kind, &[u8], &[u8]); 6] = [
+        (Kind::Add, b"a", &[2]),
+        (Kind::Add, b"b", &[0, 1]),
+        (Kind::And, b"c", &[0x0f]),
+        (Kind::Or, b"d", &[0x0f]),
+        (Kind::Max, b"a", &[0, 1]),
+        (Kind::Min, b"b", &[0, 2]),
+    ];
+    apply(
+        alloc,
+        &mut rows,
+        &batch(alloc, second.as_slice())?.copy(alloc)?,
+    )?;
+    assert_eq!(rt; rows.len(), 4);
+    let wanted: [(&[u8], &[u8]); 4] = [
+        (b"a", &[0, 1]),
+        (b"b", &[0xff, 1]),
+        (b"c", &[0x0f]),
+        (b"d", &[0x0f]),
+    ];
+    for ((key, value), (wanted_key, wanted_value)) in rows.iter().zip(wanted) {
+        assert_eq!(rt; key.as_slice(), wanted_key);
+        assert_eq!(rt; value.as_slice(), wanted_value);
+    }
+    let third = Batch::new(Vec::from_array(alloc, [clear(alloc, b"b", b"d")?])?)?;
+    apply(alloc, &mut rows, &third)?;
+    assert_eq!(rt; rows.len(), 2);
+    assert!(rt; rows.contains_key(&Bytes::from_slice(alloc, b"d")?));
+    Ok(())
+}
+
+#[test]
+fn old_values_are_fitted(rt: HostRuntime) -> Result<(), Fail> {
+    let alloc = rt.alloc();
+    let cases: [(Kind, &[u8], &[u8], &[u8]); 9] = [
+        (Kind::Add, &[1, 2, 3], &[5], &[6]),
+        (Kind::Add, &[0xff, 0xff], &[1, 0], &[0, 0]),
+        (Kind::Add, &[7], &[], &[]),
+        (Kind::And, &[0x3c], &[0xff, 0xff], &[0x3c, 0]),
+        (Kind::Or, &[0x80], &[1, 1], &[0x81, 1]),
+        (Kind::Xor, &[0x0f, 0xf0], &[0xff], &[0xf0]),
+        (Kind::Max, &[5], &[1, 0], &[5, 0]),
+        (Kind::Max, &[3, 9], &[4], &[4]),
+        (Kind::Min, &[1, 0, 9], &[2, 0], &[1, 0]),
+    ];
+    for (kind, old, param, wanted) in cases {
+        let mut rows = BTreeMap::new(alloc);
+        let both = batch(alloc, &[(Kind::Set, b"a", old), (kind, b"a", param)])?;
+        apply(alloc, &mut rows, &both)?;
+        let value = rows
+            .get(&Bytes::from_slice(alloc, b"a")?)
+            .ok_or("no value")?;
+        assert_eq!(rt; value.as_slice(), wanted);
+    }
+    Ok(())
+}
+
+/// The fault of a set whose key and value have these lengths.
+fn fault(alloc: Global, key: usize, value: usize) -> Result<Option<BatchFault>, Fail> {
+    let key = Bytes::from_vec(vec![in alloc; 0u8; key]?);
+    let value = Bytes::from_vec(vec![in alloc; 0u8; value]?);
+    let mut mutations = Vec::new(alloc);
+    mutations.push(Mutation::Set { key, value })?;
+    Ok(Batch::new(mutations).err())
+}
+
+#[test]
+fn batches_keep_the_limits(rt: HostRuntime) -> Result<(), Fail> {
+    let alloc = rt.alloc();
+    assert_eq!(rt; fault(alloc, MAX_KEY, MAX_VALUE)?, None);
+    assert_eq!(rt;
+        fault(alloc, 10_001, 100_001)?,
+        Some(BatchFault::KeyTooLong)
+    );
+    assert_eq!(rt; fault(alloc, 1, 100_001)?, Some(BatchFault::ValueTooLong));
+    let long = vec![in alloc; 0u8; 10_001]?;
+    let mut many = Vec::new(alloc);
+    for _ in 0..MAX_MUTATIONS + 1 {
+        many.push(keyed(alloc, Kind::Set, long.as_slice(), &[])?)?;
+    }
+    assert_eq!(rt; Batch::new(many).err(), Some(BatchFault::TooMany));
+    Ok(())
+}
+
+/// Whether there is one mutation, and it is this clear.
+fn is_clear(batch: &Batch, from: &[u8], to: &[u8]) -> bool {
+    match batch.mutations() {
+        [Mutation::Clear { begin, end }] => begin.as_slice() == from && end.as_slice() == to,
+        _ => false,
+    }
+}
+
+#[test]
+fn a_clip_cuts_clears(rt: HostRuntime) -> Result<(), Fail> {
+    let alloc = rt.alloc();
+    let middle = Bytes::from_slice(alloc, b"m")?;
+    let low = Shard {
+        begin: Bytes::empty(alloc),
+        end: Some(middle.copy()?),
+    };
+    let high = Shard {
+        begin: middle.copy()?,
+        end: None,
+    };
+    assert!(rt; high.copy()?.contains(&middle));
+    assert!(rt; !low.contains(&middle));
+    let all = Batch::new(Vec::from_array(alloc, [clear(alloc, b"a", b"z")?])?)?;
+    assert!(rt; is_clear(&clip(alloc, &all, &low)?, b"a", b"m"));
+    assert!(rt; is_clear(&clip(alloc, &all, &high)?, b"m", b"z"));
+    let none = Batch::new(Vec::from_array(alloc, [clear(alloc, b"a", b"a")?])?)?;
+    assert!(rt; clip(alloc, &none, &low)?.mutations().is_empty());
+    Ok(())
+}
