@@ -1,0 +1,9 @@
+mod PlacementLemmas
+mod LogCounting
+mod CoverLawProof
+mod ByteOrder
+mod ShardLemmas
+mod ShardLawProof
+mod TouchedLemmas
+mod SplitLemmas
+mod SplitLawProof

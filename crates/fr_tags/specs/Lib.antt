@@ -1,0 +1,6 @@
+pub mod Placement
+pub mod CoverLaw
+pub mod Shards
+pub mod ShardLaw
+pub mod Split
+pub mod SplitLaw
