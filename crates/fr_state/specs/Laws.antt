@@ -1,10 +1,21 @@
--- What holds of every ordered list of generations.
-use Rattle.std.specs.Prelude.{◌≡◌, ◌≢◌, ◌↔◌, ℕ, ◌-◌, ◌<◌, ◌≤◌, List, [], ◌∷◌, ◌++◌, Option, Some, None, Contains, IsSome, IfSome, length, Result, Ok, Err, All}
-use Rattle.fr_state.specs.declared.fault.StateFault.{StateFault}
+-- What holds of every ordered list of generations, and of the bytes of a state.
+use Rattle.std.specs.Prelude.{◌≡◌, ◌≢◌, ◌↔◌, ℕ, ◌-◌, ◌<◌, ◌≤◌, List, [], ◌∷◌, ◌++◌, Option, Some, None, Contains, IsSome, IfSome, length, Ok, Err, All, AllPairs, IsTrue}
 use Rattle.fr_state.specs.declared.fault.StateFault.TheVariants.{NotLater, TooMany}
+use Rattle.fr_state.specs.BigEndian.{AreBytes}
 use Rattle.fr_state.specs.Generations.{LogGeneration, CoordinatedState, IsGeneration, IsCoordinatedState, Follows, AreOrdered, last_of}
 use Rattle.fr_state.specs.Order.{extended}
-use Rattle.fr_state.specs.LookUp.{next_of, end_of, cut_of, source_of, owner_of}
+use Rattle.fr_state.specs.LookUp.{end_of, cut_of, source_of, owner_of}
+use Rattle.fr_state.specs.Reading.{reading}
+use Rattle.fr_state.specs.Same.{is_same_state}
+use Rattle.fr_state.specs.Spelling.{spelling}
+
+-- ---- order
+
+-- a list is ordered exactly where of any two of its generations the later one follows the earlier
+abbrev pub OrderIsOfPairs : Type 0
+OrderIsOfPairs = (gens : List LogGeneration) → AreOrdered gens ↔ AllPairs Follows gens
+
+-- ---- sources and owners
 
 -- in the list, starting at or below the version, and not ending below it
 abbrev pub IsSource : List LogGeneration → ℕ → LogGeneration → Type 0
@@ -13,6 +24,26 @@ IsSource gens version g = Contains gens g × (g.first ≤ version) × IfSome (en
 -- in the list, seeded only with versions below this one, which is not above its cut
 abbrev pub IsOwner : List LogGeneration → ℕ → LogGeneration → Type 0
 IsOwner gens version g = Contains gens g × (g.seeded_to < version) × IfSome (cut_of gens g.epoch) (λ cut. version ≤ cut)
+
+-- the source of a version is the generation that starts at or below it and does not end below it
+abbrev pub SourceIsExact : Type 0
+SourceIsExact =
+    (gens : List LogGeneration) (version : ℕ) (g : LogGeneration)
+    → AreOrdered gens → All IsGeneration gens → (source_of gens version ≡ Some g) ↔ IsSource gens version g
+
+-- there is none exactly where each generation starts above it
+abbrev pub SourceIsNone : Type 0
+SourceIsNone = (gens : List LogGeneration) (version : ℕ) → (source_of gens version ≡ None) ↔ All (λ g. version < g.first) gens
+
+-- the owner of a version is the generation that was seeded only below it and is not cut below it
+abbrev pub OwnerIsExact : Type 0
+OwnerIsExact =
+    (gens : List LogGeneration) (version : ℕ) (g : LogGeneration)
+    → AreOrdered gens → (owner_of gens version ≡ Some g) ↔ IsOwner gens version g
+
+-- there is none exactly where each generation was seeded with it, or further
+abbrev pub OwnerIsNone : Type 0
+OwnerIsNone = (gens : List LogGeneration) (version : ℕ) → (owner_of gens version ≡ None) ↔ All (λ g. version ≤ g.seeded_to) gens
 
 -- ---- ends and cuts
 
@@ -112,3 +143,25 @@ abbrev pub TooManyIsExact : Type 0
 TooManyIsExact =
     (s : CoordinatedState) (g : LogGeneration)
     → (extended s g ≡ Err TooMany) ↔ (AreOrdered (s.gens ++ g ∷ []) × (64 ≤ length s.gens))
+
+-- ---- equality and bytes
+
+-- two states that `==` calls the same are one
+abbrev pub SameIsEqual : Type 0
+SameIsEqual = (s t : CoordinatedState) → IsTrue (is_same_state s t) ↔ (s ≡ t)
+
+-- what a state is spelled as is read as it
+abbrev pub SpelledIsRead : Type 0
+SpelledIsRead = (s : CoordinatedState) → IsCoordinatedState s → reading (spelling s) ≡ Ok s
+
+-- what is read is a state, which is spelled by exactly these bytes
+abbrev pub ReadIsSpelled : Type 0
+ReadIsSpelled =
+    (bytes : List ℕ) (s : CoordinatedState)
+    → AreBytes bytes → reading bytes ≡ Ok s → IsCoordinatedState s × (bytes ≡ spelling s)
+
+-- no spelling is a proper prefix of another
+abbrev pub NoSpellingGoesOn : Type 0
+NoSpellingGoesOn =
+    (s t : CoordinatedState) (rest : List ℕ)
+    → IsCoordinatedState s → IsCoordinatedState t → spelling s ++ rest ≡ spelling t → rest ≡ []

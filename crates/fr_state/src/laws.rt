@@ -1,17 +1,14 @@
 //! Laws of lists of generations, and of the bytes of a state.
-ghost use Rattle.std.specs.Prelude.{◌≡◌, ◌↔◌, ◌++◌, ◌<◌, ◌≤◌, ℕ, List, [], Some, None, Ok, All, AllPairs, IsTrue};
-ghost use Rattle.fr_state.specs.BigEndian.{AreBytes};
-ghost use Rattle.fr_state.specs.Generations.{LogGeneration, CoordinatedState, IsGeneration, IsCoordinatedState, Follows, AreOrdered};
-ghost use Rattle.fr_state.specs.Laws.{IsSource, IsOwner, NextTells, LastIsOpen, EarlierIsClosed, AbsentIsOpen, CutIsAtLeastSeed, EndIsAtMostCut, CutIsAtMostLast, FrontKeepsEnd, FrontKeepsCut, FrontKeepsSource, FrontKeepsOwner, ExtensionIsState, FollowerExtends, NotLaterIsExact, TooManyIsExact};
-ghost use Rattle.fr_state.specs.LookUp.{source_of, owner_of};
-ghost use Rattle.fr_state.specs.Reading.{reading};
-ghost use Rattle.fr_state.specs.Same.{is_same_state};
-ghost use Rattle.fr_state.specs.Spelling.{spelling};
+ghost use Rattle.fr_state.specs.Laws.{OrderIsOfPairs, SourceIsExact, SourceIsNone, OwnerIsExact, OwnerIsNone};
+ghost use Rattle.fr_state.specs.Laws.{NextTells, LastIsOpen, EarlierIsClosed, AbsentIsOpen, CutIsAtLeastSeed, EndIsAtMostCut, CutIsAtMostLast};
+ghost use Rattle.fr_state.specs.Laws.{FrontKeepsEnd, FrontKeepsCut, FrontKeepsSource, FrontKeepsOwner};
+ghost use Rattle.fr_state.specs.Laws.{ExtensionIsState, FollowerExtends, NotLaterIsExact, TooManyIsExact};
+ghost use Rattle.fr_state.specs.Laws.{SameIsEqual, SpelledIsRead, ReadIsSpelled, NoSpellingGoesOn};
 
 /// Of any two generations of an ordered list the later one has the greater epoch, and neither starts
 /// earlier nor was seeded less far; and a list of which this holds is ordered.
 pub fn order_law()
-    ensures { (gens : List LogGeneration) → AreOrdered gens ↔ AllPairs Follows gens }
+    ensures { OrderIsOfPairs }
 {}
 
 /// The end and the cut of a generation, and their bounds.
@@ -27,15 +24,15 @@ pub fn cut_law()
 
 /// The source of a version is the generation that starts at or below it and does not end below it.
 pub fn source_law()
-    ensures is_source { (gens : List LogGeneration) (version : ℕ) (g : LogGeneration) → AreOrdered gens → All IsGeneration gens → (source_of gens version ≡ Some g) ↔ IsSource gens version g }
-    ensures none { (gens : List LogGeneration) (version : ℕ) → (source_of gens version ≡ None) ↔ All (λ g. version < g.first) gens }
+    ensures some { SourceIsExact }
+    ensures none { SourceIsNone }
 {}
 
 /// The owner of a version is the generation that was seeded only with versions below it, and whose cut is
 /// not below it.
 pub fn owner_law()
-    ensures is_owner { (gens : List LogGeneration) (version : ℕ) (g : LogGeneration) → AreOrdered gens → (owner_of gens version ≡ Some g) ↔ IsOwner gens version g }
-    ensures none { (gens : List LogGeneration) (version : ℕ) → (owner_of gens version ≡ None) ↔ All (λ g. version ≤ g.seeded_to) gens }
+    ensures some { OwnerIsExact }
+    ensures none { OwnerIsNone }
 {}
 
 /// A list and a longer one that begins with it agree on what lies within the shorter one.
@@ -56,15 +53,12 @@ pub fn extend_law()
 
 /// Two states that `==` calls the same are one.
 pub fn equal_law()
-    ensures { (s t : CoordinatedState) → IsTrue (is_same_state s t) ↔ (s ≡ t) }
+    ensures { SameIsEqual }
 {}
 
 /// Each state has one spelling, which is read as it, and no spelling goes on where another ends.
 pub fn spelling_law()
-    // What was spelled is read.
-    ensures again { (s : CoordinatedState) → IsCoordinatedState s → reading (spelling s) ≡ Ok s }
-    // What is read is a state, and is spelled so.
-    ensures one { (bytes : List ℕ) (s : CoordinatedState) → AreBytes bytes → reading bytes ≡ Ok s → IsCoordinatedState s × (bytes ≡ spelling s) }
-    // No spelling is a proper prefix of another.
-    ensures no_prefix { (s t : CoordinatedState) (rest : List ℕ) → IsCoordinatedState s → IsCoordinatedState t → spelling s ++ rest ≡ spelling t → rest ≡ [] }
+    ensures again { SpelledIsRead }
+    ensures one { ReadIsSpelled }
+    ensures no_prefix { NoSpellingGoesOn }
 {}

@@ -26,7 +26,8 @@ pub fn decode(alloc: Global, bytes: &[u8]) -> Result<CoordState, DecodeFault>
 
     // What is read is a state, and is spelled so; what is spelled so is read, unless memory runs out.
     ensures found { IfOk result (λ s. IsCoordinatedState s × (bytes.now ≡ spelling s)) }
-    ensures only { (s : CoordinatedState) → IsCoordinatedState s → bytes.now ≡ spelling s → MatchResult result (λ t. t ≡ s) (λ fault. fault ≡ DecodeFault.Memory) }
+    ensures only { (s : CoordinatedState) → IsCoordinatedState s → bytes.now ≡ spelling s
+        → MatchResult result (λ t. t ≡ s) (λ fault. fault ≡ DecodeFault.Memory) }
 {
     state_of(alloc, bytes)
 }
