@@ -1,22 +1,22 @@
 -- The state that a list of commits determines, call by call.
-use Rattle.std.proofs.Common.{◌≡◌, ℕ, zero, suc, ◌+◌, ◌-◌, ◌<◌, ◌≤◌, Bool, true, false, cond, ◌&&◌, max, min, List, [], ◌∷◌, ◌++◌, Option, None, Some, IsSome, refl, sym, ap, ◌∙◌, arith}
+use Rattle.std.proofs.Common.{◌≡◌, ℕ, ◌+◌, ◌-◌, ◌<◌, ◌≤◌, Bool, true, false, cond, max, min, List, [], ◌∷◌, ◌++◌, Option, None, Some, IsSome, refl, sym, ap, ◌∙◌, arith}
 use Rattle.std.specs.Prelude.{unwrap_or, is_some, nat_le, nat_lt, ◌==◌}
 use Rattle.std.specs.Cmp.{unsigned_Decides}
 use Rattle.std.specs.Option.{option_or}
 use Rattle.std.specs.FinMap.{get, get-empty, empty, same_map}
-use Rattle.std.proofs.lemmas.Bool.{leb-true, leb-false, ltb-true, ltb-false}
-use Rattle.fr_base.specs.Bytes.{bytes_cmp, bytes_total, bytes_exact}
+use Rattle.std.proofs.lemmas.Bool.{leb-true, leb-false, ltb-true}
+use Rattle.fr_base.specs.Bytes.{bytes_total, bytes_exact}
 use Rattle.fr_base.specs.Map.{Map}
 use Rattle.fr_mutation.specs.declared.mutation.Mutation.{Mutation}
 use Rattle.fr_mutation.specs.Mutation.{after}
-use Rattle.fr_undo.specs.State.{Place, place_cmp, UndoRows, StoreState, IsStoreState, fresh}
+use Rattle.fr_undo.specs.State.{Place, place_cmp, StoreState, IsStoreState, fresh}
 use Rattle.fr_undo.specs.Undo.{same_value, before_if_changed, row_at, rows, undone, extended, forgotten}
 use Rattle.fr_undo.specs.Canonical.{Commit, Rises, contents_after, rows_after, canonical, commits_through}
 use Rattle.fr_undo.specs.Laws.{LeadsOn}
 use Rattle.fr_undo.proofs.UndoLemmas.{place_total, place_exact, same_from_same_value, get-rows, get-joined, get-contents_undone, get-rows_through, get-rows_above, same_state}
 use Rattle.fr_undo.proofs.RowLemmas.{least_by, least_row-by, least_by-none, least_by-same, least_by-at, option_or_none}
 use Rattle.fr_undo.proofs.ChangeLemmas.{cond_none}
-use Rattle.fr_undo.proofs.ChainLaw.{is_above, is_not_above, both_above, row_elsewhere, twice, option_or_assoc}
+use Rattle.fr_undo.proofs.ChainLaw.{is_above, both_above, row_elsewhere, twice, option_or_assoc}
 
 -- ---- the rows, place by place
 

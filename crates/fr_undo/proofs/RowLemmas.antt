@@ -43,27 +43,12 @@ upto_from_not_lt p q e =
     clashed h = cc
 
 pub pops : (rows left : Rows) (t : ℕ) (place : Place) (result : Option (Place × Option (List ℕ))) → t < place.0 → IsSome (tree.get place_cmp rows place)
-    → IfSome result (λ p. tree.get place_cmp rows p.0 ≡ Some p.1) → IfSome result (λ p. IsUpperBound place_cmp rows p.0) → IfSome result (λ p. Updates place_cmp rows left p.0 None)
-    → IfSome result (λ p. PopsAbove rows t p.0 p.1 left)
-pops rows left t place None above was value greatest updates = tt
-pops rows left t place (Some p) above was value greatest updates = record {
+    → IfSome result (λ p. IsUpperBound place_cmp rows p.0) → IfSome result (λ p. Updates place_cmp rows left p.0 None) → IfSome result (λ p. PopsAbove rows t p.0 left)
+pops rows left t place None above was greatest updates = tt
+pops rows left t place (Some p) above was greatest updates = record {
   above = let le : place.0 ≤ p.0.0 = upto_from_not_lt p.0 place (greatest place was) in omega arith;
-  was = value;
-  greatest = λ w q some. upto_from_not_lt p.0 (w, q) (greatest (w, q) some);
   updates = updates.0;
 }
-
-module _ (rows left : Rows) (t : ℕ) (place : Place) (before : Option (List ℕ)) (h : PopsAbove rows t place before left) where
-  other_place : (w : ℕ) (q : List ℕ) → is_at (place_cmp place) (w, q) ≡ false → tree.get place_cmp left (w, q) ≡ tree.get place_cmp rows (w, q)
-  other_place w q e = h.updates (w, q) ∙ ap (λ b. cond b None (tree.get place_cmp rows (w, q))) e
-
-  other_version : (w u : ℕ) (k q : List ℕ) → (w ≡ u → ⊥) → is_at (place_cmp (w, k)) (u, q) ≡ false
-  other_version w u k q ne = from (nat_cmp w u) refl
-    where
-      from : (r : Ordering) → nat_cmp w u ≡ r → is_eq (ordering_then r (bytes_cmp k q)) ≡ false
-      from Less e = refl
-      from Equal e = absurd (ne (ranked w u Equal (sym e)))
-      from Greater e = refl
 
 pub above_from_gt : (a b : ℕ) → is_gt (nat_cmp a b) ≡ true → b < a
 above_from_gt a b e = from (nat_cmp a b) refl
@@ -92,17 +77,6 @@ upto_left rows t upto p =
       | true ↦ λ e. refl
       | false ↦ λ e. none_from_upto rows t p.0 p.1 upto (leb-false p.0 t e)
     ] refl
-
-module _ (rows left : Rows) (t : ℕ) (place : Place) (before : Option (List ℕ)) (h : PopsAbove rows t place before left) where
-  pub left_below : (p : Place) → cond (nat_le p.0 t) (tree.get place_cmp left p) None ≡ cond (nat_le p.0 t) (tree.get place_cmp rows p) None
-  left_below p =
-      elim (nat_le p.0 t) as (λ b. nat_le p.0 t ≡ b → cond b (tree.get place_cmp left p) None ≡ cond b (tree.get place_cmp rows p) None) [
-        | true ↦ λ e.
-            let le = leb-true p.0 t e in
-            let above = h.above in
-            other_place rows left t place before h p.0 p.1 (other_version rows left t place before h place.0 p.0 place.1 p.1 (λ is. omega arith))
-        | false ↦ λ e. refl
-      ] refl
 
 pub below_from_lt : (a b : ℕ) → is_lt (nat_cmp a b) ≡ true → a < b
 below_from_lt a b e = from (nat_cmp a b) refl

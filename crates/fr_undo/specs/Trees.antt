@@ -1,5 +1,5 @@
 -- The trees in which a store in memory keeps its state.
-use Rattle.std.specs.Prelude.{◌≡◌, ◌<◌, ◌≤◌, ℕ, cond, List, Option, None, Some, IsSome}
+use Rattle.std.specs.Prelude.{◌≡◌, ◌<◌, ◌≤◌, ℕ, cond, List, Option, None, IsSome}
 use Rattle.std.specs.BTreeMap as tree
 use Rattle.std.specs.BTreeMap.{BTreeMap, is_at}
 use Rattle.fr_undo.specs.State.{Place, place_cmp}
@@ -29,9 +29,7 @@ pub record PopsThrough (rows : Rows) (f : ℕ) (place : Place) (left : Rows) : T
   pub through : place.0 ≤ f
   pub updates : (p : Place) → tree.get place_cmp left p ≡ cond (is_at (place_cmp place) p) None (tree.get place_cmp rows p)
 
--- the row at a place above the version, after which no version has a row, is taken
-pub record PopsAbove (rows : Rows) (t : ℕ) (place : Place) (before : Option (List ℕ)) (left : Rows) : Type 0 where
+-- the row at a place above the version is taken
+pub record PopsAbove (rows : Rows) (t : ℕ) (place : Place) (left : Rows) : Type 0 where
   pub above : t < place.0
-  pub was : tree.get place_cmp rows place ≡ Some before
-  pub greatest : IsUpTo rows place.0
   pub updates : (p : Place) → tree.get place_cmp left p ≡ cond (is_at (place_cmp place) p) None (tree.get place_cmp rows p)

@@ -21,7 +21,7 @@ fn pop_above(
     rows: &mut BTreeMap<(Version, Bytes), Option<Bytes>>,
     version: Version,
 ) -> Option<((Version, Bytes), Option<Bytes>)>
-    ensures some { IfSome result (λ row. PopsAbove rows.old version row.0 row.1 rows.new) }
+    ensures some { IfSome result (λ row. PopsAbove rows.old version row.0 rows.new) }
     ensures none { IfNone result (IsUpTo rows.old version) }
     ensures same { IfNone result (IsUnchanged rows.old rows.new) }
     ensures len { btree_map_len rows.new + (cond (is_some result) 1 0) ≡ btree_map_len rows.old }

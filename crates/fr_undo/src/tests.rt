@@ -1,6 +1,7 @@
-use crate::{MapStore, ShardStore, StoreFault};
+use crate::fails_once::FailsOnce;
+use crate::{MapStore, ShardStore, StoreFault, apply_all_and_undo, apply_and_undo};
 use fr_base::{Bytes, Memory, Version};
-use fr_mutation::{Batch, Mutation};
+use fr_mutation::{Batch, Mutation, Shard};
 use std::alloc::Global;
 use std::test::Fail;
 
@@ -15,15 +16,22 @@ fn set(alloc: Global, key: &[u8], value: &[u8]) -> Result<Mutation, Memory> {
     })
 }
 
+/// A batch that sets one key.
+fn setting(alloc: Global, key: &[u8], value: &[u8]) -> Result<Batch, Fail> {
+    let mut mutations = Vec::new(alloc);
+    mutations.push(set(alloc, key, value)?)?;
+    Ok(Batch::new(mutations)?)
+}
+
+fn at(number: u64) -> Result<Version, Fail> {
+    Ok(Version::new(number).ok_or("no version")?)
+}
+
 #[test]
 fn undo_gives_the_earlier_value(rt: HostRuntime) -> Result<(), Fail> {
     let alloc = rt.alloc();
-    let five = Version::new(5).ok_or("5")?;
-    let six = Version::new(6).ok_or("6")?;
     let mut store = MapStore::new(alloc);
-    let mut first = Vec::new(alloc);
-    first.push(set(alloc, b"a", b"\x01")?)?;
-    store.apply(alloc, five, &Batch::new(first)?)?;
+    store.apply(alloc, at(5)?, &setting(alloc, b"a", b"\x01")?)?;
     assert_eq!(rt; store.undo_rows(), 1);
     let mut second = Vec::new(alloc);
     second.push(set(alloc, b"a", b"\x02")?)?;
@@ -36,17 +44,68 @@ fn undo_gives_the_earlier_value(rt: HostRuntime) -> Result<(), Fail> {
         param: bytes(alloc, b"\x05")?,
     })?;
     let second = Batch::new(second)?;
-    store.apply(alloc, six, &second)?;
+    store.apply(alloc, at(6)?, &second)?;
     assert_eq!(rt; store.applied().get(), 6);
     assert_eq!(rt; store.undo_rows(), 2);
     let key = bytes(alloc, b"a")?;
     let now = store.get(alloc, &key)?.ok_or("no value")?;
     assert_eq!(rt; now.as_slice(), b"\x05".as_slice());
-    let again = store.apply(alloc, six, &second);
+    let again = store.apply(alloc, at(6)?, &second);
     assert!(rt; again == Err(StoreFault::NotAfter));
-    store.undo_to(alloc, five)?;
+    store.undo_to(alloc, at(5)?)?;
     assert_eq!(rt; store.undo_rows(), 1);
     let then = store.get(alloc, &key)?.ok_or("no value")?;
     assert_eq!(rt; then.as_slice(), b"\x01".as_slice());
+    Ok(())
+}
+
+#[test]
+fn what_is_forgotten_cannot_be_undone(rt: HostRuntime) -> Result<(), Fail> {
+    let alloc = rt.alloc();
+    let mut store = MapStore::new(alloc);
+    store.advance(at(4)?)?;
+    store.apply(alloc, at(8)?, &setting(alloc, b"a", b"\x01")?)?;
+    store.apply(alloc, at(9)?, &setting(alloc, b"a", b"\x02")?)?;
+    store.forget_through(alloc, at(8)?)?;
+    assert_eq!(rt; store.floor().get(), 8);
+    assert_eq!(rt; store.undo_rows(), 1);
+    assert!(rt; store.undo_to(alloc, at(7)?) == Err(StoreFault::BelowFloor));
+    assert!(rt; store.forget_through(alloc, at(10)?) == Err(StoreFault::AboveApplied));
+    apply_and_undo(alloc, &mut store, at(10)?, &setting(alloc, b"b", b"")?)?;
+    let mut commits = Vec::new(alloc);
+    commits.push((at(10)?, setting(alloc, b"a", b"")?))?;
+    commits.push((at(12)?, setting(alloc, b"a", b"\x03")?))?;
+    apply_all_and_undo(alloc, &mut store, commits.as_slice())?;
+    store.set_state(alloc, bytes(alloc, b"state")?)?;
+    let mut copy = store.copy(alloc)?;
+    copy.reopen(alloc)?;
+    assert_eq!(rt; copy.state_bytes(alloc)?.as_slice(), b"state".as_slice());
+    let rows = copy.dump(alloc)?;
+    assert_eq!(rt; rows.len(), 1);
+    assert_eq!(rt; rows[0].1.as_slice(), b"\x02".as_slice());
+    let shard = Shard {
+        begin: bytes(alloc, b"")?,
+        end: Some(bytes(alloc, b"a")?),
+    };
+    assert_eq!(rt; copy.range(alloc, &shard)?.len(), 0);
+    Ok(())
+}
+
+#[test]
+fn a_failed_call_stands_before_or_after(rt: HostRuntime) -> Result<(), Fail> {
+    let alloc = rt.alloc();
+    for (is_done, applied) in [(false, 5), (true, 6)] {
+        let mut store = FailsOnce::new(alloc, 1, is_done);
+        let batch = setting(alloc, b"a", b"\x01")?;
+        store.apply(alloc, at(5)?, &batch)?;
+        assert!(rt; store.apply(alloc, at(6)?, &batch) == Err(StoreFault::Device));
+        assert!(rt; store.undo_to(alloc, at(0)?) == Err(StoreFault::Failed));
+        assert!(rt; store.dump(alloc).is_err());
+        assert_eq!(rt; store.applied().get(), 5);
+        store.reopen(alloc)?;
+        assert_eq!(rt; store.applied().get(), applied);
+        store.undo_to(alloc, at(0)?)?;
+        assert_eq!(rt; store.dump(alloc)?.len(), 0);
+    }
     Ok(())
 }

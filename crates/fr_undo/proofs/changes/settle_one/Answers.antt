@@ -1,7 +1,5 @@
 use Rattle.std.proofs.Common.{ap, ◌∙◌, cond, Some}
-use Rattle.std.specs.Map.{lookup}
 use Rattle.std.specs.BTreeMap as tree
-use Rattle.std.specs.BTreeMap.{is_at}
 use Rattle.fr_undo.specs.State.{place_cmp}
 use Rattle.fr_undo.proofs.RowLemmas.{lower_place}
 use Rattle.fr_undo.proofs.changes.settle_one.Goals as goal

@@ -1,6 +1,5 @@
-use Rattle.std.proofs.Common.{ap, sym, ◌∙◌, not, false, ◌&&◌}
+use Rattle.std.proofs.Common.{◌∙◌, not, false, ◌&&◌}
 use Rattle.std.specs.Ordering.{is_le}
-use Rattle.std.specs.FinMap.{entries}
 use Rattle.std.proofs.lemmas.Result.{IfOk-weaker}
 use Rattle.fr_base.specs.Bytes.{bytes_cmp}
 use Rattle.fr_base.specs.Map.{map_of}

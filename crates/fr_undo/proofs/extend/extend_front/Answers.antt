@@ -5,7 +5,7 @@ use Rattle.std.specs.Map.{lookup}
 use Rattle.std.specs.Option.{option_or}
 use Rattle.std.specs.BTreeMap as tree
 use Rattle.std.specs.BTreeMap.{is_at}
-use Rattle.std.proofs.lemmas.Result.{on_ok_weaker, IfOk-at_ok}
+use Rattle.std.proofs.lemmas.Result.{on_ok_weaker}
 use Rattle.fr_base.specs.Bytes.{bytes_cmp}
 use Rattle.fr_undo.specs.State.{place_cmp}
 use Rattle.fr_undo.specs.Touched.{may_change}

@@ -9,9 +9,9 @@ pub loop-version-init : goal.loop-version-init
 loop-version-init g c =
     let s = g.S.ShardStore.state c.args.store.now in
     record {
-      sound = c.applied-before.ensures.sound;
-      later = omega (arith, c.applied-before.ensures.value);
-      back = ap (undone s) c.applied-before.ensures.value ∙ sym (undone_nothing s s.applied c.applied-before.ensures.sound (omega arith));
+      sound = c.applied-start.ensures.sound;
+      later = omega (arith, c.applied-start.ensures.value);
+      back = ap (undone s) c.applied-start.ensures.value ∙ sym (undone_nothing s s.applied c.applied-start.ensures.sound (omega arith));
     }
 
 pub loop-version-preserved : goal.loop-version-preserved
@@ -23,5 +23,5 @@ loop-version-preserved g c =
     record {
       sound = c.in_ok-apply.ensures.sound;
       later = omega (arith, inv.later, c.in_ok-apply.ensures.later, after);
-      back = ap (λ (t : StoreState). undone t c.applied-before.result) ok ∙ undone_extended s c.applied-before.result _ _ inv.sound inv.later c.in_ok-apply.ensures.later ∙ inv.back;
+      back = ap (λ (t : StoreState). undone t c.applied-start.result) ok ∙ undone_extended s c.applied-start.result _ _ inv.sound inv.later c.in_ok-apply.ensures.later ∙ inv.back;
     }

@@ -7,6 +7,6 @@ use Rattle.fr_undo.proofs.round_trip.apply_all_and_undo.Given as goal
 abbrev pub invariant-loop-version : goal.invariant-loop-version
 invariant-loop-version g l = record {
   sound : IsStoreState (g.S.ShardStore.state l.store);
-  later : l.before ≤ (g.S.ShardStore.state l.store).applied;
-  back : undone (g.S.ShardStore.state l.store) l.before ≡ g.S.ShardStore.state l.initial.store;
+  later : l.start ≤ (g.S.ShardStore.state l.store).applied;
+  back : undone (g.S.ShardStore.state l.store) l.start ≡ g.S.ShardStore.state l.initial.store;
 }

@@ -1,4 +1,4 @@
-use Rattle.std.proofs.Common.{◌+◌, ◌&&◌, true, [], ap, sym, ◌∙◌}
+use Rattle.std.proofs.Common.{◌&&◌, true, ap, sym, ◌∙◌}
 use Rattle.std.specs.List.{filter}
 use Rattle.std.specs.Ordering.{is_le}
 use Rattle.std.specs.Option.{option_or}

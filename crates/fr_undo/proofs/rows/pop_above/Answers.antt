@@ -9,7 +9,7 @@ pub returns-in-Some-clause-some : goal.returns-in-Some-clause-some
 returns-in-Some-clause-some c =
     let e = c.pop_last.ensures in
     pops c.args.rows.now c.pop_last.new.self c.args.version c.in-Some.place.now c.pop_last.result
-    (above_from_gt c.in-Some.place.now.0 c.args.version (cc (c.gt.ensures, c.if-gt.true))) (ap is_some c.in-Some.ensures.value) e.value e.greatest e.updates
+    (above_from_gt c.in-Some.place.now.0 c.args.version (cc (c.gt.ensures, c.if-gt.true))) (ap is_some c.in-Some.ensures.value) e.greatest e.updates
 
 pub returns-in_default-clause-none : goal.returns-in_default-clause-none
 returns-in_default-clause-none c = λ w q some.

@@ -1,5 +1,4 @@
-use Rattle.std.proofs.Common.{ℕ, ◌<◌, ◌≤◌, IsSome, None, ap, sym, ◌∙◌, arith}
-use Rattle.std.specs.Prelude.{is_some}
+use Rattle.std.proofs.Common.{ℕ, ◌<◌, ◌≤◌, IsSome, None, arith}
 use Rattle.fr_undo.proofs.RowLemmas.{from_not_gt, above_from_not_le, entries_from_get}
 use Rattle.fr_undo.proofs.rows.pop_through.Goals as goal
 use Rattle.fr_undo.proofs.rows.pop_through.Goals.{in_default-via-in-Some+else-le, in_default-via-in_default}

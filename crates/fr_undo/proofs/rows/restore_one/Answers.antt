@@ -1,4 +1,4 @@
-use Rattle.std.proofs.Common.{not, ap, sym, ◌∙◌}
+use Rattle.std.proofs.Common.{not, ap}
 use Rattle.fr_undo.specs.declared.changes.Change.{Change}
 use Rattle.fr_undo.proofs.RowLemmas.{kept_first, kept_still, kept_new}
 use Rattle.fr_undo.proofs.rows.restore_one.Goals as goal
