@@ -80,11 +80,14 @@ holder_is_left t m k lost fits fewer =
 -- the logs after those that hold a tag
 pub fewer_may_miss_each_tag : FewerMayMissEachTag
 fewer_may_miss_each_tag t m k n few =
-    let are = each_tag_has_holders (t + k) m n (omega arith) in
-    (holders (t + k) m n, are, All-from_get_or (λ log. is_held t m k log ≡ false) (holders (t + k) m n) 0 (λ i within.
-        let many = are.many in
-        let inside : i < n = omega arith in
-        rw (at (t + k) m n i 0 inside) (false_from_ne_true (is_held t m k (((t + k) + i) % m)) (λ held. clash i inside (Contains-from_among (holders t m k) (((t + k) + i) % m) held)))))
+    let are = each_tag_has_holders (t + k) m n (omega arith) in (
+      holders (t + k) m n,
+      are,
+      All-from_get_or (λ log. is_held t m k log ≡ false) (holders (t + k) m n) 0 (λ i within.
+          let many = are.many in
+          let inside : i < n = omega arith in
+          rw (at (t + k) m n i 0 inside) (false_from_ne_true (is_held t m k (((t + k) + i) % m)) (λ held. clash i inside (Contains-from_among (holders t m k) (((t + k) + i) % m) held)))),
+    )
   where
     clash : (i : ℕ) → i < n → Contains (holders t m k) (((t + k) + i) % m) → ⊥
     clash i inside (j, within, e) =

@@ -49,9 +49,9 @@ in_shard-at begins key t w within =
     last : (n : ℕ) → 0 < n → (nat_lt t n && not (nat_lt (t + 1) n)) ≡ nat_eq (n - 1) t
     last n some = elim (cases_lt t n) [
       | inl more ↦ elim (cases_lt (t + 1) n) [
-          | inl far ↦ rw (lt-ltb t n more, lt-ltb (t + 1) n far, ne_eqb (n - 1) t (λ e. absurd (omega (arith, e, far)))) refl
-          | inr here ↦ rw (lt-ltb t n more, le-ltb (t + 1) n here, eq-eqb (n - 1) t (omega arith)) refl
-        ]
+        | inl far ↦ rw (lt-ltb t n more, lt-ltb (t + 1) n far, ne_eqb (n - 1) t (λ e. absurd (omega (arith, e, far)))) refl
+        | inr here ↦ rw (lt-ltb t n more, le-ltb (t + 1) n here, eq-eqb (n - 1) t (omega arith)) refl
+      ]
       | inr fewer ↦ rw (le-ltb t n fewer, ne_eqb (n - 1) t (λ e. absurd (omega (arith, e, fewer, some)))) refl
     ]
 
@@ -78,9 +78,11 @@ pub key_of_range : (begin end : List ℕ) (s : Shard) → meets_range begin end 
 key_of_range begin end s met =
     let key = later begin s.begin in
     let begins' = and_parts (is_le (bytes_cmp begin key)) (is_le (bytes_cmp s.begin key)) (sym (later_le begin s.begin key) ∙ le_itself key) in
-    let ends = under key s.end met in
-    (key, and_from (is_le (bytes_cmp s.begin key)) (option_map_or (λ limit. is_lt (bytes_cmp key limit)) s.end true) begins'.1 ends.1,
-     and_from (is_le (bytes_cmp begin key)) (is_lt (bytes_cmp key end)) begins'.0 ends.0)
+    let ends = under key s.end met in (
+      key,
+      and_from (is_le (bytes_cmp s.begin key)) (option_map_or (λ limit. is_lt (bytes_cmp key limit)) s.end true) begins'.1 ends.1,
+      and_from (is_le (bytes_cmp begin key)) (is_lt (bytes_cmp key end)) begins'.0 ends.0,
+    )
   where
     under : (key : List ℕ) (o : Option (List ℕ)) → is_lt (bytes_cmp key (earlier end o)) ≡ true → (is_lt (bytes_cmp key end) ≡ true) × (option_map_or (λ limit. is_lt (bytes_cmp key limit)) o true ≡ true)
     under key None l = (l, refl)
@@ -163,6 +165,7 @@ tags_are_of_touched_keys begins mutation t e = (λ has. from_tag has, λ (key, a
         let met : meets mutation s ≡ true = All-contains (λ u. meets mutation (shard_at begins u) ≡ true) (tags_of begins mutation) t (filter_passes (λ u. meets mutation (shard_at begins u)) (range_with_len 0 (length begins))) has in
         let found = key_of_met mutation s met in
         (found.0, found.2, eqb-true (tag_of begins found.0) t (sym (in_shard-at begins found.0 t (whole begins e) within) ∙ found.1))
+
     to_tag : (key : List ℕ) → touches mutation key ≡ true → tag_of begins key ≡ t → Contains (tags_of begins mutation) t
     to_tag key acts tagged =
         let w = whole begins e in

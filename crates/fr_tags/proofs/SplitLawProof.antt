@@ -47,9 +47,9 @@ bodies_rise begins batch p =
     let all = range_with_len 0 (length begins) in
     let kept = filter (λ t. is_filled (body t)) all in
     let e : map (λ (b : ℕ × List Mutation). b.0) (filter p (bodies begins batch)) ≡ filter (λ t. p (body t)) kept =
-      ap (λ bs. map (λ (b : ℕ × List Mutation). b.0) (filter p bs)) (filter-map is_filled body all)
-      ∙ ap (map (λ (b : ℕ × List Mutation). b.0)) (filter-map p body kept)
-      ∙ tags_of_bodies (λ t. clipped batch (shard_at begins t)) (filter (λ t. p (body t)) kept) in
+    ap (λ bs. map (λ (b : ℕ × List Mutation). b.0) (filter p bs)) (filter-map is_filled body all)
+    ∙ ap (map (λ (b : ℕ × List Mutation). b.0)) (filter-map p body kept)
+    ∙ tags_of_bodies (λ t. clipped batch (shard_at begins t)) (filter (λ t. p (body t)) kept) in
     subst IsStrictlyIncreasing (sym e) (IsStrictlyIncreasing-filter (λ t. p (body t)) kept (IsStrictlyIncreasing-filter (λ t. is_filled (body t)) all (range_rises (length begins))))
 
 pub each_log_has_its_bodies : EachLogHasItsBodies
@@ -63,8 +63,10 @@ each_log_has_its_bodies begins batch m k log within =
   where
     p : ℕ × List Mutation → Bool
     p body = is_held body.0 m k log
+
     tags : List ℕ
     tags = range_with_len 0 (length begins)
+
     all : List (ℕ × List Mutation)
     all = map (body_of begins batch) tags
 
@@ -88,8 +90,10 @@ served_more held clip u t rest among true filled held_here same full holds e = s
     both : (b : Bool) (xs : List Mutation) → xs ≡ [] → cond b xs [] ≡ []
     both true xs h = h
     both false xs h = refl
+
     none : (b : Bool) (xs : List Mutation) → b ≡ false → cond b xs [] ≡ []
     none b xs h = rw h refl
+
     sought : u ≡ t → (filled held_here : Bool) → nat_lt 0 (length (clip u)) ≡ filled → held u ≡ held_here
         → batch_of (cond filled (cond held_here ((u, clip u) ∷ rest) rest) rest) t ≡ cond (held t) (clip t) []
     sought at true true f h = rw same (ap clip at ∙ sym (rw (sym (ap held at) ∙ h) refl))

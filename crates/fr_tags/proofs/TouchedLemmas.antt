@@ -114,9 +114,9 @@ clear_is_met begins begin end t e within some =
 pub empty_is_not_met : (begin end : List ℕ) (s : Shard) (t : ℕ) → is_lt (bytes_cmp begin end) ≡ false → meets_range begin end s ≡ is_from_to 0 0 t
 empty_is_not_met begin end s t none =
     false_from_ne_true (meets_range begin end s) (λ met.
-        let found = key_of_range begin end s met in
-        let between = and_parts (is_le (bytes_cmp begin found.0)) (is_lt (bytes_cmp found.0 end)) found.2 in
-        both_ways (is_lt (bytes_cmp begin end)) none (le_lt_trans begin found.0 end between.0 between.1))
+    let found = key_of_range begin end s met in
+    let between = and_parts (is_le (bytes_cmp begin found.0)) (is_lt (bytes_cmp found.0 end)) found.2 in
+    both_ways (is_lt (bytes_cmp begin end)) none (le_lt_trans begin found.0 end between.0 between.1))
     ∙ sym (rw (le-ltb t 0 (omega arith)) (no (nat_le 0 t)))
   where
     no : (b : Bool) → (b && false) ≡ false
@@ -167,19 +167,20 @@ filter_range p (suc n) from to order within each = elim (cases_lt n to) [
       skipped p n (range_with_len from (to - from)) (each n (omega arith) ∙ outside from to n (inr past))
       (filter_range p n from to order past (λ t l. each t (omega arith)))
   | inl last ↦ elim (cases_lt n from) [
-      | inl empty ↦
-          skipped p n (range_with_len from (to - from)) (each n (omega arith) ∙ outside from to n (inl empty))
-          (filter_range p n n n (omega arith) (omega arith) (λ t l. each t (omega arith) ∙ outside from to t (inl (omega arith)) ∙ sym (outside n n t (inl l)))
-           ∙ nothing n from (n - n) (to - from) (omega arith) (omega arith))
-      | inr some ↦
-          kept p n (range_with_len from (n - from)) (each n (omega arith) ∙ inside from to n some last)
-          (filter_range p n from n some (omega arith) (λ t l. each t (omega arith) ∙ sooner from to n t l (omega arith)))
-          ∙ range_longer from n (to - from) some (omega arith)
-    ]
+    | inl empty ↦
+        skipped p n (range_with_len from (to - from)) (each n (omega arith) ∙ outside from to n (inl empty))
+        (filter_range p n n n (omega arith) (omega arith) (λ t l. each t (omega arith) ∙ outside from to t (inl (omega arith)) ∙ sym (outside n n t (inl l)))
+        ∙ nothing n from (n - n) (to - from) (omega arith) (omega arith))
+    | inr some ↦
+        kept p n (range_with_len from (n - from)) (each n (omega arith) ∙ inside from to n some last)
+        (filter_range p n from n some (omega arith) (λ t l. each t (omega arith) ∙ sooner from to n t l (omega arith)))
+        ∙ range_longer from n (to - from) some (omega arith)
+  ]
 ]
   where
     nothing : (a b x y : ℕ) → x ≡ 0 → y ≡ 0 → range_with_len a x ≡ range_with_len b y
     nothing a b x y e d = rw (e, d) refl
+
     sooner : (from to n t : ℕ) → t < n → n < to → is_from_to from to t ≡ is_from_to from n t
     sooner from to n t l m = ap (λ b. nat_le from t && b) (lt-ltb t to (omega arith) ∙ sym (lt-ltb t n l))
 

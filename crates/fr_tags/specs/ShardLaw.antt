@@ -1,10 +1,13 @@
 -- The shards of a map cut the keys into parts.
-use Rattle.std.specs.Prelude.{◌≡◌, ℕ, ◌<◌, ◌↔◌, List, length, None, IsTrue, Contains}
+use Rattle.std.specs.Prelude.{◌≡◌, ℕ, ◌<◌, ◌≤◌, ◌↔◌, List, length, None, IsTrue, Contains}
 use Rattle.std.specs.List.Sorted.{IsStrictlyIncreasing}
 use Rattle.fr_mutation.specs.Mutation.{touches}
 use Rattle.fr_mutation.specs.Shard.{in_shard}
 use Rattle.fr_mutation.specs.declared.mutation.Mutation.{Mutation}
 use Rattle.fr_tags.specs.Shards.{shard_fault, shard_at, tag_of, tags_of}
+
+abbrev pub EachMapHasOneTo32Shards : Type 0
+EachMapHasOneTo32Shards = (begins : List (List ℕ)) → shard_fault begins ≡ None → (1 ≤ length begins) × (length begins ≤ 32)
 
 -- each key has a tag
 abbrev pub EachKeyHasATag : Type 0

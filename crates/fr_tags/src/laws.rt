@@ -1,6 +1,6 @@
 //! Laws over the definitions.
 ghost use Rattle.fr_tags.specs.CoverLaw.{EachTagHasHolders, HeldByHolders, CoveringMeetsEachTag, FewerMayMissEachTag, HolderIsLeft, DistinctLogsCount};
-ghost use Rattle.fr_tags.specs.ShardLaw.{EachKeyHasATag, EachKeyIsInOneShard, TagsAreOfTouchedKeys, TagsRise};
+ghost use Rattle.fr_tags.specs.ShardLaw.{EachMapHasOneTo32Shards, EachKeyHasATag, EachKeyIsInOneShard, TagsAreOfTouchedKeys, TagsRise};
 ghost use Rattle.fr_tags.specs.SplitLaw.{EachLogHasItsBodies, EachLogIsServed, HeldTagsHaveTheirClips, ClipsMakeThePart, ClipsMakeThePartFromNothing};
 
 use fr_mutation::clip_law;
@@ -14,25 +14,23 @@ pub fn cover_law()
     ensures tight { FewerMayMissEachTag }
     ensures left { HolderIsLeft }
     ensures counted { DistinctLogsCount }
-{
-}
+{}
 
 /// Each key is in exactly one shard of a map, and a mutation has the tags of the keys on which it acts.
 pub fn shard_law()
+    ensures count { EachMapHasOneTo32Shards }
     ensures covered { EachKeyHasATag }
     ensures disjoint { EachKeyIsInOneShard }
     ensures touched { TagsAreOfTouchedKeys }
     ensures rising { TagsRise }
-{
-}
+{}
 
 /// A split gives each of the `m` logs, of each tag that it holds, the batch clipped to the tag's shard.
 pub fn split_law()
     ensures served { EachLogIsServed }
     ensures bodies { EachLogHasItsBodies }
     ensures clips { HeldTagsHaveTheirClips }
-{
-}
+{}
 
 /// Who lets the clips of all batches to a shard act holds the shard's part of what the batches make.
 pub fn shard_fold_law()

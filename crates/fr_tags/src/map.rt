@@ -24,9 +24,7 @@ pub struct ShardMap {
 
 impl Model for ShardMap {
     ghost use Rattle.std.specs.Prelude.{◌≡◌, List, ℕ, None};
-    ghost use Rattle.std.specs.Option.{ForSome};
-ghost use Rattle.fr_mutation.specs.Shard.{in_shard, EndsFit};
-ghost use Rattle.fr_tags.specs.Shards.{shard_fault};
+    ghost use Rattle.fr_tags.specs.Shards.{shard_fault};
 
     ghost Value = { List (List ℕ) };
 
@@ -53,6 +51,8 @@ impl ShardMap {
     pub fn begins(&self) -> &[Bytes]
         ensures begins { result.now ≡ self.now }
         ensures within { shard_fault result.now ≡ None }
+        ensures some { 1 ≤ length result.now }
+        ensures few { length result.now ≤ MAX_SHARDS }
     {
         self.begins.as_slice()
     }

@@ -10,7 +10,6 @@ use crate::placement::{MAX_LOGS, is_held};
 use fr_base::{Memory, Tag};
 use fr_mutation::{Batch, clip};
 use std::alloc::Global;
-use std::ops::Range;
 
 impl ShardMap {
     /// The bodies of a batch for each of the `m` logs of a generation, by the number of the log: of each
@@ -65,19 +64,20 @@ impl ShardMap {
     {
         let mut is_met = [false; MAX_SHARDS];
         for mutation in batch.mutations() {
-            mark(&mut is_met, self.touched(mutation));
+            let touched = self.touched(mutation);
+            mark(&mut is_met, touched.start, touched.end);
         }
         is_met
     }
 }
 
-/// Sets the marks at the places of a range.
-fn mark(marks: &mut [bool], places: Range<usize>)
-    requires order { places.start ≤ places.end }
-    requires within { places.end ≤ length marks.old }
-    ensures { (t : ℕ) → slice_index_or marks.new t false ≡ (slice_index_or marks.old t false || is_from_to places.start places.end t) }
+/// Sets the marks from one place up to, but not including, another.
+fn mark(marks: &mut [bool], from: usize, to: usize)
+    requires order { from ≤ to }
+    requires within { to ≤ length marks.old }
+    ensures { (t : ℕ) → slice_index_or marks.new t false ≡ (slice_index_or marks.old t false || is_from_to from to t) }
 {
-    for place in places.start..places.end {
+    for place in from..to {
         marks[place] = true;
     }
 }

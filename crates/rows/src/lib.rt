@@ -6,6 +6,8 @@ mod apply;
 #[cfg(test)]
 mod batch_bytes;
 #[cfg(test)]
+mod log;
+#[cfg(test)]
 mod mutation;
 #[cfg(test)]
 mod register;
@@ -15,3 +17,5 @@ mod slow_store;
 mod state;
 #[cfg(test)]
 mod store_agrees;
+#[cfg(test)]
+mod tags;

@@ -1,5 +1,5 @@
-use fr_register::{Cell, CellAsk, CellTell, CellValue, Progress, ReadTally, WriteTally};
 use fr_base::{Ballot, Machine};
+use fr_register::{Cell, CellAsk, CellTell, CellValue, Progress, ReadTally, WriteTally};
 use std::alloc::Global;
 use std::test::Fail;
 

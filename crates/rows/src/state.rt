@@ -1,5 +1,5 @@
-use fr_state::{CoordState, DecodeFault, Generation, StateFault, decode, encode};
 use fr_base::{Epoch, Version};
+use fr_state::{CoordState, DecodeFault, Generation, StateFault, decode, encode};
 use std::alloc::Global;
 use std::test::Fail;
 

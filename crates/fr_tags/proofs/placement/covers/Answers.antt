@@ -10,6 +10,6 @@ use Rattle.fr_tags.proofs.placement.covers.Goals as goal
 pub returns : goal.returns
 returns c =
     let counted : c.count-count.result ≡ placement.log_count c.args.m c.args.logs.now =
-      count_from_yields_List c.filter.result _ c.count-count.ensures.ran (YieldsList-from_filter _ (placement.is_among c.args.logs.now) (YieldsList-at c.filter.ensures.source (YieldsList-from_range 0 c.args.m c.args.m refl (search rules))) c.filter.ensures.closure (λ x b q k. search (rules, tests)))
-      ∙ length-filter (placement.is_among c.args.logs.now) (range_with_len 0 c.args.m) in
+    count_from_yields_List c.filter.result _ c.count-count.ensures.ran (YieldsList-from_filter _ (placement.is_among c.args.logs.now) (YieldsList-at c.filter.ensures.source (YieldsList-from_range 0 c.args.m c.args.m refl (search rules))) c.filter.ensures.closure (λ x b q k. search (rules, tests)))
+    ∙ length-filter (placement.is_among c.args.logs.now) (range_with_len 0 c.args.m) in
     rw (counted, c.from.ensures) refl

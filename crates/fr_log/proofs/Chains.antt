@@ -1,0 +1,90 @@
+-- What follows for pushes that form a chain, and for records that rise.
+use Rattle.std.proofs.Common.{◌≡◌, ℕ, zero, suc, ◌+◌, ◌<◌, ◌≤◌, Bool, true, false, ◌&&◌, ◌||◌, List, [], ◌∷◌, ◌++◌, length, get_or, nat_lt, nat_le, eqb, refl, sym, ◌∙◌, ap, inl, inr, arith, max}
+use Rattle.std.specs.Prelude.{fold}
+use Rattle.std.specs.List.{list_any}
+use Rattle.std.specs.List.Sorted.{IsNonDecreasingBy}
+use Rattle.std.proofs.lemmas.Bool.{and_parts, or_cases, ltb-true, eqb-true, cases_order}
+use Rattle.std.proofs.lemmas.List.Sums.{fold-append}
+use Rattle.fr_log.specs.declared.records.SeedRecord.{SeedRecord}
+use Rattle.fr_log.specs.Seed.{is_rising_from}
+use Rattle.fr_log.specs.Push.{PushContent, is_one_push, is_one_push-parts}
+use Rattle.fr_log.specs.LogState.{headers}
+use Rattle.fr_log.specs.Search.{AreRising}
+use Rattle.fr_log.specs.Chain.{IsChain}
+
+-- ---- pushes
+
+-- the greatest of some versions and of those of pushes
+abbrev pub reach : ℕ → List PushContent → ℕ
+reach version ps = fold (λ v p. max v p.version) version ps
+
+pub chain_above : (version : ℕ) (ps : List PushContent) → IsChain version (headers ps) → (k : ℕ) (d : PushContent) → k < length ps → version < (get_or ps k d).version
+chain_above version [] chain k d within = absurd (omega arith)
+chain_above version (p ∷ ps) (follows, (rises, (known, rest))) zero d within = omega arith
+chain_above version (p ∷ ps) (follows, (rises, (known, rest))) (suc k) d within =
+    let above = chain_above p.version ps rest k d (omega arith) in omega arith
+
+pub chain_rising : (version : ℕ) (ps : List PushContent) → IsChain version (headers ps) → AreRising ps
+chain_rising version [] chain i j d less within = absurd (omega arith)
+chain_rising version (p ∷ ps) (follows, (rises, (known, rest))) zero zero d less within = absurd (omega arith)
+chain_rising version (p ∷ ps) (follows, (rises, (known, rest))) zero (suc j) d less within = chain_above p.version ps rest j d (omega arith)
+chain_rising version (p ∷ ps) (follows, (rises, (known, rest))) (suc i) zero d less within = absurd (omega arith)
+chain_rising version (p ∷ ps) (follows, (rises, (known, rest))) (suc i) (suc j) d less within = chain_rising p.version ps rest i j d (omega arith) (omega arith)
+
+pub rising_non_decreasing : (ps : List PushContent) → AreRising ps → IsNonDecreasingBy (λ p. p.version) ps
+rising_non_decreasing ps rising i j d upto within = elim (cases_order i j) [
+  | inl same ↦ omega (arith, ap (λ k. (get_or ps k d).version) same)
+  | inr (inl less) ↦ let k = rising i j d less within in omega arith
+  | inr (inr more) ↦ absurd (omega arith)
+]
+
+pub reach_above : (version : ℕ) (ps : List PushContent) → version ≤ reach version ps
+reach_above version [] = omega arith
+reach_above version (p ∷ ps) = let k = reach_above (max version p.version) ps in omega arith
+
+pub reach_each : (version : ℕ) (ps : List PushContent) (k : ℕ) (d : PushContent) → k < length ps → (get_or ps k d).version ≤ reach version ps
+reach_each version [] k d within = absurd (omega arith)
+reach_each version (p ∷ ps) zero d within = let k = reach_above (max version p.version) ps in omega arith
+reach_each version (p ∷ ps) (suc k) d within = reach_each (max version p.version) ps k d (omega arith)
+
+-- a push that is held is not above what the log reaches
+pub held_within_reach : (version : ℕ) (p : PushContent) (ps : List PushContent) → list_any (is_one_push p) ps ≡ true → p.version ≤ reach version ps
+held_within_reach version p [] held = absurd (cc)
+held_within_reach version p (q ∷ ps) held = elim (or_cases (is_one_push p q) (list_any (is_one_push p) ps) held) [
+  | inl here ↦
+      let same = (is_one_push-parts p q here).version in
+      let k = reach_above (max version q.version) ps in
+      omega arith
+  | inr later ↦ held_within_reach (max version q.version) p ps later
+]
+
+-- ---- records of a seed
+
+-- the first record is not below the place from which on they rise, and the others rise from it on
+rising_parts : (version tag : ℕ) (r : SeedRecord) (rs : List SeedRecord) → is_rising_from version tag (r ∷ rs) ≡ true → (version ≤ r.version) × (is_rising_from r.version (r.tag + 1) rs ≡ true)
+rising_parts version tag r rs rising = (here, parts.1)
+  where
+    parts : ((nat_lt version r.version || (eqb version r.version && nat_le tag r.tag)) ≡ true) × (is_rising_from r.version (r.tag + 1) rs ≡ true)
+    parts = and_parts (nat_lt version r.version || (eqb version r.version && nat_le tag r.tag)) (is_rising_from r.version (r.tag + 1) rs) rising
+
+    here : version ≤ r.version
+    here = elim (or_cases (nat_lt version r.version) (eqb version r.version && nat_le tag r.tag) parts.0) [
+      | inl less ↦ let k = ltb-true version r.version less in omega arith
+      | inr same ↦ let k = eqb-true version r.version (and_parts (eqb version r.version) (nat_le tag r.tag) same).0 in omega arith
+    ]
+
+pub seed_above : (version tag : ℕ) (rs : List SeedRecord) → is_rising_from version tag rs ≡ true → (k : ℕ) (d : SeedRecord) → k < length rs → version ≤ (get_or rs k d).version
+seed_above version tag [] rising k d within = absurd (omega arith)
+seed_above version tag (r ∷ rs) rising zero d within = (rising_parts version tag r rs rising).0
+seed_above version tag (r ∷ rs) rising (suc k) d within =
+    let parts = rising_parts version tag r rs rising in
+    let later = seed_above r.version (r.tag + 1) rs parts.1 k d (omega arith) in
+    omega arith
+
+pub seed_non_decreasing : (version tag : ℕ) (rs : List SeedRecord) → is_rising_from version tag rs ≡ true → IsNonDecreasingBy (λ r. r.version) rs
+seed_non_decreasing version tag [] rising i j d upto within = absurd (omega arith)
+seed_non_decreasing version tag (r ∷ rs) rising zero zero d upto within = omega arith
+seed_non_decreasing version tag (r ∷ rs) rising zero (suc j) d upto within = seed_above r.version (r.tag + 1) rs (rising_parts version tag r rs rising).1 j d (omega arith)
+seed_non_decreasing version tag (r ∷ rs) rising (suc i) zero d upto within = absurd (omega arith)
+seed_non_decreasing version tag (r ∷ rs) rising (suc i) (suc j) d upto within =
+    seed_non_decreasing r.version (r.tag + 1) rs (rising_parts version tag r rs rising).1 i j d (omega arith) (omega arith)

@@ -1,0 +1,13 @@
+pub mod Fields
+pub mod Records
+pub mod States
+pub mod Seed
+pub mod Push
+pub mod Peeked
+pub mod LogState
+pub mod Search
+pub mod Chain
+pub mod Refusal
+pub mod Step
+pub mod StepLaws
+pub mod Law

@@ -1,0 +1,95 @@
+-- The state of one log.
+use Rattle.std.specs.Prelude.{◌≡◌, ℕ, ◌+◌, ◌-◌, ◌<◌, ◌≤◌, Bool, false, ◌==◌, nat_lt, List, [], ◌∷◌, ◌++◌, map, fold, max, Option, None, Some, IsTrue, IsSome, IsNone, if◌then◌else◌}
+use Rattle.std.specs.List.{list_all, list_any, filter_map}
+use Rattle.std.specs.Option.{option_map}
+use Rattle.fr_mutation.specs.declared.mutation.Mutation.{Mutation}
+use Rattle.fr_tags.specs.Placement.{is_held}
+use Rattle.fr_state.specs.Generations.{CoordinatedState}
+use Rattle.fr_log.specs.declared.records.Body.{Body}
+use Rattle.fr_log.specs.declared.records.SeedRecord.{SeedRecord}
+use Rattle.fr_log.specs.declared.records.PeekedRecord.{PeekedRecord}
+use Rattle.fr_log.specs.Seed.{SeedContent, IsSeed}
+use Rattle.fr_log.specs.Push.{PushContent, IsPush, is_one_push}
+
+-- a log: its epoch and its number there, how many logs the epoch has (m) and on how many of them each tag stands (k), the seed
+-- that it took, the pushes that it holds, the oldest first, and whether it was locked
+pub record LogState : Type 0 where
+  pub epoch : ℕ
+  pub index : ℕ
+  pub m : ℕ
+  pub k : ℕ
+  pub seed : Option SeedContent
+  pub pushes : List PushContent
+  pub stopped : Bool
+
+-- a log that was never asked
+abbrev pub fresh_log : ℕ → ℕ → ℕ → ℕ → LogState
+fresh_log epoch index m k = record { epoch = epoch; index = index; m = m; k = k; seed = None; pushes = []; stopped = false }
+
+-- the version at which the epoch starts, 0 where the log has no seed yet
+abbrev pub first_of : Option SeedContent → ℕ
+first_of None = 0
+first_of (Some s) = s.first
+
+-- the last version that the epoch takes over, 0 where the log has no seed yet
+abbrev pub seeded_to_of : Option SeedContent → ℕ
+seeded_to_of None = 0
+seeded_to_of (Some s) = s.seeded_to
+
+-- the records that the log was seeded with
+abbrev pub seed_records_of : Option SeedContent → List SeedRecord
+seed_records_of None = []
+seed_records_of (Some s) = s.records
+
+-- the greatest version that the log holds: that of a push or, before the first, the last one seeded
+abbrev pub durable_of : LogState → ℕ
+durable_of l = fold (λ version p. max version p.version) (seeded_to_of l.seed) l.pushes
+
+-- the greatest version that a push that it holds told to be committed or, before the first, the one before the epoch's first
+abbrev pub known_of : LogState → ℕ
+known_of l = fold (λ version p. max version p.known) (first_of l.seed - 1) l.pushes
+
+-- whether the log holds a tag
+abbrev pub holds : LogState → ℕ → Bool
+holds l tag = is_held tag l.m l.k l.index
+
+-- whether the log holds a push, whatever that tells of what is known
+abbrev pub is_push_held : LogState → PushContent → Bool
+is_push_held l p = list_any (is_one_push p) l.pushes
+
+-- the coordinated state of the mark, which is the first push
+abbrev pub mark_among : List PushContent → Option CoordinatedState
+mark_among [] = None
+mark_among (p ∷ ps) = p.mark
+
+-- the record of a tag that a seed's record is, if it is of that tag
+abbrev pub seeded_record : ℕ → SeedRecord → Option PeekedRecord
+seeded_record tag r = if r.tag == tag then Some (record { version = r.version; batch = r.batch }) else None
+
+-- the batch of a tag among bodies
+abbrev pub batch_of : ℕ → List Body → Option (List Mutation)
+batch_of tag [] = None
+batch_of tag (b ∷ bs) = if b.tag == tag then Some b.batch else batch_of tag bs
+
+-- the record of a tag that a push has, if it has a body of that tag
+abbrev pub pushed_record : ℕ → PushContent → Option PeekedRecord
+pushed_record tag p = option_map (λ batch. record { version = p.version; batch = batch }) (batch_of tag p.bodies)
+
+-- the records of a tag: those of the seed, and then those of the pushes
+abbrev pub records_of : LogState → ℕ → List PeekedRecord
+records_of l tag = filter_map (seeded_record tag) (seed_records_of l.seed) ++ filter_map (pushed_record tag) l.pushes
+
+-- a push but for its bodies
+pub record Header : Type 0 where
+  pub prev : ℕ
+  pub version : ℕ
+  pub known : ℕ
+  pub mark : Option CoordinatedState
+
+-- the headers of pushes
+abbrev pub headers : List PushContent → List Header
+headers ps = map (λ p. record { prev = p.prev; version = p.version; known = p.known; mark = p.mark }) ps
+
+-- the headers of the pushes that a log holds, the oldest first
+abbrev pub headers_of : LogState → List Header
+headers_of l = headers l.pushes

@@ -1,0 +1,23 @@
+-- What is sought among pushes and records.
+use Rattle.std.specs.Prelude.{ℕ, ◌<◌, Bool, List, length, slice_index_or}
+use Rattle.std.specs.List.{list_any, filter_map}
+use Rattle.fr_log.specs.declared.records.SeedRecord.{SeedRecord}
+use Rattle.fr_log.specs.declared.records.PeekedRecord.{PeekedRecord}
+use Rattle.fr_log.specs.Push.{PushContent, is_one_push}
+use Rattle.fr_log.specs.LogState.{seeded_record, pushed_record}
+
+-- whether a push is among others, whatever it tells of what is known
+abbrev pub is_found : PushContent → List PushContent → Bool
+is_found p ps = list_any (is_one_push p) ps
+
+-- the records of a tag in a seed
+abbrev pub seeded_records : ℕ → List SeedRecord → List PeekedRecord
+seeded_records tag rs = filter_map (seeded_record tag) rs
+
+-- the records of a tag in pushes
+abbrev pub pushed_records : ℕ → List PushContent → List PeekedRecord
+pushed_records tag ps = filter_map (pushed_record tag) ps
+
+-- each push has a greater version than those before it
+abbrev pub AreRising : List PushContent → Type 0
+AreRising ps = (i j : ℕ) (d : PushContent) → i < j → j < length ps → (slice_index_or ps i d).version < (slice_index_or ps j d).version

@@ -1,0 +1,24 @@
+-- That states for which `==` answers yes are the same.
+use Rattle.std.specs.Prelude.{◌≡◌, ℕ, Bool, true, nat_eq, List, [], ◌∷◌, slice_index}
+use Rattle.std.proofs.Common.{ap}
+use Rattle.std.specs.Cmp.Lexicographic.{pointwise}
+use Rattle.std.proofs.lemmas.Slice.Eq.{bytes_eq-Decides}
+use Rattle.fr_mutation.specs.Equal.{IsSameness, pointwise-IsSameness, bytes_eq-IsSameness}
+use Rattle.fr_log.specs.Fields.{five}
+use Rattle.fr_state.specs.Generations.{LogGeneration, CoordinatedState}
+use Rattle.fr_state.specs.Same.{numbers_of, is_same_generation, is_same_state}
+
+generations : IsSameness is_same_generation
+generations = record { itself = λ g. bytes_eq-IsSameness.itself (numbers_of g); same = same }
+  where
+    same : (g h : LogGeneration) → is_same_generation g h ≡ true → g ≡ h
+    same g h e =
+        let k = bytes_eq-IsSameness.same (numbers_of g) (numbers_of h) e in
+        five (λ epoch m k first seeded_to. record { epoch = epoch; m = m; k = k; first = first; seeded_to = seeded_to })
+        (ap (λ xs. slice_index xs 0) k) (ap (λ xs. slice_index xs 1) k) (ap (λ xs. slice_index xs 2) k) (ap (λ xs. slice_index xs 3) k) (ap (λ xs. slice_index xs 4) k)
+
+pub is_same_state-IsSameness : IsSameness is_same_state
+is_same_state-IsSameness = record {
+  itself = λ s. (pointwise-IsSameness generations).itself s.gens;
+  same = λ s t e. ap (λ gens. record { gens = gens }) ((pointwise-IsSameness generations).same s.gens t.gens e);
+}

@@ -1,0 +1,162 @@
+//! What a log is asked, and what it tells.
+ghost use Rattle.std.specs.Prelude.{◌≡◌, ◌≤◌, ◌↔◌, IsSome, IfSome, IfOk};
+
+use crate::peeked::Peeked;
+use crate::push::Push;
+use crate::seed::Seed;
+use fr_base::{Epoch, Memory, Tag, Version};
+use fr_state::CoordState;
+use std::alloc::Global;
+use std::marker::Model;
+
+/// How many records a peek asks for at most: 1 to 100.
+#[derive(Clone, Copy, Debug, PartialEq, Eq, PartialOrd, Ord)]
+pub struct Most {
+    number: u8,
+}
+
+impl Model for Most {
+    ghost use Rattle.std.specs.Prelude.{ℕ, ◌≤◌};
+
+    ghost Value = { ℕ };
+
+    ghost view = { λ m. m.number };
+
+    ghost invariant = { λ m. (1 ≤ m.number) × (m.number ≤ 100) };
+
+    ghost inverse = { λ n. record { number = n } };
+}
+
+impl Most {
+    /// This number, where it is from 1 to 100.
+    pub fn new(number: u8) -> Option<Self>
+        ensures within { IsSome result ↔ ((1 ≤ number) × (number ≤ 100)) }
+        ensures value { IfSome result (λ m. m ≡ number) }
+    {
+        if number >= 1 && number <= 100 {
+            Some(Most { number })
+        } else {
+            None
+        }
+    }
+
+    /// The number.
+    pub fn get(self) -> u8
+        ensures value { result ≡ self }
+        ensures within { (1 ≤ result) × (result ≤ 100) }
+    {
+        self.number
+    }
+}
+
+/// What a log is asked.
+#[derive(Debug, Drop, PartialEq, Eq)]
+pub enum LogAsk {
+    /// To take what an epoch takes over from the one before.
+    Seed(Seed),
+    /// To hold a commit.
+    Push(Push),
+    /// To take no further push, and to tell how far it has come.
+    Lock {
+        epoch: Epoch,
+    },
+    /// For the records of a tag above a version, at most so many.
+    Peek {
+        epoch: Epoch,
+        tag: Tag,
+        after: Version,
+        most: Most,
+    },
+    /// For the coordinated state of the epoch's mark.
+    MarkAsked {
+        epoch: Epoch,
+    },
+}
+
+impl LogAsk {
+    /// An equal ask.
+    pub fn copy(&self, alloc: Global) -> Result<Self, Memory>
+        ensures { IfOk result (λ ask. ask ≡ self.now) }
+    {
+        Ok(match self {
+            LogAsk::Seed(seed) => LogAsk::Seed(seed.copy(alloc)?),
+            LogAsk::Push(push) => LogAsk::Push(push.copy(alloc)?),
+            LogAsk::Lock { epoch } => LogAsk::Lock { epoch: *epoch },
+            LogAsk::Peek {
+                epoch,
+                tag,
+                after,
+                most,
+            } => LogAsk::Peek {
+                epoch: *epoch,
+                tag: *tag,
+                after: *after,
+                most: *most,
+            },
+            LogAsk::MarkAsked { epoch } => LogAsk::MarkAsked { epoch: *epoch },
+        })
+    }
+}
+
+/// What a log tells.
+#[derive(Debug, Drop, PartialEq, Eq)]
+pub enum LogTell {
+    /// It holds the seed.
+    Seeded,
+    /// It holds the push of this version.
+    Held { version: Version },
+    /// It takes no further push; the greatest version that it holds, and the greatest one that it knows
+    /// to be committed.
+    Locked { durable: Version, known: Version },
+    /// The records of a tag.
+    Peeked(Peeked),
+    /// The coordinated state of the epoch's mark.
+    Marked { state: CoordState },
+    /// It did not do as asked, and nothing changed.
+    Refused { why: LogRefusal },
+}
+
+impl LogTell {
+    /// An equal tell.
+    pub fn copy(&self, alloc: Global) -> Result<Self, Memory>
+        ensures { IfOk result (λ tell. tell ≡ self.now) }
+    {
+        Ok(match self {
+            LogTell::Seeded => LogTell::Seeded,
+            LogTell::Held { version } => LogTell::Held { version: *version },
+            LogTell::Locked { durable, known } => LogTell::Locked {
+                durable: *durable,
+                known: *known,
+            },
+            LogTell::Peeked(peeked) => LogTell::Peeked(peeked.copy(alloc)?),
+            LogTell::Marked { state } => LogTell::Marked {
+                state: state.copy()?,
+            },
+            LogTell::Refused { why } => LogTell::Refused { why: *why },
+        })
+    }
+}
+
+/// Why a log did not do as asked. Of several reasons the first in the order of these variants is told.
+#[derive(Clone, Copy, Debug, PartialEq, Eq)]
+pub enum LogRefusal {
+    /// The ask is for another epoch.
+    WrongEpoch,
+    /// It has no seed yet.
+    Unseeded,
+    /// It was locked.
+    Stopped,
+    /// The push does not follow the greatest version held, which is further on; or it is a mark
+    /// elsewhere than right after the seed.
+    Stale,
+    /// Pushes before this one are missing; the greatest version held.
+    Gap { durable: Version },
+    /// It does not hold the tag.
+    NotMine,
+    /// Versions from below the epoch's first are asked for; that first version.
+    TooEarly { first: Version },
+    /// It holds another seed.
+    SeedDiffers,
+    /// There is no mark before this push, or none to tell of.
+    NoMark,
+}

@@ -1,0 +1,18 @@
+//! The log of one generation: what it is asked, what it holds, and what it answers.
+#![tactic(auto)]
+
+mod ask;
+pub mod laws;
+mod log;
+mod peeked;
+mod push;
+mod records;
+mod search;
+mod seed;
+
+pub use ask::{LogAsk, LogRefusal, LogTell, Most};
+pub use log::Log;
+pub use peeked::Peeked;
+pub use push::Push;
+pub use records::{Body, PeekedRecord, SeedRecord};
+pub use seed::Seed;

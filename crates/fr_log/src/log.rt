@@ -1,0 +1,233 @@
+//! A log: what it holds, and what it answers.
+ghost use Rattle.std.specs.Prelude.{◌≡◌, ◌<◌, ◌≤◌, is_some, IfOk};
+ghost use Rattle.std.specs.List.{list_all};
+ghost use Rattle.std.specs.List.Sorted.{IsNonDecreasingBy};
+ghost use Rattle.std.specs.Option.{option_copied};
+ghost use Rattle.fr_log.specs.LogState.{fresh_log, first_of, seeded_to_of, seed_records_of, holds, durable_of, known_of, is_push_held, mark_among};
+ghost use Rattle.fr_log.specs.Chain.{IsLog};
+
+mod refusal;
+mod step;
+
+use crate::push::Push;
+use crate::records::{Body, SeedRecord};
+use crate::search::is_found;
+use crate::seed::Seed;
+use fr_base::{LogId, Memory, Tag, Version};
+use fr_state::CoordState;
+use fr_tags::{MAX_LOGS, is_held};
+use std::alloc::Global;
+use std::marker::Model;
+
+/// One log of a generation. It holds its seed and the pushes that followed it, which form one chain
+/// that begins with the mark; `durable` is the greatest version that it holds, `known` the greatest one
+/// that a push told to be committed. Once it is locked it takes no push. It is the transaction log of
+/// FoundationDB (Zhou et al., SIGMOD 2021, sections 2.3 and 2.4), without spilling.
+#[derive(Debug, Drop)]
+pub struct Log {
+    id: LogId,
+    m: u8,
+    k: u8,
+    seed: Option<Seed>,
+    pushes: Vec<Push>,
+    durable: Version,
+    known: Version,
+    stopped: bool,
+}
+
+impl Model for Log {
+    ghost use Rattle.fr_log.specs.LogState.{LogState};
+    ghost use Rattle.fr_log.specs.Chain.{IsKept};
+
+    ghost Value = { LogState };
+
+    ghost view = { λ a. record { epoch = a.id.epoch; index = a.id.index; m = a.m; k = a.k; seed = a.seed; pushes = a.pushes.items; stopped = a.stopped } };
+
+    ghost invariant = { λ a. IsKept (record { epoch = a.id.epoch; index = a.id.index; m = a.m; k = a.k; seed = a.seed; pushes = a.pushes.items; stopped = a.stopped }) a.durable a.known };
+}
+
+impl Log {
+    /// A log that was never asked, of a generation of `m` logs on `k` of which each tag stands. It takes
+    /// no memory.
+    pub fn new(alloc: Global, id: LogId, m: u8, k: u8) -> Self
+        requires some { 1 ≤ k }
+        requires fits { k ≤ m }
+        requires limit { m ≤ MAX_LOGS }
+        requires place { id.index < m }
+        ensures { result ≡ fresh_log id.epoch id.index m k }
+    {
+        Log {
+            id,
+            m,
+            k,
+            seed: None,
+            pushes: Vec::new(alloc),
+            durable: Version::ZERO,
+            known: Version::ZERO,
+            stopped: false,
+        }
+    }
+
+    /// Its epoch and its number there.
+    pub fn id(&self) -> LogId
+        ensures epoch { result.epoch ≡ self.now.epoch }
+        ensures index { result.index ≡ self.now.index }
+        ensures sound { IsLog self.now }
+    {
+        self.id
+    }
+
+    /// How many logs the generation has.
+    pub fn m(&self) -> u8
+        ensures value { result ≡ self.now.m }
+        ensures sound { IsLog self.now }
+    {
+        self.m
+    }
+
+    /// On how many logs each tag stands.
+    pub fn k(&self) -> u8
+        ensures value { result ≡ self.now.k }
+        ensures sound { IsLog self.now }
+    {
+        self.k
+    }
+
+    /// Whether it has a seed.
+    pub fn seeded(&self) -> bool
+        ensures value { result ≡ is_some self.now.seed }
+        ensures sound { IsLog self.now }
+    {
+        self.seed.is_some()
+    }
+
+    /// The greatest version that it holds; 0 before it has a seed.
+    pub fn durable(&self) -> Version
+        ensures value { result ≡ durable_of self.now }
+        ensures sound { IsLog self.now }
+    {
+        self.durable
+    }
+
+    /// The greatest version that it knows to be committed; 0 before it has a seed.
+    pub fn known(&self) -> Version
+        ensures value { result ≡ known_of self.now }
+        ensures sound { IsLog self.now }
+    {
+        self.known
+    }
+
+    /// Whether it was locked.
+    pub fn stopped(&self) -> bool
+        ensures value { result ≡ self.now.stopped }
+        ensures sound { IsLog self.now }
+    {
+        self.stopped
+    }
+
+    /// An equal log.
+    pub fn copy(&self, alloc: Global) -> Result<Self, Memory>
+        ensures { IfOk result (λ log. log ≡ self.now) }
+    {
+        Ok(Log {
+            id: self.id,
+            m: self.m,
+            k: self.k,
+            seed: copy_seed(alloc, &self.seed)?,
+            pushes: copy_pushes(alloc, &self.pushes)?,
+            durable: self.durable,
+            known: self.known,
+            stopped: self.stopped,
+        })
+    }
+
+    fn holds(&self, tag: Tag) -> bool
+        ensures { result ≡ holds self.now tag }
+    {
+        is_held(tag, self.m, self.k, self.id.index)
+    }
+
+    fn holds_seeded(&self, records: &[SeedRecord]) -> bool
+        ensures { result ≡ list_all (λ r. holds self.now r.tag) records.now }
+    {
+        for record in records {
+            if !self.holds(record.tag) {
+                return false;
+            }
+        }
+        true
+    }
+
+    fn holds_pushed(&self, bodies: &[Body]) -> bool
+        ensures { result ≡ list_all (λ b. holds self.now b.tag) bodies.now }
+    {
+        for body in bodies {
+            if !self.holds(body.tag) {
+                return false;
+            }
+        }
+        true
+    }
+
+    fn is_push_held(&self, push: &Push) -> bool
+        ensures { result ≡ is_push_held self.now push.now }
+    {
+        is_found(&self.pushes, push)
+    }
+
+    fn mark(&self) -> Option<&CoordState>
+        ensures { option_copied result ≡ mark_among self.now.pushes }
+    {
+        match self.pushes.first() {
+            Some(push) => push.marked(),
+            None => None,
+        }
+    }
+
+    fn seed_records(&self) -> &[SeedRecord]
+        ensures value { result.now ≡ seed_records_of self.now.seed }
+        ensures order { IsNonDecreasingBy (λ r. r.version) result.now }
+    {
+        match &self.seed {
+            Some(seed) => seed.records(),
+            None => &[],
+        }
+    }
+
+    fn seeded_to(&self) -> Version
+        ensures { result ≡ seeded_to_of self.now.seed }
+    {
+        match &self.seed {
+            Some(seed) => seed.seeded_to(),
+            None => Version::ZERO,
+        }
+    }
+
+    fn first(&self) -> Version
+        ensures { result ≡ first_of self.now.seed }
+    {
+        match &self.seed {
+            Some(seed) => seed.first(),
+            None => Version::ZERO,
+        }
+    }
+}
+
+fn copy_seed(alloc: Global, seed: &Option<Seed>) -> Result<Option<Seed>, Memory>
+    ensures { IfOk result (λ copy. copy ≡ seed.now) }
+{
+    match seed {
+        Some(seed) => Ok(Some(seed.copy(alloc)?)),
+        None => Ok(None),
+    }
+}
+
+fn copy_pushes(alloc: Global, pushes: &[Push]) -> Result<Vec<Push>, Memory>
+    ensures { IfOk result (λ copy. copy.items ≡ pushes.now) }
+{
+    let mut copy = Vec::with_capacity(alloc, pushes.len())?;
+    for push in pushes {
+        copy.push(push.copy(alloc)?)?;
+    }
+    Ok(copy)
+}

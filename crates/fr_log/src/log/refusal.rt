@@ -1,0 +1,107 @@
+//! Which asks a log refuses, and why.
+ghost use Rattle.std.specs.Prelude.{◌≡◌};
+ghost use Rattle.fr_log.specs.Refusal.{seed_refusal, push_refusal, new_push_refusal, lock_refusal, peek_refusal, mark_refusal};
+
+use super::Log;
+use crate::ask::LogRefusal;
+use crate::push::Push;
+use crate::seed::Seed;
+use fr_base::{Epoch, Tag, Version};
+
+impl Log {
+    pub(super) fn seed_refusal(&self, seed: &Seed) -> Option<LogRefusal>
+        ensures { result ≡ seed_refusal self.now seed.now }
+    {
+        if seed.epoch() != self.id.epoch {
+            return Some(LogRefusal::WrongEpoch);
+        }
+        if !self.holds_seeded(seed.records()) {
+            return Some(LogRefusal::NotMine);
+        }
+        match &self.seed {
+            Some(held) if held != seed => Some(LogRefusal::SeedDiffers),
+            _ => None,
+        }
+    }
+
+    pub(super) fn push_refusal(&self, push: &Push) -> Option<LogRefusal>
+        ensures { result ≡ push_refusal self.now push.now }
+    {
+        if push.epoch() != self.id.epoch {
+            return Some(LogRefusal::WrongEpoch);
+        }
+        if self.seed.is_none() {
+            return Some(LogRefusal::Unseeded);
+        }
+        if self.is_push_held(push) {
+            return None;
+        }
+        self.new_push_refusal(push)
+    }
+
+    /// Why a push that is not held is not taken.
+    fn new_push_refusal(&self, push: &Push) -> Option<LogRefusal>
+        ensures { result ≡ new_push_refusal self.now push.now }
+    {
+        let is_mark = push.marked().is_some();
+        let seeded_to = self.seeded_to();
+        if self.stopped {
+            Some(LogRefusal::Stopped)
+        } else if push.prev() < self.durable || is_mark && push.prev() != seeded_to {
+            Some(LogRefusal::Stale)
+        } else if push.prev() > self.durable {
+            Some(LogRefusal::Gap {
+                durable: self.durable,
+            })
+        } else if !self.holds_pushed(push.bodies()) {
+            Some(LogRefusal::NotMine)
+        } else if !is_mark && self.durable == seeded_to {
+            Some(LogRefusal::NoMark)
+        } else {
+            None
+        }
+    }
+
+    pub(super) fn lock_refusal(&self, epoch: Epoch) -> Option<LogRefusal>
+        ensures { result ≡ lock_refusal self.now epoch }
+    {
+        if epoch != self.id.epoch {
+            Some(LogRefusal::WrongEpoch)
+        } else if self.seed.is_none() {
+            Some(LogRefusal::Unseeded)
+        } else {
+            None
+        }
+    }
+
+    pub(super) fn peek_refusal(&self, epoch: Epoch, tag: Tag, after: Version) -> Option<LogRefusal>
+        ensures { result ≡ peek_refusal self.now epoch tag after }
+    {
+        let first = self.first();
+        if epoch != self.id.epoch {
+            Some(LogRefusal::WrongEpoch)
+        } else if self.seed.is_none() {
+            Some(LogRefusal::Unseeded)
+        } else if !self.holds(tag) {
+            Some(LogRefusal::NotMine)
+        } else if after.get() < first.get().saturating_sub(1) {
+            Some(LogRefusal::TooEarly { first })
+        } else {
+            None
+        }
+    }
+
+    pub(super) fn mark_refusal(&self, epoch: Epoch) -> Option<LogRefusal>
+        ensures { result ≡ mark_refusal self.now epoch }
+    {
+        if epoch != self.id.epoch {
+            Some(LogRefusal::WrongEpoch)
+        } else if self.seed.is_none() {
+            Some(LogRefusal::Unseeded)
+        } else if self.mark().is_none() {
+            Some(LogRefusal::NoMark)
+        } else {
+            None
+        }
+    }
+}

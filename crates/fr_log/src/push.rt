@@ -1,0 +1,225 @@
+//! What is pushed to a log.
+ghost use Rattle.std.specs.Prelude.{◌≡◌, ◌+◌, ◌<◌, ◌≤◌, ◌^◌, ◌↔◌, [], None, Some, IsSome, IfSome, IfOk};
+ghost use Rattle.std.specs.Option.{option_copied};
+ghost use Rattle.std.specs.Cmp.{partial_equiv_from_equiv};
+ghost use Rattle.fr_mutation.specs.Equal.{IsSameness-equivalence};
+ghost use Rattle.fr_log.specs.Push.{IsPush, is_rising_from, is_one_push, is_same_push, is_same_push-IsSameness};
+
+use crate::records::Body;
+use fr_base::{Epoch, Memory, Version};
+use fr_state::CoordState;
+use std::alloc::Global;
+use std::marker::Model;
+
+/// How far one version is above the one before it, at most.
+const MAX_STEP: u64 = 1_000_000;
+
+/// One commit as a log takes it: its version and the version before it in the chain of commits, the
+/// greatest version that the sender knows to be committed, and a body for each of the log's tags that
+/// the commit changes, by rising tags. The first push of an epoch is its mark, the recovery
+/// transaction, which carries the coordinated state in place of bodies. Contracts see it as the record
+/// of its fields.
+#[derive(Debug, Drop)]
+pub struct Push {
+    epoch: Epoch,
+    prev: Version,
+    version: Version,
+    known: Version,
+    bodies: Vec<Body>,
+    mark: Option<CoordState>,
+}
+
+impl Model for Push {
+    ghost use Rattle.fr_log.specs.Push.{PushContent, IsPush};
+
+    ghost Value = { PushContent };
+
+    ghost view = { λ p. record { epoch = p.epoch; prev = p.prev; version = p.version; known = p.known; bodies = p.bodies.items; mark = p.mark } };
+
+    ghost invariant = { λ p. IsPush (record { epoch = p.epoch; prev = p.prev; version = p.version; known = p.known; bodies = p.bodies.items; mark = p.mark }) };
+}
+
+impl Push {
+    /// The push of a commit, where prev < version <= prev + 1,000,000, known <= prev, and the tags of
+    /// the bodies rise strictly. It takes no memory.
+    pub fn new(
+        epoch: Epoch,
+        prev: Version,
+        version: Version,
+        known: Version,
+        bodies: Vec<Body>,
+    ) -> Option<Self>
+        ensures within { IsSome result ↔ IsPush (record { epoch = epoch; prev = prev; version = version; known = known; bodies = bodies.items; mark = None }) }
+        ensures value { IfSome result (λ p. p ≡ record { epoch = epoch; prev = prev; version = version; known = known; bodies = bodies.items; mark = None }) }
+    {
+        let is_step = prev < version && version.get() - prev.get() <= MAX_STEP;
+        if is_step && known <= prev && is_rising(&bodies) {
+            Some(Push {
+                epoch,
+                prev,
+                version,
+                known,
+                bodies,
+                mark: None,
+            })
+        } else {
+            None
+        }
+    }
+
+    /// The mark of an epoch, at the version after `prev`, where known <= prev and that version is below
+    /// 2^62. It takes no memory.
+    pub fn mark(
+        alloc: Global,
+        epoch: Epoch,
+        prev: Version,
+        known: Version,
+        state: CoordState,
+    ) -> Option<Self>
+        ensures within { IsSome result ↔ ((known ≤ prev) × (prev + 1 < 2 ^ 62)) }
+        ensures value { IfSome result (λ p. p ≡ record { epoch = epoch; prev = prev; version = prev + 1; known = known; bodies = []; mark = Some state }) }
+    {
+        let version = Version::new(prev.get() + 1)?;
+        if known <= prev {
+            Some(Push {
+                epoch,
+                prev,
+                version,
+                known,
+                bodies: Vec::new(alloc),
+                mark: Some(state),
+            })
+        } else {
+            None
+        }
+    }
+
+    /// The epoch of the log.
+    pub fn epoch(&self) -> Epoch
+        ensures value { result ≡ self.now.epoch }
+        ensures sound { IsPush self.now }
+    {
+        self.epoch
+    }
+
+    /// The version before it in the chain of commits.
+    pub fn prev(&self) -> Version
+        ensures value { result ≡ self.now.prev }
+        ensures sound { IsPush self.now }
+    {
+        self.prev
+    }
+
+    /// The version of the commit.
+    pub fn version(&self) -> Version
+        ensures value { result ≡ self.now.version }
+        ensures sound { IsPush self.now }
+    {
+        self.version
+    }
+
+    /// The greatest version that the sender knows to be committed.
+    pub fn known(&self) -> Version
+        ensures value { result ≡ self.now.known }
+        ensures sound { IsPush self.now }
+    {
+        self.known
+    }
+
+    /// What the commit changes, by tag.
+    pub fn bodies(&self) -> &[Body]
+        ensures value { result.now ≡ self.now.bodies }
+        ensures sound { IsPush self.now }
+    {
+        self.bodies.as_slice()
+    }
+
+    /// The coordinated state of a mark.
+    pub fn marked(&self) -> Option<&CoordState>
+        ensures value { option_copied result ≡ self.now.mark }
+        ensures sound { IsPush self.now }
+    {
+        self.mark.as_ref()
+    }
+
+    /// Gives the bodies back. It takes no memory.
+    pub fn into_bodies(self) -> Vec<Body>
+        ensures { result.items ≡ self.bodies }
+    {
+        self.bodies
+    }
+
+    /// Whether the two are one push, whatever they tell of what is known.
+    pub fn is_one_with(&self, other: &Push) -> bool
+        ensures { result ≡ is_one_push self.now other.now }
+    {
+        self.epoch == other.epoch
+            && self.prev == other.prev
+            && self.version == other.version
+            && self.bodies.as_slice() == other.bodies.as_slice()
+            && self.mark == other.mark
+    }
+
+    /// An equal push.
+    pub fn copy(&self, alloc: Global) -> Result<Self, Memory>
+        ensures { IfOk result (λ push. push ≡ self.now) }
+    {
+        Ok(Push {
+            epoch: self.epoch,
+            prev: self.prev,
+            version: self.version,
+            known: self.known,
+            bodies: copy_bodies(alloc, &self.bodies)?,
+            mark: copy_mark(&self.mark)?,
+        })
+    }
+}
+
+impl PartialEq for Push {
+    ghost eq = { is_same_push };
+
+    ghost laws = { partial_equiv_from_equiv (IsSameness-equivalence is_same_push-IsSameness) };
+
+    fn eq(&self, other: &Push) -> bool {
+        self.known() == other.known() && self.is_one_with(other)
+    }
+}
+
+impl Eq for Push {
+    ghost laws = { IsSameness-equivalence is_same_push-IsSameness };
+}
+
+/// Equal bodies.
+fn copy_bodies(alloc: Global, bodies: &[Body]) -> Result<Vec<Body>, Memory>
+    ensures { IfOk result (λ copy. copy.items ≡ bodies.now) }
+{
+    let mut copy = Vec::with_capacity(alloc, bodies.len())?;
+    for body in bodies {
+        copy.push(body.copy(alloc)?)?;
+    }
+    Ok(copy)
+}
+
+/// The same mark, or none.
+fn copy_mark(mark: &Option<CoordState>) -> Result<Option<CoordState>, Memory>
+    ensures { IfOk result (λ copy. copy ≡ mark.now) }
+{
+    match mark {
+        Some(state) => Ok(Some(state.copy()?)),
+        None => Ok(None),
+    }
+}
+
+/// Whether the tags of bodies rise strictly.
+fn is_rising(bodies: &[Body]) -> bool
+    ensures { result ≡ is_rising_from 0 bodies.now }
+{
+    let mut least = 0;
+    for body in bodies {
+        if body.tag.get() < least {
+            return false;
+        }
+        least = body.tag.get() + 1;
+    }
+    true
+}

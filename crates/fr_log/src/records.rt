@@ -1,0 +1,65 @@
+//! The parts of seeds, pushes and peeks.
+ghost use Rattle.std.specs.Prelude.{◌≡◌, IfOk};
+
+use fr_base::{Memory, Tag, Version};
+use fr_mutation::Batch;
+use std::alloc::Global;
+
+/// What a push brings for one shard: its tag, and the commit's mutations of keys of that shard.
+#[derive(Debug, Drop, PartialEq, Eq)]
+pub struct Body {
+    pub tag: Tag,
+    pub batch: Batch,
+}
+
+impl Body {
+    /// An equal body.
+    pub fn copy(&self, alloc: Global) -> Result<Self, Memory>
+        ensures { IfOk result (λ copy. copy ≡ self.now) }
+    {
+        Ok(Body {
+            tag: self.tag,
+            batch: self.batch.copy(alloc)?,
+        })
+    }
+}
+
+/// What a seed brings for one shard at one version.
+#[derive(Debug, Drop, PartialEq, Eq)]
+pub struct SeedRecord {
+    pub version: Version,
+    pub tag: Tag,
+    pub batch: Batch,
+}
+
+impl SeedRecord {
+    /// An equal record.
+    pub fn copy(&self, alloc: Global) -> Result<Self, Memory>
+        ensures { IfOk result (λ copy. copy ≡ self.now) }
+    {
+        Ok(SeedRecord {
+            version: self.version,
+            tag: self.tag,
+            batch: self.batch.copy(alloc)?,
+        })
+    }
+}
+
+/// What a log gives of a peeked tag at one version.
+#[derive(Debug, Drop, PartialEq, Eq)]
+pub struct PeekedRecord {
+    pub version: Version,
+    pub batch: Batch,
+}
+
+impl PeekedRecord {
+    /// An equal record.
+    pub fn copy(&self, alloc: Global) -> Result<Self, Memory>
+        ensures { IfOk result (λ copy. copy ≡ self.now) }
+    {
+        Ok(PeekedRecord {
+            version: self.version,
+            batch: self.batch.copy(alloc)?,
+        })
+    }
+}

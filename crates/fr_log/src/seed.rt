@@ -1,0 +1,154 @@
+//! What a log is seeded with.
+ghost use Rattle.std.specs.Prelude.{◌≡◌, ◌↔◌, nat_le, ◌&&◌, IsSome, IfSome, IfOk};
+ghost use Rattle.std.specs.List.{list_all};
+ghost use Rattle.std.specs.Cmp.{partial_equiv_from_equiv};
+ghost use Rattle.fr_mutation.specs.Equal.{IsSameness-equivalence};
+ghost use Rattle.fr_log.specs.Seed.{IsSeed, is_within, is_rising_from, is_same_seed, is_same_seed-IsSameness};
+
+use crate::records::SeedRecord;
+use fr_base::{Epoch, Memory, Version};
+use std::alloc::Global;
+use std::marker::Model;
+
+/// What a recoverer gives a log of its new epoch: the records of the log's tags at the versions `first`
+/// through `seeded_to`, which the generation before numbered. With 1 <= first <= seeded_to + 1; the
+/// records rise strictly by version and tag. Contracts see it as the record of its fields.
+#[derive(Debug, Drop)]
+pub struct Seed {
+    epoch: Epoch,
+    first: Version,
+    seeded_to: Version,
+    records: Vec<SeedRecord>,
+}
+
+impl Model for Seed {
+    ghost use Rattle.fr_log.specs.Seed.{SeedContent, IsSeed};
+
+    ghost Value = { SeedContent };
+
+    ghost view = { λ s. record { epoch = s.epoch; first = s.first; seeded_to = s.seeded_to; records = s.records.items } };
+
+    ghost invariant = { λ s. IsSeed (record { epoch = s.epoch; first = s.first; seeded_to = s.seeded_to; records = s.records.items }) };
+}
+
+impl Seed {
+    /// The seed of these records, where they are within its limits and in order. It takes no memory.
+    pub fn new(
+        epoch: Epoch,
+        first: Version,
+        seeded_to: Version,
+        records: Vec<SeedRecord>,
+    ) -> Option<Self>
+        ensures within { IsSome result ↔ IsSeed (record { epoch = epoch; first = first; seeded_to = seeded_to; records = records.items }) }
+        ensures value { IfSome result (λ s. s ≡ record { epoch = epoch; first = first; seeded_to = seeded_to; records = records.items }) }
+    {
+        let is_range = 1 <= first.get() && first.get() <= seeded_to.get() + 1;
+        if is_range && is_rising(&records) && are_within(first, seeded_to, &records) {
+            Some(Seed {
+                epoch,
+                first,
+                seeded_to,
+                records,
+            })
+        } else {
+            None
+        }
+    }
+
+    /// The epoch of the log.
+    pub fn epoch(&self) -> Epoch
+        ensures value { result ≡ self.now.epoch }
+        ensures sound { IsSeed self.now }
+    {
+        self.epoch
+    }
+
+    /// The version at which the epoch starts.
+    pub fn first(&self) -> Version
+        ensures value { result ≡ self.now.first }
+        ensures sound { IsSeed self.now }
+    {
+        self.first
+    }
+
+    /// The last version that the epoch takes over; `first - 1` where it takes over none.
+    pub fn seeded_to(&self) -> Version
+        ensures value { result ≡ self.now.seeded_to }
+        ensures sound { IsSeed self.now }
+    {
+        self.seeded_to
+    }
+
+    /// The records, by version and tag.
+    pub fn records(&self) -> &[SeedRecord]
+        ensures value { result.now ≡ self.now.records }
+        ensures sound { IsSeed self.now }
+    {
+        self.records.as_slice()
+    }
+
+    /// Gives the records back. It takes no memory.
+    pub fn into_records(self) -> Vec<SeedRecord>
+        ensures { result.items ≡ self.records }
+    {
+        self.records
+    }
+
+    /// An equal seed.
+    pub fn copy(&self, alloc: Global) -> Result<Self, Memory>
+        ensures { IfOk result (λ seed. seed ≡ self.now) }
+    {
+        let mut records = Vec::with_capacity(alloc, self.records.len())?;
+        for record in self.records.as_slice() {
+            records.push(record.copy(alloc)?)?;
+        }
+        Ok(Seed {
+            epoch: self.epoch,
+            first: self.first,
+            seeded_to: self.seeded_to,
+            records,
+        })
+    }
+}
+
+impl PartialEq for Seed {
+    ghost eq = { is_same_seed };
+
+    ghost laws = { partial_equiv_from_equiv (IsSameness-equivalence is_same_seed-IsSameness) };
+
+    fn eq(&self, other: &Seed) -> bool {
+        self.epoch == other.epoch
+            && self.first == other.first
+            && self.seeded_to == other.seeded_to
+            && self.records.as_slice() == other.records.as_slice()
+    }
+}
+
+impl Eq for Seed {
+    ghost laws = { IsSameness-equivalence is_same_seed-IsSameness };
+}
+
+/// Whether records rise strictly by version and tag.
+fn is_rising(records: &[SeedRecord]) -> bool
+    ensures { result ≡ is_rising_from 0 0 records.now }
+{
+    let mut version = 0;
+    let mut tag = 0;
+    for record in records {
+        let is_above = version < record.version.get()
+            || version == record.version.get() && tag <= record.tag.get();
+        if !is_above {
+            return false;
+        }
+        version = record.version.get();
+        tag = record.tag.get() + 1;
+    }
+    true
+}
+
+/// Whether the versions of records are from `first` through `seeded_to`.
+fn are_within(first: Version, seeded_to: Version, records: &[SeedRecord]) -> bool
+    ensures { result ≡ list_all (is_within first seeded_to) records.now }
+{
+    records.iter().all(|record| first <= record.version && record.version <= seeded_to)
+}

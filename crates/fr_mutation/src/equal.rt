@@ -1,0 +1,19 @@
+//! Equality of batches.
+ghost use Rattle.std.specs.Cmp.{partial_equiv_from_equiv};
+ghost use Rattle.fr_mutation.specs.Equal.{is_same_batch, is_same_batch-IsSameness, IsSameness-equivalence};
+
+use crate::batch::Batch;
+
+impl PartialEq for Batch {
+    ghost eq = { is_same_batch };
+
+    ghost laws = { partial_equiv_from_equiv (IsSameness-equivalence is_same_batch-IsSameness) };
+
+    fn eq(&self, other: &Batch) -> bool {
+        self.mutations() == other.mutations()
+    }
+}
+
+impl Eq for Batch {
+    ghost laws = { IsSameness-equivalence is_same_batch-IsSameness };
+}
