@@ -6,8 +6,6 @@ mod apply;
 #[cfg(test)]
 mod batch_bytes;
 #[cfg(test)]
-mod log;
-#[cfg(test)]
 mod mutation;
 #[cfg(test)]
 mod register;
