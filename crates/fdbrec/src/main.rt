@@ -1,6 +1,8 @@
 //! The program `fdbrec`: its words choose a command, which reads a script and prints lines.
 #![tactic(auto)]
 
+#[cfg(test)]
+mod tests;
 mod words;
 
 use clap::error::{Error, ErrorKind};

@@ -6,6 +6,8 @@ mod apply;
 #[cfg(test)]
 mod batch_bytes;
 #[cfg(test)]
+mod log;
+#[cfg(test)]
 mod mutation;
 #[cfg(test)]
 mod register;
