@@ -18,7 +18,7 @@ use Rattle.fr_base.specs.Bytes.{bytes_cmp, bytes_total, bytes_exact}
 use Rattle.fr_base.specs.Map.{Map, map_of}
 use Rattle.fr_mutation.specs.declared.shard.Shard.{Shard}
 use Rattle.fr_mutation.specs.Shard.{in_shard, part}
-use Rattle.fr_undo.proofs.TouchedLemmas.{not_le, none_between}
+use Rattle.fr_undo.proofs.RangeLemmas.{not_le, none_between}
 use Rattle.fr_base.proofs.MapLemmas.{get-map_of, one_key, none_below}
 
 both : (a b : Bool) → T a → T b → T (a && b)

@@ -8,10 +8,6 @@ use Rattle.fr_undo.specs.State.{Place, place_cmp}
 abbrev pub Contents : Type 0
 Contents = BTreeMap (List ℕ) (List ℕ)
 
--- keys with a value, or none
-abbrev pub Kept : Type 0
-Kept = BTreeMap (List ℕ) (Option (List ℕ))
-
 -- what keys held before versions
 abbrev pub Rows : Type 0
 Rows = BTreeMap Place (Option (List ℕ))

@@ -1,18 +1,14 @@
 //! What a batch changes, worked out before a value is written.
-ghost use Rattle.std.specs.Prelude.{◌≡◌, ◌<◌, List, ℕ, OnOk, IfOk, None, Some, is_some, ◌||◌, ◌&&◌, cond};
-ghost use Rattle.std.specs.Option.{option_or};
+ghost use Rattle.std.specs.Prelude.{◌≡◌, List, ℕ, Bool, OnOk, IfOk, None, Some, true, is_some, ◌&&◌, cond};
 ghost use Rattle.std.specs.List.{list_any};
+ghost use Rattle.std.specs.Ordering.{is_lt};
 ghost use Rattle.std.specs.BTreeMap as tree;
-ghost use Rattle.std.specs.BTreeMap.{is_at};
 ghost use Rattle.fr_base.specs.Bytes.{bytes_cmp, is_same};
-ghost use Rattle.fr_mutation.specs.Mutation.{is_between};
-ghost use Rattle.fr_undo.specs.State.{Place, place_cmp};
-ghost use Rattle.fr_undo.specs.Touched.{AreTouched, may_change};
-ghost use Rattle.fr_undo.specs.Undo.{same_value, before_if_changed};
-ghost use Rattle.fr_undo.specs.Changes.{change_settled, row_settled};
+ghost use Rattle.fr_mutation.specs.Mutation.{is_between, key_of, value_after, value_after_all};
+ghost use Rattle.fr_mutation.specs.declared.mutation.Mutation.TheVariants.{Clear};
+ghost use Rattle.fr_undo.specs.Changes.{KnowNew, removed, value_written};
 
-use crate::copies::value_copy;
-use fr_base::{Bytes, Memory, Version};
+use fr_base::{Bytes, Memory};
 use fr_mutation::{Batch, Mutation};
 use std::alloc::Global;
 use std::collections::BTreeMap;
@@ -26,131 +22,139 @@ pub(crate) struct Change {
     pub(crate) after: Option<Bytes>,
 }
 
-/// Copies the value of a key, if it has one, into values that have none for it.
-fn keep_value(
-    values: &mut BTreeMap<Bytes, Bytes>,
+/// Gives a key what a mutation makes of the value that it has by the changes so far.
+fn put(
+    alloc: Global,
+    contents: &BTreeMap<Bytes, Bytes>,
+    changes: &mut BTreeMap<Bytes, Change>,
     key: &Bytes,
-    value: &Option<Bytes>,
+    mutation: &Mutation,
 ) -> Result<(), Memory>
-    requires { tree.get bytes_cmp values.old key.now ≡ None }
-    ensures { OnOk result ((q : List ℕ) → tree.get bytes_cmp values.new q ≡ cond (is_same key.now q) value.now (tree.get bytes_cmp values.old q)) }
+    requires know { KnowNew changes.old contents.now }
+    requires named { key_of mutation.now ≡ Some key.now }
+    ensures know { OnOk result (KnowNew changes.new contents.now) }
+    ensures values { OnOk result ((q : List ℕ) → value_written changes.new contents.now q ≡ value_after mutation.now q (value_written changes.old contents.now q)) }
 {
-    if let Some(value) = value {
-        values.insert(key.copy()?, value.copy()?)?;
+    match changes.get_mut(key) {
+        Some(change) => {
+            change.after = mutation.new_value(alloc, change.after.as_ref())?;
+        }
+        None => {
+            let old = contents.get(key);
+            let is_new = old.is_none();
+            let after = mutation.new_value(alloc, old)?;
+            changes.insert(key.copy()?, Change { is_new, after })?;
+        }
     }
     Ok(())
 }
 
-/// Keeps a key's value, if that is not kept yet.
-fn touch(
-    contents: &BTreeMap<Bytes, Bytes>,
-    before: &mut BTreeMap<Bytes, Option<Bytes>>,
-    values: &mut BTreeMap<Bytes, Bytes>,
-    key: &Bytes,
-) -> Result<(), Memory>
-    requires { AreTouched contents.now before.old values.old }
-    ensures kept { OnOk result (AreTouched contents.now before.new values.new) }
-    ensures touched { OnOk result ((q : List ℕ) → is_some (tree.get bytes_cmp before.new q) ≡ (is_same key.now q || is_some (tree.get bytes_cmp before.old q))) }
+/// The keys from `begin` up to `end` that have a change.
+fn keys_between(
+    alloc: Global,
+    changes: &BTreeMap<Bytes, Change>,
+    begin: &Bytes,
+    end: &Bytes,
+) -> Result<Vec<Bytes>, Memory>
+    requires { is_lt (bytes_cmp begin.now end.now) ≡ true }
+    ensures { IfOk result (λ keys. (q : List ℕ) → list_any (λ k. is_same k q) keys.items ≡ (is_between begin.now end.now q && is_some (tree.get bytes_cmp changes.now q))) }
 {
-    if !before.contains_key(key) {
-        let value = value_copy(contents, key)?;
-        keep_value(values, key, &value)?;
-        before.insert(key.copy()?, value)?;
+    let mut keys = Vec::new(alloc);
+    for (key, _) in changes.range(begin..end) {
+        keys.push(key.copy()?)?;
     }
-    Ok(())
+    Ok(keys)
 }
 
-/// Keeps the values of the keys from `begin` up to `end`.
-fn touch_range(
-    contents: &BTreeMap<Bytes, Bytes>,
-    before: &mut BTreeMap<Bytes, Option<Bytes>>,
-    values: &mut BTreeMap<Bytes, Bytes>,
+/// Drops the changes of the keys from `begin` up to `end`.
+fn forget(
+    alloc: Global,
+    changes: &mut BTreeMap<Bytes, Change>,
     begin: &Bytes,
     end: &Bytes,
 ) -> Result<(), Memory>
-    requires { AreTouched contents.now before.old values.old }
-    ensures kept { OnOk result (AreTouched contents.now before.new values.new) }
-    ensures touched { OnOk result ((q : List ℕ) → is_some (tree.get bytes_cmp before.new q) ≡ ((is_between begin.now end.now q && is_some (tree.get bytes_cmp contents.now q)) || is_some (tree.get bytes_cmp before.old q))) }
+    requires { is_lt (bytes_cmp begin.now end.now) ≡ true }
+    ensures { OnOk result ((q : List ℕ) → tree.get bytes_cmp changes.new q ≡ cond (is_between begin.now end.now q) None (tree.get bytes_cmp changes.old q)) }
+{
+    let keys = keys_between(alloc, changes, begin, end)?;
+    for key in keys.as_slice() {
+        changes.remove(key);
+    }
+    Ok(())
+}
+
+/// Notes that the keys from `begin` up to `end` that have a value lose it.
+fn note_removed(
+    contents: &BTreeMap<Bytes, Bytes>,
+    changes: &mut BTreeMap<Bytes, Change>,
+    begin: &Bytes,
+    end: &Bytes,
+) -> Result<(), Memory>
+    requires { is_lt (bytes_cmp begin.now end.now) ≡ true }
+    ensures { OnOk result ((q : List ℕ) → tree.get bytes_cmp changes.new q ≡ cond (is_between begin.now end.now q && is_some (tree.get bytes_cmp contents.now q)) (Some removed) (tree.get bytes_cmp changes.old q)) }
+{
+    for (key, _) in contents.range(begin..end) {
+        let change = Change {
+            is_new: false,
+            after: None,
+        };
+        changes.insert(key.copy()?, change)?;
+    }
+    Ok(())
+}
+
+/// Lets a clear act on the changes: it walks the keys of its range alone, those of the contents and those
+/// that were changed before.
+fn clear(
+    alloc: Global,
+    contents: &BTreeMap<Bytes, Bytes>,
+    changes: &mut BTreeMap<Bytes, Change>,
+    begin: &Bytes,
+    end: &Bytes,
+) -> Result<(), Memory>
+    requires { KnowNew changes.old contents.now }
+    ensures know { OnOk result (KnowNew changes.new contents.now) }
+    ensures values { OnOk result ((q : List ℕ) → value_written changes.new contents.now q ≡ value_after (Clear begin.now end.now) q (value_written changes.old contents.now q)) }
 {
     if begin < end {
-        for (key, _) in contents.range(begin..end) {
-            touch(contents, before, values, key)?;
-        }
+        forget(alloc, changes, begin, end)?;
+        note_removed(contents, changes, begin, end)?;
     }
     Ok(())
 }
 
-/// Keeps the values of the keys that a batch may change.
-pub(crate) fn touch_all(
-    contents: &BTreeMap<Bytes, Bytes>,
-    before: &mut BTreeMap<Bytes, Option<Bytes>>,
-    values: &mut BTreeMap<Bytes, Bytes>,
-    batch: &Batch,
-) -> Result<(), Memory>
-    requires { AreTouched contents.now before.old values.old }
-    ensures kept { OnOk result (AreTouched contents.now before.new values.new) }
-    ensures touched { OnOk result ((q : List ℕ) → is_some (tree.get bytes_cmp before.new q) ≡ (list_any (may_change q (is_some (tree.get bytes_cmp contents.now q))) batch.now || is_some (tree.get bytes_cmp before.old q))) }
-{
-    for mutation in batch.mutations() {
-        if let Mutation::Clear { begin, end } = mutation {
-            touch_range(contents, before, values, begin, end)?;
-        } else if let Some(key) = mutation.key() {
-            touch(contents, before, values, key)?;
-        }
-    }
-    Ok(())
-}
-
-/// Whether two values, or nones, are one.
-fn is_same_value(a: &Option<Bytes>, b: &Option<Bytes>) -> bool
-    ensures { result ≡ same_value a.now b.now }
-{
-    match (a, b) {
-        (None, None) => true,
-        (Some(a), Some(b)) => a == b,
-        _ => false,
-    }
-}
-
-/// Adds the row and the change of a key, if its value before differs from the one after. Want of memory
-/// may leave the row without the change.
-fn settle_one(
-    rows: &mut BTreeMap<(Version, Bytes), Option<Bytes>>,
-    changes: &mut BTreeMap<Bytes, Change>,
-    version: Version,
-    key: Bytes,
-    before: Option<Bytes>,
-    after: Option<Bytes>,
-) -> Result<(), Memory>
-    ensures changes { OnOk result ((q : List ℕ) → tree.get bytes_cmp changes.new q ≡ option_or (cond (is_same key q) (change_settled (Some before) after) None) (tree.get bytes_cmp changes.old q)) }
-    ensures rows { OnOk result ((p : Place) → tree.get place_cmp rows.new p ≡ option_or (cond (is_at (place_cmp (version, key)) p) (before_if_changed before after) None) (tree.get place_cmp rows.old p)) }
-    ensures below { (p : Place) → p.0 < version → tree.get place_cmp rows.new p ≡ tree.get place_cmp rows.old p }
-{
-    if !is_same_value(&before, &after) {
-        let is_new = before.is_none();
-        rows.insert((version, key.copy()?), before)?;
-        changes.insert(key, Change { is_new, after })?;
-    }
-    Ok(())
-}
-
-/// Adds a row for each key whose value before differs from the one after, and gives the changes of
-/// these keys. Want of memory may leave a front of the rows.
-pub(crate) fn settle(
+/// Lets one mutation act on the changes.
+fn act(
     alloc: Global,
-    rows: &mut BTreeMap<(Version, Bytes), Option<Bytes>>,
-    version: Version,
-    mut before: BTreeMap<Bytes, Option<Bytes>>,
-    mut values: BTreeMap<Bytes, Bytes>,
+    contents: &BTreeMap<Bytes, Bytes>,
+    changes: &mut BTreeMap<Bytes, Change>,
+    mutation: &Mutation,
+) -> Result<(), Memory>
+    requires { KnowNew changes.old contents.now }
+    ensures know { OnOk result (KnowNew changes.new contents.now) }
+    ensures values { OnOk result ((q : List ℕ) → value_written changes.new contents.now q ≡ value_after mutation.now q (value_written changes.old contents.now q)) }
+{
+    if let Mutation::Clear { begin, end } = mutation {
+        return clear(alloc, contents, changes, begin, end);
+    }
+    if let Some(key) = mutation.key() {
+        return put(alloc, contents, changes, key, mutation);
+    }
+    Ok(())
+}
+
+/// What a batch makes of each key on which it acts and that has, or is given, a value.
+pub(crate) fn changes_of(
+    alloc: Global,
+    contents: &BTreeMap<Bytes, Bytes>,
+    batch: &Batch,
 ) -> Result<BTreeMap<Bytes, Change>, Memory>
-    ensures changes { IfOk result (λ changes. (q : List ℕ) → tree.get bytes_cmp changes q ≡ change_settled (tree.get bytes_cmp before q) (tree.get bytes_cmp values q)) }
-    ensures rows { OnOk result ((p : Place) → tree.get place_cmp rows.new p ≡ option_or (row_settled before values version p) (tree.get place_cmp rows.old p)) }
-    ensures below { (p : Place) → p.0 < version → tree.get place_cmp rows.new p ≡ tree.get place_cmp rows.old p }
+    ensures know { IfOk result (λ changes. KnowNew changes contents.now) }
+    ensures values { IfOk result (λ changes. (q : List ℕ) → value_written changes contents.now q ≡ value_after_all batch.now q (tree.get bytes_cmp contents.now q)) }
 {
     let mut changes = BTreeMap::new(alloc);
-    while let Some((key, old)) = before.pop_first() {
-        let after = values.remove(&key);
-        settle_one(rows, &mut changes, version, key, old, after)?;
+    for mutation in batch.mutations() {
+        act(alloc, contents, &mut changes, mutation)?;
     }
     Ok(changes)
 }

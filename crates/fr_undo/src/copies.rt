@@ -1,5 +1,6 @@
 //! Copies of what a store keeps.
 ghost use Rattle.std.specs.Prelude.{◌≡◌, ℕ, List, IfOk};
+ghost use Rattle.std.specs.Option.{option_copied};
 ghost use Rattle.std.specs.FinMap as map;
 ghost use Rattle.std.specs.BTreeMap as tree;
 ghost use Rattle.std.specs.BTreeMap.Range.{entries_between, IsLeBy, IsLtBy};
@@ -26,6 +27,16 @@ pub(crate) fn copy_of(value: &Option<Bytes>) -> Result<Option<Bytes>, Memory>
     }
 }
 
+/// A copy of a value that is lent, or none.
+pub(crate) fn copied(value: Option<&Bytes>) -> Result<Option<Bytes>, Memory>
+    ensures { IfOk result (λ copy. copy ≡ option_copied value.entry) }
+{
+    match value {
+        Some(value) => Ok(Some(value.copy()?)),
+        None => Ok(None),
+    }
+}
+
 /// A copy of the value of a key, if it has one.
 pub(crate) fn value_copy(
     contents: &BTreeMap<Bytes, Bytes>,
@@ -33,10 +44,7 @@ pub(crate) fn value_copy(
 ) -> Result<Option<Bytes>, Memory>
     ensures { IfOk result (λ copy. copy ≡ tree.get bytes_cmp contents.now key.now) }
 {
-    match contents.get(key) {
-        Some(value) => Ok(Some(value.copy()?)),
-        None => Ok(None),
-    }
+    copied(contents.get(key))
 }
 
 /// Copies of the keys from `begin` up to an end, with their values, in the order of the keys.
