@@ -1,14 +1,14 @@
 -- Why covering sets meet each tag's holders, and why smaller ones need not.
-use Rattle.std.proofs.Common.{◌≡◌, ◌≢◌, ℕ, ◌+◌, ◌-◌, ◌%◌, ◌<◌, ◌≤◌, Bool, true, false, ◌&&◌, not, nat_eq, nat_lt, List, map, length, get_or, refl, sym, ◌∙◌, ap, subst, inl, inr, arith}
-use Rattle.std.specs.List.{All, Contains, list_any, range_with_len, IsDistinct}
+use Rattle.std.proofs.Common.{◌≡◌, ◌≢◌, ℕ, ◌+◌, ◌-◌, ◌%◌, ◌<◌, ◌≤◌, false, ◌&&◌, not, nat_eq, length, get_or, sym, ◌∙◌, ap, subst, inl, inr, arith}
+use Rattle.std.specs.List.{Contains}
 use Rattle.std.proofs.Math.Nat.{mod-eq_of_lt, add-mod_right, mod-add-mod}
 use Rattle.std.proofs.lemmas.Nat.{mod_below}
-use Rattle.std.proofs.lemmas.Bool.{cases_lt, and_parts, ltb-true, ne_eqb, eqb-true, not-true, false_from_ne_true, both_ways}
+use Rattle.std.proofs.lemmas.Bool.{cases_lt, and_parts, ltb-true, ne_eqb, not-true, false_from_ne_true, both_ways}
 use Rattle.std.proofs.lemmas.List.Elements.{All-from_get_or}
 use Rattle.std.proofs.lemmas.List.FromFn.{length-map-range_with_len, get_or-map-range_with_len}
 use Rattle.std.proofs.lemmas.Map.Keys.{IsDistinct-from_apart}
-use Rattle.fr_tags.specs.Placement.{holders, is_among, is_held, log_count, covers}
-use Rattle.fr_tags.specs.CoverLaw.{AreDistinctLogs, EachTagHasHolders, HeldByHolders, CoveringMeetsEachTag, FewerMayMissEachTag, HolderIsLeft, DistinctLogsCount}
+use Rattle.fr_tags.specs.Placement.{holders, is_among, is_held, log_count}
+use Rattle.fr_tags.specs.CoverLaw.{EachTagHasHolders, HeldByHolders, CoveringMeetsEachTag, FewerMayMissEachTag, HolderIsLeft, DistinctLogsCount}
 use Rattle.fr_tags.proofs.LogCounting.{count, count_by-range, count_both, count_not, count_found, count_among, Contains-from_among, among-from_Contains}
 
 -- a step of less than a whole round ends elsewhere

@@ -1,12 +1,12 @@
 -- How many of the numbers below n pass a test.
 use Rattle.std.proofs.Common.{◌≡◌, ◌≢◌, ℕ, zero, suc, ◌+◌, ◌<◌, ◌≤◌, Bool, true, false, cond, ◌&&◌, not, nat_eq, List, [], ◌∷◌, ◌++◌, length, refl, sym, ◌∙◌, ap, subst, inl, inr, arith, add-zero}
-use Rattle.std.specs.List.{All, Contains, count_by, list_any, range_with_len, IsDistinct, slice_index_or}
-use Rattle.std.proofs.lemmas.Bool.{cases_eq, or_cases, eqb-true, eq-eqb, ne_eqb, and_parts, cases_Bool, or_left, or_right}
+use Rattle.std.specs.List.{All, Contains, count_by, list_any, range_with_len, IsDistinct}
+use Rattle.std.proofs.lemmas.Bool.{cases_eq, or_cases, eqb-true, eq-eqb, ne_eqb, cases_Bool, or_left, or_right}
 use Rattle.std.proofs.lemmas.List.Elements.{All-head, All-tail, All-from_recursion}
 use Rattle.std.proofs.lemmas.List.Folds.{list_any_none}
 use Rattle.std.proofs.lemmas.List.Sums.{sum_by-append}
 use Rattle.std.proofs.lemmas.Map.Keys.{IsDistinct-head, IsDistinct-tail}
-use Rattle.fr_tags.specs.Placement.{is_among, log_count}
+use Rattle.fr_tags.specs.Placement.{is_among}
 
 -- how many numbers below n pass a test
 abbrev pub count : (ℕ → Bool) → ℕ → ℕ

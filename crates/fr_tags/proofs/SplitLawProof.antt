@@ -1,15 +1,13 @@
 -- Why each log gets the clips of the tags that it holds, and what they make.
-use Rattle.std.proofs.Common.{◌≡◌, ℕ, ◌+◌, ◌<◌, Bool, true, false, cond, ◌||◌, ◌&&◌, nat_eq, nat_lt, List, [], ◌∷◌, map, length, get_or, Option, None, refl, sym, ◌∙◌, ap, subst, inl, inr, arith}
-use Rattle.std.specs.Prelude.{slice_index_or}
-use Rattle.std.specs.List.{filter, fold, All, range_with_len}
+use Rattle.std.proofs.Common.{◌≡◌, ℕ, ◌<◌, Bool, true, false, cond, ◌||◌, ◌&&◌, nat_eq, nat_lt, List, [], ◌∷◌, map, length, Option, None, refl, sym, ◌∙◌, ap, subst, arith}
+use Rattle.std.specs.List.{filter, fold, range_with_len}
 use Rattle.std.specs.List.Sorted.{IsStrictlyIncreasing}
-use Rattle.std.specs.FinMap.{empty, get, same_map, get-empty, get-retain_keys}
-use Rattle.std.proofs.lemmas.Bool.{cases_Bool, lt-ltb, ltb-true, ltb-false, eqb-true, and_right}
+use Rattle.std.specs.FinMap.{empty, same_map, get-empty, get-retain_keys}
+use Rattle.std.proofs.lemmas.Bool.{ltb-true, ltb-false, eqb-true, and_right}
 use Rattle.std.proofs.lemmas.List.Elements.{All-filter, All-weaker, All-map, filter_passes}
 use Rattle.std.proofs.lemmas.List.Kept.{IsStrictlyIncreasing-filter}
-use Rattle.std.proofs.lemmas.List.FromFn.{length-map-range_with_len, get_or-map-range_with_len, length-range_with_len, get_or-range_with_len}
+use Rattle.std.proofs.lemmas.List.FromFn.{length-map-range_with_len, get_or-map-range_with_len}
 use Rattle.fr_base.specs.Bytes.{bytes_cmp, bytes_total, bytes_exact}
-use Rattle.fr_base.specs.Map.{Map}
 use Rattle.fr_mutation.specs.declared.mutation.Mutation.{Mutation}
 use Rattle.fr_mutation.specs.declared.shard.Shard.{Shard}
 use Rattle.fr_mutation.specs.Laws.{ClipLaw}
@@ -18,7 +16,7 @@ use Rattle.fr_mutation.specs.Clip.{clipped}
 use Rattle.fr_mutation.specs.Shard.{in_shard, part}
 use Rattle.fr_tags.specs.Placement.{is_among, is_held}
 use Rattle.fr_tags.specs.Shards.{shard_at}
-use Rattle.fr_tags.specs.Split.{body_of, is_filled, bodies, bodies_for, split}
+use Rattle.fr_tags.specs.Split.{body_of, is_filled, bodies, bodies_for}
 use Rattle.fr_tags.specs.SplitLaw.{bodies_at, batch_of, AreBodiesFor, EachLogHasItsBodies, EachLogIsServed, HeldTagsHaveTheirClips, ClipsMakeThePart, ClipsMakeThePartFromNothing}
 use Rattle.fr_tags.proofs.LogCounting.{among-from_Contains}
 use Rattle.fr_tags.proofs.ShardLawProof.{below_range, Contains-range, range_rises}

@@ -1,4 +1,4 @@
-use Rattle.std.proofs.Common.{◌≡◌, ◌-◌, sym, ◌∙◌, ap}
+use Rattle.std.proofs.Common.{◌-◌, sym, ◌∙◌, ap}
 use Rattle.fr_tags.specs.Shards.{is_from_to}
 use Rattle.fr_tags.proofs.TouchedLemmas.{key_is_met}
 use Rattle.fr_tags.proofs.map.shard_with.Goals as goal

@@ -1,4 +1,4 @@
-use Rattle.std.proofs.Common.{◌≡◌, true, false, ◌-◌, sym, ◌∙◌, ap, subst, arith}
+use Rattle.std.proofs.Common.{◌≡◌, true, ◌-◌, sym, ◌∙◌, ap, arith}
 use Rattle.std.specs.Ordering.{is_lt}
 use Rattle.fr_base.specs.Bytes.{bytes_cmp}
 use Rattle.fr_tags.specs.Shards.{begun_before, is_from_to}

@@ -1,4 +1,3 @@
-use Rattle.std.proofs.Common.{refl}
 use Rattle.fr_tags.proofs.PlacementLemmas.{holders_pushed}
 use Rattle.fr_tags.proofs.placement.holders.Goals as goal
 

@@ -1,4 +1,4 @@
-use Rattle.std.proofs.Common.{◌≡◌, ◌<◌, length, map, sym, ◌∙◌, ap, arith}
+use Rattle.std.proofs.Common.{◌<◌, length, map, sym, ◌∙◌, ap, arith}
 use Rattle.std.specs.List.{filter, range_with_len}
 use Rattle.fr_tags.specs.Split.{body_of, is_filled}
 use Rattle.fr_tags.proofs.SplitLemmas.{body_pushed, body_skipped}

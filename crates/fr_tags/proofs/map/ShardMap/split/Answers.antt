@@ -1,4 +1,4 @@
-use Rattle.std.proofs.Common.{◌≡◌, ◌∙◌, ap}
+use Rattle.std.proofs.Common.{◌∙◌, ap}
 use Rattle.fr_tags.specs.Split.{bodies_for}
 use Rattle.fr_tags.proofs.SplitLemmas.{log_pushed}
 use Rattle.fr_tags.proofs.map.ShardMap.split.Goals as goal

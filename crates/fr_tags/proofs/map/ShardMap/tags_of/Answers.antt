@@ -1,4 +1,4 @@
-use Rattle.std.proofs.Common.{◌≡◌, ◌-◌, length, sym, ◌∙◌, ap, arith}
+use Rattle.std.proofs.Common.{◌-◌, length, sym, ◌∙◌, ap, arith}
 use Rattle.std.specs.List.{range_with_len}
 use Rattle.fr_tags.specs.Shards.{meets, shard_at}
 use Rattle.fr_tags.proofs.TouchedLemmas.{filter_range, range_pushed}
