@@ -1,0 +1,17 @@
+//! Two ballots that contend over three cells: each case is a caller of the register's public contracts
+//! alone, proved for all values. The first ballot reaches the left and the middle cell, the second the
+//! middle and the right one.
+#![tactic(auto)]
+
+mod overlap;
+mod phases;
+mod scenes;
+mod sequence;
+
+pub use overlap::overtaken;
+pub use phases::Found;
+pub use scenes::{Attempt, Cells, Outcome};
+pub use sequence::in_turn;
+
+#[cfg(test)]
+mod tests;

@@ -1,0 +1,40 @@
+//! Three cells, and what two ballots that contend over them come to.
+ghost use Rattle.std.specs.Prelude.{◌≡◌};
+
+use crate::phases::Found;
+use fr_base::Ballot;
+use fr_register::{Cell, Progress};
+
+/// What a ballot found by its reads, and what its writes came to.
+#[derive(Debug, Drop)]
+pub struct Attempt {
+    pub found: Found,
+    pub wrote: Progress,
+}
+
+/// Three cells, of indexes 0, 1 and 2.
+#[derive(Debug, Drop)]
+pub struct Cells {
+    pub left: Cell,
+    pub middle: Cell,
+    pub right: Cell,
+}
+
+/// What the two ballots came to, and what the cells then are.
+#[derive(Debug, Drop)]
+pub struct Outcome {
+    pub first: Attempt,
+    pub second: Attempt,
+    pub cells: Cells,
+}
+
+/// The ballots of the first and the second.
+pub fn ballots() -> (Ballot, Ballot)
+    ensures first { result.0 ≡ 256 }
+    ensures second { result.1 ≡ 512 }
+{
+    match (Ballot::new(256), Ballot::new(512)) {
+        (Some(first), Some(second)) => (first, second),
+        _ => unreachable!(),
+    }
+}
