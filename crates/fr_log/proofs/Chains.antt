@@ -1,10 +1,9 @@
 -- What follows for pushes that form a chain, and for records that rise.
-use Rattle.std.proofs.Common.{◌≡◌, ℕ, zero, suc, ◌+◌, ◌<◌, ◌≤◌, Bool, true, false, ◌&&◌, ◌||◌, List, [], ◌∷◌, ◌++◌, length, get_or, nat_lt, nat_le, eqb, refl, sym, ◌∙◌, ap, inl, inr, arith, max}
+use Rattle.std.proofs.Common.{◌≡◌, ℕ, zero, suc, ◌+◌, ◌<◌, ◌≤◌, true, ◌&&◌, ◌||◌, List, [], ◌∷◌, length, get_or, nat_lt, nat_le, eqb, ap, inl, inr, arith, max}
 use Rattle.std.specs.Prelude.{fold}
 use Rattle.std.specs.List.{list_any}
 use Rattle.std.specs.List.Sorted.{IsNonDecreasingBy}
 use Rattle.std.proofs.lemmas.Bool.{and_parts, or_cases, ltb-true, eqb-true, cases_order}
-use Rattle.std.proofs.lemmas.List.Sums.{fold-append}
 use Rattle.fr_log.specs.declared.records.SeedRecord.{SeedRecord}
 use Rattle.fr_log.specs.Seed.{is_rising_from}
 use Rattle.fr_log.specs.Push.{PushContent, is_one_push, is_one_push-parts}

@@ -1,29 +1,26 @@
 -- The laws of logs.
 use Rattle.std.proofs.Common.{◌≡◌, ℕ, zero, suc, ◌+◌, ◌-◌, ◌<◌, ◌≤◌, Bool, true, false, not, ◌&&◌, List, [], ◌∷◌, ◌++◌, length, take, cond, nat_lt, nat_le, eqb, Option, None, Some, refl, sym, ◌∙◌, ap, subst, arith, max, append_assoc}
-use Rattle.std.specs.Prelude.{fold, filter, is_some, is_none, IsSome, IsTrue, IfSome}
-use Rattle.std.specs.List.{list_any, list_all, All}
-use Rattle.std.proofs.lemmas.Bool.{and_parts, ltb-true, ltb-false, leb-true, le-leb, lt-leb, not-true, not-false, or_right, both_ways, eqb-true}
+use Rattle.std.specs.Prelude.{fold, filter, is_none, IsSome, IsTrue, IfSome}
+use Rattle.std.specs.List.{list_any, list_all}
+use Rattle.std.proofs.lemmas.Bool.{and_parts, ltb-true, ltb-false, le-leb, lt-leb, not-true, not-false, or_right, both_ways, eqb-true}
 use Rattle.std.proofs.lemmas.List.{append-nil, map-append, take_all}
-use Rattle.std.proofs.lemmas.List.Sums.{fold-append}
 use Rattle.std.proofs.lemmas.List.Folds.{list_any-append}
 use Rattle.std.proofs.lemmas.List.Elements.{All-head, All-tail}
 use Rattle.fr_log.specs.declared.ask.LogAsk.{LogAsk}
 use Rattle.fr_log.specs.declared.ask.LogAsk.TheVariants.{Seed, Push, Lock, Peek, MarkAsked}
-use Rattle.fr_log.specs.declared.ask.LogTell.{LogTell}
-use Rattle.fr_log.specs.declared.ask.LogTell.TheVariants.{Seeded, Held, Locked, Refused}
+use Rattle.fr_log.specs.declared.ask.LogTell.TheVariants.{Held, Locked, Refused}
 use Rattle.fr_log.specs.declared.ask.LogRefusal.{LogRefusal}
 use Rattle.fr_log.specs.declared.records.PeekedRecord.{PeekedRecord}
 use Rattle.fr_log.specs.Seed.{SeedContent, IsSeed, is_same_seed, is_same_seed-IsSameness}
-use Rattle.fr_log.specs.Push.{PushContent, IsPush, is_one_push, is_one_push-itself, is_one_push-parts, AreOnePush}
-use Rattle.fr_log.specs.Peeked.{is_rising_from}
-use Rattle.fr_log.specs.LogState.{LogState, Header, headers, headers_of, holds, first_of, seeded_to_of, durable_of, known_of, records_of, is_push_held}
-use Rattle.fr_log.specs.Chain.{IsChain, BeginsWithMark, IsLog, IsOwnSeed}
-use Rattle.fr_log.specs.Refusal.{refusal_of, seed_refusal, push_refusal, lock_refusal}
-use Rattle.fr_log.specs.Step.{answer_of, next_of, answer_unless, next_unless, granted_answer, granted_next, peek_of, records_above, upto_of}
+use Rattle.fr_log.specs.Push.{PushContent, is_one_push, is_one_push-itself, is_one_push-parts}
+use Rattle.fr_log.specs.LogState.{LogState, headers, headers_of, holds, first_of, seeded_to_of, durable_of, known_of, records_of, is_push_held}
+use Rattle.fr_log.specs.Chain.{IsChain, IsLog, IsOwnSeed}
+use Rattle.fr_log.specs.Refusal.{refusal_of, seed_refusal, push_refusal}
+use Rattle.fr_log.specs.Step.{answer_of, next_of, answer_unless, next_unless, granted_answer, granted_next, records_above, upto_of}
 use Rattle.fr_log.specs.Fields.{five}
 use Rattle.fr_log.specs.StepLaws.{greatest}
-use Rattle.fr_log.specs.Law.{IsLogAsk, after_all, AskLeavesLog, AsksLeaveLog, last_version, DurableIsLast, KnownIsHeld, RecordsRise, StandsStill, Grows, AskGrows, AsksGrow, is_newly_held, IsRaisedBy, NewPushRaises, NothingElseRaises, HeldIsHeld, OnePushIsSame, SameSeedIsSame, LockedIsStopped, PeekIsWhole}
-use Rattle.fr_log.proofs.Chains.{reach, reach_above}
+use Rattle.fr_log.specs.Law.{IsLogAsk, after_all, AskLeavesLog, AsksLeaveLog, last_version, DurableIsLast, KnownIsHeld, RecordsRise, StandsStill, Grows, AskGrows, AsksGrow, is_newly_held, NewPushRaises, NothingElseRaises, HeldIsHeld, OnePushIsSame, SameSeedIsSame, LockedIsStopped, PeekIsWhole}
+use Rattle.fr_log.proofs.Chains.{reach}
 use Rattle.fr_log.proofs.Rising.{Rises, Through, above, rises_test, through_test, records_rise, records_through, rises_above, through_above, last_of, last_above}
 use Rattle.fr_log.proofs.Pushing.{passed, next_push, with_push, with_push_is_log, durable_more, known_more}
 

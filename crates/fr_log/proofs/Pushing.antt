@@ -1,6 +1,6 @@
 -- A push that is newly held.
 use Rattle.std.proofs.Common.{◌≡◌, ℕ, ◌+◌, ◌<◌, ◌≤◌, Bool, true, false, not, ◌&&◌, ◌||◌, List, [], ◌∷◌, ◌++◌, cond, nat_lt, eqb, Option, None, Some, refl, sym, ◌∙◌, ap, subst, inl, inr, arith, max}
-use Rattle.std.specs.Prelude.{fold, is_some, is_none, IsSome, IsNone, IsTrue}
+use Rattle.std.specs.Prelude.{is_some, is_none, IsNone}
 use Rattle.std.specs.List.{list_all, All}
 use Rattle.std.proofs.lemmas.Bool.{not-false, ltb-false, eqb-true, eqb-false, or_parts, cases_Bool, both_ways}
 use Rattle.std.proofs.lemmas.List.Sums.{fold-append}
@@ -8,7 +8,7 @@ use Rattle.std.proofs.lemmas.List.Elements.{All-push, All-nil}
 use Rattle.std.specs.Ordering.{is_some_and, is_le, nat_cmp}
 use Rattle.fr_log.specs.declared.ask.LogRefusal.{LogRefusal}
 use Rattle.fr_log.specs.Push.{PushContent, IsPush}
-use Rattle.fr_log.specs.LogState.{LogState, Header, headers, headers_of, holds, durable_of, known_of, seeded_to_of, first_of, is_push_held}
+use Rattle.fr_log.specs.LogState.{LogState, headers, holds, durable_of, known_of, seeded_to_of, first_of, is_push_held}
 use Rattle.fr_log.specs.Chain.{IsChain, BeginsWithMark, IsLog, IsKept, IsOwnPush}
 use Rattle.fr_log.specs.Refusal.{push_refusal, new_push_refusal}
 use Rattle.fr_log.proofs.Chains.{reach, reach_above, held_within_reach}

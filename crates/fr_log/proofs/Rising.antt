@@ -1,9 +1,9 @@
 -- The records of a tag rise by their versions, so what a peek gives is within its limits.
-use Rattle.std.proofs.Common.{◌≡◌, ℕ, zero, suc, ◌+◌, ◌<◌, ◌≤◌, Bool, true, false, ◌&&◌, ◌||◌, List, [], ◌∷◌, ◌++◌, length, take, nat_lt, nat_le, eqb, Option, None, Some, refl, sym, ◌∙◌, ap, subst, inl, inr, arith, max, cond, length-take}
+use Rattle.std.proofs.Common.{◌≡◌, ℕ, zero, suc, ◌+◌, ◌<◌, ◌≤◌, Bool, true, false, ◌&&◌, ◌||◌, List, [], ◌∷◌, ◌++◌, length, take, nat_lt, nat_le, eqb, Option, None, Some, refl, sym, ◌∙◌, ap, inl, inr, arith, max, cond, length-take}
 use Rattle.std.specs.Prelude.{fold, filter}
 use Rattle.std.specs.List.{list_all, filter_map}
 use Rattle.std.specs.Option.{option_map}
-use Rattle.std.proofs.lemmas.Bool.{and_parts, and_from, or_cases, ltb-true, ltb-false, leb-true, eqb-true, le-leb, cases_lt}
+use Rattle.std.proofs.lemmas.Bool.{and_parts, and_from, or_cases, ltb-true, leb-true, eqb-true, le-leb, cases_lt}
 use Rattle.fr_mutation.specs.declared.mutation.Mutation.{Mutation}
 use Rattle.fr_log.specs.declared.records.SeedRecord.{SeedRecord}
 use Rattle.fr_log.specs.declared.records.PeekedRecord.{PeekedRecord}
@@ -12,7 +12,7 @@ use Rattle.fr_log.specs.Seed as seed
 use Rattle.fr_log.specs.Seed.{SeedContent, is_within}
 use Rattle.fr_log.specs.Push.{PushContent}
 use Rattle.fr_log.specs.Peeked.{is_rising_from, IsPeeked}
-use Rattle.fr_log.specs.LogState.{LogState, headers, seeded_record, pushed_record, batch_of, durable_of, known_of, seeded_to_of, seed_records_of, records_of}
+use Rattle.fr_log.specs.LogState.{LogState, headers, batch_of, durable_of, known_of, seeded_to_of, seed_records_of, records_of}
 use Rattle.fr_log.specs.Search.{seeded_records, pushed_records}
 use Rattle.fr_log.specs.Chain.{IsChain, IsLog, IsOwnSeed}
 use Rattle.fr_log.specs.Step.{peek_of, records_above, upto_of}

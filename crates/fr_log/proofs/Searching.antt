@@ -1,6 +1,6 @@
 -- Finding a place in a list, and gathering from there.
 use Rattle.std.proofs.Common.{◌≡◌, ℕ, zero, suc, ◌+◌, ◌<◌, ◌≤◌, Bool, true, false, List, [], ◌∷◌, ◌++◌, length, get_or, take, drop, nat_lt, Option, None, Some, eqb, refl, sym, ◌∙◌, ap, inl, inr, arith, append_assoc, length-append, take-append-drop}
-use Rattle.std.specs.List.{filter, filter_map, list_any, All}
+use Rattle.std.specs.List.{filter, filter_map}
 use Rattle.std.proofs.lemmas.Bool.{lt-ltb, le-ltb, false_from_ne_true, cases_order, cases_Bool}
 use Rattle.std.proofs.lemmas.List.{take_all, take_at, take_more, drop_more, length_push}
 use Rattle.std.proofs.lemmas.List.Elements.{filter_map-append, All-from_get_or}

@@ -1,5 +1,5 @@
 -- What the pushes of a log are to one another.
-use Rattle.std.specs.Prelude.{◌≡◌, ℕ, ◌<◌, ◌≤◌, Bool, List, [], ◌∷◌, Option, None, Some, IsTrue, IsSome, IsNone, IfSome, All}
+use Rattle.std.specs.Prelude.{◌≡◌, ℕ, ◌<◌, ◌≤◌, Bool, List, [], ◌∷◌, None, IsTrue, IsSome, IsNone, IfSome, All}
 use Rattle.std.specs.List.{list_all}
 use Rattle.fr_log.specs.Seed.{SeedContent, IsSeed}
 use Rattle.fr_log.specs.Push.{PushContent, IsPush}

@@ -1,6 +1,6 @@
 -- The state of one log.
-use Rattle.std.specs.Prelude.{◌≡◌, ℕ, ◌+◌, ◌-◌, ◌<◌, ◌≤◌, Bool, false, ◌==◌, nat_lt, List, [], ◌∷◌, ◌++◌, map, fold, max, Option, None, Some, IsTrue, IsSome, IsNone, if◌then◌else◌}
-use Rattle.std.specs.List.{list_all, list_any, filter_map}
+use Rattle.std.specs.Prelude.{ℕ, ◌-◌, Bool, false, ◌==◌, List, [], ◌∷◌, ◌++◌, map, fold, max, Option, None, Some, if◌then◌else◌}
+use Rattle.std.specs.List.{list_any, filter_map}
 use Rattle.std.specs.Option.{option_map}
 use Rattle.fr_mutation.specs.declared.mutation.Mutation.{Mutation}
 use Rattle.fr_tags.specs.Placement.{is_held}
@@ -8,8 +8,8 @@ use Rattle.fr_state.specs.Generations.{CoordinatedState}
 use Rattle.fr_log.specs.declared.records.Body.{Body}
 use Rattle.fr_log.specs.declared.records.SeedRecord.{SeedRecord}
 use Rattle.fr_log.specs.declared.records.PeekedRecord.{PeekedRecord}
-use Rattle.fr_log.specs.Seed.{SeedContent, IsSeed}
-use Rattle.fr_log.specs.Push.{PushContent, IsPush, is_one_push}
+use Rattle.fr_log.specs.Seed.{SeedContent}
+use Rattle.fr_log.specs.Push.{PushContent, is_one_push}
 
 -- a log: its epoch and its number there, how many logs the epoch has (m) and on how many of them each tag stands (k), the seed
 -- that it took, the pushes that it holds, the oldest first, and whether it was locked

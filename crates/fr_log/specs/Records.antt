@@ -1,5 +1,5 @@
 -- When the parts of seeds, pushes and peeks are the same.
-use Rattle.std.specs.Prelude.{◌≡◌, Bool, true, false, ◌==◌, ◌&&◌, refl, Option, None, Some}
+use Rattle.std.specs.Prelude.{◌≡◌, Bool, true, ◌==◌, ◌&&◌, refl}
 use Rattle.std.proofs.lemmas.Bool.{and_parts, eq-eqb, eqb-true}
 use Rattle.fr_mutation.specs.Equal.{IsSameness, is_same_batch, is_same_batch-IsSameness}
 use Rattle.fr_log.specs.Fields.{two, three}

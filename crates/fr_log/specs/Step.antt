@@ -1,5 +1,5 @@
 -- What a log answers, and what it is then.
-use Rattle.std.specs.Prelude.{◌≡◌, ℕ, Bool, true, nat_lt, List, [], ◌∷◌, ◌++◌, length, take, fold, filter, IsTrue, IsSome, is_some, Option, None, Some, if◌then◌else◌, ◌⊎◌}
+use Rattle.std.specs.Prelude.{ℕ, true, nat_lt, List, [], ◌∷◌, ◌++◌, length, take, fold, filter, IsTrue, IsSome, is_some, Option, None, Some, if◌then◌else◌, ◌⊎◌}
 use Rattle.fr_state.specs.Generations.{CoordinatedState}
 use Rattle.fr_log.specs.declared.records.PeekedRecord.{PeekedRecord}
 use Rattle.fr_log.specs.declared.ask.LogAsk.{LogAsk}
@@ -8,7 +8,6 @@ use Rattle.fr_log.specs.declared.ask.LogTell.{LogTell}
 use Rattle.fr_log.specs.declared.ask.LogTell.TheVariants.{Seeded, Held, Locked, Peeked, Marked, Refused}
 use Rattle.fr_log.specs.declared.ask.LogRefusal.{LogRefusal}
 use Rattle.fr_log.specs.declared.ask.LogRefusal.TheVariants.{NoMark}
-use Rattle.fr_log.specs.Push.{PushContent}
 use Rattle.fr_log.specs.Peeked.{PeekedContent}
 use Rattle.fr_log.specs.LogState.{LogState, durable_of, known_of, is_push_held, mark_among, records_of}
 use Rattle.fr_log.specs.Refusal.{refusal_of}

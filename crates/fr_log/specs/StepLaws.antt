@@ -1,5 +1,5 @@
 -- The laws of a log as a machine. They hold of every ask, also of one that breaks its own limits.
-use Rattle.std.specs.Prelude.{◌≡◌, ℕ, ◌-◌, ◌≤◌, ◌||◌, ◌&&◌, Bool, true, false, not, ◌==◌, nat_lt, List, [], ◌∷◌, ◌++◌, fold, max, Option, None, Some, is_some, is_none, cond, refl}
+use Rattle.std.specs.Prelude.{◌≡◌, ℕ, ◌-◌, ◌≤◌, Bool, true, false, not, ◌==◌, List, [], ◌∷◌, ◌++◌, fold, max, Option, None, Some, is_some, is_none, cond, refl}
 use Rattle.std.specs.List.{list_any, list_all}
 use Rattle.std.proofs.Common.{sym, ◌∙◌, ap, subst, arith}
 use Rattle.std.proofs.lemmas.List.Sums.{fold-append}
@@ -13,7 +13,7 @@ use Rattle.fr_log.specs.declared.ask.LogRefusal.{LogRefusal}
 use Rattle.fr_log.specs.Seed.{SeedContent, is_same_seed, is_same_seed-IsSameness}
 use Rattle.fr_log.specs.Push.{PushContent, is_one_push, is_one_push-itself}
 use Rattle.fr_log.specs.LogState.{LogState, durable_of, known_of, is_push_held, first_of, seeded_to_of}
-use Rattle.fr_log.specs.Refusal.{refusal_of, has_other_seed, push_refusal, new_push_refusal, seed_refusal}
+use Rattle.fr_log.specs.Refusal.{refusal_of}
 use Rattle.fr_log.specs.Step.{answer_of, next_of, answer_unless, next_unless, granted_answer, granted_next}
 
 -- 1 for yes, 0 for no

@@ -1,4 +1,4 @@
-use Rattle.std.proofs.Common.{ltb, ltb-true, ltb-false, arith, rules, sym, ◌∙◌}
+use Rattle.std.proofs.Common.{ltb, ltb-true, ltb-false, arith, rules, ◌∙◌}
 use Rattle.std.proofs.lemmas.List.Sorted.{IsPartitionPoint-from_clause, IsPartitionedBy-ltb}
 use Rattle.fr_log.proofs.Searching.{found_at, found_nowhere}
 use Rattle.fr_log.proofs.Chains.{rising_non_decreasing}

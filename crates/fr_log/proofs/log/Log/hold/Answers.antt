@@ -1,4 +1,4 @@
-use Rattle.std.proofs.Common.{◌≡◌, false, None, ap, ◌∙◌, sym}
+use Rattle.std.proofs.Common.{ap, ◌∙◌}
 use Rattle.fr_log.specs.Refusal.{push_refusal}
 use Rattle.fr_log.specs.LogState.{is_push_held}
 use Rattle.fr_log.proofs.Pushing.{with_push_is_kept}

@@ -2,7 +2,6 @@ use Rattle.std.proofs.Common.{ap, ◌∙◌, refl, sym, subst, arith}
 use Rattle.fr_log.specs.Chain.{IsLog}
 use Rattle.fr_log.specs.LogState.{durable_of, known_of}
 use Rattle.fr_log.specs.Peeked.{IsPeeked}
-use Rattle.fr_log.specs.Step.{peek_of}
 use Rattle.fr_log.proofs.Chains.{chain_rising}
 use Rattle.fr_log.proofs.Rising.{peek_within, peeked_is}
 use Rattle.fr_log.proofs.log.Log.peeked.Goals as goal
