@@ -67,7 +67,7 @@ fn keys_between(
 }
 
 /// Drops the changes of the keys from `begin` up to `end`.
-fn forget(
+fn drop_changes(
     alloc: Global,
     changes: &mut BTreeMap<Bytes, Change>,
     begin: &Bytes,
@@ -117,7 +117,7 @@ fn clear(
     ensures values { OnOk result ((q : List ℕ) → value_written changes.new contents.now q ≡ value_after (Clear begin.now end.now) q (value_written changes.old contents.now q)) }
 {
     if begin < end {
-        forget(alloc, changes, begin, end)?;
+        drop_changes(alloc, changes, begin, end)?;
         note_removed(contents, changes, begin, end)?;
     }
     Ok(())
