@@ -52,7 +52,7 @@ pub(crate) fn read_batch(alloc: Global, value: Value) -> Result<Mutations, CliFa
     let Some(items) = into_items(value) else {
         return Err(CliFault::BadScript);
     };
-    let mut mutations = Vec::new(alloc);
+    let mut mutations = Vec::with_capacity(alloc, items.len())?;
     for item in items {
         mutations.push(read_mutation(alloc, item)?)?;
     }

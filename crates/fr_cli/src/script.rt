@@ -56,7 +56,7 @@ fn read_operations(alloc: Global, mut script: Value) -> Result<Vec<Operation>, C
     let Some(items) = take_member(&mut script, 1, "ops").and_then(into_items) else {
         return Err(CliFault::BadScript);
     };
-    let mut operations = Vec::new(alloc);
+    let mut operations = Vec::with_capacity(alloc, items.len())?;
     for item in items {
         operations.push(read_operation(alloc, item)?)?;
     }

@@ -1,6 +1,6 @@
 -- Undo rows, from the newest version down and from the oldest up.
 use Rattle.std.proofs.Common.{◌≡◌, ℕ, zero, suc, ◌+◌, ◌<◌, ◌≤◌, Bool, true, false, not, cond, ◌&&◌, List, [], ◌∷◌, length, Option, None, Some, IsSome, IfSome, refl, sym, ap, ◌∙◌, subst, arith}
-use Rattle.std.specs.Prelude.{◌==◌, is_some, is_none, nat_le, nat_lt}
+use Rattle.std.specs.Prelude.{◌==◌, is_some, nat_le, nat_lt}
 use Rattle.std.specs.declared.cmp.Ordering.{Ordering}
 use Rattle.std.specs.declared.cmp.Ordering.TheVariants.{Less, Equal, Greater}
 use Rattle.std.specs.Option.{option_or}
@@ -20,7 +20,7 @@ use Rattle.fr_base.proofs.MapLemmas.{get-map_of, one_key, is_same-comm}
 use Rattle.fr_undo.specs.State.{Place, place_cmp, UndoRows}
 use Rattle.fr_undo.specs.declared.changes.Change.{Change}
 use Rattle.fr_undo.specs.Trees.{Contents, Rows, IsUpTo, IsAbove, PopsAbove}
-use Rattle.fr_undo.specs.Changes.{Changes, KnowNew, after_of, first_row}
+use Rattle.fr_undo.specs.Changes.{Changes, KnowBefore, after_of, first_row}
 use Rattle.fr_undo.specs.Undo.{least_row}
 use Rattle.fr_undo.proofs.UndoLemmas.{place_total, is_eq_second}
 use Rattle.fr_undo.proofs.ChangeLemmas.{none_from_is_some}
@@ -294,11 +294,11 @@ kept_still changes k before some q =
     there None e = cc
     there (Some c) e = refl
 
-pub kept_new : (contents : Contents) (changes changes' : Changes) (k : List ℕ) (change : Change) → KnowNew changes contents → change.is_new ≡ is_none (tree.get bytes_cmp contents k)
-    → ((q : List ℕ) → tree.get bytes_cmp changes' q ≡ cond (is_same k q) (Some change) (tree.get bytes_cmp changes q)) → KnowNew changes' contents
+pub kept_new : (contents : Contents) (changes changes' : Changes) (k : List ℕ) (change : Change) → KnowBefore changes contents → change.before ≡ tree.get bytes_cmp contents k
+    → ((q : List ℕ) → tree.get bytes_cmp changes' q ≡ cond (is_same k q) (Some change) (tree.get bytes_cmp changes q)) → KnowBefore changes' contents
 kept_new contents changes changes' k change know new put q =
-    subst (λ (o : Option Change). IfSome o (λ c. c.is_new ≡ is_none (tree.get bytes_cmp contents q))) (sym (put q))
-    (elim (is_same k q) as (λ b. is_same k q ≡ b → IfSome (cond b (Some change) (tree.get bytes_cmp changes q)) (λ c. c.is_new ≡ is_none (tree.get bytes_cmp contents q))) [
-      | true ↦ λ e. new ∙ ap (λ x. is_none (tree.get bytes_cmp contents x)) (one_key bytes_exact k q e)
+    subst (λ (o : Option Change). IfSome o (λ c. c.before ≡ tree.get bytes_cmp contents q)) (sym (put q))
+    (elim (is_same k q) as (λ b. is_same k q ≡ b → IfSome (cond b (Some change) (tree.get bytes_cmp changes q)) (λ c. c.before ≡ tree.get bytes_cmp contents q)) [
+      | true ↦ λ e. new ∙ ap (tree.get bytes_cmp contents) (one_key bytes_exact k q e)
       | false ↦ λ e. know q
     ] refl)

@@ -6,8 +6,9 @@ ghost use Rattle.std.specs.BTreeMap as tree;
 ghost use Rattle.fr_base.specs.Bytes.{bytes_cmp, is_same};
 ghost use Rattle.fr_mutation.specs.Mutation.{is_between, key_of, value_after, value_after_all};
 ghost use Rattle.fr_mutation.specs.declared.mutation.Mutation.TheVariants.{Clear};
-ghost use Rattle.fr_undo.specs.Changes.{KnowNew, removed, value_written};
+ghost use Rattle.fr_undo.specs.Changes.{KnowBefore, removed, value_written};
 
+use crate::copies::value_copy;
 use fr_base::{Bytes, Memory};
 use fr_mutation::{Batch, Mutation};
 use std::alloc::Global;
@@ -16,8 +17,8 @@ use std::collections::BTreeMap;
 /// What becomes of a key.
 #[derive(Debug, Drop)]
 pub(crate) struct Change {
-    /// Whether the key has no value yet.
-    pub(crate) is_new: bool,
+    /// What it held when it was first met: a value, or none.
+    pub(crate) before: Option<Bytes>,
     /// What it takes: a value, or none.
     pub(crate) after: Option<Bytes>,
 }
@@ -30,9 +31,9 @@ fn put(
     key: &Bytes,
     mutation: &Mutation,
 ) -> Result<(), Memory>
-    requires know { KnowNew changes.old contents.now }
+    requires know { KnowBefore changes.old contents.now }
     requires named { key_of mutation.now ≡ Some key.now }
-    ensures know { OnOk result (KnowNew changes.new contents.now) }
+    ensures know { OnOk result (KnowBefore changes.new contents.now) }
     ensures values { OnOk result ((q : List ℕ) → value_written changes.new contents.now q ≡ value_after mutation.now q (value_written changes.old contents.now q)) }
 {
     match changes.get_mut(key) {
@@ -40,10 +41,9 @@ fn put(
             change.after = mutation.new_value(alloc, change.after.as_ref())?;
         }
         None => {
-            let old = contents.get(key);
-            let is_new = old.is_none();
-            let after = mutation.new_value(alloc, old)?;
-            changes.insert(key.copy()?, Change { is_new, after })?;
+            let before = value_copy(contents, key)?;
+            let after = mutation.new_value(alloc, before.as_ref())?;
+            changes.insert(key.copy()?, Change { before, after })?;
         }
     }
     Ok(())
@@ -83,6 +83,22 @@ fn drop_changes(
     Ok(())
 }
 
+/// Notes that a key loses its value.
+fn note_key_removed(
+    changes: &mut BTreeMap<Bytes, Change>,
+    key: &Bytes,
+    value: &Bytes,
+) -> Result<(), Memory>
+    ensures { OnOk result ((q : List ℕ) → tree.get bytes_cmp changes.new q ≡ cond (is_same key.now q) (Some (removed (Some value.now))) (tree.get bytes_cmp changes.old q)) }
+{
+    let change = Change {
+        before: Some(value.copy()?),
+        after: None,
+    };
+    changes.insert(key.copy()?, change)?;
+    Ok(())
+}
+
 /// Notes that the keys from `begin` up to `end` that have a value lose it.
 fn note_removed(
     contents: &BTreeMap<Bytes, Bytes>,
@@ -91,14 +107,10 @@ fn note_removed(
     end: &Bytes,
 ) -> Result<(), Memory>
     requires { is_lt (bytes_cmp begin.now end.now) ≡ true }
-    ensures { OnOk result ((q : List ℕ) → tree.get bytes_cmp changes.new q ≡ cond (is_between begin.now end.now q && is_some (tree.get bytes_cmp contents.now q)) (Some removed) (tree.get bytes_cmp changes.old q)) }
+    ensures { OnOk result ((q : List ℕ) → tree.get bytes_cmp changes.new q ≡ cond (is_between begin.now end.now q && is_some (tree.get bytes_cmp contents.now q)) (Some (removed (tree.get bytes_cmp contents.now q))) (tree.get bytes_cmp changes.old q)) }
 {
-    for (key, _) in contents.range(begin..end) {
-        let change = Change {
-            is_new: false,
-            after: None,
-        };
-        changes.insert(key.copy()?, change)?;
+    for (key, value) in contents.range(begin..end) {
+        note_key_removed(changes, key, value)?;
     }
     Ok(())
 }
@@ -112,8 +124,8 @@ fn clear(
     begin: &Bytes,
     end: &Bytes,
 ) -> Result<(), Memory>
-    requires { KnowNew changes.old contents.now }
-    ensures know { OnOk result (KnowNew changes.new contents.now) }
+    requires { KnowBefore changes.old contents.now }
+    ensures know { OnOk result (KnowBefore changes.new contents.now) }
     ensures values { OnOk result ((q : List ℕ) → value_written changes.new contents.now q ≡ value_after (Clear begin.now end.now) q (value_written changes.old contents.now q)) }
 {
     if begin < end {
@@ -130,8 +142,8 @@ fn act(
     changes: &mut BTreeMap<Bytes, Change>,
     mutation: &Mutation,
 ) -> Result<(), Memory>
-    requires { KnowNew changes.old contents.now }
-    ensures know { OnOk result (KnowNew changes.new contents.now) }
+    requires { KnowBefore changes.old contents.now }
+    ensures know { OnOk result (KnowBefore changes.new contents.now) }
     ensures values { OnOk result ((q : List ℕ) → value_written changes.new contents.now q ≡ value_after mutation.now q (value_written changes.old contents.now q)) }
 {
     if let Mutation::Clear { begin, end } = mutation {
@@ -149,7 +161,7 @@ pub(crate) fn changes_of(
     contents: &BTreeMap<Bytes, Bytes>,
     batch: &Batch,
 ) -> Result<BTreeMap<Bytes, Change>, Memory>
-    ensures know { IfOk result (λ changes. KnowNew changes contents.now) }
+    ensures know { IfOk result (λ changes. KnowBefore changes contents.now) }
     ensures values { IfOk result (λ changes. (q : List ℕ) → value_written changes contents.now q ≡ value_after_all batch.now q (tree.get bytes_cmp contents.now q)) }
 {
     let mut changes = BTreeMap::new(alloc);

@@ -7,11 +7,11 @@ ghost use Rattle.fr_base.specs.Bytes.{bytes_cmp, is_same};
 ghost use Rattle.fr_base.specs.Map.{map_of};
 ghost use Rattle.fr_undo.specs.State.{Place, place_cmp};
 ghost use Rattle.fr_undo.specs.Trees.{IsUpTo, IsAbove, PopsAbove, PopsThrough};
-ghost use Rattle.fr_undo.specs.Changes.{KnowNew, after_of};
+ghost use Rattle.fr_undo.specs.Changes.{KnowBefore, after_of};
 ghost use Rattle.fr_undo.specs.Undo.{least_row};
 
 use crate::changes::Change;
-use crate::copies::copy_of;
+use crate::copies::{copy_of, value_copy};
 use fr_base::{Bytes, Memory, Version};
 use std::alloc::Global;
 use std::collections::BTreeMap;
@@ -83,14 +83,18 @@ fn restore_one(
     key: &Bytes,
     before: &Option<Bytes>,
 ) -> Result<(), Memory>
-    requires { KnowNew changes.old contents.now }
-    ensures know { OnOk result (KnowNew changes.new contents.now) }
+    requires { KnowBefore changes.old contents.now }
+    ensures know { OnOk result (KnowBefore changes.new contents.now) }
     ensures kept { OnOk result ((q : List ℕ) → after_of (tree.get bytes_cmp changes.new q) ≡ option_or (after_of (tree.get bytes_cmp changes.old q)) (cond (is_same key.now q) (Some before.now) None)) }
 {
     if !changes.contains_key(key) {
-        let is_new = !contents.contains_key(key);
+        let held = value_copy(contents, key)?;
         let after = copy_of(before)?;
-        changes.insert(key.copy()?, Change { is_new, after })?;
+        let change = Change {
+            before: held,
+            after,
+        };
+        changes.insert(key.copy()?, change)?;
     }
     Ok(())
 }
@@ -105,7 +109,7 @@ pub(crate) fn changes_above(
     applied: Version,
 ) -> Result<BTreeMap<Bytes, Change>, Memory>
     requires { version < applied }
-    ensures know { IfOk result (λ changes. KnowNew changes contents.now) }
+    ensures know { IfOk result (λ changes. KnowBefore changes contents.now) }
     ensures value { IfOk result (λ changes. (n : ℕ) → IsUpTo rows.now (version + n) → (q : List ℕ) → after_of (tree.get bytes_cmp changes q) ≡ least_row (map_of rows.now) q version n) }
 {
     let mut changes = BTreeMap::new(alloc);

@@ -1,28 +1,42 @@
 //! Changes written, all of them or none.
-ghost use Rattle.std.specs.Prelude.{◌≡◌, List, ℕ, OnOk, OnErr, IfSome, IsSome, None, false, cond, ◌||◌, is_some};
+ghost use Rattle.std.specs.Prelude.{◌≡◌, List, ℕ, OnOk, OnErr, IfSome, IsSome, None, Some, false, cond};
 ghost use Rattle.std.specs.BTreeMap as tree;
 ghost use Rattle.fr_base.specs.Bytes.{bytes_cmp, is_same};
-ghost use Rattle.fr_undo.specs.Changes.{written, KnowNew, passes, is_new_one, makes_place};
+ghost use Rattle.fr_undo.specs.Changes.{written, written_if, KnowBefore, passes, is_new_one, is_added, is_held};
 
 use crate::changes::Change;
 use fr_base::{Bytes, Memory};
-use std::alloc::Global;
 use std::collections::BTreeMap;
 
-/// Makes a place for each key that has no value and is to take one. Want of memory may leave a front
-/// of the places.
-fn reserve(
-    alloc: Global,
+/// Gives a key its value, if it has none and is to take one.
+fn add_one(
+    contents: &mut BTreeMap<Bytes, Bytes>,
+    key: &Bytes,
+    change: &Change,
+) -> Result<(), Memory>
+    ensures ok { OnOk result ((q : List ℕ) → tree.get bytes_cmp contents.new q ≡ cond (is_same key.now q) (written_if is_added (Some change.now) (tree.get bytes_cmp contents.old q)) (tree.get bytes_cmp contents.old q)) }
+    ensures err { OnErr result ((q : List ℕ) → tree.get bytes_cmp contents.new q ≡ tree.get bytes_cmp contents.old q) }
+{
+    match (&change.before, &change.after) {
+        (None, Some(value)) => {
+            contents.insert(key.copy()?, value.copy()?)?;
+        }
+        _ => {}
+    }
+    Ok(())
+}
+
+/// Adds the keys that have no value and are to take one, with their values. Want of memory may leave a
+/// front of them.
+fn add_new(
     contents: &mut BTreeMap<Bytes, Bytes>,
     changes: &BTreeMap<Bytes, Change>,
 ) -> Result<(), Memory>
     ensures others { (q : List ℕ) → passes is_new_one (tree.get bytes_cmp changes.now q) ≡ false → tree.get bytes_cmp contents.new q ≡ tree.get bytes_cmp contents.old q }
-    ensures places { OnOk result ((q : List ℕ) → is_some (tree.get bytes_cmp contents.new q) ≡ (passes makes_place (tree.get bytes_cmp changes.now q) || is_some (tree.get bytes_cmp contents.old q))) }
+    ensures added { OnOk result ((q : List ℕ) → tree.get bytes_cmp contents.new q ≡ written_if is_added (tree.get bytes_cmp changes.now q) (tree.get bytes_cmp contents.old q)) }
 {
     for (key, change) in changes.iter() {
-        if change.is_new && change.after.is_some() {
-            contents.insert(key.copy()?, Bytes::empty(alloc))?;
-        }
+        add_one(contents, key, change)?;
     }
     Ok(())
 }
@@ -32,50 +46,50 @@ fn remove_new(contents: &mut BTreeMap<Bytes, Bytes>, changes: &BTreeMap<Bytes, C
     ensures { (q : List ℕ) → tree.get bytes_cmp contents.new q ≡ cond (passes is_new_one (tree.get bytes_cmp changes.now q)) None (tree.get bytes_cmp contents.old q) }
 {
     for (key, change) in changes.iter() {
-        if change.is_new {
+        if change.before.is_none() {
             contents.remove(key);
         }
     }
 }
 
-/// Gives a key what it takes: a value, where it has one already, or none.
-fn replace(contents: &mut BTreeMap<Bytes, Bytes>, key: &Bytes, value: Option<Bytes>)
-    requires { IsSome value → IsSome (tree.get bytes_cmp contents.old key.now) }
-    ensures { (q : List ℕ) → tree.get bytes_cmp contents.new q ≡ cond (is_same key.now q) value (tree.get bytes_cmp contents.old q) }
+/// Gives a key that had a value what it takes: a value, or none.
+fn replace(contents: &mut BTreeMap<Bytes, Bytes>, key: &Bytes, change: Change)
+    requires { IsSome change.before → IsSome (tree.get bytes_cmp contents.old key.now) }
+    ensures { (q : List ℕ) → tree.get bytes_cmp contents.new q ≡ cond (is_same key.now q) (written_if is_held (Some change) (tree.get bytes_cmp contents.old q)) (tree.get bytes_cmp contents.old q) }
 {
-    match value {
-        Some(value) => {
+    match (change.before, change.after) {
+        (None, _) => {}
+        (Some(_), None) => {
+            contents.remove(key);
+        }
+        (Some(_), Some(value)) => {
             if let Some(place) = contents.get_mut(key) {
                 *place = value;
             }
         }
-        None => {
-            contents.remove(key);
-        }
     }
 }
 
-/// Writes changes whose keys have places for the values that they take.
-fn replace_all(contents: &mut BTreeMap<Bytes, Bytes>, mut changes: BTreeMap<Bytes, Change>)
-    requires { (q : List ℕ) → IfSome (tree.get bytes_cmp changes q) (λ change. IsSome change.after → IsSome (tree.get bytes_cmp contents.old q)) }
-    ensures { (q : List ℕ) → tree.get bytes_cmp contents.new q ≡ written (tree.get bytes_cmp changes q) (tree.get bytes_cmp contents.old q) }
+/// Writes the changes of the keys that had a value.
+fn replace_all(contents: &mut BTreeMap<Bytes, Bytes>, changes: BTreeMap<Bytes, Change>)
+    requires { (q : List ℕ) → IfSome (tree.get bytes_cmp changes q) (λ change. IsSome change.before → IsSome (tree.get bytes_cmp contents.old q)) }
+    ensures { (q : List ℕ) → tree.get bytes_cmp contents.new q ≡ written_if is_held (tree.get bytes_cmp changes q) (tree.get bytes_cmp contents.old q) }
 {
-    while let Some((key, change)) = changes.pop_first() {
-        replace(contents, &key, change.after);
+    for (key, change) in changes {
+        replace(contents, &key, change);
     }
 }
 
 /// Writes changes: all of them, or none where memory is wanting.
 pub(crate) fn write(
-    alloc: Global,
     contents: &mut BTreeMap<Bytes, Bytes>,
     changes: BTreeMap<Bytes, Change>,
 ) -> Result<(), Memory>
-    requires { KnowNew changes contents.old }
+    requires { KnowBefore changes contents.old }
     ensures ok { OnOk result ((q : List ℕ) → tree.get bytes_cmp contents.new q ≡ written (tree.get bytes_cmp changes q) (tree.get bytes_cmp contents.old q)) }
     ensures err { OnErr result ((q : List ℕ) → tree.get bytes_cmp contents.new q ≡ tree.get bytes_cmp contents.old q) }
 {
-    match reserve(alloc, contents, &changes) {
+    match add_new(contents, &changes) {
         Ok(()) => {
             replace_all(contents, changes);
             Ok(())
