@@ -16,6 +16,11 @@ abbrev pub Rises : ℕ → List Commit → ℕ → Type 0
 Rises a [] v = a ≤ v
 Rises a (commit ∷ commits) v = (a < commit.0) × Rises commit.0 commits v
 
+-- the versions rise, and are above a
+abbrev pub RiseFrom : ℕ → List Commit → Type 0
+RiseFrom a [] = Unit {0}
+RiseFrom a (commit ∷ commits) = (a < commit.0) × RiseFrom commit.0 commits
+
 -- the map after the batches of commits, from first to last
 abbrev pub contents_after : Map → List Commit → Map
 contents_after m [] = m
