@@ -6,6 +6,7 @@ ghost use Rattle.std.specs.Cmp.Lexicographic.{nat_list_eq_equiv, nat_list_cmp_to
 ghost use Rattle.fr_base.specs.Bytes.{bytes_cmp, bytes_eq};
 
 use crate::memory::Memory;
+use crate::order::order;
 use std::alloc::Global;
 use std::cmp::Ordering;
 use std::marker::Model;
@@ -115,6 +116,6 @@ impl Ord for Bytes {
     ghost matches_eq = { texts_ties };
 
     fn cmp(&self, other: &Bytes) -> Ordering {
-        self.content.as_slice().cmp(other.content.as_slice())
+        order(self.content.as_slice(), other.content.as_slice())
     }
 }

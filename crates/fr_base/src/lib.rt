@@ -5,6 +5,7 @@ mod ballot;
 mod bytes;
 mod machine;
 mod memory;
+mod order;
 mod place;
 mod version;
 
