@@ -8,6 +8,7 @@ pub mod LogState
 pub mod Search
 pub mod Chain
 pub mod Refusal
+pub mod Lists
 pub mod Step
 pub mod StepLaws
 pub mod Law

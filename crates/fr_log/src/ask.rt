@@ -1,5 +1,6 @@
 //! What a log is asked, and what it tells.
-ghost use Rattle.std.specs.Prelude.{◌≡◌, ◌≤◌, ◌↔◌, IsSome, IfSome, IfOk};
+ghost use Rattle.std.specs.Prelude.{◌≡◌, ◌≤◌, ◌↔◌, IsTrue, IsSome, IfSome, IfOk, IsOk};
+ghost use Rattle.fr_log.specs.Lists.{ask_holds_no_list, tell_holds_no_list};
 
 use crate::peeked::Peeked;
 use crate::push::Push;
@@ -74,9 +75,10 @@ pub enum LogAsk {
 }
 
 impl LogAsk {
-    /// An equal ask.
+    /// An equal ask. One that holds no list takes no memory.
     pub fn copy(&self, alloc: Global) -> Result<Self, Memory>
-        ensures { IfOk result (λ ask. ask ≡ self.now) }
+        ensures equal { IfOk result (λ ask. ask ≡ self.now) }
+        ensures free { IsTrue (ask_holds_no_list self.now) → IsOk result }
     {
         Ok(match self {
             LogAsk::Seed(seed) => LogAsk::Seed(seed.copy(alloc)?),
@@ -117,9 +119,10 @@ pub enum LogTell {
 }
 
 impl LogTell {
-    /// An equal tell.
+    /// An equal tell. One that holds no list takes no memory.
     pub fn copy(&self, alloc: Global) -> Result<Self, Memory>
-        ensures { IfOk result (λ tell. tell ≡ self.now) }
+        ensures equal { IfOk result (λ tell. tell ≡ self.now) }
+        ensures free { IsTrue (tell_holds_no_list self.now) → IsOk result }
     {
         Ok(match self {
             LogTell::Seeded => LogTell::Seeded,

@@ -1,5 +1,5 @@
 //! How the keys are cut into shards.
-ghost use Rattle.std.specs.Prelude.{◌≡◌, ℕ, ◌<◌, ◌≤◌, length, None, Some, IsTrue, IfOk, OnOk, IfErr};
+ghost use Rattle.std.specs.Prelude.{◌≡◌, ℕ, ◌<◌, ◌≤◌, length, None, Some, IsTrue, IfOk, OnOk, IfErr, IsOk};
 ghost use Rattle.std.specs.Option.{ForSome};
 ghost use Rattle.fr_mutation.specs.Shard.{in_shard, EndsFit};
 ghost use Rattle.fr_tags.specs.Shards.{shard_fault, has_long, rises, begun, begun_before, tag_of, shard_at, shard_of, meets_range, meets, tags_of, is_from_to};
@@ -68,10 +68,11 @@ impl ShardMap {
         Ok(ShardMap { begins })
     }
 
-    /// The shard of a tag, where the map has that many.
+    /// The shard of a tag, where the map has that many. A tag that the map lacks takes no memory.
     pub fn shard_of(&self, alloc: Global, tag: Tag) -> Result<Option<Shard>, Memory>
         ensures shard { IfOk result (λ shard. shard ≡ shard_of self.now tag) }
         ensures fits { IfOk result (λ shard. ForSome shard EndsFit) }
+        ensures free { shard_of self.now tag ≡ None → IsOk result }
     {
         let number = usize::from(tag.get());
         if number < self.begins().len() {
