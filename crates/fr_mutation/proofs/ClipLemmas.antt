@@ -14,7 +14,7 @@ use Rattle.fr_base.specs.Bytes.{bytes_cmp, bytes_total, bytes_exact, is_same}
 use Rattle.fr_base.specs.Map.{Map}
 use Rattle.fr_base.proofs.MapLemmas.{one_key}
 use Rattle.fr_mutation.specs.declared.mutation.Mutation.{Mutation}
-use Rattle.fr_mutation.specs.declared.mutation.Mutation.TheVariants.{Set, Clear, Add, And, Or, Xor, Max, Min}
+use Rattle.fr_mutation.specs.declared.mutation.Mutation.TheVariants.{Set, Clear, Atomic}
 use Rattle.fr_mutation.specs.declared.shard.Shard.{Shard}
 use Rattle.fr_mutation.specs.Mutation.{key_of, is_between, touches, touched, new_value, value_after, value_after_all, after}
 use Rattle.fr_mutation.specs.Shard.{in_shard, part, EndsFit}
@@ -33,12 +33,7 @@ clip_keyed s mutation key e = ap (λ o. option_map_or (λ k. then_some (in_shard
 unkeyed : (P : Mutation → Type 0) (mutation : Mutation) → key_of mutation ≡ None → ((begin end : List ℕ) → P (Clear begin end)) → P mutation
 unkeyed P (Set key value) e p = cc
 unkeyed P (Clear begin end) e p = p begin end
-unkeyed P (Add key param) e p = cc
-unkeyed P (And key param) e p = cc
-unkeyed P (Or key param) e p = cc
-unkeyed P (Xor key param) e p = cc
-unkeyed P (Max key param) e p = cc
-unkeyed P (Min key param) e p = cc
+unkeyed P (Atomic op key param) e p = cc
 
 -- whether a mutation, if there is one, acts on a key
 abbrev pub acts_on : Option Mutation → List ℕ → Bool

@@ -5,12 +5,14 @@ use Rattle.std.specs.Ordering.{is_lt}
 use Rattle.std.proofs.lemmas.Bool.{eqb-true}
 use Rattle.fr_base.specs.Bytes.{bytes_cmp}
 use Rattle.fr_mutation.specs.declared.codec.fault.DecodeFault.TheVariants.{Inverted}
+use Rattle.fr_mutation.specs.declared.atomic.AtomicOp.{AtomicOp}
+use Rattle.fr_mutation.specs.declared.atomic.AtomicOp.TheVariants as ops
 use Rattle.fr_mutation.specs.declared.codec.kind.Kind.{Kind}
 use Rattle.fr_mutation.specs.declared.codec.kind.Kind.TheVariants as kinds
 use Rattle.fr_mutation.specs.declared.mutation.Mutation.{Mutation}
-use Rattle.fr_mutation.specs.declared.mutation.Mutation.TheVariants.{Set, Clear, Add, And, Or, Xor, Max, Min}
+use Rattle.fr_mutation.specs.declared.mutation.Mutation.TheVariants.{Set, Clear, Atomic}
 use Rattle.fr_mutation.specs.Limits.{keyed_fault, clear_fault, mutation_fault}
-use Rattle.fr_mutation.specs.CodecKind.{kind_byte, all_kinds, kind_of, mutation_of}
+use Rattle.fr_mutation.specs.CodecKind.{op_byte, kind_byte, all_kinds, kind_of, mutation_of}
 use Rattle.fr_mutation.specs.CodecSpelling.{spelled_key, spelled_operand, spelled_keyed, spelled_mutation}
 use Rattle.fr_mutation.specs.CodecReading.{◌>>=◌, known, kind_at, key_at, operand_at, clear_at, keyed_at, fields_at, mutation_at}
 use Rattle.fr_mutation.proofs.CodecLimits.{keyed_limits, keyed_within, clear_limits, clear_within}
@@ -86,12 +88,7 @@ keyed_takes kind spells faults bytes x fits e =
 fields_take : (kind : Kind) (bytes : List ℕ) (x : Mutation × List ℕ) → IsBytes bytes → fields_at kind bytes ≡ Ok x → TakesFields kind bytes x
 fields_take kinds.Set = keyed_takes kinds.Set (λ k o. refl) (λ k o. refl)
 fields_take kinds.Clear = clear_takes
-fields_take kinds.Add = keyed_takes kinds.Add (λ k o. refl) (λ k o. refl)
-fields_take kinds.And = keyed_takes kinds.And (λ k o. refl) (λ k o. refl)
-fields_take kinds.Or = keyed_takes kinds.Or (λ k o. refl) (λ k o. refl)
-fields_take kinds.Xor = keyed_takes kinds.Xor (λ k o. refl) (λ k o. refl)
-fields_take kinds.Max = keyed_takes kinds.Max (λ k o. refl) (λ k o. refl)
-fields_take kinds.Min = keyed_takes kinds.Min (λ k o. refl) (λ k o. refl)
+fields_take (kinds.Atomic op) = keyed_takes (kinds.Atomic op) (λ k o. refl) (λ k o. refl)
 
 clear_again : (begin end rest : List ℕ) → clear_fault begin end ≡ None → clear_at ((spelled_key begin ++ spelled_key end) ++ rest) ≡ Ok (Clear begin end, rest)
 unfolding clear_at
@@ -118,13 +115,18 @@ mutation_takes bytes x fits e =
     let both : Takes bytes (kind_byte a.0.0 ∷ t.text) x.1 = Takes-then bytes (kind_byte a.0.0 ∷ []) a.0.1 t.text x.1 s t.takes in
     (subst (λ (p : List ℕ). Takes bytes p x.1) (sym t.spells) both, t.within)
 
+-- each operation is found by its byte
+op_is_known : (op : AtomicOp) → kind_of (op_byte op) ≡ Some (kinds.Atomic op)
+op_is_known ops.Add = refl
+op_is_known ops.And = refl
+op_is_known ops.Or = refl
+op_is_known ops.Xor = refl
+op_is_known ops.Max = refl
+op_is_known ops.Min = refl
+
 pub mutation_again : (m : Mutation) (rest : List ℕ) → mutation_fault m ≡ None → mutation_at (spelled_mutation m ++ rest) ≡ Ok (m, rest)
 unfolding mutation_at kind_at
 mutation_again (Set key value) rest e = keyed_again kinds.Set key value rest e
 mutation_again (Clear begin end) rest e = clear_again begin end rest e
-mutation_again (Add key param) rest e = keyed_again kinds.Add key param rest e
-mutation_again (And key param) rest e = keyed_again kinds.And key param rest e
-mutation_again (Or key param) rest e = keyed_again kinds.Or key param rest e
-mutation_again (Xor key param) rest e = keyed_again kinds.Xor key param rest e
-mutation_again (Max key param) rest e = keyed_again kinds.Max key param rest e
-mutation_again (Min key param) rest e = keyed_again kinds.Min key param rest e
+mutation_again (Atomic op key param) rest e =
+    rw (op_is_known op) (keyed_again (kinds.Atomic op) key param rest e)

@@ -1,24 +1,31 @@
 -- The kinds of mutation in the bytes of a batch.
-use Rattle.std.specs.Prelude.{ℕ, ◌==◌, List, [], ◌∷◌, Option, find}
+use Rattle.std.specs.Prelude.{ℕ, ◌==◌, List, ◌∷◌, map, Option, find}
+use Rattle.fr_mutation.specs.declared.atomic.AtomicOp.{AtomicOp}
+use Rattle.fr_mutation.specs.declared.atomic.AtomicOp.TheVariants as ops
 use Rattle.fr_mutation.specs.declared.mutation.Mutation.{Mutation}
-use Rattle.fr_mutation.specs.declared.mutation.Mutation.TheVariants.{Set, Clear, Add, And, Or, Xor, Max, Min}
+use Rattle.fr_mutation.specs.declared.mutation.Mutation.TheVariants.{Set, Clear, Atomic}
 use Rattle.fr_mutation.specs.declared.codec.kind.Kind.{Kind}
 use Rattle.fr_mutation.specs.declared.codec.kind.Kind.TheVariants as kinds
+use Rattle.fr_mutation.specs.Atomic.{all_ops}
+
+-- the byte of each atomic operation
+abbrev pub op_byte : AtomicOp → ℕ
+op_byte ops.Add = 3
+op_byte ops.And = 4
+op_byte ops.Or = 5
+op_byte ops.Xor = 6
+op_byte ops.Max = 7
+op_byte ops.Min = 8
 
 -- the byte of each kind
 abbrev pub kind_byte : Kind → ℕ
 kind_byte kinds.Set = 1
 kind_byte kinds.Clear = 2
-kind_byte kinds.Add = 3
-kind_byte kinds.And = 4
-kind_byte kinds.Or = 5
-kind_byte kinds.Xor = 6
-kind_byte kinds.Max = 7
-kind_byte kinds.Min = 8
+kind_byte (kinds.Atomic op) = op_byte op
 
 -- every kind
 abbrev pub all_kinds : List Kind
-all_kinds = kinds.Set ∷ kinds.Clear ∷ kinds.Add ∷ kinds.And ∷ kinds.Or ∷ kinds.Xor ∷ kinds.Max ∷ kinds.Min ∷ []
+all_kinds = kinds.Set ∷ kinds.Clear ∷ map (λ op. kinds.Atomic op) all_ops
 
 -- the kind that has this byte
 abbrev pub kind_of : ℕ → Option Kind
@@ -28,9 +35,4 @@ kind_of byte = find (λ kind. byte == kind_byte kind) all_kinds
 abbrev pub mutation_of : Kind → List ℕ → List ℕ → Mutation
 mutation_of kinds.Set key value = Set key value
 mutation_of kinds.Clear begin end = Clear begin end
-mutation_of kinds.Add key param = Add key param
-mutation_of kinds.And key param = And key param
-mutation_of kinds.Or key param = Or key param
-mutation_of kinds.Xor key param = Xor key param
-mutation_of kinds.Max key param = Max key param
-mutation_of kinds.Min key param = Min key param
+mutation_of (kinds.Atomic op) key param = Atomic op key param

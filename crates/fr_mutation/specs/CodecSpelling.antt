@@ -5,7 +5,7 @@ use Rattle.std.specs.Int.{w16, w32, to_be_bytes}
 use Rattle.fr_mutation.specs.declared.codec.kind.Kind.{Kind}
 use Rattle.fr_mutation.specs.declared.codec.kind.Kind.TheVariants as kinds
 use Rattle.fr_mutation.specs.declared.mutation.Mutation.{Mutation}
-use Rattle.fr_mutation.specs.declared.mutation.Mutation.TheVariants.{Set, Clear, Add, And, Or, Xor, Max, Min}
+use Rattle.fr_mutation.specs.declared.mutation.Mutation.TheVariants.{Set, Clear, Atomic}
 use Rattle.fr_mutation.specs.CodecKind.{kind_byte}
 
 -- a key, or an end of a clear: its length in two bytes, and its bytes
@@ -28,12 +28,7 @@ spelled_clear begin end = kind_byte kinds.Clear ∷ (spelled_key begin ++ spelle
 abbrev pub spelled_mutation : Mutation → List ℕ
 spelled_mutation (Set key value) = spelled_keyed kinds.Set key value
 spelled_mutation (Clear begin end) = spelled_clear begin end
-spelled_mutation (Add key param) = spelled_keyed kinds.Add key param
-spelled_mutation (And key param) = spelled_keyed kinds.And key param
-spelled_mutation (Or key param) = spelled_keyed kinds.Or key param
-spelled_mutation (Xor key param) = spelled_keyed kinds.Xor key param
-spelled_mutation (Max key param) = spelled_keyed kinds.Max key param
-spelled_mutation (Min key param) = spelled_keyed kinds.Min key param
+spelled_mutation (Atomic op key param) = spelled_keyed (kinds.Atomic op) key param
 
 -- the byte of the format, how many mutations there are in two bytes, and one mutation after the other
 unfoldable pub spelled : List Mutation → List ℕ

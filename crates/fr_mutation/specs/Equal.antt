@@ -2,28 +2,35 @@
 use Rattle.std.specs.Prelude.{◌≡◌, ℕ, Bool, true, false, ◌&&◌, List, [], ◌∷◌, refl}
 use Rattle.std.specs.Cmp.{IsEquivalence}
 use Rattle.std.specs.Cmp.Lexicographic.{pointwise}
-use Rattle.std.proofs.Common.{ap}
+use Rattle.std.proofs.Common.{ap, ◌∙◌}
 use Rattle.std.proofs.lemmas.Bool.{and_parts}
 use Rattle.std.proofs.lemmas.Slice.Eq.{bytes_eq-Decides}
 use Rattle.fr_base.specs.Bytes.{bytes_eq}
+use Rattle.fr_mutation.specs.declared.atomic.AtomicOp.{AtomicOp}
+use Rattle.fr_mutation.specs.declared.atomic.AtomicOp.TheVariants as ops
 use Rattle.fr_mutation.specs.declared.mutation.Mutation.{Mutation}
-use Rattle.fr_mutation.specs.declared.mutation.Mutation.TheVariants.{Set, Clear, Add, And, Or, Xor, Max, Min}
+use Rattle.fr_mutation.specs.declared.mutation.Mutation.TheVariants.{Set, Clear, Atomic}
 
 -- a test answers yes exactly where its arguments are the same
 pub record IsSameness {K : Type 0} (E : K → K → Bool) : Type 0 where
   pub itself : (x : K) → E x x ≡ true
   pub same : (x y : K) → E x y ≡ true → x ≡ y
 
+-- whether two atomic operations are one
+abbrev pub is_same_op : AtomicOp → AtomicOp → Bool
+is_same_op ops.Add ops.Add = true
+is_same_op ops.And ops.And = true
+is_same_op ops.Or ops.Or = true
+is_same_op ops.Xor ops.Xor = true
+is_same_op ops.Max ops.Max = true
+is_same_op ops.Min ops.Min = true
+is_same_op a b = false
+
 -- whether two mutations are of one kind and have the same keys and operands
 abbrev pub is_same_mutation : Mutation → Mutation → Bool
 is_same_mutation (Set k v) (Set l w) = bytes_eq k l && bytes_eq v w
 is_same_mutation (Clear b e) (Clear c f) = bytes_eq b c && bytes_eq e f
-is_same_mutation (Add k p) (Add l q) = bytes_eq k l && bytes_eq p q
-is_same_mutation (And k p) (And l q) = bytes_eq k l && bytes_eq p q
-is_same_mutation (Or k p) (Or l q) = bytes_eq k l && bytes_eq p q
-is_same_mutation (Xor k p) (Xor l q) = bytes_eq k l && bytes_eq p q
-is_same_mutation (Max k p) (Max l q) = bytes_eq k l && bytes_eq p q
-is_same_mutation (Min k p) (Min l q) = bytes_eq k l && bytes_eq p q
+is_same_mutation (Atomic o k p) (Atomic n l q) = is_same_op o n && (bytes_eq k l && bytes_eq p q)
 is_same_mutation a b = false
 
 -- whether two batches have the same mutations, one by one
@@ -67,6 +74,26 @@ bytes_eq-IsSameness = record {
   same = λ x y e. (bytes_eq-Decides x y).0 e;
 }
 
+pub is_same_op-IsSameness : IsSameness is_same_op
+is_same_op-IsSameness = record { itself = itself; same = same }
+  where
+    itself : (o : AtomicOp) → is_same_op o o ≡ true
+    itself ops.Add = refl
+    itself ops.And = refl
+    itself ops.Or = refl
+    itself ops.Xor = refl
+    itself ops.Max = refl
+    itself ops.Min = refl
+
+    same : (o n : AtomicOp) → is_same_op o n ≡ true → o ≡ n
+    same ops.Add ops.Add e = refl
+    same ops.And ops.And e = refl
+    same ops.Or ops.Or e = refl
+    same ops.Xor ops.Xor e = refl
+    same ops.Max ops.Max e = refl
+    same ops.Min ops.Min e = refl
+    same o n e = absurd (cc)
+
 both_itself : (k v : List ℕ) → (bytes_eq k k && bytes_eq v v) ≡ true
 both_itself k v = rw (bytes_eq-IsSameness.itself k) (bytes_eq-IsSameness.itself v)
 
@@ -83,22 +110,16 @@ is_same_mutation-IsSameness = record { itself = itself; same = same }
     itself : (a : Mutation) → is_same_mutation a a ≡ true
     itself (Set k v) = both_itself k v
     itself (Clear k v) = both_itself k v
-    itself (Add k v) = both_itself k v
-    itself (And k v) = both_itself k v
-    itself (Or k v) = both_itself k v
-    itself (Xor k v) = both_itself k v
-    itself (Max k v) = both_itself k v
-    itself (Min k v) = both_itself k v
+    itself (Atomic o k v) = rw (is_same_op-IsSameness.itself o) (both_itself k v)
 
     same : (a b : Mutation) → is_same_mutation a b ≡ true → a ≡ b
     same (Set k v) (Set l w) e = both_same k l v w (λ x y. Set x y) e
     same (Clear k v) (Clear l w) e = both_same k l v w (λ x y. Clear x y) e
-    same (Add k v) (Add l w) e = both_same k l v w (λ x y. Add x y) e
-    same (And k v) (And l w) e = both_same k l v w (λ x y. And x y) e
-    same (Or k v) (Or l w) e = both_same k l v w (λ x y. Or x y) e
-    same (Xor k v) (Xor l w) e = both_same k l v w (λ x y. Xor x y) e
-    same (Max k v) (Max l w) e = both_same k l v w (λ x y. Max x y) e
-    same (Min k v) (Min l w) e = both_same k l v w (λ x y. Min x y) e
+    same (Atomic o k v) (Atomic n l w) e =
+        let p = and_parts (is_same_op o n) (bytes_eq k l && bytes_eq v w) e in
+        let a = is_same_op-IsSameness.same o n p.0 in
+        let b = both_same k l v w (λ x y. Atomic o x y) p.1 in
+        b ∙ ap (λ i. Atomic i l w) a
     same a b e = absurd (cc)
 
 pub is_same_batch-IsSameness : IsSameness is_same_batch

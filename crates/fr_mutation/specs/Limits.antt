@@ -6,7 +6,7 @@ use Rattle.fr_base.specs.Bytes.{bytes_cmp}
 use Rattle.fr_mutation.specs.declared.fault.BatchFault.{BatchFault}
 use Rattle.fr_mutation.specs.declared.fault.BatchFault.TheVariants.{KeyTooLong, ValueTooLong, Inverted, TooMany}
 use Rattle.fr_mutation.specs.declared.mutation.Mutation.{Mutation}
-use Rattle.fr_mutation.specs.declared.mutation.Mutation.TheVariants.{Set, Clear, Add, And, Or, Xor, Max, Min}
+use Rattle.fr_mutation.specs.declared.mutation.Mutation.TheVariants.{Set, Clear, Atomic}
 
 -- a key has at most 10,000 bytes, a value or a parameter at most 100,000
 abbrev pub keyed_fault : List ℕ → List ℕ → Option BatchFault
@@ -21,12 +21,7 @@ clear_fault begin end =
 abbrev pub mutation_fault : Mutation → Option BatchFault
 mutation_fault (Set key value) = keyed_fault key value
 mutation_fault (Clear begin end) = clear_fault begin end
-mutation_fault (Add key param) = keyed_fault key param
-mutation_fault (And key param) = keyed_fault key param
-mutation_fault (Or key param) = keyed_fault key param
-mutation_fault (Xor key param) = keyed_fault key param
-mutation_fault (Max key param) = keyed_fault key param
-mutation_fault (Min key param) = keyed_fault key param
+mutation_fault (Atomic op key param) = keyed_fault key param
 
 -- the first fault of one mutation after the other
 abbrev pub first_fault : List Mutation → Option BatchFault

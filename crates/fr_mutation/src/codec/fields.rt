@@ -25,12 +25,7 @@ impl<'a> Fields<'a> {
         let (kind, first, second) = match mutation {
             Mutation::Set { key, value } => (Kind::Set, key, value),
             Mutation::Clear { begin, end } => (Kind::Clear, begin, end),
-            Mutation::Add { key, param } => (Kind::Add, key, param),
-            Mutation::And { key, param } => (Kind::And, key, param),
-            Mutation::Or { key, param } => (Kind::Or, key, param),
-            Mutation::Xor { key, param } => (Kind::Xor, key, param),
-            Mutation::Max { key, param } => (Kind::Max, key, param),
-            Mutation::Min { key, param } => (Kind::Min, key, param),
+            Mutation::Atomic { op, key, param } => (Kind::Atomic(*op), key, param),
         };
         Fields {
             kind,

@@ -1,7 +1,8 @@
 //! The kinds of mutation in the bytes of a batch.
 ghost use Rattle.std.specs.Prelude.{◌≡◌};
-ghost use Rattle.fr_mutation.specs.CodecKind.{kind_byte, kind_of, mutation_of};
+ghost use Rattle.fr_mutation.specs.CodecKind.{op_byte, kind_byte, kind_of, mutation_of};
 
+use crate::atomic::AtomicOp;
 use crate::mutation::Mutation;
 use fr_base::Bytes;
 
@@ -10,12 +11,7 @@ use fr_base::Bytes;
 pub(super) enum Kind {
     Set,
     Clear,
-    Add,
-    And,
-    Or,
-    Xor,
-    Max,
-    Min,
+    Atomic(AtomicOp),
 }
 
 impl Kind {
@@ -26,12 +22,7 @@ impl Kind {
         match self {
             Kind::Set => 1,
             Kind::Clear => 2,
-            Kind::Add => 3,
-            Kind::And => 4,
-            Kind::Or => 5,
-            Kind::Xor => 6,
-            Kind::Max => 7,
-            Kind::Min => 8,
+            Kind::Atomic(op) => op_byte(op),
         }
     }
 
@@ -42,12 +33,12 @@ impl Kind {
         match byte {
             1 => Some(Kind::Set),
             2 => Some(Kind::Clear),
-            3 => Some(Kind::Add),
-            4 => Some(Kind::And),
-            5 => Some(Kind::Or),
-            6 => Some(Kind::Xor),
-            7 => Some(Kind::Max),
-            8 => Some(Kind::Min),
+            3 => Some(Kind::Atomic(AtomicOp::Add)),
+            4 => Some(Kind::Atomic(AtomicOp::And)),
+            5 => Some(Kind::Atomic(AtomicOp::Or)),
+            6 => Some(Kind::Atomic(AtomicOp::Xor)),
+            7 => Some(Kind::Atomic(AtomicOp::Max)),
+            8 => Some(Kind::Atomic(AtomicOp::Min)),
             _ => None,
         }
     }
@@ -65,30 +56,25 @@ impl Kind {
                 begin: first,
                 end: second,
             },
-            Kind::Add => Mutation::Add {
-                key: first,
-                param: second,
-            },
-            Kind::And => Mutation::And {
-                key: first,
-                param: second,
-            },
-            Kind::Or => Mutation::Or {
-                key: first,
-                param: second,
-            },
-            Kind::Xor => Mutation::Xor {
-                key: first,
-                param: second,
-            },
-            Kind::Max => Mutation::Max {
-                key: first,
-                param: second,
-            },
-            Kind::Min => Mutation::Min {
+            Kind::Atomic(op) => Mutation::Atomic {
+                op,
                 key: first,
                 param: second,
             },
         }
+    }
+}
+
+/// The byte of an atomic operation.
+fn op_byte(op: AtomicOp) -> u8
+    ensures { result ≡ op_byte op }
+{
+    match op {
+        AtomicOp::Add => 3,
+        AtomicOp::And => 4,
+        AtomicOp::Or => 5,
+        AtomicOp::Xor => 6,
+        AtomicOp::Max => 7,
+        AtomicOp::Min => 8,
     }
 }

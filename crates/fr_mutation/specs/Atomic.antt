@@ -1,0 +1,33 @@
+-- The atomic operations: what each makes of an old value and a parameter, and its name.
+use Rattle.std.specs.Prelude.{ℕ, List, [], ◌∷◌, Option, unwrap_or, find, codes}
+use Rattle.std.specs.Option.{option_map_or}
+use Rattle.fr_base.specs.Bytes.{bytes_eq}
+use Rattle.fr_mutation.specs.Values.{sum_of, and_of, or_of, xor_of, greater_of, smaller_of}
+use Rattle.fr_mutation.specs.declared.atomic.AtomicOp.{AtomicOp}
+use Rattle.fr_mutation.specs.declared.atomic.AtomicOp.TheVariants as ops
+
+-- the value that a key takes, of its old value and the parameter
+abbrev pub atomic_value : AtomicOp → Option (List ℕ) → List ℕ → List ℕ
+atomic_value ops.Add old param = sum_of (unwrap_or old []) param
+atomic_value ops.And old param = option_map_or (λ value. and_of value param) old param
+atomic_value ops.Or old param = or_of (unwrap_or old []) param
+atomic_value ops.Xor old param = xor_of (unwrap_or old []) param
+atomic_value ops.Max old param = option_map_or (λ value. greater_of value param) old param
+atomic_value ops.Min old param = option_map_or (λ value. smaller_of value param) old param
+
+-- the name of each operation
+abbrev pub op_name : AtomicOp → List ℕ
+op_name ops.Add = codes "add"
+op_name ops.And = codes "and"
+op_name ops.Or = codes "or"
+op_name ops.Xor = codes "xor"
+op_name ops.Max = codes "max"
+op_name ops.Min = codes "min"
+
+-- every operation
+abbrev pub all_ops : List AtomicOp
+all_ops = ops.Add ∷ ops.And ∷ ops.Or ∷ ops.Xor ∷ ops.Max ∷ ops.Min ∷ []
+
+-- the operation that has this name
+abbrev pub op_named : List ℕ → Option AtomicOp
+op_named name = find (λ op. bytes_eq name (op_name op)) all_ops

@@ -1,0 +1,91 @@
+//! Operations that make the new value of a key of its old one and a parameter.
+ghost use Rattle.std.specs.Prelude.{◌≡◌, IfOk, unwrap_or, []};
+ghost use Rattle.std.specs.Option.{option_copied};
+ghost use Rattle.fr_mutation.specs.Atomic.{atomic_value, op_name, op_named};
+
+use crate::bitwise::Bitwise;
+use crate::number::{greater, smaller, sum};
+use fr_base::{Bytes, Memory};
+use std::alloc::Global;
+
+/// FoundationDB's atomic operations. Numbers are little-endian and unsigned; the old value is fitted to
+/// the parameter first, cut at its end or extended there with zero bytes.
+#[derive(Clone, Copy, Debug, PartialEq, Eq)]
+pub enum AtomicOp {
+    /// The sum of the value, 0 where there is none, and the parameter; a carry past the last byte is lost.
+    Add,
+    /// The bytewise and; the parameter where there is no value.
+    And,
+    /// The bytewise or; of zeros where there is no value.
+    Or,
+    /// The bytewise exclusive or; of zeros where there is no value.
+    Xor,
+    /// The greater number; the parameter where there is no value.
+    Max,
+    /// The smaller number; the parameter where there is no value.
+    Min,
+}
+
+impl AtomicOp {
+    /// The name of the operation, as scripts write it.
+    pub fn name(self) -> &'static str
+        ensures { result.now ≡ op_name self }
+    {
+        match self {
+            AtomicOp::Add => "add",
+            AtomicOp::And => "and",
+            AtomicOp::Or => "or",
+            AtomicOp::Xor => "xor",
+            AtomicOp::Max => "max",
+            AtomicOp::Min => "min",
+        }
+    }
+
+    /// The operation that has this name.
+    pub fn from_name(name: &str) -> Option<Self>
+        ensures { result ≡ op_named name.now }
+    {
+        match name {
+            "add" => Some(AtomicOp::Add),
+            "and" => Some(AtomicOp::And),
+            "or" => Some(AtomicOp::Or),
+            "xor" => Some(AtomicOp::Xor),
+            "max" => Some(AtomicOp::Max),
+            "min" => Some(AtomicOp::Min),
+            _ => None,
+        }
+    }
+
+    /// The value that a key takes, of its old value and the parameter.
+    pub(crate) fn value(
+        self,
+        alloc: Global,
+        old: Option<&Bytes>,
+        param: &Bytes,
+    ) -> Result<Bytes, Memory>
+        ensures { IfOk result (λ value. value ≡ atomic_value self (option_copied old.entry) param.now) }
+    {
+        let bytes = match (self, old) {
+            (AtomicOp::And | AtomicOp::Max | AtomicOp::Min, None) => return param.copy(),
+            (AtomicOp::Add, _) => sum(alloc, or_empty(old), param.as_slice())?,
+            (AtomicOp::Or, _) => Bitwise::Or.bytes(alloc, or_empty(old), param.as_slice())?,
+            (AtomicOp::Xor, _) => Bitwise::Xor.bytes(alloc, or_empty(old), param.as_slice())?,
+            (AtomicOp::And, Some(old)) => {
+                Bitwise::And.bytes(alloc, old.as_slice(), param.as_slice())?
+            }
+            (AtomicOp::Max, Some(old)) => greater(alloc, old.as_slice(), param.as_slice())?,
+            (AtomicOp::Min, Some(old)) => smaller(alloc, old.as_slice(), param.as_slice())?,
+        };
+        Ok(Bytes::from_vec(bytes))
+    }
+}
+
+/// The bytes of a value, and none where there is no value.
+fn or_empty(value: Option<&Bytes>) -> &[u8]
+    ensures { result.now ≡ unwrap_or (option_copied value.entry) [] }
+{
+    match value {
+        Some(value) => value.as_slice(),
+        None => &[],
+    }
+}
