@@ -1,3 +1,5 @@
 pub mod Bytes
 pub mod Map
 pub mod HighWater
+pub mod Same
+pub mod Node

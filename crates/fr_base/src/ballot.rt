@@ -1,5 +1,5 @@
 //! Numbers that order attempts at a recovery, and what a node did.
-ghost use Rattle.std.specs.Prelude.{◌≡◌, ◌<◌, ◌≤◌, ◌^◌, ◌⊎◌, ◌↔◌, IsSome, IfSome};
+ghost use Rattle.std.specs.Prelude.{◌≡◌, ◌≢◌, ◌<◌, ◌≤◌, ◌^◌, ◌⊎◌, ◌↔◌, IsSome, IfSome};
 
 use std::marker::Model;
 
@@ -12,13 +12,13 @@ pub struct Ballot {
 }
 
 impl Model for Ballot {
-    ghost use Rattle.std.specs.Prelude.{ℕ, ◌<◌, ◌^◌};
+    ghost use Rattle.std.specs.Prelude.{ℕ, ◌≢◌, ◌<◌, ◌≤◌, ◌^◌};
 
     ghost Value = { ℕ };
 
     ghost view = { λ b. b.number };
 
-    ghost invariant = { λ b. b.number < 2 ^ 48 };
+    ghost invariant = { λ b. (b.number < 2 ^ 48) × (b.number ≢ 0 → 256 ≤ b.number) };
 
     ghost inverse = { λ n. record { number = n } };
 }
@@ -43,8 +43,17 @@ impl Ballot {
     pub fn get(self) -> u64
         ensures value { result ≡ self }
         ensures within { result < 2 ^ 48 }
+        ensures above { result ≢ 0 → 256 ≤ result }
     {
         self.number
+    }
+
+    /// The epoch of what this ballot writes: there is one but for ballot 0, which writes nothing.
+    pub fn epoch(self) -> Option<Epoch>
+        ensures there { IsSome result ↔ (self ≢ 0) }
+        ensures value { IfSome result (λ e. e ≡ self) }
+    {
+        Epoch::new(self.number)
     }
 }
 
@@ -86,6 +95,15 @@ impl Epoch {
         ensures within { (256 ≤ result) × (result < 2 ^ 48) }
     {
         self.number
+    }
+
+    /// The ballot that wrote the generation.
+    pub fn ballot(self) -> Ballot
+        ensures { result ≡ self }
+    {
+        Ballot {
+            number: self.number,
+        }
     }
 }
 

@@ -1,7 +1,9 @@
 //! Names of shards and of nodes.
-ghost use Rattle.std.specs.Prelude.{◌≡◌, ◌<◌, ◌↔◌, IsSome, IfSome};
+ghost use Rattle.std.specs.Prelude.{◌≡◌, ◌<◌, ◌↔◌, IsSome, IfSome, IsTrue};
+ghost use Rattle.fr_base.specs.Node.{node_cmp, is_same_node, log_cmp, is_same_log};
 
 use crate::ballot::{Ballot, Epoch};
+use std::cmp::Ordering;
 use std::marker::Model;
 
 /// The number of a shard and of its one storage server, below 32.
@@ -51,6 +53,22 @@ pub struct LogId {
     pub index: u8,
 }
 
+impl LogId {
+    /// How two logs stand: by their generations, and in a generation by their indexes.
+    pub fn order(self, other: LogId) -> Ordering
+        ensures { result ≡ log_cmp self other }
+    {
+        self.cmp(&other)
+    }
+
+    /// Whether two logs are one.
+    pub fn is_same(self, other: LogId) -> bool
+        ensures { result ≡ is_same_log self other }
+    {
+        self == other
+    }
+}
+
 /// A node of the system. Nodes stand in the order of the variants, and then of the fields.
 #[derive(Clone, Copy, Debug, PartialEq, Eq, PartialOrd, Ord)]
 pub enum NodeId {
@@ -66,4 +84,21 @@ pub enum NodeId {
     Recoverer { ballot: Ballot },
     /// The storage server of a tag.
     Storage { tag: Tag },
+}
+
+impl NodeId {
+    /// How two nodes stand: cells, logs, sequencers, proxies, recoverers and storage servers, and nodes of a
+    /// kind by their fields.
+    pub fn order(self, other: NodeId) -> Ordering
+        ensures { result ≡ node_cmp self other }
+    {
+        self.cmp(&other)
+    }
+
+    /// Whether two nodes are one.
+    pub fn is_same(self, other: NodeId) -> bool
+        ensures { result ≡ is_same_node self other }
+    {
+        self == other
+    }
 }

@@ -3,13 +3,14 @@ use Rattle.std.specs.Prelude.{ℕ, List, codes, if◌then◌else◌, Option, Non
 use Rattle.serde_json.specs.Data.{Data}
 use Rattle.serde_json.specs.Find.{as_array}
 use Rattle.fr_base.specs.Bytes.{bytes_eq}
+use Rattle.fr_mutation.specs.Atomic.{op_named}
 use Rattle.fr_mutation.specs.declared.mutation.Mutation.{Mutation}
-use Rattle.fr_mutation.specs.declared.mutation.Mutation.TheVariants.{Set, Clear, Add, And, Or, Xor, Max, Min}
+use Rattle.fr_mutation.specs.declared.mutation.Mutation.TheVariants.{Set, Clear, Atomic}
 use Rattle.fr_cli.specs.declared.script.Operation.{Operation}
 use Rattle.fr_cli.specs.declared.script.Operation.TheVariants.{Apply, Undo, Forget, Advance}
 use Rattle.fr_cli.specs.Json.{data_of, only, one_member, version_of, pair_of, each_of}
 
--- the key and the parameter of a mutation that combines
+-- the key and the parameter of an atomic operation
 abbrev pub param_of : Data → Option (List ℕ × List ℕ)
 param_of fields = pair_of (codes "key") (codes "param") fields
 
@@ -18,13 +19,7 @@ abbrev pub mutation_named : List ℕ → Data → Option Mutation
 mutation_named name fields =
     if bytes_eq name (codes "set") then option_map (λ p. Set p.0 p.1) (pair_of (codes "key") (codes "value") fields)
     else if bytes_eq name (codes "clear") then option_map (λ p. Clear p.0 p.1) (pair_of (codes "begin") (codes "end") fields)
-    else if bytes_eq name (codes "add") then option_map (λ p. Add p.0 p.1) (param_of fields)
-    else if bytes_eq name (codes "and") then option_map (λ p. And p.0 p.1) (param_of fields)
-    else if bytes_eq name (codes "or") then option_map (λ p. Or p.0 p.1) (param_of fields)
-    else if bytes_eq name (codes "xor") then option_map (λ p. Xor p.0 p.1) (param_of fields)
-    else if bytes_eq name (codes "max") then option_map (λ p. Max p.0 p.1) (param_of fields)
-    else if bytes_eq name (codes "min") then option_map (λ p. Min p.0 p.1) (param_of fields)
-    else None
+    else option_and_then (λ op. option_map (λ p. Atomic op p.0 p.1) (param_of fields)) (op_named name)
 
 -- an object of one member, which names the mutation
 abbrev pub mutation_of : Data → Option Mutation

@@ -17,7 +17,7 @@ use Rattle.fr_base.proofs.MapLemmas.{one_key}
 use Rattle.fr_mutation.specs.Mutation.{key_of, touches, is_between}
 use Rattle.fr_mutation.specs.Shard.{in_shard}
 use Rattle.fr_mutation.specs.declared.mutation.Mutation.{Mutation}
-use Rattle.fr_mutation.specs.declared.mutation.Mutation.TheVariants.{Set, Clear, Add, And, Or, Xor, Max, Min}
+use Rattle.fr_mutation.specs.declared.mutation.Mutation.TheVariants.{Set, Clear, Atomic}
 use Rattle.fr_mutation.specs.declared.shard.Shard.{Shard}
 use Rattle.fr_tags.specs.Shards.{shard_at, begun, tag_of, meets_range, meets, tags_of}
 use Rattle.fr_tags.specs.ShardLaw.{EachKeyIsInOneShard, TagsAreOfTouchedKeys, TagsRise}
@@ -110,12 +110,7 @@ meets-clear begin end s = is_some-then_some (meets_range begin end s) (Clear (la
 by_key : (P : Mutation → Type 0) → ((begin end : List ℕ) → P (Clear begin end)) → ((mutation : Mutation) (key : List ℕ) → key_of mutation ≡ Some key → P mutation) → (mutation : Mutation) → P mutation
 by_key P c k (Set key value) = k (Set key value) key refl
 by_key P c k (Clear begin end) = c begin end
-by_key P c k (Add key param) = k (Add key param) key refl
-by_key P c k (And key param) = k (And key param) key refl
-by_key P c k (Or key param) = k (Or key param) key refl
-by_key P c k (Xor key param) = k (Xor key param) key refl
-by_key P c k (Max key param) = k (Max key param) key refl
-by_key P c k (Min key param) = k (Min key param) key refl
+by_key P c k (Atomic op key param) = k (Atomic op key param) key refl
 
 -- a mutation that acts on a key of a shard meets the shard
 pub meets-from : (mutation : Mutation) (s : Shard) (key : List ℕ) → in_shard s key ≡ true → touches mutation key ≡ true → meets mutation s ≡ true

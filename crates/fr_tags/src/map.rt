@@ -127,13 +127,9 @@ impl ShardMap {
     {
         match mutation {
             Mutation::Clear { begin, end } => shards_between(self.begins(), begin, end),
-            Mutation::Set { key, .. }
-            | Mutation::Add { key, .. }
-            | Mutation::And { key, .. }
-            | Mutation::Or { key, .. }
-            | Mutation::Xor { key, .. }
-            | Mutation::Max { key, .. }
-            | Mutation::Min { key, .. } => shard_with(self.begins(), key),
+            Mutation::Set { key, .. } | Mutation::Atomic { key, .. } => {
+                shard_with(self.begins(), key)
+            }
         }
     }
 }

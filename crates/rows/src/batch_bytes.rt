@@ -1,5 +1,5 @@
 //! Worked rows of the bytes of batches.
-use fr_mutation::{DecodeFault, Mutation, decode, encode};
+use fr_mutation::{AtomicOp, DecodeFault, Mutation, decode, encode};
 use std::test::*;
 
 /// No mutation.
@@ -12,6 +12,18 @@ const SET: [u8; 12] = [
 
 /// Clear `a` up to `c`.
 const CLEAR: [u8; 10] = [0x01, 0x00, 0x01, 0x02, 0x00, 0x01, 0x61, 0x00, 0x01, 0x63];
+
+/// The operation of a kind's byte from 03 to 08.
+fn operation(kind: u8) -> AtomicOp {
+    match kind {
+        3 => AtomicOp::Add,
+        4 => AtomicOp::And,
+        5 => AtomicOp::Or,
+        6 => AtomicOp::Xor,
+        7 => AtomicOp::Max,
+        _ => AtomicOp::Min,
+    }
+}
 
 #[test]
 fn worked_batches(rt: HostRuntime) -> Result<(), Fail> {
@@ -26,12 +38,7 @@ fn worked_batches(rt: HostRuntime) -> Result<(), Fail> {
         let (batch, used) = decode(rt.alloc(), &bytes)?;
         let (key, operand) = match (kind, batch.mutations()) {
             (1, [Mutation::Set { key, value }]) => (key, value),
-            (3, [Mutation::Add { key, param }]) => (key, param),
-            (4, [Mutation::And { key, param }]) => (key, param),
-            (5, [Mutation::Or { key, param }]) => (key, param),
-            (6, [Mutation::Xor { key, param }]) => (key, param),
-            (7, [Mutation::Max { key, param }]) => (key, param),
-            (8, [Mutation::Min { key, param }]) => (key, param),
+            (_, [Mutation::Atomic { op, key, param }]) if *op == operation(kind) => (key, param),
             _ => return Err("another mutation".into()),
         };
         assert_eq!(rt; key.as_slice(), b"a".as_slice());

@@ -1,7 +1,7 @@
 //! Worked cases of the rules of mutations, on a map that a reader can follow by hand.
 use fr_base::{Bytes, Memory};
 use fr_mutation::{
-    Batch, BatchFault, MAX_KEY, MAX_MUTATIONS, MAX_VALUE, Mutation, Shard, apply, clip,
+    AtomicOp, Batch, BatchFault, MAX_KEY, MAX_MUTATIONS, MAX_VALUE, Mutation, Shard, apply, clip,
 };
 use std::alloc::Global;
 use std::collections::BTreeMap;
@@ -11,12 +11,7 @@ use std::test::Fail;
 #[derive(Clone, Copy)]
 enum Kind {
     Set,
-    Add,
-    And,
-    Or,
-    Xor,
-    Max,
-    Min,
+    Atomic(AtomicOp),
 }
 
 fn keyed(alloc: Global, kind: Kind, key: &[u8], param: &[u8]) -> Result<Mutation, Memory> {
@@ -24,12 +19,7 @@ fn keyed(alloc: Global, kind: Kind, key: &[u8], param: &[u8]) -> Result<Mutation
     let param = Bytes::from_slice(alloc, param)?;
     Ok(match kind {
         Kind::Set => Mutation::Set { key, value: param },
-        Kind::Add => Mutation::Add { key, param },
-        Kind::And => Mutation::And { key, param },
-        Kind::Or => Mutation::Or { key, param },
-        Kind::Xor => Mutation::Xor { key, param },
-        Kind::Max => Mutation::Max { key, param },
-        Kind::Min => Mutation::Min { key, param },
+        Kind::Atomic(op) => Mutation::Atomic { op, key, param },
     })
 }
 
@@ -57,12 +47,12 @@ fn mutations_act_in_turn(rt: HostRuntime) -> Result<(), Fail> {
     )?;
     apply(alloc, &mut rows, &first)?;
     let second: [(Kind, &[u8], &[u8]); 6] = [
-        (Kind::Add, b"a", &[2]),
-        (Kind::Add, b"b", &[0, 1]),
-        (Kind::And, b"c", &[0x0f]),
-        (Kind::Or, b"d", &[0x0f]),
-        (Kind::Max, b"a", &[0, 1]),
-        (Kind::Min, b"b", &[0, 2]),
+        (Kind::Atomic(AtomicOp::Add), b"a", &[2]),
+        (Kind::Atomic(AtomicOp::Add), b"b", &[0, 1]),
+        (Kind::Atomic(AtomicOp::And), b"c", &[0x0f]),
+        (Kind::Atomic(AtomicOp::Or), b"d", &[0x0f]),
+        (Kind::Atomic(AtomicOp::Max), b"a", &[0, 1]),
+        (Kind::Atomic(AtomicOp::Min), b"b", &[0, 2]),
     ];
     apply(
         alloc,
@@ -91,15 +81,15 @@ fn mutations_act_in_turn(rt: HostRuntime) -> Result<(), Fail> {
 fn old_values_are_fitted(rt: HostRuntime) -> Result<(), Fail> {
     let alloc = rt.alloc();
     let cases: [(Kind, &[u8], &[u8], &[u8]); 9] = [
-        (Kind::Add, &[1, 2, 3], &[5], &[6]),
-        (Kind::Add, &[0xff, 0xff], &[1, 0], &[0, 0]),
-        (Kind::Add, &[7], &[], &[]),
-        (Kind::And, &[0x3c], &[0xff, 0xff], &[0x3c, 0]),
-        (Kind::Or, &[0x80], &[1, 1], &[0x81, 1]),
-        (Kind::Xor, &[0x0f, 0xf0], &[0xff], &[0xf0]),
-        (Kind::Max, &[5], &[1, 0], &[5, 0]),
-        (Kind::Max, &[3, 9], &[4], &[4]),
-        (Kind::Min, &[1, 0, 9], &[2, 0], &[1, 0]),
+        (Kind::Atomic(AtomicOp::Add), &[1, 2, 3], &[5], &[6]),
+        (Kind::Atomic(AtomicOp::Add), &[0xff, 0xff], &[1, 0], &[0, 0]),
+        (Kind::Atomic(AtomicOp::Add), &[7], &[], &[]),
+        (Kind::Atomic(AtomicOp::And), &[0x3c], &[0xff, 0xff], &[0x3c, 0]),
+        (Kind::Atomic(AtomicOp::Or), &[0x80], &[1, 1], &[0x81, 1]),
+        (Kind::Atomic(AtomicOp::Xor), &[0x0f, 0xf0], &[0xff], &[0xf0]),
+        (Kind::Atomic(AtomicOp::Max), &[5], &[1, 0], &[5, 0]),
+        (Kind::Atomic(AtomicOp::Max), &[3, 9], &[4], &[4]),
+        (Kind::Atomic(AtomicOp::Min), &[1, 0, 9], &[2, 0], &[1, 0]),
     ];
     for (kind, old, param, wanted) in cases {
         let mut rows = BTreeMap::new(alloc);

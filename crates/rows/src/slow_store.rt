@@ -1,5 +1,5 @@
 //! A store by the letter of the rules, on lists: slow, and easy to believe.
-use fr_mutation::{Batch, Mutation};
+use fr_mutation::{AtomicOp, Batch, Mutation};
 use fr_undo::StoreFault;
 use std::alloc::{AllocError, Global};
 
@@ -53,38 +53,33 @@ fn is_above(a: &[u8], b: &[u8]) -> bool {
 }
 
 /// Both values byte by byte.
-fn each(alloc: Global, a: &[u8], b: &[u8], kind: &Mutation) -> Result<Vec<u8>, AllocError> {
+fn each(alloc: Global, a: &[u8], b: &[u8], op: AtomicOp) -> Result<Vec<u8>, AllocError> {
     let mut bytes = Vec::new(alloc);
     for (x, y) in a.iter().zip(b) {
-        bytes.push(match kind {
-            Mutation::And { .. } => *x & *y,
-            Mutation::Or { .. } => *x | *y,
+        bytes.push(match op {
+            AtomicOp::And => *x & *y,
+            AtomicOp::Or => *x | *y,
             _ => *x ^ *y,
         })?;
     }
     Ok(bytes)
 }
 
-/// The value that a key takes by a mutation with a parameter, of its value before.
+/// The value that a key takes by an operation with a parameter, of its value before.
 fn taken(
     alloc: Global,
-    mutation: &Mutation,
+    op: AtomicOp,
     old: Option<&[u8]>,
     param: &[u8],
 ) -> Result<Vec<u8>, AllocError> {
     let present = old.is_some();
     let fitted = fit(alloc, old.unwrap_or(&[]), param.len())?;
-    match mutation {
-        Mutation::Add { .. } => sum(alloc, fitted.as_slice(), param),
-        Mutation::Or { .. } | Mutation::Xor { .. } => each(
-            alloc,
-            fitted.as_slice(),
-            param,
-            mutation,
-        ),
-        Mutation::And { .. } if present => each(alloc, fitted.as_slice(), param, mutation),
-        Mutation::Max { .. } if present && is_above(fitted.as_slice(), param) => Ok(fitted),
-        Mutation::Min { .. } if present && is_above(param, fitted.as_slice()) => Ok(fitted),
+    match op {
+        AtomicOp::Add => sum(alloc, fitted.as_slice(), param),
+        AtomicOp::Or | AtomicOp::Xor => each(alloc, fitted.as_slice(), param, op),
+        AtomicOp::And if present => each(alloc, fitted.as_slice(), param, op),
+        AtomicOp::Max if present && is_above(fitted.as_slice(), param) => Ok(fitted),
+        AtomicOp::Min if present && is_above(param, fitted.as_slice()) => Ok(fitted),
         _ => param.to_vec(alloc),
     }
 }
@@ -127,27 +122,19 @@ fn act(
     data: &mut Vec<(Vec<u8>, Vec<u8>)>,
     mutation: &Mutation,
 ) -> Result<(), AllocError> {
-    let (key, param) = match mutation {
+    let (key, value) = match mutation {
         Mutation::Clear { begin, end } => {
             data.retain(|entry| {
                 entry.0.as_slice() < begin.as_slice() || end.as_slice() <= entry.0.as_slice()
             });
             return Ok(());
         }
-        Mutation::Set { key, value } => (key, value),
-        Mutation::Add { key, param }
-        | Mutation::And { key, param }
-        | Mutation::Or { key, param }
-        | Mutation::Xor { key, param }
-        | Mutation::Max { key, param }
-        | Mutation::Min { key, param } => (key, param),
+        Mutation::Set { key, value } => (key, value.as_slice().to_vec(alloc)?),
+        Mutation::Atomic { op, key, param } => {
+            let old = find(data.as_slice(), key.as_slice());
+            (key, taken(alloc, *op, old, param.as_slice())?)
+        }
     };
-    let value = taken(
-        alloc,
-        mutation,
-        find(data.as_slice(), key.as_slice()),
-        param.as_slice(),
-    )?;
     put(alloc, data, key.as_slice(), Some(value))
 }
 

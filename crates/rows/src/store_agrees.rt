@@ -1,7 +1,7 @@
 //! The same few hundred seeded calls at `MapStore` and at a slow store give the same answers and states.
 use crate::slow_store::SlowStore;
 use fr_base::{Bytes, Memory, Version};
-use fr_mutation::{Batch, Mutation};
+use fr_mutation::{AtomicOp, Batch, Mutation};
 use fr_undo::{MapStore, ShardStore, StoreFault};
 use rand_core::Rng;
 use rand_pcg::Pcg32;
@@ -27,16 +27,20 @@ fn key(alloc: Global, rng: &mut Pcg32) -> Result<Bytes, Memory> {
     Ok(Bytes::from_vec(bytes))
 }
 
+fn atomic(op: AtomicOp, key: Bytes, param: Bytes) -> Mutation {
+    Mutation::Atomic { op, key, param }
+}
+
 fn mutation(alloc: Global, rng: &mut Pcg32) -> Result<Mutation, Memory> {
     let key = key(alloc, rng)?;
     let param = word(alloc, rng)?;
     Ok(match rng.next_u32() % 9 {
-        0 => Mutation::Add { key, param },
-        1 => Mutation::And { key, param },
-        2 => Mutation::Or { key, param },
-        3 => Mutation::Xor { key, param },
-        4 => Mutation::Max { key, param },
-        5 => Mutation::Min { key, param },
+        0 => atomic(AtomicOp::Add, key, param),
+        1 => atomic(AtomicOp::And, key, param),
+        2 => atomic(AtomicOp::Or, key, param),
+        3 => atomic(AtomicOp::Xor, key, param),
+        4 => atomic(AtomicOp::Max, key, param),
+        5 => atomic(AtomicOp::Min, key, param),
         6 => {
             let other = self::key(alloc, rng)?;
             if key <= other {
