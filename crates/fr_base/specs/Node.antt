@@ -1,5 +1,5 @@
 -- Nodes and logs, each as a list of numbers: when two are the same, and which stands before which.
-use Rattle.std.specs.Prelude.{◌≡◌, ℕ, Bool, true, List, [], ◌∷◌, refl}
+use Rattle.std.specs.Prelude.{◌≡◌, ℕ, Bool, List, [], ◌∷◌}
 use Rattle.std.specs.declared.cmp.Ordering.{Ordering}
 use Rattle.std.proofs.Common.{ap, ◌∙◌}
 use Rattle.fr_base.specs.Bytes.{bytes_cmp, bytes_eq}

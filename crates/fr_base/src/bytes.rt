@@ -12,7 +12,7 @@ use std::cmp::Ordering;
 use std::marker::Model;
 
 /// A byte string that owns its bytes.
-#[derive(Debug, Drop)]
+#[derive(Clone, Debug, Drop)]
 pub struct Bytes {
     content: Vec<u8>,
 }
@@ -76,9 +76,7 @@ impl Bytes {
     pub fn copy(&self) -> Result<Self, Memory>
         ensures { IfOk result (λ b. b ≡ self.now) }
     {
-        Ok(Bytes {
-            content: self.content.clone()?,
-        })
+        Ok(self.clone()?)
     }
 }
 

@@ -1,5 +1,5 @@
 //! The number of a commit, and how far one commit is above the last.
-ghost use Rattle.std.specs.Prelude.{◌≡◌, ◌<◌, ◌≤◌, ◌^◌, ◌↔◌, IsSome, IfSome};
+ghost use Rattle.std.specs.Prelude.{◌≡◌, ◌+◌, ◌<◌, ◌≤◌, ◌^◌, ◌↔◌, IsSome, IfSome};
 
 use std::marker::Model;
 
@@ -44,6 +44,28 @@ impl Version {
     {
         self.number
     }
+
+    /// The version one below, of each but version 0.
+    pub fn before(self) -> Option<Self>
+        ensures there { IsSome result ↔ (1 ≤ self) }
+        ensures value { IfSome result (λ v. v + 1 ≡ self) }
+    {
+        if self.number == 0 {
+            None
+        } else {
+            Some(Version {
+                number: self.number - 1,
+            })
+        }
+    }
+
+    /// The version one above, of each but the greatest.
+    pub fn after(self) -> Option<Self>
+        ensures there { IsSome result ↔ (self + 1 < 2 ^ 62) }
+        ensures value { IfSome result (λ v. v ≡ self + 1) }
+    {
+        Version::new(self.number + 1)
+    }
 }
 
 /// How far a sequencer moves from one commit version to the next: 1 to 1,000,000.
@@ -72,6 +94,18 @@ impl Step {
     {
         if number >= 1 && number <= 1_000_000 {
             Some(Step { number })
+        } else {
+            None
+        }
+    }
+
+    /// The step from one version to another, where the second is 1 to 1,000,000 above the first.
+    pub fn between(from: Version, to: Version) -> Option<Self>
+        ensures within { IsSome result ↔ ((from < to) × (to ≤ from + 1000000)) }
+        ensures value { IfSome result (λ s. from + s ≡ to) }
+    {
+        if from < to {
+            Step::new(to.number - from.number)
         } else {
             None
         }
