@@ -3,7 +3,7 @@ use Rattle.std.specs.Prelude.{◌≡◌, ℕ, ◌+◌, ◌≤◌, Bool, true, na
 use Rattle.std.specs.List.{list_all}
 use Rattle.std.specs.Cmp.Lexicographic.{pointwise}
 use Rattle.std.proofs.lemmas.Bool.{and_parts, eq-eqb, eqb-true}
-use Rattle.fr_mutation.specs.Equal.{IsSameness, pointwise-IsSameness}
+use Rattle.fr_base.specs.Same.{IsSameness, pointwise-IsSameness}
 use Rattle.fr_log.specs.Fields.{five}
 use Rattle.fr_log.specs.declared.records.PeekedRecord.{PeekedRecord}
 use Rattle.fr_log.specs.Records.{is_same_peeked_record, is_same_peeked_record-IsSameness}

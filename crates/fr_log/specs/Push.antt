@@ -2,7 +2,7 @@
 use Rattle.std.specs.Prelude.{◌≡◌, ℕ, ◌+◌, ◌<◌, ◌≤◌, Bool, true, false, nat_le, ◌==◌, ◌&&◌, List, [], ◌∷◌, Option, None, Some, IsTrue, IsSome, refl}
 use Rattle.std.specs.Cmp.Lexicographic.{pointwise}
 use Rattle.std.proofs.lemmas.Bool.{and_parts, eq-eqb, eqb-true}
-use Rattle.fr_mutation.specs.Equal.{IsSameness, pointwise-IsSameness}
+use Rattle.fr_base.specs.Same.{IsSameness, pointwise-IsSameness}
 use Rattle.fr_state.specs.Generations.{CoordinatedState}
 use Rattle.fr_state.specs.Same.{is_same_state}
 use Rattle.fr_log.specs.Fields.{six}

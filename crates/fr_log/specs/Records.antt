@@ -1,7 +1,8 @@
 -- When the parts of seeds, pushes and peeks are the same.
 use Rattle.std.specs.Prelude.{◌≡◌, Bool, true, ◌==◌, ◌&&◌, refl}
 use Rattle.std.proofs.lemmas.Bool.{and_parts, eq-eqb, eqb-true}
-use Rattle.fr_mutation.specs.Equal.{IsSameness, is_same_batch, is_same_batch-IsSameness}
+use Rattle.fr_base.specs.Same.{IsSameness}
+use Rattle.fr_mutation.specs.Equal.{is_same_batch, is_same_batch-IsSameness}
 use Rattle.fr_log.specs.Fields.{two, three}
 use Rattle.fr_log.specs.declared.records.Body.{Body}
 use Rattle.fr_log.specs.declared.records.SeedRecord.{SeedRecord}

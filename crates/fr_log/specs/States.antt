@@ -1,7 +1,7 @@
 -- That states for which `==` answers yes are the same.
 use Rattle.std.specs.Prelude.{◌≡◌, true, slice_index}
 use Rattle.std.proofs.Common.{ap}
-use Rattle.fr_mutation.specs.Equal.{IsSameness, pointwise-IsSameness, bytes_eq-IsSameness}
+use Rattle.fr_base.specs.Same.{IsSameness, pointwise-IsSameness, bytes_eq-IsSameness}
 use Rattle.fr_log.specs.Fields.{five}
 use Rattle.fr_state.specs.Generations.{LogGeneration}
 use Rattle.fr_state.specs.Same.{numbers_of, is_same_generation, is_same_state}

@@ -2,7 +2,7 @@
 ghost use Rattle.std.specs.Prelude.{◌≡◌, ◌↔◌, nat_le, ◌&&◌, IsSome, IfSome, IfOk};
 ghost use Rattle.std.specs.List.{list_all};
 ghost use Rattle.std.specs.Cmp.{partial_equiv_from_equiv};
-ghost use Rattle.fr_mutation.specs.Equal.{IsSameness-equivalence};
+ghost use Rattle.fr_base.specs.Same.{IsSameness-equivalence};
 ghost use Rattle.fr_log.specs.Seed.{IsSeed, is_within, is_rising_from, is_same_seed, is_same_seed-IsSameness};
 
 use crate::records::SeedRecord;

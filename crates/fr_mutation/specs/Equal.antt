@@ -1,20 +1,14 @@
 -- What `==` answers of two mutations and of two batches: whether they are the same.
 use Rattle.std.specs.Prelude.{◌≡◌, ℕ, Bool, true, false, ◌&&◌, List, [], ◌∷◌, refl}
-use Rattle.std.specs.Cmp.{IsEquivalence}
 use Rattle.std.specs.Cmp.Lexicographic.{pointwise}
 use Rattle.std.proofs.Common.{ap, ◌∙◌}
 use Rattle.std.proofs.lemmas.Bool.{and_parts}
-use Rattle.std.proofs.lemmas.Slice.Eq.{bytes_eq-Decides}
 use Rattle.fr_base.specs.Bytes.{bytes_eq}
+use Rattle.fr_base.specs.Same.{IsSameness, pointwise-IsSameness, bytes_eq-IsSameness}
 use Rattle.fr_mutation.specs.declared.atomic.AtomicOp.{AtomicOp}
 use Rattle.fr_mutation.specs.declared.atomic.AtomicOp.TheVariants as ops
 use Rattle.fr_mutation.specs.declared.mutation.Mutation.{Mutation}
 use Rattle.fr_mutation.specs.declared.mutation.Mutation.TheVariants.{Set, Clear, Atomic}
-
--- a test answers yes exactly where its arguments are the same
-pub record IsSameness {K : Type 0} (E : K → K → Bool) : Type 0 where
-  pub itself : (x : K) → E x x ≡ true
-  pub same : (x y : K) → E x y ≡ true → x ≡ y
 
 -- whether two atomic operations are one
 abbrev pub is_same_op : AtomicOp → AtomicOp → Bool
@@ -36,43 +30,6 @@ is_same_mutation a b = false
 -- whether two batches have the same mutations, one by one
 abbrev pub is_same_batch : List Mutation → List Mutation → Bool
 is_same_batch = pointwise is_same_mutation
-
--- a test of sameness has the laws of `==`
-pub IsSameness-equivalence : {K : Type 0} {E : K → K → Bool} → IsSameness E → IsEquivalence E
-IsSameness-equivalence {K} {E} h = record {
-  refl = h.itself;
-  symm = λ x y. back x y (E x y) (E y x) refl refl;
-  congr = λ x y z e. ap (λ w. E w z) (h.same x y e);
-}
-  where
-    back : (x y : K) (s t : Bool) → E x y ≡ s → E y x ≡ t → E x y ≡ E y x
-    back x y true true e d = cc
-    back x y false false e d = cc
-    back x y true false e d = let k = h.same x y e in let r = h.itself x in cc
-    back x y false true e d = let k = h.same y x d in let r = h.itself x in cc
-
-pub pointwise-IsSameness : {K : Type 0} {E : K → K → Bool} → IsSameness E → IsSameness (pointwise E)
-pointwise-IsSameness {K} {E} h = record { itself = itself; same = same }
-  where
-    itself : (xs : List K) → pointwise E xs xs ≡ true
-    itself [] = refl
-    itself (x ∷ xs) = rw (h.itself x) (itself xs)
-
-    same : (xs ys : List K) → pointwise E xs ys ≡ true → xs ≡ ys
-    same [] [] e = refl
-    same [] (y ∷ ys) e = absurd (cc)
-    same (x ∷ xs) [] e = absurd (cc)
-    same (x ∷ xs) (y ∷ ys) e =
-        let p = and_parts (E x y) (pointwise E xs ys) e in
-        let a = h.same x y p.0 in
-        let b = same xs ys p.1 in
-        cc
-
-pub bytes_eq-IsSameness : IsSameness bytes_eq
-bytes_eq-IsSameness = record {
-  itself = λ x. (bytes_eq-Decides x x).1 refl;
-  same = λ x y e. (bytes_eq-Decides x y).0 e;
-}
 
 pub is_same_op-IsSameness : IsSameness is_same_op
 is_same_op-IsSameness = record { itself = itself; same = same }

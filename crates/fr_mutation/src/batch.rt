@@ -5,7 +5,6 @@ ghost use Rattle.fr_mutation.specs.Limits.{batch_fault};
 use crate::fault::BatchFault;
 use crate::mutation::Mutation;
 use fr_base::Memory;
-use std::alloc::Global;
 use std::marker::Model;
 
 /// The most mutations of a batch.
@@ -13,7 +12,7 @@ pub const MAX_MUTATIONS: usize = 1_000;
 
 /// 0 to 1,000 mutations within their limits, which act from first to last: what one commit changes.
 /// Contracts see it as the list of them.
-#[derive(Debug, Drop)]
+#[derive(Clone, Debug, Drop)]
 pub struct Batch {
     mutations: Vec<Mutation>,
 }
@@ -60,14 +59,10 @@ impl Batch {
     }
 
     /// An equal batch.
-    pub fn copy(&self, alloc: Global) -> Result<Self, Memory>
+    pub fn copy(&self) -> Result<Self, Memory>
         ensures { IfOk result (λ copy. copy ≡ self.now) }
     {
-        let mut mutations = Vec::with_capacity(alloc, self.mutations.len())?;
-        for mutation in self.mutations.as_slice() {
-            mutations.push(mutation.copy()?)?;
-        }
-        Ok(Batch { mutations })
+        Ok(self.clone()?)
     }
 }
 

@@ -1,6 +1,7 @@
 //! Equality of batches.
 ghost use Rattle.std.specs.Cmp.{partial_equiv_from_equiv};
-ghost use Rattle.fr_mutation.specs.Equal.{is_same_batch, is_same_batch-IsSameness, IsSameness-equivalence};
+ghost use Rattle.fr_base.specs.Same.{IsSameness-equivalence};
+ghost use Rattle.fr_mutation.specs.Equal.{is_same_batch, is_same_batch-IsSameness};
 
 use crate::batch::Batch;
 

@@ -11,7 +11,7 @@ use std::alloc::Global;
 
 /// The keys from `begin` up to, but not including, `end`, or all from `begin` on where there is no end.
 /// Whoever makes one keeps each end within 10,000 bytes.
-#[derive(Debug, Drop)]
+#[derive(Clone, Debug, Drop)]
 pub struct Shard {
     pub begin: Bytes,
     pub end: Option<Bytes>,
@@ -33,13 +33,7 @@ impl Shard {
     pub fn copy(&self) -> Result<Self, Memory>
         ensures { IfOk result (λ copy. copy ≡ self.now) }
     {
-        Ok(Shard {
-            begin: self.begin.copy()?,
-            end: match &self.end {
-                Some(end) => Some(end.copy()?),
-                None => None,
-            },
-        })
+        Ok(self.clone()?)
     }
 }
 
