@@ -8,8 +8,9 @@ use Rattle.std.proofs.lemmas.List.FromFn.{filter_of_map_range_with_len_more, map
 use Rattle.fr_mutation.specs.declared.mutation.Mutation.{Mutation}
 use Rattle.fr_mutation.specs.declared.shard.Shard.{Shard}
 use Rattle.fr_mutation.specs.Clip.{clip_one, clipped}
+use Rattle.fr_tags.specs.declared.body.Body.{Body}
 use Rattle.fr_tags.specs.Shards.{shard_at, meets}
-use Rattle.fr_tags.specs.Split.{body_of, is_filled}
+use Rattle.fr_tags.specs.Split.{body_of, is_filled_body}
 
 -- no place of a list without a mark is marked
 pub none_marked : (marks : List Bool) (t : ℕ) → list_all not marks ≡ true → get_or marks t false ≡ false
@@ -30,26 +31,26 @@ filled_where_met (mutation ∷ mutations) s =
 
 -- the bodies of one tag more
 bodies_more : (begins : List (List ℕ)) (batch : List Mutation) (n : ℕ) (filled : Bool) → list_any (λ mutation. meets mutation (shard_at begins n)) batch ≡ filled
-    → filter is_filled (map (body_of begins batch) (range_with_len 0 (n + 1))) ≡ filter is_filled (map (body_of begins batch) (range_with_len 0 n)) ++ cond filled (body_of begins batch n ∷ []) []
+    → filter is_filled_body (map (body_of begins batch) (range_with_len 0 (n + 1))) ≡ filter is_filled_body (map (body_of begins batch) (range_with_len 0 n)) ++ cond filled (body_of begins batch n ∷ []) []
 bodies_more begins batch n filled e =
-    filter_of_map_range_with_len_more is_filled (body_of begins batch) 0 n n (omega arith)
-    ∙ ap (λ b. filter is_filled (map (body_of begins batch) (range_with_len 0 n)) ++ cond b (body_of begins batch n ∷ []) []) (filled_where_met batch (shard_at begins n) ∙ e)
+    filter_of_map_range_with_len_more is_filled_body (body_of begins batch) 0 n n (omega arith)
+    ∙ ap (λ b. filter is_filled_body (map (body_of begins batch) (range_with_len 0 n)) ++ cond b (body_of begins batch n ∷ []) []) (filled_where_met batch (shard_at begins n) ∙ e)
 
-pub body_pushed : (begins : List (List ℕ)) (batch : List Mutation) (n number : ℕ) (body : List Mutation) (items more : List (ℕ × List Mutation))
-    → items ≡ filter is_filled (map (body_of begins batch) (range_with_len 0 n))
+pub body_pushed : (begins : List (List ℕ)) (batch : List Mutation) (n number : ℕ) (body : List Mutation) (items more : List Body)
+    → items ≡ filter is_filled_body (map (body_of begins batch) (range_with_len 0 n))
     → list_any (λ mutation. meets mutation (shard_at begins n)) batch ≡ true
-    → number ≡ n → body ≡ clipped batch (shard_at begins n) → more ≡ items ++ (number, body) ∷ []
-    → more ≡ filter is_filled (map (body_of begins batch) (range_with_len 0 (n + 1)))
+    → number ≡ n → body ≡ clipped batch (shard_at begins n) → more ≡ items ++ record { tag = number; batch = body } ∷ []
+    → more ≡ filter is_filled_body (map (body_of begins batch) (range_with_len 0 (n + 1)))
 body_pushed begins batch n number body items more e met same clip p =
-    p ∙ ap (λ t. items ++ (t, body) ∷ []) same ∙ ap (λ b. items ++ (n, b) ∷ []) clip ∙ ap (λ xs. xs ++ body_of begins batch n ∷ []) e
+    p ∙ ap (λ t. items ++ record { tag = t; batch = body } ∷ []) same ∙ ap (λ b. items ++ record { tag = n; batch = b } ∷ []) clip ∙ ap (λ xs. xs ++ body_of begins batch n ∷ []) e
     ∙ sym (bodies_more begins batch n true met)
 
-pub body_skipped : (begins : List (List ℕ)) (batch : List Mutation) (n : ℕ) (items : List (ℕ × List Mutation))
-    → items ≡ filter is_filled (map (body_of begins batch) (range_with_len 0 n))
+pub body_skipped : (begins : List (List ℕ)) (batch : List Mutation) (n : ℕ) (items : List Body)
+    → items ≡ filter is_filled_body (map (body_of begins batch) (range_with_len 0 n))
     → list_any (λ mutation. meets mutation (shard_at begins n)) batch ≡ false
-    → items ≡ filter is_filled (map (body_of begins batch) (range_with_len 0 (n + 1)))
+    → items ≡ filter is_filled_body (map (body_of begins batch) (range_with_len 0 (n + 1)))
 body_skipped begins batch n items e none =
-    e ∙ sym (append-nil (filter is_filled (map (body_of begins batch) (range_with_len 0 n)))) ∙ sym (bodies_more begins batch n false none)
+    e ∙ sym (append-nil (filter is_filled_body (map (body_of begins batch) (range_with_len 0 n)))) ∙ sym (bodies_more begins batch n false none)
 
 -- one log more
 pub log_pushed : {V B : Type 0} (items : V → List B) (f : ℕ → List B) (logs more : List V) (part : V) (n : ℕ)

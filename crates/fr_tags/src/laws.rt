@@ -1,9 +1,9 @@
 //! Laws over the definitions.
 ghost use Rattle.fr_tags.specs.CoverLaw.{EachTagHasHolders, HeldByHolders, CoveringMeetsEachTag, FewerMayMissEachTag, HolderIsLeft, DistinctLogsCount};
 ghost use Rattle.fr_tags.specs.ShardLaw.{EachMapHasOneTo32Shards, EachKeyHasATag, EachKeyIsInOneShard, TagsAreOfTouchedKeys, TagsRise};
-ghost use Rattle.fr_tags.specs.SplitLaw.{EachLogHasItsBodies, EachLogIsServed, HeldTagsHaveTheirClips, ClipsMakeThePart, ClipsMakeThePartFromNothing};
+ghost use Rattle.fr_tags.specs.SplitLaw.{EachLogHasItsBodies, EachLogIsServed, HeldTagsHaveTheirClips, ClipsMakeThePart, ClipsMakeThePartFromNothing, EmptyBatchesMakeNothing, FilledClipsMakeThePart};
 
-use fr_mutation::clip_law;
+use fr_mutation::{after_law, clip_law};
 
 /// Of the `m` logs of a generation each tag stands on `k`, so a set of more than `m - k` meets the
 /// holders of every tag, and no smaller number suffices.
@@ -25,17 +25,22 @@ pub fn shard_law()
     ensures rising { TagsRise }
 {}
 
-/// A split gives each of the `m` logs, of each tag that it holds, the batch clipped to the tag's shard.
+/// A split gives each of the `m` logs, of each tag that it holds, the batch clipped to the tag's shard:
+/// bodies as a push takes them, by strictly rising tags, and as a log of the generation takes a push.
 pub fn split_law()
     ensures served { EachLogIsServed }
     ensures bodies { EachLogHasItsBodies }
     ensures clips { HeldTagsHaveTheirClips }
 {}
 
-/// Who lets the clips of all batches to a shard act holds the shard's part of what the batches make.
+/// Who lets the clips of all batches to a shard act holds the shard's part of what the batches make,
+/// whether or not the clips that are empty act too.
 pub fn shard_fold_law()
     ensures part { ClipsMakeThePart }
     ensures empty { ClipsMakeThePartFromNothing }
+    ensures left_out { EmptyBatchesMakeNothing }
+    ensures filled { FilledClipsMakeThePart }
 {
+    after_law();
     clip_law();
 }

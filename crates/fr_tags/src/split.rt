@@ -5,9 +5,10 @@ ghost use Rattle.fr_mutation.specs.Clip.{clipped};
 ghost use Rattle.fr_tags.specs.Shards.{shard_at, meets, is_from_to};
 ghost use Rattle.fr_tags.specs.Split.{bodies, bodies_for, split};
 
+use crate::body::Body;
 use crate::map::{MAX_SHARDS, ShardMap, tag_at};
 use crate::placement::{MAX_LOGS, is_held};
-use fr_base::{Memory, Tag};
+use fr_base::Memory;
 use fr_mutation::{Batch, clip};
 use std::alloc::Global;
 
@@ -21,7 +22,7 @@ impl ShardMap {
         batch: &Batch,
         m: u8,
         k: u8,
-    ) -> Result<Vec<Vec<(Tag, Batch)>>, Memory>
+    ) -> Result<Vec<Vec<Body>>, Memory>
         requires some { 1 ≤ k }
         requires fits { k ≤ m }
         requires limit { m ≤ MAX_LOGS }
@@ -36,14 +37,16 @@ impl ShardMap {
     }
 
     /// The bodies of a batch that are not empty, in rising tags.
-    fn bodies(&self, alloc: Global, batch: &Batch) -> Result<Vec<(Tag, Batch)>, Memory>
+    fn bodies(&self, alloc: Global, batch: &Batch) -> Result<Vec<Body>, Memory>
         ensures { IfOk result (λ all. all.items ≡ bodies self.now batch.now) }
     {
         let is_met = self.met(batch);
         let mut bodies = Vec::new(alloc);
         for number in 0..self.begins().len() {
             if is_met[number] {
-                bodies.push((tag_at(number), self.clip_to(alloc, batch, number)?))?;
+                let tag = tag_at(number);
+                let batch = self.clip_to(alloc, batch, number)?;
+                bodies.push(Body { tag, batch })?;
             }
         }
         Ok(bodies)
@@ -85,20 +88,20 @@ fn mark(marks: &mut [bool], from: usize, to: usize)
 /// Copies of the bodies whose tags a log holds.
 fn bodies_for(
     alloc: Global,
-    bodies: &[(Tag, Batch)],
+    bodies: &[Body],
     m: u8,
     k: u8,
     log: u8,
-) -> Result<Vec<(Tag, Batch)>, Memory>
+) -> Result<Vec<Body>, Memory>
     requires some { 1 ≤ k }
     requires fits { k ≤ m }
     requires limit { m ≤ MAX_LOGS }
     ensures { IfOk result (λ held. held.items ≡ bodies_for bodies.now m k log) }
 {
     let mut held = Vec::new(alloc);
-    for (tag, body) in bodies {
-        if is_held(*tag, m, k, log) {
-            held.push((*tag, body.copy(alloc)?))?;
+    for body in bodies {
+        if is_held(body.tag, m, k, log) {
+            held.push(body.copy(alloc)?)?;
         }
     }
     Ok(held)
