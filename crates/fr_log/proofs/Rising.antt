@@ -12,7 +12,8 @@ use Rattle.fr_log.specs.Seed as seed
 use Rattle.fr_log.specs.Seed.{SeedContent, is_within}
 use Rattle.fr_log.specs.Push.{PushContent}
 use Rattle.fr_log.specs.Peeked.{is_rising_from, IsPeeked}
-use Rattle.fr_log.specs.LogState.{LogState, headers, batch_of, durable_of, known_of, seeded_to_of, seed_records_of, records_of}
+use Rattle.fr_log.specs.LogState.{LogState, headers, durable_of, known_of, seeded_to_of, seed_records_of, records_of}
+use Rattle.fr_tags.specs.Bodies.{batch_of}
 use Rattle.fr_log.specs.Search.{seeded_records, pushed_records}
 use Rattle.fr_log.specs.Chain.{IsChain, IsLog, IsOwnSeed}
 use Rattle.fr_log.specs.Step.{peek_of, records_above, upto_of}

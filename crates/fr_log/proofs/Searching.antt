@@ -7,9 +7,10 @@ use Rattle.std.proofs.lemmas.List.Elements.{filter_map-append, All-from_get_or}
 use Rattle.std.proofs.lemmas.List.Folds.{list_any_none, list_any_at}
 use Rattle.fr_log.specs.Push.{PushContent, is_one_push, is_one_push-parts}
 use Rattle.fr_mutation.specs.declared.mutation.Mutation.{Mutation}
-use Rattle.fr_log.specs.declared.records.Body.{Body}
+use Rattle.fr_tags.specs.declared.body.Body.{Body}
+use Rattle.fr_tags.specs.Bodies.{batch_of}
 use Rattle.fr_log.specs.declared.records.SeedRecord.{SeedRecord}
-use Rattle.fr_log.specs.LogState.{seeded_record, pushed_record, batch_of}
+use Rattle.fr_log.specs.LogState.{seeded_record, pushed_record}
 use Rattle.fr_log.specs.Search.{AreRising, is_found}
 
 -- what is above a number, where all above it stands behind all that is not

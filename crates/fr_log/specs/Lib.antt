@@ -4,6 +4,7 @@ pub mod States
 pub mod Seed
 pub mod Push
 pub mod Peeked
+pub mod Same
 pub mod LogState
 pub mod Search
 pub mod Chain

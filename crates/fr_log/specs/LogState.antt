@@ -2,10 +2,9 @@
 use Rattle.std.specs.Prelude.{ℕ, ◌-◌, Bool, false, ◌==◌, List, [], ◌∷◌, ◌++◌, map, fold, max, Option, None, Some, if◌then◌else◌}
 use Rattle.std.specs.List.{list_any, filter_map}
 use Rattle.std.specs.Option.{option_map}
-use Rattle.fr_mutation.specs.declared.mutation.Mutation.{Mutation}
+use Rattle.fr_tags.specs.Bodies.{batch_of}
 use Rattle.fr_tags.specs.Placement.{is_held}
 use Rattle.fr_state.specs.Generations.{CoordinatedState}
-use Rattle.fr_log.specs.declared.records.Body.{Body}
 use Rattle.fr_log.specs.declared.records.SeedRecord.{SeedRecord}
 use Rattle.fr_log.specs.declared.records.PeekedRecord.{PeekedRecord}
 use Rattle.fr_log.specs.Seed.{SeedContent}
@@ -65,11 +64,6 @@ mark_among (p ∷ ps) = p.mark
 -- the record of a tag that a seed's record is, if it is of that tag
 abbrev pub seeded_record : ℕ → SeedRecord → Option PeekedRecord
 seeded_record tag r = if r.tag == tag then Some (record { version = r.version; batch = r.batch }) else None
-
--- the batch of a tag among bodies
-abbrev pub batch_of : ℕ → List Body → Option (List Mutation)
-batch_of tag [] = None
-batch_of tag (b ∷ bs) = if b.tag == tag then Some b.batch else batch_of tag bs
 
 -- the record of a tag that a push has, if it has a body of that tag
 abbrev pub pushed_record : ℕ → PushContent → Option PeekedRecord

@@ -1,13 +1,13 @@
 -- What a proxy or a recoverer pushes to a log.
-use Rattle.std.specs.Prelude.{◌≡◌, ℕ, ◌+◌, ◌<◌, ◌≤◌, Bool, true, false, nat_le, ◌==◌, ◌&&◌, List, [], ◌∷◌, Option, None, Some, IsTrue, IsSome, refl}
+use Rattle.std.specs.Prelude.{◌≡◌, ℕ, ◌+◌, ◌<◌, ◌≤◌, Bool, true, false, ◌==◌, ◌&&◌, List, [], ◌∷◌, Option, None, Some, IsTrue, IsSome, refl}
 use Rattle.std.specs.Cmp.Lexicographic.{pointwise}
 use Rattle.std.proofs.lemmas.Bool.{and_parts, eq-eqb, eqb-true}
 use Rattle.fr_base.specs.Same.{IsSameness, pointwise-IsSameness}
+use Rattle.fr_tags.specs.declared.body.Body.{Body}
+use Rattle.fr_tags.specs.Bodies.{is_rising_from, is_same_body, is_same_body-IsSameness}
 use Rattle.fr_state.specs.Generations.{CoordinatedState}
 use Rattle.fr_state.specs.Same.{is_same_state}
 use Rattle.fr_log.specs.Fields.{six}
-use Rattle.fr_log.specs.declared.records.Body.{Body}
-use Rattle.fr_log.specs.Records.{is_same_body, is_same_body-IsSameness}
 use Rattle.fr_log.specs.States.{is_same_state-IsSameness}
 
 -- one commit: the version before it in the chain, its own version, the greatest version that the sender knows to be
@@ -19,11 +19,6 @@ pub record PushContent : Type 0 where
   pub known : ℕ
   pub bodies : List Body
   pub mark : Option CoordinatedState
-
--- whether the tags of bodies rise strictly, and none is below this one
-abbrev pub is_rising_from : ℕ → List Body → Bool
-is_rising_from tag [] = true
-is_rising_from tag (b ∷ bs) = nat_le tag b.tag && is_rising_from (b.tag + 1) bs
 
 -- the limits of a push; a mark has no bodies and is one version above the one before it
 pub record IsPush (p : PushContent) : Type 0 where

@@ -1,16 +1,11 @@
--- When the parts of seeds, pushes and peeks are the same.
+-- When the records of seeds and peeks are the same.
 use Rattle.std.specs.Prelude.{◌≡◌, Bool, true, ◌==◌, ◌&&◌, refl}
 use Rattle.std.proofs.lemmas.Bool.{and_parts, eq-eqb, eqb-true}
 use Rattle.fr_base.specs.Same.{IsSameness}
 use Rattle.fr_mutation.specs.Equal.{is_same_batch, is_same_batch-IsSameness}
 use Rattle.fr_log.specs.Fields.{two, three}
-use Rattle.fr_log.specs.declared.records.Body.{Body}
 use Rattle.fr_log.specs.declared.records.SeedRecord.{SeedRecord}
 use Rattle.fr_log.specs.declared.records.PeekedRecord.{PeekedRecord}
-
--- whether two bodies are the same
-abbrev pub is_same_body : Body → Body → Bool
-is_same_body a b = (a.tag == b.tag) && is_same_batch a.batch b.batch
 
 -- whether two records of seeds are the same
 abbrev pub is_same_seed_record : SeedRecord → SeedRecord → Bool
@@ -19,17 +14,6 @@ is_same_seed_record r s = (r.version == s.version) && ((r.tag == s.tag) && is_sa
 -- whether two peeked records are the same
 abbrev pub is_same_peeked_record : PeekedRecord → PeekedRecord → Bool
 is_same_peeked_record r s = (r.version == s.version) && is_same_batch r.batch s.batch
-
-pub is_same_body-IsSameness : IsSameness is_same_body
-is_same_body-IsSameness = record { itself = itself; same = same }
-  where
-    itself : (a : Body) → is_same_body a a ≡ true
-    itself a = rw (eq-eqb a.tag a.tag refl) (is_same_batch-IsSameness.itself a.batch)
-
-    same : (a b : Body) → is_same_body a b ≡ true → a ≡ b
-    same a b e =
-        let p = and_parts (a.tag == b.tag) (is_same_batch a.batch b.batch) e in
-        two (λ tag batch. record { tag = tag; batch = batch }) (eqb-true a.tag b.tag p.0) (is_same_batch-IsSameness.same a.batch b.batch p.1)
 
 pub is_same_seed_record-IsSameness : IsSameness is_same_seed_record
 is_same_seed_record-IsSameness = record { itself = itself; same = same }

@@ -1,7 +1,15 @@
 //! Laws of logs.
+ghost use Rattle.fr_base.specs.Same.{IsSameness};
 ghost use Rattle.fr_log.specs.Law.{AskLeavesLog, AsksLeaveLog, DurableIsLast, KnownIsHeld, RecordsRise};
 ghost use Rattle.fr_log.specs.Law.{AskGrows, AsksGrow, NewPushRaises, NothingElseRaises};
 ghost use Rattle.fr_log.specs.Law.{HeldIsHeld, OnePushIsSame, SameSeedIsSame, LockedIsStopped, PeekIsWhole};
+ghost use Rattle.fr_log.specs.Same.{is_same_log_ask, is_same_log_tell};
+
+/// Two asks, and two tells, that `==` calls the same are the same, and no others.
+pub fn same_law()
+    ensures asks { IsSameness is_same_log_ask }
+    ensures tells { IsSameness is_same_log_tell }
+{}
 
 /// Every list of asks leaves a log: its pushes form one chain from its seed on that begins with the
 /// mark, the greatest version held is the last one, and what is known to be committed is held.

@@ -14,5 +14,5 @@ pub use ask::{LogAsk, LogRefusal, LogTell, Most};
 pub use log::Log;
 pub use peeked::Peeked;
 pub use push::Push;
-pub use records::{Body, PeekedRecord, SeedRecord};
+pub use records::{PeekedRecord, SeedRecord};
 pub use seed::Seed;

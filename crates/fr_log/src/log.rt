@@ -10,12 +10,12 @@ mod refusal;
 mod step;
 
 use crate::push::Push;
-use crate::records::{Body, SeedRecord};
+use crate::records::SeedRecord;
 use crate::search::is_found;
 use crate::seed::Seed;
 use fr_base::{LogId, Memory, Tag, Version};
 use fr_state::CoordState;
-use fr_tags::{MAX_LOGS, is_held};
+use fr_tags::{Body, MAX_LOGS, is_held};
 use std::alloc::Global;
 use std::marker::Model;
 

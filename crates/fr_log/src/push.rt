@@ -3,11 +3,12 @@ ghost use Rattle.std.specs.Prelude.{◌≡◌, ◌+◌, ◌<◌, ◌≤◌, ◌^
 ghost use Rattle.std.specs.Option.{option_copied};
 ghost use Rattle.std.specs.Cmp.{partial_equiv_from_equiv};
 ghost use Rattle.fr_base.specs.Same.{IsSameness-equivalence};
-ghost use Rattle.fr_log.specs.Push.{IsPush, is_rising_from, is_one_push, is_same_push, is_same_push-IsSameness};
+ghost use Rattle.fr_tags.specs.Bodies.{is_rising_from};
+ghost use Rattle.fr_log.specs.Push.{IsPush, is_one_push, is_same_push, is_same_push-IsSameness};
 
-use crate::records::Body;
 use fr_base::{Epoch, Memory, Version};
 use fr_state::CoordState;
+use fr_tags::Body;
 use std::alloc::Global;
 use std::marker::Model;
 
@@ -30,7 +31,8 @@ pub struct Push {
 }
 
 impl Model for Push {
-    ghost use Rattle.fr_log.specs.Push.{PushContent, IsPush};
+    ghost use Rattle.fr_tags.specs.Bodies.{is_rising_from};
+ghost use Rattle.fr_log.specs.Push.{PushContent, IsPush};
 
     ghost Value = { PushContent };
 

@@ -1,28 +1,9 @@
-//! The parts of seeds, pushes and peeks.
+//! The records of seeds and peeks.
 ghost use Rattle.std.specs.Prelude.{◌≡◌, IfOk};
 
 use fr_base::{Memory, Tag, Version};
 use fr_mutation::Batch;
 use std::alloc::Global;
-
-/// What a push brings for one shard: its tag, and the commit's mutations of keys of that shard.
-#[derive(Debug, Drop, PartialEq, Eq)]
-pub struct Body {
-    pub tag: Tag,
-    pub batch: Batch,
-}
-
-impl Body {
-    /// An equal body.
-    pub fn copy(&self, alloc: Global) -> Result<Self, Memory>
-        ensures { IfOk result (λ copy. copy ≡ self.now) }
-    {
-        Ok(Body {
-            tag: self.tag,
-            batch: self.batch.copy(alloc)?,
-        })
-    }
-}
 
 /// What a seed brings for one shard at one version.
 #[derive(Debug, Drop, PartialEq, Eq)]

@@ -2,13 +2,14 @@
 ghost use Rattle.std.specs.Prelude.{◌≡◌, ◌≤◌, ◌++◌, nat_lt, length, take, fold, filter, IfOk, if◌then◌else◌};
 ghost use Rattle.std.specs.List.Sorted.{IsNonDecreasingBy};
 ghost use Rattle.std.specs.Option.{option_copied};
-ghost use Rattle.fr_log.specs.LogState.{batch_of};
+ghost use Rattle.fr_tags.specs.Bodies.{batch_of};
 ghost use Rattle.fr_log.specs.Search.{AreRising, is_found, seeded_records, pushed_records};
 
 use crate::push::Push;
-use crate::records::{Body, PeekedRecord, SeedRecord};
+use crate::records::{PeekedRecord, SeedRecord};
 use fr_base::{Memory, Tag, Version};
 use fr_mutation::Batch;
+use fr_tags::Body;
 use std::alloc::Global;
 
 /// Whether a push is among those held, whatever it tells of what is known: a search by version.

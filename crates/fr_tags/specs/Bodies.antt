@@ -3,7 +3,8 @@ use Rattle.std.specs.Prelude.{◌≡◌, ℕ, ◌+◌, Bool, true, nat_lt, nat_l
 use Rattle.std.proofs.Common.{ap₂}
 use Rattle.std.proofs.lemmas.Bool.{and_parts, eq-eqb, eqb-true}
 use Rattle.fr_mutation.specs.declared.mutation.Mutation.{Mutation}
-use Rattle.fr_mutation.specs.Equal.{IsSameness, is_same_batch, is_same_batch-IsSameness}
+use Rattle.fr_base.specs.Same.{IsSameness}
+use Rattle.fr_mutation.specs.Equal.{is_same_batch, is_same_batch-IsSameness}
 use Rattle.fr_tags.specs.declared.body.Body.{Body}
 
 -- the batch of a tag among bodies, where the tag has one

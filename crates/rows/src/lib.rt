@@ -6,16 +6,10 @@ mod apply;
 #[cfg(test)]
 mod batch_bytes;
 #[cfg(test)]
-mod log;
-#[cfg(test)]
 mod mutation;
 #[cfg(test)]
 mod register;
 #[cfg(test)]
 mod slow_store;
 #[cfg(test)]
-mod state;
-#[cfg(test)]
 mod store_agrees;
-#[cfg(test)]
-mod tags;

@@ -1,5 +1,5 @@
 use Rattle.std.proofs.Common.{◌≡◌, drop}
-use Rattle.fr_log.specs.Push.{is_rising_from}
+use Rattle.fr_tags.specs.Bodies.{is_rising_from}
 use Rattle.fr_log.proofs.push.is_rising.Given as goal
 
 -- the answer is that of the bodies that are left, from the last one's tag on

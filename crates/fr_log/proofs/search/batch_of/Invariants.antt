@@ -1,5 +1,5 @@
 use Rattle.std.proofs.Common.{◌≡◌, drop}
-use Rattle.fr_log.specs.LogState.{batch_of}
+use Rattle.fr_tags.specs.Bodies.{batch_of}
 use Rattle.fr_log.proofs.search.batch_of.Given as goal
 
 -- the answer is that of the bodies that are left

@@ -2,7 +2,7 @@ ghost use Rattle.std.specs.Prelude.{◌≤◌};
 
 use fr_base::{Bytes, Memory, Tag};
 use fr_mutation::{Batch, Mutation};
-use fr_tags::{MAX_LOGS, ShardFault, ShardMap, covers, holders, is_held};
+use fr_tags::{Body, MAX_LOGS, ShardFault, ShardMap, covers, holders, is_held};
 use std::alloc::Global;
 use std::test::Fail;
 
@@ -23,15 +23,15 @@ fn clear(alloc: Global, begin: &[u8], end: &[u8]) -> Result<Mutation, Memory> {
 }
 
 /// Whether a body is of this tag and has this one clear alone.
-fn is_clear(body: Option<&(Tag, Batch)>, tag: u8, begin: &[u8], end: &[u8]) -> bool {
+fn is_clear(body: Option<&Body>, tag: u8, begin: &[u8], end: &[u8]) -> bool {
     match body {
-        Some((of, batch)) => match batch.mutations() {
+        Some(body) => match body.batch.mutations() {
             [
                 Mutation::Clear {
                     begin: first,
                     end: last,
                 },
-            ] => of.get() == tag && first.as_slice() == begin && last.as_slice() == end,
+            ] => body.tag.get() == tag && first.as_slice() == begin && last.as_slice() == end,
             _ => false,
         },
         None => false,

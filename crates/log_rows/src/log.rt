@@ -1,9 +1,10 @@
 use fr_base::{Bytes, Epoch, LogId, Machine, Tag, Version};
 use fr_log::{
-    Body, Log, LogAsk, LogRefusal, LogTell, Most, Peeked, PeekedRecord, Push, Seed, SeedRecord,
+    Log, LogAsk, LogRefusal, LogTell, Most, Peeked, PeekedRecord, Push, Seed, SeedRecord,
 };
 use fr_mutation::{Batch, Mutation};
 use fr_state::{CoordState, Generation};
+use fr_tags::Body;
 use std::alloc::Global;
 use std::test::Fail;
 

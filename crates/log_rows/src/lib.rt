@@ -1,0 +1,9 @@
+//! Tests over shards, states and logs: worked examples, vectors, and the order of refusals.
+#![tactic(auto)]
+
+#[cfg(test)]
+mod log;
+#[cfg(test)]
+mod state;
+#[cfg(test)]
+mod tags;
