@@ -1,0 +1,5 @@
+pub mod Lists
+pub mod Rows
+pub mod Named
+pub mod Same
+pub mod Law
