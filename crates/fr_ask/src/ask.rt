@@ -1,6 +1,10 @@
 //! Every ask.
-ghost use Rattle.std.specs.Prelude.{◌≡◌, ◌↔◌, IsTrue, IfOk, IsOk};
+ghost use Rattle.std.specs.Prelude.{◌≡◌, IsTrue, IfOk, IsOk};
+ghost use Rattle.std.specs.Cmp.{partial_equiv_from_equiv};
+ghost use Rattle.fr_mutation.specs.Equal.{IsSameness-equivalence};
 ghost use Rattle.fr_ask.specs.Lists.{ask_holds_no_list};
+ghost use Rattle.fr_ask.specs.Same.{is_same_ask};
+ghost use Rattle.fr_ask.specs.Exact.{is_same_ask-IsSameness};
 
 use crate::sequencer::SeqAsk;
 use fr_base::Memory;
@@ -9,7 +13,7 @@ use fr_register::CellAsk;
 use std::alloc::Global;
 
 /// What a node is asked: the ask of a cell, of a log or of a sequencer.
-#[derive(Debug, Drop, PartialEq, Eq)]
+#[derive(Debug, Drop)]
 pub enum Ask {
     Cell(CellAsk),
     Log(LogAsk),
@@ -17,13 +21,6 @@ pub enum Ask {
 }
 
 impl Ask {
-    /// Whether the two are one ask.
-    pub fn is_same(&self, other: &Ask) -> bool
-        ensures { IsTrue result ↔ (self.now ≡ other.now) }
-    {
-        self == other
-    }
-
     /// An equal ask. One that holds no list takes no memory.
     pub fn copy(&self, alloc: Global) -> Result<Self, Memory>
         ensures equal { IfOk result (λ ask. ask ≡ self.now) }
@@ -35,4 +32,23 @@ impl Ask {
             Ask::Seq(ask) => Ask::Seq(*ask),
         })
     }
+}
+
+impl PartialEq for Ask {
+    ghost eq = { is_same_ask };
+
+    ghost laws = { partial_equiv_from_equiv (IsSameness-equivalence is_same_ask-IsSameness) };
+
+    fn eq(&self, other: &Ask) -> bool {
+        match (self, other) {
+            (Ask::Cell(ask), Ask::Cell(other)) => ask == other,
+            (Ask::Log(ask), Ask::Log(other)) => ask == other,
+            (Ask::Seq(ask), Ask::Seq(other)) => ask == other,
+            _ => false,
+        }
+    }
+}
+
+impl Eq for Ask {
+    ghost laws = { IsSameness-equivalence is_same_ask-IsSameness };
 }

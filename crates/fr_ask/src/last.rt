@@ -2,8 +2,7 @@
 ghost use Rattle.std.specs.Prelude.{◌≡◌, IfOk};
 
 use crate::rows::Rows;
-use fr_base::{Bytes, Epoch, Memory, Version};
-use fr_base::Ballot;
+use fr_base::{Ballot, Bytes, Epoch, Memory, Version};
 use fr_register::CellValue;
 use std::alloc::Global;
 

@@ -1,6 +1,10 @@
 //! Every tell.
 ghost use Rattle.std.specs.Prelude.{◌≡◌, IsTrue, IfOk, IsOk};
+ghost use Rattle.std.specs.Cmp.{partial_equiv_from_equiv};
+ghost use Rattle.fr_mutation.specs.Equal.{IsSameness-equivalence};
 ghost use Rattle.fr_ask.specs.Lists.{tell_holds_no_list};
+ghost use Rattle.fr_ask.specs.Same.{is_same_tell};
+ghost use Rattle.fr_ask.specs.Exact.{is_same_tell-IsSameness};
 
 use crate::sequencer::SeqTell;
 use fr_base::Memory;
@@ -9,7 +13,7 @@ use fr_register::CellTell;
 use std::alloc::Global;
 
 /// What a node tells: the tell of a cell, of a log or of a sequencer.
-#[derive(Debug, Drop, PartialEq, Eq)]
+#[derive(Debug, Drop)]
 pub enum Tell {
     Cell(CellTell),
     Log(LogTell),
@@ -28,4 +32,23 @@ impl Tell {
             Tell::Seq(tell) => Tell::Seq(*tell),
         })
     }
+}
+
+impl PartialEq for Tell {
+    ghost eq = { is_same_tell };
+
+    ghost laws = { partial_equiv_from_equiv (IsSameness-equivalence is_same_tell-IsSameness) };
+
+    fn eq(&self, other: &Tell) -> bool {
+        match (self, other) {
+            (Tell::Cell(tell), Tell::Cell(other)) => tell == other,
+            (Tell::Log(tell), Tell::Log(other)) => tell == other,
+            (Tell::Seq(tell), Tell::Seq(other)) => tell == other,
+            _ => false,
+        }
+    }
+}
+
+impl Eq for Tell {
+    ghost laws = { IsSameness-equivalence is_same_tell-IsSameness };
 }

@@ -1,4 +1,4 @@
--- The tests of nodes, asks and tells are exact.
+-- That the tests of nodes, asks and tells are exact.
 use Rattle.std.proofs.Common.{◌≡◌, ℕ, true, cond, ◌==◌, ◌&&◌, List, refl, sym, ◌∙◌, ap, arith}
 use Rattle.std.specs.Prelude.{slice_index}
 use Rattle.std.proofs.lemmas.Bool.{and_parts, eqb-true, eq-eqb}
@@ -31,8 +31,8 @@ use Rattle.fr_ask.specs.declared.ask.Ask.{Ask}
 use Rattle.fr_ask.specs.declared.ask.Ask.TheVariants as ask
 use Rattle.fr_ask.specs.declared.tell.Tell.{Tell}
 use Rattle.fr_ask.specs.declared.tell.Tell.TheVariants as tell
-use Rattle.fr_ask.specs.Same.{node_numbers, is_same_cell_ask, is_same_log_ask, is_same_seq_ask, is_same_ask, is_same_cell_tell, why_numbers, is_same_log_tell, turn_number, is_same_seq_tell, is_same_tell}
-use Rattle.fr_ask.specs.Law.{NodesAreExact, AsksAreExact, TellsAreExact}
+use Rattle.fr_ask.specs.Same.{node_numbers, is_same_node, is_same_cell_ask, is_same_log_ask, is_same_seq_ask, is_same_ask, is_same_cell_tell, why_numbers, is_same_log_tell, turn_number, is_same_seq_tell, is_same_tell}
+use Rattle.fr_mutation.specs.Equal.{IsSameness}
 
 same : (n : ℕ) → (n == n) ≡ true
 same n = eq-eqb n n refl
@@ -55,8 +55,8 @@ node_again (node.Proxy e p) = refl
 node_again (node.Recoverer b) = refl
 node_again (node.Storage t) = refl
 
-pub nodes_are_exact : NodesAreExact
-nodes_are_exact = record {
+pub is_same_node-IsSameness : IsSameness is_same_node
+is_same_node-IsSameness = record {
   itself = λ a. bytes_eq-IsSameness.itself (node_numbers a);
   same = λ a b e. sym (node_again a) ∙ (ap node_at (bytes_eq-IsSameness.same (node_numbers a) (node_numbers b) e) ∙ node_again b);
 }
@@ -111,8 +111,8 @@ ask_same (ask.Log a) (ask.Log b) e = ap ask.Log (log_ask_same a b e)
 ask_same (ask.Seq a) (ask.Seq b) e = ap ask.Seq (seq_ask_same a b e)
 ask_same a b e = absurd (cc)
 
-pub asks_are_exact : AsksAreExact
-asks_are_exact = record { itself = ask_itself; same = ask_same }
+pub is_same_ask-IsSameness : IsSameness is_same_ask
+is_same_ask-IsSameness = record { itself = ask_itself; same = ask_same }
 
 -- ---- tells
 
@@ -194,5 +194,5 @@ tell_same (tell.Log a) (tell.Log b) e = ap tell.Log (log_tell_same a b e)
 tell_same (tell.Seq a) (tell.Seq b) e = ap tell.Seq (seq_tell_same a b e)
 tell_same a b e = absurd (cc)
 
-pub tells_are_exact : TellsAreExact
-tells_are_exact = record { itself = tell_itself; same = tell_same }
+pub is_same_tell-IsSameness : IsSameness is_same_tell
+is_same_tell-IsSameness = record { itself = tell_itself; same = tell_same }
