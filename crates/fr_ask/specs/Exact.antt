@@ -2,7 +2,7 @@
 use Rattle.std.proofs.Common.{◌≡◌, ℕ, true, cond, ◌==◌, ◌&&◌, List, refl, sym, ◌∙◌, ap, arith}
 use Rattle.std.specs.Prelude.{slice_index}
 use Rattle.std.proofs.lemmas.Bool.{and_parts, eqb-true, eq-eqb}
-use Rattle.fr_mutation.specs.Equal.{bytes_eq-IsSameness}
+use Rattle.fr_base.specs.Same.{bytes_eq-IsSameness}
 use Rattle.fr_base.specs.Bytes.{bytes_eq}
 use Rattle.fr_base.specs.declared.place.NodeId.{NodeId}
 use Rattle.fr_base.specs.declared.place.NodeId.TheVariants as node
@@ -32,7 +32,7 @@ use Rattle.fr_ask.specs.declared.ask.Ask.TheVariants as ask
 use Rattle.fr_ask.specs.declared.tell.Tell.{Tell}
 use Rattle.fr_ask.specs.declared.tell.Tell.TheVariants as tell
 use Rattle.fr_ask.specs.Same.{node_numbers, is_same_node, is_same_cell_ask, is_same_log_ask, is_same_seq_ask, is_same_ask, is_same_cell_tell, why_numbers, is_same_log_tell, turn_number, is_same_seq_tell, is_same_tell}
-use Rattle.fr_mutation.specs.Equal.{IsSameness}
+use Rattle.fr_base.specs.Same.{IsSameness}
 
 same : (n : ℕ) → (n == n) ≡ true
 same n = eq-eqb n n refl

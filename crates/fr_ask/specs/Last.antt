@@ -3,7 +3,7 @@ use Rattle.std.specs.Prelude.{◌≡◌, ℕ, Bool, true, false, ◌==◌, ◌&&
 use Rattle.std.proofs.Common.{ap}
 use Rattle.std.proofs.lemmas.Bool.{and_parts, eq-eqb, eqb-true}
 use Rattle.fr_base.specs.Bytes.{bytes_eq}
-use Rattle.fr_mutation.specs.Equal.{IsSameness, bytes_eq-IsSameness}
+use Rattle.fr_base.specs.Same.{IsSameness, bytes_eq-IsSameness}
 use Rattle.fr_log.specs.Fields.{three, four}
 use Rattle.fr_ask.specs.Rows.{is_same_rows, is_same_rows-IsSameness}
 use Rattle.fr_ask.specs.declared.last.Last.{Last}

@@ -3,7 +3,7 @@ use Rattle.std.specs.Prelude.{◌≡◌, ℕ, Bool, true, ◌&&◌, List, refl}
 use Rattle.std.specs.Cmp.Lexicographic.{pointwise}
 use Rattle.std.proofs.lemmas.Bool.{and_parts}
 use Rattle.fr_base.specs.Bytes.{bytes_eq}
-use Rattle.fr_mutation.specs.Equal.{IsSameness, pointwise-IsSameness, bytes_eq-IsSameness}
+use Rattle.fr_base.specs.Same.{IsSameness, pointwise-IsSameness, bytes_eq-IsSameness}
 use Rattle.fr_log.specs.Fields.{two}
 
 -- whether two rows have the same key and the same value

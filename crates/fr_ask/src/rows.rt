@@ -1,7 +1,7 @@
 //! The rows that a storage server holds, as its journal tells them.
 ghost use Rattle.std.specs.Prelude.{◌≡◌, length, IfOk};
 ghost use Rattle.std.specs.Cmp.{partial_equiv_from_equiv};
-ghost use Rattle.fr_mutation.specs.Equal.{IsSameness-equivalence};
+ghost use Rattle.fr_base.specs.Same.{IsSameness-equivalence};
 ghost use Rattle.fr_ask.specs.Rows.{is_same_rows, is_same_rows-IsSameness};
 
 use fr_base::{Bytes, Memory};

@@ -1,7 +1,7 @@
 //! Every tell.
 ghost use Rattle.std.specs.Prelude.{◌≡◌, IsTrue, IfOk, IsOk};
 ghost use Rattle.std.specs.Cmp.{partial_equiv_from_equiv};
-ghost use Rattle.fr_mutation.specs.Equal.{IsSameness-equivalence};
+ghost use Rattle.fr_base.specs.Same.{IsSameness-equivalence};
 ghost use Rattle.fr_ask.specs.Lists.{tell_holds_no_list};
 ghost use Rattle.fr_ask.specs.Same.{is_same_tell};
 ghost use Rattle.fr_ask.specs.Exact.{is_same_tell-IsSameness};
