@@ -21,7 +21,7 @@ impl SeedRecord {
         Ok(SeedRecord {
             version: self.version,
             tag: self.tag,
-            batch: self.batch.copy(alloc)?,
+            batch: self.batch.copy()?,
         })
     }
 }
@@ -40,7 +40,7 @@ impl PeekedRecord {
     {
         Ok(PeekedRecord {
             version: self.version,
-            batch: self.batch.copy(alloc)?,
+            batch: self.batch.copy()?,
         })
     }
 }

@@ -81,7 +81,7 @@ fn gather_seeded(
             }
             given.push(PeekedRecord {
                 version: record.version,
-                batch: record.batch.copy(alloc)?,
+                batch: record.batch.copy()?,
             })?;
         }
     }
@@ -107,7 +107,7 @@ fn gather_pushed(
             }
             given.push(PeekedRecord {
                 version: push.version(),
-                batch: batch.copy(alloc)?,
+                batch: batch.copy()?,
             })?;
         }
     }

@@ -20,7 +20,7 @@ impl Body {
     {
         Ok(Body {
             tag: self.tag,
-            batch: self.batch.copy(alloc)?,
+            batch: self.batch.copy()?,
         })
     }
 }
