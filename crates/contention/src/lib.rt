@@ -3,11 +3,13 @@
 //! middle and the right one.
 #![tactic(auto)]
 
+mod descent;
 mod overlap;
 mod phases;
 mod scenes;
 mod sequence;
 
+pub use descent::descended;
 pub use overlap::overtaken;
 pub use phases::Found;
 pub use scenes::{Attempt, Cells, Outcome};

@@ -11,7 +11,7 @@ use Rattle.fr_register.specs.Made.{Making, IsToldToRead, parent_of, IsMade, IsMa
 use Rattle.fr_register.specs.Law.{LaterInListDescends, ReadyInListDescends, StartInListIsLeast, OneInListIsChosen, WrittenIsMade, ListHasParents, MadeIsReady}
 use Rattle.fr_register.specs.declared.ask.CellAsk.TheVariants.{Write}
 use Rattle.fr_register.specs.declared.ask.CellTell.TheVariants.{Written}
-use Rattle.fr_register.proofs.Turns.{Contains-none, Contains-later, Contains-cases}
+use Rattle.fr_base.proofs.ListLemmas.{Contains-none, Contains-later, Contains-cases}
 use Rattle.fr_register.proofs.Histories.{promises_are_kept}
 use Rattle.fr_register.proofs.Tallied.{read_majority_is_read}
 use Rattle.fr_register.proofs.Parents.{later_descends, ready_descends, start_is_least, one_is_chosen}

@@ -12,7 +12,7 @@ use Rattle.fr_register.specs.declared.ask.CellAsk.{CellAsk}
 use Rattle.fr_register.specs.declared.ask.CellAsk.TheVariants.{Read, Write}
 use Rattle.fr_register.specs.declared.ask.CellTell.{CellTell}
 use Rattle.fr_register.specs.declared.ask.CellTell.TheVariants.{Promise, Written, Refused, TwoValues}
-use Rattle.fr_register.proofs.Turns.{Contains-none, Contains-here, Contains-later, Contains-cases}
+use Rattle.fr_base.proofs.ListLemmas.{Contains-none, Contains-here, Contains-later, Contains-cases}
 
 -- each cell against the turns, and each promise among them
 record Facts (first : CellState) (turns : List Turn) : Type 0 where

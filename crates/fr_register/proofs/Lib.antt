@@ -1,8 +1,9 @@
-pub mod Turns
+pub mod Answered
 pub mod Majorities
 pub mod Histories
 pub mod Parents
 pub mod Tallied
 pub mod Deliveries
+pub mod Makings
 pub mod PollSentence
 pub mod TallySentence

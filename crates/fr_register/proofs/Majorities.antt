@@ -5,6 +5,7 @@ use Rattle.std.proofs.lemmas.Bool.{cases_eq, or_cases, eqb-true, eq-eqb, ne_eqb,
 use Rattle.std.proofs.lemmas.List.Elements.{All-head, All-tail, All-from_recursion}
 use Rattle.std.proofs.lemmas.List.Folds.{list_any_none}
 use Rattle.std.proofs.lemmas.Map.Keys.{IsDistinct-head, IsDistinct-tail}
+use Rattle.fr_base.proofs.ListLemmas.{All-found}
 use Rattle.fr_register.specs.Chosen.{IsMajority}
 
 -- how many numbers below n pass a test
@@ -62,14 +63,6 @@ length_count (x ∷ xs) n d b =
     (rw (eq-eqb x x refl) refl) (λ i ne. rw (ne_eqb i x ne) refl) in
     omega (arith, more, rest)
 
--- what holds of each of the list holds of a number that a test finds in it
-pub All-at_found : (P : ℕ → Type 0) (i : ℕ) (xs : List ℕ) → list_any (nat_eq i) xs ≡ true → All P xs → P i
-All-at_found P i [] h a = absurd (cc)
-All-at_found P i (x ∷ xs) h a = elim (or_cases (nat_eq i x) (list_any (nat_eq i) xs) h) [
-  | inl e ↦ subst P (sym (eqb-true i x e)) (All-head P x xs a)
-  | inr r ↦ All-at_found P i xs r (All-tail P x xs a)
-]
-
 -- what holds at each cell of one majority, and what holds at each of another, hold together at some cell
 pub shared : (n : ℕ) (P Q : ℕ → Type 0) (p q : List ℕ) → IsMajority n p → IsMajority n q → All P p → All Q q → (i : ℕ) × P i × Q i
 shared n P Q p q mp mq ap' aq =
@@ -79,4 +72,4 @@ shared n P Q p q mp mq ap' aq =
     let some : 0 < count (λ i. list_any (nat_eq i) p && list_any (nat_eq i) q) n = omega (arith, one, two, both, mp.more, mq.more) in
     let found = count_found (λ i. list_any (nat_eq i) p && list_any (nat_eq i) q) n some in
     let parts = and_parts (list_any (nat_eq found.0) p) (list_any (nat_eq found.0) q) found.2 in
-    (found.0, All-at_found P found.0 p parts.0 ap', All-at_found Q found.0 q parts.1 aq)
+    (found.0, All-found P found.0 p parts.0 ap', All-found Q found.0 q parts.1 aq)

@@ -14,7 +14,8 @@ use Rattle.fr_register.specs.declared.ask.CellTell.{CellTell}
 use Rattle.fr_register.specs.declared.ask.CellTell.TheVariants.{Promise, Written, Refused, TwoValues}
 use Rattle.fr_register.specs.declared.poll.Progress.TheVariants.{Waiting, Majority, Lost}
 use Rattle.fr_register.specs.declared.poll.Refusal.{Refusal}
-use Rattle.fr_register.proofs.Tallied.{IsPollOf, found_flips, heard_poll_of, refused_poll_of}
+use Rattle.fr_register.specs.Faithful.{IsPollOf}
+use Rattle.fr_register.proofs.Tallied.{found_flips, heard_poll_of, refused_poll_of}
 
 -- ---- lists of cells
 

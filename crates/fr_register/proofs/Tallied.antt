@@ -12,17 +12,13 @@ use Rattle.fr_register.specs.Heard.{Heard, read_tally, write_tally}
 use Rattle.fr_register.specs.History.{Turn, promise_turn, written_turn}
 use Rattle.fr_register.specs.Chosen.{IsMajority}
 use Rattle.fr_register.specs.Made.{IsToldToRead, IsToldToWrite}
-use Rattle.fr_register.specs.Law.{ReadMajorityIsRead, WriteMajorityIsWritten}
+use Rattle.fr_register.specs.Faithful.{IsPollOf, IsFaithfulRead, IsFaithfulWrite}
+use Rattle.fr_register.specs.Law.{ReadMajorityIsRead, WriteMajorityIsWritten, NewReadIsFaithful, HearingKeepsRead, TurnsKeepRead, FaithfulReadIsRead, NewWriteIsFaithful, HearingKeepsWrite, TurnsKeepWrite, FaithfulWriteIsWritten}
+use Rattle.fr_base.proofs.ListLemmas.{Contains-later}
 use Rattle.fr_register.specs.declared.ask.CellTell.{CellTell}
 use Rattle.fr_register.specs.declared.ask.CellTell.TheVariants.{Promise, Written, Refused, TwoValues}
 use Rattle.fr_register.specs.declared.poll.Progress.TheVariants.{Waiting, Majority, Lost}
 use Rattle.fr_register.specs.declared.poll.Refusal.{Refusal}
-
--- the cells that a poll over n cells heard are cells, and are heard once
-pub record IsPollOf (n : ℕ) (p : Poll) : Type 0 where
-  pub size : p.cells ≡ n
-  pub distinct : IsDistinct nat_eq p.heard
-  pub below : All (λ i. i < n) p.heard
 
 pub found_flips : (i : ℕ) (xs : List ℕ) → list_any (nat_eq i) xs ≡ list_any (λ j. j == i) xs
 found_flips i [] = refl
@@ -78,19 +74,14 @@ majority_more n p f h = record { distinct = f.distinct; below = f.below; more = 
     go (Some refusal) k = absurd (cc)
     go None k = test (is_majority p) refl k
 
--- what a read tally over n cells keeps, where each promise was told to the read of ballot b
-record IsFaithful (n : ℕ) (turns : List Turn) (b : ℕ) (t : ReadState) : Type 0 where
-  poll : IsPollOf n t.poll
-  each : All (λ i. (q : Stamped) × Contains turns (promise_turn i b q) × (q.ballot ≤ t.greatest.ballot)) t.poll.heard
-  top : (length t.poll.heard ≡ 0) ⊎ ((i : ℕ) × Contains turns (promise_turn i b t.greatest))
-  low : length t.poll.heard ≡ 0 → t.greatest.ballot ≡ 0
+-- ---- the read tally
 
-faithful_refusal : (n : ℕ) (turns : List Turn) (b : ℕ) (t : ReadState) (i promised : ℕ) → IsFaithful n turns b t → IsFaithful n turns b (record t { poll = with_refusal t.poll i promised })
+faithful_refusal : (n : ℕ) (turns : List Turn) (b : ℕ) (t : ReadState) (i promised : ℕ) → IsFaithfulRead n turns b t → IsFaithfulRead n turns b (record t { poll = with_refusal t.poll i promised })
 faithful_refusal n turns b t i promised f =
     let k = (refusal_keeps t.poll i promised).1 in
-    record { poll = refused_poll_of n t.poll i promised f.poll; each = rw k f.each; top = rw k f.top; low = rw k f.low }
+    record { own = f.own; poll = refused_poll_of n t.poll i promised f.poll; each = rw k f.each; top = rw k f.top; low = rw k f.low }
 
-faithful_promise : (n : ℕ) (turns : List Turn) (b : ℕ) (t : ReadState) (i w : ℕ) (v : List ℕ) → is_wanted t.poll i ≡ true → Contains turns (promise_turn i b (record { ballot = w; value = v })) → IsFaithful n turns b t → IsFaithful n turns b (take_read t i (Promise w v))
+faithful_promise : (n : ℕ) (turns : List Turn) (b : ℕ) (t : ReadState) (i w : ℕ) (v : List ℕ) → is_wanted t.poll i ≡ true → Contains turns (promise_turn i b (record { ballot = w; value = v })) → IsFaithfulRead n turns b t → IsFaithfulRead n turns b (take_read t i (Promise w v))
 faithful_promise n turns b t i w v c told f = go ((length t.poll.heard == 0) || nat_lt t.greatest.ballot w) refl
   where
     some : length (t.poll.heard ++ i ∷ []) ≡ 0 → ⊥
@@ -118,48 +109,60 @@ faithful_promise n turns b t i w v c told f = go ((length t.poll.heard == 0) || 
     top_kept ne (inl z) = absurd (ne z)
     top_kept ne (inr x) = x
 
-    go : (s : Bool) → ((length t.poll.heard == 0) || nat_lt t.greatest.ballot w) ≡ s → IsFaithful n turns b (record { ballot = t.ballot; poll = with_heard t.poll i; greatest = cond s (record { ballot = w; value = v }) t.greatest })
+    go : (s : Bool) → ((length t.poll.heard == 0) || nat_lt t.greatest.ballot w) ≡ s → IsFaithfulRead n turns b (record { ballot = t.ballot; poll = with_heard t.poll i; greatest = cond s (record { ballot = w; value = v }) t.greatest })
     go true e = record {
+      own = f.own;
       poll = heard_poll_of n t.poll i c f.poll;
       each = each (record { ballot = w; value = v }) (rises e) (omega arith);
       top = inr (i, told);
       low = λ z. absurd (some z);
     }
     go false e = record {
+      own = f.own;
       poll = heard_poll_of n t.poll i c f.poll;
       each = each t.greatest (omega arith) (kept e).1;
       top = inr (top_kept (kept e).0 f.top);
       low = λ z. absurd (some z);
     }
 
-faithful_take : (n : ℕ) (turns : List Turn) (b : ℕ) (t : ReadState) (i : ℕ) (tell : CellTell) → is_wanted t.poll i ≡ true → IsToldToRead turns b (record { cell = i; tell = tell }) → IsFaithful n turns b t → IsFaithful n turns b (take_read t i tell)
+faithful_take : (n : ℕ) (turns : List Turn) (b : ℕ) (t : ReadState) (i : ℕ) (tell : CellTell) → is_wanted t.poll i ≡ true → IsToldToRead turns b (record { cell = i; tell = tell }) → IsFaithfulRead n turns b t → IsFaithfulRead n turns b (take_read t i tell)
 faithful_take n turns b t i (Promise w v) c told f = faithful_promise n turns b t i w v c (told (record { ballot = w; value = v }) refl) f
 faithful_take n turns b t i (Written d) c told f = f
 faithful_take n turns b t i (Refused promised) c told f = faithful_refusal n turns b t i promised f
 faithful_take n turns b t i TwoValues c told f = faithful_refusal n turns b t i t.ballot f
 
-faithful_hear : (n : ℕ) (turns : List Turn) (b : ℕ) (t : ReadState) (h : Heard) → IsToldToRead turns b h → IsFaithful n turns b t → IsFaithful n turns b (hear_read t h.cell h.tell)
-faithful_hear n turns b t h told f = go (is_wanted t.poll h.cell) refl
+pub hearing_keeps_read : HearingKeepsRead
+hearing_keeps_read n turns b t h told f = go (is_wanted t.poll h.cell) refl
   where
-    go : (s : Bool) → is_wanted t.poll h.cell ≡ s → IsFaithful n turns b (cond s (take_read t h.cell h.tell) t)
+    go : (s : Bool) → is_wanted t.poll h.cell ≡ s → IsFaithfulRead n turns b (cond s (take_read t h.cell h.tell) t)
     go true e = faithful_take n turns b t h.cell h.tell e told f
     go false e = f
 
-faithful : (n : ℕ) (turns : List Turn) (b : ℕ) (heard : List Heard) → All (IsToldToRead turns b) heard → IsFaithful n turns b (read_tally n b heard)
-faithful n turns b [] a = record {
+pub new_read_is_faithful : NewReadIsFaithful
+new_read_is_faithful n turns b = record {
+  own = refl;
   poll = new_poll_of n None;
   each = All-nil (λ i. (q : Stamped) × Contains turns (promise_turn i b q) × (q.ballot ≤ 0));
   top = inl refl;
   low = λ _. refl;
 }
-faithful n turns b (h ∷ before) a =
-    faithful_hear n turns b (read_tally n b before) h (All-head (IsToldToRead turns b) h before a)
-    (faithful n turns b before (All-tail (IsToldToRead turns b) h before a))
 
-pub read_majority_is_read : ReadMajorityIsRead
-read_majority_is_read n b turns heard a m =
-    let f = faithful n turns b heard a in
-    let t = read_tally n b heard in
+pub turns_keep_read : TurnsKeepRead
+turns_keep_read n turns next b t f = record {
+  own = f.own;
+  poll = f.poll;
+  each = All-weaker (λ i. (q : Stamped) × Contains turns (promise_turn i b q) × (q.ballot ≤ t.greatest.ballot)) (λ i. (q : Stamped) × Contains (next ∷ turns) (promise_turn i b q) × (q.ballot ≤ t.greatest.ballot))
+  (λ i h. (h.0, Contains-later next turns (promise_turn i b h.0) h.1, h.2)) t.poll.heard f.each;
+  top = later f.top;
+  low = f.low;
+}
+  where
+    later : (length t.poll.heard ≡ 0) ⊎ ((i : ℕ) × Contains turns (promise_turn i b t.greatest)) → (length t.poll.heard ≡ 0) ⊎ ((i : ℕ) × Contains (next ∷ turns) (promise_turn i b t.greatest))
+    later (inl z) = inl z
+    later (inr x) = inr (x.0, Contains-later next turns (promise_turn x.0 b t.greatest) x.1)
+
+pub faithful_read_is_read : FaithfulReadIsRead
+faithful_read_is_read n turns b t f m =
     let more = majority_more n t.poll f.poll m in
     record {
       who = t.poll.heard;
@@ -168,11 +171,16 @@ read_majority_is_read n b turns heard a m =
       found = elim f.top [ inl z ↦ absurd (omega (arith, more.more, z)) | inr x ↦ x ];
     }
 
--- what a write tally over n cells keeps, where each Written of its ballot was told to the write of the pair
-record IsFaithfulWrite (n : ℕ) (turns : List Turn) (p : Stamped) (t : WriteState) : Type 0 where
-  own : t.ballot ≡ p.ballot
-  poll : IsPollOf n t.poll
-  each : All (λ i. Contains turns (written_turn i p)) t.poll.heard
+faithful : (n : ℕ) (turns : List Turn) (b : ℕ) (heard : List Heard) → All (IsToldToRead turns b) heard → IsFaithfulRead n turns b (read_tally n b heard)
+faithful n turns b [] a = new_read_is_faithful n turns b
+faithful n turns b (h ∷ before) a =
+    hearing_keeps_read n turns b (read_tally n b before) h (All-head (IsToldToRead turns b) h before a)
+    (faithful n turns b before (All-tail (IsToldToRead turns b) h before a))
+
+pub read_majority_is_read : ReadMajorityIsRead
+read_majority_is_read n b turns heard a m = faithful_read_is_read n turns b (read_tally n b heard) (faithful n turns b heard a) m
+
+-- ---- the write tally
 
 write_refusal : (n : ℕ) (turns : List Turn) (p : Stamped) (t : WriteState) (i promised : ℕ) → IsFaithfulWrite n turns p t → IsFaithfulWrite n turns p (record t { poll = with_refusal t.poll i promised })
 write_refusal n turns p t i promised f =
@@ -195,24 +203,33 @@ write_take n turns p t i (Written b) c g f = go (b == t.ballot) refl
 write_take n turns p t i (Refused b) c g f = write_refusal n turns p t i b f
 write_take n turns p t i TwoValues c g f = write_refusal n turns p t i t.ballot f
 
-write_hear : (n : ℕ) (turns : List Turn) (p : Stamped) (t : WriteState) (h : Heard) → IsToldToWrite turns p h → IsFaithfulWrite n turns p t → IsFaithfulWrite n turns p (hear_write t h.cell h.tell)
-write_hear n turns p t h told f = go (is_wanted t.poll h.cell) refl
+pub hearing_keeps_write : HearingKeepsWrite
+hearing_keeps_write n turns p t h told f = go (is_wanted t.poll h.cell) refl
   where
     go : (s : Bool) → is_wanted t.poll h.cell ≡ s → IsFaithfulWrite n turns p (cond s (take_write t h.cell h.tell) t)
     go true e = write_take n turns p t h.cell h.tell e told f
     go false e = f
 
+pub new_write_is_faithful : NewWriteIsFaithful
+new_write_is_faithful n turns p = record { own = refl; poll = new_poll_of n None; each = All-nil (λ i. Contains turns (written_turn i p)) }
+
+pub turns_keep_write : TurnsKeepWrite
+turns_keep_write n turns next p t f = record {
+  own = f.own;
+  poll = f.poll;
+  each = All-weaker (λ i. Contains turns (written_turn i p)) (λ i. Contains (next ∷ turns) (written_turn i p))
+  (λ i h. Contains-later next turns (written_turn i p) h) t.poll.heard f.each;
+}
+
+pub faithful_write_is_written : FaithfulWriteIsWritten
+faithful_write_is_written n turns p t f m = record { who = t.poll.heard; majority = majority_more n t.poll f.poll m; each = f.each }
+
 faithful_write : (n : ℕ) (turns : List Turn) (p : Stamped) (heard : List Heard) → All (IsToldToWrite turns p) heard → IsFaithfulWrite n turns p (write_tally n p.ballot heard)
-faithful_write n turns p [] a = record { own = refl; poll = new_poll_of n None; each = All-nil (λ i. Contains turns (written_turn i p)) }
+faithful_write n turns p [] a = new_write_is_faithful n turns p
 faithful_write n turns p (h ∷ before) a =
-    write_hear n turns p (write_tally n p.ballot before) h (All-head (IsToldToWrite turns p) h before a)
+    hearing_keeps_write n turns p (write_tally n p.ballot before) h (All-head (IsToldToWrite turns p) h before a)
     (faithful_write n turns p before (All-tail (IsToldToWrite turns p) h before a))
 
 pub write_majority_is_written : WriteMajorityIsWritten
 write_majority_is_written n turns p heard a m =
-    let f = faithful_write n turns p heard a in
-    record {
-      who = (write_tally n p.ballot heard).poll.heard;
-      majority = majority_more n (write_tally n p.ballot heard).poll f.poll m;
-      each = f.each;
-    }
+    faithful_write_is_written n turns p (write_tally n p.ballot heard) (faithful_write n turns p heard a) m

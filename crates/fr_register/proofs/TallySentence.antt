@@ -9,7 +9,8 @@ use Rattle.fr_register.specs.Heard.{Heard, read_tally, write_tally, is_refusal, 
 use Rattle.fr_register.specs.Law.{ReadAnswersFirst, ReadHasGreatest, ReadHearsOnce, WriteAnswersFirst, WriteHearsOnce}
 use Rattle.fr_register.specs.declared.ask.CellTell.{CellTell}
 use Rattle.fr_register.specs.declared.ask.CellTell.TheVariants.{Promise, Written, Refused, TwoValues}
-use Rattle.fr_register.proofs.Tallied.{IsPollOf, new_poll_of, refusal_keeps}
+use Rattle.fr_register.specs.Faithful.{IsPollOf}
+use Rattle.fr_register.proofs.Tallied.{new_poll_of, refusal_keeps}
 use Rattle.fr_register.proofs.PollSentence.{Stands, waiting, stands_progress, stands_heard, IsSound, named, poll_next, next_poll_of, stands_next}
 
 -- ---- the read tally

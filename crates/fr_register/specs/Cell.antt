@@ -42,3 +42,14 @@ IsWithinPromise c = c.written ≤ c.promised
 abbrev pub IsAnsweredInPlace : CellState → CellAsk → Type 0
 IsAnsweredInPlace c (Read b) = b < c.promised
 IsAnsweredInPlace c (Write b x) = Unit {0}
+
+-- the asks and the tells that hold no value
+abbrev pub AskHoldsNone : CellAsk → Type 0
+AskHoldsNone (Read b) = Unit {0}
+AskHoldsNone (Write b x) = ⊥
+
+abbrev pub TellHoldsNone : CellTell → Type 0
+TellHoldsNone (Promise w v) = ⊥
+TellHoldsNone (Written b) = Unit {0}
+TellHoldsNone (Refused promised) = Unit {0}
+TellHoldsNone TwoValues = Unit {0}

@@ -1,13 +1,17 @@
 -- The laws of cells, of tallies and of the register, as statements.
-use Rattle.std.specs.Prelude.{◌≡◌, ℕ, ◌<◌, ◌≤◌, List, All, Contains}
+use Rattle.std.specs.Prelude.{◌≡◌, ℕ, ◌<◌, ◌≤◌, true, List, ◌∷◌, ◌++◌, All, Contains}
 use Rattle.fr_register.specs.CellState.{CellState}
-use Rattle.fr_register.specs.Cell.{IsWithinPromise}
-use Rattle.fr_register.specs.Poll.{Stamped}
-use Rattle.fr_register.specs.Tally.{is_promise, is_written, is_heard, progress_of}
-use Rattle.fr_register.specs.Heard.{Heard, read_tally, write_tally, decider, verdict, was_heard, promised_pairs, greatest_of}
+use Rattle.fr_register.specs.Cell.{answer_of, next_of, IsWithinPromise}
+use Rattle.fr_register.specs.Answers.{Change, IsPromised, IsTaken, IsRefused, IsSecond, Grows, IsAnswered}
+use Rattle.fr_register.specs.Poll.{Stamped, ReadState, WriteState}
+use Rattle.fr_register.specs.Tally.{is_promise, is_written, is_heard, progress_of, new_read, new_write, hear_read, hear_write}
+use Rattle.fr_register.specs.Faithful.{IsFaithfulRead, IsFaithfulWrite}
+use Rattle.fr_register.specs.Heard.{Heard, is_refusal, read_tally, write_tally, decider, verdict, was_heard, promised_pairs, greatest_of}
 use Rattle.fr_register.specs.History.{Turn, Asked, turns_of, cell_at, IsHistory, IsWritten, promise_turn}
 use Rattle.fr_register.specs.Chosen.{IsCellOf, IsKept, IsWrittenByMajority, IsReadByMajority, IsChosen, Descends, IsReady, HasParents}
 use Rattle.fr_register.specs.Made.{Making, IsToldToRead, IsToldToWrite, parent_of, IsMade, IsLawful}
+use Rattle.fr_register.specs.declared.ask.CellAsk.{CellAsk}
+use Rattle.fr_register.specs.declared.ask.CellTell.TheVariants.{Promise, Written, Refused, TwoValues}
 use Rattle.fr_register.specs.declared.poll.Progress.TheVariants.{Majority}
 
 -- ---- cells
@@ -27,6 +31,43 @@ abbrev pub PromisesAreKept : Type 0
 PromisesAreKept =
     (first : CellState) (turns : List Turn) (i b : ℕ) (p : Stamped) → IsWithinPromise first → IsHistory first turns →
     Contains turns (promise_turn i b p) → IsKept first turns i b p
+
+-- what an answer says of the cell and the ask
+abbrev pub PromiseAnswersRead : Type 0
+PromiseAnswersRead = (c : CellState) (a : CellAsk) (w : ℕ) (v : List ℕ) → answer_of c a ≡ Promise w v → IsPromised c a w v
+
+abbrev pub WrittenAnswersWrite : Type 0
+WrittenAnswersWrite = (c : CellState) (a : CellAsk) (b : ℕ) → answer_of c a ≡ Written b → IsTaken c a b
+
+abbrev pub RefusedIsBelow : Type 0
+RefusedIsBelow = (c : CellState) (a : CellAsk) (promised : ℕ) → answer_of c a ≡ Refused promised → IsRefused c a promised
+
+abbrev pub TwoValuesAnswersSecond : Type 0
+TwoValuesAnswersSecond = (c : CellState) (a : CellAsk) → answer_of c a ≡ TwoValues → IsSecond c a
+
+-- each ask is answered in one of the four ways
+abbrev pub AskIsChange : Type 0
+AskIsChange = (c : CellState) (a : CellAsk) → Change c a (answer_of c a) (next_of c a)
+
+-- an ask that is refused changes nothing
+abbrev pub RefusalChangesNothing : Type 0
+RefusalChangesNothing = (c : CellState) (a : CellAsk) → is_refusal (answer_of c a) ≡ true → next_of c a ≡ c
+
+-- a cell grows with each ask
+abbrev pub CellGrows : Type 0
+CellGrows = (c : CellState) (a : CellAsk) → IsWithinPromise c → Grows c (next_of c a)
+
+-- and with all that comes later
+abbrev pub CellsGrow : Type 0
+CellsGrow =
+    (first : CellState) (later before : List Turn) (i : ℕ) → IsWithinPromise first →
+    Grows (cell_at first before i) (cell_at first (later ++ before) i)
+
+-- each turn of a history was answered by its cell, in the state of then
+abbrev pub TurnsAreAnswered : Type 0
+TurnsAreAnswered =
+    (first : CellState) (turns : List Turn) (t : Turn) → IsWithinPromise first → IsHistory first turns → Contains turns t →
+    IsAnswered first turns t
 
 -- ---- tallies
 
@@ -54,6 +95,44 @@ abbrev pub WriteHearsOnce : Type 0
 WriteHearsOnce =
     (n b : ℕ) (tells : List Heard) (i : ℕ) →
     is_heard (write_tally n b tells).poll i ≡ was_heard n (is_written b) tells i
+
+-- a read tally that heard nothing is faithful, and stays so with each tell that it hears and with each further turn
+abbrev pub NewReadIsFaithful : Type 0
+NewReadIsFaithful = (n : ℕ) (turns : List Turn) (b : ℕ) → IsFaithfulRead n turns b (new_read n b)
+
+abbrev pub HearingKeepsRead : Type 0
+HearingKeepsRead =
+    (n : ℕ) (turns : List Turn) (b : ℕ) (t : ReadState) (h : Heard) → IsToldToRead turns b h → IsFaithfulRead n turns b t →
+    IsFaithfulRead n turns b (hear_read t h.cell h.tell)
+
+abbrev pub TurnsKeepRead : Type 0
+TurnsKeepRead =
+    (n : ℕ) (turns : List Turn) (next : Turn) (b : ℕ) (t : ReadState) → IsFaithfulRead n turns b t → IsFaithfulRead n (next ∷ turns) b t
+
+-- one with a majority has the greatest pair of a read majority
+abbrev pub FaithfulReadIsRead : Type 0
+FaithfulReadIsRead =
+    (n : ℕ) (turns : List Turn) (b : ℕ) (t : ReadState) → IsFaithfulRead n turns b t → progress_of t.poll ≡ Majority →
+    IsReadByMajority n turns b t.greatest
+
+-- a write tally that heard nothing is faithful, and stays so with each tell that it hears and with each further turn
+abbrev pub NewWriteIsFaithful : Type 0
+NewWriteIsFaithful = (n : ℕ) (turns : List Turn) (p : Stamped) → IsFaithfulWrite n turns p (new_write n p.ballot)
+
+abbrev pub HearingKeepsWrite : Type 0
+HearingKeepsWrite =
+    (n : ℕ) (turns : List Turn) (p : Stamped) (t : WriteState) (h : Heard) → IsToldToWrite turns p h → IsFaithfulWrite n turns p t →
+    IsFaithfulWrite n turns p (hear_write t h.cell h.tell)
+
+abbrev pub TurnsKeepWrite : Type 0
+TurnsKeepWrite =
+    (n : ℕ) (turns : List Turn) (next : Turn) (p : Stamped) (t : WriteState) → IsFaithfulWrite n turns p t → IsFaithfulWrite n (next ∷ turns) p t
+
+-- one with a majority shows that a majority holds the pair
+abbrev pub FaithfulWriteIsWritten : Type 0
+FaithfulWriteIsWritten =
+    (n : ℕ) (turns : List Turn) (p : Stamped) (t : WriteState) → IsFaithfulWrite n turns p t → progress_of t.poll ≡ Majority →
+    IsWrittenByMajority n turns p
 
 -- a read tally with a majority of promises that were told to its read has the greatest pair of a read majority
 abbrev pub ReadMajorityIsRead : Type 0
@@ -128,6 +207,12 @@ abbrev pub WrittenIsMade : Type 0
 WrittenIsMade =
     (n : ℕ) (first : CellState) (making : ℕ → Making) (turns : List Turn) (p : Stamped) →
     IsLawful n first making turns → IsWritten turns p → IsMade n first making turns p.ballot p.value
+
+-- what ballots have read that wrote nothing does not matter
+abbrev pub OnlyWritersMatter : Type 0
+OnlyWritersMatter =
+    (n : ℕ) (first : CellState) (making other : ℕ → Making) (turns : List Turn) →
+    ((p : Stamped) → IsWritten turns p → making p.ballot ≡ other p.ballot) → IsLawful n first making turns → IsLawful n first other turns
 
 -- in such a list each ballot that wrote has its parent
 abbrev pub ListHasParents : Type 0

@@ -7,4 +7,7 @@ pub mod Heard
 pub mod History
 pub mod Chosen
 pub mod Made
+pub mod Same
+pub mod Answers
+pub mod Faithful
 pub mod Law

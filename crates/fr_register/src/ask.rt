@@ -1,11 +1,13 @@
 //! What a cell is asked, and what it tells.
-ghost use Rattle.std.specs.Prelude.{◌≡◌, IfOk};
+ghost use Rattle.std.specs.Prelude.{◌≡◌, IfOk, IsOk};
+ghost use Rattle.fr_register.specs.Cell.{AskHoldsNone, TellHoldsNone};
+ghost use Rattle.fr_register.specs.Same.{is_same_cell_ask, is_same_cell_tell};
 
 use crate::value::CellValue;
 use fr_base::{Ballot, Memory};
 
 /// What a cell is asked: the two phases of disk Paxos (Gafni and Lamport, 2003).
-#[derive(Debug, Drop, PartialEq, Eq)]
+#[derive(Clone, Debug, Drop, PartialEq, Eq)]
 pub enum CellAsk {
     /// To refuse every lower ballot from now on, and to tell what was written last.
     Read { ballot: Ballot },
@@ -14,22 +16,24 @@ pub enum CellAsk {
 }
 
 impl CellAsk {
-    /// An equal ask.
+    /// An equal ask. That of a read takes no memory.
     pub fn copy(&self) -> Result<Self, Memory>
-        ensures { IfOk result (λ ask. ask ≡ self.now) }
+        ensures ok { IfOk result (λ ask. ask ≡ self.now) }
+        ensures free { AskHoldsNone self.now → IsOk result }
     {
-        Ok(match self {
-            CellAsk::Read { ballot } => CellAsk::Read { ballot: *ballot },
-            CellAsk::Write { ballot, value } => CellAsk::Write {
-                ballot: *ballot,
-                value: value.copy()?,
-            },
-        })
+        Ok(self.clone()?)
+    }
+
+    /// Whether the other is the same ask, as `==` says.
+    pub fn is_same(&self, other: &CellAsk) -> bool
+        ensures { result ≡ is_same_cell_ask self.now other.now }
+    {
+        self == other
     }
 }
 
 /// What a cell tells.
-#[derive(Debug, Drop, PartialEq, Eq)]
+#[derive(Clone, Debug, Drop, PartialEq, Eq)]
 pub enum CellTell {
     /// The read's ballot is promised; `value` was written last, under `written`.
     Promise { written: Ballot, value: CellValue },
@@ -42,20 +46,18 @@ pub enum CellTell {
 }
 
 impl CellTell {
-    /// An equal tell.
+    /// An equal tell. That of each but a promise takes no memory.
     pub fn copy(&self) -> Result<Self, Memory>
-        ensures { IfOk result (λ tell. tell ≡ self.now) }
+        ensures ok { IfOk result (λ tell. tell ≡ self.now) }
+        ensures free { TellHoldsNone self.now → IsOk result }
     {
-        Ok(match self {
-            CellTell::Promise { written, value } => CellTell::Promise {
-                written: *written,
-                value: value.copy()?,
-            },
-            CellTell::Written { ballot } => CellTell::Written { ballot: *ballot },
-            CellTell::Refused { promised } => CellTell::Refused {
-                promised: *promised,
-            },
-            CellTell::TwoValues => CellTell::TwoValues,
-        })
+        Ok(self.clone()?)
+    }
+
+    /// Whether the other is the same tell, as `==` says.
+    pub fn is_same(&self, other: &CellTell) -> bool
+        ensures { result ≡ is_same_cell_tell self.now other.now }
+    {
+        self == other
     }
 }

@@ -12,7 +12,7 @@ use std::marker::Model;
 
 /// A coordinator's cell. It keeps the greatest ballot that it promised, and the value of its last write
 /// with the ballot of that write, which is never above the promised one.
-#[derive(Debug, Drop)]
+#[derive(Clone, Debug, Drop)]
 pub struct Cell {
     promised: Ballot,
     written: Ballot,
@@ -68,11 +68,7 @@ impl Cell {
     pub fn copy(&self) -> Result<Self, Memory>
         ensures { IfOk result (λ cell. cell ≡ self.now) }
     {
-        Ok(Cell {
-            promised: self.promised,
-            written: self.written,
-            value: self.value.copy()?,
-        })
+        Ok(self.clone()?)
     }
 
     fn read(&mut self, ballot: Ballot) -> Result<CellTell, Memory>

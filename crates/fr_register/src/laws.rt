@@ -1,14 +1,31 @@
 //! Laws of cells, of tallies, and of what is written after a choice.
-ghost use Rattle.fr_register.specs.Law.{CellsHoldTheirLast, PromisesAreKept};
+ghost use Rattle.fr_register.specs.Law.{CellsHoldTheirLast, PromisesAreKept, CellGrows, CellsGrow};
+ghost use Rattle.fr_register.specs.Law.{AskIsChange, PromiseAnswersRead, WrittenAnswersWrite, RefusedIsBelow, TwoValuesAnswersSecond, RefusalChangesNothing, TurnsAreAnswered};
 ghost use Rattle.fr_register.specs.Law.{ReadAnswersFirst, ReadHasGreatest, ReadHearsOnce, WriteAnswersFirst, WriteHearsOnce};
-ghost use Rattle.fr_register.specs.Law.{LaterInListDescends, ReadyInListDescends, StartInListIsLeast, OneInListIsChosen, EachListIsAHistory, ReadMajorityIsRead, WriteMajorityIsWritten, WrittenIsMade};
+ghost use Rattle.fr_register.specs.Law.{NewReadIsFaithful, HearingKeepsRead, TurnsKeepRead, FaithfulReadIsRead, NewWriteIsFaithful, HearingKeepsWrite, TurnsKeepWrite, FaithfulWriteIsWritten};
+ghost use Rattle.fr_register.specs.Law.{LaterInListDescends, ReadyInListDescends, StartInListIsLeast, OneInListIsChosen, EachListIsAHistory, ReadMajorityIsRead, WriteMajorityIsWritten, WrittenIsMade, OnlyWritersMatter};
 ghost use Rattle.fr_register.specs.Law.{LaterDescends, ReadyDescends, StartIsLeast, OneIsChosen, ListHasParents, MadeIsReady};
 
 /// Whatever is delivered to the cells in whatever order: each cell has the greatest pair that it took,
 /// and where it promised a ballot it takes no pair between the one that it told then and that ballot.
+/// Neither of its ballots falls, and while it has written under one ballot it has one value.
 pub fn cell_law()
     ensures holds { CellsHoldTheirLast }
     ensures keeps { PromisesAreKept }
+    ensures grows { CellGrows }
+    ensures grow { CellsGrow }
+{}
+
+/// What each answer of a cell says of the ask and of the cell, and that a refusal changes nothing. Each turn
+/// of a history was answered so, by its cell in the state of then.
+pub fn answer_law()
+    ensures change { AskIsChange }
+    ensures promise { PromiseAnswersRead }
+    ensures written { WrittenAnswersWrite }
+    ensures refused { RefusedIsBelow }
+    ensures two_values { TwoValuesAnswersSecond }
+    ensures unchanged { RefusalChangesNothing }
+    ensures turns { TurnsAreAnswered }
 {}
 
 /// Whatever tells a tally hears in whatever order: its answer is what the first tell that refuses or
@@ -19,6 +36,20 @@ pub fn tally_law()
     ensures read_hears { ReadHearsOnce }
     ensures write { WriteAnswersFirst }
     ensures write_hears { WriteHearsOnce }
+{}
+
+/// What a tally keeps with each tell that it hears, where those of its own ask were told to it: one that
+/// heard nothing is faithful, it stays so with each tell and each further turn, and with a majority it
+/// shows that a majority of the cells was read, or holds the pair.
+pub fn faithful_law()
+    ensures new_read { NewReadIsFaithful }
+    ensures read_hears { HearingKeepsRead }
+    ensures read_stays { TurnsKeepRead }
+    ensures read { FaithfulReadIsRead }
+    ensures new_write { NewWriteIsFaithful }
+    ensures write_hears { HearingKeepsWrite }
+    ensures write_stays { TurnsKeepWrite }
+    ensures write { FaithfulWriteIsWritten }
 {}
 
 /// What is written after a choice descends from it: over every list of deliveries to the cells, with
@@ -34,6 +65,7 @@ pub fn register_law()
     ensures read_tally { ReadMajorityIsRead }
     ensures write_tally { WriteMajorityIsWritten }
     ensures made { WrittenIsMade }
+    ensures makings { OnlyWritersMatter }
 {}
 
 /// The same over what each ballot has read, whenever it was told: where the greatest pair of each

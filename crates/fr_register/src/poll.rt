@@ -26,7 +26,7 @@ pub struct Refusal {
 
 /// A poll of a number of cells: the indexes that gave the answer that it waits for, in order, and the
 /// refusal that ended it.
-#[derive(Debug, Drop)]
+#[derive(Clone, Debug, Drop)]
 pub struct CellPoll {
     cells: u8,
     heard: Vec<u8>,
@@ -118,16 +118,5 @@ impl CellPoll {
         if self.progress() == Progress::Waiting {
             self.refusal = Some(Refusal { index, promised });
         }
-    }
-
-    /// An equal poll.
-    pub fn copy(&self) -> Result<Self, Memory>
-        ensures { IfOk result (λ poll. poll ≡ self.now) }
-    {
-        Ok(CellPoll {
-            cells: self.cells,
-            heard: self.heard.clone()?,
-            refusal: self.refusal,
-        })
     }
 }

@@ -10,7 +10,7 @@ use std::alloc::Global;
 use std::marker::Model;
 
 /// A tally of the promises to the reads of one ballot. What it answered stays, and it goes on hearing.
-#[derive(Debug, Drop)]
+#[derive(Clone, Debug, Drop)]
 pub struct ReadTally {
     ballot: Ballot,
     poll: CellPoll,
@@ -108,11 +108,6 @@ impl ReadTally {
     pub fn copy(&self) -> Result<Self, Memory>
         ensures { IfOk result (λ tally. tally ≡ self.now) }
     {
-        Ok(ReadTally {
-            ballot: self.ballot,
-            poll: self.poll.copy()?,
-            greatest_ballot: self.greatest_ballot,
-            greatest_value: self.greatest_value.copy()?,
-        })
+        Ok(self.clone()?)
     }
 }

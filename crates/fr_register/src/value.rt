@@ -9,7 +9,7 @@ use std::alloc::Global;
 use std::marker::Model;
 
 /// The value of a write: 0 to 4,096 bytes. Contracts see it as the list of its bytes.
-#[derive(Debug, Drop)]
+#[derive(Clone, Debug, Drop)]
 pub struct CellValue {
     bytes: Bytes,
 }
@@ -67,9 +67,7 @@ impl CellValue {
     pub fn copy(&self) -> Result<Self, Memory>
         ensures { IfOk result (λ v. v ≡ self.now) }
     {
-        Ok(CellValue {
-            bytes: self.bytes.copy()?,
-        })
+        Ok(self.clone()?)
     }
 
     /// Gives the bytes back. It takes no memory.

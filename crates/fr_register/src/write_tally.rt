@@ -9,7 +9,7 @@ use std::alloc::Global;
 use std::marker::Model;
 
 /// A tally of the cells that hold the write of one ballot. What it answered stays.
-#[derive(Debug, Drop)]
+#[derive(Clone, Debug, Drop)]
 pub struct WriteTally {
     ballot: Ballot,
     poll: CellPoll,
@@ -90,9 +90,6 @@ impl WriteTally {
     pub fn copy(&self) -> Result<Self, Memory>
         ensures { IfOk result (λ tally. tally ≡ self.now) }
     {
-        Ok(WriteTally {
-            ballot: self.ballot,
-            poll: self.poll.copy()?,
-        })
+        Ok(self.clone()?)
     }
 }
