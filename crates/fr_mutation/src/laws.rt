@@ -1,5 +1,5 @@
 //! Laws of the definitions, in the words of who uses a map.
-ghost use Rattle.fr_mutation.specs.Laws.{ValueAfterLaw, AfterAllLaw, ClipLaw, ClipTouchesLaw, ClipEmptyLaw, ClipTwiceLaw, SumLaw};
+ghost use Rattle.fr_mutation.specs.Law.{ValueAfterLaw, AfterAllLaw, ClipLaw, ClipTouchesLaw, ClipEmptyLaw, ClipTwiceLaw, SumLaw};
 
 /// The map after a batch has at each key the value that the mutations make, one after the other, of the
 /// value before.

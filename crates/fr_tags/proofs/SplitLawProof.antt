@@ -9,7 +9,7 @@ use Rattle.fr_base.specs.Bytes.{bytes_cmp, bytes_total, bytes_exact}
 use Rattle.fr_mutation.specs.declared.mutation.Mutation.{Mutation}
 use Rattle.fr_mutation.specs.declared.shard.Shard.{Shard}
 use Rattle.fr_base.specs.Map.{Map}
-use Rattle.fr_mutation.specs.Laws.{ClipLaw, ValueAfterLaw}
+use Rattle.fr_mutation.specs.Law.{ClipLaw, ValueAfterLaw}
 use Rattle.fr_mutation.specs.Mutation.{after}
 use Rattle.fr_mutation.specs.Clip.{clipped}
 use Rattle.fr_mutation.specs.Shard.{in_shard, part}

@@ -57,7 +57,7 @@ fn mutations_act_in_turn(rt: HostRuntime) -> Result<(), Fail> {
     apply(
         alloc,
         &mut rows,
-        &batch(alloc, second.as_slice())?.copy(alloc)?,
+        &batch(alloc, second.as_slice())?.copy()?,
     )?;
     assert_eq!(rt; rows.len(), 4);
     let wanted: [(&[u8], &[u8]); 4] = [

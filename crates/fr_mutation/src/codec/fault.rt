@@ -1,27 +1,51 @@
 //! Why bytes are no batch.
+ghost use Rattle.std.specs.Prelude.{◌≡◌, Some};
+ghost use Rattle.fr_mutation.specs.Names.{decode_fault_name};
+
 use fr_base::Memory as NoMemory;
-use thiserror::Error;
+use std::error::Error;
+use std::fmt;
 
 /// Why bytes are no batch: the first fault that reading them from left to right meets.
-#[derive(Clone, Copy, Debug, PartialEq, Eq, Error)]
+#[derive(Clone, Copy, Debug, PartialEq, Eq)]
 pub enum DecodeFault {
     /// The bytes end before a field does.
-    #[error("Short")]
     Short,
     /// A byte is no known format, or no known kind of mutation.
-    #[error("UnknownKind")]
     UnknownKind,
     /// There are more than 1,000 mutations, or a key has more than 10,000 bytes, or a value or a
     /// parameter more than 100,000. It is tested before these bytes are looked at.
-    #[error("OverLimit")]
     OverLimit,
     /// A clear begins after its end.
-    #[error("Inverted")]
     Inverted,
     /// There is no memory. It is answered only for bytes in which there is no other fault.
-    #[error("Memory")]
     Memory,
 }
+
+impl DecodeFault {
+    /// The name of the fault, which is also how it is displayed.
+    pub fn name(&self) -> &'static str
+        ensures { result.now ≡ decode_fault_name self.now }
+    {
+        match self {
+            DecodeFault::Short => "Short",
+            DecodeFault::UnknownKind => "UnknownKind",
+            DecodeFault::OverLimit => "OverLimit",
+            DecodeFault::Inverted => "Inverted",
+            DecodeFault::Memory => "Memory",
+        }
+    }
+}
+
+impl fmt::Display for DecodeFault {
+    ghost output = { λ fault. Some (decode_fault_name fault) };
+
+    fn fmt<W: fmt::Write>(&self, f: &mut fmt::Formatter<W>) -> fmt::Result {
+        f.write_str(self.name())
+    }
+}
+
+impl Error for DecodeFault {}
 
 impl From<NoMemory> for DecodeFault {
     ghost use Rattle.std.specs.Prelude.{◌≡◌};

@@ -192,9 +192,6 @@ pub fn decode(alloc: Global, bytes: &[u8]) -> Result<(Batch, usize), DecodeFault
     let (count, front) = header_at(bytes)?;
     let rest = skip_mutations(count, front)?;
     let mutations = copy_mutations(alloc, count, front)?;
-    // What was read is within the limits.
-    let Ok(batch) = Batch::new(mutations) else {
-        unreachable!()
-    };
-    Ok((batch, bytes.len() - rest.len()))
+    // Each limit was tested on the way.
+    Ok((Batch::within(mutations), bytes.len() - rest.len()))
 }

@@ -34,11 +34,11 @@ returns-in_err-mutations-clause-refused c =
 pub returns-in_err-mutations-clause-memory : goal.returns-in_err-mutations-clause-memory
 returns-in_err-mutations-clause-memory c = λ _. something_is_decoded c.args.bytes.now c.in_ok-count.count c.in_ok-count.front.now c.in_ok-rest.rest.now c.in_ok-count.ensures c.in_ok-rest.ensures
 
-pub unreachable-requires : goal.unreachable-requires
-unreachable-requires c =
+pub within-requires : goal.within-requires
+within-requires c =
     let r = is_read c.args.bytes.now c.in_ok-count.count c.in_ok-count.front.now c.in_ok-rest.rest.now c.in_ok-mutations.mutations.items c.in_ok-count.ensures c.in_ok-rest.ensures c.in_ok-mutations.ensures in
     let w = batch_takes c.args.bytes.now (c.in_ok-mutations.mutations.items, c.in_ok-rest.rest.now) (λ i. omega (arith, c.type_inv.bytes i)) r in
-    cc (w.1, c.in_default.ensures.fault)
+    w.1
 
 pub overflow_sub-result : goal.overflow_sub-result
 overflow_sub-result c =
@@ -49,15 +49,15 @@ overflow_sub-result c =
 pub returns-clause-ok : goal.returns-clause-ok
 returns-clause-ok c =
     let r = is_read c.args.bytes.now c.in_ok-count.count c.in_ok-count.front.now c.in_ok-rest.rest.now c.in_ok-mutations.mutations.items c.in_ok-count.ensures c.in_ok-rest.ensures c.in_ok-mutations.ensures in
-    rw c.in-Ok.ensures.ok (is_decoded c.args.bytes.now c.in_ok-rest.rest.now c.in_ok-mutations.mutations.items r)
+    rw c.within.ensures (is_decoded c.args.bytes.now c.in_ok-rest.rest.now c.in_ok-mutations.mutations.items r)
 
 pub returns-clause-spelled : goal.returns-clause-spelled
 returns-clause-spelled c =
     let r = is_read c.args.bytes.now c.in_ok-count.count c.in_ok-count.front.now c.in_ok-rest.rest.now c.in_ok-mutations.mutations.items c.in_ok-count.ensures c.in_ok-rest.ensures c.in_ok-mutations.ensures in
     let s = read_is_spelled c.args.bytes.now (c.in_ok-mutations.mutations.items, c.in_ok-rest.rest.now) (λ i. omega (arith, c.type_inv.bytes i)) r in
-    rw c.in-Ok.ensures.ok (omega arith, s.1)
+    rw c.within.ensures (omega arith, s.1)
 
 pub returns-clause-refused : goal.returns-clause-refused
 returns-clause-refused c =
     let r = is_read c.args.bytes.now c.in_ok-count.count c.in_ok-count.front.now c.in_ok-rest.rest.now c.in_ok-mutations.mutations.items c.in_ok-count.ensures c.in_ok-rest.ensures c.in_ok-mutations.ensures in
-    rw c.in-Ok.ensures.ok (answers _ (decoded c.args.bytes.now) _ refl (is_decoded c.args.bytes.now c.in_ok-rest.rest.now c.in_ok-mutations.mutations.items r))
+    rw c.within.ensures (answers _ (decoded c.args.bytes.now) _ refl (is_decoded c.args.bytes.now c.in_ok-rest.rest.now c.in_ok-mutations.mutations.items r))
