@@ -80,6 +80,45 @@ fn refused_bytes(rt: HostRuntime) {
     }
 }
 
+/// Bytes with two faults: the one that is met first from the left is answered.
+#[test]
+fn the_first_fault_from_the_left(rt: HostRuntime) {
+    let rows: [(&[u8], DecodeFault); 8] = [
+        // Another format, and no number of mutations.
+        (&[0x02], DecodeFault::UnknownKind),
+        // Another format, and 1,001 mutations.
+        (&[0x02, 0x03, 0xe9], DecodeFault::UnknownKind),
+        // 1,001 mutations, and the first of no kind.
+        (&[0x01, 0x03, 0xe9, 0x09], DecodeFault::OverLimit),
+        // A mutation of no kind, and a length of 10,001.
+        (&[0x01, 0x00, 0x01, 0x09, 0x27, 0x11], DecodeFault::UnknownKind),
+        // A key of 10,001 bytes that are not there.
+        (&[0x01, 0x00, 0x01, 0x01, 0x27, 0x11], DecodeFault::OverLimit),
+        // A clear whose end is below its begin, as far as it is there, and is cut off.
+        (
+            &[0x01, 0x00, 0x01, 0x02, 0x00, 0x01, 0x62, 0x00, 0x02, 0x61],
+            DecodeFault::Short,
+        ),
+        // A clear that begins after its end, and no second mutation.
+        (
+            &[0x01, 0x00, 0x02, 0x02, 0x00, 0x01, 0x62, 0x00, 0x01, 0x61],
+            DecodeFault::Inverted,
+        ),
+        // A clear whose second length is 10,001, before the two ends could be compared.
+        (
+            &[0x01, 0x00, 0x01, 0x02, 0x00, 0x01, 0x62, 0x27, 0x11, 0x61],
+            DecodeFault::OverLimit,
+        ),
+    ];
+    for (bytes, want) in rows {
+        let Err(fault) = decode(rt.alloc(), bytes) else {
+            panic!(rt; "read: {bytes:?}");
+        };
+        assert_eq!(rt; fault, want, "{bytes:?}");
+    }
+    assert_eq!(rt; DecodeFault::UnknownKind.name(), "UnknownKind");
+}
+
 /// Each front of a row is short. With one byte changed it is another batch, whose bytes are those that
 /// were read, or it is refused.
 #[test]

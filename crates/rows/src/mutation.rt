@@ -130,6 +130,83 @@ fn batches_keep_the_limits(rt: HostRuntime) -> Result<(), Fail> {
     Ok(())
 }
 
+/// Of two limits that mutations break, the one that is tested first: the number of mutations, then one
+/// mutation after the other, a key before a value, and a key before the order of a clear's ends.
+#[test]
+fn the_first_limit_is_answered(rt: HostRuntime) -> Result<(), Fail> {
+    let alloc = rt.alloc();
+    let long_key = vec![in alloc; 0x62u8; 10_001]?;
+    let long_value = vec![in alloc; 0u8; 100_001]?;
+    let set = Kind::Set;
+    let add = Kind::Atomic(AtomicOp::Add);
+    let rows: [(&[Mutation], BatchFault); 6] = [
+        (
+            &[keyed(alloc, set, long_key.as_slice(), long_value.as_slice())?],
+            BatchFault::KeyTooLong,
+        ),
+        (
+            &[keyed(alloc, add, long_key.as_slice(), long_value.as_slice())?],
+            BatchFault::KeyTooLong,
+        ),
+        (
+            &[clear(alloc, long_key.as_slice(), b"a")?],
+            BatchFault::KeyTooLong,
+        ),
+        (
+            &[
+                keyed(alloc, set, b"a", long_value.as_slice())?,
+                keyed(alloc, set, long_key.as_slice(), b"")?,
+            ],
+            BatchFault::ValueTooLong,
+        ),
+        (
+            &[
+                clear(alloc, b"b", b"a")?,
+                keyed(alloc, add, b"a", long_value.as_slice())?,
+            ],
+            BatchFault::Inverted,
+        ),
+        (
+            &[
+                keyed(alloc, add, b"a", long_value.as_slice())?,
+                clear(alloc, b"b", b"a")?,
+            ],
+            BatchFault::ValueTooLong,
+        ),
+    ];
+    for (mutations, want) in rows {
+        let mut copies = Vec::new(alloc);
+        for mutation in mutations {
+            copies.push(mutation.copy()?)?;
+        }
+        assert_eq!(rt; Batch::new(copies).err(), Some(want));
+    }
+    let mut many = Vec::new(alloc);
+    for _ in 0..1_001 {
+        many.push(clear(alloc, b"b", b"a")?)?;
+    }
+    assert_eq!(rt; Batch::new(many).err(), Some(BatchFault::TooMany));
+    Ok(())
+}
+
+#[test]
+fn an_operation_is_found_by_its_name(rt: HostRuntime) {
+    let rows = [
+        ("add", AtomicOp::Add),
+        ("and", AtomicOp::And),
+        ("or", AtomicOp::Or),
+        ("xor", AtomicOp::Xor),
+        ("max", AtomicOp::Max),
+        ("min", AtomicOp::Min),
+    ];
+    for (name, op) in rows {
+        assert_eq!(rt; op.name(), name);
+        assert_eq!(rt; AtomicOp::from_name(name), Some(op));
+    }
+    assert_eq!(rt; AtomicOp::from_name("set"), None);
+    assert_eq!(rt; BatchFault::Inverted.name(), "Inverted");
+}
+
 /// Whether there is one mutation, and it is this clear.
 fn is_clear(batch: &Batch, from: &[u8], to: &[u8]) -> bool {
     match batch.mutations() {
