@@ -1,5 +1,5 @@
 -- Each write among the deliveries is made rightly, and a majority holds the second ballot's pair.
-use Rattle.std.proofs.Common.{◌≡◌, ℕ, List, [], ◌∷◌, refl, subst, arith}
+use Rattle.std.proofs.Common.{ℕ, List, [], ◌∷◌, refl, subst, arith}
 use Rattle.std.specs.List.{All, Contains}
 use Rattle.std.proofs.lemmas.List.Elements.{All-nil, All-cons}
 use Rattle.fr_register.specs.Heard.{Heard}
@@ -19,31 +19,41 @@ both turns b g h p q = All-cons (IsToldToRead turns b) g (h ∷ []) p (All-cons 
 -- the five writes, each from what stands before it
 first_to_left : IsMade 3 begun readings (turns_of begun both_read) 513 (1 ∷ [])
 first_to_left = record {
-  one_value = refl; unused = λ e. absurd (omega (arith, e)); majority = refl;
+  one_value = refl;
+  unused = λ e. absurd (omega (arith, e));
+  majority = refl;
   told = both (turns_of begun both_read) 513 (promise_of 1 257 (7 ∷ [])) (promise_of 0 257 (7 ∷ [])) (told (turns_of begun both_read) 513 1 257 (7 ∷ []) (2, omega arith, refl)) (told (turns_of begun both_read) 513 0 257 (7 ∷ []) (3, omega arith, refl));
 }
 
 first_to_middle : IsMade 3 begun readings (turns_of begun (read_at 1 513 ∷ first_wrote)) 513 (1 ∷ [])
 first_to_middle = record {
-  one_value = refl; unused = λ e. absurd (omega (arith, e)); majority = refl;
+  one_value = refl;
+  unused = λ e. absurd (omega (arith, e));
+  majority = refl;
   told = both (turns_of begun (read_at 1 513 ∷ first_wrote)) 513 (promise_of 1 257 (7 ∷ [])) (promise_of 0 257 (7 ∷ [])) (told (turns_of begun (read_at 1 513 ∷ first_wrote)) 513 1 257 (7 ∷ []) (4, omega arith, refl)) (told (turns_of begun (read_at 1 513 ∷ first_wrote)) 513 0 257 (7 ∷ []) (5, omega arith, refl));
 }
 
 second_to_middle : IsMade 3 begun readings (turns_of begun first_lost) 514 (2 ∷ [])
 second_to_middle = record {
-  one_value = refl; unused = λ e. absurd (omega (arith, e)); majority = refl;
+  one_value = refl;
+  unused = λ e. absurd (omega (arith, e));
+  majority = refl;
   told = both (turns_of begun first_lost) 514 (promise_of 2 257 (7 ∷ [])) (promise_of 1 257 (7 ∷ [])) (told (turns_of begun first_lost) 514 2 257 (7 ∷ []) (3, omega arith, refl)) (told (turns_of begun first_lost) 514 1 257 (7 ∷ []) (4, omega arith, refl));
 }
 
 second_to_right : IsMade 3 begun readings (turns_of begun second_wrote) 514 (2 ∷ [])
 second_to_right = record {
-  one_value = refl; unused = λ e. absurd (omega (arith, e)); majority = refl;
+  one_value = refl;
+  unused = λ e. absurd (omega (arith, e));
+  majority = refl;
   told = both (turns_of begun second_wrote) 514 (promise_of 2 257 (7 ∷ [])) (promise_of 1 257 (7 ∷ [])) (told (turns_of begun second_wrote) 514 2 257 (7 ∷ []) (4, omega arith, refl)) (told (turns_of begun second_wrote) 514 1 257 (7 ∷ []) (5, omega arith, refl));
 }
 
 third_to_left : IsMade 3 begun readings (turns_of begun third_read) 769 (3 ∷ [])
 third_to_left = record {
-  one_value = refl; unused = λ e. absurd (omega (arith, e)); majority = refl;
+  one_value = refl;
+  unused = λ e. absurd (omega (arith, e));
+  majority = refl;
   told = both (turns_of begun third_read) 769 (promise_of 1 514 (2 ∷ [])) (promise_of 0 513 (1 ∷ [])) (told (turns_of begun third_read) 769 1 514 (2 ∷ []) (0, omega arith, refl)) (told (turns_of begun third_read) 769 0 513 (1 ∷ []) (1, omega arith, refl));
 }
 

@@ -12,7 +12,8 @@ use Rattle.fr_mutation.specs.declared.codec.kind.Kind.TheVariants as kinds
 use Rattle.fr_mutation.specs.declared.mutation.Mutation.{Mutation}
 use Rattle.fr_mutation.specs.declared.mutation.Mutation.TheVariants.{Set, Clear, Atomic}
 use Rattle.fr_mutation.specs.Limits.{keyed_fault, clear_fault, mutation_fault}
-use Rattle.fr_mutation.specs.CodecKind.{op_byte, kind_byte, all_kinds, kind_of, mutation_of}
+use Rattle.fr_mutation.specs.Atomic.{op_byte}
+use Rattle.fr_mutation.specs.CodecKind.{kind_byte, all_kinds, kind_of, mutation_of}
 use Rattle.fr_mutation.specs.CodecSpelling.{spelled_key, spelled_operand, spelled_keyed, spelled_mutation}
 use Rattle.fr_mutation.specs.CodecReading.{◌>>=◌, known, kind_at, key_at, operand_at, clear_at, keyed_at, fields_at, mutation_at}
 use Rattle.fr_mutation.proofs.CodecLimits.{keyed_limits, keyed_within, clear_limits, clear_within}

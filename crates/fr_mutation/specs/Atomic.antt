@@ -1,5 +1,5 @@
--- The atomic operations: what each makes of an old value and a parameter, and its name.
-use Rattle.std.specs.Prelude.{ℕ, List, [], ◌∷◌, Option, unwrap_or, find, codes}
+-- The atomic operations: what each makes of an old value and a parameter, its name and its byte.
+use Rattle.std.specs.Prelude.{ℕ, ◌==◌, List, [], ◌∷◌, Option, unwrap_or, find, codes}
 use Rattle.std.specs.Option.{option_map_or}
 use Rattle.fr_base.specs.Bytes.{bytes_eq}
 use Rattle.fr_mutation.specs.Values.{sum_of, and_of, or_of, xor_of, greater_of, smaller_of}
@@ -24,10 +24,23 @@ op_name ops.Xor = codes "xor"
 op_name ops.Max = codes "max"
 op_name ops.Min = codes "min"
 
+-- the byte of each operation in the bytes of a batch
+abbrev pub op_byte : AtomicOp → ℕ
+op_byte ops.Add = 3
+op_byte ops.And = 4
+op_byte ops.Or = 5
+op_byte ops.Xor = 6
+op_byte ops.Max = 7
+op_byte ops.Min = 8
+
 -- every operation
 abbrev pub all_ops : List AtomicOp
 all_ops = ops.Add ∷ ops.And ∷ ops.Or ∷ ops.Xor ∷ ops.Max ∷ ops.Min ∷ []
 
 -- the operation that has this name
 abbrev pub op_named : List ℕ → Option AtomicOp
-op_named name = find (λ op. bytes_eq name (op_name op)) all_ops
+op_named name = find (λ op. bytes_eq (op_name op) name) all_ops
+
+-- the operation that has this byte
+abbrev pub op_with : ℕ → Option AtomicOp
+op_with byte = find (λ op. op_byte op == byte) all_ops

@@ -1,21 +1,10 @@
 -- The kinds of mutation in the bytes of a batch.
 use Rattle.std.specs.Prelude.{ℕ, ◌==◌, List, ◌∷◌, map, Option, find}
-use Rattle.fr_mutation.specs.declared.atomic.AtomicOp.{AtomicOp}
-use Rattle.fr_mutation.specs.declared.atomic.AtomicOp.TheVariants as ops
 use Rattle.fr_mutation.specs.declared.mutation.Mutation.{Mutation}
 use Rattle.fr_mutation.specs.declared.mutation.Mutation.TheVariants.{Set, Clear, Atomic}
 use Rattle.fr_mutation.specs.declared.codec.kind.Kind.{Kind}
 use Rattle.fr_mutation.specs.declared.codec.kind.Kind.TheVariants as kinds
-use Rattle.fr_mutation.specs.Atomic.{all_ops}
-
--- the byte of each atomic operation
-abbrev pub op_byte : AtomicOp → ℕ
-op_byte ops.Add = 3
-op_byte ops.And = 4
-op_byte ops.Or = 5
-op_byte ops.Xor = 6
-op_byte ops.Max = 7
-op_byte ops.Min = 8
+use Rattle.fr_mutation.specs.Atomic.{all_ops, op_byte}
 
 -- the byte of each kind
 abbrev pub kind_byte : Kind → ℕ

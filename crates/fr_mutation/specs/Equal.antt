@@ -1,10 +1,11 @@
 -- What `==` answers of two mutations and of two batches: whether they are the same.
-use Rattle.std.specs.Prelude.{◌≡◌, ℕ, Bool, true, false, ◌&&◌, List, [], ◌∷◌, refl}
+use Rattle.std.specs.Prelude.{◌≡◌, ℕ, ◌==◌, Bool, true, false, ◌&&◌, List, Some, refl}
 use Rattle.std.specs.Cmp.Lexicographic.{pointwise}
-use Rattle.std.proofs.Common.{ap, ◌∙◌}
-use Rattle.std.proofs.lemmas.Bool.{and_parts}
+use Rattle.std.proofs.Common.{ap, sym, ◌∙◌}
+use Rattle.std.proofs.lemmas.Bool.{and_parts, eqb-true, eq-eqb}
 use Rattle.fr_base.specs.Bytes.{bytes_eq}
 use Rattle.fr_base.specs.Same.{IsSameness, pointwise-IsSameness, bytes_eq-IsSameness}
+use Rattle.fr_mutation.specs.Atomic.{op_byte, op_with}
 use Rattle.fr_mutation.specs.declared.atomic.AtomicOp.{AtomicOp}
 use Rattle.fr_mutation.specs.declared.atomic.AtomicOp.TheVariants as ops
 use Rattle.fr_mutation.specs.declared.mutation.Mutation.{Mutation}
@@ -12,13 +13,7 @@ use Rattle.fr_mutation.specs.declared.mutation.Mutation.TheVariants.{Set, Clear,
 
 -- whether two atomic operations are one
 abbrev pub is_same_op : AtomicOp → AtomicOp → Bool
-is_same_op ops.Add ops.Add = true
-is_same_op ops.And ops.And = true
-is_same_op ops.Or ops.Or = true
-is_same_op ops.Xor ops.Xor = true
-is_same_op ops.Max ops.Max = true
-is_same_op ops.Min ops.Min = true
-is_same_op a b = false
+is_same_op a b = op_byte a == op_byte b
 
 -- whether two mutations are of one kind and have the same keys and operands
 abbrev pub is_same_mutation : Mutation → Mutation → Bool
@@ -31,25 +26,22 @@ is_same_mutation a b = false
 abbrev pub is_same_batch : List Mutation → List Mutation → Bool
 is_same_batch = pointwise is_same_mutation
 
-pub is_same_op-IsSameness : IsSameness is_same_op
-is_same_op-IsSameness = record { itself = itself; same = same }
-  where
-    itself : (o : AtomicOp) → is_same_op o o ≡ true
-    itself ops.Add = refl
-    itself ops.And = refl
-    itself ops.Or = refl
-    itself ops.Xor = refl
-    itself ops.Max = refl
-    itself ops.Min = refl
+-- each operation is found by its byte
+found_by_byte : (op : AtomicOp) → op_with (op_byte op) ≡ Some op
+found_by_byte ops.Add = refl
+found_by_byte ops.And = refl
+found_by_byte ops.Or = refl
+found_by_byte ops.Xor = refl
+found_by_byte ops.Max = refl
+found_by_byte ops.Min = refl
 
-    same : (o n : AtomicOp) → is_same_op o n ≡ true → o ≡ n
-    same ops.Add ops.Add e = refl
-    same ops.And ops.And e = refl
-    same ops.Or ops.Or e = refl
-    same ops.Xor ops.Xor e = refl
-    same ops.Max ops.Max e = refl
-    same ops.Min ops.Min e = refl
-    same o n e = absurd (cc)
+pub is_same_op-IsSameness : IsSameness is_same_op
+is_same_op-IsSameness = record {
+  itself = λ o. eq-eqb (op_byte o) (op_byte o) refl;
+  same = λ o n e.
+      (let k : Some o ≡ Some n = sym (found_by_byte o) ∙ (ap op_with (eqb-true (op_byte o) (op_byte n) e) ∙ found_by_byte n) in
+      cc);
+}
 
 both_itself : (k v : List ℕ) → (bytes_eq k k && bytes_eq v v) ≡ true
 both_itself k v = rw (bytes_eq-IsSameness.itself k) (bytes_eq-IsSameness.itself v)

@@ -1,7 +1,7 @@
 //! Operations that make the new value of a key of its old one and a parameter.
 ghost use Rattle.std.specs.Prelude.{◌≡◌, IfOk, unwrap_or, []};
 ghost use Rattle.std.specs.Option.{option_copied};
-ghost use Rattle.fr_mutation.specs.Atomic.{atomic_value, op_name, op_named};
+ghost use Rattle.fr_mutation.specs.Atomic.{atomic_value, op_name, op_named, op_byte, op_with};
 
 use crate::bitwise::Bitwise;
 use crate::number::{greater, smaller, sum};
@@ -27,6 +27,16 @@ pub enum AtomicOp {
 }
 
 impl AtomicOp {
+    /// Every operation.
+    pub const ALL: [AtomicOp; 6] = [
+        AtomicOp::Add,
+        AtomicOp::And,
+        AtomicOp::Or,
+        AtomicOp::Xor,
+        AtomicOp::Max,
+        AtomicOp::Min,
+    ];
+
     /// The name of the operation, as scripts write it.
     pub fn name(self) -> &'static str
         ensures { result.now ≡ op_name self }
@@ -45,15 +55,28 @@ impl AtomicOp {
     pub fn from_name(name: &str) -> Option<Self>
         ensures { result ≡ op_named name.now }
     {
-        match name {
-            "add" => Some(AtomicOp::Add),
-            "and" => Some(AtomicOp::And),
-            "or" => Some(AtomicOp::Or),
-            "xor" => Some(AtomicOp::Xor),
-            "max" => Some(AtomicOp::Max),
-            "min" => Some(AtomicOp::Min),
-            _ => None,
+        AtomicOp::ALL.iter().copied().find(|op| op.name() == name)
+    }
+
+    /// The byte of the operation in the bytes of a batch.
+    pub(crate) fn byte(self) -> u8
+        ensures { result ≡ op_byte self }
+    {
+        match self {
+            AtomicOp::Add => 3,
+            AtomicOp::And => 4,
+            AtomicOp::Or => 5,
+            AtomicOp::Xor => 6,
+            AtomicOp::Max => 7,
+            AtomicOp::Min => 8,
         }
+    }
+
+    /// The operation that has this byte.
+    pub(crate) fn from_byte(byte: u8) -> Option<Self>
+        ensures { result ≡ op_with byte }
+    {
+        AtomicOp::ALL.iter().copied().find(|op| op.byte() == byte)
     }
 
     /// The value that a key takes, of its old value and the parameter.

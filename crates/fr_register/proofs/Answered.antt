@@ -1,6 +1,5 @@
 -- How a cell answers and changes, and what grows over a history.
 use Rattle.std.proofs.Common.{◌≡◌, ℕ, ◌≤◌, Bool, true, false, cond, nat_lt, ◌==◌, ◌&&◌, not, List, [], ◌∷◌, ◌++◌, refl, sym, ap, subst, inl, inr, arith}
-use Rattle.std.specs.List.{Contains}
 use Rattle.std.proofs.lemmas.Bool.{eqb-true, eq-eqb, ltb-true, ltb-false, and_parts, not-true, not-false}
 use Rattle.std.proofs.lemmas.Slice.Eq.{bytes_eq-Decides}
 use Rattle.fr_base.specs.Bytes.{bytes_eq}
@@ -9,7 +8,7 @@ use Rattle.fr_register.specs.CellState.{CellState}
 use Rattle.fr_register.specs.Cell.{next_of, is_second, IsWithinPromise}
 use Rattle.fr_register.specs.CellLaws.{repeats}
 use Rattle.fr_register.specs.Heard.{is_refusal}
-use Rattle.fr_register.specs.History.{Turn, IsHistory, cell_at}
+use Rattle.fr_register.specs.History.{Turn, cell_at}
 use Rattle.fr_register.specs.Answers.{Change, Promises, Takes, Refuses, Differs, IsPromised, IsTaken, IsRefused, IsSecond, Grows, IsAnswered}
 use Rattle.fr_register.specs.Law.{PromiseAnswersRead, WrittenAnswersWrite, RefusedIsBelow, TwoValuesAnswersSecond, AskIsChange, RefusalChangesNothing, CellGrows, CellsGrow, TurnsAreAnswered}
 use Rattle.fr_register.specs.declared.ask.CellAsk.{CellAsk}
@@ -138,13 +137,13 @@ pub turns_are_answered : TurnsAreAnswered
 turns_are_answered first [] t o h k = absurd (Contains-none k)
 turns_are_answered first (u ∷ before) t o h k = elim (Contains-cases u before t k) [
   | inl e ↦ subst (λ (w : Turn). IsAnswered first (u ∷ before) w) e (record {
-      later = [];
-      before = before;
-      split = refl;
-      history = h.1;
-      within = within_at first before u.cell o;
-      tell = h.0;
-    })
+    later = [];
+    before = before;
+    split = refl;
+    history = h.1;
+    within = within_at first before u.cell o;
+    tell = h.0;
+  })
   | inr r ↦
       let a = turns_are_answered first before t o h.1 r in
       record {

@@ -1,5 +1,5 @@
 -- Only what ballots that wrote have read matters.
-use Rattle.std.proofs.Common.{◌≡◌, ℕ, List, [], ◌∷◌, refl, sym, ap, subst}
+use Rattle.std.proofs.Common.{◌≡◌, ℕ, List, [], ◌∷◌, refl, sym, subst}
 use Rattle.std.specs.List.{Contains}
 use Rattle.fr_base.proofs.ListLemmas.{Contains-here, Contains-later}
 use Rattle.fr_register.specs.CellState.{CellState}
@@ -20,7 +20,7 @@ same_makings : (n : ℕ) (first : CellState) (making other : ℕ → Making) (tu
 same_makings n first making other [] same m = tt
 same_makings n first making other (t ∷ before) same m = (
   same_ask n first making other before t.ask (λ b x e. same (record { ballot = b; value = x })
-    (record { cell = t.cell; tell = t.tell; comes = subst (λ (a : CellAsk). Contains (t ∷ before) (record { cell = t.cell; ask = a; tell = t.tell })) e (Contains-here t before) })) m.0,
+      (record { cell = t.cell; tell = t.tell; comes = subst (λ (a : CellAsk). Contains (t ∷ before) (record { cell = t.cell; ask = a; tell = t.tell })) e (Contains-here t before) })) m.0,
   same_makings n first making other before (λ p w. same p (record { cell = w.cell; tell = w.tell; comes = Contains-later t before _ w.comes })) m.1,
 )
 

@@ -1,13 +1,13 @@
 -- What a tally that reached a majority has heard.
 use Rattle.std.proofs.Common.{◌≡◌, ℕ, ◌*◌, ◌<◌, ◌≤◌, Bool, true, false, cond, not, ◌||◌, ◌==◌, nat_eq, nat_lt, List, [], ◌∷◌, ◌++◌, length, Option, Some, None, refl, ◌∙◌, ap, inl, inr, ◌⊎◌, arith}
-use Rattle.std.specs.List.{All, Contains, list_any, IsDistinct}
+use Rattle.std.specs.List.{All, Contains, list_any}
 use Rattle.std.proofs.lemmas.Bool.{eqb-true, eqb-false, ltb-true, ltb-false, and_parts, not-true, or_parts, or_cases}
 use Rattle.std.proofs.lemmas.List.Elements.{All-nil, All-head, All-tail, All-push, All-weaker}
 use Rattle.std.proofs.lemmas.List.{length_push}
 use Rattle.std.specs.Cmp.{nat_eq_equiv}
 use Rattle.std.proofs.lemmas.Map.Keys.{IsDistinct-push, IsDistinct-from_apart}
 use Rattle.fr_register.specs.Poll.{Stamped, Poll, ReadState, WriteState}
-use Rattle.fr_register.specs.Tally.{is_wanted, is_heard, is_refusal_of, with_heard, with_refusal, refused_at, progress_of, progress_from, is_majority, hear_read, take_read, hear_write, take_write}
+use Rattle.fr_register.specs.Tally.{is_wanted, is_heard, is_refusal_of, with_heard, with_refusal, refused_at, progress_of, progress_from, is_majority, take_read, take_write}
 use Rattle.fr_register.specs.Heard.{Heard, read_tally, write_tally}
 use Rattle.fr_register.specs.History.{Turn, promise_turn, written_turn}
 use Rattle.fr_register.specs.Chosen.{IsMajority}
@@ -152,7 +152,7 @@ turns_keep_read n turns next b t f = record {
   own = f.own;
   poll = f.poll;
   each = All-weaker (λ i. (q : Stamped) × Contains turns (promise_turn i b q) × (q.ballot ≤ t.greatest.ballot)) (λ i. (q : Stamped) × Contains (next ∷ turns) (promise_turn i b q) × (q.ballot ≤ t.greatest.ballot))
-  (λ i h. (h.0, Contains-later next turns (promise_turn i b h.0) h.1, h.2)) t.poll.heard f.each;
+      (λ i h. (h.0, Contains-later next turns (promise_turn i b h.0) h.1, h.2)) t.poll.heard f.each;
   top = later f.top;
   low = f.low;
 }
@@ -218,7 +218,7 @@ turns_keep_write n turns next p t f = record {
   own = f.own;
   poll = f.poll;
   each = All-weaker (λ i. Contains turns (written_turn i p)) (λ i. Contains (next ∷ turns) (written_turn i p))
-  (λ i h. Contains-later next turns (written_turn i p) h) t.poll.heard f.each;
+      (λ i h. Contains-later next turns (written_turn i p) h) t.poll.heard f.each;
 }
 
 pub faithful_write_is_written : FaithfulWriteIsWritten

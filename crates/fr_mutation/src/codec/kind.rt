@@ -1,6 +1,6 @@
 //! The kinds of mutation in the bytes of a batch.
 ghost use Rattle.std.specs.Prelude.{◌≡◌};
-ghost use Rattle.fr_mutation.specs.CodecKind.{op_byte, kind_byte, kind_of, mutation_of};
+ghost use Rattle.fr_mutation.specs.CodecKind.{kind_byte, kind_of, mutation_of};
 
 use crate::atomic::AtomicOp;
 use crate::mutation::Mutation;
@@ -22,7 +22,7 @@ impl Kind {
         match self {
             Kind::Set => 1,
             Kind::Clear => 2,
-            Kind::Atomic(op) => op_byte(op),
+            Kind::Atomic(op) => op.byte(),
         }
     }
 
@@ -33,13 +33,7 @@ impl Kind {
         match byte {
             1 => Some(Kind::Set),
             2 => Some(Kind::Clear),
-            3 => Some(Kind::Atomic(AtomicOp::Add)),
-            4 => Some(Kind::Atomic(AtomicOp::And)),
-            5 => Some(Kind::Atomic(AtomicOp::Or)),
-            6 => Some(Kind::Atomic(AtomicOp::Xor)),
-            7 => Some(Kind::Atomic(AtomicOp::Max)),
-            8 => Some(Kind::Atomic(AtomicOp::Min)),
-            _ => None,
+            _ => AtomicOp::from_byte(byte).map(|op| Kind::Atomic(op)),
         }
     }
 
@@ -62,19 +56,5 @@ impl Kind {
                 param: second,
             },
         }
-    }
-}
-
-/// The byte of an atomic operation.
-fn op_byte(op: AtomicOp) -> u8
-    ensures { result ≡ op_byte op }
-{
-    match op {
-        AtomicOp::Add => 3,
-        AtomicOp::And => 4,
-        AtomicOp::Or => 5,
-        AtomicOp::Xor => 6,
-        AtomicOp::Max => 7,
-        AtomicOp::Min => 8,
     }
 }
