@@ -8,6 +8,8 @@ mod batch_bytes;
 #[cfg(test)]
 mod mutation;
 #[cfg(test)]
+mod numbers;
+#[cfg(test)]
 mod register;
 #[cfg(test)]
 mod slow_store;

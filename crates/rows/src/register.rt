@@ -223,3 +223,41 @@ fn a_majority_is_above_half(rt: HostRuntime) -> Result<(), Fail> {
     }
     Ok(())
 }
+
+/// No two of these are the same, and each is the same as itself and its copy.
+#[test]
+fn asks_and_tells_are_told_apart(rt: HostRuntime) -> Result<(), Fail> {
+    let alloc = rt.alloc();
+    let asks = [
+        Ask::Read(256),
+        Ask::Read(512),
+        Ask::Write(256, b'x'),
+        Ask::Write(256, b'y'),
+        Ask::Write(512, b'x'),
+    ];
+    for (i, a) in asks.iter().enumerate() {
+        for (j, b) in asks.iter().enumerate() {
+            let one = ask_of(alloc, *a)?.copy()?;
+            let other = ask_of(alloc, *b)?;
+            assert!(rt; one.is_same(&other) == (i == j));
+        }
+    }
+    let tells = [
+        Tell::Promise(256, b'x'),
+        Tell::Promise(256, b'y'),
+        Tell::Promise(512, b'x'),
+        Tell::Written(256),
+        Tell::Written(512),
+        Tell::Refused(256),
+        Tell::Refused(512),
+        Tell::TwoValues,
+    ];
+    for (i, a) in tells.iter().enumerate() {
+        for (j, b) in tells.iter().enumerate() {
+            let one = tell_of(alloc, *a)?.copy()?;
+            let other = tell_of(alloc, *b)?;
+            assert!(rt; one.is_same(&other) == (i == j));
+        }
+    }
+    Ok(())
+}
