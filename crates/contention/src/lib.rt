@@ -1,6 +1,6 @@
 //! Two ballots that contend over three cells: each case is a caller of the register's public contracts
 //! alone, proved for all values. The first ballot reaches the left and the middle cell, the second the
-//! middle and the right one.
+//! middle and the right one. And a history of three ballots, to which the register's law applies.
 #![tactic(auto)]
 
 mod descent;
@@ -14,6 +14,3 @@ pub use overlap::overtaken;
 pub use phases::Found;
 pub use scenes::{Attempt, Cells, Outcome};
 pub use sequence::in_turn;
-
-#[cfg(test)]
-mod tests;

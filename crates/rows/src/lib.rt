@@ -15,3 +15,5 @@ mod register;
 mod slow_store;
 #[cfg(test)]
 mod store_agrees;
+#[cfg(test)]
+mod two_ballots;

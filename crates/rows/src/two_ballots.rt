@@ -1,4 +1,5 @@
-use crate::{in_turn, overtaken};
+//! What two ballots that contend over three cells come to.
+use contention::{in_turn, overtaken};
 use fr_register::{Cell, CellValue, Progress};
 use std::alloc::Global;
 use std::test::Fail;
