@@ -1,6 +1,6 @@
 -- Ends, cuts, sources and owners.
-use Rattle.std.proofs.Common.{◌≡◌, ℕ, zero, suc, ◌+◌, ◌-◌, ◌<◌, ◌≤◌, Bool, true, false, cond, ltb, leb, List, [], ◌∷◌, ◌++◌, length, Option, Some, None, refl, sym, ap, subst, ◌∙◌, append_assoc, arith}
-use Rattle.std.specs.Prelude.{slice_get, find, reverse, ◌≢◌, ◌↔◌, All, Contains, IsSome, IfSome}
+use Rattle.std.proofs.Common.{◌≡◌, ℕ, zero, suc, ◌+◌, ◌-◌, ◌<◌, ◌≤◌, Bool, true, false, cond, ltb, leb, List, [], ◌∷◌, ◌++◌, length, Option, Some, None, refl, sym, ap, subst, ◌∙◌, append_assoc, inl, inr, arith}
+use Rattle.std.specs.Prelude.{slice_get, find, reverse, ◌⊎◌, ◌≢◌, ◌↔◌, All, Contains, IsSome, IfSome}
 use Rattle.std.specs.List.{AllByRecursion}
 use Rattle.std.specs.Option.{option_map, option_or}
 use Rattle.std.proofs.lemmas.Bool.{leb-true, leb-false, le-leb, lt-leb, ltb-true, ltb-false, lt-ltb, le-ltb}
@@ -8,10 +8,10 @@ use Rattle.std.proofs.lemmas.List.{append-nil}
 use Rattle.std.proofs.lemmas.List.Elements.{All-from_recursion, recursion_from_All, All-contains}
 use Rattle.fr_state.specs.Generations.{LogGeneration, IsGeneration, Follows, AreOrdered, last_of}
 use Rattle.fr_state.specs.LookUp.{next_of, end_of, cut_of, source_of, owner_of}
-use Rattle.fr_state.specs.Laws.{IsSource, IsOwner, NextTells, LastIsOpen, EarlierIsClosed, AbsentIsOpen, CutIsAtLeastSeed, EndIsAtMostCut, CutIsAtMostLast, FrontKeepsEnd, FrontKeepsCut, FrontKeepsSource, FrontKeepsOwner}
+use Rattle.fr_state.specs.Laws.{HasNext, LastIsThere, LastIsWithin, LastOrNext, IsSource, IsOwner, NextTells, LastIsOpen, EarlierIsClosed, AbsentIsOpen, CutIsAtLeastSeed, EndIsAtMostCut, CutIsAtMostLast, FrontKeepsEnd, FrontKeepsCut, FrontKeepsSource, FrontKeepsOwner}
 use Rattle.fr_state.proofs.OrderLemmas.{last_of_push}
 use Rattle.fr_state.proofs.LastLemmas.{IsLast, last-append, none_from_fails, fails_from_none, last_from_split, split_from_last}
-use Rattle.fr_state.proofs.ListLemmas.{AreOrdered-back, all_later, parts_of, Contains-parts, front_of, next_of-parts, next_of-absent, next_of-has, next_of-append}
+use Rattle.fr_state.proofs.ListLemmas.{Parts, AreOrdered-back, all_later, parts_of, Contains-parts, front_of, next_of-parts, next_of-absent, next_of-has, next_of-append}
 
 abbrev first_less : LogGeneration → ℕ
 first_less next = next.first - 1
@@ -38,6 +38,32 @@ last_is_open gens last o e =
     ap (λ (t : List LogGeneration). next_of t last.epoch) s.are ∙ next_of-parts s.front last [] (subst AreOrdered s.are o)
     in
     (ap (option_map first_less) n, ap (option_map seed) n)
+
+-- the last generation is one of the list
+pub last_is_there : LastIsThere
+last_is_there gens last e =
+    let s = front_of gens last e in
+    subst (λ (t : List LogGeneration). Contains t last) (sym s.are) (Contains-parts s.front [] last)
+
+pub last_is_within : LastIsWithin
+last_is_within gens last all e = All-contains IsGeneration gens last all (last_is_there gens last e)
+
+pub last_or_next : LastOrNext
+last_or_next gens g o has = go s.after s.are
+  where
+    s : Parts gens g
+    s = parts_of gens g has
+
+    go : (after : List LogGeneration) → gens ≡ s.before ++ g ∷ after → (last_of gens ≡ Some g) ⊎ HasNext gens g
+    go [] are = inl (ap last_of are ∙ last_of_push s.before g)
+    go (next ∷ after) are =
+        let o' : AreOrdered (s.before ++ g ∷ next ∷ after) = subst AreOrdered are o in
+        inr (record {
+          next = next;
+          is_next = ap (λ (t : List LogGeneration). next_of t g.epoch) are ∙ next_of-parts s.before g (next ∷ after) o';
+          there = subst (λ (t : List LogGeneration). Contains t next) (sym (are ∙ sym (append_assoc s.before (g ∷ []) (next ∷ after)))) (Contains-parts (s.before ++ g ∷ []) after next);
+          follows = (AreOrdered-back s.before (g ∷ next ∷ after) o').0;
+        })
 
 -- a generation of a lesser epoch than the last one's is not the last one
 not_last : (before : List LogGeneration) (g last : LogGeneration) (after : List LogGeneration) → last_of (before ++ g ∷ after) ≡ Some last → g.epoch < last.epoch → IsSome (slice_get after 0)

@@ -1,11 +1,14 @@
--- Two states that `==` calls the same are one.
-use Rattle.std.proofs.Common.{◌≡◌, ℕ, Bool, true, false, List, [], ◌∷◌, get_or, refl, sym, ap, subst}
+-- Two states that `==` calls the same are one, and a list begins with another where the test says so.
+use Rattle.std.proofs.Common.{◌≡◌, ℕ, Bool, true, false, List, [], ◌∷◌, ◌++◌, length, take, get_or, refl, sym, ap, subst, ◌∙◌, take-append-drop}
 use Rattle.std.specs.Prelude.{nat_eq}
 use Rattle.std.specs.Cmp.{IsEquivalence}
-use Rattle.std.specs.Cmp.Lexicographic.{pointwise, same_text}
+use Rattle.std.specs.Cmp.Lexicographic.{pointwise, same_text, lists_equiv, on_texts_equal}
 use Rattle.std.proofs.lemmas.Bool.{and_parts}
 use Rattle.fr_state.specs.Generations.{LogGeneration, CoordinatedState}
-use Rattle.fr_state.specs.Same.{numbers_of, is_same_generation, is_same_state, is_same_state_equiv}
+use Rattle.fr_state.specs.Same.{numbers_of, is_same_generation, is_same_state, is_same_state_equiv, begins_with, IsFront}
+use Rattle.fr_state.specs.Laws.{BeginsIsExact}
+use Rattle.std.proofs.lemmas.List.{take_at}
+use Rattle.std.specs.Prelude.{drop}
 
 -- the generation of five numbers
 abbrev generation_of : List ℕ → LogGeneration
@@ -29,3 +32,16 @@ same_state s t e = ap (λ (gens : List LogGeneration). record { gens = gens }) (
 
 pub is_same_itself : (s t : CoordinatedState) → s ≡ t → is_same_state s t ≡ true
 is_same_itself s t e = subst (λ (u : CoordinatedState). is_same_state s u ≡ true) e (is_same_state_equiv.refl s)
+
+pub begins_is_exact : BeginsIsExact
+begins_is_exact gens front = (begins, begun)
+  where
+    begins : begins_with gens front ≡ true → IsFront front gens
+    begins e =
+        let same : front ≡ take (length front) gens = same_generations front (take (length front) gens) e in
+        (drop (length front) gens, sym (take-append-drop (length front) gens) ∙ ap (λ (xs : List LogGeneration). xs ++ drop (length front) gens) (sym same))
+
+    begun : IsFront front gens → begins_with gens front ≡ true
+    begun (more, is) =
+        let same : take (length front) gens ≡ front = ap (take (length front)) is ∙ take_at front more (length front) refl in
+        ap (pointwise is_same_generation front) same ∙ (lists_equiv (on_texts_equal numbers_of)).refl front

@@ -4,13 +4,14 @@ use Rattle.std.specs.Prelude.{All}
 use Rattle.std.specs.List.{AllByRecursion, flat_map, list_all}
 use Rattle.std.specs.Int.{w64, to_be_bytes}
 use Rattle.std.proofs.lemmas.Bool.{and_parts, and_from, eqb-true, leb-true, ltb-false, le-leb, le-ltb}
-use Rattle.std.proofs.lemmas.List.{take-append-drop, drop-drop, drop_more, length-append, length-drop, nil_from_length, append-nil}
+use Rattle.std.proofs.lemmas.List.{take-append-drop, drop-drop, drop_more, length-append, length-drop, nil_from_length, append-nil, take_all}
 use Rattle.std.proofs.lemmas.List.Elements.{All-drop, recursion_from_All}
 use Rattle.fr_state.specs.declared.fault.DecodeFault.{DecodeFault}
 use Rattle.fr_state.specs.declared.fault.DecodeFault.TheVariants.{Short, BadForm, Trailing}
 use Rattle.fr_state.specs.BigEndian.{AreBytes, number_at}
 use Rattle.fr_state.specs.Generations.{LogGeneration, CoordinatedState, IsGeneration, IsCoordinatedState}
 use Rattle.fr_state.specs.Reading.{◌>>=◌, header_at, generation_at, generations_at, is_list, state_at, reading}
+use Rattle.fr_state.specs.Laws.{SpellingFits, OneSpellingOneState}
 use Rattle.fr_state.specs.Spelling.{row, spelling}
 use Rattle.fr_state.proofs.BigEndianLemmas.{wide64, number_at-back, number_at-again}
 use Rattle.fr_state.proofs.OrderLemmas.{is_ordered-true}
@@ -139,3 +140,16 @@ no_prefix s t rest a b e =
     let count : length s.gens ≡ length t.gens = cc in
     let rows : flat_map row s.gens ++ rest ≡ flat_map row t.gens = cc in
     nil_from_length rest (omega (arith, ap length rows, length-append (flat_map row s.gens) rest, length-rows s.gens, length-rows t.gens))
+
+pub spelling_fits : SpellingFits
+spelling_fits s sound = (omega (arith, length-rows s.gens), omega (arith, length-rows s.gens, sound.few))
+
+pub one_spelling_one_state : OneSpellingOneState
+one_spelling_one_state s t a b e = let k : Ok s ≡ Ok t = sym (reading_again s a) ∙ ap reading e ∙ reading_again t b in cc
+
+-- what was spelled of all generations has their length
+pub spelled_length : (bytes : List ℕ) (gens shown : List LogGeneration) (n : ℕ) → bytes ≡ 1 ∷ length shown ∷ flat_map row (take n shown) → length shown ≤ n → shown ≡ gens
+    → length bytes ≡ 2 + 26 * length gens
+spelled_length bytes gens shown n e past same =
+    let k = ap length (e ∙ ap (λ (xs : List LogGeneration). 1 ∷ length shown ∷ flat_map row xs) (take_all n shown past)) in
+    omega (arith, k, length-rows shown, ap length same)

@@ -1,12 +1,12 @@
 -- What holds of every ordered list of generations, and of the bytes of a state.
-use Rattle.std.specs.Prelude.{◌≡◌, ◌≢◌, ◌↔◌, ℕ, ◌-◌, ◌<◌, ◌≤◌, List, [], ◌∷◌, ◌++◌, Option, Some, None, Contains, IsSome, IfSome, length, Ok, Err, All, AllPairs, IsTrue}
+use Rattle.std.specs.Prelude.{◌≡◌, ◌≢◌, ◌↔◌, ℕ, ◌-◌, ◌<◌, ◌≤◌, List, [], ◌∷◌, ◌++◌, ◌*◌, ◌+◌, ◌⊎◌, Option, Some, None, Contains, IsSome, IfSome, length, Ok, Err, All, AllPairs, IsTrue}
 use Rattle.fr_state.specs.declared.fault.StateFault.TheVariants.{NotLater, TooMany}
 use Rattle.fr_state.specs.BigEndian.{AreBytes}
 use Rattle.fr_state.specs.Generations.{LogGeneration, CoordinatedState, IsGeneration, IsCoordinatedState, Follows, AreOrdered, last_of}
 use Rattle.fr_state.specs.Order.{extended}
-use Rattle.fr_state.specs.LookUp.{end_of, cut_of, source_of, owner_of}
+use Rattle.fr_state.specs.LookUp.{next_of, end_of, cut_of, source_of, owner_of}
 use Rattle.fr_state.specs.Reading.{reading}
-use Rattle.fr_state.specs.Same.{is_same_state}
+use Rattle.fr_state.specs.Same.{is_same_state, begins_with, IsFront}
 use Rattle.fr_state.specs.Spelling.{spelling}
 
 -- ---- order
@@ -14,6 +14,27 @@ use Rattle.fr_state.specs.Spelling.{spelling}
 -- a list is ordered exactly where of any two of its generations the later one follows the earlier
 abbrev pub OrderIsOfPairs : Type 0
 OrderIsOfPairs = (gens : List LogGeneration) → AreOrdered gens ↔ AllPairs Follows gens
+
+-- ---- the last one, and the next one
+
+-- the last generation is one of the list, so what is true of each is true of it
+abbrev pub LastIsThere : Type 0
+LastIsThere = (gens : List LogGeneration) (last : LogGeneration) → last_of gens ≡ Some last → Contains gens last
+
+-- for one, it is within the limits
+abbrev pub LastIsWithin : Type 0
+LastIsWithin = (gens : List LogGeneration) (last : LogGeneration) → All IsGeneration gens → last_of gens ≡ Some last → IsGeneration last
+
+-- a generation has a next one, which follows it
+pub record HasNext (gens : List LogGeneration) (g : LogGeneration) : Type 0 where
+  pub next : LogGeneration
+  pub is_next : next_of gens g.epoch ≡ Some next
+  pub there : Contains gens next
+  pub follows : Follows g next
+
+-- each generation of an ordered list is the last one, or has a next one
+abbrev pub LastOrNext : Type 0
+LastOrNext = (gens : List LogGeneration) (g : LogGeneration) → AreOrdered gens → Contains gens g → (last_of gens ≡ Some g) ⊎ HasNext gens g
 
 -- ---- sources and owners
 
@@ -92,6 +113,10 @@ CutIsAtMostLast =
 
 -- ---- a list and a longer one that begins with it
 
+-- whether a list begins with another is told exactly
+abbrev pub BeginsIsExact : Type 0
+BeginsIsExact = (gens front : List LogGeneration) → IsTrue (begins_with gens front) ↔ IsFront front gens
+
 -- the longer one keeps each end
 abbrev pub FrontKeepsEnd : Type 0
 FrontKeepsEnd =
@@ -159,6 +184,14 @@ abbrev pub ReadIsSpelled : Type 0
 ReadIsSpelled =
     (bytes : List ℕ) (s : CoordinatedState)
     → AreBytes bytes → reading bytes ≡ Ok s → IsCoordinatedState s × (bytes ≡ spelling s)
+
+-- a spelling has 2 bytes and 26 for each generation, so it fits a cell
+abbrev pub SpellingFits : Type 0
+SpellingFits = (s : CoordinatedState) → IsCoordinatedState s → (length (spelling s) ≡ 2 + 26 * length s.gens) × (length (spelling s) ≤ 4096)
+
+-- states of one spelling are one
+abbrev pub OneSpellingOneState : Type 0
+OneSpellingOneState = (s t : CoordinatedState) → IsCoordinatedState s → IsCoordinatedState t → spelling s ≡ spelling t → s ≡ t
 
 -- no spelling is a proper prefix of another
 abbrev pub NoSpellingGoesOn : Type 0

@@ -1,5 +1,6 @@
 //! Laws of lists of generations, and of the bytes of a state.
 ghost use Rattle.fr_state.specs.Laws.{OrderIsOfPairs, SourceIsExact, SourceIsNone, OwnerIsExact, OwnerIsNone};
+ghost use Rattle.fr_state.specs.Laws.{LastIsThere, LastIsWithin, LastOrNext, BeginsIsExact, SpellingFits, OneSpellingOneState};
 ghost use Rattle.fr_state.specs.Laws.{NextTells, LastIsOpen, EarlierIsClosed, AbsentIsOpen, CutIsAtLeastSeed, EndIsAtMostCut, CutIsAtMostLast};
 ghost use Rattle.fr_state.specs.Laws.{FrontKeepsEnd, FrontKeepsCut, FrontKeepsSource, FrontKeepsOwner};
 ghost use Rattle.fr_state.specs.Laws.{ExtensionIsState, FollowerExtends, NotLaterIsExact, TooManyIsExact};
@@ -9,6 +10,14 @@ ghost use Rattle.fr_state.specs.Laws.{SameIsEqual, SpelledIsRead, ReadIsSpelled,
 /// earlier nor was seeded less far; and a list of which this holds is ordered.
 pub fn order_law()
     ensures { OrderIsOfPairs }
+{}
+
+/// The last generation is one of the list; each other one of an ordered list has a next one, which
+/// follows it.
+pub fn next_law()
+    ensures last { LastIsThere }
+    ensures within { LastIsWithin }
+    ensures next { LastOrNext }
 {}
 
 /// The end and the cut of a generation, and their bounds.
@@ -41,6 +50,7 @@ pub fn front_law()
     ensures cut { FrontKeepsCut }
     ensures source { FrontKeepsSource }
     ensures owner { FrontKeepsOwner }
+    ensures exact { BeginsIsExact }
 {}
 
 /// What one generation more makes of a state.
@@ -56,9 +66,12 @@ pub fn equal_law()
     ensures { SameIsEqual }
 {}
 
-/// Each state has one spelling, which is read as it, and no spelling goes on where another ends.
+/// Each state has one spelling, which fits a cell and is read as it, and no spelling goes on where
+/// another ends.
 pub fn spelling_law()
     ensures again { SpelledIsRead }
     ensures one { ReadIsSpelled }
+    ensures size { SpellingFits }
+    ensures same { OneSpellingOneState }
     ensures no_prefix { NoSpellingGoesOn }
 {}

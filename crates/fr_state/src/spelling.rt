@@ -1,5 +1,5 @@
 //! A state as bytes.
-ghost use Rattle.std.specs.Prelude.{◌≡◌, ◌++◌, IfOk, OnOk};
+ghost use Rattle.std.specs.Prelude.{◌≡◌, ◌+◌, ◌*◌, ◌≤◌, ◌++◌, length, IfOk, OnOk};
 ghost use Rattle.fr_state.specs.Spelling.{row, spelling};
 
 use crate::generation::Generation;
@@ -14,9 +14,12 @@ pub(crate) const FORMAT: u8 = 1;
 pub(crate) const ROW: usize = 26;
 
 /// The bytes of a state: the format 01, the number of generations (1 byte), and for each generation 26
-/// bytes: epoch (8), m (1), k (1), first (8), seeded_to (8). Numbers are big-endian.
+/// bytes: epoch (8), m (1), k (1), first (8), seeded_to (8). Numbers are big-endian. They fit a cell,
+/// whose value has at most 4,096 bytes.
 pub fn encode(alloc: Global, state: &CoordState) -> Result<Vec<u8>, Memory>
-    ensures { IfOk result (λ bytes. bytes.items ≡ spelling state.now) }
+    ensures spelled { IfOk result (λ bytes. bytes.items ≡ spelling state.now) }
+    ensures size { IfOk result (λ bytes. length bytes.items ≡ 2 + 26 * length state.now.gens) }
+    ensures fits { IfOk result (λ bytes. length bytes.items ≤ 4096) }
 {
     let gens = state.gens();
     let mut bytes = Vec::with_capacity(alloc, 2 + ROW * gens.len())?;

@@ -1,9 +1,9 @@
 //! The coordinated state.
-ghost use Rattle.std.specs.Prelude.{◌≡◌, ◌↔◌, ◌∷◌, ◌++◌, [], length, Some, Ok, Err, IfOk, OnOk, OnErr};
+ghost use Rattle.std.specs.Prelude.{◌≡◌, ◌↔◌, IsTrue, ◌∷◌, ◌++◌, [], length, Some, Ok, Err, IfOk, OnOk, OnErr};
 ghost use Rattle.std.specs.Cmp.{partial_equiv_from_equiv};
 ghost use Rattle.fr_state.specs.Generations.{CoordinatedState, IsCoordinatedState, AreOrdered, last_of};
 ghost use Rattle.fr_state.specs.Order.{extended};
-ghost use Rattle.fr_state.specs.Same.{is_same_state, is_same_state_equiv};
+ghost use Rattle.fr_state.specs.Same.{is_same_state, is_same_state_equiv, begins_with, IsFront};
 ghost use Rattle.fr_state.specs.LookUp.{end_of, cut_of, source_of};
 
 use crate::fault::StateFault;
@@ -112,6 +112,15 @@ impl CoordState {
         ensures { result ≡ source_of self.now.gens version }
     {
         source_for(&self.gens, version)
+    }
+
+    /// Whether this state begins with the generations of another one, as it does where it was made of
+    /// that one by `extend`. It takes no memory.
+    pub fn begins_with(&self, front: &CoordState) -> bool
+        ensures value { result ≡ begins_with self.now.gens front.now.gens }
+        ensures exact { IsTrue result ↔ IsFront front.now.gens self.now.gens }
+    {
+        self.gens.starts_with(front.gens())
     }
 
     /// An equal state.
