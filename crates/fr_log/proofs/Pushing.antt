@@ -1,6 +1,6 @@
 -- A push that is newly held.
 use Rattle.std.proofs.Common.{◌≡◌, ℕ, ◌+◌, ◌<◌, ◌≤◌, Bool, true, false, not, ◌&&◌, ◌||◌, List, [], ◌∷◌, ◌++◌, cond, nat_lt, eqb, Option, None, Some, refl, sym, ◌∙◌, ap, subst, inl, inr, arith, max}
-use Rattle.std.specs.Prelude.{is_some, is_none, IsNone}
+use Rattle.std.specs.Prelude.{is_some, is_none, IsNone, IsSome}
 use Rattle.std.specs.List.{list_all, All}
 use Rattle.std.proofs.lemmas.Bool.{not-false, ltb-false, eqb-true, eqb-false, or_parts, cases_Bool, both_ways}
 use Rattle.std.proofs.lemmas.List.Sums.{fold-append}
@@ -11,6 +11,7 @@ use Rattle.fr_log.specs.Push.{PushContent, IsPush}
 use Rattle.fr_log.specs.LogState.{LogState, headers, holds, durable_of, known_of, seeded_to_of, first_of, is_push_held}
 use Rattle.fr_log.specs.Chain.{IsChain, BeginsWithMark, IsLog, IsKept, IsOwnPush}
 use Rattle.fr_log.specs.Refusal.{push_refusal, new_push_refusal}
+use Rattle.fr_log.specs.Change.{IsNext, with_push}
 use Rattle.fr_log.proofs.Chains.{reach, reach_above, held_within_reach}
 
 -- a test that was passed: it did not refuse, and the later ones did not either
@@ -18,18 +19,12 @@ pub passed : (test : Bool) (why : LogRefusal) (later : Option LogRefusal) → co
 passed true why later e = absurd (cc)
 passed false why later e = (refl, e)
 
--- what is true of a push that is not held and not refused
-pub record IsNext (l : LogState) (p : PushContent) : Type 0 where
-  pub epoch : p.epoch ≡ l.epoch
-  pub seeded : is_none l.seed ≡ false
-  pub running : l.stopped ≡ false
-  pub follows : p.prev ≡ durable_of l
-  pub tags : list_all (λ b. holds l b.tag) p.bodies ≡ true
-  pub first_mark : durable_of l ≡ seeded_to_of l.seed → is_none p.mark ≡ false
-  pub later_mark : is_some p.mark ≡ true → p.prev ≡ seeded_to_of l.seed
+pub some_from : {A : Type 0} (o : Option A) → is_none o ≡ false → IsSome o
+some_from None e = absurd (cc)
+some_from (Some x) e = refl
 
-new_next : (l : LogState) (p : PushContent) → p.epoch ≡ l.epoch → is_none l.seed ≡ false → new_push_refusal l p ≡ None → IsNext l p
-new_next l p own seeded e =
+new_next : (l : LogState) (p : PushContent) → p.epoch ≡ l.epoch → is_none l.seed ≡ false → is_push_held l p ≡ false → push_refusal l p ≡ None → new_push_refusal l p ≡ None → IsNext l p
+new_next l p own seeded other granted e =
     let a = passed l.stopped _ _ e in
     let b = passed (nat_lt p.prev (durable_of l) || (is_some p.mark && not (eqb p.prev (seeded_to_of l.seed)))) _ _ a.1 in
     let c = passed (nat_lt (durable_of l) p.prev) _ _ b.1 in
@@ -39,12 +34,14 @@ new_next l p own seeded e =
     let above = ltb-false p.prev (durable_of l) stale.0 in
     let below = ltb-false (durable_of l) p.prev c.0 in
     record {
+      granted = granted;
       epoch = own;
-      seeded = seeded;
+      seeded = some_from l.seed seeded;
+      unheld = other;
       running = a.0;
       follows = omega (arith, above, below);
       tags = not-false (list_all (λ x. holds l x.tag) p.bodies) d.0;
-      first_mark = λ same. first (is_none p.mark) (durable_of l) (seeded_to_of l.seed) same f.0;
+      first_mark = λ same. some_from p.mark (first (is_none p.mark) (durable_of l) (seeded_to_of l.seed) same f.0);
       later_mark = λ is. later (is_some p.mark) p.prev (seeded_to_of l.seed) is stale.1;
     }
   where
@@ -60,7 +57,7 @@ pub next_push : (l : LogState) (p : PushContent) → push_refusal l p ≡ None �
 next_push l p e other =
     let a = passed (not (eqb p.epoch l.epoch)) _ _ e in
     let b = passed (is_none l.seed) _ _ a.1 in
-    new_next l p (eqb-true p.epoch l.epoch (not-false (eqb p.epoch l.epoch) a.0)) b.0 (unheld (is_push_held l p) (new_push_refusal l p) other b.1)
+    new_next l p (eqb-true p.epoch l.epoch (not-false (eqb p.epoch l.epoch) a.0)) b.0 other e (unheld (is_push_held l p) (new_push_refusal l p) other b.1)
   where
     unheld : (t : Bool) (later : Option LogRefusal) → t ≡ false → cond t None later ≡ None → later ≡ None
     unheld true later is k = absurd (cc)
@@ -74,17 +71,13 @@ chain_more version (q ∷ qs) p (first, (rises, (known, rest))) follows is =
     let top : max version q.version ≡ q.version = omega arith in
     (first, (rises, (known, chain_more q.version qs p rest (follows ∙ ap (λ v. reach v qs) top) is)))
 
-some_from : {A : Type 0} (o : Option A) → is_none o ≡ false → is_some o ≡ true
-some_from None e = absurd (cc)
-some_from (Some x) e = refl
-
 none_from : {A : Type 0} (o : Option A) → (is_some o ≡ true → ⊥) → IsNone o
 none_from None h = refl
 none_from (Some x) h = absurd (h refl)
 
 marked_more : (version : ℕ) (ps : List PushContent) (p : PushContent) → IsChain version (headers ps) → BeginsWithMark (headers ps) → p.prev ≡ reach version ps
-    → (reach version ps ≡ version → is_none p.mark ≡ false) → (is_some p.mark ≡ true → p.prev ≡ version) → BeginsWithMark (headers (ps ++ p ∷ []))
-marked_more version [] p chain marked follows first later = (some_from p.mark (first refl), All-nil (λ h. IsNone h.mark))
+    → (reach version ps ≡ version → IsSome p.mark) → (is_some p.mark ≡ true → p.prev ≡ version) → BeginsWithMark (headers (ps ++ p ∷ []))
+marked_more version [] p chain marked follows first later = (first refl, All-nil (λ h. IsNone h.mark))
 marked_more version (q ∷ qs) p (start, (rises, (known, rest))) (is, others) follows first later =
     let up = reach_above (max version q.version) qs in (
       is,
@@ -95,9 +88,9 @@ marked_more version (q ∷ qs) p (start, (rises, (known, rest))) (is, others) fo
     headers_push : (rs : List PushContent) → headers (rs ++ p ∷ []) ≡ headers rs ++ record { prev = p.prev; version = p.version; known = p.known; mark = p.mark } ∷ []
     headers_push rs = Rattle.std.proofs.lemmas.List.map-append (λ r. record { prev = r.prev; version = r.version; known = r.known; mark = r.mark }) rs (p ∷ [])
 
--- a log that holds one push more
-abbrev pub with_push : LogState → PushContent → LogState
-with_push l p = record l { pushes = l.pushes ++ p ∷ [] }
+pub some_is_not_none : {A : Type 0} (o : Option A) → o ≡ None → IsSome o → ⊥
+some_is_not_none None e some = absurd (cc)
+some_is_not_none (Some x) e some = absurd (cc)
 
 pub with_push_is_log : (l : LogState) (p : PushContent) → IsLog l → IsNext l p → IsPush p → IsLog (with_push l p)
 with_push_is_log l p h next is = record {
@@ -105,7 +98,7 @@ with_push_is_log l p h next is = record {
   k_high = h.k_high;
   m_high = h.m_high;
   index_high = h.index_high;
-  unseeded = λ e. let k = next.seeded in let j = ap is_none e in absurd (both_ways (is_none l.seed) k j);
+  unseeded = λ e. absurd (some_is_not_none l.seed e next.seeded);
   own_seed = h.own_seed;
   own_pushes = All-push (IsOwnPush l.epoch (holds l)) l.pushes p h.own_pushes (record { within = is; epoch = next.epoch; tags = next.tags });
   chain = chain_more (seeded_to_of l.seed) l.pushes p h.chain next.follows is;

@@ -1,9 +1,11 @@
 -- What is true of every log, over one ask and over every list of asks.
-use Rattle.std.specs.Prelude.{◌≡◌, ℕ, ◌-◌, ◌≤◌, ◌↔◌, Bool, true, false, ◌&&◌, not, nat_le, nat_lt, List, ◌++◌, fold, max, filter, is_none, IsTrue, IsSome, All}
+use Rattle.std.specs.Prelude.{◌≡◌, ℕ, ◌-◌, ◌<◌, ◌≤◌, ◌↔◌, ◌⊎◌, Bool, true, false, ◌&&◌, not, nat_le, nat_lt, List, [], ◌∷◌, ◌++◌, None, fold, max, filter, is_none, IsTrue, IsSome, All}
 use Rattle.std.specs.List.{list_all}
 use Rattle.fr_log.specs.declared.ask.LogAsk.{LogAsk}
 use Rattle.fr_log.specs.declared.ask.LogAsk.TheVariants.{Seed, Push, Lock, Peek, MarkAsked}
-use Rattle.fr_log.specs.declared.ask.LogTell.TheVariants.{Held, Locked}
+use Rattle.fr_log.specs.declared.ask.LogTell.{LogTell}
+use Rattle.fr_log.specs.declared.ask.LogTell.TheVariants.{Held, Locked, Refused}
+use Rattle.fr_log.specs.declared.ask.LogRefusal.{LogRefusal}
 use Rattle.fr_log.specs.Seed.{SeedContent, IsSeed, is_same_seed}
 use Rattle.fr_log.specs.Push.{PushContent, IsPush, is_one_push, AreOnePush}
 use Rattle.fr_log.specs.Peeked.{is_rising_from}
@@ -11,6 +13,10 @@ use Rattle.fr_log.specs.LogState.{LogState, Header, first_of, seeded_to_of, dura
 use Rattle.fr_log.specs.Chain.{IsLog}
 use Rattle.fr_log.specs.Refusal.{push_refusal}
 use Rattle.fr_log.specs.Step.{answer_of, next_of, peek_of}
+use Rattle.fr_log.specs.Search.{seeded_records, pushed_records}
+use Rattle.fr_log.specs.Change.{with_seed, with_push, IsNext, LogChange}
+use Rattle.fr_log.specs.Answer.{IsAnswer}
+use Rattle.fr_log.specs.Place.{Extends, place_of, gone_back}
 
 -- an ask within its limits
 abbrev pub IsLogAsk : LogAsk → Type 0
@@ -23,6 +29,47 @@ IsLogAsk (MarkAsked epoch) = Unit {0}
 -- a log after some asks
 abbrev pub after_all : LogState → List LogAsk → LogState
 after_all l asks = fold next_of l asks
+
+-- a peek asks for 1 to 100 records
+abbrev pub HasMost : LogAsk → Type 0
+HasMost (Seed s) = Unit {0}
+HasMost (Push p) = Unit {0}
+HasMost (Lock epoch) = Unit {0}
+HasMost (Peek epoch tag after most) = (1 ≤ most) × (most ≤ 100)
+HasMost (MarkAsked epoch) = Unit {0}
+
+-- the epoch for whose log an ask is
+abbrev pub epoch_of : LogAsk → ℕ
+epoch_of (Seed s) = s.epoch
+epoch_of (Push p) = p.epoch
+epoch_of (Lock epoch) = epoch
+epoch_of (Peek epoch tag after most) = epoch
+epoch_of (MarkAsked epoch) = epoch
+
+-- ---- what an ask makes of a log
+
+-- each ask changes it in one of these ways
+abbrev pub AskIsChange : Type 0
+AskIsChange = (l : LogState) (a : LogAsk) → LogChange l a (next_of l a)
+
+-- a refused ask changes nothing
+abbrev pub RefusedChangesNothing : Type 0
+RefusedChangesNothing = (l : LogState) (a : LogAsk) (why : LogRefusal) → answer_of l a ≡ Refused why → next_of l a ≡ l
+
+-- a push that is neither refused nor held yet follows what is held
+abbrev pub TakenIsNext : Type 0
+TakenIsNext = (l : LogState) (p : PushContent) → push_refusal l p ≡ None → is_push_held l p ≡ false → IsNext l p
+
+-- nothing is lost of a log, whatever it is asked
+abbrev pub AskExtends : Type 0
+AskExtends = (l : LogState) (a : LogAsk) → Extends l (next_of l a)
+
+abbrev pub AsksExtend : Type 0
+AsksExtend = (l : LogState) (asks : List LogAsk) → Extends l (after_all l asks)
+
+-- so it can go back
+abbrev pub BackIsBefore : Type 0
+BackIsBefore = (l n : LogState) → Extends l n → gone_back (place_of l) n ≡ l
 
 -- ---- what every log is
 
@@ -41,6 +88,10 @@ last_version version hs = fold (λ v h. h.version) version hs
 -- the greatest version held is the last one, seeded_to before the first push
 abbrev pub DurableIsLast : Type 0
 DurableIsLast = (l : LogState) → IsLog l → durable_of l ≡ last_version (seeded_to_of l.seed) (headers_of l)
+
+-- a bound of what was seeded and of each version held bounds the greatest one
+abbrev pub DurableIsBounded : Type 0
+DurableIsBounded = (l : LogState) (bound : ℕ) → seeded_to_of l.seed ≤ bound → All (λ p. p.version ≤ bound) l.pushes → durable_of l ≤ bound
 
 -- what is known to be committed is held, and is not below the version before the epoch's first
 abbrev pub KnownIsHeld : Type 0
@@ -89,6 +140,24 @@ is_newly_held l (Lock epoch) = false
 is_newly_held l (Peek epoch tag after most) = false
 is_newly_held l (MarkAsked epoch) = false
 
+-- what a log is with its first seed: it has come as far as that goes, and has its records
+pub record IsSeededWith (s : SeedContent) (n : LogState) : Type 0 where
+  pub durable : durable_of n ≡ s.seeded_to
+  pub known : known_of n ≡ s.first - 1
+  pub records : (tag : ℕ) → records_of n tag ≡ seeded_records tag s.records
+
+abbrev pub FirstSeedSets : Type 0
+FirstSeedSets = (l : LogState) (s : SeedContent) → l.pushes ≡ [] → IsSeededWith s (with_seed l s)
+
+-- what a log is with one push more: its versions count, and its records stand behind the others
+pub record HasMore (l : LogState) (p : PushContent) (n : LogState) : Type 0 where
+  pub durable : durable_of n ≡ max (durable_of l) p.version
+  pub known : known_of n ≡ max (known_of l) p.known
+  pub records : (tag : ℕ) → records_of n tag ≡ records_of l tag ++ pushed_records tag (p ∷ [])
+
+abbrev pub PushAdds : Type 0
+PushAdds = (l : LogState) (p : PushContent) → HasMore l p (with_push l p)
+
 -- such a push follows what is held, its version is then the greatest one held, and what it tells is known
 pub record IsRaisedBy (l : LogState) (p : PushContent) (n : LogState) : Type 0 where
   pub follows : p.prev ≡ durable_of l
@@ -103,6 +172,10 @@ abbrev pub NothingElseRaises : Type 0
 NothingElseRaises = (l : LogState) (a : LogAsk) → IsSome l.seed → is_newly_held l a ≡ false → StandsStill l (next_of l a)
 
 -- ---- what a tell says of the log
+
+-- which ask a tell answers, that this was not refused, and what the log then is
+abbrev pub TellIsAnswer : Type 0
+TellIsAnswer = (l : LogState) (a : LogAsk) (t : LogTell) → answer_of l a ≡ t → IsAnswer l a t
 
 -- a push that is told to be held is held
 abbrev pub HeldIsHeld : Type 0
@@ -128,3 +201,9 @@ abbrev pub PeekIsWhole : Type 0
 PeekIsWhole =
     (l : LogState) (tag after most : ℕ) → IsLog l → 1 ≤ most
     → (peek_of l tag after most).records ≡ filter (λ r. nat_lt after r.version && nat_le r.version (peek_of l tag after most).upto) (records_of l tag)
+
+-- it is complete through at most durable; and it comes further than `after`, or as far as the log does
+abbrev pub PeekGoesOn : Type 0
+PeekGoesOn =
+    (l : LogState) (tag after most : ℕ) → IsLog l → 1 ≤ most
+    → ((peek_of l tag after most).upto ≤ durable_of l) × ((after < (peek_of l tag after most).upto) ⊎ ((peek_of l tag after most).upto ≡ durable_of l))

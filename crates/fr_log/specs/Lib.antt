@@ -11,5 +11,8 @@ pub mod Chain
 pub mod Refusal
 pub mod Lists
 pub mod Step
+pub mod Change
+pub mod Answer
+pub mod Place
 pub mod StepLaws
 pub mod Law

@@ -1,5 +1,6 @@
 //! What a log is asked, and what it tells.
 ghost use Rattle.std.specs.Prelude.{◌≡◌, ◌≤◌, ◌↔◌, IsTrue, IsSome, IfSome, IfOk, IsOk};
+ghost use Rattle.fr_log.specs.Law.{IsLogAsk, epoch_of, HasMost};
 ghost use Rattle.fr_log.specs.Lists.{ask_holds_no_list, tell_holds_no_list};
 
 use crate::peeked::Peeked;
@@ -75,6 +76,23 @@ pub enum LogAsk {
 }
 
 impl LogAsk {
+    /// The epoch for whose log it is.
+    pub fn epoch(&self) -> Epoch
+        ensures value { result ≡ epoch_of self.now }
+        ensures sound { IsLogAsk self.now }
+        ensures most { HasMost self.now }
+    {
+        match self {
+            LogAsk::Seed(seed) => seed.epoch(),
+            LogAsk::Push(push) => push.epoch(),
+            LogAsk::Lock { epoch } | LogAsk::MarkAsked { epoch } => *epoch,
+            LogAsk::Peek { epoch, most, .. } => {
+                let _within = most.get();
+                *epoch
+            }
+        }
+    }
+
     /// An equal ask. One that holds no list takes no memory.
     pub fn copy(&self, alloc: Global) -> Result<Self, Memory>
         ensures equal { IfOk result (λ ask. ask ≡ self.now) }

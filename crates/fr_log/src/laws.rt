@@ -1,8 +1,9 @@
 //! Laws of logs.
 ghost use Rattle.fr_base.specs.Same.{IsSameness};
-ghost use Rattle.fr_log.specs.Law.{AskLeavesLog, AsksLeaveLog, DurableIsLast, KnownIsHeld, RecordsRise};
-ghost use Rattle.fr_log.specs.Law.{AskGrows, AsksGrow, NewPushRaises, NothingElseRaises};
-ghost use Rattle.fr_log.specs.Law.{HeldIsHeld, OnePushIsSame, SameSeedIsSame, LockedIsStopped, PeekIsWhole};
+ghost use Rattle.fr_log.specs.Law.{AskIsChange, RefusedChangesNothing, TakenIsNext, AskExtends, AsksExtend, BackIsBefore};
+ghost use Rattle.fr_log.specs.Law.{AskLeavesLog, AsksLeaveLog, DurableIsLast, DurableIsBounded, KnownIsHeld, RecordsRise};
+ghost use Rattle.fr_log.specs.Law.{AskGrows, AsksGrow, FirstSeedSets, PushAdds, NewPushRaises, NothingElseRaises};
+ghost use Rattle.fr_log.specs.Law.{TellIsAnswer, HeldIsHeld, OnePushIsSame, SameSeedIsSame, LockedIsStopped, PeekIsWhole, PeekGoesOn};
 ghost use Rattle.fr_log.specs.Same.{is_same_log_ask, is_same_log_tell};
 
 /// Two asks, and two tells, that `==` calls the same are the same, and no others.
@@ -11,35 +12,58 @@ pub fn same_law()
     ensures tells { IsSameness is_same_log_tell }
 {}
 
+/// The ways in which an ask changes a log: it stands, takes its first seed, holds one push more that
+/// follows the greatest version held, or is stopped. Where it is refused, it stands.
+pub fn change_law()
+    ensures change { AskIsChange }
+    ensures refused { RefusedChangesNothing }
+    ensures taken { TakenIsNext }
+{}
+
+/// Nothing is lost of a log by what it is asked, so it can go back to what it was.
+pub fn place_law()
+    ensures ask { AskExtends }
+    ensures asks { AsksExtend }
+    ensures back { BackIsBefore }
+{}
+
 /// Every list of asks leaves a log: its pushes form one chain from its seed on that begins with the
 /// mark, the greatest version held is the last one, and what is known to be committed is held.
 pub fn chain_law()
     ensures ask { AskLeavesLog }
     ensures asks { AsksLeaveLog }
     ensures durable { DurableIsLast }
+    ensures bounded { DurableIsBounded }
     ensures known { KnownIsHeld }
     ensures records { RecordsRise }
 {}
 
-/// A log grows, whatever it is asked: a seed stays, the pushes held are a front of those held later,
-/// `durable` and `known` do not fall. Once it is stopped they stand still.
+/// A log grows, whatever it is asked: a seed stays, the headers of the pushes held are a front of those
+/// held later, `durable` and `known` do not fall. Once it is stopped they stand still.
 pub fn growth_law()
     ensures ask { AskGrows }
     ensures asks { AsksGrow }
 {}
 
-/// A push that is newly held raises `durable` to its version and `known` to its own, if that is more;
-/// nothing else raises them once the log has its seed.
+/// A first seed sets `durable`, `known` and the records of each tag. A push that is newly held raises
+/// `durable` to its version and `known` to its own, if that is more, and its records stand behind the
+/// others; nothing else raises them once the log has its seed.
 pub fn raise_law()
+    ensures seed { FirstSeedSets }
+    ensures more { PushAdds }
     ensures push { NewPushRaises }
     ensures nothing_else { NothingElseRaises }
 {}
 
-/// What a tell says of the log that gave it.
+/// What a tell says: which ask it answers, that this was not refused, and what the log that gave it has.
+/// A peek gives all that the log has of the tag through a version, and comes further at each turn until
+/// that is the greatest one held.
 pub fn tell_law()
+    ensures answer { TellIsAnswer }
     ensures held { HeldIsHeld }
     ensures one_push { OnePushIsSame }
     ensures same_seed { SameSeedIsSame }
     ensures locked { LockedIsStopped }
     ensures peeked { PeekIsWhole }
+    ensures further { PeekGoesOn }
 {}

@@ -11,7 +11,7 @@ mod search;
 mod seed;
 
 pub use ask::{LogAsk, LogRefusal, LogTell, Most};
-pub use log::Log;
+pub use log::{Log, Place};
 pub use peeked::Peeked;
 pub use push::Push;
 pub use records::{PeekedRecord, SeedRecord};

@@ -6,8 +6,11 @@ ghost use Rattle.std.specs.Option.{option_copied};
 ghost use Rattle.fr_log.specs.LogState.{fresh_log, first_of, seeded_to_of, seed_records_of, holds, durable_of, known_of, is_push_held, mark_among};
 ghost use Rattle.fr_log.specs.Chain.{IsLog};
 
+mod place;
 mod refusal;
 mod step;
+
+pub use place::Place;
 
 use crate::push::Push;
 use crate::records::SeedRecord;
