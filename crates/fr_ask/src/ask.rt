@@ -28,7 +28,7 @@ impl Ask {
     {
         Ok(match self {
             Ask::Cell(ask) => Ask::Cell(ask.copy()?),
-            Ask::Log(ask) => Ask::Log(ask.copy(alloc)?),
+            Ask::Log(ask) => Ask::Log(ask.copy()?),
             Ask::Seq(ask) => Ask::Seq(*ask),
         })
     }

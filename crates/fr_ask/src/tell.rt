@@ -28,7 +28,7 @@ impl Tell {
     {
         Ok(match self {
             Tell::Cell(tell) => Tell::Cell(tell.copy()?),
-            Tell::Log(tell) => Tell::Log(tell.copy(alloc)?),
+            Tell::Log(tell) => Tell::Log(tell.copy()?),
             Tell::Seq(tell) => Tell::Seq(*tell),
         })
     }

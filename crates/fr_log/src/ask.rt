@@ -8,7 +8,6 @@ use crate::push::Push;
 use crate::seed::Seed;
 use fr_base::{Epoch, Memory, Tag, Version};
 use fr_state::CoordState;
-use std::alloc::Global;
 use std::marker::Model;
 
 /// How many records a peek asks for at most: 1 to 100.
@@ -52,7 +51,7 @@ impl Most {
 }
 
 /// What a log is asked.
-#[derive(Debug, Drop, PartialEq, Eq)]
+#[derive(Clone, Debug, Drop, PartialEq, Eq)]
 pub enum LogAsk {
     /// To take what an epoch takes over from the one before.
     Seed(Seed),
@@ -94,32 +93,16 @@ impl LogAsk {
     }
 
     /// An equal ask. One that holds no list takes no memory.
-    pub fn copy(&self, alloc: Global) -> Result<Self, Memory>
+    pub fn copy(&self) -> Result<Self, Memory>
         ensures equal { IfOk result (λ ask. ask ≡ self.now) }
         ensures free { IsTrue (ask_holds_no_list self.now) → IsOk result }
     {
-        Ok(match self {
-            LogAsk::Seed(seed) => LogAsk::Seed(seed.copy(alloc)?),
-            LogAsk::Push(push) => LogAsk::Push(push.copy(alloc)?),
-            LogAsk::Lock { epoch } => LogAsk::Lock { epoch: *epoch },
-            LogAsk::Peek {
-                epoch,
-                tag,
-                after,
-                most,
-            } => LogAsk::Peek {
-                epoch: *epoch,
-                tag: *tag,
-                after: *after,
-                most: *most,
-            },
-            LogAsk::MarkAsked { epoch } => LogAsk::MarkAsked { epoch: *epoch },
-        })
+        Ok(self.clone()?)
     }
 }
 
 /// What a log tells.
-#[derive(Debug, Drop, PartialEq, Eq)]
+#[derive(Clone, Debug, Drop, PartialEq, Eq)]
 pub enum LogTell {
     /// It holds the seed.
     Seeded,
@@ -138,23 +121,11 @@ pub enum LogTell {
 
 impl LogTell {
     /// An equal tell. One that holds no list takes no memory.
-    pub fn copy(&self, alloc: Global) -> Result<Self, Memory>
+    pub fn copy(&self) -> Result<Self, Memory>
         ensures equal { IfOk result (λ tell. tell ≡ self.now) }
         ensures free { IsTrue (tell_holds_no_list self.now) → IsOk result }
     {
-        Ok(match self {
-            LogTell::Seeded => LogTell::Seeded,
-            LogTell::Held { version } => LogTell::Held { version: *version },
-            LogTell::Locked { durable, known } => LogTell::Locked {
-                durable: *durable,
-                known: *known,
-            },
-            LogTell::Peeked(peeked) => LogTell::Peeked(peeked.copy(alloc)?),
-            LogTell::Marked { state } => LogTell::Marked {
-                state: state.copy()?,
-            },
-            LogTell::Refused { why } => LogTell::Refused { why: *why },
-        })
+        Ok(self.clone()?)
     }
 }
 

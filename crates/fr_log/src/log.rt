@@ -19,7 +19,7 @@ use crate::seed::Seed;
 use fr_base::{LogId, Memory, Tag, Version};
 use fr_state::CoordState;
 use fr_tags::{Body, MAX_LOGS, is_held};
-use std::alloc::Global;
+use std::alloc::{AllocError, Global};
 use std::marker::Model;
 
 /// One log of a generation. It holds its seed and the pushes that followed it, which form one chain
@@ -129,19 +129,10 @@ impl Log {
     }
 
     /// An equal log.
-    pub fn copy(&self, alloc: Global) -> Result<Self, Memory>
+    pub fn copy(&self) -> Result<Self, Memory>
         ensures { IfOk result (λ log. log ≡ self.now) }
     {
-        Ok(Log {
-            id: self.id,
-            m: self.m,
-            k: self.k,
-            seed: copy_seed(alloc, &self.seed)?,
-            pushes: copy_pushes(alloc, &self.pushes)?,
-            durable: self.durable,
-            known: self.known,
-            stopped: self.stopped,
-        })
+        Ok(self.clone()?)
     }
 
     fn holds(&self, tag: Tag) -> bool
@@ -216,21 +207,21 @@ impl Log {
     }
 }
 
-fn copy_seed(alloc: Global, seed: &Option<Seed>) -> Result<Option<Seed>, Memory>
-    ensures { IfOk result (λ copy. copy ≡ seed.now) }
-{
-    match seed {
-        Some(seed) => Ok(Some(seed.copy(alloc)?)),
-        None => Ok(None),
-    }
-}
+impl Clone for Log {
+    ghost use Rattle.std.specs.Prelude.{◌≡◌};
 
-fn copy_pushes(alloc: Global, pushes: &[Push]) -> Result<Vec<Push>, Memory>
-    ensures { IfOk result (λ copy. copy.items ≡ pushes.now) }
-{
-    let mut copy = Vec::with_capacity(alloc, pushes.len())?;
-    for push in pushes {
-        copy.push(push.copy(alloc)?)?;
+    ghost is_clone = { λ log copy. copy ≡ log };
+
+    fn clone(&self) -> Result<Self, AllocError> {
+        Ok(Log {
+            id: self.id,
+            m: self.m,
+            k: self.k,
+            seed: self.seed.clone()?,
+            pushes: self.pushes.clone()?,
+            durable: self.durable,
+            known: self.known,
+            stopped: self.stopped,
+        })
     }
-    Ok(copy)
 }

@@ -7,7 +7,7 @@ ghost use Rattle.fr_log.specs.Peeked.{IsPeeked, is_rising_from, is_same_peeked, 
 
 use crate::records::PeekedRecord;
 use fr_base::{Memory, Tag, Version};
-use std::alloc::Global;
+use std::alloc::AllocError;
 use std::marker::Model;
 
 /// The most records of one answer to a peek.
@@ -130,17 +130,23 @@ impl Peeked {
     }
 
     /// An equal answer.
-    pub fn copy(&self, alloc: Global) -> Result<Self, Memory>
+    pub fn copy(&self) -> Result<Self, Memory>
         ensures { IfOk result (λ peeked. peeked ≡ self.now) }
     {
-        let mut records = Vec::with_capacity(alloc, self.records.len())?;
-        for record in self.records.as_slice() {
-            records.push(record.copy(alloc)?)?;
-        }
+        Ok(self.clone()?)
+    }
+}
+
+impl Clone for Peeked {
+    ghost use Rattle.std.specs.Prelude.{◌≡◌};
+
+    ghost is_clone = { λ peeked copy. copy ≡ peeked };
+
+    fn clone(&self) -> Result<Self, AllocError> {
         Ok(Peeked {
             tag: self.tag,
             after: self.after,
-            records,
+            records: self.records.clone()?,
             upto: self.upto,
             known: self.known,
         })

@@ -9,7 +9,7 @@ ghost use Rattle.fr_log.specs.Push.{IsPush, is_one_push, is_same_push, is_same_p
 use fr_base::{Epoch, Memory, Version};
 use fr_state::CoordState;
 use fr_tags::Body;
-use std::alloc::Global;
+use std::alloc::{AllocError, Global};
 use std::marker::Model;
 
 /// How far one version is above the one before it, at most.
@@ -163,16 +163,26 @@ impl Push {
     }
 
     /// An equal push.
-    pub fn copy(&self, alloc: Global) -> Result<Self, Memory>
+    pub fn copy(&self) -> Result<Self, Memory>
         ensures { IfOk result (λ push. push ≡ self.now) }
     {
+        Ok(self.clone()?)
+    }
+}
+
+impl Clone for Push {
+    ghost use Rattle.std.specs.Prelude.{◌≡◌};
+
+    ghost is_clone = { λ push copy. copy ≡ push };
+
+    fn clone(&self) -> Result<Self, AllocError> {
         Ok(Push {
             epoch: self.epoch,
             prev: self.prev,
             version: self.version,
             known: self.known,
-            bodies: copy_bodies(alloc, &self.bodies)?,
-            mark: copy_mark(&self.mark)?,
+            bodies: self.bodies.clone()?,
+            mark: self.mark.clone()?,
         })
     }
 }
@@ -189,27 +199,6 @@ impl PartialEq for Push {
 
 impl Eq for Push {
     ghost laws = { IsSameness-equivalence is_same_push-IsSameness };
-}
-
-/// Equal bodies.
-fn copy_bodies(alloc: Global, bodies: &[Body]) -> Result<Vec<Body>, Memory>
-    ensures { IfOk result (λ copy. copy.items ≡ bodies.now) }
-{
-    let mut copy = Vec::with_capacity(alloc, bodies.len())?;
-    for body in bodies {
-        copy.push(body.copy(alloc)?)?;
-    }
-    Ok(copy)
-}
-
-/// The same mark, or none.
-fn copy_mark(mark: &Option<CoordState>) -> Result<Option<CoordState>, Memory>
-    ensures { IfOk result (λ copy. copy ≡ mark.now) }
-{
-    match mark {
-        Some(state) => Ok(Some(state.copy()?)),
-        None => Ok(None),
-    }
 }
 
 /// Whether the tags of bodies rise strictly.

@@ -7,7 +7,7 @@ ghost use Rattle.fr_log.specs.Seed.{IsSeed, is_within, is_rising_from, is_same_s
 
 use crate::records::SeedRecord;
 use fr_base::{Epoch, Memory, Version};
-use std::alloc::Global;
+use std::alloc::AllocError;
 use std::marker::Model;
 
 /// What a recoverer gives a log of its new epoch: the records of the log's tags at the versions `first`
@@ -95,18 +95,24 @@ impl Seed {
     }
 
     /// An equal seed.
-    pub fn copy(&self, alloc: Global) -> Result<Self, Memory>
+    pub fn copy(&self) -> Result<Self, Memory>
         ensures { IfOk result (λ seed. seed ≡ self.now) }
     {
-        let mut records = Vec::with_capacity(alloc, self.records.len())?;
-        for record in self.records.as_slice() {
-            records.push(record.copy(alloc)?)?;
-        }
+        Ok(self.clone()?)
+    }
+}
+
+impl Clone for Seed {
+    ghost use Rattle.std.specs.Prelude.{◌≡◌};
+
+    ghost is_clone = { λ seed copy. copy ≡ seed };
+
+    fn clone(&self) -> Result<Self, AllocError> {
         Ok(Seed {
             epoch: self.epoch,
             first: self.first,
             seeded_to: self.seeded_to,
-            records,
+            records: self.records.clone()?,
         })
     }
 }

@@ -5,6 +5,7 @@ ghost use Rattle.fr_mutation.specs.Limits.{batch_fault};
 use crate::fault::BatchFault;
 use crate::mutation::Mutation;
 use fr_base::Memory;
+use std::alloc::AllocError;
 use std::marker::Model;
 
 /// The most mutations of a batch.
@@ -12,7 +13,7 @@ pub const MAX_MUTATIONS: usize = 1_000;
 
 /// 0 to 1,000 mutations within their limits, which act from first to last: what one commit changes.
 /// Contracts see it as the list of them.
-#[derive(Clone, Debug, Drop)]
+#[derive(Debug, Drop)]
 pub struct Batch {
     mutations: Vec<Mutation>,
 }
@@ -63,6 +64,18 @@ impl Batch {
         ensures { IfOk result (λ copy. copy ≡ self.now) }
     {
         Ok(self.clone()?)
+    }
+}
+
+impl Clone for Batch {
+    ghost use Rattle.std.specs.Prelude.{◌≡◌};
+
+    ghost is_clone = { λ batch copy. copy ≡ batch };
+
+    fn clone(&self) -> Result<Self, AllocError> {
+        Ok(Batch {
+            mutations: self.mutations.clone()?,
+        })
     }
 }
 

@@ -10,7 +10,7 @@ use crate::fault::StateFault;
 use crate::generation::Generation;
 use crate::look_up::{next_of, source_for};
 use fr_base::{Epoch, Memory, Version};
-use std::alloc::Global;
+use std::alloc::{AllocError, Global};
 use std::marker::Model;
 
 /// How many generations a state can have.
@@ -127,6 +127,16 @@ impl CoordState {
     pub fn copy(&self) -> Result<Self, Memory>
         ensures { IfOk result (λ s. s ≡ self.now) }
     {
+        Ok(self.clone()?)
+    }
+}
+
+impl Clone for CoordState {
+    ghost use Rattle.std.specs.Prelude.{◌≡◌};
+
+    ghost is_clone = { λ state copy. copy ≡ state };
+
+    fn clone(&self) -> Result<Self, AllocError> {
         Ok(CoordState {
             gens: self.gens.clone()?,
         })

@@ -3,11 +3,10 @@ ghost use Rattle.std.specs.Prelude.{◌≡◌, IfOk};
 
 use fr_base::{Memory, Tag};
 use fr_mutation::Batch;
-use std::alloc::Global;
 
 /// What a commit changes of one shard: the shard's tag, and the commit's batch as far as it acts on keys
 /// of that shard. A split makes bodies, and a push brings them to a log.
-#[derive(Debug, Drop, PartialEq, Eq)]
+#[derive(Clone, Debug, Drop, PartialEq, Eq)]
 pub struct Body {
     pub tag: Tag,
     pub batch: Batch,
@@ -15,12 +14,9 @@ pub struct Body {
 
 impl Body {
     /// An equal body.
-    pub fn copy(&self, alloc: Global) -> Result<Self, Memory>
+    pub fn copy(&self) -> Result<Self, Memory>
         ensures { IfOk result (λ copy. copy ≡ self.now) }
     {
-        Ok(Body {
-            tag: self.tag,
-            batch: self.batch.copy()?,
-        })
+        Ok(self.clone()?)
     }
 }

@@ -7,7 +7,7 @@ ghost use Rattle.fr_tags.specs.Shards.{shard_fault, has_long, rises, begun, begu
 use crate::fault::ShardFault;
 use fr_base::{Bytes, Memory, Tag};
 use fr_mutation::{MAX_KEY, Mutation, Shard};
-use std::alloc::Global;
+use std::alloc::{AllocError, Global};
 use std::marker::Model;
 use std::ops::Range;
 
@@ -58,14 +58,10 @@ impl ShardMap {
     }
 
     /// An equal map.
-    pub fn copy(&self, alloc: Global) -> Result<Self, Memory>
+    pub fn copy(&self) -> Result<Self, Memory>
         ensures { IfOk result (λ copy. copy ≡ self.now) }
     {
-        let mut begins = Vec::with_capacity(alloc, self.begins.len())?;
-        for begin in self.begins.as_slice() {
-            begins.push(begin.copy()?)?;
-        }
-        Ok(ShardMap { begins })
+        Ok(self.clone()?)
     }
 
     /// The shard of a tag, where the map has that many. A tag that the map lacks takes no memory.
@@ -131,6 +127,18 @@ impl ShardMap {
                 shard_with(self.begins(), key)
             }
         }
+    }
+}
+
+impl Clone for ShardMap {
+    ghost use Rattle.std.specs.Prelude.{◌≡◌};
+
+    ghost is_clone = { λ map copy. copy ≡ map };
+
+    fn clone(&self) -> Result<Self, AllocError> {
+        Ok(ShardMap {
+            begins: self.begins.clone()?,
+        })
     }
 }
 

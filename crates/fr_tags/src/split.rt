@@ -101,7 +101,7 @@ fn bodies_for(
     let mut held = Vec::new(alloc);
     for body in bodies {
         if is_held(body.tag, m, k, log) {
-            held.push(body.copy(alloc)?)?;
+            held.push(body.copy()?)?;
         }
     }
     Ok(held)

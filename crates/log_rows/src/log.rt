@@ -232,7 +232,7 @@ fn a_locked_log_takes_no_push(rt: HostRuntime) -> Result<(), Fail> {
     ] {
         assert!(rt; answers(alloc, &mut log, ask, tell)?);
     }
-    let copy = log.copy(alloc)?;
+    let copy = log.copy()?;
     assert_eq!(rt; (copy.id(), copy.m(), copy.k()), (log.id(), 4, 2));
     assert_eq!(rt; (copy.durable(), copy.known()), (at(9)?, at(6)?));
     assert!(rt; copy.seeded() && copy.stopped());
@@ -334,11 +334,11 @@ fn a_push_is_read_copied_and_given_back(rt: HostRuntime) -> Result<(), Fail> {
         (push.epoch(), push.prev(), push.version(), push.known()),
         (epoch(257)?, at(7)?, at(9)?, at(6)?)
     );
-    let copy = push.copy(alloc)?;
+    let copy = push.copy()?;
     assert!(rt; push.marked().is_none() && push.is_one_with(&copy) && push == copy);
     assert_eq!(rt; copy.into_bodies().as_slice(), push.bodies());
     let ask = LogAsk::Push(push);
-    assert_eq!(rt; ask.copy(alloc)?, ask);
+    assert_eq!(rt; ask.copy()?, ask);
     Ok(())
 }
 
@@ -369,7 +369,7 @@ fn a_seed_is_read_copied_and_given_back(rt: HostRuntime) -> Result<(), Fail> {
         (seed.epoch(), seed.first(), seed.seeded_to()),
         (epoch(257)?, at(7)?, at(9)?)
     );
-    let copy = seed.copy(alloc)?;
+    let copy = seed.copy()?;
     assert!(rt; seed == copy);
     let outside = copy.into_records();
     assert_eq!(rt; outside.as_slice(), seed.records());
@@ -385,10 +385,10 @@ fn an_answer_is_read_copied_and_given_back(rt: HostRuntime) -> Result<(), Fail> 
         (peeked.tag(), peeked.after(), peeked.upto(), peeked.known()),
         (tag(0)?, at(3)?, at(9)?, at(3)?)
     );
-    let records = peeked.copy(alloc)?.into_records();
+    let records = peeked.copy()?.into_records();
     assert_eq!(rt; records.as_slice(), peeked.records());
     assert!(rt; Peeked::new(tag(0)?, at(4)?, records, at(9)?, at(3)?).is_none());
     let told = LogTell::Peeked(peeked);
-    assert_eq!(rt; told.copy(alloc)?, told);
+    assert_eq!(rt; told.copy()?, told);
     Ok(())
 }

@@ -41,7 +41,7 @@ fn is_clear(body: Option<&Body>, tag: u8, begin: &[u8], end: &[u8]) -> bool {
 #[test]
 fn a_clear_of_two_shards(rt: HostRuntime) -> Result<(), Fail> {
     let alloc = rt.alloc();
-    let map = ShardMap::new(list(alloc, &[b"", b"m"])?)?.copy(alloc)?;
+    let map = ShardMap::new(list(alloc, &[b"", b"m"])?)?.copy()?;
     assert_eq!(rt; map.begins().len(), 2);
     let mut mutations = Vec::new(alloc);
     mutations.push(clear(alloc, b"a", b"z")?)?;

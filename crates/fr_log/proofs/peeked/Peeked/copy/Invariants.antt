@@ -1,6 +1,0 @@
-use Rattle.std.proofs.Common.{◌≡◌, take}
-use Rattle.fr_log.proofs.peeked.Peeked.copy.Given as goal
-
--- a front of the records is copied
-abbrev pub invariant-loop-record : goal.invariant-loop-record
-invariant-loop-record l = l.records.items ≡ take l.record-index l.record-items
