@@ -4,6 +4,10 @@
 #[cfg(test)]
 mod log;
 #[cfg(test)]
+mod made;
+#[cfg(test)]
+mod order;
+#[cfg(test)]
 mod state;
 #[cfg(test)]
 mod tags;

@@ -1,10 +1,6 @@
-use fr_base::{Bytes, Epoch, LogId, Machine, Tag, Version};
-use fr_log::{
-    Log, LogAsk, LogRefusal, LogTell, Most, Peeked, PeekedRecord, Push, Seed, SeedRecord,
-};
-use fr_mutation::{Batch, Mutation};
-use fr_state::{CoordState, Generation};
-use fr_tags::Body;
+use crate::made::{at, batch, bodies, epoch, new_log, records, seed, start, tag};
+use fr_base::Machine;
+use fr_log::{Log, LogAsk, LogRefusal, LogTell, Most, Peeked, PeekedRecord, Push, Seed};
 use std::alloc::Global;
 use std::test::Fail;
 
@@ -34,64 +30,6 @@ enum Tell {
     Gap(u64),
     TooEarly(u64),
     Refused(LogRefusal),
-}
-
-fn at(number: u64) -> Result<Version, Fail> {
-    Ok(Version::new(number).ok_or("a version")?)
-}
-
-fn epoch(number: u64) -> Result<Epoch, Fail> {
-    Ok(Epoch::new(number).ok_or("an epoch")?)
-}
-
-fn tag(number: u8) -> Result<Tag, Fail> {
-    Ok(Tag::new(number).ok_or("a tag")?)
-}
-
-/// The batch that sets the key 61.
-fn batch(alloc: Global, value: u8) -> Result<Batch, Fail> {
-    let mut mutations = Vec::new(alloc);
-    mutations.push(Mutation::Set {
-        key: Bytes::from_slice(alloc, &[0x61])?,
-        value: Bytes::from_slice(alloc, &[value])?,
-    })?;
-    Ok(Batch::new(mutations)?)
-}
-
-/// One body for each of these tags, with the value.
-fn bodies(alloc: Global, tags: &[u8], value: u8) -> Result<Vec<Body>, Fail> {
-    let mut bodies = Vec::new(alloc);
-    for number in tags {
-        bodies.push(Body {
-            tag: tag(*number)?,
-            batch: batch(alloc, value)?,
-        })?;
-    }
-    Ok(bodies)
-}
-
-/// The coordinated state of the start.
-fn start(alloc: Global) -> Result<CoordState, Fail> {
-    let first = Generation::new(epoch(257)?, 4, 2, at(1)?, at(0)?);
-    Ok(CoordState::new(alloc, first.ok_or("the start")?)?)
-}
-
-/// Seed records of these versions, tags and values.
-fn records(alloc: Global, all: &[(u64, u8, u8)]) -> Result<Vec<SeedRecord>, Fail> {
-    let mut records = Vec::new(alloc);
-    for (version, number, value) in all {
-        records.push(SeedRecord {
-            version: at(*version)?,
-            tag: tag(*number)?,
-            batch: batch(alloc, *value)?,
-        })?;
-    }
-    Ok(records)
-}
-
-fn seed(number: u64, first: u64, seeded_to: u64, records: Vec<SeedRecord>) -> Result<Seed, Fail> {
-    let seed = Seed::new(epoch(number)?, at(first)?, at(seeded_to)?, records);
-    Ok(seed.ok_or("a seed")?)
 }
 
 fn ask_of(alloc: Global, number: u64, ask: Ask) -> Result<LogAsk, Fail> {
@@ -146,15 +84,6 @@ fn tell_of(alloc: Global, tell: Tell) -> Result<LogTell, Fail> {
         },
         Tell::Refused(why) => LogTell::Refused { why },
     })
-}
-
-/// Log 0 of this epoch.
-fn new_log(alloc: Global, number: u64) -> Result<Log, Fail> {
-    let id = LogId {
-        epoch: epoch(number)?,
-        index: 0,
-    };
-    Ok(Log::new(alloc, id, 4, 2))
 }
 
 /// Whether the log answers the ask by the tell.

@@ -96,3 +96,59 @@ fn a_changed_byte_is_refused_or_read_as_it_is(rt: HostRuntime) -> Result<(), Fai
     assert!(rt; change_each_byte(rt.alloc(), &TWO)?);
     Ok(())
 }
+
+/// A state of 64 generations, of the epochs 257 to 320.
+fn full(alloc: Global) -> Result<CoordState, Fail> {
+    let mut state = CoordState::new(alloc, generation(257, 1, 0).ok_or("257")?)?;
+    for number in 258..321 {
+        state.extend(generation(number, 1, 0).ok_or("a generation")?)?;
+    }
+    Ok(state)
+}
+
+#[test]
+fn a_full_state_is_not_extended(rt: HostRuntime) -> Result<(), Fail> {
+    let alloc = rt.alloc();
+    let mut state = full(alloc)?;
+    assert_eq!(rt; state.gens().len(), 64);
+    let next = generation(321, 1, 0).ok_or("321")?;
+    assert_eq!(rt; state.extend(next), Err(StateFault::TooMany));
+    // one more, and not later
+    let again = generation(320, 1, 0).ok_or("320")?;
+    assert_eq!(rt; state.extend(again), Err(StateFault::NotLater));
+    // 2 bytes and 64 times 26
+    assert_eq!(rt; encode(alloc, &state)?.len(), 1666);
+    let first = CoordState::new(alloc, generation(257, 1, 0).ok_or("257")?)?;
+    assert!(rt; state.begins_with(&first) && !first.begins_with(&state));
+    Ok(())
+}
+
+/// Whether bytes are refused by this fault.
+fn is_refused(alloc: Global, bytes: &[u8], fault: DecodeFault) -> bool {
+    match decode(alloc, bytes) {
+        Ok(_) => false,
+        Err(found) => found == fault,
+    }
+}
+
+#[test]
+fn the_first_fault_of_bytes_is_told(rt: HostRuntime) -> Result<(), Fail> {
+    let alloc = rt.alloc();
+    // 65 generations, and their bytes are missing
+    assert!(rt; is_refused(alloc, &[1, 65], DecodeFault::BadForm));
+    // two generations of which the first stands on 5 of 4 logs, and the second is missing
+    let mut bad = [0; 29];
+    bad[..28].copy_from_slice(&ONE);
+    bad[11] = 5;
+    bad[1] = 2;
+    assert!(rt; is_refused(alloc, &bad, DecodeFault::Short));
+    // the one alone, and a byte behind it
+    bad[1] = 1;
+    assert!(rt; is_refused(alloc, &bad, DecodeFault::BadForm));
+    // two generations of one epoch, and a byte behind them
+    let mut same = [0; 55];
+    same[..54].copy_from_slice(&TWO);
+    same[34] = 1;
+    assert!(rt; is_refused(alloc, &same, DecodeFault::BadForm));
+    Ok(())
+}

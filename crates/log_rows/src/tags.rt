@@ -89,7 +89,7 @@ fn begins_that_make_no_map(rt: HostRuntime) -> Result<(), Fail> {
     let fits = vec![in alloc; 1u8; 10_000]?;
     let long = vec![in alloc; 1u8; 10_001]?;
     assert_eq!(rt; fault_of(list(alloc, &[])?), Some(ShardFault::Empty));
-    // the first two and the fourth break every rule that is tested after their own
+    // the first two break every rule that is tested after their own, and the fifth is not sorted either
     let rows = [
         (
             repeated(alloc, &long, &long, 32)?,
@@ -107,6 +107,7 @@ fn begins_that_make_no_map(rt: HostRuntime) -> Result<(), Fail> {
             repeated(alloc, &fits, b"a", 1)?,
             Some(ShardFault::Uncovered),
         ),
+        (list(alloc, &[b"b", b"a"])?, Some(ShardFault::Uncovered)),
         (repeated(alloc, b"", b"m", 2)?, Some(ShardFault::NotSorted)),
         (repeated(alloc, b"", &fits, 1)?, None),
         (repeated(alloc, b"", b"", 0)?, None),
