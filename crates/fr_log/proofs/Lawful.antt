@@ -235,4 +235,3 @@ pub nothing_else_raises : NothingElseRaises
 nothing_else_raises l a some not_new =
     by_change (StandsStill l) l a (record { headers = refl; durable = refl; known = refl }) (λ s at first. absurd (some_is_not_none l.seed first.unseeded some))
     (λ p at next. absurd (both_ways (is_newly_held l a) not_new (ap (is_newly_held l) at ∙ newly l p next))) (λ at k. record { headers = refl; durable = refl; known = refl })
-

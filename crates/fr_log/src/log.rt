@@ -10,8 +10,6 @@ mod place;
 mod refusal;
 mod step;
 
-pub use place::Place;
-
 use crate::push::Push;
 use crate::records::SeedRecord;
 use crate::search::is_found;
@@ -19,6 +17,7 @@ use crate::seed::Seed;
 use fr_base::{LogId, Memory, Tag, Version};
 use fr_state::CoordState;
 use fr_tags::{Body, MAX_LOGS, is_held};
+pub use place::Place;
 use std::alloc::{AllocError, Global};
 use std::marker::Model;
 
@@ -144,23 +143,13 @@ impl Log {
     fn holds_seeded(&self, records: &[SeedRecord]) -> bool
         ensures { result ≡ list_all (λ r. holds self.now r.tag) records.now }
     {
-        for record in records {
-            if !self.holds(record.tag) {
-                return false;
-            }
-        }
-        true
+        records.iter().all(|record| self.holds(record.tag))
     }
 
     fn holds_pushed(&self, bodies: &[Body]) -> bool
         ensures { result ≡ list_all (λ b. holds self.now b.tag) bodies.now }
     {
-        for body in bodies {
-            if !self.holds(body.tag) {
-                return false;
-            }
-        }
-        true
+        bodies.iter().all(|body| self.holds(body.tag))
     }
 
     fn is_push_held(&self, push: &Push) -> bool
@@ -172,10 +161,7 @@ impl Log {
     fn mark(&self) -> Option<&CoordState>
         ensures { option_copied result ≡ mark_among self.now.pushes }
     {
-        match self.pushes.first() {
-            Some(push) => push.marked(),
-            None => None,
-        }
+        self.pushes.first()?.marked()
     }
 
     fn seed_records(&self) -> &[SeedRecord]
@@ -191,19 +177,17 @@ impl Log {
     fn seeded_to(&self) -> Version
         ensures { result ≡ seeded_to_of self.now.seed }
     {
-        match &self.seed {
-            Some(seed) => seed.seeded_to(),
-            None => Version::ZERO,
-        }
+        self.seed
+            .as_ref()
+            .map_or(Version::ZERO, |seed| seed.seeded_to())
     }
 
     fn first(&self) -> Version
         ensures { result ≡ first_of self.now.seed }
     {
-        match &self.seed {
-            Some(seed) => seed.first(),
-            None => Version::ZERO,
-        }
+        self.seed
+            .as_ref()
+            .map_or(Version::ZERO, |seed| seed.first())
     }
 }
 

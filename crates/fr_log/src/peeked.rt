@@ -50,13 +50,7 @@ impl Peeked {
     {
         let is_list = is_rising_above(after, &records) && are_through(upto, &records);
         if is_list && records.len() <= MAX_PEEKED {
-            Some(Peeked {
-                tag,
-                after,
-                records,
-                upto,
-                known,
-            })
+            Some(Peeked::from_ordered(tag, after, records, upto, known))
         } else {
             None
         }

@@ -6,14 +6,11 @@ ghost use Rattle.fr_base.specs.Same.{IsSameness-equivalence};
 ghost use Rattle.fr_tags.specs.Bodies.{is_rising_from};
 ghost use Rattle.fr_log.specs.Push.{IsPush, is_one_push, is_same_push, is_same_push-IsSameness};
 
-use fr_base::{Epoch, Memory, Version};
+use fr_base::{Epoch, Memory, Step, Version};
 use fr_state::CoordState;
 use fr_tags::Body;
 use std::alloc::{AllocError, Global};
 use std::marker::Model;
-
-/// How far one version is above the one before it, at most.
-const MAX_STEP: u64 = 1_000_000;
 
 /// One commit as a log takes it: its version and the version before it in the chain of commits, the
 /// greatest version that the sender knows to be committed, and a body for each of the log's tags that
@@ -32,7 +29,7 @@ pub struct Push {
 
 impl Model for Push {
     ghost use Rattle.fr_tags.specs.Bodies.{is_rising_from};
-ghost use Rattle.fr_log.specs.Push.{PushContent, IsPush};
+    ghost use Rattle.fr_log.specs.Push.{PushContent, IsPush};
 
     ghost Value = { PushContent };
 
@@ -54,7 +51,7 @@ impl Push {
         ensures within { IsSome result ↔ IsPush (record { epoch = epoch; prev = prev; version = version; known = known; bodies = bodies.items; mark = None }) }
         ensures value { IfSome result (λ p. p ≡ record { epoch = epoch; prev = prev; version = version; known = known; bodies = bodies.items; mark = None }) }
     {
-        let is_step = prev < version && version.get() - prev.get() <= MAX_STEP;
+        let is_step = Step::between(prev, version).is_some();
         if is_step && known <= prev && is_rising(&bodies) {
             Some(Push {
                 epoch,

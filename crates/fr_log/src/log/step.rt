@@ -26,7 +26,7 @@ impl Log {
         }
         if self.seed.is_none() {
             self.durable = seed.seeded_to();
-            self.known = before(seed.first());
+            self.known = seed.first().before().unwrap_or(Version::ZERO);
             self.seed = Some(seed);
         }
         LogTell::Seeded
@@ -142,16 +142,6 @@ fn later(a: Version, b: Version) -> Version
     ensures { result ≡ max a b }
 {
     if a < b { b } else { a }
-}
-
-/// The version before another, 0 before 0.
-fn before(version: Version) -> Version
-    ensures { result ≡ version - 1 }
-{
-    match Version::new(version.get().saturating_sub(1)) {
-        Some(before) => before,
-        None => unreachable!(),
-    }
 }
 
 impl Machine for Log {
