@@ -1,17 +1,16 @@
 -- The ways in which a log changes.
-use Rattle.std.proofs.Common.{◌≡◌, ℕ, Bool, true, false, not, ◌++◌, [], ◌∷◌, cond, eqb, Option, None, Some, refl, sym, ◌∙◌, ap, subst}
-use Rattle.std.specs.Prelude.{is_some, is_none, IsSome}
+use Rattle.std.proofs.Common.{◌≡◌, ℕ, Bool, true, false, not, cond, eqb, Option, None, Some, refl, sym, ◌∙◌, ap, subst}
+use Rattle.std.specs.Prelude.{is_none, IsSome}
 use Rattle.std.specs.List.{list_all}
 use Rattle.std.proofs.lemmas.Bool.{not-false, eqb-true}
 use Rattle.fr_log.specs.declared.ask.LogAsk.{LogAsk}
 use Rattle.fr_log.specs.declared.ask.LogAsk.TheVariants.{Seed, Push, Lock, Peek, MarkAsked}
-use Rattle.fr_log.specs.declared.ask.LogTell.{LogTell}
-use Rattle.fr_log.specs.declared.ask.LogTell.TheVariants.{Seeded, Held, Locked, Peeked, Marked, Refused}
+use Rattle.fr_log.specs.declared.ask.LogTell.TheVariants.{Seeded, Held, Refused}
 use Rattle.fr_log.specs.declared.ask.LogRefusal.{LogRefusal}
-use Rattle.fr_log.specs.Seed.{SeedContent, is_same_seed}
+use Rattle.fr_log.specs.Seed.{SeedContent}
 use Rattle.fr_log.specs.Push.{PushContent}
-use Rattle.fr_log.specs.LogState.{LogState, holds, is_push_held, mark_among}
-use Rattle.fr_log.specs.Refusal.{refusal_of, seed_refusal, push_refusal, lock_refusal}
+use Rattle.fr_log.specs.LogState.{LogState, holds, is_push_held}
+use Rattle.fr_log.specs.Refusal.{refusal_of, seed_refusal}
 use Rattle.fr_log.specs.Step.{answer_of, next_of, answer_unless, next_unless, granted_answer, granted_next}
 use Rattle.fr_log.specs.Change.{with_seed, with_push, with_stop, IsFirst, IsNext, LogChange, Stands, Seeds, Holds, Stops}
 use Rattle.fr_log.specs.Law.{AskIsChange, RefusedChangesNothing, TakenIsNext}

@@ -1,13 +1,12 @@
 -- Nothing is lost of a log, so it can go back.
-use Rattle.std.proofs.Common.{◌≡◌, ℕ, Bool, true, false, List, [], ◌∷◌, ◌++◌, length, take, Option, None, Some, cond, refl, sym, ◌∙◌, ap, subst, append_assoc}
+use Rattle.std.proofs.Common.{◌≡◌, ℕ, Bool, List, [], ◌∷◌, ◌++◌, length, take, Option, None, Some, cond, refl, sym, ◌∙◌, ap, subst, append_assoc}
 use Rattle.std.specs.Prelude.{is_some, IsSome}
 use Rattle.std.proofs.lemmas.List.{append-nil, take_at}
-use Rattle.fr_log.specs.declared.ask.LogAsk.{LogAsk}
 use Rattle.fr_log.specs.Seed.{SeedContent}
 use Rattle.fr_log.specs.Push.{PushContent}
 use Rattle.fr_log.specs.LogState.{LogState}
 use Rattle.fr_log.specs.Step.{next_of}
-use Rattle.fr_log.specs.Place.{Extends, place_of, gone_back}
+use Rattle.fr_log.specs.Place.{Extends}
 use Rattle.fr_log.specs.Law.{after_all, AskExtends, AsksExtend, BackIsBefore}
 use Rattle.fr_log.proofs.Pushing.{some_is_not_none}
 use Rattle.fr_log.proofs.Changes.{by_change}

@@ -1,6 +1,6 @@
 -- What a tell says of the ask that it answers and of the log that gave it.
-use Rattle.std.proofs.Common.{◌≡◌, ℕ, zero, suc, ◌+◌, ◌-◌, ◌<◌, ◌≤◌, Bool, true, false, not, ◌&&◌, List, [], ◌∷◌, ◌++◌, length, take, cond, nat_lt, nat_le, eqb, Option, None, Some, refl, sym, ◌∙◌, ap, subst, inl, inr, arith}
-use Rattle.std.specs.Prelude.{fold, filter, is_none, is_some, IsSome, IsTrue, ◌⊎◌}
+use Rattle.std.proofs.Common.{◌≡◌, ℕ, zero, suc, ◌+◌, ◌-◌, ◌<◌, ◌≤◌, Bool, true, false, not, ◌&&◌, List, [], ◌∷◌, length, take, cond, nat_lt, nat_le, eqb, Option, None, Some, refl, sym, ◌∙◌, ap, subst, inl, inr, arith}
+use Rattle.std.specs.Prelude.{filter, is_none, ◌⊎◌}
 use Rattle.std.specs.List.{list_any}
 use Rattle.std.proofs.lemmas.Bool.{ltb-true, ltb-false, le-leb, lt-leb, not-false, or_right, eqb-true}
 use Rattle.std.proofs.lemmas.List.{take_all}
@@ -8,21 +8,20 @@ use Rattle.std.proofs.lemmas.List.Folds.{list_any-append}
 use Rattle.fr_state.specs.Generations.{CoordinatedState}
 use Rattle.fr_log.specs.declared.ask.LogAsk.{LogAsk}
 use Rattle.fr_log.specs.declared.ask.LogAsk.TheVariants.{Seed, Push, Lock, Peek, MarkAsked}
-use Rattle.fr_log.specs.declared.ask.LogTell.{LogTell}
-use Rattle.fr_log.specs.declared.ask.LogTell.TheVariants.{Seeded, Held, Locked, Peeked, Marked, Refused}
+use Rattle.fr_log.specs.declared.ask.LogTell.TheVariants.{Held, Locked, Peeked}
 use Rattle.fr_log.specs.declared.ask.LogRefusal.{LogRefusal}
 use Rattle.fr_log.specs.declared.records.PeekedRecord.{PeekedRecord}
 use Rattle.fr_log.specs.Seed.{SeedContent, is_same_seed, is_same_seed-IsSameness}
 use Rattle.fr_log.specs.Push.{PushContent, is_one_push, is_one_push-itself, is_one_push-parts}
-use Rattle.fr_log.specs.LogState.{LogState, holds, first_of, durable_of, known_of, records_of, is_push_held, mark_among}
+use Rattle.fr_log.specs.LogState.{LogState, holds, first_of, durable_of, records_of, is_push_held, mark_among}
 use Rattle.fr_log.specs.Refusal.{refusal_of, seed_refusal, push_refusal, has_other_seed}
-use Rattle.fr_log.specs.Step.{answer_of, next_of, answer_unless, granted_answer, mark_answer, peek_of, records_above, upto_of}
+use Rattle.fr_log.specs.Step.{answer_of, next_of, granted_answer, mark_answer, peek_of, records_above, upto_of}
 use Rattle.fr_log.specs.Fields.{five}
 use Rattle.fr_log.specs.Change.{with_seed, with_push}
 use Rattle.fr_log.specs.Answer.{IsAnswer, IsSeededAnswer, IsHeldAnswer}
 use Rattle.fr_log.specs.Law.{TellIsAnswer, HeldIsHeld, OnePushIsSame, SameSeedIsSame, LockedIsStopped, PeekIsWhole, PeekGoesOn}
 use Rattle.fr_log.proofs.Rising.{Rises, Through, above, records_rise, records_through, rises_above, through_above, rises_take, last_of, last_above}
-use Rattle.fr_log.proofs.Pushing.{passed, some_from}
+use Rattle.fr_log.proofs.Pushing.{passed}
 use Rattle.fr_log.proofs.Changes.{granted, told, own_and_seeded}
 
 -- ---- which ask a tell answers

@@ -1,10 +1,10 @@
 -- A state with one generation more, as a function.
-use Rattle.std.proofs.Common.{◌≡◌, ℕ, ◌<◌, ◌≤◌, Bool, true, false, cond, ltb, List, [], ◌∷◌, ◌++◌, length, Result, Ok, Err, refl, sym, ap, subst, ◌∙◌}
+use Rattle.std.proofs.Common.{◌≡◌, Bool, true, false, cond, ltb, List, [], ◌∷◌, ◌++◌, length, Result, Ok, Err, refl, sym, ap, subst, ◌∙◌}
 use Rattle.std.proofs.lemmas.Bool.{true≢false, false_from_ne_true, ltb-true, ltb-false, le-ltb}
 use Rattle.fr_state.specs.declared.fault.StateFault.{StateFault}
 use Rattle.fr_state.specs.declared.fault.StateFault.TheVariants.{NotLater, TooMany}
-use Rattle.fr_state.specs.Generations.{LogGeneration, CoordinatedState, IsGeneration, IsCoordinatedState, AreOrdered, last_of}
-use Rattle.fr_state.specs.Order.{is_ordered, extended}
+use Rattle.fr_state.specs.Generations.{LogGeneration, CoordinatedState, IsCoordinatedState, AreOrdered, last_of}
+use Rattle.fr_state.specs.Order.{is_ordered}
 use Rattle.fr_state.specs.Laws.{ExtensionIsState, FollowerExtends, NotLaterIsExact, TooManyIsExact}
 use Rattle.fr_state.proofs.OrderLemmas.{may_follow-true, AreOrdered-test, is_ordered-true, last_of_push, ordered, extended-Ok, extended_sound}
 

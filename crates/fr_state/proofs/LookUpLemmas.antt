@@ -1,16 +1,15 @@
 -- Ends, cuts, sources and owners.
-use Rattle.std.proofs.Common.{◌≡◌, ℕ, zero, suc, ◌+◌, ◌-◌, ◌<◌, ◌≤◌, Bool, true, false, cond, ltb, leb, List, [], ◌∷◌, ◌++◌, length, Option, Some, None, refl, sym, ap, subst, ◌∙◌, append_assoc, inl, inr, arith}
+use Rattle.std.proofs.Common.{◌≡◌, ℕ, ◌-◌, ◌<◌, ◌≤◌, Bool, false, ltb, leb, List, [], ◌∷◌, ◌++◌, Option, Some, None, refl, sym, ap, subst, ◌∙◌, append_assoc, inl, inr, arith}
 use Rattle.std.specs.Prelude.{slice_get, find, reverse, ◌⊎◌, ◌≢◌, ◌↔◌, All, Contains, IsSome, IfSome}
 use Rattle.std.specs.List.{AllByRecursion}
 use Rattle.std.specs.Option.{option_map, option_or}
 use Rattle.std.proofs.lemmas.Bool.{leb-true, leb-false, le-leb, lt-leb, ltb-true, ltb-false, lt-ltb, le-ltb}
-use Rattle.std.proofs.lemmas.List.{append-nil}
 use Rattle.std.proofs.lemmas.List.Elements.{All-from_recursion, recursion_from_All, All-contains}
-use Rattle.fr_state.specs.Generations.{LogGeneration, IsGeneration, Follows, AreOrdered, last_of}
+use Rattle.fr_state.specs.Generations.{LogGeneration, IsGeneration, AreOrdered, last_of}
 use Rattle.fr_state.specs.LookUp.{next_of, end_of, cut_of, source_of, owner_of}
 use Rattle.fr_state.specs.Laws.{HasNext, LastIsThere, LastIsWithin, LastOrNext, IsSource, IsOwner, NextTells, LastIsOpen, EarlierIsClosed, AbsentIsOpen, CutIsAtLeastSeed, EndIsAtMostCut, CutIsAtMostLast, FrontKeepsEnd, FrontKeepsCut, FrontKeepsSource, FrontKeepsOwner}
 use Rattle.fr_state.proofs.OrderLemmas.{last_of_push}
-use Rattle.fr_state.proofs.LastLemmas.{IsLast, last-append, none_from_fails, fails_from_none, last_from_split, split_from_last}
+use Rattle.fr_state.proofs.LastLemmas.{last-append, none_from_fails, fails_from_none, last_from_split, split_from_last}
 use Rattle.fr_state.proofs.ListLemmas.{Parts, AreOrdered-back, all_later, parts_of, Contains-parts, front_of, next_of-parts, next_of-absent, next_of-has, next_of-append}
 
 abbrev first_less : LogGeneration → ℕ

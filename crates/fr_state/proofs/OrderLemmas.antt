@@ -1,11 +1,9 @@
 -- The order of generations: the test and the fact, and a list with one generation more.
-use Rattle.std.proofs.Common.{◌≡◌, ℕ, zero, suc, ◌+◌, ◌-◌, ◌<◌, ◌≤◌, ◌&&◌, Bool, true, false, cond, ltb, List, [], ◌∷◌, ◌++◌, length, Option, Some, None, Result, Ok, Err, refl, sym, ap, ◌∙◌, arith}
-use Rattle.std.specs.Prelude.{slice_get, ◌↔◌, ◌≢◌}
-use Rattle.std.proofs.lemmas.Bool.{true≢false, and_parts, and_from, ltb-true, leb-true, lt-ltb, le-ltb, le-leb}
+use Rattle.std.proofs.Common.{◌≡◌, suc, ◌-◌, ◌<◌, ◌&&◌, Bool, true, false, List, [], ◌∷◌, ◌++◌, length, Some, Ok, refl, sym, ap, ◌∙◌, arith}
+use Rattle.std.specs.Prelude.{slice_get}
+use Rattle.std.proofs.lemmas.Bool.{true≢false, and_parts, and_from, ltb-true, leb-true, lt-ltb, le-leb}
 use Rattle.std.proofs.lemmas.List.{length-append}
 use Rattle.std.proofs.lemmas.List.Elements.{All-push}
-use Rattle.fr_state.specs.declared.fault.StateFault.{StateFault}
-use Rattle.fr_state.specs.declared.fault.StateFault.TheVariants.{NotLater, TooMany, Memory}
 use Rattle.fr_state.specs.Generations.{LogGeneration, CoordinatedState, IsGeneration, IsCoordinatedState, Follows, AreOrdered, last_of}
 use Rattle.fr_state.specs.Order.{may_follow, is_ordered, extended}
 

@@ -1,7 +1,5 @@
 -- Two states that `==` calls the same are one, and a list begins with another where the test says so.
-use Rattle.std.proofs.Common.{◌≡◌, ℕ, Bool, true, false, List, [], ◌∷◌, ◌++◌, length, take, get_or, refl, sym, ap, subst, ◌∙◌, take-append-drop}
-use Rattle.std.specs.Prelude.{nat_eq}
-use Rattle.std.specs.Cmp.{IsEquivalence}
+use Rattle.std.proofs.Common.{◌≡◌, ℕ, true, List, [], ◌∷◌, ◌++◌, length, take, get_or, refl, sym, ap, subst, ◌∙◌, take-append-drop}
 use Rattle.std.specs.Cmp.Lexicographic.{pointwise, same_text, lists_equiv, on_texts_equal}
 use Rattle.std.proofs.lemmas.Bool.{and_parts}
 use Rattle.fr_state.specs.Generations.{LogGeneration, CoordinatedState}

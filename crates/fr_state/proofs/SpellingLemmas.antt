@@ -1,7 +1,6 @@
 -- The spelling of a state and its reading.
 use Rattle.std.proofs.Common.{◌≡◌, ℕ, zero, suc, ◌+◌, ◌*◌, ◌<◌, ◌≤◌, ◌^◌, ◌&&◌, Bool, true, false, cond, eqb, leb, ltb, List, [], ◌∷◌, ◌++◌, length, take, drop, get_or, Result, Ok, Err, refl, sym, ap, subst, ◌∙◌, append_assoc, arith}
-use Rattle.std.specs.Prelude.{All}
-use Rattle.std.specs.List.{AllByRecursion, flat_map, list_all}
+use Rattle.std.specs.List.{AllByRecursion, flat_map}
 use Rattle.std.specs.Int.{w64, to_be_bytes}
 use Rattle.std.proofs.lemmas.Bool.{and_parts, and_from, eqb-true, leb-true, ltb-false, le-leb, le-ltb}
 use Rattle.std.proofs.lemmas.List.{take-append-drop, drop-drop, drop_more, length-append, length-drop, nil_from_length, append-nil, take_all}
@@ -13,7 +12,7 @@ use Rattle.fr_state.specs.Generations.{LogGeneration, CoordinatedState, IsGenera
 use Rattle.fr_state.specs.Reading.{◌>>=◌, header_at, generation_at, generations_at, is_list, state_at, reading}
 use Rattle.fr_state.specs.Laws.{SpellingFits, OneSpellingOneState}
 use Rattle.fr_state.specs.Spelling.{row, spelling}
-use Rattle.fr_state.proofs.BigEndianLemmas.{wide64, number_at-back, number_at-again}
+use Rattle.fr_state.proofs.BigEndianLemmas.{wide64, number_at-back}
 use Rattle.fr_state.proofs.OrderLemmas.{is_ordered-true}
 use Rattle.fr_state.proofs.StateLemmas.{all_within-true, length-generations_at, list_sound}
 

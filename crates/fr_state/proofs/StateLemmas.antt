@@ -1,14 +1,14 @@
 -- What was read is a state.
-use Rattle.std.proofs.Common.{◌≡◌, ℕ, zero, suc, ◌+◌, ◌*◌, ◌<◌, ◌≤◌, ◌^◌, ◌&&◌, Bool, true, false, cond, eqb, leb, List, [], ◌∷◌, length, drop, Result, Ok, Err, refl, sym, ap, ◌∙◌, arith, inl, inr}
+use Rattle.std.proofs.Common.{◌≡◌, ℕ, zero, suc, ◌≤◌, ◌&&◌, Bool, true, false, cond, eqb, leb, List, [], ◌∷◌, length, drop, Result, Ok, Err, refl, ap, arith}
 use Rattle.std.specs.Prelude.{All}
 use Rattle.std.specs.List.{list_all}
 use Rattle.std.proofs.lemmas.Bool.{and_parts, and_from, ltb-true, leb-true, lt-ltb, le-leb}
 use Rattle.std.proofs.lemmas.List.Elements.{All-nil, All-cons, All-head, All-tail}
 use Rattle.fr_state.specs.declared.fault.DecodeFault.{DecodeFault}
 use Rattle.fr_state.specs.declared.fault.DecodeFault.TheVariants.{Short, BadForm}
-use Rattle.fr_state.specs.Generations.{LogGeneration, CoordinatedState, IsGeneration, IsCoordinatedState}
-use Rattle.fr_state.specs.Reading.{header_at, generation_at, generations_at, is_within, is_list}
-use Rattle.fr_state.proofs.OrderLemmas.{AreOrdered-test, is_ordered-true}
+use Rattle.fr_state.specs.Generations.{LogGeneration, IsGeneration, IsCoordinatedState}
+use Rattle.fr_state.specs.Reading.{header_at, generations_at, is_within, is_list}
+use Rattle.fr_state.proofs.OrderLemmas.{AreOrdered-test}
 
 -- ---- the limits: the test and the fact
 

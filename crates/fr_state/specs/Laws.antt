@@ -1,5 +1,5 @@
 -- What holds of every ordered list of generations, and of the bytes of a state.
-use Rattle.std.specs.Prelude.{◌≡◌, ◌≢◌, ◌↔◌, ℕ, ◌-◌, ◌<◌, ◌≤◌, List, [], ◌∷◌, ◌++◌, ◌*◌, ◌+◌, ◌⊎◌, Option, Some, None, Contains, IsSome, IfSome, length, Ok, Err, All, AllPairs, IsTrue}
+use Rattle.std.specs.Prelude.{◌≡◌, ◌≢◌, ◌↔◌, ℕ, ◌-◌, ◌<◌, ◌≤◌, List, [], ◌∷◌, ◌++◌, ◌*◌, ◌+◌, ◌⊎◌, Some, None, Contains, IsSome, IfSome, length, Ok, Err, All, AllPairs, IsTrue}
 use Rattle.fr_state.specs.declared.fault.StateFault.TheVariants.{NotLater, TooMany}
 use Rattle.fr_state.specs.BigEndian.{AreBytes}
 use Rattle.fr_state.specs.Generations.{LogGeneration, CoordinatedState, IsGeneration, IsCoordinatedState, Follows, AreOrdered, last_of}

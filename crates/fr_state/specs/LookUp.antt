@@ -1,5 +1,5 @@
 -- The end and the cut of a generation, the source of a version, and the generation that numbers it.
-use Rattle.std.specs.Prelude.{ℕ, ◌+◌, ◌-◌, nat_lt, nat_le, ◌==◌, List, [], ◌∷◌, reverse, find, position, slice_get, Option}
+use Rattle.std.specs.Prelude.{ℕ, ◌+◌, ◌-◌, nat_lt, nat_le, ◌==◌, List, reverse, find, position, slice_get, Option}
 use Rattle.std.specs.Option.{option_map, option_and_then}
 use Rattle.fr_state.specs.Generations.{LogGeneration}
 

@@ -86,13 +86,7 @@ fn mark(marks: &mut [bool], from: usize, to: usize)
 }
 
 /// Copies of the bodies whose tags a log holds.
-fn bodies_for(
-    alloc: Global,
-    bodies: &[Body],
-    m: u8,
-    k: u8,
-    log: u8,
-) -> Result<Vec<Body>, Memory>
+fn bodies_for(alloc: Global, bodies: &[Body], m: u8, k: u8, log: u8) -> Result<Vec<Body>, Memory>
     requires some { 1 ≤ k }
     requires fits { k ≤ m }
     requires limit { m ≤ MAX_LOGS }

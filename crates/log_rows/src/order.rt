@@ -34,7 +34,9 @@ fn mark(alloc: Global, prev: u64) -> Result<LogAsk, Fail> {
 /// A push of this epoch, one version after `prev`, with a body of each of these tags.
 fn push(alloc: Global, number: u64, prev: u64, tags: &[u8]) -> Result<LogAsk, Fail> {
     let bodies = bodies(alloc, tags, 1)?;
-    let push = Push::new(epoch(number)?, at(prev)?, at(prev + 1)?, at(0)?, bodies);
+    let prev = at(prev)?;
+    let version = prev.after().ok_or("a version")?;
+    let push = Push::new(epoch(number)?, prev, version, at(0)?, bodies);
     Ok(LogAsk::Push(push.ok_or("a push")?))
 }
 
@@ -47,12 +49,15 @@ fn peek(number: u64, of: u8, after: u64) -> Result<LogAsk, Fail> {
     })
 }
 
-/// Why the log refuses the ask, if it does.
-fn refusal(alloc: Global, log: &mut Log, ask: LogAsk) -> Result<Option<LogRefusal>, Fail> {
-    Ok(match log.step(alloc, ask)? {
-        LogTell::Refused { why } => Some(why),
-        _ => None,
-    })
+/// Whether the log refuses the ask for this reason.
+fn refuses(alloc: Global, log: &mut Log, ask: LogAsk, why: LogRefusal) -> Result<bool, Fail> {
+    Ok(log.step(alloc, ask)? == LogTell::Refused { why })
+}
+
+/// Whether the log answers that it holds the push of this version.
+fn holds(alloc: Global, log: &mut Log, push: LogAsk, version: u64) -> Result<bool, Fail> {
+    let version = at(version)?;
+    Ok(log.step(alloc, push)? == LogTell::Held { version })
 }
 
 #[test]
@@ -61,14 +66,11 @@ fn seeds(rt: HostRuntime) -> Result<(), Fail> {
     let mut fresh = new_log(alloc, 257)?;
     // of another epoch, and with a tag of other logs
     let strange = LogAsk::Seed(seed(513, 1, 1, records(alloc, &[(1, 1, 1)])?)?);
-    assert_eq!(rt;
-        refusal(alloc, &mut fresh, strange)?,
-        Some(LogRefusal::WrongEpoch)
-    );
+    assert!(rt; refuses(alloc, &mut fresh, strange, LogRefusal::WrongEpoch)?);
     // with a tag of other logs, and another seed than the one held
     let mut log = seeded(alloc, 1, 0)?;
     let other = LogAsk::Seed(seed(257, 1, 1, records(alloc, &[(1, 1, 1)])?)?);
-    assert_eq!(rt; refusal(alloc, &mut log, other)?, Some(LogRefusal::NotMine));
+    assert!(rt; refuses(alloc, &mut log, other, LogRefusal::NotMine)?);
     Ok(())
 }
 
@@ -77,15 +79,33 @@ fn pushes_to_a_log_without_a_mark(rt: HostRuntime) -> Result<(), Fail> {
     let alloc = rt.alloc();
     let mut fresh = new_log(alloc, 257)?;
     // of another epoch, and there is no seed
-    let why = refusal(alloc, &mut fresh, push(alloc, 513, 0, &[])?)?;
-    assert_eq!(rt; why, Some(LogRefusal::WrongEpoch));
+    assert!(rt;
+        refuses(
+            alloc,
+            &mut fresh,
+            push(alloc, 513, 0, &[])?,
+            LogRefusal::WrongEpoch
+        )?
+    );
     // there is no seed, and others are missing before it
-    let why = refusal(alloc, &mut fresh, push(alloc, 257, 9, &[])?)?;
-    assert_eq!(rt; why, Some(LogRefusal::Unseeded));
+    assert!(rt;
+        refuses(
+            alloc,
+            &mut fresh,
+            push(alloc, 257, 9, &[])?,
+            LogRefusal::Unseeded
+        )?
+    );
     // with a tag of other logs, and there is no mark
     let mut log = seeded(alloc, 1, 0)?;
-    let why = refusal(alloc, &mut log, push(alloc, 257, 0, &[1])?)?;
-    assert_eq!(rt; why, Some(LogRefusal::NotMine));
+    assert!(rt;
+        refuses(
+            alloc,
+            &mut log,
+            push(alloc, 257, 0, &[1])?,
+            LogRefusal::NotMine
+        )?
+    );
     Ok(())
 }
 
@@ -94,19 +114,30 @@ fn pushes_to_a_log_with_a_mark(rt: HostRuntime) -> Result<(), Fail> {
     let alloc = rt.alloc();
     let mut log = marked(alloc)?;
     // a mark elsewhere than right after the seed, and others are missing before it
-    let why = refusal(alloc, &mut log, mark(alloc, 9)?)?;
-    assert_eq!(rt; why, Some(LogRefusal::Stale));
+    assert!(rt; refuses(alloc, &mut log, mark(alloc, 9)?, LogRefusal::Stale)?);
     // others are missing before it, and it has a tag of other logs
-    let why = refusal(alloc, &mut log, push(alloc, 257, 9, &[1])?)?;
     let durable = at(1)?;
-    assert_eq!(rt; why, Some(LogRefusal::Gap { durable }));
+    assert!(rt;
+        refuses(
+            alloc,
+            &mut log,
+            push(alloc, 257, 9, &[1])?,
+            LogRefusal::Gap { durable }
+        )?
+    );
     // the log is locked, and further on
     let lock = LogAsk::Lock { epoch: epoch(257)? };
-    assert_eq!(rt; refusal(alloc, &mut log, lock)?, None);
-    let why = refusal(alloc, &mut log, push(alloc, 257, 0, &[])?)?;
-    assert_eq!(rt; why, Some(LogRefusal::Stopped));
+    let _ = log.step(alloc, lock)?;
+    assert!(rt;
+        refuses(
+            alloc,
+            &mut log,
+            push(alloc, 257, 0, &[])?,
+            LogRefusal::Stopped
+        )?
+    );
     // the log is locked, and holds it
-    assert_eq!(rt; refusal(alloc, &mut log, mark(alloc, 0)?)?, None);
+    assert!(rt; holds(alloc, &mut log, mark(alloc, 0)?, 1)?);
     Ok(())
 }
 
@@ -118,21 +149,12 @@ fn locks_and_asks_for_the_mark(rt: HostRuntime) -> Result<(), Fail> {
     let own = epoch(257)?;
     // of another epoch, and there is no seed
     let lock = LogAsk::Lock { epoch: strange };
-    assert_eq!(rt;
-        refusal(alloc, &mut fresh, lock)?,
-        Some(LogRefusal::WrongEpoch)
-    );
+    assert!(rt; refuses(alloc, &mut fresh, lock, LogRefusal::WrongEpoch)?);
     let asked = LogAsk::MarkAsked { epoch: strange };
-    assert_eq!(rt;
-        refusal(alloc, &mut fresh, asked)?,
-        Some(LogRefusal::WrongEpoch)
-    );
+    assert!(rt; refuses(alloc, &mut fresh, asked, LogRefusal::WrongEpoch)?);
     // there is no seed, and no mark
     let asked = LogAsk::MarkAsked { epoch: own };
-    assert_eq!(rt;
-        refusal(alloc, &mut fresh, asked)?,
-        Some(LogRefusal::Unseeded)
-    );
+    assert!(rt; refuses(alloc, &mut fresh, asked, LogRefusal::Unseeded)?);
     Ok(())
 }
 
@@ -141,15 +163,12 @@ fn peeks(rt: HostRuntime) -> Result<(), Fail> {
     let alloc = rt.alloc();
     let mut fresh = new_log(alloc, 257)?;
     // of another epoch, and there is no seed
-    let why = refusal(alloc, &mut fresh, peek(513, 0, 0)?)?;
-    assert_eq!(rt; why, Some(LogRefusal::WrongEpoch));
+    assert!(rt; refuses(alloc, &mut fresh, peek(513, 0, 0)?, LogRefusal::WrongEpoch)?);
     // there is no seed, and the tag is one of other logs
-    let why = refusal(alloc, &mut fresh, peek(257, 1, 0)?)?;
-    assert_eq!(rt; why, Some(LogRefusal::Unseeded));
+    assert!(rt; refuses(alloc, &mut fresh, peek(257, 1, 0)?, LogRefusal::Unseeded)?);
     // the tag is one of other logs, and the epoch starts later
     let mut log = seeded(alloc, 10, 10)?;
-    let why = refusal(alloc, &mut log, peek(257, 1, 6)?)?;
-    assert_eq!(rt; why, Some(LogRefusal::NotMine));
+    assert!(rt; refuses(alloc, &mut log, peek(257, 1, 6)?, LogRefusal::NotMine)?);
     Ok(())
 }
 
@@ -158,12 +177,12 @@ fn a_log_goes_back(rt: HostRuntime) -> Result<(), Fail> {
     let alloc = rt.alloc();
     let mut log = marked(alloc)?;
     let place = log.place();
-    assert_eq!(rt; refusal(alloc, &mut log, push(alloc, 257, 1, &[0])?)?, None);
+    assert!(rt; holds(alloc, &mut log, push(alloc, 257, 1, &[0])?, 2)?);
     let lock = LogAsk::Lock { epoch: epoch(257)? };
-    assert_eq!(rt; refusal(alloc, &mut log, lock)?, None);
+    let _ = log.step(alloc, lock)?;
     log.go_back(place);
     assert!(rt; !log.stopped());
     assert_eq!(rt; log.durable(), at(1)?);
-    assert_eq!(rt; refusal(alloc, &mut log, push(alloc, 257, 1, &[3])?)?, None);
+    assert!(rt; holds(alloc, &mut log, push(alloc, 257, 1, &[3])?, 2)?);
     Ok(())
 }

@@ -1,4 +1,3 @@
-use Rattle.std.proofs.Common.{ap}
 use Rattle.fr_state.proofs.DecodeLemmas.{are_bytes, found, only}
 use Rattle.fr_state.proofs.reading.decode.Goals as goal
 

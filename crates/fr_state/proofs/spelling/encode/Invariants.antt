@@ -1,4 +1,4 @@
-use Rattle.std.proofs.Common.{◌≡◌, ◌++◌, ◌∷◌, length, take}
+use Rattle.std.proofs.Common.{◌≡◌, ◌∷◌, length, take}
 use Rattle.std.specs.List.{flat_map}
 use Rattle.fr_state.specs.Spelling.{row}
 use Rattle.fr_state.proofs.spelling.encode.Given as goal

@@ -1,5 +1,3 @@
-use Rattle.std.proofs.Common.{◌≡◌, ◌∙◌, sym, ap}
-use Rattle.fr_state.specs.Generations.{last_of}
 use Rattle.fr_state.proofs.OrderLemmas.{last_of-slice_get}
 use Rattle.fr_state.proofs.state.CoordState.last.Goals as goal
 
