@@ -1,6 +1,7 @@
 //! Tests over shards, states and logs: worked examples, vectors, and the order of refusals.
 #![tactic(auto)]
 
+pub mod back;
 #[cfg(test)]
 mod log;
 #[cfg(test)]

@@ -1,4 +1,5 @@
 //! The order of refusals: each row breaks two rules that are tested one after the other.
+use crate::back::ask_and_go_back;
 use crate::made::{at, bodies, epoch, new_log, records, seed, start, tag};
 use fr_base::Machine;
 use fr_log::{Log, LogAsk, LogRefusal, LogTell, Most, Push};
@@ -176,13 +177,12 @@ fn peeks(rt: HostRuntime) -> Result<(), Fail> {
 fn a_log_goes_back(rt: HostRuntime) -> Result<(), Fail> {
     let alloc = rt.alloc();
     let mut log = marked(alloc)?;
-    let place = log.place();
-    assert!(rt; holds(alloc, &mut log, push(alloc, 257, 1, &[0])?, 2)?);
+    let told = ask_and_go_back(alloc, &mut log, push(alloc, 257, 1, &[0])?)?;
     let lock = LogAsk::Lock { epoch: epoch(257)? };
-    let _ = log.step(alloc, lock)?;
-    log.go_back(place);
-    assert!(rt; !log.stopped());
-    assert_eq!(rt; log.durable(), at(1)?);
+    let locked = ask_and_go_back(alloc, &mut log, lock)?;
+    assert_eq!(rt; told, LogTell::Held { version: at(2)? });
+    let (durable, known) = (at(1)?, at(0)?);
+    assert_eq!(rt; locked, LogTell::Locked { durable, known });
     assert!(rt; holds(alloc, &mut log, push(alloc, 257, 1, &[3])?, 2)?);
     Ok(())
 }
