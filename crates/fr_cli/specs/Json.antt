@@ -26,9 +26,13 @@ one_of (member name d (member other e more)) = None
 abbrev pub one_member : Data → Option (List ℕ × Data)
 one_member d = option_and_then one_of (as_object d)
 
+-- a number that fits 64 bits, written in digits alone
+abbrev pub natural_of : Data → Option ℕ
+natural_of d = option_and_then as_u64 (as_number d)
+
 -- a version: a number below 2^62, written in digits alone
 abbrev pub version_of : Data → Option ℕ
-version_of d = option_and_then (λ n. if nat_lt n (2 ^ 62) then Some n else None) (option_and_then as_u64 (as_number d))
+version_of d = option_and_then (λ n. if nat_lt n (2 ^ 62) then Some n else None) (natural_of d)
 
 -- `0` to `9`, or `a` to `f`
 abbrev pub is_lower_digit : ℕ → Bool

@@ -2,3 +2,4 @@ pub mod Json
 pub mod Script
 pub mod Lines
 pub mod Text
+pub mod Tokens

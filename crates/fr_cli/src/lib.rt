@@ -4,11 +4,12 @@
 mod apply;
 mod fault;
 mod input;
-mod json;
 mod mutations;
 mod operations;
 mod output;
 mod script;
+mod tokens;
+mod tree;
 
 pub use apply::{ApplyOptions, StoreKind, run_apply};
 pub use fault::CliFault;

@@ -3,7 +3,7 @@ use Rattle.serde_json.specs.View.{view, items_view}
 use Rattle.fr_cli.specs.Json.{each_of}
 use Rattle.fr_cli.specs.Script.{operation_of, script_from}
 use Rattle.fr_cli.proofs.JsonLemmas.{joined}
-use Rattle.fr_cli.proofs.script.read_operations.Given as goal
+use Rattle.fr_cli.proofs.tree.script.read_operations.Given as goal
 
 abbrev pub invariant-loop-item : goal.invariant-loop-item
 invariant-loop-item l = script_from (view l.fn.script) ≡ joined l.operations.items (each_of operation_of (items_view l.item-iterator.rest.items))

@@ -1,7 +1,7 @@
 use Rattle.std.proofs.Common.{◌∙◌, sym}
 use Rattle.serde_json.proofs.Views.{members_len-members_view}
 use Rattle.fr_cli.proofs.JsonLemmas.{only_here, only_other}
-use Rattle.fr_cli.proofs.json.member_of.Goals as goal
+use Rattle.fr_cli.proofs.tree.member_of.Goals as goal
 
 pub returns-then-len-count : goal.returns-then-len-count
 returns-then-len-count c =

@@ -1,7 +1,7 @@
 use Rattle.std.proofs.Common.{◌∙◌, sym}
 use Rattle.serde_json.proofs.Views.{view-Object}
 use Rattle.fr_cli.proofs.JsonLemmas.{one_other}
-use Rattle.fr_cli.proofs.json.into_one_member.Goals as goal
+use Rattle.fr_cli.proofs.tree.into_one_member.Goals as goal
 
 pub returns : goal.returns
 returns c =

@@ -1,9 +1,12 @@
-//! Values of a script's JSON, read as the script wants them.
+//! Values of the tree of a script's JSON, read as the script wants them.
 ghost use Rattle.std.specs.Prelude.{◌≡◌, ◌≢◌, ◌⊎◌, None, Some, IfOk, IfErr, option_map, option_and_then, string_bytes};
 ghost use Rattle.std.specs.List.{list_all};
 ghost use Rattle.serde_json.specs.Find.{as_array};
 ghost use Rattle.serde_json.specs.View.{view, items_view};
 ghost use Rattle.fr_cli.specs.Json.{only, one_member, version_of, is_lower_digit, bytes_of, pair_of};
+
+pub(crate) mod mutations;
+pub(crate) mod script;
 
 use crate::fault::CliFault;
 use fr_base::{Bytes, Version};
@@ -96,7 +99,7 @@ fn read_bytes(alloc: Global, value: Option<&Value>) -> Result<Bytes, CliFault>
 }
 
 /// Whether each byte is a digit or one of `a` to `f`.
-fn is_lower_hex(text: &[u8]) -> bool
+pub(crate) fn is_lower_hex(text: &[u8]) -> bool
     ensures { result ≡ list_all is_lower_digit text.now }
 {
     text.iter().all(|c| matches!(*c, b'0'..=b'9' | b'a'..=b'f'))

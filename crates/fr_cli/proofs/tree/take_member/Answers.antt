@@ -3,7 +3,7 @@ use Rattle.serde_json.proofs.Views.{members_len-members_view}
 use Rattle.serde_json.specs.View.{view}
 use Rattle.serde_json.specs.declared.value.Value.{Value}
 use Rattle.fr_cli.proofs.JsonLemmas.{only_here, only_other}
-use Rattle.fr_cli.proofs.json.take_member.Goals as goal
+use Rattle.fr_cli.proofs.tree.take_member.Goals as goal
 
 pub returns : goal.returns
 returns c =

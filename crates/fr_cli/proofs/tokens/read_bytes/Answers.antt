@@ -1,0 +1,13 @@
+use Rattle.std.proofs.Common.{rules, ◌≡◌, ◌∷◌, List, Some, sym, subst, arith}
+use Rattle.serde_json.specs.Data.{string}
+use Rattle.fr_cli.specs.Json.{bytes_of}
+use Rattle.fr_cli.specs.Tokens.{BeginsWith}
+use Rattle.fr_cli.proofs.TokenLemmas.{a_string}
+use Rattle.fr_cli.proofs.tokens.read_bytes.Goals as goal
+
+pub returns-clause-value : goal.returns-clause-value
+returns-clause-value c =
+    let s = c.in_ok-text.text.now in
+    let r = c.take_string.new.reader in
+    let decoded : bytes_of (string s) ≡ Some c.from_vec.result = search rules in
+    λ depth. (string s, subst (λ xs. BeginsWith depth xs (string s) r) (sym c.in_ok-text.ensures) (a_string depth s r), decoded)
