@@ -1,3 +1,4 @@
 pub mod TextLemmas
 pub mod JsonLemmas
 pub mod TokenLemmas
+pub mod HexLemmas

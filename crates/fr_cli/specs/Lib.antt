@@ -3,3 +3,4 @@ pub mod Script
 pub mod Lines
 pub mod Text
 pub mod Tokens
+pub mod Hex

@@ -3,6 +3,7 @@
 
 mod apply;
 mod fault;
+mod hex_text;
 mod input;
 mod mutations;
 mod operations;

@@ -12,10 +12,9 @@ ghost use Rattle.fr_cli.specs.Tokens.{Gives};
 pub(crate) mod mutations;
 pub(crate) mod script;
 
-use crate::tree::is_lower_hex;
+use crate::hex_text::bytes_in;
 use fast_float::Numeral;
 use fr_base::{Bytes, Version};
-use hex::FromHexError;
 use json::{Invalid, Reader, Token};
 use std::alloc::{AllocError, AllocFailed, Global};
 
@@ -84,17 +83,9 @@ fn read_bytes(alloc: Global, reader: &mut Reader<'_>) -> Result<Bytes, Unread>
     ensures shorter { OnOk result (length reader.new < length reader.old) }
 {
     let text = take_string(reader)?;
-    if !is_lower_hex(text.as_bytes()) {
-        return Err(Unread::Unusual);
-    }
-    let bytes = hex::decode(alloc, text).map_err(fault_of)?;
-    Ok(Bytes::from_vec(bytes))
-}
-
-fn fault_of(error: FromHexError) -> Unread {
-    match error {
-        FromHexError::OutOfMemory => Unread::Memory,
-        _ => Unread::Unusual,
+    match bytes_in(alloc, text.as_bytes())? {
+        Some(bytes) => Ok(Bytes::from_vec(bytes)),
+        None => Err(Unread::Unusual),
     }
 }
 

@@ -1,16 +1,15 @@
 //! Values of the tree of a script's JSON, read as the script wants them.
-ghost use Rattle.std.specs.Prelude.{◌≡◌, ◌≢◌, ◌⊎◌, None, Some, IfOk, IfErr, option_map, option_and_then, string_bytes};
-ghost use Rattle.std.specs.List.{list_all};
+ghost use Rattle.std.specs.Prelude.{◌≡◌, ◌⊎◌, None, Some, IfOk, IfErr, option_map, option_and_then, string_bytes};
 ghost use Rattle.serde_json.specs.Find.{as_array};
 ghost use Rattle.serde_json.specs.View.{view, items_view};
-ghost use Rattle.fr_cli.specs.Json.{only, one_member, version_of, is_lower_digit, bytes_of, pair_of};
+ghost use Rattle.fr_cli.specs.Json.{only, one_member, version_of, bytes_of, pair_of};
 
 pub(crate) mod mutations;
 pub(crate) mod script;
 
 use crate::fault::CliFault;
+use crate::hex_text::bytes_in;
 use fr_base::{Bytes, Version};
-use hex::FromHexError;
 use serde_json::Value;
 use std::alloc::Global;
 
@@ -91,26 +90,8 @@ fn read_bytes(alloc: Global, value: Option<&Value>) -> Result<Bytes, CliFault>
     let Some(text) = value.and_then(Value::as_str) else {
         return Err(CliFault::BadScript);
     };
-    if !is_lower_hex(text.as_bytes()) {
-        return Err(CliFault::BadScript);
-    }
-    let bytes = hex::decode(alloc, text).map_err(fault_of)?;
-    Ok(Bytes::from_vec(bytes))
-}
-
-/// Whether each byte is a digit or one of `a` to `f`.
-pub(crate) fn is_lower_hex(text: &[u8]) -> bool
-    ensures { result ≡ list_all is_lower_digit text.now }
-{
-    text.iter().all(|c| matches!(*c, b'0'..=b'9' | b'a'..=b'f'))
-}
-
-fn fault_of(error: FromHexError) -> CliFault
-    ensures memory { error ≡ FromHexError.OutOfMemory → result ≡ CliFault.Memory }
-    ensures bad { error ≢ FromHexError.OutOfMemory → result ≡ CliFault.BadScript }
-{
-    match error {
-        FromHexError::OutOfMemory => CliFault::Memory,
-        _ => CliFault::BadScript,
+    match bytes_in(alloc, text.as_bytes())? {
+        Some(bytes) => Ok(Bytes::from_vec(bytes)),
+        None => Err(CliFault::BadScript),
     }
 }

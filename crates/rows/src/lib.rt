@@ -2,8 +2,6 @@
 #![tactic(auto)]
 
 #[cfg(test)]
-mod apply;
-#[cfg(test)]
 mod batch_bytes;
 #[cfg(test)]
 mod mutation;

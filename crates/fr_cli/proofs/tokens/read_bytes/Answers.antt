@@ -5,8 +5,8 @@ use Rattle.fr_cli.specs.Tokens.{BeginsWith}
 use Rattle.fr_cli.proofs.TokenLemmas.{a_string}
 use Rattle.fr_cli.proofs.tokens.read_bytes.Goals as goal
 
-pub returns-clause-value : goal.returns-clause-value
-returns-clause-value c =
+pub returns-in-Some-clause-value : goal.returns-in-Some-clause-value
+returns-in-Some-clause-value c =
     let s = c.in_ok-text.text.now in
     let r = c.take_string.new.reader in
     let decoded : bytes_of (string s) ≡ Some c.from_vec.result = search rules in

@@ -1,4 +1,4 @@
-use Rattle.std.proofs.Common.{rules, ◌≡◌, Some, sym, subst, arith}
+use Rattle.std.proofs.Common.{rules, ◌≡◌, Some, sym, subst}
 use Rattle.serde_json.specs.Data.{number, unsigned}
 use Rattle.serde_json.specs.Read.{number_of}
 use Rattle.fr_cli.specs.Json.{natural_of}

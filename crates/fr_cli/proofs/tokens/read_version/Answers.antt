@@ -1,4 +1,4 @@
-use Rattle.std.proofs.Common.{rules, ◌≡◌, ℕ, ◌^◌, Option, Some, None, nat_lt, if◌then◌else◌, arith}
+use Rattle.std.proofs.Common.{rules, ◌≡◌, ℕ, ◌^◌, Option, Some, None, nat_lt, if◌then◌else◌}
 use Rattle.fr_cli.specs.Json.{natural_of}
 use Rattle.fr_cli.proofs.TokenLemmas.{given_by}
 use Rattle.fr_cli.proofs.tokens.read_version.Goals as goal

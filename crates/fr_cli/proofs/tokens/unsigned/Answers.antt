@@ -1,6 +1,6 @@
-use Rattle.std.proofs.Common.{◌≡◌, ◌<◌, ◌^◌, ◌==◌, false, slice_index, subst, ne_eqb}
+use Rattle.std.proofs.Common.{◌<◌, ◌^◌, subst, ne_eqb}
 use Rattle.std.specs.Prelude.{SomeIff}
-use Rattle.fast_float.specs.Text.{minus, digits_of, IsInteger}
+use Rattle.fast_float.specs.Text.{digits_of, IsInteger}
 use Rattle.fr_cli.proofs.TokenLemmas.{digits_found}
 use Rattle.fr_cli.proofs.tokens.unsigned.Goals as goal
 

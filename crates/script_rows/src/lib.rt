@@ -1,0 +1,13 @@
+//! Tests of scripts: what each prints, how it may be written, and what failing devices leave.
+#![tactic(auto)]
+
+#[cfg(test)]
+mod devices;
+#[cfg(test)]
+mod examples;
+#[cfg(test)]
+mod forms;
+#[cfg(test)]
+mod lengths;
+#[cfg(test)]
+mod lines;
