@@ -143,21 +143,26 @@ fn a_writer_that_takes_nothing(rt: HostRuntime) -> Result<(), Fail> {
     Ok(())
 }
 
-/// A reader that is interrupted for ever.
+/// A reader that is interrupted for ever, and counts its calls.
 #[derive(Drop)]
-struct Interrupted;
+struct Interrupted {
+    calls: u64,
+}
 
 impl Read for Interrupted {
     fn read(&mut self, _buf: &mut [u8]) -> io::Result<usize> {
+        self.calls = self.calls.saturating_add(1);
         Err(Error::from(ErrorKind::Interrupted))
     }
 }
 
 #[test]
 fn reading_stops(rt: HostRuntime) -> Result<(), Fail> {
+    let mut reader = Interrupted { calls: 0 };
     let mut writer = Vec::new(rt.alloc());
-    let found = run_apply(rt.alloc(), OPTIONS, &mut Interrupted, &mut writer);
+    let found = run_apply(rt.alloc(), OPTIONS, &mut reader, &mut writer);
     assert_eq!(rt; found, Err(CliFault::Input));
     assert!(rt; writer.is_empty());
+    assert_eq!(rt; reader.calls, 1_073_741_824);
     Ok(())
 }

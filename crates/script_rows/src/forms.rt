@@ -11,6 +11,12 @@ const EACH: &str = r#"{"ops":[{"apply":{"version":5,"batch":[{"set":{"key":"6a",
 /// The other kinds, with an escape, spaces and members in the other order.
 const OTHERS: &str = r#"{ "o\u0070s":[{"apply":{"batch":[{"add":{"key":"00","param":"ff00"}}],"version":12}},{"advance":{"version" : 13}},{"forget":{"through":0}}]}"#;
 
+/// Short scripts, of which each byte is changed to each other.
+const CHANGED: [&str; 2] = [
+    r#"{"ops":[{"undo":{"to":9}}]}"#,
+    r#"{"ops":[{"apply":{"batch":[{"or":{"param":"0f","key":"a0"}}],"version":5}}]}"#,
+];
+
 /// The input with another `ops` in front of its first member.
 fn twice(alloc: Global, input: &[u8]) -> Result<Vec<u8>, AllocError> {
     let mut all = Vec::new(alloc);
@@ -53,10 +59,9 @@ fn fronts_are_no_scripts(rt: HostRuntime) -> Result<(), Fail> {
     Ok(())
 }
 
-/// Each change of one byte, and each byte put in; how many of them are scripts is the same both ways.
 #[test]
 fn changed_bytes(rt: HostRuntime) -> Result<(), Fail> {
-    for script in [EACH, OTHERS] {
+    for script in CHANGED {
         let bytes = script.as_bytes();
         for at in 0..bytes.len() {
             for byte in 0..=255u8 {
