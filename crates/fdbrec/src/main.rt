@@ -1,20 +1,17 @@
 //! The program `fdbrec`: its words choose a command, which reads a script and prints lines.
 #![tactic(auto)]
 
+mod program;
 #[cfg(test)]
 mod tests;
 mod words;
 
-use clap::error::{Error, ErrorKind};
-use fr_cli::{CliFault, run_apply};
+use fr_cli::CliFault;
+use program::{BAD_WORDS, Ending, run_program};
 use std::alloc::Global;
 use std::io;
 use std::io::BufWriter;
 use std::process::ExitCode;
-use words::{Request, read_words};
-
-/// The status of bad words.
-const BAD_WORDS: u8 = 2;
 
 fn main(rt: HostRuntime) -> ExitCode {
     let alloc = rt.alloc();
@@ -22,13 +19,12 @@ fn main(rt: HostRuntime) -> ExitCode {
         Ok(words) => words,
         Err(status) => return status,
     };
-    match read_words(alloc, words.as_slice()) {
-        Ok(request) => match run(&rt, alloc, request) {
-            Ok(status) => ExitCode::from(status),
-            Err(fault) => end_by(&rt, fault),
-        },
-        Err(error) => end_words(&rt, &error),
-    }
+    let Ok(mut writer) = BufWriter::new(alloc, io::writer(&rt)) else {
+        return end_by(&rt, Ending::Fault(CliFault::Memory));
+    };
+    let mut reader = rt.reader();
+    let ending = run_program(alloc, words.as_slice(), &mut reader, &mut writer);
+    end_by(&rt, ending)
 }
 
 /// The program's own words, or the status where they cannot be had.
@@ -36,10 +32,10 @@ fn own_words(rt: &HostRuntime, alloc: Global) -> Result<Vec<String>, ExitCode> {
     match std::env::args(rt) {
         Ok(words) => match words.collect(alloc) {
             Ok(words) => Ok(words),
-            Err(_) => Err(end_by(rt, CliFault::Memory)),
+            Err(_) => Err(end_by(rt, Ending::Fault(CliFault::Memory))),
         },
         Err(error) if error.kind() == io::ErrorKind::OutOfMemory => {
-            Err(end_by(rt, CliFault::Memory))
+            Err(end_by(rt, Ending::Fault(CliFault::Memory)))
         }
         Err(_) => {
             let _ = eprintln!(rt; "error: a word is no text");
@@ -48,34 +44,12 @@ fn own_words(rt: &HostRuntime, alloc: Global) -> Result<Vec<String>, ExitCode> {
     }
 }
 
-/// Runs a command over standard input and output.
-fn run(rt: &(impl Input + Print), alloc: Global, request: Request) -> Result<u8, CliFault> {
-    let Ok(mut writer) = BufWriter::new(alloc, io::writer(rt)) else {
-        return Err(CliFault::Memory);
+/// Says on standard error why the program ends, where it is not done, and gives its status.
+fn end_by(rt: &impl Eprint, ending: Ending) -> ExitCode {
+    let _ = match &ending {
+        Ending::Done(_) => Ok(()),
+        Ending::Fault(fault) => eprintln!(rt; "{fault}"),
+        Ending::BadWords(error) => rt.eprint(error),
     };
-    let mut reader = rt.reader();
-    match request {
-        Request::Apply(options) => run_apply(alloc, options, &mut reader, &mut writer),
-    }
-}
-
-/// Ends by a fault, whose text goes to standard error.
-fn end_by(rt: &impl Eprint, fault: CliFault) -> ExitCode {
-    let _ = eprintln!(rt; "{fault}");
-    ExitCode::from(fault.status())
-}
-
-/// Ends where the words chose no command: with help, which they asked for, or as bad words.
-fn end_words(rt: &(impl Print + Eprint), error: &Error) -> ExitCode {
-    if error.kind() == ErrorKind::OutOfMemory {
-        return end_by(rt, CliFault::Memory);
-    }
-    let printed = error.print(rt);
-    if error.use_stderr() {
-        ExitCode::from(BAD_WORDS)
-    } else if printed.is_err() {
-        end_by(rt, CliFault::Output)
-    } else {
-        ExitCode::SUCCESS
-    }
+    ExitCode::from(ending.status())
 }

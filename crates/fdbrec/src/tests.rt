@@ -1,7 +1,10 @@
+use crate::program::{Ending, run_program};
 use crate::words::{Request, read_words};
 use clap::error::ErrorKind;
-use fr_cli::{ApplyOptions, StoreKind};
+use fr_cli::{ApplyOptions, CliFault, StoreKind};
 use std::alloc::{AllocError, Global};
+use std::io;
+use std::io::{Error, ErrorKind as IoErrorKind, Read, Write};
 use std::test::Fail;
 
 fn words_of(alloc: Global, words: &[&str]) -> Result<Vec<String>, AllocError> {
@@ -55,6 +58,10 @@ fn other_words_are_refused(rt: HostRuntime) -> Result<(), Fail> {
         ),
         (["fdbrec", "--help"].as_slice(), ErrorKind::DisplayHelp),
         (
+            ["fdbrec", "--version"].as_slice(),
+            ErrorKind::DisplayVersion,
+        ),
+        (
             ["fdbrec", "apply", "--help"].as_slice(),
             ErrorKind::DisplayHelp,
         ),
@@ -66,5 +73,85 @@ fn other_words_are_refused(rt: HostRuntime) -> Result<(), Fail> {
             Err(error) => assert!(rt; error.kind() == kind, "{error}"),
         }
     }
+    Ok(())
+}
+
+/// The status of a program of these words and this input, and what it wrote.
+fn end_of(alloc: Global, words: &[&str], input: &[u8]) -> Result<(Ending, Vec<u8>), AllocError> {
+    let words = words_of(alloc, words)?;
+    let mut reader = input;
+    let mut writer = Vec::new(alloc);
+    let ending = run_program(alloc, words.as_slice(), &mut reader, &mut writer);
+    Ok((ending, writer))
+}
+
+#[test]
+fn a_program_ends_by_its_command(rt: HostRuntime) -> Result<(), Fail> {
+    let apply = ["fdbrec", "apply"].as_slice();
+    let script = b"{\"ops\":[{\"advance\":{\"version\":4}}]}".as_slice();
+    let (ending, written) = end_of(rt.alloc(), apply, script)?;
+    assert_eq!(rt; ending.status(), 0);
+    assert!(rt; written.as_slice() == b"ok 4 floor 0 undo 0\n".as_slice());
+    let (ending, written) = end_of(rt.alloc(), apply, &script[1..])?;
+    assert_eq!(rt; ending.status(), 2);
+    assert!(rt; matches!(&ending, Ending::Fault(CliFault::BadScript)));
+    assert!(rt; written.is_empty());
+    Ok(())
+}
+
+#[test]
+fn a_program_ends_by_its_words(rt: HostRuntime) -> Result<(), Fail> {
+    let (ending, written) = end_of(rt.alloc(), ["fdbrec", "run"].as_slice(), b"".as_slice())?;
+    assert_eq!(rt; ending.status(), 2);
+    assert!(rt; matches!(&ending, Ending::BadWords(_)));
+    assert!(rt; written.is_empty());
+    let (ending, written) = end_of(rt.alloc(), ["fdbrec", "--version"].as_slice(), b"".as_slice())?;
+    assert_eq!(rt; ending.status(), 0);
+    assert!(rt; written.starts_with(b"fdbrec 0.1.0 (rattle-kit-".as_slice()));
+    let (ending, written) = end_of(rt.alloc(), ["fdbrec", "apply", "--help"].as_slice(), b"".as_slice())?;
+    assert_eq!(rt; ending.status(), 0);
+    for name in ["undo", "forget", "advance", "clear", "xor", "TooMany", "BelowFloor", "4 input"] {
+        assert!(rt; written.as_slice().windows(name.len()).any(|at| at == name.as_bytes()), "{name}");
+    }
+    Ok(())
+}
+
+/// A pipe whose other end is closed.
+#[derive(Drop)]
+struct Closed;
+
+impl Read for Closed {
+    fn read(&mut self, _buf: &mut [u8]) -> io::Result<usize> {
+        Err(Error::from(IoErrorKind::BrokenPipe))
+    }
+}
+
+impl Write for Closed {
+    fn write(&mut self, _buf: &[u8]) -> io::Result<usize> {
+        Err(Error::from(IoErrorKind::BrokenPipe))
+    }
+
+    fn flush(&mut self) -> io::Result<()> {
+        Ok(())
+    }
+}
+
+#[test]
+fn a_program_ends_by_its_devices(rt: HostRuntime) -> Result<(), Fail> {
+    let lines = [
+        ["fdbrec", "apply"].as_slice(),
+        ["fdbrec", "--help"].as_slice(),
+        ["fdbrec", "--version"].as_slice(),
+    ];
+    for line in lines {
+        let words = words_of(rt.alloc(), line)?;
+        let mut reader = b"{\"ops\":[{\"advance\":{\"version\":4}}]}".as_slice();
+        let ending = run_program(rt.alloc(), words.as_slice(), &mut reader, &mut Closed);
+        assert_eq!(rt; ending.status(), 4);
+        assert!(rt; matches!(&ending, Ending::Fault(CliFault::Output)));
+    }
+    let words = words_of(rt.alloc(), ["fdbrec", "apply"].as_slice())?;
+    let ending = run_program(rt.alloc(), words.as_slice(), &mut Closed, &mut Vec::new(rt.alloc()));
+    assert!(rt; matches!(&ending, Ending::Fault(CliFault::Input)));
     Ok(())
 }

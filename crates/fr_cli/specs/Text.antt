@@ -3,13 +3,12 @@ use Rattle.std.specs.Prelude.{◌≡◌, ◌≤◌, ◌*◌, ℕ, List, ◌++◌
 use Rattle.std.specs.Io.KnownBytes.{Consumes, IsAtEnd}
 use Rattle.fr_cli.specs.declared.script.Operation.{Operation}
 use Rattle.fr_cli.specs.Script.{script_of}
-use Rattle.fr_cli.specs.declared.input.TheConstants.{MAX_READS, READ_SIZE}
 
--- these bytes were read, and no more are left
+-- these bytes were read, and no more are left: at most 2^30 reads of 8,192 bytes
 pub record IsInput (old new : Option (List ℕ)) (input : List ℕ) : Type 0 where
   pub all : Consumes old new input
   pub end : IsAtEnd new
-  pub few : length input ≤ MAX_READS * READ_SIZE
+  pub few : length input ≤ 1073741824 * 8192
 
 -- the input was read whole, and is this script, or none
 pub record HasRead (old new : Option (List ℕ)) (script : Option (List Operation)) : Type 0 where

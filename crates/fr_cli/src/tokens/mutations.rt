@@ -5,7 +5,7 @@ ghost use Rattle.fr_cli.specs.Tokens.{Gives};
 
 use super::{Unread, close_object, open_array, open_object, read_pair};
 use crate::mutations::Mutations;
-use fr_mutation::Mutation;
+use fr_mutation::{AtomicOp, Mutation};
 use json::Reader;
 use std::alloc::Global;
 
@@ -50,30 +50,12 @@ fn read_named(alloc: Global, reader: &mut Reader<'_>, name: &str) -> Result<Muta
             let (begin, end) = read_pair(alloc, reader, "begin", "end")?;
             Ok(Mutation::Clear { begin, end })
         }
-        "add" => {
-            let (key, param) = read_pair(alloc, reader, "key", "param")?;
-            Ok(Mutation::Add { key, param })
-        }
-        "and" => {
-            let (key, param) = read_pair(alloc, reader, "key", "param")?;
-            Ok(Mutation::And { key, param })
-        }
-        "or" => {
-            let (key, param) = read_pair(alloc, reader, "key", "param")?;
-            Ok(Mutation::Or { key, param })
-        }
-        "xor" => {
-            let (key, param) = read_pair(alloc, reader, "key", "param")?;
-            Ok(Mutation::Xor { key, param })
-        }
-        "max" => {
-            let (key, param) = read_pair(alloc, reader, "key", "param")?;
-            Ok(Mutation::Max { key, param })
-        }
-        "min" => {
-            let (key, param) = read_pair(alloc, reader, "key", "param")?;
-            Ok(Mutation::Min { key, param })
-        }
-        _ => Err(Unread::Unusual),
+        _ => match AtomicOp::from_name(name) {
+            Some(op) => {
+                let (key, param) = read_pair(alloc, reader, "key", "param")?;
+                Ok(Mutation::Atomic { op, key, param })
+            }
+            None => Err(Unread::Unusual),
+        },
     }
 }

@@ -7,7 +7,7 @@ use super::{into_items, into_one_member, read_pair};
 use crate::fault::CliFault;
 use crate::mutations::Mutations;
 use fr_base::Bytes;
-use fr_mutation::Mutation;
+use fr_mutation::{AtomicOp, Mutation};
 use serde_json::Value;
 use std::alloc::Global;
 
@@ -54,35 +54,17 @@ fn read_named(alloc: Global, name: &str, fields: &Value) -> Result<Mutation, Cli
             let (begin, end) = read_pair(alloc, fields, "begin", "end")?;
             Ok(Mutation::Clear { begin, end })
         }
-        "add" => {
-            let (key, param) = read_param(alloc, fields)?;
-            Ok(Mutation::Add { key, param })
-        }
-        "and" => {
-            let (key, param) = read_param(alloc, fields)?;
-            Ok(Mutation::And { key, param })
-        }
-        "or" => {
-            let (key, param) = read_param(alloc, fields)?;
-            Ok(Mutation::Or { key, param })
-        }
-        "xor" => {
-            let (key, param) = read_param(alloc, fields)?;
-            Ok(Mutation::Xor { key, param })
-        }
-        "max" => {
-            let (key, param) = read_param(alloc, fields)?;
-            Ok(Mutation::Max { key, param })
-        }
-        "min" => {
-            let (key, param) = read_param(alloc, fields)?;
-            Ok(Mutation::Min { key, param })
-        }
-        _ => Err(CliFault::BadScript),
+        _ => match AtomicOp::from_name(name) {
+            Some(op) => {
+                let (key, param) = read_param(alloc, fields)?;
+                Ok(Mutation::Atomic { op, key, param })
+            }
+            None => Err(CliFault::BadScript),
+        },
     }
 }
 
-/// Reads the key and the parameter of a mutation that combines.
+/// Reads the key and the parameter of an atomic operation.
 fn read_param(alloc: Global, fields: &Value) -> Result<(Bytes, Bytes), CliFault>
     ensures ok { IfOk result (λ pair. param_of (view fields.now) ≡ Some pair) }
     ensures bad { result ≡ Err CliFault.BadScript → param_of (view fields.now) ≡ None }

@@ -1,0 +1,80 @@
+//! The program over its words, a reader and a writer.
+use crate::words::{Request, read_words};
+use clap::error::{Error, ErrorKind};
+use fr_cli::{CliFault, run_apply};
+use std::alloc::Global;
+use std::io::{Read, Write};
+
+/// The status of bad words.
+pub const BAD_WORDS: u8 = 2;
+
+/// How the program ends. What is to be said on standard error is left to who has one.
+#[derive(Debug, Drop)]
+pub enum Ending {
+    /// The command was done, or help or the version was asked for and shown.
+    Done(u8),
+    /// The command ended early.
+    Fault(CliFault),
+    /// The words choose no command.
+    BadWords(Error),
+}
+
+impl Ending {
+    /// The exit status.
+    pub fn status(&self) -> u8 {
+        match self {
+            Ending::Done(status) => *status,
+            Ending::Fault(fault) => fault.status(),
+            Ending::BadWords(_) => BAD_WORDS,
+        }
+    }
+}
+
+/// Does what the words ask for, the first of which is the program's name.
+pub fn run_program<R: Read, W: Write>(
+    alloc: Global,
+    words: &[String],
+    reader: &mut R,
+    writer: &mut W,
+) -> Ending {
+    let error = match read_words(alloc, words) {
+        Ok(request) => {
+            return match run(alloc, request, reader, writer) {
+                Ok(status) => Ending::Done(status),
+                Err(fault) => Ending::Fault(fault),
+            };
+        }
+        Err(error) => error,
+    };
+    if error.kind() == ErrorKind::OutOfMemory {
+        return Ending::Fault(CliFault::Memory);
+    }
+    if error.use_stderr() {
+        return Ending::BadWords(error);
+    }
+    match show(alloc, &error, writer) {
+        Ok(()) => Ending::Done(0),
+        Err(fault) => Ending::Fault(fault),
+    }
+}
+
+/// Runs a command.
+fn run<R: Read, W: Write>(
+    alloc: Global,
+    request: Request,
+    reader: &mut R,
+    writer: &mut W,
+) -> Result<u8, CliFault> {
+    match request {
+        Request::Apply(options) => run_apply(alloc, options, reader, writer),
+    }
+}
+
+/// Shows help or the version.
+fn show<W: Write>(alloc: Global, help: &Error, writer: &mut W) -> Result<(), CliFault> {
+    let text = format!(in alloc; "{help}")?;
+    if writer.write_all(text.as_bytes()).is_err() || writer.flush().is_err() {
+        return Err(CliFault::Output);
+    }
+    Ok(())
+}
