@@ -1,5 +1,5 @@
 -- Values read token by token.
-use Rattle.std.proofs.Common.{◌≡◌, ◌≢◌, ℕ, suc, ◌-◌, ◌^◌, ◌<◌, ◌≤◌, ◌==◌, ◌++◌, List, [], ◌∷◌, length, codes, Bool, true, false, if◌then◌else◌, Option, Some, None, option_map, option_and_then, Ordering, Less, Equal, Greater, nat_cmp, is_eq, refl, sym, ap, ◌∙◌, subst, arith, append-nil, lt-ltb, slice_index, true≢false}
+use Rattle.std.proofs.Common.{◌≡◌, ◌≢◌, ℕ, ◌-◌, ◌^◌, ◌<◌, ◌≤◌, ◌==◌, ◌++◌, List, [], ◌∷◌, length, codes, Bool, true, false, Option, Some, None, option_map, option_and_then, Ordering, Less, Equal, Greater, nat_cmp, is_eq, refl, sym, ap, ◌∙◌, subst, arith, append-nil, lt-ltb, slice_index, true≢false}
 use Rattle.std.specs.Prelude.{SomeIff, IfSome}
 use Rattle.std.specs.Cmp.Lexicographic.{slice_cmp}
 use Rattle.std.specs.Ordering.{match_ordering}
@@ -7,11 +7,11 @@ use Rattle.json.specs.Token.{Token}
 use Rattle.json.specs.Json as json
 use Rattle.json.specs.Json.{value, items, members, parse_map, after_end_array, read_key}
 use Rattle.json.specs.Lex.{tokens}
-use Rattle.json.proofs.Grammar.{value_is, value-begin_array, value-begin_object, items_end, items_more, members_end, members_more, read_key-shorter, after_end_array-shorter}
+use Rattle.json.proofs.Grammar.{value_is, value-begin_array, value-begin_object, items_end, items_more, members_end, members_more, read_key-shorter}
 use Rattle.fast_float.specs.Text.{minus, scan, digits_of, IsInteger}
 use Rattle.serde_json.specs.Data.{Data, Num, unsigned, number, string, array, object, Items, no_items, item, Members, no_members, member, put}
 use Rattle.serde_json.specs.Read.{read, number_of, of_json, of_items, of_members}
-use Rattle.serde_json.specs.Find.{get, get_member, as_object, as_array}
+use Rattle.serde_json.specs.Find.{get_member, as_array}
 use Rattle.serde_json.specs.Events.{members_len}
 use Rattle.serde_json.proofs.Views.{get_member-put, get_member-put_other}
 use Rattle.std.proofs.lemmas.Map.Text.{is_eq-slice_cmp}
@@ -21,7 +21,7 @@ use Rattle.fr_mutation.specs.declared.mutation.Mutation.{Mutation}
 use Rattle.fr_cli.specs.declared.script.Operation.{Operation}
 use Rattle.fr_cli.specs.declared.script.Operation.TheVariants.{Apply}
 use Rattle.fr_cli.specs.Script.{batch_of, apply_of, operation_of, operations_of, script_from, script_of}
-use Rattle.fr_cli.specs.Json.{data_of, only, one_member, each_of, bytes_of, pair_of, natural_of, version_of}
+use Rattle.fr_cli.specs.Json.{only, one_member, each_of, bytes_of, pair_of, version_of}
 use Rattle.fr_cli.specs.Tokens.{BeginsWith, BeginsWithItems, BeginsWithMembers, Gives, GivesTwo}
 use Rattle.fr_cli.proofs.JsonLemmas.{joined, joined-none, joined_more, data_here}
 

@@ -4,9 +4,8 @@ ghost use Rattle.fr_cli.specs.Script.{script_of};
 
 use crate::fault::CliFault;
 use crate::mutations::Mutations;
-use crate::tokens;
 use crate::tokens::Unread;
-use crate::tree;
+use crate::{tokens, tree};
 use fr_base::Version;
 use std::alloc::Global;
 

@@ -1,4 +1,4 @@
-use Rattle.std.proofs.Common.{rules, ◌≡◌, ◌∷◌, List, Some, sym, subst, arith}
+use Rattle.std.proofs.Common.{rules, ◌≡◌, Some, sym, subst}
 use Rattle.serde_json.specs.Data.{string}
 use Rattle.fr_cli.specs.Json.{bytes_of}
 use Rattle.fr_cli.specs.Tokens.{BeginsWith}

@@ -1,4 +1,4 @@
-use Rattle.std.proofs.Common.{◌≡◌, ◌-◌, ◌<◌, ◌≤◌, length, Some, None, sym, subst, arith}
+use Rattle.std.proofs.Common.{◌≡◌, ◌-◌, ◌<◌, length, Some, None, sym, subst, arith}
 use Rattle.json.specs.Json.{after_end_array}
 use Rattle.fr_cli.specs.Script.{mutation_of, batch_of}
 use Rattle.fr_cli.specs.Tokens.{Gives}

@@ -1,4 +1,4 @@
-use Rattle.std.proofs.Common.{◌≡◌, List, ℕ, ap, ◌∙◌, subst, arith}
+use Rattle.std.proofs.Common.{ap, ◌∙◌, subst}
 use Rattle.json.specs.Lex.{tokens}
 use Rattle.fr_cli.specs.Script.{script_from}
 use Rattle.fr_cli.specs.Tokens.{Gives}
