@@ -2,3 +2,4 @@ pub mod TextLemmas
 pub mod JsonLemmas
 pub mod TokenLemmas
 pub mod HexLemmas
+pub mod PlanLemmas

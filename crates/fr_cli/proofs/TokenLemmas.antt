@@ -20,7 +20,9 @@ use Rattle.std.specs.Str.{bytes_eq, IsUtf8}
 use Rattle.fr_mutation.specs.declared.mutation.Mutation.{Mutation}
 use Rattle.fr_cli.specs.declared.script.Operation.{Operation}
 use Rattle.fr_cli.specs.declared.script.Operation.TheVariants.{Apply}
-use Rattle.fr_cli.specs.Script.{batch_of, apply_of, operation_of, operations_of, script_from, script_of}
+use Rattle.fr_cli.specs.declared.plan.Planned.{Planned}
+use Rattle.fr_cli.specs.Plan.{plan, planned_of, each_planned_of, plan_from, plan_of}
+use Rattle.fr_cli.specs.Script.{batch_of, apply_of, operation_of}
 use Rattle.fr_cli.specs.Json.{only, one_member, each_of, bytes_of, pair_of, version_of}
 use Rattle.fr_cli.specs.Tokens.{BeginsWith, BeginsWithItems, BeginsWithMembers, Gives, GivesTwo}
 use Rattle.fr_cli.proofs.JsonLemmas.{joined, joined-none, joined_more, data_here}
@@ -196,17 +198,17 @@ list_read f depth old first r n xs now some opened enough over before =
     let all = all_read f (depth - 1) first n xs now r enough over before in
     (array all.0, subst (λ xs. BeginsWith depth xs (array all.0) r) (sym opened) (an_array depth first r all.0 some all.1), all.2)
 
-operations_found : (o : Option Data) → option_and_then (each_of operation_of) (option_and_then as_array o) ≡ option_and_then operations_of o
+operations_found : (o : Option Data) → option_and_then (each_of planned_of) (option_and_then as_array o) ≡ option_and_then each_planned_of o
 operations_found None = refl
 operations_found (Some d) = refl
 
-pub whole_read : (depth : ℕ) (ts r : List Token) (script : List Operation) → Gives (λ d. option_and_then operations_of (only 1 (codes "ops") d)) depth ts script r → Gives script_from depth ts script r
+pub whole_read : (depth : ℕ) (ts r : List Token) (script : List Planned) → Gives (λ d. option_and_then each_planned_of (only 1 (codes "ops") d)) depth ts script r → Gives plan_from depth ts script r
 whole_read depth ts r script h = (h.0, h.1, operations_found (only 1 (codes "ops") h.0) ∙ h.2)
 
-pub script_read : (text : List ℕ) (rest : List Token) (script : List Operation) → IsUtf8 text → Gives script_from 127 (tokens text) script rest → rest ≡ [] → script_of text ≡ Some script
+pub script_read : (text : List ℕ) (rest : List Token) (script : List Planned) → IsUtf8 text → Gives plan_from 127 (tokens text) script rest → rest ≡ [] → plan_of text ≡ Some script
 script_read text rest script is h over =
     let all : BeginsWith 127 (tokens text) h.0 [] = subst (λ xs. BeginsWith 127 (tokens text) h.0 xs) over h.1 in
-    ap (option_and_then script_from) (data_here text h.0 is (whole_text text h.0 all)) ∙ h.2
+    ap (option_and_then plan_from) (data_here text h.0 is (whole_text text h.0 all)) ∙ h.2
 
 -- a number that is written in digits alone
 pub digits_alone : (s : List ℕ) (n : ℕ) → (slice_index s 0 == minus) ≡ false → IsInteger (scan s) → digits_of (scan s) < 2 ^ 64 → n ≡ digits_of (scan s) → number_of s ≡ Some (unsigned n)

@@ -4,3 +4,4 @@ pub mod Lines
 pub mod Text
 pub mod Tokens
 pub mod Hex
+pub mod Plan

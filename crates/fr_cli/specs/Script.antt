@@ -51,9 +51,6 @@ operation_named name fields =
 abbrev pub operation_of : Data → Option Operation
 operation_of d = option_and_then (λ m. operation_named m.0 m.1) (one_member d)
 
-abbrev pub operations_of : Data → Option (List Operation)
-operations_of d = option_and_then (each_of operation_of) (as_array d)
-
 -- an object of the member `ops` alone, the list of the operations
 abbrev pub script_from : Data → Option (List Operation)
 script_from d = option_and_then (each_of operation_of) (option_and_then as_array (only 1 (codes "ops") d))

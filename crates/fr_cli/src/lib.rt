@@ -8,6 +8,7 @@ mod input;
 mod mutations;
 mod operations;
 mod output;
+mod plan;
 mod script;
 mod tokens;
 mod tree;

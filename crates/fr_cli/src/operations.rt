@@ -3,12 +3,13 @@ ghost use Rattle.std.specs.Prelude.{◌≡◌, ◌⊎◌, IfOk, IfErr, OnOk, Som
 ghost use Rattle.std.specs.Io.KnownBytes.{Appends};
 ghost use Rattle.std.specs.FinMap as map;
 ghost use Rattle.fr_cli.specs.Text.{GainsFront};
-ghost use Rattle.fr_cli.specs.Lines.{ok_line, line_of as line_text, lines_from, row_lines, outcome_of, state_after, name_in, name_of, limit_name};
+ghost use Rattle.fr_cli.specs.Plan.{plan_lines, plan_outcome};
+ghost use Rattle.fr_cli.specs.Lines.{ok_line, line_of as line_text, row_lines, state_after, name_in, name_of, limit_name};
 
 use crate::fault::CliFault;
 use crate::output::{put, put_rows};
-use crate::script::Operation;
-use fr_mutation::{Batch, BatchFault};
+use crate::plan::Planned;
+use fr_mutation::BatchFault;
 use fr_undo::{ShardStore, StoreFault};
 use std::alloc::{AllocError, Global};
 use std::io::Write;
@@ -17,11 +18,11 @@ use std::io::Write;
 pub(crate) fn run_operations<S: ShardStore, W: Write>(
     alloc: Global,
     store: &mut S,
-    operations: Vec<Operation>,
+    operations: Vec<Planned>,
     writer: &mut W,
 ) -> Result<(), CliFault>
-    ensures ok { OnOk result (Appends (W.contents writer.old) (W.contents writer.new) (lines_from (S.state store.old) operations.items)) }
-    ensures front { GainsFront (W.contents writer.old) (W.contents writer.new) (lines_from (S.state store.old) operations.items) }
+    ensures ok { OnOk result (Appends (W.contents writer.old) (W.contents writer.new) (plan_lines (S.state store.old) operations.items)) }
+    ensures front { GainsFront (W.contents writer.old) (W.contents writer.new) (plan_lines (S.state store.old) operations.items) }
     ensures fault { IfErr result (λ e. (e ≡ CliFault.Output) ⊎ (e ≡ CliFault.Memory)) }
 {
     for operation in operations {
@@ -35,10 +36,10 @@ pub(crate) fn run_operations<S: ShardStore, W: Write>(
 fn line_of<S: ShardStore>(
     alloc: Global,
     store: &mut S,
-    operation: Operation,
+    operation: Planned,
 ) -> Result<String, CliFault>
-    ensures ok { IfOk result (λ line. string_bytes line ≡ line_text (outcome_of (S.state store.old) operation)) }
-    ensures state { OnOk result (S.state store.new ≡ state_after (S.state store.old) (outcome_of (S.state store.old) operation)) }
+    ensures ok { IfOk result (λ line. string_bytes line ≡ line_text (plan_outcome (S.state store.old) operation)) }
+    ensures state { OnOk result (S.state store.new ≡ state_after (S.state store.old) (plan_outcome (S.state store.old) operation)) }
     ensures fault { IfErr result (λ e. e ≡ CliFault.Memory) }
 {
     match run_operation(alloc, store, operation)? {
@@ -51,20 +52,18 @@ fn line_of<S: ShardStore>(
 fn run_operation<S: ShardStore>(
     alloc: Global,
     store: &mut S,
-    operation: Operation,
+    operation: Planned,
 ) -> Result<Option<&'static str>, CliFault>
-    ensures ok { IfOk result (λ name. option_map (λ s. s.now) name ≡ name_in (outcome_of (S.state store.old) operation)) }
-    ensures state { OnOk result (S.state store.new ≡ state_after (S.state store.old) (outcome_of (S.state store.old) operation)) }
+    ensures ok { IfOk result (λ name. option_map (λ s. s.now) name ≡ name_in (plan_outcome (S.state store.old) operation)) }
+    ensures state { OnOk result (S.state store.new ≡ state_after (S.state store.old) (plan_outcome (S.state store.old) operation)) }
     ensures fault { IfErr result (λ e. e ≡ CliFault.Memory) }
 {
     let taken = match operation {
-        Operation::Apply { version, batch } => match Batch::new(batch.into_vec()) {
-            Ok(batch) => store.apply(alloc, version, &batch),
-            Err(fault) => return Ok(Some(limit_of(fault)?)),
-        },
-        Operation::Undo { to } => store.undo_to(alloc, to),
-        Operation::Forget { through } => store.forget_through(alloc, through),
-        Operation::Advance { version } => store.advance(version),
+        Planned::Apply { version, batch } => store.apply(alloc, version, &batch),
+        Planned::Beyond { fault } => return Ok(Some(limit_of(fault)?)),
+        Planned::Undo { to } => store.undo_to(alloc, to),
+        Planned::Forget { through } => store.forget_through(alloc, through),
+        Planned::Advance { version } => store.advance(version),
     };
     match taken {
         Ok(()) => Ok(None),

@@ -1,9 +1,10 @@
 //! The script of `apply`.
 ghost use Rattle.std.specs.Prelude.{◌≡◌, ◌⊎◌, None, Some, IfOk, IfErr};
-ghost use Rattle.fr_cli.specs.Script.{script_of};
+ghost use Rattle.fr_cli.specs.Plan.{plan_of};
 
 use crate::fault::CliFault;
 use crate::mutations::Mutations;
+use crate::plan::Planned;
 use crate::tokens::Unread;
 use crate::{tokens, tree};
 use fr_base::Version;
@@ -24,9 +25,9 @@ pub enum Operation {
 
 /// Reads the script that an input is: from its tokens, where it has the usual form, and else from the
 /// tree of its JSON, which alone knows that it is none.
-pub(crate) fn read_script(alloc: Global, input: Vec<u8>) -> Result<Vec<Operation>, CliFault>
-    ensures ok { IfOk result (λ script. script_of input.items ≡ Some script.items) }
-    ensures bad { result ≡ Err CliFault.BadScript → script_of input.items ≡ None }
+pub(crate) fn read_script(alloc: Global, input: Vec<u8>) -> Result<Vec<Planned>, CliFault>
+    ensures ok { IfOk result (λ script. plan_of input.items ≡ Some script.items) }
+    ensures bad { result ≡ Err CliFault.BadScript → plan_of input.items ≡ None }
     ensures fault { IfErr result (λ e. (e ≡ CliFault.BadScript) ⊎ (e ≡ CliFault.Memory)) }
 {
     match tokens::script::read_script(alloc, input.as_slice()) {

@@ -19,6 +19,7 @@ pub(crate) fn read_batch(alloc: Global, reader: &mut Reader<'_>) -> Result<Mutat
     while !reader.take_end_array() {
         mutations.push(read_mutation(alloc, reader)?)?;
     }
+    mutations.shrink_to_fit();
     Ok(Mutations::from_vec(mutations))
 }
 

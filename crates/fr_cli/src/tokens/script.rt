@@ -1,19 +1,21 @@
 //! The script of `apply`, read from the tokens of its text.
 ghost use Rattle.std.specs.Prelude.{◌≡◌, ◌<◌, length, Some, IfOk, OnOk};
-ghost use Rattle.fr_cli.specs.Script.{apply_of, operation_named, operation_of, operations_of, script_from, script_of};
+ghost use Rattle.fr_cli.specs.Script.{apply_of, operation_named, operation_of};
+ghost use Rattle.fr_cli.specs.Plan.{each_planned_of, plan_from, plan_of};
 ghost use Rattle.fr_cli.specs.Tokens.{Gives};
 
 use super::mutations::read_batch;
 use super::{
     Unread, close_object, open_array, open_object, read_version, read_version_at, take_key,
 };
+use crate::plan::Planned;
 use crate::script::Operation;
 use json::{Reader, Scratch};
 use std::alloc::Global;
 
 /// Reads the script that an input is, where it has the usual form.
-pub(crate) fn read_script(alloc: Global, input: &[u8]) -> Result<Vec<Operation>, Unread>
-    ensures { IfOk result (λ script. script_of input.now ≡ Some script.items) }
+pub(crate) fn read_script(alloc: Global, input: &[u8]) -> Result<Vec<Planned>, Unread>
+    ensures { IfOk result (λ script. plan_of input.now ≡ Some script.items) }
 {
     let Ok(text) = simdutf8::compat::from_utf8(input) else {
         return Err(Unread::Unusual);
@@ -28,8 +30,8 @@ pub(crate) fn read_script(alloc: Global, input: &[u8]) -> Result<Vec<Operation>,
 }
 
 /// Reads an object of the member `ops` alone.
-fn read_whole(alloc: Global, reader: &mut Reader<'_>) -> Result<Vec<Operation>, Unread>
-    ensures { IfOk result (λ script. Gives script_from 127 reader.old script.items reader.new) }
+fn read_whole(alloc: Global, reader: &mut Reader<'_>) -> Result<Vec<Planned>, Unread>
+    ensures { IfOk result (λ script. Gives plan_from 127 reader.old script.items reader.new) }
 {
     open_object(reader)?;
     take_key(reader, "ops")?;
@@ -39,14 +41,14 @@ fn read_whole(alloc: Global, reader: &mut Reader<'_>) -> Result<Vec<Operation>, 
 }
 
 /// Reads a list of operations.
-fn read_operations(alloc: Global, reader: &mut Reader<'_>) -> Result<Vec<Operation>, Unread>
-    ensures value { IfOk result (λ operations. Gives operations_of 126 reader.old operations.items reader.new) }
+fn read_operations(alloc: Global, reader: &mut Reader<'_>) -> Result<Vec<Planned>, Unread>
+    ensures value { IfOk result (λ operations. Gives each_planned_of 126 reader.old operations.items reader.new) }
     ensures shorter { OnOk result (length reader.new < length reader.old) }
 {
     open_array(reader)?;
     let mut operations = Vec::new(alloc);
     while !reader.take_end_array() {
-        operations.push(read_operation(alloc, reader)?)?;
+        operations.push(Planned::new(read_operation(alloc, reader)?))?;
     }
     Ok(operations)
 }

@@ -2,20 +2,22 @@
 ghost use Rattle.std.specs.Prelude.{◌≡◌, ◌⊎◌, None, Some, IfOk, IfErr};
 ghost use Rattle.serde_json.specs.View.{view};
 ghost use Rattle.fr_cli.specs.Json.{data_of};
-ghost use Rattle.fr_cli.specs.Script.{version_at, apply_of, operation_named, operation_of, script_from, script_of};
+ghost use Rattle.fr_cli.specs.Plan.{plan_from, plan_of};
+ghost use Rattle.fr_cli.specs.Script.{version_at, apply_of, operation_named, operation_of};
 
 use super::mutations::read_batch;
 use super::{into_items, into_one_member, member_of, read_version, take_member};
 use crate::fault::CliFault;
+use crate::plan::Planned;
 use crate::script::Operation;
 use fr_base::Version;
 use serde_json::Value;
 use std::alloc::Global;
 
 /// Reads the script that an input is. The input is let go before the operations are made.
-pub(crate) fn read_script(alloc: Global, input: Vec<u8>) -> Result<Vec<Operation>, CliFault>
-    ensures ok { IfOk result (λ script. script_of input.items ≡ Some script.items) }
-    ensures bad { result ≡ Err CliFault.BadScript → script_of input.items ≡ None }
+pub(crate) fn read_script(alloc: Global, input: Vec<u8>) -> Result<Vec<Planned>, CliFault>
+    ensures ok { IfOk result (λ script. plan_of input.items ≡ Some script.items) }
+    ensures bad { result ≡ Err CliFault.BadScript → plan_of input.items ≡ None }
     ensures fault { IfErr result (λ e. (e ≡ CliFault.BadScript) ⊎ (e ≡ CliFault.Memory)) }
 {
     let value = read_value(alloc, input)?;
@@ -36,9 +38,9 @@ fn read_value(alloc: Global, input: Vec<u8>) -> Result<Value, CliFault>
 }
 
 /// Reads the operations of a script, and lets go of each item once it is read.
-fn read_operations(alloc: Global, mut script: Value) -> Result<Vec<Operation>, CliFault>
-    ensures ok { IfOk result (λ operations. script_from (view script) ≡ Some operations.items) }
-    ensures bad { result ≡ Err CliFault.BadScript → script_from (view script) ≡ None }
+fn read_operations(alloc: Global, mut script: Value) -> Result<Vec<Planned>, CliFault>
+    ensures ok { IfOk result (λ operations. plan_from (view script) ≡ Some operations.items) }
+    ensures bad { result ≡ Err CliFault.BadScript → plan_from (view script) ≡ None }
     ensures fault { IfErr result (λ e. (e ≡ CliFault.BadScript) ⊎ (e ≡ CliFault.Memory)) }
 {
     let Some(items) = take_member(&mut script, 1, "ops").and_then(into_items) else {
@@ -46,7 +48,7 @@ fn read_operations(alloc: Global, mut script: Value) -> Result<Vec<Operation>, C
     };
     let mut operations = Vec::with_capacity(alloc, items.len())?;
     for item in items {
-        operations.push(read_operation(alloc, item)?)?;
+        operations.push(Planned::new(read_operation(alloc, item)?))?;
     }
     Ok(operations)
 }

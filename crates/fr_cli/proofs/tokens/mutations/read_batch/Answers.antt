@@ -1,4 +1,4 @@
-use Rattle.std.proofs.Common.{◌≡◌, ◌-◌, ◌<◌, length, Some, None, sym, subst, arith}
+use Rattle.std.proofs.Common.{◌≡◌, ◌-◌, ◌<◌, length, Some, None, sym, ◌∙◌, subst, arith}
 use Rattle.json.specs.Json.{after_end_array}
 use Rattle.fr_cli.specs.Script.{mutation_of, batch_of}
 use Rattle.fr_cli.specs.Tokens.{Gives}
@@ -34,4 +34,4 @@ returns-clause-value c =
     let r = c.take_end_array.new.self in
     let over : after_end_array l.reader ≡ Some r = grind arith in
     let read = list_read mutation_of 123 old c.open_array.new.reader r l.invariant.0 l.mutations.items l.reader (omega arith) c.in_ok-open_array.ensures l.invariant.1 over l.invariant.2 in
-    subst (λ ms. Gives batch_of 123 old ms r) (sym c.from_vec.ensures) read
+    subst (λ ms. Gives batch_of 123 old ms r) (sym (c.from_vec.ensures ∙ c.shrink_to_fit.ensures.items)) read
