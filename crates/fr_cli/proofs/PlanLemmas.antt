@@ -8,7 +8,6 @@ use Rattle.fr_mutation.specs.declared.mutation.Mutation.{Mutation}
 use Rattle.fr_mutation.specs.declared.fault.BatchFault.{BatchFault}
 use Rattle.fr_mutation.specs.Limits.{batch_fault}
 use Rattle.fr_undo.specs.State.{StoreState, fresh}
-use Rattle.fr_undo.specs.Undo.{extended}
 use Rattle.fr_cli.specs.declared.script.Operation.{Operation}
 use Rattle.fr_cli.specs.declared.script.Operation.TheVariants.{Apply, Undo, Forget, Advance}
 use Rattle.fr_cli.specs.declared.plan.Planned.{Planned}
@@ -76,13 +75,13 @@ same_lines s (o ∷ os) = rw (same_outcome s o) (ap (λ rest. line_of (outcome_o
 -- ---- a whole run
 
 pub bad_found : (old new : Option (List ℕ)) (input : List ℕ) → IsInput old new input → plan_of input ≡ None → HasRead old new None
-bad_found old new input whole none = record { input = input; whole = whole; meant = no_script input none; }
+bad_found old new input whole none = record { input = input; whole = whole; meant = no_script input none }
 
 module _ (old new : Option (List ℕ)) (input : List ℕ) (ps : List Planned) (whole : IsInput old new input) (meant : plan_of input ≡ Some ps) where
   pub read_found : (script : List Operation) × HasRead old new (Some script)
   read_found =
       let found = script_found input ps meant in
-      (found.0, record { input = input; whole = whole; meant = found.1; })
+      (found.0, record { input = input; whole = whole; meant = found.1 })
 
   lines_found : (s : StoreState) (script : List Operation) → map plan script ≡ ps → plan_lines s ps ≡ lines_from s script
   lines_found s script e = ap (plan_lines s) (sym e) ∙ same_lines s script
@@ -90,9 +89,9 @@ module _ (old new : Option (List ℕ)) (input : List ℕ) (ps : List Planned) (w
   pub front_found : (s : StoreState) (was now : Option (List ℕ)) → s ≡ fresh → GainsFront was now (plan_lines s ps) → (script : List Operation) × HasRead old new (Some script) × GainsFront was now (lines_of script)
   front_found s was now empty gains =
       let found = script_found input ps meant in
-      (found.0, record { input = input; whole = whole; meant = found.1; }, subst (GainsFront was now) (lines_found s found.0 found.2 ∙ ap (λ x. lines_from x found.0) empty) gains)
+      (found.0, record { input = input; whole = whole; meant = found.1 }, subst (GainsFront was now) (lines_found s found.0 found.2 ∙ ap (λ x. lines_from x found.0) empty) gains)
 
   pub all_found : (s : StoreState) (was now : Option (List ℕ)) → s ≡ fresh → Appends was now (plan_lines s ps) → (script : List Operation) × HasRead old new (Some script) × Appends was now (lines_of script)
   all_found s was now empty gains =
       let found = script_found input ps meant in
-      (found.0, record { input = input; whole = whole; meant = found.1; }, subst (Appends was now) (lines_found s found.0 found.2 ∙ ap (λ x. lines_from x found.0) empty) gains)
+      (found.0, record { input = input; whole = whole; meant = found.1 }, subst (Appends was now) (lines_found s found.0 found.2 ∙ ap (λ x. lines_from x found.0) empty) gains)

@@ -18,11 +18,10 @@ use Rattle.std.proofs.lemmas.Map.Text.{is_eq-slice_cmp}
 use Rattle.std.proofs.lemmas.Slice.Eq.{bytes_eq-Decides}
 use Rattle.std.specs.Str.{bytes_eq, IsUtf8}
 use Rattle.fr_mutation.specs.declared.mutation.Mutation.{Mutation}
-use Rattle.fr_cli.specs.declared.script.Operation.{Operation}
 use Rattle.fr_cli.specs.declared.script.Operation.TheVariants.{Apply}
 use Rattle.fr_cli.specs.declared.plan.Planned.{Planned}
-use Rattle.fr_cli.specs.Plan.{plan, planned_of, each_planned_of, plan_from, plan_of}
-use Rattle.fr_cli.specs.Script.{batch_of, apply_of, operation_of}
+use Rattle.fr_cli.specs.Plan.{planned_of, each_planned_of, plan_from, plan_of}
+use Rattle.fr_cli.specs.Script.{batch_of, apply_of}
 use Rattle.fr_cli.specs.Json.{only, one_member, each_of, bytes_of, pair_of, version_of}
 use Rattle.fr_cli.specs.Tokens.{BeginsWith, BeginsWithItems, BeginsWithMembers, Gives, GivesTwo}
 use Rattle.fr_cli.proofs.JsonLemmas.{joined, joined-none, joined_more, data_here}

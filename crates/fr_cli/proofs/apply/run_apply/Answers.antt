@@ -1,7 +1,7 @@
-use Rattle.std.proofs.Common.{rules, ◌≡◌, ◌⊎◌, inl, inr, None, arith}
+use Rattle.std.proofs.Common.{rules, ◌≡◌, inr, None}
 use Rattle.fr_cli.specs.Plan.{plan_of}
 use Rattle.fr_cli.proofs.PlanLemmas.{bad_found, read_found, front_found, all_found}
-use Rattle.fr_cli.proofs.TextLemmas.{gains_kept, appends_kept, gains_all}
+use Rattle.fr_cli.proofs.TextLemmas.{gains_kept, appends_kept}
 use Rattle.fr_cli.proofs.apply.run_apply.Goals as goal
 
 pub returns-in_err-script-clause-bad : goal.returns-in_err-script-clause-bad

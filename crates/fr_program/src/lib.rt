@@ -1,0 +1,58 @@
+//! The program `fdbrec` as a library: its words choose a command, which reads a script and prints lines.
+//! The programs of this repository that call it differ in what the gate runs them on.
+#![tactic(auto)]
+
+mod program;
+#[cfg(test)]
+mod tests;
+mod words;
+
+use fr_cli::CliFault;
+pub use program::{BAD_WORDS, Ending, run_program};
+use std::alloc::Global;
+use std::io;
+use std::io::BufWriter;
+use std::process::ExitCode;
+pub use words::{Request, read_words};
+
+/// Runs the program over its own words, standard input and standard output, and gives its status.
+pub fn run_main(rt: &HostRuntime) -> ExitCode {
+    let alloc = rt.alloc();
+    let words = match own_words(rt, alloc) {
+        Ok(words) => words,
+        Err(status) => return status,
+    };
+    let Ok(mut writer) = BufWriter::new(alloc, io::writer(rt)) else {
+        return end_by(rt, &Ending::Fault(CliFault::Memory));
+    };
+    let mut reader = rt.reader();
+    let ending = run_program(alloc, words.as_slice(), &mut reader, &mut writer);
+    end_by(rt, &ending)
+}
+
+/// The program's own words, or the status where they cannot be had.
+fn own_words(rt: &HostRuntime, alloc: Global) -> Result<Vec<String>, ExitCode> {
+    match std::env::args(rt) {
+        Ok(words) => match words.collect(alloc) {
+            Ok(words) => Ok(words),
+            Err(_) => Err(end_by(rt, &Ending::Fault(CliFault::Memory))),
+        },
+        Err(error) if error.kind() == io::ErrorKind::OutOfMemory => {
+            Err(end_by(rt, &Ending::Fault(CliFault::Memory)))
+        }
+        Err(_) => {
+            let _ = eprintln!(rt; "error: a word is no text");
+            Err(ExitCode::from(BAD_WORDS))
+        }
+    }
+}
+
+/// Says on standard error why the program ends, where it is not done, and gives its status.
+fn end_by(rt: &impl Eprint, ending: &Ending) -> ExitCode {
+    let _ = match ending {
+        Ending::Done(_) => Ok(()),
+        Ending::Fault(fault) => eprintln!(rt; "{fault}"),
+        Ending::BadWords(error) => rt.eprint(error),
+    };
+    ExitCode::from(ending.status())
+}
