@@ -1,0 +1,12 @@
+//! Sequencers, which number batches, and proxies, which commit them.
+#![tactic(auto)]
+
+mod fault;
+mod laws;
+mod number;
+mod outcome;
+
+pub use fault::SubmitFault;
+pub use laws::{account_law, growth_law, heard_law};
+pub use number::{Number, Place};
+pub use outcome::Outcome;
