@@ -8,16 +8,7 @@ use Rattle.fr_register.specs.declared.ask.CellAsk.{CellAsk}
 use Rattle.fr_register.specs.declared.ask.CellAsk.TheVariants as cell
 use Rattle.fr_register.specs.declared.ask.CellTell.{CellTell}
 use Rattle.fr_register.specs.declared.ask.CellTell.TheVariants as ctell
-use Rattle.fr_state.specs.Same.{is_same_state}
-use Rattle.fr_log.specs.Seed.{is_same_seed}
-use Rattle.fr_log.specs.Push.{is_same_push}
-use Rattle.fr_log.specs.Peeked.{is_same_peeked}
-use Rattle.fr_log.specs.declared.ask.LogAsk.{LogAsk}
-use Rattle.fr_log.specs.declared.ask.LogAsk.TheVariants as log
-use Rattle.fr_log.specs.declared.ask.LogTell.{LogTell}
-use Rattle.fr_log.specs.declared.ask.LogTell.TheVariants as ltell
-use Rattle.fr_log.specs.declared.ask.LogRefusal.{LogRefusal}
-use Rattle.fr_log.specs.declared.ask.LogRefusal.TheVariants as why
+use Rattle.fr_log.specs.Same.{is_same_log_ask, is_same_log_tell}
 use Rattle.fr_ask.specs.declared.sequencer.SeqAsk.{SeqAsk}
 use Rattle.fr_ask.specs.declared.sequencer.SeqAsk.TheVariants.{Next}
 use Rattle.fr_ask.specs.declared.sequencer.SeqTell.{SeqTell}
@@ -43,18 +34,12 @@ is_same_node a b = pointwise nat_eq (node_numbers a) (node_numbers b)
 
 -- ---- asks
 
+-- whether two asks of cells, and two of sequencers, ask for the same
+
 abbrev pub is_same_cell_ask : CellAsk → CellAsk → Bool
 is_same_cell_ask (cell.Read b) (cell.Read c) = b == c
 is_same_cell_ask (cell.Write b x) (cell.Write c y) = (b == c) && bytes_eq x y
 is_same_cell_ask a b = false
-
-abbrev pub is_same_log_ask : LogAsk → LogAsk → Bool
-is_same_log_ask (log.Seed s) (log.Seed t) = is_same_seed s t
-is_same_log_ask (log.Push p) (log.Push q) = is_same_push p q
-is_same_log_ask (log.Lock e) (log.Lock d) = e == d
-is_same_log_ask (log.Peek e t a m) (log.Peek f u b n) = (e == f) && ((t == u) && ((a == b) && (m == n)))
-is_same_log_ask (log.MarkAsked e) (log.MarkAsked d) = e == d
-is_same_log_ask a b = false
 
 abbrev pub is_same_seq_ask : SeqAsk → SeqAsk → Bool
 is_same_seq_ask (Next p r s) (Next q t u) = (p == q) && ((r == t) && (s == u))
@@ -73,27 +58,6 @@ is_same_cell_tell (ctell.Written b) (ctell.Written c) = b == c
 is_same_cell_tell (ctell.Refused b) (ctell.Refused c) = b == c
 is_same_cell_tell ctell.TwoValues ctell.TwoValues = true
 is_same_cell_tell a b = false
-
--- a reason as its kind and its numbers
-abbrev pub why_numbers : LogRefusal → List ℕ
-why_numbers why.WrongEpoch = 0 ∷ []
-why_numbers why.Unseeded = 1 ∷ []
-why_numbers why.Stopped = 2 ∷ []
-why_numbers why.Stale = 3 ∷ []
-why_numbers (why.Gap durable) = 4 ∷ durable ∷ []
-why_numbers why.NotMine = 5 ∷ []
-why_numbers (why.TooEarly first) = 6 ∷ first ∷ []
-why_numbers why.SeedDiffers = 7 ∷ []
-why_numbers why.NoMark = 8 ∷ []
-
-abbrev pub is_same_log_tell : LogTell → LogTell → Bool
-is_same_log_tell ltell.Seeded ltell.Seeded = true
-is_same_log_tell (ltell.Held v) (ltell.Held w) = v == w
-is_same_log_tell (ltell.Locked d k) (ltell.Locked e l) = (d == e) && (k == l)
-is_same_log_tell (ltell.Peeked p) (ltell.Peeked q) = is_same_peeked p q
-is_same_log_tell (ltell.Marked s) (ltell.Marked t) = is_same_state s t
-is_same_log_tell (ltell.Refused v) (ltell.Refused w) = pointwise nat_eq (why_numbers v) (why_numbers w)
-is_same_log_tell a b = false
 
 abbrev pub turn_number : SeqRefusal → ℕ
 turn_number turn.Spent = 0

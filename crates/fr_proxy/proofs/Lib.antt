@@ -1,3 +1,4 @@
 pub mod Growth
 pub mod Accounts
 pub mod Heard
+pub mod Given

@@ -6,7 +6,6 @@ use Rattle.fr_base.specs.declared.place.NodeId.{NodeId}
 use Rattle.fr_base.specs.declared.place.NodeId.TheVariants as node
 use Rattle.fr_mutation.specs.declared.mutation.Mutation.{Mutation}
 use Rattle.fr_tags.specs.SplitLaw.{bodies_at}
-use Rattle.fr_log.specs.declared.records.Body.{Body}
 use Rattle.fr_log.specs.declared.ask.LogAsk.TheVariants.{Push}
 use Rattle.fr_log.specs.declared.ask.LogTell.{LogTell}
 use Rattle.fr_log.specs.declared.ask.LogTell.TheVariants as log
@@ -82,10 +81,6 @@ number_ask p o = (node.Sequencer p.epoch, ask.Seq (Next p.number o.request o.ste
 
 -- ---- asks
 
--- a pair of tag and batch as a body
-abbrev pub as_body : ℕ × List Mutation → Body
-as_body pair = record { tag = pair.0; batch = pair.1 }
-
 -- the push of a numbered batch to a log
 abbrev pub push_of : ProxyState → Open → Place → ℕ → PushContent
 push_of p o at log = record {
@@ -93,7 +88,7 @@ push_of p o at log = record {
   prev = at.prev;
   version = at.version;
   known = p.known;
-  bodies = map as_body (bodies_at p.begins o.batch p.m p.k log);
+  bodies = bodies_at p.begins o.batch p.m p.k log;
   mark = None;
 }
 

@@ -1,5 +1,5 @@
 -- The state of a sequencer, what it answers, and what it is then.
-use Rattle.std.specs.Prelude.{ℕ, ◌+◌, ◌^◌, ◌<◌, ◌⊎◌, IsTrue, IsSome, Bool, false, nat_le, ◌==◌, Option, None, Some, if◌then◌else◌, refl}
+use Rattle.std.specs.Prelude.{ℕ, ◌+◌, ◌^◌, ◌<◌, ◌⊎◌, IsSome, Bool, false, nat_le, ◌==◌, Option, None, Some, if◌then◌else◌, refl}
 use Rattle.std.specs.Ordering.{nat_cmp}
 use Rattle.std.specs.FinMap.{FinMap, empty, get, insert, code}
 use Rattle.std.specs.Coded.{Coded, code_by, coded×, coded_ℕ}
@@ -9,6 +9,8 @@ use Rattle.fr_ask.specs.declared.sequencer.SeqTell.{SeqTell}
 use Rattle.fr_ask.specs.declared.sequencer.SeqTell.TheVariants.{Numbered, Refused}
 use Rattle.fr_ask.specs.declared.sequencer.SeqRefusal.{SeqRefusal}
 use Rattle.fr_ask.specs.declared.sequencer.SeqRefusal.TheVariants.{Spent, OutOfTurn}
+use Rattle.fr_ask.specs.declared.last.Last.{Last}
+use Rattle.fr_ask.specs.declared.last.Last.TheVariants as last
 use Rattle.fr_proxy.specs.declared.number.Number.{Number}
 
 -- a number as the tuple of its parts
@@ -84,10 +86,14 @@ next_of s (Next proxy request step) =
     if is_of request (get s.given proxy) then s
     else next_unless (new_refusal s (get s.given proxy) request step) s proxy (new_number s request step)
 
--- what is answered without memory: the proxy's last request again, and what is refused
+-- what takes no memory: all but the first number of a proxy
 abbrev pub IsAnsweredInPlace : SeqState → SeqAsk → Type 0
-IsAnsweredInPlace s (Next proxy request step) = IsTrue (is_of request (get s.given proxy)) ⊎ IsSome (new_refusal s (get s.given proxy) request step)
+IsAnsweredInPlace s (Next proxy request step) = IsSome (get s.given proxy) ⊎ IsSome (new_refusal s (get s.given proxy) request step)
 
 -- a sequencer's last version is within the limit of versions
 abbrev pub IsWithinLimit : SeqState → Type 0
 IsWithinLimit s = s.last < 2 ^ 62
+
+-- what others see of it at last
+abbrev pub last_of_sequencer : SeqState → Last
+last_of_sequencer s = last.Sequencer s.last

@@ -5,8 +5,10 @@ mod fault;
 mod laws;
 mod number;
 mod outcome;
+mod sequencer;
 
 pub use fault::SubmitFault;
 pub use laws::{account_law, growth_law, heard_law};
 pub use number::{Number, Place};
 pub use outcome::Outcome;
+pub use sequencer::Sequencer;
