@@ -5,6 +5,7 @@ use Rattle.std.specs.Option.{option_map}
 use Rattle.fr_base.specs.declared.place.NodeId.{NodeId}
 use Rattle.fr_base.specs.declared.place.NodeId.TheVariants as node
 use Rattle.fr_mutation.specs.declared.mutation.Mutation.{Mutation}
+use Rattle.fr_tags.specs.declared.body.Body.{Body}
 use Rattle.fr_tags.specs.SplitLaw.{bodies_at}
 use Rattle.fr_log.specs.declared.ask.LogAsk.TheVariants.{Push}
 use Rattle.fr_log.specs.declared.ask.LogTell.{LogTell}
@@ -21,6 +22,8 @@ use Rattle.fr_ask.specs.declared.sequencer.SeqTell.{SeqTell}
 use Rattle.fr_ask.specs.declared.sequencer.SeqTell.TheVariants as seq
 use Rattle.fr_ask.specs.declared.sequencer.SeqRefusal.TheVariants as turn
 pub use Rattle.fr_proxy.specs.declared.number.Place.{Place}
+pub use Rattle.fr_proxy.specs.declared.heeded.Heeded.{Heeded}
+pub use Rattle.fr_proxy.specs.declared.heeded.Heeded.TheVariants.{Ignored, Placed, HeldBy, HeldByAll, Cut}
 use Rattle.fr_proxy.specs.declared.fault.SubmitFault.{SubmitFault}
 use Rattle.fr_proxy.specs.declared.fault.SubmitFault.TheVariants.{TwoOpen, Over}
 use Rattle.fr_proxy.specs.declared.outcome.Outcome.{Outcome}
@@ -81,6 +84,10 @@ number_ask p o = (node.Sequencer p.epoch, ask.Seq (Next p.number o.request o.ste
 
 -- ---- asks
 
+-- the ask that bodies be held at a place
+abbrev pub push_with : ProxyState → Place → List Body → Ask
+push_with p at bodies = ask.Log (Push (record { epoch = p.epoch; prev = at.prev; version = at.version; known = p.known; bodies = bodies; mark = None }))
+
 -- the push of a numbered batch to a log
 abbrev pub push_of : ProxyState → Open → Place → ℕ → PushContent
 push_of p o at log = record {
@@ -113,19 +120,6 @@ abbrev pub pending : ProxyState → List (NodeId × Ask)
 pending p = asks_of_open p p.under_way
 
 -- ---- a tell is heard
-
--- a tell that changes something
-pub data Heeded : Type 0 where
-  -- nothing changes
-  Ignored : Heeded
-  -- the open batch has this number
-  Placed : (place : Place) → Heeded
-  -- one more log holds the open batch
-  HeldBy : (log : ℕ) → Heeded
-  -- all logs hold it
-  HeldByAll : (version : ℕ) → Heeded
-  -- it will come no further
-  Cut : Heeded
 
 -- a number of the open request from which a push can be made, where the batch has none yet
 abbrev pub may_place : ProxyState → Open → ℕ → ℕ → ℕ → Bool

@@ -2,13 +2,17 @@
 #![tactic(auto)]
 
 mod fault;
+mod heeded;
 mod laws;
 mod number;
 mod outcome;
+mod proxy;
 mod sequencer;
+mod under_way;
 
 pub use fault::SubmitFault;
 pub use laws::{account_law, growth_law, heard_law};
 pub use number::{Number, Place};
 pub use outcome::Outcome;
+pub use proxy::Proxy;
 pub use sequencer::Sequencer;
