@@ -60,7 +60,7 @@ of_held p o (Some at) index version under given below = go ((version == at.versi
   where
     all : version ≡ at.version → IsNewHolder p o at index (node.Log p.epoch index) (tell.Log (ltell.Held version)) → (b : Bool) → (length o.held + 1 == p.m) ≡ b → Heard p (node.Log p.epoch index) (tell.Log (ltell.Held version)) (cond b (HeldByAll version) (HeldBy index))
     all v k true m = subst (λ x. Heard p (node.Log p.epoch index) (tell.Log (ltell.Held version)) (HeldByAll x)) (sym v) (HoldsAll o at index k (eqb-true (length o.held + 1) p.m m))
-    all v k false m = Holds o at index k
+    all v k false m = Holds o at index k m
 
     go : (b : Bool) → ((version == at.version) && not (is_in o.held index)) ≡ b → Heard p (node.Log p.epoch index) (tell.Log (ltell.Held version)) (cond b (heed_new p o index version) Ignored)
     go true k =
@@ -135,7 +135,7 @@ pushes p from t h (Places o at k) = go p.under_way refl
         (All-from_get_or (λ i. IsPushTo p from t (f i).0 (f i).1) (range_with_len 0 p.m) 0 (λ i l.
         let n = length-range_with_len 0 p.m in
         record { open_batch = u; place = at; numbered = mine; epoch = refl; below = omega (arith, get_or-range_with_len 0 p.m i 0 (omega (arith, n, l)), n, l); is = refl })))
-pushes p from t h (Holds o at log k) = All-nil (λ s. IsPushTo p from t s.0 s.1)
+pushes p from t h (Holds o at log k l) = All-nil (λ s. IsPushTo p from t s.0 s.1)
 pushes p from t h (HoldsAll o at log k m) = All-nil (λ s. IsPushTo p from t s.0 s.1)
 pushes p from t h (Cuts o under k) = All-nil (λ s. IsPushTo p from t s.0 s.1)
 

@@ -2,3 +2,5 @@ pub mod Growth
 pub mod Accounts
 pub mod Heard
 pub mod Given
+pub mod Pushing
+pub mod Sound

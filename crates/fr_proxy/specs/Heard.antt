@@ -1,5 +1,5 @@
 -- What a tell can be to a proxy: a case for each way in which it changes something, with all that is then known.
-use Rattle.std.specs.Prelude.{◌≡◌, ◌<◌, ◌≤◌, ℕ, ◌+◌, false, length, None, Some, All}
+use Rattle.std.specs.Prelude.{◌≡◌, ◌<◌, ◌≤◌, ℕ, ◌+◌, ◌==◌, false, length, None, Some, All}
 use Rattle.fr_base.specs.declared.place.NodeId.{NodeId}
 use Rattle.fr_base.specs.declared.place.NodeId.TheVariants as node
 use Rattle.fr_log.specs.declared.ask.LogAsk.TheVariants as lask
@@ -41,7 +41,7 @@ pub data IsEnding (p : ProxyState) : NodeId → Tell → Type 0 where
 pub data Heard (p : ProxyState) (from : NodeId) (t : Tell) : Heeded → Type 0 where
   Ignores : Heard p from t Ignored
   Places : (o : Open) (at : Place) → IsNewNumber p o at from t → Heard p from t (Placed at)
-  Holds : (o : Open) (at : Place) (log : ℕ) → IsNewHolder p o at log from t → Heard p from t (HeldBy log)
+  Holds : (o : Open) (at : Place) (log : ℕ) → IsNewHolder p o at log from t → (length o.held + 1 == p.m) ≡ false → Heard p from t (HeldBy log)
   HoldsAll : (o : Open) (at : Place) (log : ℕ) → IsNewHolder p o at log from t → length o.held + 1 ≡ p.m → Heard p from t (HeldByAll at.version)
   Cuts : (o : Open) → p.under_way ≡ Some o → IsEnding p from t → Heard p from t Cut
 

@@ -13,6 +13,7 @@ use fr_ask::{Ask, SeqAsk};
 use fr_base::{Memory, NodeId};
 use fr_log::{LogAsk, Push};
 use fr_tags::Body;
+use fr_tags::laws::split_law;
 use std::alloc::Global;
 
 impl Proxy {
@@ -77,6 +78,7 @@ impl Proxy {
         requires { IsPlace self.now.known place.now }
         ensures { IfOk result (λ asks. asks.items ≡ pushes_at self.now (open_of under_way.now) (Some place.now)) }
     {
+        split_law();
         let split = self.map.split(alloc, &under_way.batch, self.m, self.k)?;
         let mut asks = Vec::with_capacity(alloc, split.len())?;
         let mut log = 0;
