@@ -3,8 +3,7 @@ ghost use Rattle.std.specs.Prelude.{◌≡◌, IsTrue, IfOk, IsOk};
 ghost use Rattle.std.specs.Cmp.{partial_equiv_from_equiv};
 ghost use Rattle.fr_base.specs.Same.{IsSameness-equivalence};
 ghost use Rattle.fr_ask.specs.Lists.{ask_holds_no_list};
-ghost use Rattle.fr_ask.specs.Same.{is_same_ask};
-ghost use Rattle.fr_ask.specs.Exact.{is_same_ask-IsSameness};
+ghost use Rattle.fr_ask.specs.Same.{is_same_ask, is_same_ask-IsSameness};
 
 use crate::sequencer::SeqAsk;
 use fr_base::Memory;

@@ -4,3 +4,4 @@ pub mod Heard
 pub mod Given
 pub mod Pushing
 pub mod Sound
+pub mod Stored

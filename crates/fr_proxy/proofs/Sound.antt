@@ -152,3 +152,18 @@ placed_is_place p from t at e = place_at p from t (heeded p from t) at (hear_is_
 
 pub new_is_proxy : (epoch number m k : ℕ) (begins : List (List ℕ)) (known : ℕ) → 1 ≤ k → k ≤ m → m ≤ 16 → IsProxy (new_proxy epoch number m k begins known)
 new_is_proxy epoch number m k begins known a b d = record { some = a; fits = b; limit = d; spent = omega arith; open_batch = tt; over = λ h. refl }
+
+-- ---- what is known rises
+
+rises : (p : ProxyState) (from : NodeId) (t : Tell) (h : Heeded) → Heard p from t h → IsProxy p → p.known ≤ (after_heeded p h).known
+rises p from t h Ignores s = omega arith
+rises p from t h (Places o at k) s = omega arith
+rises p from t h (Holds o at log k l) s = omega arith
+rises p from t h (HoldsAll o at log k l) s =
+    let was = open_of p o s k.under_way in
+    let place : IsPlace p.known at = subst (λ a. IfSome a (IsPlace p.known)) k.given was.place in
+    omega (arith, place.known, place.rises)
+rises p from t h (Cuts o e k) s = omega arith
+
+pub known_rises : (p : ProxyState) (from : NodeId) (t : Tell) → IsProxy p → p.known ≤ (after_hear p from t).known
+known_rises p from t s = rises p from t (heeded p from t) (hear_is_heard p from t) s

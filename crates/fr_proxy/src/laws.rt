@@ -1,5 +1,6 @@
 //! Laws of sequencers and proxies.
 ghost use Rattle.fr_proxy.specs.Heard.{HearIsHeard, NewIsPush};
+ghost use Rattle.fr_proxy.specs.KeptLaw.{GivenIsStored, HearKeeps, KnownRises, NewIsProxy, OthersKeepTheirs, SubmitKeeps, ToldIsStored};
 ghost use Rattle.fr_proxy.specs.Law.{AccountedStays, HearGrows, LastRises, NewIsAccounted, SubmitGrows, SubmitIsAccounted};
 
 /// Whatever they are asked or hear, a sequencer's last version and a proxy's requests do not fall.
@@ -20,4 +21,21 @@ pub fn account_law()
 pub fn heard_law()
     ensures heard { HearIsHeard }
     ensures pushes { NewIsPush }
+{}
+
+/// What holds of a new proxy stays so: an open batch is that of the last request, each log that holds it
+/// counts once and is one of the generation, and no commit above the version before its own is known.
+/// So what is known to be committed never falls.
+pub fn kept_law()
+    ensures new { NewIsProxy }
+    ensures submit { SubmitKeeps }
+    ensures hear { HearKeeps }
+    ensures known { KnownRises }
+{}
+
+/// A sequencer stores the last number that it gave to each proxy: what it tells is what it stores.
+pub fn stored_law()
+    ensures told { ToldIsStored }
+    ensures given { GivenIsStored }
+    ensures others { OthersKeepTheirs }
 {}

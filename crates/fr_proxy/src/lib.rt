@@ -11,7 +11,7 @@ mod sequencer;
 mod under_way;
 
 pub use fault::SubmitFault;
-pub use laws::{account_law, growth_law, heard_law};
+pub use laws::{account_law, growth_law, heard_law, kept_law, stored_law};
 pub use number::{Number, Place};
 pub use outcome::Outcome;
 pub use proxy::Proxy;

@@ -125,7 +125,7 @@ impl Proxy {
             map: self.map.copy(alloc)?,
             known: self.known,
             requests: self.requests,
-            under_way: copy_under_way(alloc, &self.under_way)?,
+            under_way: copy_under_way(&self.under_way)?,
             over: self.over,
         })
     }
@@ -167,14 +167,11 @@ impl Proxy {
     }
 }
 
-fn copy_under_way(
-    alloc: Global,
-    under_way: &Option<UnderWay>,
-) -> Result<Option<UnderWay>, Memory>
+fn copy_under_way(under_way: &Option<UnderWay>) -> Result<Option<UnderWay>, Memory>
     ensures { IfOk result (λ copy. option_map open_of copy ≡ option_map open_of under_way.now) }
 {
     match under_way {
-        Some(open_batch) => Ok(Some(open_batch.copy(alloc)?)),
+        Some(open_batch) => Ok(Some(open_batch.copy()?)),
         None => Ok(None),
     }
 }

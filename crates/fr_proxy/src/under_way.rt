@@ -8,7 +8,6 @@ use crate::number::Place;
 use arrayvec::ArrayVec;
 use fr_base::{Memory, Step};
 use fr_mutation::Batch;
-use std::alloc::Global;
 
 /// The batch that a proxy has under way.
 #[derive(Debug, Drop)]
@@ -77,13 +76,13 @@ impl UnderWay {
     }
 
     /// An equal batch under way.
-    pub(crate) fn copy(&self, alloc: Global) -> Result<Self, Memory>
+    pub(crate) fn copy(&self) -> Result<Self, Memory>
         ensures { IfOk result (λ copy. open_of copy ≡ open_of self.now) }
     {
         Ok(UnderWay {
             request: self.request,
             step: self.step,
-            batch: self.batch.copy(alloc)?,
+            batch: self.batch.copy()?,
             place: self.place,
             held: self.held.clone()?,
         })
