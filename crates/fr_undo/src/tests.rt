@@ -1,5 +1,4 @@
-use crate::fails_once::FailsOnce;
-use crate::{MapStore, ShardStore, StoreFault, apply_all_and_undo, apply_and_undo};
+use crate::{MapStore, ShardStore, StoreFault};
 use fr_base::{Bytes, Memory, Version};
 use fr_mutation::{Batch, Mutation, Shard};
 use std::alloc::Global;
@@ -71,11 +70,6 @@ fn what_is_forgotten_cannot_be_undone(rt: HostRuntime) -> Result<(), Fail> {
     assert_eq!(rt; store.undo_rows(), 1);
     assert!(rt; store.undo_to(alloc, at(7)?) == Err(StoreFault::BelowFloor));
     assert!(rt; store.forget_through(alloc, at(10)?) == Err(StoreFault::AboveApplied));
-    apply_and_undo(alloc, &mut store, at(10)?, &setting(alloc, b"b", b"")?)?;
-    let mut commits = Vec::new(alloc);
-    commits.push((at(10)?, setting(alloc, b"a", b"")?))?;
-    commits.push((at(12)?, setting(alloc, b"a", b"\x03")?))?;
-    apply_all_and_undo(alloc, &mut store, commits.as_slice())?;
     store.set_state(alloc, bytes(alloc, b"state")?)?;
     let mut copy = store.copy(alloc)?;
     copy.reopen(alloc)?;
@@ -88,24 +82,5 @@ fn what_is_forgotten_cannot_be_undone(rt: HostRuntime) -> Result<(), Fail> {
         end: Some(bytes(alloc, b"a")?),
     };
     assert_eq!(rt; copy.range(alloc, &shard)?.len(), 0);
-    Ok(())
-}
-
-#[test]
-fn a_failed_call_stands_before_or_after(rt: HostRuntime) -> Result<(), Fail> {
-    let alloc = rt.alloc();
-    for (is_done, applied) in [(false, 5), (true, 6)] {
-        let mut store = FailsOnce::new(alloc, 1, is_done);
-        let batch = setting(alloc, b"a", b"\x01")?;
-        store.apply(alloc, at(5)?, &batch)?;
-        assert!(rt; store.apply(alloc, at(6)?, &batch) == Err(StoreFault::Device));
-        assert!(rt; store.undo_to(alloc, at(0)?) == Err(StoreFault::Failed));
-        assert!(rt; store.dump(alloc).is_err());
-        assert_eq!(rt; store.applied().get(), 5);
-        store.reopen(alloc)?;
-        assert_eq!(rt; store.applied().get(), applied);
-        store.undo_to(alloc, at(0)?)?;
-        assert_eq!(rt; store.dump(alloc)?.len(), 0);
-    }
     Ok(())
 }

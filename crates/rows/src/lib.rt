@@ -15,3 +15,5 @@ mod slow_store;
 mod store_agrees;
 #[cfg(test)]
 mod two_ballots;
+#[cfg(test)]
+mod undo;

@@ -4,7 +4,7 @@ use Rattle.fr_undo.specs.State.{StoreState, IsStoreState}
 use Rattle.fr_undo.specs.Undo.{forgotten}
 use Rattle.fr_undo.specs.MapStore.{state_of}
 use Rattle.fr_undo.proofs.StateLemmas.{forgotten_sound, forgotten_nothing}
-use Rattle.fr_undo.proofs.MapStoreLemmas.{forgotten_fields}
+use Rattle.fr_undo.proofs.MapStoreLemmas.{forgotten_fields, writes_all}
 use Rattle.fr_undo.proofs.RowLemmas.{above_from_gt}
 use Rattle.fr_undo.proofs.map_store.MapStoreShardStore.forget_through.Goals as goal
 
@@ -16,26 +16,22 @@ invariant_of-self c =
     subst IsStoreState (sym (forgotten_fields a.contents a.rows c.drop_through.new.rows a.applied a.floor f a.bytes above c.drop_through.ensures))
     (forgotten_sound (state_of a) f c.self.invariant (le_from_not_gt f a.applied (cc (c.gt.ensures, c.if-gt.false))))
 
-pub returns-then-gt-2-clause-ok : goal.returns-then-gt-2-clause-ok
-returns-then-gt-2-clause-ok c =
+pub returns-then-gt-2-clause-writes : goal.returns-then-gt-2-clause-writes
+returns-then-gt-2-clause-writes c =
     let a = c.self.inside in
     let f = c.args.version in
     let above = above_from_gt f a.floor (cc (c.gt-2.ensures, c.if-gt-2.true)) in
-    forgotten_fields a.contents a.rows c.drop_through.new.rows a.applied a.floor f a.bytes above c.drop_through.ensures
-    ∙ ap (λ (s : StoreState). forgotten s f) c.self.view_is
+    let made = forgotten_fields a.contents a.rows c.drop_through.new.rows a.applied a.floor f a.bytes above c.drop_through.ensures in
+    writes_all _ _ _
+    (made ∙ ap (λ (s : StoreState). forgotten s f) c.self.view_is)
+    (subst IsStoreState (sym made) (forgotten_sound (state_of a) f c.self.invariant (le_from_not_gt f a.applied (cc (c.gt.ensures, c.if-gt.false)))))
 
-pub returns-then-gt-2-clause-sound : goal.returns-then-gt-2-clause-sound
-returns-then-gt-2-clause-sound c =
+pub returns-else-gt-2-clause-writes : goal.returns-else-gt-2-clause-writes
+returns-else-gt-2-clause-writes c =
     let a = c.self.inside in
     let f = c.args.version in
-    let above = above_from_gt f a.floor (cc (c.gt-2.ensures, c.if-gt-2.true)) in
-    subst IsStoreState (sym (forgotten_fields a.contents a.rows c.drop_through.new.rows a.applied a.floor f a.bytes above c.drop_through.ensures))
-    (forgotten_sound (state_of a) f c.self.invariant (le_from_not_gt f a.applied (cc (c.gt.ensures, c.if-gt.false))))
-
-pub returns-else-gt-2-clause-ok : goal.returns-else-gt-2-clause-ok
-returns-else-gt-2-clause-ok c =
-    let a = c.self.inside in
-    let f = c.args.version in
-    sym c.self.view_is
+    writes_all _ _ _
+    (sym c.self.view_is
     ∙ sym (forgotten_nothing (state_of a) f c.self.invariant (le_from_not_gt f a.floor (cc (c.gt-2.ensures, c.if-gt-2.false))))
-    ∙ ap (λ (s : StoreState). forgotten s f) c.self.view_is
+    ∙ ap (λ (s : StoreState). forgotten s f) c.self.view_is)
+    (subst IsStoreState c.self.view_is c.self.invariant)
