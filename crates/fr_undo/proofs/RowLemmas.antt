@@ -294,11 +294,11 @@ kept_still changes k before some q =
     there None e = cc
     there (Some c) e = refl
 
-pub kept_new : (contents : Contents) (changes changes' : Changes) (k : List ℕ) (change : Change) → KnowBefore changes contents → change.before ≡ tree.get bytes_cmp contents k
-    → ((q : List ℕ) → tree.get bytes_cmp changes' q ≡ cond (is_same k q) (Some change) (tree.get bytes_cmp changes q)) → KnowBefore changes' contents
-kept_new contents changes changes' k change know new put q =
-    subst (λ (o : Option Change). IfSome o (λ c. c.before ≡ tree.get bytes_cmp contents q)) (sym (put q))
-    (elim (is_same k q) as (λ b. is_same k q ≡ b → IfSome (cond b (Some change) (tree.get bytes_cmp changes q)) (λ c. c.before ≡ tree.get bytes_cmp contents q)) [
-      | true ↦ λ e. new ∙ ap (tree.get bytes_cmp contents) (one_key bytes_exact k q e)
+pub kept_new : (held : List ℕ → Option (List ℕ)) (changes changes' : Changes) (k : List ℕ) (change : Change) → KnowBefore changes held → change.before ≡ held k
+    → ((q : List ℕ) → tree.get bytes_cmp changes' q ≡ cond (is_same k q) (Some change) (tree.get bytes_cmp changes q)) → KnowBefore changes' held
+kept_new held changes changes' k change know new put q =
+    subst (λ (o : Option Change). IfSome o (λ c. c.before ≡ held q)) (sym (put q))
+    (elim (is_same k q) as (λ b. is_same k q ≡ b → IfSome (cond b (Some change) (tree.get bytes_cmp changes q)) (λ c. c.before ≡ held q)) [
+      | true ↦ λ e. new ∙ ap held (one_key bytes_exact k q e)
       | false ↦ λ e. know q
     ] refl)

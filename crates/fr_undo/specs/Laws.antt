@@ -1,6 +1,7 @@
 -- Laws of states, of batches and of undoing them.
-use Rattle.std.specs.Prelude.{◌≡◌, ◌<◌, ◌≤◌, ℕ, List, [], ◌∷◌, ◌++◌, min, max}
+use Rattle.std.specs.Prelude.{◌≡◌, ◌<◌, ◌≤◌, ℕ, false, Option, List, [], ◌∷◌, ◌++◌, min, max}
 use Rattle.fr_mutation.specs.declared.mutation.Mutation.{Mutation}
+use Rattle.fr_mutation.specs.Mutation.{touched, value_after_all}
 use Rattle.fr_undo.specs.State.{StoreState, IsStoreState}
 use Rattle.fr_undo.specs.Undo.{extended, undone, advanced, forgotten, with_bytes}
 use Rattle.fr_undo.specs.Chain.{Step, AreTaken, after_steps, steps_through, forgotten_through}
@@ -31,3 +32,7 @@ pub record LeadsOn (commits : List Commit) (v f : ℕ) (bytes : List ℕ) : Type
 -- so it is at every list of commits whose versions rise, at most to v, and every floor that is not above v
 abbrev pub CanonicalLaw : Type 0
 CanonicalLaw = (commits : List Commit) (v f : ℕ) (bytes : List ℕ) → Rises 0 commits v → f ≤ v → LeadsOn commits v f bytes
+
+-- on a key that no mutation of a batch touches it does nothing, so a plan needs no more of the contents than the keys that it touches
+abbrev pub UntouchedLaw : Type 0
+UntouchedLaw = (batch : List Mutation) (q : List ℕ) (old : Option (List ℕ)) → touched batch q ≡ false → value_after_all batch q old ≡ old

@@ -6,9 +6,10 @@ ghost use Rattle.std.specs.BTreeMap as tree;
 ghost use Rattle.fr_base.specs.Bytes.{bytes_cmp, is_same};
 ghost use Rattle.fr_mutation.specs.Mutation.{is_between, key_of, value_after, value_after_all};
 ghost use Rattle.fr_mutation.specs.declared.mutation.Mutation.TheVariants.{Clear};
-ghost use Rattle.fr_undo.specs.Changes.{KnowBefore, removed, value_written};
+ghost use Rattle.fr_undo.specs.Changes.{KnowBefore, noted, held_outside, value_written};
 
 use crate::copies::value_copy;
+use crate::ranges::{is_covered, with_range};
 use fr_base::{Bytes, Memory};
 use fr_mutation::{Batch, Mutation};
 use std::alloc::Global;
@@ -16,32 +17,48 @@ use std::collections::BTreeMap;
 
 /// What becomes of a key.
 #[derive(Debug, Drop)]
-pub(crate) struct Change {
-    /// What it held when it was first met: a value, or none.
-    pub(crate) before: Option<Bytes>,
+pub struct Change {
+    /// What it holds before: a value, or none.
+    pub before: Option<Bytes>,
     /// What it takes: a value, or none.
-    pub(crate) after: Option<Bytes>,
+    pub after: Option<Bytes>,
+}
+
+/// What a key holds, outside of ranges that are cleared.
+fn held_outside(
+    contents: &BTreeMap<Bytes, Bytes>,
+    cleared: &[(Bytes, Bytes)],
+    key: &Bytes,
+) -> Result<Option<Bytes>, Memory>
+    ensures { IfOk result (λ held. held ≡ held_outside cleared.now (tree.get bytes_cmp contents.now) key.now) }
+{
+    if is_covered(cleared, key) {
+        Ok(None)
+    } else {
+        value_copy(contents, key)
+    }
 }
 
 /// Gives a key what a mutation makes of the value that it has by the changes so far.
 fn put(
     alloc: Global,
     contents: &BTreeMap<Bytes, Bytes>,
+    cleared: &[(Bytes, Bytes)],
     changes: &mut BTreeMap<Bytes, Change>,
     key: &Bytes,
     mutation: &Mutation,
 ) -> Result<(), Memory>
-    requires know { KnowBefore changes.old contents.now }
+    requires know { KnowBefore changes.old (held_outside cleared.now (tree.get bytes_cmp contents.now)) }
     requires named { key_of mutation.now ≡ Some key.now }
-    ensures know { OnOk result (KnowBefore changes.new contents.now) }
-    ensures values { OnOk result ((q : List ℕ) → value_written changes.new contents.now q ≡ value_after mutation.now q (value_written changes.old contents.now q)) }
+    ensures know { OnOk result (KnowBefore changes.new (held_outside cleared.now (tree.get bytes_cmp contents.now))) }
+    ensures values { OnOk result ((q : List ℕ) → value_written changes.new (held_outside cleared.now (tree.get bytes_cmp contents.now)) q ≡ value_after mutation.now q (value_written changes.old (held_outside cleared.now (tree.get bytes_cmp contents.now)) q)) }
 {
     match changes.get_mut(key) {
         Some(change) => {
             change.after = mutation.new_value(alloc, change.after.as_ref())?;
         }
         None => {
-            let before = value_copy(contents, key)?;
+            let before = held_outside(contents, cleared, key)?;
             let after = mutation.new_value(alloc, before.as_ref())?;
             changes.insert(key.copy()?, Change { before, after })?;
         }
@@ -83,90 +100,121 @@ fn drop_changes(
     Ok(())
 }
 
-/// Notes that a key loses its value.
-fn note_key_removed(
-    changes: &mut BTreeMap<Bytes, Change>,
-    key: &Bytes,
-    value: &Bytes,
-) -> Result<(), Memory>
-    ensures { OnOk result ((q : List ℕ) → tree.get bytes_cmp changes.new q ≡ cond (is_same key.now q) (Some (removed (Some value.now))) (tree.get bytes_cmp changes.old q)) }
-{
-    let change = Change {
-        before: Some(value.copy()?),
-        after: None,
-    };
-    changes.insert(key.copy()?, change)?;
-    Ok(())
-}
-
-/// Notes that the keys from `begin` up to `end` that have a value lose it.
-fn note_removed(
-    contents: &BTreeMap<Bytes, Bytes>,
-    changes: &mut BTreeMap<Bytes, Change>,
-    begin: &Bytes,
-    end: &Bytes,
-) -> Result<(), Memory>
-    requires { is_lt (bytes_cmp begin.now end.now) ≡ true }
-    ensures { OnOk result ((q : List ℕ) → tree.get bytes_cmp changes.new q ≡ cond (is_between begin.now end.now q && is_some (tree.get bytes_cmp contents.now q)) (Some (removed (tree.get bytes_cmp contents.now q))) (tree.get bytes_cmp changes.old q)) }
-{
-    for (key, value) in contents.range(begin..end) {
-        note_key_removed(changes, key, value)?;
-    }
-    Ok(())
-}
-
-/// Lets a clear act on the changes: it walks the keys of its range alone, those of the contents and those
-/// that were changed before.
+/// Lets a clear act: the changes of its keys are dropped, and it joins the ranges cleared before. What the
+/// keys hold is looked at once, when all ranges are known.
 fn clear(
     alloc: Global,
     contents: &BTreeMap<Bytes, Bytes>,
     changes: &mut BTreeMap<Bytes, Change>,
+    cleared: Vec<(Bytes, Bytes)>,
     begin: &Bytes,
     end: &Bytes,
-) -> Result<(), Memory>
-    requires { KnowBefore changes.old contents.now }
-    ensures know { OnOk result (KnowBefore changes.new contents.now) }
-    ensures values { OnOk result ((q : List ℕ) → value_written changes.new contents.now q ≡ value_after (Clear begin.now end.now) q (value_written changes.old contents.now q)) }
+) -> Result<Vec<(Bytes, Bytes)>, Memory>
+    requires { KnowBefore changes.old (held_outside cleared.items (tree.get bytes_cmp contents.now)) }
+    ensures know { IfOk result (λ ranges. KnowBefore changes.new (held_outside ranges.items (tree.get bytes_cmp contents.now))) }
+    ensures values { IfOk result (λ ranges. (q : List ℕ) → value_written changes.new (held_outside ranges.items (tree.get bytes_cmp contents.now)) q ≡ value_after (Clear begin.now end.now) q (value_written changes.old (held_outside cleared.items (tree.get bytes_cmp contents.now)) q)) }
 {
     if begin < end {
+        let ranges = with_range(alloc, cleared, begin, end)?;
         drop_changes(alloc, changes, begin, end)?;
-        note_removed(contents, changes, begin, end)?;
+        return Ok(ranges);
     }
-    Ok(())
+    Ok(cleared)
 }
 
-/// Lets one mutation act on the changes.
+/// Lets one mutation act on the changes, and gives the ranges cleared so far.
 fn act(
     alloc: Global,
     contents: &BTreeMap<Bytes, Bytes>,
     changes: &mut BTreeMap<Bytes, Change>,
+    cleared: Vec<(Bytes, Bytes)>,
     mutation: &Mutation,
-) -> Result<(), Memory>
-    requires { KnowBefore changes.old contents.now }
-    ensures know { OnOk result (KnowBefore changes.new contents.now) }
-    ensures values { OnOk result ((q : List ℕ) → value_written changes.new contents.now q ≡ value_after mutation.now q (value_written changes.old contents.now q)) }
+) -> Result<Vec<(Bytes, Bytes)>, Memory>
+    requires { KnowBefore changes.old (held_outside cleared.items (tree.get bytes_cmp contents.now)) }
+    ensures know { IfOk result (λ ranges. KnowBefore changes.new (held_outside ranges.items (tree.get bytes_cmp contents.now))) }
+    ensures values { IfOk result (λ ranges. (q : List ℕ) → value_written changes.new (held_outside ranges.items (tree.get bytes_cmp contents.now)) q ≡ value_after mutation.now q (value_written changes.old (held_outside cleared.items (tree.get bytes_cmp contents.now)) q)) }
 {
     if let Mutation::Clear { begin, end } = mutation {
-        return clear(alloc, contents, changes, begin, end);
+        return clear(alloc, contents, changes, cleared, begin, end);
     }
     if let Some(key) = mutation.key() {
-        return put(alloc, contents, changes, key, mutation);
+        put(alloc, contents, cleared.as_slice(), changes, key, mutation)?;
+    }
+    Ok(cleared)
+}
+
+/// Notes what a key of a cleared range held: in its change, if it has one, and else in one that takes its
+/// value.
+fn note_key(changes: &mut BTreeMap<Bytes, Change>, key: &Bytes, value: &Bytes) -> Result<(), Memory>
+    ensures { OnOk result ((q : List ℕ) → tree.get bytes_cmp changes.new q ≡ cond (is_same key.now q) (Some (noted (Some value.now) (tree.get bytes_cmp changes.old q))) (tree.get bytes_cmp changes.old q)) }
+{
+    let before = Some(value.copy()?);
+    match changes.get_mut(key) {
+        Some(change) => change.before = before,
+        None => {
+            let change = Change {
+                before,
+                after: None,
+            };
+            changes.insert(key.copy()?, change)?;
+        }
     }
     Ok(())
 }
 
-/// What a batch makes of each key on which it acts and that has, or is given, a value.
-pub(crate) fn changes_of(
+/// Notes what the keys of a cleared range held.
+fn note_range(
+    contents: &BTreeMap<Bytes, Bytes>,
+    changes: &mut BTreeMap<Bytes, Change>,
+    begin: &Bytes,
+    end: &Bytes,
+) -> Result<(), Memory>
+    ensures { OnOk result ((q : List ℕ) → tree.get bytes_cmp changes.new q ≡ cond (is_between begin.now end.now q && is_some (tree.get bytes_cmp contents.now q)) (Some (noted (tree.get bytes_cmp contents.now q) (tree.get bytes_cmp changes.old q))) (tree.get bytes_cmp changes.old q)) }
+{
+    if begin < end {
+        for (key, value) in contents.range(begin..end) {
+            note_key(changes, key, value)?;
+        }
+    }
+    Ok(())
+}
+
+/// Notes what the keys of all cleared ranges held.
+fn note_all(
+    contents: &BTreeMap<Bytes, Bytes>,
+    changes: &mut BTreeMap<Bytes, Change>,
+    cleared: &[(Bytes, Bytes)],
+) -> Result<(), Memory>
+    requires { KnowBefore changes.old (held_outside cleared.now (tree.get bytes_cmp contents.now)) }
+    ensures know { OnOk result (KnowBefore changes.new (tree.get bytes_cmp contents.now)) }
+    ensures values { OnOk result ((q : List ℕ) → value_written changes.new (tree.get bytes_cmp contents.now) q ≡ value_written changes.old (held_outside cleared.now (tree.get bytes_cmp contents.now)) q) }
+{
+    for range in cleared {
+        note_range(contents, changes, &range.0, &range.1)?;
+    }
+    Ok(())
+}
+
+/// What a batch makes of each key on which it acts and that has, or is given, a value. Of the contents it
+/// looks up the keys that the batch names, and walks the ranges that it clears, merged, once; so a tree of
+/// these alone gives the same.
+///
+/// # Errors
+///
+/// `Memory`: a growth of memory was refused.
+pub fn changes_of(
     alloc: Global,
     contents: &BTreeMap<Bytes, Bytes>,
     batch: &Batch,
 ) -> Result<BTreeMap<Bytes, Change>, Memory>
-    ensures know { IfOk result (λ changes. KnowBefore changes contents.now) }
-    ensures values { IfOk result (λ changes. (q : List ℕ) → value_written changes contents.now q ≡ value_after_all batch.now q (tree.get bytes_cmp contents.now q)) }
+    ensures know { IfOk result (λ changes. KnowBefore changes (tree.get bytes_cmp contents.now)) }
+    ensures values { IfOk result (λ changes. (q : List ℕ) → value_written changes (tree.get bytes_cmp contents.now) q ≡ value_after_all batch.now q (tree.get bytes_cmp contents.now q)) }
 {
     let mut changes = BTreeMap::new(alloc);
+    let mut cleared = Vec::new(alloc);
     for mutation in batch.mutations() {
-        act(alloc, contents, &mut changes, mutation)?;
+        cleared = act(alloc, contents, &mut changes, cleared, mutation)?;
     }
+    note_all(contents, &mut changes, cleared.as_slice())?;
     Ok(changes)
 }

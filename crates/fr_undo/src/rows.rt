@@ -83,8 +83,8 @@ fn restore_one(
     key: &Bytes,
     before: &Option<Bytes>,
 ) -> Result<(), Memory>
-    requires { KnowBefore changes.old contents.now }
-    ensures know { OnOk result (KnowBefore changes.new contents.now) }
+    requires { KnowBefore changes.old (tree.get bytes_cmp contents.now) }
+    ensures know { OnOk result (KnowBefore changes.new (tree.get bytes_cmp contents.now)) }
     ensures kept { OnOk result ((q : List ℕ) → after_of (tree.get bytes_cmp changes.new q) ≡ option_or (after_of (tree.get bytes_cmp changes.old q)) (cond (is_same key.now q) (Some before.now) None)) }
 {
     if !changes.contains_key(key) {
@@ -100,8 +100,13 @@ fn restore_one(
 }
 
 /// What an undo to `version` makes of each key that has rows above it: each takes what its row of least
-/// version held.
-pub(crate) fn changes_above(
+/// version held. Of the contents it looks up these keys, and of the undo rows, by version and then by key,
+/// it walks those above; so trees of these alone give the same.
+///
+/// # Errors
+///
+/// `Memory`: a growth of memory was refused.
+pub fn changes_above(
     alloc: Global,
     contents: &BTreeMap<Bytes, Bytes>,
     rows: &BTreeMap<(Version, Bytes), Option<Bytes>>,
@@ -109,7 +114,7 @@ pub(crate) fn changes_above(
     applied: Version,
 ) -> Result<BTreeMap<Bytes, Change>, Memory>
     requires { version < applied }
-    ensures know { IfOk result (λ changes. KnowBefore changes contents.now) }
+    ensures know { IfOk result (λ changes. KnowBefore changes (tree.get bytes_cmp contents.now)) }
     ensures value { IfOk result (λ changes. (n : ℕ) → IsUpTo rows.now (version + n) → (q : List ℕ) → after_of (tree.get bytes_cmp changes q) ≡ least_row (map_of rows.now) q version n) }
 {
     let mut changes = BTreeMap::new(alloc);

@@ -85,7 +85,7 @@ pub(crate) fn write(
     contents: &mut BTreeMap<Bytes, Bytes>,
     changes: BTreeMap<Bytes, Change>,
 ) -> Result<(), Memory>
-    requires { KnowBefore changes contents.old }
+    requires { KnowBefore changes (tree.get bytes_cmp contents.old) }
     ensures ok { OnOk result ((q : List ℕ) → tree.get bytes_cmp contents.new q ≡ written (tree.get bytes_cmp changes q) (tree.get bytes_cmp contents.old q)) }
     ensures err { OnErr result ((q : List ℕ) → tree.get bytes_cmp contents.new q ≡ tree.get bytes_cmp contents.old q) }
 {

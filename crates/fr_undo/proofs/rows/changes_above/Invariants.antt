@@ -10,6 +10,6 @@ abbrev pub invariant-loop-key : goal.invariant-loop-key
 invariant-loop-key l = record {
   can : (goal.iterator-loop-key).can_next l.key-iterator;
   ends : (goal.iterator-loop-key).is_finite l.key-iterator;
-  know : KnowBefore l.changes l.contents;
+  know : KnowBefore l.changes (tree.get bytes_cmp l.contents);
   first : (q : List ℕ) → option_or (after_of (tree.get bytes_cmp l.changes q)) (first_row q l.key-iterator) ≡ first_row q l.initial.key-iterator;
 }

@@ -1,3 +1,5 @@
+use Rattle.std.specs.BTreeMap as tree
+use Rattle.fr_base.specs.Bytes.{bytes_cmp}
 use Rattle.fr_undo.specs.declared.changes.Change.{Change}
 use Rattle.fr_undo.proofs.RowLemmas.{kept_first, kept_still, kept_new}
 use Rattle.fr_undo.proofs.rows.restore_one.Goals as goal
@@ -7,7 +9,7 @@ returns-in_ok-insert-clause-know c =
     let change : Change = record { before = c.in_ok-held.held; after = c.args.before.now } in
     let k = c.in_ok-copy.ensures in
     let a = c.in_ok-after.ensures in
-    kept_new c.args.contents.now c.args.changes.now c.insert.new.self c.args.key.now change c.requires c.in_ok-held.ensures (λ q. cc (c.in_ok-insert.ensures.updates.0 q, k, a))
+    kept_new (tree.get bytes_cmp c.args.contents.now) c.args.changes.now c.insert.new.self c.args.key.now change c.requires c.in_ok-held.ensures (λ q. cc (c.in_ok-insert.ensures.updates.0 q, k, a))
 
 pub returns-in_ok-insert-clause-kept : goal.returns-in_ok-insert-clause-kept
 returns-in_ok-insert-clause-kept c =
