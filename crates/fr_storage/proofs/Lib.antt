@@ -1,0 +1,12 @@
+pub mod Applied
+pub mod Between
+pub mod Breaks
+pub mod Course
+pub mod Generations
+pub mod Hears
+pub mod Left
+pub mod Marked
+pub mod Peeked
+pub mod Peeks
+pub mod Pieces
+pub mod Shards

@@ -1,0 +1,7 @@
+pub mod Course
+pub mod Follows
+pub mod Law
+pub mod Laws
+pub mod Pull
+pub mod Server
+pub mod Storage

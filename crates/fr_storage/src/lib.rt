@@ -1,0 +1,10 @@
+//! Storage servers: they pull what is logged, and take back what did not survive.
+#![tactic(auto)]
+
+mod fault;
+mod laws;
+mod storage;
+
+pub use fault::StorageFault;
+pub use laws::{course_law, piece_law, storage_law};
+pub use storage::Storage;

@@ -1,0 +1,144 @@
+//! A storage server, and what it tells of itself.
+ghost use Rattle.std.specs.Prelude.{◌≡◌, ◌≢◌, ◌↔◌, ◌||◌, Err, IfOk, IfErr, OnErr, IfSome, IsTrue};
+ghost use Rattle.std.specs.FinMap as map;
+ghost use Rattle.fr_undo.specs.Calls.{IsReadTrouble, LeavesNoMore};
+ghost use Rattle.fr_storage.specs.Storage.{own_epoch, ask_after};
+ghost use Rattle.fr_storage.specs.Server.{IsServer, kept_of, met_store, refusal_of, store_fault};
+
+mod marked;
+mod opening;
+mod peeked;
+
+use crate::fault::StorageFault;
+use fr_base::{Bytes, Epoch, Tag, Version};
+use fr_log::{LogAsk, Most};
+use fr_state::CoordState;
+use fr_undo::{ShardStore, StoreFault};
+use std::alloc::Global;
+use std::marker::Model;
+
+/// How many records a storage server asks a log for at most.
+const MOST: u8 = 100;
+
+/// The storage server of one tag: it pulls the commits of its shard from the logs of the generations, applies
+/// them before it is known that they survive, and takes back exactly what did not when it hears of a later
+/// generation. Beside its store it keeps the coordinated state of its epoch, the version applied and the
+/// floor. It is the storage server of FoundationDB (Zhou et al., SIGMOD 2021, sections 2.3 to 2.5), with undo
+/// rows in its store in place of a window of versions in memory.
+///
+/// A call of the store that is refused leaves the server failed: it keeps what it kept before, and each call
+/// but [`reopen`](Storage::reopen) is answered `Store(Failed)`.
+#[derive(Drop)]
+pub struct Storage<S: ShardStore> {
+    tag: Tag,
+    state: CoordState,
+    applied: Version,
+    floor: Version,
+    store: S,
+    failed: bool,
+}
+
+impl<S: ShardStore> Model for Storage<S> {
+    ghost use Rattle.fr_storage.specs.Server.{Server, IsServer};
+
+    ghost Value = { Server S };
+
+    ghost view = { λ s. record { tag = s.tag; state = s.state; applied = s.applied; floor = s.floor; store = s.store; failed = s.failed } };
+
+    ghost invariant = { λ s. IsServer S.state S.is_failed S.MayLeave (record { tag = s.tag; state = s.state; applied = s.applied; floor = s.floor; store = s.store; failed = s.failed }) };
+}
+
+impl<S: ShardStore> Storage<S> {
+    /// The tag of its shard.
+    pub fn tag(&self) -> Tag
+        ensures { result ≡ self.now.tag }
+    {
+        self.tag
+    }
+
+    /// The coordinated state of its epoch.
+    pub fn state(&self) -> &CoordState
+        ensures { result.now ≡ self.now.state }
+    {
+        &self.state
+    }
+
+    /// Where it stands: its epoch and the version applied last. While it is failed, where it stood before.
+    pub fn position(&self) -> (Epoch, Version)
+        ensures epoch { result.0 ≡ own_epoch self.now.state }
+        ensures version { result.1 ≡ self.now.applied }
+        ensures sound { IsServer S.state S.is_failed S.MayLeave self.now }
+    {
+        (self.state.last().epoch(), self.applied)
+    }
+
+    /// The version down to which it can be undone. While it is failed, the one from before.
+    pub fn floor(&self) -> Version
+        ensures value { result ≡ self.now.floor }
+        ensures sound { IsServer S.state S.is_failed S.MayLeave self.now }
+    {
+        self.floor
+    }
+
+    /// Whether a call of its store was refused, and it was not opened again since.
+    pub fn is_failed(&self) -> bool
+        ensures value { result ≡ self.now.failed }
+        ensures sound { IsServer S.state S.is_failed S.MayLeave self.now }
+    {
+        self.failed
+    }
+
+    /// What it asks next, and the epoch of whose logs it asks it: a peek of its tag after the version applied,
+    /// of the source of the version after that, or of the first generation where there is no source.
+    pub fn next_ask(&self) -> (Epoch, LogAsk)
+        ensures { result ≡ ask_after self.now.state.gens self.now.tag self.now.applied }
+    {
+        let epoch = self.next_source();
+        let Some(most) = Most::new(MOST) else {
+            unreachable!()
+        };
+        let ask = LogAsk::Peek {
+            epoch,
+            tag: self.tag,
+            after: self.applied,
+            most,
+        };
+        (epoch, ask)
+    }
+
+    /// The generation that has the next version.
+    fn next_source(&self) -> Epoch
+        ensures { result ≡ (ask_after self.now.state.gens self.now.tag self.now.applied).0 }
+    {
+        match self.state.source_for(self.applied.get() + 1) {
+            Some(source) => source.epoch(),
+            None => self.state.gens()[0].epoch(),
+        }
+    }
+
+    /// The rows of its shard, in the order of the keys.
+    pub fn dump(&mut self, alloc: Global) -> Result<Vec<(Bytes, Bytes)>, StorageFault>
+        ensures rows { IfOk result (λ rows. rows.items ≡ map.entries (S.state self.old.store).contents) }
+        ensures failed { (result ≡ Err (StorageFault.Store StoreFault.Failed)) ↔ IsTrue self.old.failed }
+        ensures store { refusal_of result ≡ None }
+        ensures trouble { IfSome (store_fault result) (λ fault. fault ≢ StoreFault.Failed → IsReadTrouble S.CanMeet fault) }
+        ensures state { S.state self.new.store ≡ S.state self.old.store }
+        ensures kept { kept_of self.new ≡ kept_of self.old }
+        ensures fails { self.new.failed ≡ (self.old.failed || met_store result) }
+        ensures leaves { LeavesNoMore (S.MayLeave self.old.store) (S.MayLeave self.new.store) }
+    {
+        if self.failed {
+            return Err(StorageFault::Store(StoreFault::Failed));
+        }
+        let rows = self.store.dump(alloc);
+        self.failed = rows.is_err();
+        Ok(rows?)
+    }
+
+    /// Gives the store back.
+    pub fn into_store(self) -> S
+        ensures { result ≡ self.store }
+    {
+        self.store
+    }
+}

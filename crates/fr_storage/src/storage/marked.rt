@@ -1,0 +1,107 @@
+//! A coordinated state is heard: the server goes over to a later epoch.
+ghost use Rattle.std.specs.Prelude.{◌≡◌, ◌≢◌, ◌≤◌, ◌↔◌, ◌||◌, false, [], ◌∷◌, Err, None, OnOk, OnErr, IfErr, IfSome, IsOk, IsTrue};
+ghost use Rattle.fr_state.specs.Spelling.{spelling};
+ghost use Rattle.fr_storage.specs.declared.fault.StorageFault.{StorageFault};
+ghost use Rattle.fr_storage.specs.Storage.{StorageState, UndoTo, SetState, own_epoch, cut_in, is_front, after_calls, marked_fault, marked_calls, after_marked};
+ghost use Rattle.fr_storage.specs.Server.{storage_of, kept_of, met_store, refusal_of, store_fault, IsMarkTrouble, LeavesStages};
+
+use super::Storage;
+use crate::fault::StorageFault;
+use fr_base::{Bytes, Version};
+use fr_state::{CoordState, encode};
+use fr_undo::{ShardStore, StoreFault};
+use std::alloc::Global;
+
+impl<S: ShardStore> Storage<S> {
+    /// Hears the coordinated state of a mark, as a log tells it. Where the own generations are the front of
+    /// the state's, the server undoes what is above the cut of its own epoch, keeps the state, and stands at
+    /// the state's epoch from then on. The own state changes nothing. No other call takes back what was
+    /// applied.
+    pub fn hear_marked(&mut self, alloc: Global, state: CoordState) -> Result<(), StorageFault>
+        ensures ok { OnOk result (storage_of S.state self.new ≡ after_marked (storage_of S.state self.old) state) }
+        ensures position { OnOk result (self.new.applied ≡ (after_marked (storage_of S.state self.old) state).store.applied) }
+        ensures floor { self.new.floor ≡ self.old.floor }
+        ensures failed { (result ≡ Err (StorageFault.Store StoreFault.Failed)) ↔ IsTrue self.old.failed }
+        ensures refused { self.old.failed ≡ false → refusal_of result ≡ marked_fault (storage_of S.state self.old) state }
+        ensures same { met_store result ≡ false → OnErr result (self.new ≡ self.old) }
+        ensures trouble { IfSome (store_fault result) (λ fault. fault ≢ StoreFault.Failed → IsMarkTrouble S.CanMeet S.CanMeetInPlace fault) }
+        ensures idle { self.old.failed ≡ false → marked_fault (storage_of S.state self.old) state ≡ None → marked_calls (storage_of S.state self.old) state ≡ [] → IsOk result }
+        ensures err { OnErr result (kept_of self.new ≡ kept_of self.old) }
+        ensures fails { self.new.failed ≡ (self.old.failed || met_store result) }
+        ensures leaves { self.old.failed ≡ false → LeavesStages (S.MayLeave self.new.store) (S.state self.old.store) (marked_calls (storage_of S.state self.old) state) }
+        ensures still { IsTrue self.old.failed → self.new ≡ self.old }
+    {
+        if self.failed {
+            return Err(StorageFault::Store(StoreFault::Failed));
+        }
+        if let Some(refusal) = self.marked_refusal(&state) {
+            return Err(refusal);
+        }
+        if state == self.state {
+            return Ok(());
+        }
+        let cut = self.cut_in(&state);
+        let moved = move_to(alloc, &mut self.store, cut, &state);
+        self.failed = moved.is_err();
+        moved?;
+        self.state = state;
+        self.applied = self.applied.min(cut);
+        Ok(())
+    }
+
+    /// Why a state is refused, by what the server keeps.
+    fn marked_refusal(&self, state: &CoordState) -> Option<StorageFault>
+        requires { self.now.failed ≡ false }
+        ensures { result ≡ marked_fault (storage_of S.state self.now) state.now }
+    {
+        let own = self.state.last().epoch();
+        if state.last().epoch() < own {
+            return Some(StorageFault::Older);
+        }
+        if *state == self.state {
+            return None;
+        }
+        if !begins_with(state, &self.state) {
+            return Some(StorageFault::Stranger);
+        }
+        if self.cut_in(state) < self.floor {
+            return Some(StorageFault::BelowFloor);
+        }
+        None
+    }
+
+    /// The cut of the own epoch in a later state.
+    fn cut_in(&self, state: &CoordState) -> Version
+        ensures { result ≡ cut_in state.now (own_epoch self.now.state) }
+    {
+        let own = self.state.last().epoch();
+        state.cut_of(own).unwrap_or(Version::ZERO)
+    }
+}
+
+/// Whether the generations of a state begin with those of another.
+fn begins_with(state: &CoordState, front: &CoordState) -> bool
+    ensures { result ≡ is_front front.now.gens state.now.gens }
+{
+    state.gens().starts_with(front.gens())
+}
+
+/// Undoes a store to a version, and sets the bytes of a state.
+fn move_to<S: ShardStore>(
+    alloc: Global,
+    store: &mut S,
+    cut: Version,
+    state: &CoordState,
+) -> Result<(), StoreFault>
+    requires works { S.is_failed store.old ≡ false }
+    requires within { (S.state store.old).floor ≤ cut }
+    ensures ok { OnOk result (S.state store.new ≡ after_calls (S.state store.old) (UndoTo cut ∷ SetState (spelling state.now) ∷ [])) }
+    ensures works { OnOk result (S.is_failed store.new ≡ false) }
+    ensures trouble { IfErr result (IsMarkTrouble S.CanMeet S.CanMeetInPlace) }
+    ensures leaves { LeavesStages (S.MayLeave store.new) (S.state store.old) (UndoTo cut ∷ SetState (spelling state.now) ∷ []) }
+{
+    let bytes = Bytes::from_vec(encode(alloc, state)?);
+    store.undo_to(alloc, cut)?;
+    store.set_state(alloc, bytes)?;
+    Ok(())
+}

@@ -1,0 +1,126 @@
+//! How a storage server begins, and how it is opened again.
+ghost use Rattle.std.specs.Prelude.{◌≡◌, ◌≢◌, ◌⊎◌, ◌↔◌, false, true, Ok, Err, IfOk, IfErr, OnOk, OnErr, IfSome, IsErr, IsTrue, MatchResult};
+ghost use Rattle.fr_undo.specs.Undo.{with_bytes};
+ghost use Rattle.fr_undo.specs.Calls.{IsTrouble, LeavesNoMore};
+ghost use Rattle.fr_state.specs.Generations.{CoordinatedState, IsCoordinatedState};
+ghost use Rattle.fr_state.specs.Reading.{reading};
+ghost use Rattle.fr_state.specs.Spelling.{spelling};
+ghost use Rattle.fr_storage.specs.declared.fault.StorageFault.{StorageFault};
+ghost use Rattle.fr_storage.specs.Storage.{StorageState};
+ghost use Rattle.fr_storage.specs.Server.{storage_of, kept_of, refusal_of, store_fault, IsReadingTrouble, IsOpeningTrouble};
+
+use super::Storage;
+use crate::fault::StorageFault;
+use fr_base::{Bytes, Tag};
+use fr_state::{CoordState, DecodeFault, decode, encode};
+use fr_undo::{ShardStore, StoreFault};
+use std::alloc::Global;
+
+impl<S: ShardStore + Drop> Storage<S> {
+    /// A storage server that begins in a coordinated state, over a store that is fresh: it sets the store's
+    /// state bytes. It stands at the state's epoch and the store's version.
+    pub fn start(
+        alloc: Global,
+        store: S,
+        tag: Tag,
+        state: CoordState,
+    ) -> Result<Self, StorageFault>
+        ensures ok { IfOk result (λ s. storage_of S.state s ≡ record { tag = tag; state = state; store = with_bytes (S.state store) (spelling state) }) }
+        ensures position { IfOk result (λ s. s.applied ≡ (S.state store).applied) }
+        ensures floor { IfOk result (λ s. s.floor ≡ (S.state store).floor) }
+        ensures works { IfOk result (λ s. s.failed ≡ false) }
+        ensures store { refusal_of result ≡ None }
+        ensures failed { (result ≡ Err (StorageFault.Store StoreFault.Failed)) ↔ IsTrue (S.is_failed store) }
+        ensures trouble { IfSome (store_fault result) (λ fault. fault ≢ StoreFault.Failed → IsTrouble S.CanMeetInPlace fault ⊎ (fault ≡ StoreFault.Memory)) }
+    {
+        let mut store = store;
+        let bytes = Bytes::from_vec(encode(alloc, &state)?);
+        store.set_state(alloc, bytes)?;
+        Ok(Storage {
+            tag,
+            state,
+            applied: store.applied(),
+            floor: store.floor(),
+            store,
+            failed: false,
+        })
+    }
+
+    /// The storage server of a store that an earlier one left: it stands at the epoch of the state that the
+    /// store's bytes spell, and at the store's version. `BadState` where they spell none.
+    pub fn adopt(alloc: Global, store: S, tag: Tag) -> Result<Self, StorageFault>
+        ensures tag { IfOk result (λ s. s.tag ≡ tag) }
+        ensures state { IfOk result (λ s. reading (S.state store).bytes ≡ Ok s.state) }
+        ensures store { IfOk result (λ s. S.state s.store ≡ S.state store) }
+        ensures position { IfOk result (λ s. s.applied ≡ (S.state store).applied) }
+        ensures floor { IfOk result (λ s. s.floor ≡ (S.state store).floor) }
+        ensures works { IfOk result (λ s. s.failed ≡ false) }
+        ensures bad_state { (result ≡ Err StorageFault.BadState) → IsErr (reading (S.state store).bytes) }
+        ensures no_other { (refusal_of result ≡ None) ⊎ (result ≡ Err StorageFault.BadState) }
+        ensures failed { (result ≡ Err (StorageFault.Store StoreFault.Failed)) ↔ IsTrue (S.is_failed store) }
+        ensures trouble { IfSome (store_fault result) (λ fault. fault ≢ StoreFault.Failed → IsReadingTrouble S.CanMeet fault) }
+    {
+        let mut store = store;
+        let state = kept_state(alloc, &mut store)?;
+        Ok(Storage {
+            tag,
+            state,
+            applied: store.applied(),
+            floor: store.floor(),
+            store,
+            failed: false,
+        })
+    }
+}
+
+impl<S: ShardStore> Storage<S> {
+    /// Opens the store again, failed or not, and reads position, floor and state from it. The server then
+    /// stands where a crash might have left its store: after a hear that broke off, after some of the calls of
+    /// that hear, in order. A refusal leaves it failed, with what it kept before.
+    pub fn reopen(&mut self, alloc: Global) -> Result<(), StorageFault>
+        ensures found { OnOk result (S.MayLeave self.old.store (S.state self.new.store)) }
+        ensures spelled { OnOk result ((S.state self.new.store).bytes ≡ spelling self.new.state) }
+        ensures state { IsCoordinatedState self.new.state }
+        ensures position { OnOk result (self.new.applied ≡ (S.state self.new.store).applied) }
+        ensures floor { OnOk result (self.new.floor ≡ (S.state self.new.store).floor) }
+        ensures tag { self.new.tag ≡ self.old.tag }
+        ensures works { OnOk result (self.new.failed ≡ false) }
+        ensures store { refusal_of result ≡ None }
+        ensures trouble { IfSome (store_fault result) (IsOpeningTrouble S.CanMeet S.CanMeetInPlace) }
+        ensures err { OnErr result (kept_of self.new ≡ kept_of self.old) }
+        ensures fails { OnErr result (self.new.failed ≡ true) }
+        ensures leaves { LeavesNoMore (S.MayLeave self.old.store) (S.MayLeave self.new.store) }
+    {
+        self.failed = true;
+        self.store.reopen(alloc)?;
+        let state = kept_state(alloc, &mut self.store)?;
+        self.state = state;
+        self.applied = self.store.applied();
+        self.floor = self.store.floor();
+        self.failed = false;
+        Ok(())
+    }
+}
+
+/// The coordinated state that the bytes of a store spell.
+fn kept_state<S: ShardStore>(alloc: Global, store: &mut S) -> Result<CoordState, StorageFault>
+    ensures state { IfOk result (λ state. reading (S.state store.old).bytes ≡ Ok state) }
+    ensures spelled { IfOk result (λ state. IsCoordinatedState state × ((S.state store.old).bytes ≡ spelling state)) }
+    ensures only { (state : CoordinatedState) → IsCoordinatedState state → (S.state store.old).bytes ≡ spelling state → refusal_of result ≡ None }
+    ensures bad_state { (result ≡ Err StorageFault.BadState) → IsErr (reading (S.state store.old).bytes) }
+    ensures no_other { (refusal_of result ≡ None) ⊎ (result ≡ Err StorageFault.BadState) }
+    ensures failed { (result ≡ Err (StorageFault.Store StoreFault.Failed)) ↔ IsTrue (S.is_failed store.old) }
+    ensures trouble { IfSome (store_fault result) (λ fault. fault ≢ StoreFault.Failed → IsReadingTrouble S.CanMeet fault) }
+    ensures same { OnOk result (S.state store.new ≡ S.state store.old) }
+    ensures works { OnOk result (S.is_failed store.new ≡ false) }
+    ensures leaves { LeavesNoMore (S.MayLeave store.old) (S.MayLeave store.new) }
+{
+    let bytes = store.state_bytes(alloc)?;
+    match decode(alloc, bytes.as_slice()) {
+        Ok(state) => Ok(state),
+        Err(DecodeFault::Memory) => Err(StorageFault::Store(StoreFault::Memory)),
+        Err(DecodeFault::Short) => Err(StorageFault::BadState),
+        Err(DecodeFault::BadForm) => Err(StorageFault::BadState),
+        Err(DecodeFault::Trailing) => Err(StorageFault::BadState),
+    }
+}
