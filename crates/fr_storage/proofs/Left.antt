@@ -1,14 +1,14 @@
 -- What a crash may leave after calls of a store: a store on the way of the calls.
-use Rattle.std.proofs.Common.{◌≡◌, ℕ, zero, suc, ◌<◌, ◌≤◌, Bool, true, false, max, min, nat_lt, List, [], ◌∷◌, ◌++◌, map, length, cond, inl, inr, refl, sym, ap, ◌∙◌, subst, arith}
-use Rattle.std.specs.Prelude.{◌⊎◌, ◌↔◌, Contains, Result, Err, fold}
+use Rattle.std.proofs.Common.{◌≡◌, ℕ, zero, suc, ◌<◌, ◌≤◌, Bool, true, false, max, min, nat_lt, ◌||◌, List, [], ◌∷◌, ◌++◌, map, length, cond, inl, inr, refl, sym, ap, ◌∙◌, subst, arith}
+use Rattle.std.specs.Prelude.{◌⊎◌, Contains, Result, Ok, Err, OnErr, IsOk}
 use Rattle.std.proofs.lemmas.Bool.{ltb-true, ltb-false}
 use Rattle.fr_undo.specs.declared.fault.StoreFault.{StoreFault}
 use Rattle.fr_undo.specs.declared.fault.StoreFault.TheVariants.{Device, Full, Failed, Memory, NotAfter, BelowFloor, AboveApplied}
 use Rattle.fr_undo.specs.State.{StoreState}
-use Rattle.fr_undo.specs.Calls.{is_device, met_device, LeavesOneOf}
+use Rattle.fr_undo.specs.Calls.{is_device, met_device, LeavesOneOf, StaysUnlessFailed, LeftAsIs, Writes}
 use Rattle.fr_log.specs.declared.records.PeekedRecord.{PeekedRecord}
 use Rattle.fr_storage.specs.Storage.{Call, Advance, called, after_calls, stages, apply_of, reached, advance_calls, forget_calls}
-use Rattle.fr_storage.specs.Server.{LeavesStages}
+use Rattle.fr_storage.specs.Server.{IsWhole, LeavesStages}
 
 -- ---- stages
 
@@ -37,6 +37,16 @@ pub after_both : (s : StoreState) (calls more : List Call) → after_calls s (ca
 after_both s [] more = refl
 after_both s (call ∷ calls) more = after_both (called s call) calls more
 
+-- what holds anyhow holds at an error
+pub on_err : {T E P : Type 0} (r : Result T E) → P → OnErr r P
+on_err (Ok x) p = tt
+on_err (Err fault) p = p
+
+-- what failed is not done
+pub not_ok : {T E P : Type 0} (r : Result T E) (fault : E) → r ≡ Err fault → IsOk r → P
+not_ok (Ok x) fault e ok = absurd cc
+not_ok (Err other) fault e ok = absurd cc
+
 -- ---- what a call leaves
 
 -- where one of two stores is left, it is a stage of the call between them
@@ -55,28 +65,39 @@ pub last_stage : (s : StoreState) (calls : List Call) → Contains (stages s cal
 last_stage s [] = (0, omega arith, refl)
 last_stage s (call ∷ calls) = next_stage s call calls (after_calls s (call ∷ calls)) (last_stage (called s call) calls)
 
-module _ {S : Type 0} (state_of : S → StoreState) (is_failed : S → Bool) (MayLeave : S → StoreState → Type 0)
-    (left_as_is : (store : S) (x : StoreState) → is_failed store ≡ false → (MayLeave store x ↔ (x ≡ state_of store))) where
-  -- a store that works is left as it is
-  pub left_whole : (store : S) → is_failed store ≡ false → (left : StoreState) → MayLeave store left → left ≡ state_of store
-  left_whole store works left = (left_as_is store left works).0
+-- a call that was refused leaves the store before it or the one after it
+pub refused_call : {S : Type 0} (state_of : S → StoreState) (is_failed : S → Bool) (MayLeave : S → StoreState → Type 0) (old new : S) (after : StoreState) (result : Result (Unit {0}) StoreFault) (fault : StoreFault)
+    → result ≡ Err fault → is_failed old ≡ false → Writes state_of is_failed MayLeave old new after result → LeavesOneOf (MayLeave new) (state_of old) after
+refused_call state_of is_failed MayLeave old new after result fault e works writes = go fault e (writes.fails ∙ (λ i. works i || met_device (e i)))
+  where
+    whole : (r : Result (Unit {0}) StoreFault) → (fault : StoreFault) → r ≡ Err fault → OnErr r (StaysUnlessFailed (is_failed new) (state_of old) (state_of new)) → StaysUnlessFailed (is_failed new) (state_of old) (state_of new)
+    whole (Ok x) fault e same = absurd cc
+    whole (Err other) fault e same = same
 
-  -- a call that was refused leaves the store before it or the one after it
-  pub refused_call : (new : S) (before after : StoreState) (result : Result (Unit {0}) StoreFault) (fault : StoreFault) → result ≡ Err fault
-      → is_failed new ≡ met_device result → (is_failed new ≡ false → state_of new ≡ before) → (result ≡ Err Device → LeavesOneOf (MayLeave new) before after) → LeavesOneOf (MayLeave new) before after
-  refused_call new before after result fault e fails same device = go fault e (fails ∙ ap met_device e)
-    where
-      whole : is_failed new ≡ false → LeavesOneOf (MayLeave new) before after
-      whole works left may = inl (left_whole new works left may ∙ same works)
+    left : is_failed new ≡ false → LeavesOneOf (MayLeave new) (state_of old) after
+    left fine x may = inl ((writes.left_as_is fine x).0 may ∙ whole result fault e writes.err fine)
 
-      go : (fault : StoreFault) → result ≡ Err fault → is_failed new ≡ is_device fault → LeavesOneOf (MayLeave new) before after
-      go Device e k = device e
-      go Full e k = whole k
-      go Failed e k = whole k
-      go Memory e k = whole k
-      go NotAfter e k = whole k
-      go BelowFloor e k = whole k
-      go AboveApplied e k = whole k
+    go : (fault : StoreFault) → result ≡ Err fault → is_failed new ≡ is_device fault → LeavesOneOf (MayLeave new) (state_of old) after
+    go Device e k = writes.device e
+    go Full e k = left k
+    go Failed e k = left k
+    go Memory e k = left k
+    go NotAfter e k = left k
+    go BelowFloor e k = left k
+    go AboveApplied e k = left k
+
+-- so it leaves a stage of that call and of those that were to follow
+pub refused_stages : {S : Type 0} (state_of : S → StoreState) (is_failed : S → Bool) (MayLeave : S → StoreState → Type 0) (old new : S) (call : Call) (calls : List Call) (result : Result (Unit {0}) StoreFault) (fault : StoreFault)
+    → result ≡ Err fault → IsWhole state_of is_failed MayLeave old → Writes state_of is_failed MayLeave old new (called (state_of old) call) result → LeavesStages (MayLeave new) (state_of old) (call ∷ calls)
+refused_stages state_of is_failed MayLeave old new call calls result fault e whole writes =
+    one_call (MayLeave new) (state_of old) call calls (refused_call state_of is_failed MayLeave old new (called (state_of old) call) result fault e whole.works writes)
+
+-- a call that was not refused leaves the store working
+pub whole_after : {S : Type 0} (state_of : S → StoreState) (is_failed : S → Bool) (MayLeave : S → StoreState → Type 0) (old new : S) (after : StoreState) (result : Result (Unit {0}) StoreFault) (x : Unit {0})
+    → result ≡ Ok x → IsWhole state_of is_failed MayLeave old → Writes state_of is_failed MayLeave old new after result → IsWhole state_of is_failed MayLeave new
+whole_after state_of is_failed MayLeave old new after result x e whole writes =
+    let works : is_failed new ≡ false = writes.fails ∙ (λ i. whole.works i || met_device (e i)) in
+    record { works = works; left = λ left may. (writes.left_as_is works left).0 may }
 
 -- ---- versions and floors on the way
 

@@ -9,4 +9,5 @@ pub mod Marked
 pub mod Peeked
 pub mod Peeks
 pub mod Pieces
+pub mod Pulls
 pub mod Shards

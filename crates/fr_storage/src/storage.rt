@@ -1,7 +1,7 @@
 //! A storage server, and what it tells of itself.
 ghost use Rattle.std.specs.Prelude.{◌≡◌, ◌≢◌, ◌↔◌, ◌||◌, Err, IfOk, IfErr, OnErr, IfSome, IsTrue};
 ghost use Rattle.std.specs.FinMap as map;
-ghost use Rattle.fr_undo.specs.Calls.{IsReadTrouble, LeavesNoMore};
+ghost use Rattle.fr_undo.specs.Calls.{IsTrouble, StaysUnlessFailed, LeavesNoMore};
 ghost use Rattle.fr_storage.specs.Storage.{own_epoch, ask_after};
 ghost use Rattle.fr_storage.specs.Server.{IsServer, kept_of, met_store, refusal_of, store_fault};
 
@@ -121,8 +121,8 @@ impl<S: ShardStore> Storage<S> {
         ensures rows { IfOk result (λ rows. rows.items ≡ map.entries (S.state self.old.store).contents) }
         ensures failed { (result ≡ Err (StorageFault.Store StoreFault.Failed)) ↔ IsTrue self.old.failed }
         ensures store { refusal_of result ≡ None }
-        ensures trouble { IfSome (store_fault result) (λ fault. fault ≢ StoreFault.Failed → IsReadTrouble S.CanMeet fault) }
-        ensures state { S.state self.new.store ≡ S.state self.old.store }
+        ensures trouble { IfSome (store_fault result) (λ fault. fault ≢ StoreFault.Failed → IsTrouble S.CanMeet fault) }
+        ensures state { StaysUnlessFailed self.new.failed (S.state self.old.store) (S.state self.new.store) }
         ensures kept { kept_of self.new ≡ kept_of self.old }
         ensures fails { self.new.failed ≡ (self.old.failed || met_store result) }
         ensures leaves { LeavesNoMore (S.MayLeave self.old.store) (S.MayLeave self.new.store) }

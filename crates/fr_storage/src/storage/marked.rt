@@ -3,7 +3,7 @@ ghost use Rattle.std.specs.Prelude.{◌≡◌, ◌≢◌, ◌≤◌, ◌↔◌, 
 ghost use Rattle.fr_state.specs.Spelling.{spelling};
 ghost use Rattle.fr_storage.specs.declared.fault.StorageFault.{StorageFault};
 ghost use Rattle.fr_storage.specs.Storage.{StorageState, UndoTo, SetState, own_epoch, cut_in, is_front, after_calls, marked_fault, marked_calls, after_marked};
-ghost use Rattle.fr_storage.specs.Server.{storage_of, kept_of, met_store, refusal_of, store_fault, IsMarkTrouble, LeavesStages};
+ghost use Rattle.fr_storage.specs.Server.{storage_of, kept_of, met_store, refusal_of, store_fault, IsMarkTrouble, IsWhole, LeavesStages};
 
 use super::Storage;
 use crate::fault::StorageFault;
@@ -93,12 +93,12 @@ fn move_to<S: ShardStore>(
     cut: Version,
     state: &CoordState,
 ) -> Result<(), StoreFault>
-    requires works { S.is_failed store.old ≡ false }
+    requires whole { IsWhole S.state S.is_failed S.MayLeave store.old }
     requires within { (S.state store.old).floor ≤ cut }
     ensures ok { OnOk result (S.state store.new ≡ after_calls (S.state store.old) (UndoTo cut ∷ SetState (spelling state.now) ∷ [])) }
-    ensures works { OnOk result (S.is_failed store.new ≡ false) }
+    ensures whole { OnOk result (IsWhole S.state S.is_failed S.MayLeave store.new) }
     ensures trouble { IfErr result (IsMarkTrouble S.CanMeet S.CanMeetInPlace) }
-    ensures leaves { LeavesStages (S.MayLeave store.new) (S.state store.old) (UndoTo cut ∷ SetState (spelling state.now) ∷ []) }
+    ensures leaves { OnErr result (LeavesStages (S.MayLeave store.new) (S.state store.old) (UndoTo cut ∷ SetState (spelling state.now) ∷ [])) }
 {
     let bytes = Bytes::from_vec(encode(alloc, state)?);
     store.undo_to(alloc, cut)?;

@@ -34,6 +34,9 @@ impl<S: ShardStore + Drop> Storage<S> {
         ensures trouble { IfSome (store_fault result) (λ fault. fault ≢ StoreFault.Failed → IsTrouble S.CanMeetInPlace fault ⊎ (fault ≡ StoreFault.Memory)) }
     {
         let mut store = store;
+        if store.is_failed() {
+            return Err(StorageFault::Store(StoreFault::Failed));
+        }
         let bytes = Bytes::from_vec(encode(alloc, &state)?);
         store.set_state(alloc, bytes)?;
         Ok(Storage {

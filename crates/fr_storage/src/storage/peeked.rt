@@ -4,7 +4,7 @@ ghost use Rattle.fr_undo.specs.Calls.{IsTrouble};
 ghost use Rattle.fr_log.specs.Peeked.{PeekedContent, is_rising_from};
 ghost use Rattle.fr_storage.specs.declared.fault.StorageFault.{StorageFault};
 ghost use Rattle.fr_storage.specs.Storage.{StorageState, is_within, cut_at, records_between, reached, apply_of, advance_calls, forget_calls, after_calls, new_records, peeked_fault, peeked_calls, after_peeked};
-ghost use Rattle.fr_storage.specs.Server.{storage_of, kept_of, met_store, refusal_of, store_fault, IsCallTrouble, LeavesStages};
+ghost use Rattle.fr_storage.specs.Server.{storage_of, kept_of, met_store, refusal_of, store_fault, IsCallTrouble, IsWhole, LeavesStages};
 ghost use Rattle.fr_storage.specs.Pull.{pull_calls};
 
 use super::Storage;
@@ -114,14 +114,14 @@ fn pull<S: ShardStore>(
     reach: &Reach,
     peeked: &Peeked,
 ) -> Result<(), StoreFault>
-    requires works { S.is_failed store.old ≡ false }
+    requires whole { IsWhole S.state S.is_failed S.MayLeave store.old }
     requires applied { reach.now.applied ≡ (S.state store.old).applied }
     ensures ok { OnOk result (S.state store.new ≡ after_calls (S.state store.old) (pull_calls (S.state store.old) reach.now.end peeked.now)) }
-    ensures works { OnOk result (S.is_failed store.new ≡ false) }
+    ensures whole { OnOk result (IsWhole S.state S.is_failed S.MayLeave store.new) }
     ensures trouble { IfErr result (IsCallTrouble S.CanMeet S.CanMeetInPlace) }
     ensures in_place { records_between (S.state store.old).applied reach.now.end peeked.now.records ≡ [] → IfErr result (IsTrouble S.CanMeetInPlace) }
     ensures idle { pull_calls (S.state store.old) reach.now.end peeked.now ≡ [] → IsOk result }
-    ensures leaves { LeavesStages (S.MayLeave store.new) (S.state store.old) (pull_calls (S.state store.old) reach.now.end peeked.now) }
+    ensures leaves { OnErr result (LeavesStages (S.MayLeave store.new) (S.state store.old) (pull_calls (S.state store.old) reach.now.end peeked.now)) }
 {
     apply_new(alloc, store, reach, peeked.records())?;
     advance_to(store, reach.cut(peeked.upto()))?;
@@ -136,14 +136,14 @@ fn apply_new<S: ShardStore>(
     reach: &Reach,
     records: &[PeekedRecord],
 ) -> Result<(), StoreFault>
-    requires works { S.is_failed store.old ≡ false }
+    requires whole { IsWhole S.state S.is_failed S.MayLeave store.old }
     requires applied { reach.now.applied ≡ (S.state store.old).applied }
     requires rise { IsTrue (is_rising_from 0 records.now) }
     ensures ok { OnOk result (S.state store.new ≡ after_calls (S.state store.old) (map apply_of (records_between reach.now.applied reach.now.end records.now))) }
-    ensures works { OnOk result (S.is_failed store.new ≡ false) }
+    ensures whole { OnOk result (IsWhole S.state S.is_failed S.MayLeave store.new) }
     ensures trouble { IfErr result (IsTrouble S.CanMeet) }
     ensures idle { records_between reach.now.applied reach.now.end records.now ≡ [] → IsOk result }
-    ensures leaves { LeavesStages (S.MayLeave store.new) (S.state store.old) (map apply_of (records_between reach.now.applied reach.now.end records.now)) }
+    ensures leaves { OnErr result (LeavesStages (S.MayLeave store.new) (S.state store.old) (map apply_of (records_between reach.now.applied reach.now.end records.now))) }
 {
     for record in records {
         if reach.takes(record.version) {
@@ -155,12 +155,12 @@ fn apply_new<S: ShardStore>(
 
 /// Advances a store to a version, where that is above the one applied.
 fn advance_to<S: ShardStore>(store: &mut S, target: Version) -> Result<(), StoreFault>
-    requires works { S.is_failed store.old ≡ false }
+    requires whole { IsWhole S.state S.is_failed S.MayLeave store.old }
     ensures ok { OnOk result (S.state store.new ≡ after_calls (S.state store.old) (advance_calls (S.state store.old).applied target)) }
-    ensures works { OnOk result (S.is_failed store.new ≡ false) }
+    ensures whole { OnOk result (IsWhole S.state S.is_failed S.MayLeave store.new) }
     ensures trouble { IfErr result (IsTrouble S.CanMeetInPlace) }
     ensures idle { advance_calls (S.state store.old).applied target ≡ [] → IsOk result }
-    ensures leaves { LeavesStages (S.MayLeave store.new) (S.state store.old) (advance_calls (S.state store.old).applied target) }
+    ensures leaves { OnErr result (LeavesStages (S.MayLeave store.new) (S.state store.old) (advance_calls (S.state store.old).applied target)) }
 {
     if store.applied() < target {
         store.advance(target)?;
@@ -175,12 +175,12 @@ fn forget_known<S: ShardStore>(
     store: &mut S,
     known: Version,
 ) -> Result<(), StoreFault>
-    requires works { S.is_failed store.old ≡ false }
+    requires whole { IsWhole S.state S.is_failed S.MayLeave store.old }
     ensures ok { OnOk result (S.state store.new ≡ after_calls (S.state store.old) (forget_calls (S.state store.old).floor (min known (S.state store.old).applied))) }
-    ensures works { OnOk result (S.is_failed store.new ≡ false) }
+    ensures whole { OnOk result (IsWhole S.state S.is_failed S.MayLeave store.new) }
     ensures trouble { IfErr result (IsTrouble S.CanMeetInPlace) }
     ensures idle { forget_calls (S.state store.old).floor (min known (S.state store.old).applied) ≡ [] → IsOk result }
-    ensures leaves { LeavesStages (S.MayLeave store.new) (S.state store.old) (forget_calls (S.state store.old).floor (min known (S.state store.old).applied)) }
+    ensures leaves { OnErr result (LeavesStages (S.MayLeave store.new) (S.state store.old) (forget_calls (S.state store.old).floor (min known (S.state store.old).applied))) }
 {
     let through = known.min(store.applied());
     if store.floor() < through {

@@ -2,12 +2,13 @@ use Rattle.std.proofs.Common.{◌≡◌, ◌+◌, ◌⊎◌, false, [], drop, ma
 use Rattle.fr_undo.specs.State.{StoreState}
 use Rattle.fr_log.specs.Peeked.{is_rising_from}
 use Rattle.fr_storage.specs.Storage.{records_between, apply_of, after_calls, stages}
+use Rattle.fr_storage.specs.Server.{IsWhole}
 use Rattle.fr_storage.proofs.Applied.{Lies}
 use Rattle.fr_storage.proofs.storage.peeked.apply_new.Given as goal
 
 -- what is left of the records, applied to the store so far, is all of them applied to the first store
 abbrev pub invariant-loop-record : goal.invariant-loop-record
 invariant-loop-record g l = record {
-  works : g.S.ShardStore.is_failed l.store ≡ false;
+  whole : IsWhole g.S.ShardStore.state g.S.ShardStore.is_failed g.S.ShardStore.MayLeave l.store;
   lies : Lies (g.S.ShardStore.state l.initial.store) (g.S.ShardStore.state l.store) l.reach.applied l.reach.end l.records (drop l.record-index l.records);
 }
