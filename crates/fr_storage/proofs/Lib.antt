@@ -9,5 +9,7 @@ pub mod Marked
 pub mod Peeked
 pub mod Peeks
 pub mod Pieces
+pub mod Positions
 pub mod Pulls
+pub mod Servers
 pub mod Shards

@@ -3,7 +3,7 @@ use Rattle.std.specs.Prelude.{◌≡◌, ◌⊎◌, ℕ, Bool, true, false, List
 use Rattle.fr_undo.specs.declared.fault.StoreFault.{StoreFault}
 use Rattle.fr_undo.specs.declared.fault.StoreFault.TheVariants.{Memory}
 use Rattle.fr_undo.specs.State.{StoreState}
-use Rattle.fr_undo.specs.Calls.{IsTrouble, LeftAsIs}
+use Rattle.fr_undo.specs.Calls.{IsTrouble}
 use Rattle.fr_state.specs.Generations.{CoordinatedState, IsCoordinatedState}
 use Rattle.fr_state.specs.Spelling.{spelling}
 use Rattle.fr_storage.specs.declared.fault.StorageFault.{StorageFault}
@@ -38,13 +38,17 @@ kept_of s = record { tag = s.tag; state = s.state; applied = s.applied; floor = 
 abbrev pub IsSpelled : List ℕ → Type 0
 IsSpelled bytes = (state : CoordinatedState) × IsCoordinatedState state × (bytes ≡ spelling state)
 
--- a crash leaves a store that is not failed as it is; each store that opening the server again may find spells a state; and while the server is not failed its store works, spells the state that
+-- a store works: it is not failed, and a crash leaves it as it is
+pub record IsWhole {S : Type 0} (state_of : S → StoreState) (is_failed : S → Bool) (MayLeave : S → StoreState → Type 0) (store : S) : Type 0 where
+  pub works : is_failed store ≡ false
+  pub left : (left : StoreState) → MayLeave store left → left ≡ state_of store
+
+-- each store that opening the server again may find spells a state; and while the server is not failed its store works, spells the state that
 -- the server keeps, and has the version applied and the floor that it keeps
 pub record IsServer {S : Type 0} (state_of : S → StoreState) (is_failed : S → Bool) (MayLeave : S → StoreState → Type 0) (s : Server S) : Type 0 where
   pub state : IsCoordinatedState s.state
-  pub left_as_is : LeftAsIs (is_failed s.store) (state_of s.store) (MayLeave s.store)
   pub spelled : (left : StoreState) → MayLeave s.store left → IsSpelled left.bytes
-  pub works : s.failed ≡ false → is_failed s.store ≡ false
+  pub whole : s.failed ≡ false → IsWhole state_of is_failed MayLeave s.store
   pub bytes : s.failed ≡ false → (state_of s.store).bytes ≡ spelling s.state
   pub applied : s.failed ≡ false → (state_of s.store).applied ≡ s.applied
   pub floor : s.failed ≡ false → (state_of s.store).floor ≡ s.floor
@@ -99,11 +103,6 @@ IsReadingTrouble CanMeet fault = IsTrouble CanMeet fault ⊎ (fault ≡ Memory)
 -- trouble when a store is opened again and its state is read
 abbrev pub IsOpeningTrouble : (StoreFault → Type 0) → (StoreFault → Type 0) → StoreFault → Type 0
 IsOpeningTrouble CanMeet CanMeetInPlace fault = IsTrouble CanMeetInPlace fault ⊎ IsReadingTrouble CanMeet fault
-
--- a store works: it is not failed, and a crash leaves it as it is
-pub record IsWhole {S : Type 0} (state_of : S → StoreState) (is_failed : S → Bool) (MayLeave : S → StoreState → Type 0) (store : S) : Type 0 where
-  pub works : is_failed store ≡ false
-  pub left : (left : StoreState) → MayLeave store left → left ≡ state_of store
 
 -- each state that a crash may leave is one on the way of calls
 abbrev pub LeavesStages : (StoreState → Type 0) → StoreState → List Call → Type 0

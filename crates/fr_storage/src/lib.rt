@@ -6,5 +6,5 @@ mod laws;
 mod storage;
 
 pub use fault::StorageFault;
-pub use laws::{course_law, piece_law, storage_law};
+pub use laws::{follow_law, piece_law, position_law, storage_law};
 pub use storage::Storage;

@@ -130,9 +130,13 @@ impl<S: ShardStore> Storage<S> {
         if self.failed {
             return Err(StorageFault::Store(StoreFault::Failed));
         }
-        let rows = self.store.dump(alloc);
-        self.failed = rows.is_err();
-        Ok(rows?)
+        match self.store.dump(alloc) {
+            Ok(rows) => Ok(rows),
+            Err(fault) => {
+                self.failed = true;
+                Err(StorageFault::Store(fault))
+            }
+        }
     }
 
     /// Gives the store back.

@@ -1,5 +1,6 @@
 //! A coordinated state is heard: the server goes over to a later epoch.
 ghost use Rattle.std.specs.Prelude.{◌≡◌, ◌≢◌, ◌≤◌, ◌↔◌, ◌||◌, false, [], ◌∷◌, Err, None, OnOk, OnErr, IfErr, IfSome, IsOk, IsTrue};
+ghost use Rattle.fr_state.specs.Same.{is_same_state};
 ghost use Rattle.fr_state.specs.Spelling.{spelling};
 ghost use Rattle.fr_storage.specs.declared.fault.StorageFault.{StorageFault};
 ghost use Rattle.fr_storage.specs.Storage.{StorageState, UndoTo, SetState, own_epoch, cut_in, is_front, after_calls, marked_fault, marked_calls, after_marked};
@@ -8,7 +9,7 @@ ghost use Rattle.fr_storage.specs.Server.{storage_of, kept_of, met_store, refusa
 use super::Storage;
 use crate::fault::StorageFault;
 use fr_base::{Bytes, Version};
-use fr_state::{CoordState, encode};
+use fr_state::{CoordState, encode, equal_law};
 use fr_undo::{ShardStore, StoreFault};
 use std::alloc::Global;
 
@@ -37,16 +38,21 @@ impl<S: ShardStore> Storage<S> {
         if let Some(refusal) = self.marked_refusal(&state) {
             return Err(refusal);
         }
-        if state == self.state {
+        if self.keeps(&state) {
             return Ok(());
         }
         let cut = self.cut_in(&state);
-        let moved = move_to(alloc, &mut self.store, cut, &state);
-        self.failed = moved.is_err();
-        moved?;
-        self.state = state;
-        self.applied = self.applied.min(cut);
-        Ok(())
+        match move_to(alloc, &mut self.store, cut, &state) {
+            Ok(()) => {
+                self.state = state;
+                self.applied = self.applied.min(cut);
+                Ok(())
+            }
+            Err(fault) => {
+                self.failed = true;
+                Err(StorageFault::Store(fault))
+            }
+        }
     }
 
     /// Why a state is refused, by what the server keeps.
@@ -58,7 +64,7 @@ impl<S: ShardStore> Storage<S> {
         if state.last().epoch() < own {
             return Some(StorageFault::Older);
         }
-        if *state == self.state {
+        if self.keeps(state) {
             return None;
         }
         if !begins_with(state, &self.state) {
@@ -68,6 +74,15 @@ impl<S: ShardStore> Storage<S> {
             return Some(StorageFault::BelowFloor);
         }
         None
+    }
+
+    /// Whether a state is the one that the server keeps.
+    fn keeps(&self, state: &CoordState) -> bool
+        ensures value { result ≡ is_same_state state.now self.now.state }
+        ensures same { IsTrue result → state.now ≡ self.now.state }
+    {
+        equal_law();
+        *state == self.state
     }
 
     /// The cut of the own epoch in a later state.

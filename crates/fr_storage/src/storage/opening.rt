@@ -7,7 +7,7 @@ ghost use Rattle.fr_state.specs.Reading.{reading};
 ghost use Rattle.fr_state.specs.Spelling.{spelling};
 ghost use Rattle.fr_storage.specs.declared.fault.StorageFault.{StorageFault};
 ghost use Rattle.fr_storage.specs.Storage.{StorageState};
-ghost use Rattle.fr_storage.specs.Server.{storage_of, kept_of, refusal_of, store_fault, IsReadingTrouble, IsOpeningTrouble};
+ghost use Rattle.fr_storage.specs.Server.{storage_of, kept_of, refusal_of, store_fault, IsReadingTrouble, IsOpeningTrouble, IsWhole};
 
 use super::Storage;
 use crate::fault::StorageFault;
@@ -115,7 +115,7 @@ fn kept_state<S: ShardStore>(alloc: Global, store: &mut S) -> Result<CoordState,
     ensures failed { (result ≡ Err (StorageFault.Store StoreFault.Failed)) ↔ IsTrue (S.is_failed store.old) }
     ensures trouble { IfSome (store_fault result) (λ fault. fault ≢ StoreFault.Failed → IsReadingTrouble S.CanMeet fault) }
     ensures same { OnOk result (S.state store.new ≡ S.state store.old) }
-    ensures works { OnOk result (S.is_failed store.new ≡ false) }
+    ensures whole { OnOk result (IsWhole S.state S.is_failed S.MayLeave store.new) }
     ensures leaves { LeavesNoMore (S.MayLeave store.old) (S.MayLeave store.new) }
 {
     let bytes = store.state_bytes(alloc)?;

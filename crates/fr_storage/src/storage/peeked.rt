@@ -50,12 +50,17 @@ impl<S: ShardStore> Storage<S> {
             applied: self.applied,
             end: self.state.end_of(epoch),
         };
-        let pulled = pull(alloc, &mut self.store, &reach, peeked);
-        self.failed = pulled.is_err();
-        pulled?;
-        self.applied = self.store.applied();
-        self.floor = self.store.floor();
-        Ok(())
+        match pull(alloc, &mut self.store, &reach, peeked) {
+            Ok(()) => {
+                self.applied = self.store.applied();
+                self.floor = self.store.floor();
+                Ok(())
+            }
+            Err(fault) => {
+                self.failed = true;
+                Err(StorageFault::Store(fault))
+            }
+        }
     }
 
     /// Why an answer of a log of an epoch is refused, by what the server keeps.

@@ -1,0 +1,1 @@
+use Rattle.fr_storage.proofs.Servers.{taken}
