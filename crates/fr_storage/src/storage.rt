@@ -10,10 +10,10 @@ mod opening;
 mod peeked;
 
 use crate::fault::StorageFault;
-use fr_base::{Bytes, Epoch, Tag, Version};
+use fr_base::{Bytes, Epoch, Memory, Tag, Version};
 use fr_log::{LogAsk, Most};
 use fr_state::CoordState;
-use fr_undo::{ShardStore, StoreFault};
+use fr_undo::{MapStore, ShardStore, StoreFault};
 use std::alloc::Global;
 use std::marker::Model;
 
@@ -144,5 +144,21 @@ impl<S: ShardStore> Storage<S> {
         ensures { result ≡ self.store }
     {
         self.store
+    }
+}
+
+impl Storage<MapStore> {
+    /// An equal server.
+    pub fn copy(&self, alloc: Global) -> Result<Self, Memory>
+        ensures { IfOk result (λ copy. copy ≡ self.now) }
+    {
+        Ok(Storage {
+            tag: self.tag,
+            state: self.state.copy()?,
+            applied: self.applied,
+            floor: self.floor,
+            store: self.store.copy(alloc)?,
+            failed: self.failed,
+        })
     }
 }

@@ -1,7 +1,9 @@
-//! Tests of the nodes' protocol: worked examples, and the order of refusals.
+//! Tests of the nodes' protocol: worked examples, the order of refusals, and calls that broke off.
 #![tactic(auto)]
 
 #[cfg(test)]
 mod commit;
 #[cfg(test)]
 mod sequencer;
+#[cfg(test)]
+mod storage;

@@ -19,12 +19,7 @@ use std::alloc::Global;
 impl<S: ShardStore + Drop> Storage<S> {
     /// A storage server that begins in a coordinated state, over a store that is fresh: it sets the store's
     /// state bytes. It stands at the state's epoch and the store's version.
-    pub fn start(
-        alloc: Global,
-        store: S,
-        tag: Tag,
-        state: CoordState,
-    ) -> Result<Self, StorageFault>
+    pub fn start(alloc: Global, store: S, tag: Tag, state: CoordState) -> Result<Self, StorageFault>
         ensures ok { IfOk result (λ s. storage_of S.state s ≡ record { tag = tag; state = state; store = with_bytes (S.state store) (spelling state) }) }
         ensures position { IfOk result (λ s. s.applied ≡ (S.state store).applied) }
         ensures floor { IfOk result (λ s. s.floor ≡ (S.state store).floor) }
