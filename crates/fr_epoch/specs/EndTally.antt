@@ -1,0 +1,69 @@
+-- The end of an epoch: what it is of the replies to its locks.
+use Rattle.std.specs.Prelude.{ℕ, Bool, nat_lt, ◌==◌, ◌&&◌, not, List, [], ◌∷◌, ◌++◌, map, fold, min, max, Option, None, Some, Result, Ok, Err, if◌then◌else◌}
+use Rattle.std.specs.List.{list_any}
+use Rattle.fr_tags.specs.Placement.{covers}
+use Rattle.fr_epoch.specs.declared.reply.Reply.{Reply}
+use Rattle.fr_epoch.specs.declared.end.EpochEnd.{EpochEnd}
+use Rattle.fr_epoch.specs.declared.end.Inconsistent.{Inconsistent}
+use Rattle.fr_epoch.specs.declared.end.ReplyFault.{ReplyFault}
+use Rattle.fr_epoch.specs.declared.end.ReplyFault.TheVariants.{Stranger, Differs}
+
+-- a tally of replies: the m and k of the locked generation, and the replies, the first one first
+pub record EndState : Type 0 where
+  pub m : ℕ
+  pub k : ℕ
+  pub replies : List Reply
+
+abbrev pub new_end : ℕ → ℕ → EndState
+new_end m k = record { m = m; k = k; replies = [] }
+
+-- whether a log has replied
+abbrev pub has_replied : EndState → ℕ → Bool
+has_replied s log = list_any (λ r. r.log == log) s.replies
+
+-- the first reply of each log of the generation counts
+abbrev pub with_reply : EndState → Reply → EndState
+with_reply s r = if nat_lt r.log s.m && not (has_replied s r.log) then record s { replies = s.replies ++ r ∷ [] } else s
+
+-- whether a reply is another one of the same log
+abbrev pub is_other : Reply → Reply → Bool
+is_other r q = (q.log == r.log) && not ((q.durable == r.durable) && (q.known == r.known))
+
+-- whether the log told otherwise before
+abbrev pub differs : EndState → Reply → Bool
+differs s r = list_any (is_other r) s.replies
+
+-- a tally after one more reply, or why it is refused
+abbrev pub heard_reply : EndState → Reply → Result EndState ReplyFault
+heard_reply s r = if nat_lt r.log s.m then (if differs s r then Err Differs else Ok (with_reply s r)) else Err Stranger
+
+-- the logs that replied
+abbrev pub responders : EndState → List ℕ
+responders s = map (λ r. r.log) s.replies
+
+-- whether the replies cover
+abbrev pub is_covered : EndState → Bool
+is_covered s = covers s.m s.k (responders s)
+
+-- the greatest known of the replies
+abbrev pub greatest_known : List Reply → ℕ
+greatest_known replies = fold (λ v r. max v r.known) 0 replies
+
+-- the least durable of the replies, 0 where there is none
+abbrev pub least_durable : List Reply → ℕ
+least_durable [] = 0
+least_durable (r ∷ replies) = fold (λ v q. min v q.durable) r.durable replies
+
+-- the end of the epoch: through pev all is known to be committed, and nothing above rv is
+abbrev pub pev_of : EndState → ℕ
+pev_of s = greatest_known s.replies
+
+abbrev pub rv_of : EndState → ℕ
+rv_of s = least_durable s.replies
+
+-- the end that the replies tell: none before they cover, and none where what one log knows to be committed another does not hold
+abbrev pub end_of : EndState → Result (Option EpochEnd) Inconsistent
+end_of s =
+    if is_covered s
+    then (if nat_lt (rv_of s) (pev_of s) then Err (record {}) else Ok (Some (record { pev = pev_of s; rv = rv_of s })))
+    else Ok None

@@ -1,0 +1,7 @@
+pub mod EndTally
+pub mod Recoverer
+pub mod Words
+pub mod Hear
+pub mod Asks
+pub mod Change
+pub mod Law
