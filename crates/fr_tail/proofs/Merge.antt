@@ -1,12 +1,14 @@
 -- The tags of a copy are merged by taking the least record that is left.
-use Rattle.std.proofs.Common.{◌≡◌, ℕ, zero, suc, ◌+◌, ◌<◌, ◌≤◌, ◌⊎◌, Bool, true, false, cond, ◌∷◌, [], ◌++◌, List, length, get_or, set, drop, map, flat_map, nat_lt, Option, None, Some, refl, sym, ◌∙◌, ap, subst, inl, inr, arith}
+use Rattle.std.proofs.Common.{◌≡◌, ℕ, zero, suc, ◌+◌, ◌<◌, ◌≤◌, ◌⊎◌, Bool, true, false, cond, ◌∷◌, [], ◌++◌, List, length, get_or, set, drop, map, flat_map, replicate, append_assoc, nat_lt, Option, None, Some, refl, sym, ◌∙◌, ap, subst, inl, inr, arith}
 use Rattle.std.specs.List.{AllByRecursion, range_with_len}
 use Rattle.std.proofs.Math.Seq.{drop-cons}
 use Rattle.std.proofs.lemmas.Bool.{cases_eq, cases_lt, cases_order, ltb-true, ltb-false}
+use Rattle.fr_mutation.specs.declared.mutation.Mutation.{Mutation}
 use Rattle.std.proofs.lemmas.List.{append-nil, get_or-set_same, get_or-set_other, drop_all, length-set}
 use Rattle.fr_log.specs.declared.records.PeekedRecord.{PeekedRecord}
 use Rattle.fr_log.specs.declared.records.SeedRecord.{SeedRecord}
-use Rattle.fr_tail.specs.Tail.{TailState, part_at, as_seed_record, placed, in_order}
+use Rattle.fr_tail.specs.Tail.{TailState, part_at, as_seed_record, records_for, placed, in_order}
+use Rattle.fr_tags.specs.Placement.{is_held}
 use Rattle.fr_tail.specs.Shape.{IsPart, IsTail}
 use Rattle.fr_tail.specs.Merging.{taken_of, left_of, all_left, HasLeft, first_left, IsLeast, IsLeastOf, lesser_of}
 use Rattle.fr_tail.proofs.Rising.{Rises, rises_lower, rises_from_test, AllAbove, Below, all_append, placed_below, all_in_order, in_order_past}
@@ -213,3 +215,66 @@ merge_ends s taken none = flat_same (left_of s taken) (λ u. []) 0 (length s.par
     nothing : (first n : ℕ) → flat_map {A = SeedRecord} (λ u. []) (range_with_len first n) ≡ []
     nothing first zero = refl
     nothing first (suc n) = nothing (first + 1) n
+
+-- ---- what a log is not to have
+
+pub none_taken : (n t : ℕ) → let none : List ℕ = replicate n 0 in get_or none t 0 ≡ 0
+none_taken zero t = refl
+none_taken (suc n) zero = refl
+none_taken (suc n) (suc t) = none_taken n t
+
+pub take_all_of : (s : TailState) (m k log n : ℕ) (taken : List ℕ) → ((t : ℕ) → t < n → left_of s taken t ≡ records_for s m k log t) → ((t : ℕ) → n ≤ t → taken_of taken t ≡ 0) → n < length taken
+    → is_held n m k log ≡ false → (t : ℕ) → t < n + 1 → left_of s (set taken n (length (part_at s n).records)) t ≡ records_for s m k log t
+take_all_of s m k log n taken done rest within other t less = elim (cases_eq t n) [
+  | inl same ↦ subst (λ u. left_of s (set taken n (length (part_at s n).records)) u ≡ records_for s m k log u) (sym same)
+      (ap (λ c. map (as_seed_record n) (drop c (part_at s n).records)) (get_or-set_same taken n (length (part_at s n).records) 0 within)
+      ∙ ap (map (as_seed_record n)) (drop_all (length (part_at s n).records) (part_at s n).records (omega arith))
+      ∙ sym (ap (λ b. cond b (map (as_seed_record n) (part_at s n).records) []) other))
+  | inr apart ↦ ap (λ c. map (as_seed_record t) (drop c (part_at s t).records)) (get_or-set_other taken n t (length (part_at s n).records) 0 apart) ∙ done t (below t less apart)
+]
+  where
+    below : (t : ℕ) → t < n + 1 → (t ≡ n → ⊥) → t < n
+    below t less apart = elim (cases_order t n) [
+      | inl same ↦ absurd (apart same)
+      | inr (inl lower) ↦ lower
+      | inr (inr more) ↦ absurd (omega (arith, more, less))
+    ]
+
+pub take_none_of : (s : TailState) (m k log n : ℕ) (taken : List ℕ) → ((t : ℕ) → t < n → left_of s taken t ≡ records_for s m k log t) → ((t : ℕ) → n ≤ t → taken_of taken t ≡ 0)
+    → is_held n m k log ≡ true → (t : ℕ) → t < n + 1 → left_of s taken t ≡ records_for s m k log t
+take_none_of s m k log n taken done rest own t less = elim (cases_lt t n) [
+  | inl lower ↦ done t lower
+  | inr le ↦ (let same : t ≡ n = omega (arith, le, less) in subst (λ u. left_of s taken u ≡ records_for s m k log u) (sym same)
+      (ap (λ c. map (as_seed_record n) (drop c (part_at s n).records)) (rest n (omega arith)) ∙ sym (ap (λ b. cond b (map (as_seed_record n) (part_at s n).records) []) own)))
+]
+
+-- nothing is taken of those that are left
+pub rest_untaken : (n value : ℕ) (taken : List ℕ) → ((t : ℕ) → n ≤ t → taken_of taken t ≡ 0) → (t : ℕ) → n + 1 ≤ t → taken_of (set taken n value) t ≡ 0
+rest_untaken n value taken rest t more = get_or-set_other taken n t value 0 (λ e. absurd (omega (arith, e, more))) ∙ rest t (omega (arith, more))
+
+-- ---- the loop that merges
+
+pub merge_less : (s : TailState) → IsTail s → (taken : List ℕ) (version t : ℕ) (d : PeekedRecord) → IsLeast s taken (length s.parts) version t → t < length taken
+    → length (in_order (all_left s (set taken t (taken_of taken t + 1)))) < length (in_order (all_left s taken))
+merge_less s shape taken version t d k within = let e = ap length (merge_step s shape taken version t d k within) in omega (arith, e)
+
+pub merge_more : (s : TailState) → IsTail s → (taken : List ℕ) (version t : ℕ) (d : PeekedRecord) → IsLeast s taken (length s.parts) version t → t < length taken
+    → (done new all : List SeedRecord) (r : SeedRecord) → done ++ in_order (all_left s taken) ≡ all → r ≡ as_seed_record t (get_or (part_at s t).records (taken_of taken t) d) → new ≡ done ++ r ∷ []
+    → new ++ in_order (all_left s (set taken t (taken_of taken t + 1))) ≡ all
+merge_more s shape taken version t d k within done new all r so_far is pushed =
+    ap (λ rs. rs ++ in_order (all_left s (set taken t (taken_of taken t + 1)))) (pushed ∙ ap (λ q. done ++ q ∷ []) is)
+    ∙ append_assoc done (as_seed_record t (get_or (part_at s t).records (taken_of taken t) d) ∷ []) (in_order (all_left s (set taken t (taken_of taken t + 1))))
+    ∙ ap (λ rs. done ++ rs) (sym (merge_step s shape taken version t d k within))
+    ∙ so_far
+
+pub merge_done : (s : TailState) (taken : List ℕ) (done all : List SeedRecord) → IsLeastOf s taken (length s.parts) None → done ++ in_order (all_left s taken) ≡ all → done ≡ all
+merge_done s taken done all none so_far = sym (append-nil done) ∙ ap (λ rs. done ++ in_order rs) (sym (merge_ends s taken none)) ∙ so_far
+
+-- a seed's record, field by field
+pub seed_record_is : (s : TailState) (taken : List ℕ) (t : ℕ) (d q : PeekedRecord) (version tag : ℕ) (batch : List Mutation) → q ≡ get_or (part_at s t).records (taken_of taken t) d → version ≡ q.version → tag ≡ t → batch ≡ q.batch
+    → record { version = version; tag = tag; batch = batch } ≡ as_seed_record t (get_or (part_at s t).records (taken_of taken t) d)
+seed_record_is s taken t d q version tag batch is v u b =
+    ap (λ x. let r : SeedRecord = record { version = x; tag = tag; batch = batch } in r) v
+    ∙ ap (λ x. let r : SeedRecord = record { version = q.version; tag = x; batch = batch } in r) u
+    ∙ ap (λ x. let r : SeedRecord = record { version = q.version; tag = t; batch = x } in r) b
+    ∙ ap (as_seed_record t) is

@@ -3,12 +3,14 @@ use Rattle.std.proofs.Common.{◌≡◌, ℕ, zero, suc, ◌+◌, ◌<◌, ◌�
 use Rattle.std.specs.Prelude.{IsTrue, filter}
 use Rattle.std.specs.List.{AllByRecursion, list_all, range_with_len}
 use Rattle.std.proofs.lemmas.Bool.{and_from, cases_eq, le-leb}
-use Rattle.std.proofs.lemmas.List.{get_or-set_same, get_or-set_other, length-set}
+use Rattle.std.proofs.lemmas.List.{get_or-set_same, get_or-set_other, get_or_default, length-set}
 use Rattle.fr_tags.specs.Placement.{is_held}
 use Rattle.fr_log.specs.declared.records.PeekedRecord.{PeekedRecord}
 use Rattle.fr_log.specs.declared.records.SeedRecord.{SeedRecord}
 use Rattle.fr_log.specs.Peeked.{PeekedContent, IsPeeked}
-use Rattle.fr_log.specs.Seed.{IsSeed, is_rising_from, is_within}
+use Rattle.fr_log.specs.Seed.{SeedContent, IsSeed, is_rising_from, is_within}
+use Rattle.fr_tail.specs.Merging.{left_of, all_left}
+use Rattle.fr_tail.proofs.Merge.{flat_left_same}
 use Rattle.fr_tail.specs.Tail.{TailState, TagPart, part_at, new_part, new_tail, longer, with_part, as_seed_record, records_for, in_order, seed_for}
 use Rattle.fr_tail.specs.Shape.{IsPart, IsTail}
 use Rattle.fr_tail.specs.Copied.{SeedRises}
@@ -140,3 +142,57 @@ seed_is_seed s epoch m k log shape =
       within = within_test s.pev s.rv 0 (in_order (flat_map (records_for s m k log) (range_with_len 0 (length s.parts))))
           (all_in_order (IsOf s.pev s.rv 0) (flat_map (records_for s m k log) (range_with_len 0 (length s.parts))) all.0);
     }
+
+-- ---- the parts of a new copy
+
+range_more : (first n : ℕ) → range_with_len first (suc n) ≡ range_with_len first n ++ (first + n) ∷ []
+range_more first zero = ap (λ x. x ∷ []) (let e : first ≡ first + 0 = omega arith in e)
+range_more first (suc n) = ap (λ xs. first ∷ xs) (range_more (first + 1) n ∙ ap (λ x. range_with_len (first + 1) n ++ x ∷ []) (let e : (first + 1) + n ≡ first + suc n = omega arith in e))
+
+map_made : (pev : ℕ) (xs : List ℕ) (x : ℕ) → map (λ t. new_part pev) (xs ++ x ∷ []) ≡ map (λ t. new_part pev) xs ++ new_part pev ∷ []
+map_made pev [] x = refl
+map_made pev (y ∷ xs) x = ap (λ ps. new_part pev ∷ ps) (map_made pev xs x)
+
+pub new_parts_more : (pev n : ℕ) (parts new : List TagPart) (p : TagPart) → parts ≡ map (λ t. new_part pev) (range_with_len 0 n) → p ≡ new_part pev → new ≡ parts ++ p ∷ []
+    → new ≡ map (λ t. new_part pev) (range_with_len 0 (n + 1))
+new_parts_more pev n parts new p so_far is pushed =
+    pushed ∙ ap (λ ps. ps ++ p ∷ []) so_far ∙ ap (λ q. map (λ t. new_part pev) (range_with_len 0 n) ++ q ∷ []) is
+    ∙ sym (ap (λ k. map (λ t. new_part pev) (range_with_len 0 k)) (let e : n + 1 ≡ suc n = omega arith in e) ∙ ap (map (λ t. new_part pev)) (range_more 0 n) ∙ map_made pev (range_with_len 0 n) (0 + n))
+
+made_count : (pev first n : ℕ) → length (map (λ t. new_part pev) (range_with_len first n)) ≡ n
+made_count pev first zero = refl
+made_count pev first (suc n) = ap suc (made_count pev (first + 1) n)
+
+pub new_parts_count : (pev tags n : ℕ) (parts : List TagPart) → n ≡ tags → parts ≡ map (λ t. new_part pev) (range_with_len 0 n)
+    → (parts ≡ map (λ t. new_part pev) (range_with_len 0 tags)) × (length parts ≡ tags)
+new_parts_count pev tags n parts e is = let all = is ∙ ap (λ k. map (λ t. new_part pev) (range_with_len 0 k)) e in (all, ap length all ∙ made_count pev 0 tags)
+
+-- a part that goes on, field by field
+pub longer_is : (rv old : ℕ) (records : List PeekedRecord) (peeked : PeekedContent) (reached : ℕ) (new kept : List PeekedRecord) → reached ≡ min peeked.upto rv
+    → kept ≡ filter (λ r. nat_le r.version rv) peeked.records → new ≡ records ++ kept
+    → record { reached = reached; records = new } ≡ longer rv (record { reached = old; records = records }) peeked
+longer_is rv old records peeked reached new kept at is pushed =
+    ap (λ v. let p : TagPart = record { reached = v; records = new } in p) at
+    ∙ ap (λ rs. let p : TagPart = record { reached = min peeked.upto rv; records = rs } in p) (pushed ∙ ap (λ rs. records ++ rs) is)
+
+pub free_at : (a b : ℕ) (peeked : PeekedContent) → a ≡ b → filter (λ r. nat_le r.version b) peeked.records ≡ [] → filter (λ r. nat_le r.version a) peeked.records ≡ []
+free_at a b peeked e none = ap (λ v. filter (λ r. nat_le r.version v) peeked.records) e ∙ none
+
+-- a copy whose part of a tag goes on
+pub longer_kept : (s t : TailState) (tag : ℕ) (old new : TagPart) (peeked : PeekedContent) → IsTail s → s ≡ t → tag < length t.parts → IsPeeked peeked → peeked.after ≡ (part_at t tag).reached → (part_at t tag).reached < t.rv → peeked.after < peeked.upto
+    → old ≡ get_or s.parts tag old → new ≡ longer s.rv old peeked → IsTail (with_part s tag new)
+longer_kept s t tag old new peeked shape same below is at short rises was grown =
+    let own = subst (λ (x : TailState). tag < length x.parts) (sym same) below in
+    let part : old ≡ part_at s tag = was ∙ get_or_default s.parts tag old (new_part s.pev) own in
+    with_part_is_tail s tag new shape own
+    (subst (IsPart s.pev s.rv) (sym (grown ∙ ap (λ p. longer s.rv p peeked) part))
+    (longer_is_part s.pev s.rv (part_at s tag) peeked (shape.parts tag own) is (subst (λ (x : TailState). peeked.after ≡ (part_at x tag).reached) (sym same) at) (subst (λ (x : TailState). (part_at x tag).reached < x.rv) (sym same) short) rises))
+
+-- what is merged from what a log is not to have untaken is its seed
+pub seed_is : (s : TailState) (epoch m k log : ℕ) (taken : List ℕ) (first seeded_to : ℕ) (records : List SeedRecord) → first ≡ s.pev + 1 → seeded_to ≡ s.rv
+    → ((t : ℕ) → t < length s.parts → left_of s taken t ≡ records_for s m k log t) → records ≡ in_order (all_left s taken)
+    → record { epoch = epoch; first = first; seeded_to = seeded_to; records = records } ≡ seed_for s epoch m k log
+seed_is s epoch m k log taken first seeded_to records low high same merged =
+    ap (λ v. let c : SeedContent = record { epoch = epoch; first = v; seeded_to = seeded_to; records = records } in c) low
+    ∙ ap (λ v. let c : SeedContent = record { epoch = epoch; first = s.pev + 1; seeded_to = v; records = records } in c) high
+    ∙ ap (λ rs. let c : SeedContent = record { epoch = epoch; first = s.pev + 1; seeded_to = s.rv; records = rs } in c) (merged ∙ ap in_order (flat_left_same s taken (records_for s m k log) same))

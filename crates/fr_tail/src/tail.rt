@@ -1,5 +1,6 @@
 //! The copy of the records that an epoch takes over.
 ghost use Rattle.std.specs.Prelude.{◌≡◌, ◌+◌, ◌<◌, ◌≤◌, ◌^◌, length, nat_le, filter, [], Ok, Err, IfOk, IfErr, OnErr, IsOk};
+ghost use Rattle.fr_log.specs.Peeked.{IsPeeked};
 ghost use Rattle.fr_tail.specs.Tail.{new_tail, is_complete, is_responder, part_at, with_part, longer, heard};
 ghost use Rattle.fr_tail.specs.Refusals.{IsRefusal};
 ghost use Rattle.fr_tail.specs.Shape.{IsTail};
@@ -100,6 +101,7 @@ impl Tail {
     /// Takes an answer that goes on from what is copied of a tag.
     fn take(&mut self, number: usize, peeked: Peeked) -> Result<(), Memory>
         requires tag { number < length self.old.parts }
+        requires sound { IsPeeked peeked }
         requires next { peeked.after ≡ (part_at self.old number).reached }
         requires short { (part_at self.old number).reached < self.old.rv }
         requires rises { peeked.after < peeked.upto }
@@ -107,7 +109,8 @@ impl Tail {
         ensures err { OnErr result (self.new ≡ self.old) }
         ensures free { filter (λ r. nat_le r.version self.old.rv) peeked.records ≡ [] → IsOk result }
     {
-        self.parts[number].go_on(self.rv, peeked)
+        self.parts[number].go_on(self.rv, peeked)?;
+        Ok(())
     }
 
     /// Whether a log replied and holds the tag, of which there is one.
