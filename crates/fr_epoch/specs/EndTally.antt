@@ -1,5 +1,5 @@
 -- The end of an epoch: what it is of the replies to its locks.
-use Rattle.std.specs.Prelude.{ℕ, Bool, nat_lt, ◌==◌, ◌&&◌, not, List, [], ◌∷◌, ◌++◌, map, fold, min, max, Option, None, Some, Result, Ok, Err, if◌then◌else◌}
+use Rattle.std.specs.Prelude.{ℕ, Bool, false, nat_lt, ◌==◌, ◌&&◌, not, List, [], ◌∷◌, ◌++◌, map, fold, min, max, Option, None, Some, Result, Ok, Err, if◌then◌else◌}
 use Rattle.std.specs.List.{list_any}
 use Rattle.fr_tags.specs.Placement.{covers}
 use Rattle.fr_epoch.specs.declared.reply.Reply.{Reply}
@@ -25,13 +25,18 @@ has_replied s log = list_any (λ r. r.log == log) s.replies
 abbrev pub with_reply : EndState → Reply → EndState
 with_reply s r = if nat_lt r.log s.m && not (has_replied s r.log) then record s { replies = s.replies ++ r ∷ [] } else s
 
--- whether a reply is another one of the same log
-abbrev pub is_other : Reply → Reply → Bool
-is_other r q = (q.log == r.log) && not ((q.durable == r.durable) && (q.known == r.known))
+-- the first reply of a log
+abbrev pub reply_of : List Reply → ℕ → Option Reply
+reply_of [] log = None
+reply_of (r ∷ rs) log = if r.log == log then Some r else reply_of rs log
+
+abbrev pub differs_from : Reply → Option Reply → Bool
+differs_from r None = false
+differs_from r (Some q) = not ((q.durable == r.durable) && (q.known == r.known))
 
 -- whether the log told otherwise before
 abbrev pub differs : EndState → Reply → Bool
-differs s r = list_any (is_other r) s.replies
+differs s r = differs_from r (reply_of s.replies r.log)
 
 -- a tally after one more reply, or why it is refused
 abbrev pub heard_reply : EndState → Reply → Result EndState ReplyFault

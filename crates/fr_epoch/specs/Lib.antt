@@ -1,4 +1,5 @@
 pub mod EndTally
+pub mod EndLaw
 pub mod Recoverer
 pub mod Words
 pub mod Hear

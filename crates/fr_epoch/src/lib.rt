@@ -2,10 +2,12 @@
 #![tactic(auto)]
 
 mod end;
+mod end_tally;
 pub mod laws;
 mod reply;
 mod why;
 
+pub use end_tally::EndTally;
 pub use end::{EpochEnd, Inconsistent, ReplyFault};
 pub use reply::Reply;
 pub use why::LostWhy;

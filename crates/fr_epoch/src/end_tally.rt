@@ -1,0 +1,202 @@
+//! The tally of the replies to locks.
+ghost use Rattle.std.specs.Prelude.{◌≡◌, ◌≤◌, ◌<◌, ◌↔◌, true, false, Ok, Err, IfOk, OnErr};
+ghost use Rattle.fr_epoch.specs.EndTally.{new_end, reply_of, heard_reply, with_reply, differs, has_replied, is_covered, responders, pev_of, rv_of, end_of, greatest_known, least_durable};
+ghost use Rattle.fr_epoch.specs.EndLaw.{IsEnd};
+
+use crate::end::{EpochEnd, Inconsistent, ReplyFault};
+use crate::reply::Reply;
+use fr_base::Version;
+use fr_tags::{MAX_LOGS, covers};
+use std::marker::Model;
+
+/// How many logs can reply at most.
+const PLACES: usize = 16;
+
+/// What stands where no reply is yet.
+const NO_REPLY: Reply = Reply {
+    log: 0,
+    durable: Version::ZERO,
+    known: Version::ZERO,
+};
+
+/// The replies of the locked logs of a generation, of which the first of each log counts. None of its
+/// calls takes memory. Once the replies cover, as more than `m - k` of the logs do, among them is a
+/// holder of each tag, and they tell the end of the epoch: `pev` is the greatest version that one of
+/// them knows to be committed, `rv` the least that all of them hold. Modelled on FoundationDB's
+/// recovery (Zhou et al., SIGMOD 2021, section 2.4). Contracts see it as the list of the replies.
+#[derive(Debug, Drop)]
+pub struct EndTally {
+    m: u8,
+    k: u8,
+    places: [Reply; PLACES],
+    count: usize,
+}
+
+impl Model for EndTally {
+    ghost use Rattle.std.specs.Prelude.{take};
+    ghost use Rattle.fr_epoch.specs.EndTally.{EndState};
+    ghost use Rattle.fr_epoch.specs.EndLaw.{IsKept};
+
+    ghost Value = { EndState };
+
+    ghost view = { λ t. record { m = t.m; k = t.k; replies = take t.count t.places } };
+
+    ghost invariant = { λ t. IsKept t.m t.k t.count t.places };
+}
+
+impl EndTally {
+    /// A tally without replies, of a generation of `m` logs on `k` of which each tag stands.
+    pub fn new(m: u8, k: u8) -> Self
+        requires some { 1 ≤ k }
+        requires fits { k ≤ m }
+        requires limit { m ≤ MAX_LOGS }
+        ensures { result ≡ new_end m k }
+    {
+        EndTally {
+            m,
+            k,
+            places: [NO_REPLY; PLACES],
+            count: 0,
+        }
+    }
+
+    /// Hears what the log of this number replied to its lock. The same reply again changes nothing.
+    pub fn hear(&mut self, index: u8, durable: Version, known: Version) -> Result<(), ReplyFault>
+        ensures ok { IfOk result (λ _. heard_reply self.old (record { log = index; durable = durable; known = known }) ≡ Ok self.new) }
+        ensures stranger { (result ≡ Err ReplyFault.Stranger) ↔ (self.old.m ≤ index) }
+        ensures differs { (result ≡ Err ReplyFault.Differs) ↔ ((index < self.old.m) × (differs self.old (record { log = index; durable = durable; known = known }) ≡ true)) }
+        ensures kept { OnErr result (self.new ≡ self.old) }
+        ensures counted { self.new ≡ with_reply self.old (record { log = index; durable = durable; known = known }) }
+    {
+        if index >= self.m {
+            return Err(ReplyFault::Stranger);
+        }
+        let reply = Reply {
+            log: index,
+            durable,
+            known,
+        };
+        match self.reply_of(index) {
+            Some(held) => {
+                if held.durable == durable && held.known == known {
+                    Ok(())
+                } else {
+                    Err(ReplyFault::Differs)
+                }
+            }
+            None => {
+                self.add(reply);
+                Ok(())
+            }
+        }
+    }
+
+    /// Counts the first reply of a log.
+    fn add(&mut self, reply: Reply)
+        requires below { reply.log < self.old.m }
+        requires first { has_replied self.old reply.log ≡ false }
+        ensures { self.new ≡ with_reply self.old reply }
+    {
+        self.places[self.count] = reply;
+        self.count += 1;
+    }
+
+    /// The reply of a log, if it is counted.
+    fn reply_of(&self, log: u8) -> Option<Reply>
+        ensures { result ≡ reply_of self.now.replies log }
+    {
+        for reply in self.replies() {
+            if reply.log == log {
+                return Some(*reply);
+            }
+        }
+        None
+    }
+
+    /// The replies that are counted, the first one first.
+    pub fn replies(&self) -> &[Reply]
+        ensures value { result.now ≡ self.now.replies }
+        ensures sound { IsEnd self.now }
+    {
+        &self.places[..self.count]
+    }
+
+    /// Whether a reply of this log is counted.
+    pub fn has_replied(&self, log: u8) -> bool
+        ensures { result ≡ has_replied self.now log }
+    {
+        self.replies().iter().any(|reply| reply.log == log)
+    }
+
+    /// Whether the replies cover.
+    pub fn is_covered(&self) -> bool
+        ensures { result ≡ is_covered self.now }
+    {
+        let mut logs = [0; PLACES];
+        for i in 0..self.count {
+            logs[i] = self.places[i].log;
+        }
+        covers(self.m, self.k, &logs[..self.count])
+    }
+
+    /// The end of the epoch: `None` until the replies cover.
+    pub fn end(&self) -> Result<Option<EpochEnd>, Inconsistent>
+        ensures { result ≡ end_of self.now }
+    {
+        if !self.is_covered() {
+            return Ok(None);
+        }
+        let pev = greatest_known(self.replies());
+        let rv = least_durable(self.replies());
+        if rv < pev {
+            Err(Inconsistent)
+        } else {
+            Ok(Some(EpochEnd { pev, rv }))
+        }
+    }
+
+    /// An equal tally. It takes no memory.
+    pub fn copy(&self) -> Self
+        ensures { result ≡ self.now }
+    {
+        let mut places = [NO_REPLY; PLACES];
+        for i in 0..self.count {
+            places[i] = self.places[i];
+        }
+        EndTally {
+            m: self.m,
+            k: self.k,
+            places,
+            count: self.count,
+        }
+    }
+}
+
+/// The greatest version that one of the logs knows to be committed.
+fn greatest_known(replies: &[Reply]) -> Version
+    ensures { result ≡ greatest_known replies.now }
+{
+    let mut greatest = Version::ZERO;
+    for reply in replies {
+        if greatest < reply.known {
+            greatest = reply.known;
+        }
+    }
+    greatest
+}
+
+/// The greatest version that all of the logs hold, 0 where there is none.
+fn least_durable(replies: &[Reply]) -> Version
+    ensures { result ≡ least_durable replies.now }
+{
+    let [first, others @ ..] = replies else {
+        return Version::ZERO;
+    };
+    let mut least = first.durable;
+    for reply in others {
+        if reply.durable < least {
+            least = reply.durable;
+        }
+    }
+    least
+}
