@@ -1,15 +1,15 @@
 -- The tags of a copy are merged by taking the least record that is left.
 use Rattle.std.proofs.Common.{◌≡◌, ℕ, zero, suc, ◌+◌, ◌<◌, ◌≤◌, ◌⊎◌, Bool, true, false, cond, ◌∷◌, [], ◌++◌, List, length, get_or, set, drop, map, flat_map, replicate, append_assoc, nat_lt, Option, None, Some, refl, sym, ◌∙◌, ap, subst, inl, inr, arith}
-use Rattle.std.specs.List.{AllByRecursion, range_with_len}
+use Rattle.std.specs.List.{range_with_len}
 use Rattle.std.proofs.Math.Seq.{drop-cons}
 use Rattle.std.proofs.lemmas.Bool.{cases_eq, cases_lt, cases_order, ltb-true, ltb-false}
 use Rattle.fr_mutation.specs.declared.mutation.Mutation.{Mutation}
-use Rattle.std.proofs.lemmas.List.{append-nil, get_or-set_same, get_or-set_other, drop_all, length-set}
+use Rattle.std.proofs.lemmas.List.{append-nil, get_or-set_same, get_or-set_other, drop_all}
 use Rattle.fr_log.specs.declared.records.PeekedRecord.{PeekedRecord}
 use Rattle.fr_log.specs.declared.records.SeedRecord.{SeedRecord}
 use Rattle.fr_tail.specs.Tail.{TailState, part_at, as_seed_record, records_for, placed, in_order}
 use Rattle.fr_tags.specs.Placement.{is_held}
-use Rattle.fr_tail.specs.Shape.{IsPart, IsTail}
+use Rattle.fr_tail.specs.Shape.{IsTail}
 use Rattle.fr_tail.specs.Merging.{taken_of, left_of, all_left, HasLeft, first_left, IsLeast, IsLeastOf, lesser_of}
 use Rattle.fr_tail.proofs.Rising.{Rises, rises_lower, rises_from_test, AllAbove, Below, all_append, placed_below, all_in_order, in_order_past}
 
@@ -146,7 +146,7 @@ rest_rises least k rs d less h =
 -- the least record that is left is the first in order, and the others stay
 pub merge_step : (s : TailState) → IsTail s → (taken : List ℕ) (version t : ℕ) (d : PeekedRecord) → IsLeast s taken (length s.parts) version t → t < length taken
     → in_order (all_left s taken)
-      ≡ as_seed_record t (get_or (part_at s t).records (taken_of taken t) d) ∷ in_order (all_left s (set taken t (taken_of taken t + 1)))
+    ≡ as_seed_record t (get_or (part_at s t).records (taken_of taken t) d) ∷ in_order (all_left s (set taken t (taken_of taken t + 1)))
 merge_step s shape taken version t d k within =
     take_first (left_of s taken) (left_of s next) r t front same 0 (length s.parts) (omega arith) (omega (arith, k.below)) above
   where
@@ -181,18 +181,23 @@ merge_step s shape taken version t d k within =
         let e = k.version_is d in
         let q = as_seed_record u (get_or (part_at s u).records (taken_of taken u) d) in
         let ahead : Below r q = head (k.least u d below has) e in
-        subst (AllAbove r) (sym (left_is s taken u d has))
-        (ahead, rising_above r u ((get_or (part_at s u).records (taken_of taken u) d).version + 1) (drop (suc (taken_of taken u)) (part_at s u).records) (low (k.least u d below has) e)
-        (rest_rises (s.pev + 1) (taken_of taken u) (part_at s u).records d has (rising u below)))
+        subst (AllAbove r) (sym (left_is s taken u d has)) (
+          ahead,
+          rising_above r u ((get_or (part_at s u).records (taken_of taken u) d).version + 1) (drop (suc (taken_of taken u)) (part_at s u).records) (low (k.least u d below has) e)
+              (rest_rises (s.pev + 1) (taken_of taken u) (part_at s u).records d has (rising u below)),
+        )
       where
         head : (version < first_left s taken u d) ⊎ ((version ≡ first_left s taken u d) × (t ≤ u)) → first_left s taken t d ≡ version
             → Below r (as_seed_record u (get_or (part_at s u).records (taken_of taken u) d))
         head (inl less) e = inl (omega (arith, less, e))
-        head (inr (is, le)) e = inr (e ∙ is, elim (cases_order t u) [
-          | inl at ↦ absurd (other (sym at))
-          | inr (inl less) ↦ less
-          | inr (inr more) ↦ absurd (omega (arith, more, le))
-        ])
+        head (inr (is, le)) e = inr (
+          e ∙ is,
+          elim (cases_order t u) [
+            | inl at ↦ absurd (other (sym at))
+            | inr (inl less) ↦ less
+            | inr (inr more) ↦ absurd (omega (arith, more, le))
+          ],
+        )
 
         low : (version < first_left s taken u d) ⊎ ((version ≡ first_left s taken u d) × (t ≤ u)) → first_left s taken t d ≡ version
             → r.version < (get_or (part_at s u).records (taken_of taken u) d).version + 1
@@ -203,9 +208,9 @@ merge_step s shape taken version t d k within =
     above u low high = elim (cases_eq u t) [
       | inl here ↦ subst (λ v. AllAbove r (left_of s next v)) (sym here) own_above
       | inr other ↦ subst (AllAbove r) (same u other) (elim (cases_lt (taken_of taken u) (length (part_at s u).records)) [
-          | inl has ↦ first_above u other (omega (arith, high)) has
-          | inr past ↦ subst (λ rs. AllAbove r (map (as_seed_record u) rs)) (sym (drop_all (taken_of taken u) (part_at s u).records past)) tt
-        ])
+        | inl has ↦ first_above u other (omega (arith, high)) has
+        | inr past ↦ subst (λ rs. AllAbove r (map (as_seed_record u) rs)) (sym (drop_all (taken_of taken u) (part_at s u).records past)) tt
+      ])
     ]
 
 -- where none is left of any tag, none is left

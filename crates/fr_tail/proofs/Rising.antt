@@ -1,13 +1,13 @@
 -- Records in their order: of one tag by version, and of a seed by version and then by tag.
-use Rattle.std.proofs.Common.{◌≡◌, ℕ, zero, suc, ◌+◌, ◌<◌, ◌≤◌, ◌⊎◌, Bool, true, false, cond, ◌&&◌, ◌||◌, List, [], ◌∷◌, ◌++◌, length, get_or, drop, map, nat_lt, nat_le, ◌==◌, refl, sym, ◌∙◌, ap, inl, inr, arith}
+use Rattle.std.proofs.Common.{◌≡◌, ℕ, ◌+◌, ◌<◌, ◌≤◌, ◌⊎◌, Bool, true, false, cond, ◌&&◌, ◌||◌, List, [], ◌∷◌, ◌++◌, nat_lt, nat_le, ◌==◌, refl, sym, ◌∙◌, ap, inl, inr, arith}
 use Rattle.std.specs.Prelude.{filter}
 use Rattle.std.specs.List.{AllByRecursion, list_all}
-use Rattle.std.proofs.lemmas.Bool.{and_from, and_parts, cases_lt, cases_order, eq-eqb, eqb-true, le-leb, leb-false, leb-true, le-ltb, lt-ltb, ltb-false, ltb-true, ne_eqb, or_parts}
+use Rattle.std.proofs.lemmas.Bool.{and_from, and_parts, cases_lt, cases_order, eq-eqb, eqb-true, le-leb, leb-true, le-ltb, lt-ltb, ltb-true, ne_eqb}
 use Rattle.fr_log.specs.declared.records.PeekedRecord.{PeekedRecord}
 use Rattle.fr_log.specs.declared.records.SeedRecord.{SeedRecord}
 use Rattle.fr_log.specs.Peeked as peek
 use Rattle.fr_log.specs.Seed as seed
-use Rattle.fr_tail.specs.Tail.{as_seed_record, is_before, placed, in_order}
+use Rattle.fr_tail.specs.Tail.{is_before, placed, in_order}
 
 -- ---- records of one tag
 
@@ -154,11 +154,14 @@ up_test v t (q ∷ qs) (here, rest) = and_from (nat_lt v q.version || ((v == q.v
 -- what is not before another and apart from it is behind it
 behind : (r q : SeedRecord) → is_before r q ≡ false → Apart r q → AtLeast q.version (q.tag + 1) r
 behind r q e apart = elim (cases_order q.version r.version) [
-  | inl same ↦ inr (same, elim (cases_order q.tag r.tag) [
+  | inl same ↦ inr (
+    same,
+    elim (cases_order q.tag r.tag) [
       | inl tags ↦ absurd (apart (sym same) (sym tags))
       | inr (inl less) ↦ omega (arith, less)
       | inr (inr more) ↦ absurd (clash (below_is_before r q (inr (sym same, more))))
-    ])
+    ],
+  )
   | inr (inl less) ↦ inl less
   | inr (inr more) ↦ absurd (clash (below_is_before r q (inl more)))
 ]

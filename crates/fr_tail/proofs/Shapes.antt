@@ -1,6 +1,6 @@
 -- What every copy is, from its first state on; and what its seeds are.
-use Rattle.std.proofs.Common.{◌≡◌, ℕ, zero, suc, ◌+◌, ◌<◌, ◌≤◌, ◌^◌, Bool, true, false, cond, ◌∷◌, [], ◌++◌, ◌&&◌, List, length, get_or, set, map, flat_map, min, nat_le, refl, sym, ◌∙◌, ap, subst, inl, inr, arith}
-use Rattle.std.specs.Prelude.{IsTrue, filter}
+use Rattle.std.proofs.Common.{◌≡◌, ℕ, zero, suc, ◌+◌, ◌<◌, ◌≤◌, ◌^◌, Bool, true, false, cond, ◌∷◌, [], ◌++◌, List, length, get_or, set, map, flat_map, min, nat_le, refl, sym, ◌∙◌, ap, subst, inl, inr, arith}
+use Rattle.std.specs.Prelude.{filter}
 use Rattle.std.specs.List.{AllByRecursion, list_all, range_with_len}
 use Rattle.std.proofs.lemmas.Bool.{and_from, cases_eq, le-leb}
 use Rattle.std.proofs.lemmas.List.{get_or-set_same, get_or-set_other, get_or_default, length-set}
@@ -8,14 +8,14 @@ use Rattle.fr_tags.specs.Placement.{is_held}
 use Rattle.fr_log.specs.declared.records.PeekedRecord.{PeekedRecord}
 use Rattle.fr_log.specs.declared.records.SeedRecord.{SeedRecord}
 use Rattle.fr_log.specs.Peeked.{PeekedContent, IsPeeked}
-use Rattle.fr_log.specs.Seed.{SeedContent, IsSeed, is_rising_from, is_within}
+use Rattle.fr_log.specs.Seed.{SeedContent, IsSeed, is_within}
 use Rattle.fr_tail.specs.Merging.{left_of, all_left}
 use Rattle.fr_tail.proofs.Merge.{flat_left_same}
 use Rattle.fr_tail.specs.Tail.{TailState, TagPart, part_at, new_part, new_tail, longer, with_part, as_seed_record, records_for, in_order, seed_for}
 use Rattle.fr_tail.specs.Shape.{IsPart, IsTail}
 use Rattle.fr_tail.specs.Copied.{SeedRises}
 use Rattle.fr_tail.proofs.TailLaw.{new_parts}
-use Rattle.fr_tail.proofs.Rising.{Rises, Through, rises_from_test, rises_test, through_from_test, through_test, rises_append, rises_kept, through_append, through_higher, through_kept, kept_through, Apart, AreApart, apart_append, all_append, all_in_order, in_order_up, up_test, rises_lower}
+use Rattle.fr_tail.proofs.Rising.{Rises, Through, rises_from_test, rises_test, through_from_test, through_test, rises_append, rises_kept, through_append, through_higher, through_kept, kept_through, Apart, AreApart, apart_append, all_append, all_in_order, in_order_up, up_test}
 
 -- ---- copies
 
@@ -99,8 +99,10 @@ one_tag s shape m k log t below = go (is_held t m k log)
     rises = rises_from_test (s.pev + 1) (part_at s t).records part.rising
 
     go : (b : Bool) → AllByRecursion (λ q. IsOf s.pev s.rv t q × (q.tag ≡ t)) (cond b (map (as_seed_record t) (part_at s t).records) []) × AreApart (cond b (map (as_seed_record t) (part_at s t).records) [])
-    go true = (tagged_of s.pev s.rv t (s.pev + 1) (part_at s t).records (omega arith) rises (through_higher (part_at s t).reached s.rv (part_at s t).records part.high (through_from_test (part_at s t).reached (part_at s t).records part.within)),
-        tagged_apart t (s.pev + 1) (part_at s t).records rises)
+    go true = (
+      tagged_of s.pev s.rv t (s.pev + 1) (part_at s t).records (omega arith) rises (through_higher (part_at s t).reached s.rv (part_at s t).records part.high (through_from_test (part_at s t).reached (part_at s t).records part.within)),
+      tagged_apart t (s.pev + 1) (part_at s t).records rises,
+    )
     go false = (tt, tt)
 
 -- those of all tags from one on
@@ -111,12 +113,13 @@ all_tags s shape m k log first (suc n) within =
     let own = one_tag s shape m k log first (omega (arith, within)) in
     let rest = all_tags s shape m k log (first + 1) n (omega (arith, within)) in
     let fs = records_for s m k log first in
-    let gs = flat_map (records_for s m k log) (range_with_len (first + 1) n) in
-    (all_append (IsOf s.pev s.rv first) fs gs (all_weaker (λ q. IsOf s.pev s.rv first q × (q.tag ≡ first)) (IsOf s.pev s.rv first) (λ q k. k.0) fs own.0)
-        (all_weaker (IsOf s.pev s.rv (first + 1)) (IsOf s.pev s.rv first) (λ q k. (let t = k.tag in record { low = k.low; high = k.high; tag = omega (arith, t) })) gs rest.0),
-     apart_append fs gs own.1 rest.1
-        (all_weaker (λ q. IsOf s.pev s.rv first q × (q.tag ≡ first)) (λ q. AllByRecursion (Apart q) gs)
-        (λ q k. all_weaker (IsOf s.pev s.rv (first + 1)) (Apart q) (λ x j. (λ e t. (let own = k.1 in let high = j.tag in absurd (omega (arith, own, high, t))))) gs rest.0) fs own.0))
+    let gs = flat_map (records_for s m k log) (range_with_len (first + 1) n) in (
+      all_append (IsOf s.pev s.rv first) fs gs (all_weaker (λ q. IsOf s.pev s.rv first q × (q.tag ≡ first)) (IsOf s.pev s.rv first) (λ q k. k.0) fs own.0)
+          (all_weaker (IsOf s.pev s.rv (first + 1)) (IsOf s.pev s.rv first) (λ q k. (let t = k.tag in record { low = k.low; high = k.high; tag = omega (arith, t) })) gs rest.0),
+      apart_append fs gs own.1 rest.1
+          (all_weaker (λ q. IsOf s.pev s.rv first q × (q.tag ≡ first)) (λ q. AllByRecursion (Apart q) gs)
+          (λ q k. all_weaker (IsOf s.pev s.rv (first + 1)) (Apart q) (λ x j. (λ e t. (let own = k.1 in let high = j.tag in absurd (omega (arith, own, high, t))))) gs rest.0) fs own.0),
+    )
 
 within_test : (pev rv first : ℕ) (qs : List SeedRecord) → AllByRecursion (IsOf pev rv first) qs → list_all (is_within (pev + 1) rv) qs ≡ true
 within_test pev rv first [] all = refl

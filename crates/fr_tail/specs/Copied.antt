@@ -88,7 +88,7 @@ SeedsAreWhole =
     → ((t : ℕ) → RiseOn (whole t pev rv)) → (answers : List Answer) → AreTrueAnswers whole (new_tail tags old_m old_k responders pev rv) answers
     → is_complete (after_answers (new_tail tags old_m old_k responders pev rv) answers) ≡ true → (epoch m k log t : ℕ)
     → filter_map (seeded_record t) (seed_for (after_answers (new_tail tags old_m old_k responders pev rv) answers) epoch m k log).records
-      ≡ (if nat_lt t tags && is_held t m k log then whole t pev rv else [])
+    ≡ (if nat_lt t tags && is_held t m k log then whole t pev rv else [])
 
 -- the records of a seed rise by version, and of one version by tag
 abbrev pub SeedRises : Type 0

@@ -1,5 +1,5 @@
 -- When an answer is not taken into a copy.
-use Rattle.std.specs.Prelude.{◌≡◌, ℕ, ◌<◌, ◌≤◌, Bool, true, false, nat_le, filter, length, Err, ◌↔◌}
+use Rattle.std.specs.Prelude.{◌≡◌, ℕ, ◌<◌, ◌≤◌, true, false, nat_le, filter, length, Err, ◌↔◌}
 use Rattle.fr_log.specs.Peeked.{PeekedContent}
 use Rattle.fr_tail.specs.Tail.{TailState, is_responder, part_at, heard}
 use Rattle.fr_tail.specs.declared.fault.TailFault.{TailFault}

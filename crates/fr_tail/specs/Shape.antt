@@ -1,5 +1,5 @@
 -- What every copy is.
-use Rattle.std.specs.Prelude.{◌≡◌, ℕ, ◌+◌, ◌^◌, ◌<◌, ◌≤◌, nat_le, length, IsTrue}
+use Rattle.std.specs.Prelude.{ℕ, ◌+◌, ◌^◌, ◌<◌, ◌≤◌, nat_le, length, IsTrue}
 use Rattle.std.specs.List.{list_all}
 use Rattle.fr_log.specs.Peeked.{is_rising_from}
 use Rattle.fr_tail.specs.Tail.{TailState, TagPart, part_at}

@@ -44,11 +44,7 @@ impl Tail {
     }
 
     /// The records from the first one of each tag that is not taken, by version and tag.
-    fn merged(
-        &self,
-        alloc: Global,
-        taken: [usize; MAX_SHARDS],
-    ) -> Result<Vec<SeedRecord>, Memory>
+    fn merged(&self, alloc: Global, taken: [usize; MAX_SHARDS]) -> Result<Vec<SeedRecord>, Memory>
         ensures { IfOk result (λ records. records.items ≡ in_order (all_left self.now taken)) }
     {
         let mut taken = taken;

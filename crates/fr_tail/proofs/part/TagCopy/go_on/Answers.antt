@@ -1,4 +1,4 @@
-use Rattle.std.proofs.Common.{◌≡◌, ◌++◌, nat_le, length, [], ap, ◌∙◌, sym, arith, rules, min}
+use Rattle.std.proofs.Common.{nat_le, length, ap, ◌∙◌, arith, rules, min}
 use Rattle.std.specs.Prelude.{filter}
 use Rattle.std.proofs.lemmas.Fn.{filter_same}
 use Rattle.fr_tail.specs.Tail.{longer}

@@ -1,9 +1,8 @@
-use Rattle.std.proofs.Common.{◌≡◌, ◌<◌, ◌∷◌, ◌++◌, [], length, get_or, refl, ap, ◌∙◌, sym, subst, arith, rules}
-use Rattle.fr_tail.specs.Tail.{in_order, part_at, new_part}
+use Rattle.std.proofs.Common.{◌<◌, length, get_or, refl, ap, ◌∙◌, subst, arith}
+use Rattle.fr_tail.specs.Tail.{part_at, new_part}
 use Rattle.std.proofs.lemmas.List.{get_or_default, length-set}
 use Rattle.fr_tail.specs.Shape.{IsTail}
-use Rattle.fr_tail.specs.Merging.{all_left}
-use Rattle.fr_tail.proofs.Merge.{merge_step, merge_ends, merge_less, merge_more, merge_done, seed_record_is}
+use Rattle.fr_tail.proofs.Merge.{merge_less, merge_more, merge_done, seed_record_is}
 use Rattle.fr_tail.proofs.tail.Tail.merged.Goals as goal
 
 pub loop-number-smaller : goal.loop-number-smaller

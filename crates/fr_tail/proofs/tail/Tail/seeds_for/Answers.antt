@@ -1,4 +1,4 @@
-use Rattle.std.proofs.Common.{◌≡◌, ◌+◌, ap, ◌∙◌, sym, subst, arith, rules}
+use Rattle.std.proofs.Common.{◌+◌, ap, ◌∙◌, sym, subst}
 use Rattle.fr_log.specs.Seed.{IsSeed}
 use Rattle.fr_tail.specs.Shape.{IsTail}
 use Rattle.fr_tail.proofs.Shapes.{seed_is_seed, seed_is}

@@ -1,6 +1,4 @@
-use Rattle.std.proofs.Common.{◌≡◌, ap, ◌∙◌, sym, subst, arith, rules}
-use Rattle.fr_tail.specs.Shape.{IsTail}
-use Rattle.fr_tail.specs.Tail.{longer}
+use Rattle.std.proofs.Common.{ap}
 use Rattle.fr_tail.proofs.Shapes.{longer_kept, free_at}
 use Rattle.fr_tail.proofs.tail.Tail.take.Goals as goal
 
