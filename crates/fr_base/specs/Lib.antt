@@ -3,3 +3,4 @@ pub mod Map
 pub mod HighWater
 pub mod Same
 pub mod Node
+pub mod Faults

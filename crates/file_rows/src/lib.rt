@@ -1,0 +1,7 @@
+//! Tests of record files and of nodes over them: their bytes, and what crashes leave of them.
+#![tactic(auto)]
+
+#[cfg(test)]
+mod crash;
+#[cfg(test)]
+mod files;

@@ -1,0 +1,160 @@
+//! What serves asks as a plain machine does, over a device or without one.
+ghost use Rattle.std.specs.Prelude.{◌≡◌, ◌≢◌, ◌⊎◌, ◌||◌, ◌↔◌, Ok, Err, Some, None, IfOk, OnOk, OnErr, IfErr, IfSome, IsSome, IsTrue, false};
+ghost use Rattle.fr_base.specs.Faults.{met_device};
+
+use crate::machine::Machine;
+use crate::memory::Memory as NoMemory;
+use std::alloc::Global;
+use thiserror::Error;
+
+/// Why a node refuses. In the order of the variants their numbers are 1 to 5.
+#[derive(Clone, Copy, Debug, PartialEq, Eq, Error)]
+pub enum NodeFault {
+    /// The device failed in this call. The node answers `Failed` until it is opened again.
+    #[error("the device failed")]
+    Device,
+    /// The device has no room; nothing was changed.
+    #[error("the device has no room")]
+    Full,
+    /// The device failed in an earlier call, and the node was not opened again since.
+    #[error("the node failed before and was not opened again")]
+    Failed,
+    /// A growth of memory was refused; nothing was changed.
+    #[error("out of memory")]
+    Memory,
+    /// The bytes are no file of such a node.
+    #[error("the bytes are no file of this node")]
+    Broken,
+}
+
+impl From<NoMemory> for NodeFault {
+    ghost use Rattle.std.specs.Prelude.{◌≡◌};
+    ghost use Rattle.fr_base.specs.declared.node.NodeFault.TheVariants.{Memory};
+
+    ghost from_gives = { λ _ fault. fault ≡ Memory };
+
+    fn from(_: NoMemory) -> NodeFault {
+        NodeFault::Memory
+    }
+}
+
+/// Where a node stands that was opened again: before or after the ask that met the device's fault, and
+/// before where no ask did.
+#[derive(Clone, Copy, Debug, PartialEq, Eq)]
+pub enum Reopened {
+    /// The ask left nothing.
+    Before,
+    /// The ask was taken; asked again it is told what it would have been.
+    After,
+}
+
+/// A node: it answers as its plain machine does, or with a fault. What it answered outlasts every crash.
+/// Where its device fails in an ask, the ask is taken or it is not, and `reopen` says which.
+pub trait Node {
+    ghost use Rattle.std.specs.Prelude.{Option, Bool};
+    ghost use Rattle.fr_base.specs.declared.node.NodeFault.{NodeFault};
+
+    /// The machine that it serves as.
+    type Plain: Machine + Send;
+
+    /// The state of the plain machine; while failed, the one before the ask that met the fault.
+    ghost state: { Self → Self.Plain };
+
+    /// Whether a device failed in a call, and the node was not opened again since.
+    ghost is_failed: { Self → Bool };
+
+    /// The ask that met the device's fault, if one did since the node was last opened.
+    ghost held: { Self → Option Self.Plain.Ask };
+
+    /// From the first node to the second the device made calls, and a crash at any moment of them, inside
+    /// a call too, leaves a node whose state has P.
+    ghost Throughout: { (Self.Plain → Type 0) → Self → Self → Type 0 };
+
+    /// Whether such a node can meet this fault in an ask.
+    ghost CanMeet: { NodeFault → Type 0 };
+
+    /// Answers an ask. Every fault leaves the state.
+    fn serve(
+        &mut self,
+        alloc: Global,
+        ask: <Self::Plain as Machine>::Ask,
+    ) -> Result<<Self::Plain as Machine>::Tell, NodeFault>
+        ensures told { IfOk result (λ tell. tell ≡ Self.Plain.told (state self.old) ask) }
+        ensures after { OnOk result (state self.new ≡ Self.Plain.after (state self.old) ask) }
+        ensures err { OnErr result (state self.new ≡ state self.old) }
+        ensures failed { (result ≡ Err NodeFault.Failed) ↔ IsTrue (is_failed self.old) }
+        ensures fails { is_failed self.new ≡ (is_failed self.old || met_device result) }
+        ensures holds { (result ≡ Err NodeFault.Device) → held self.new ≡ Some ask }
+        ensures holds_still { result ≢ Err NodeFault.Device → held self.new ≡ held self.old }
+        ensures trouble { IfErr result (λ fault. fault ≢ NodeFault.Failed → CanMeet fault) }
+        ensures any_moment { is_failed self.old ≡ false → Throughout (λ x. (x ≡ state self.old) ⊎ (x ≡ Self.Plain.after (state self.old) ask)) self.old self.new }
+        ensures kept { OnOk result (Throughout (λ x. x ≡ state self.new) self.new self.new) };
+
+    /// Opens the node again, failed or not, and says where it then stands. A fault leaves the state.
+    fn reopen(&mut self, alloc: Global) -> Result<Reopened, NodeFault>
+        ensures before { (result ≡ Ok Reopened.Before) → state self.new ≡ state self.old }
+        ensures after { (result ≡ Ok Reopened.After) → IsSome (held self.old) × IfSome (held self.old) (λ ask. state self.new ≡ Self.Plain.after (state self.old) ask) }
+        ensures works { OnOk result (is_failed self.new ≡ false) }
+        ensures free { OnOk result (held self.new ≡ None) }
+        ensures err { OnErr result (state self.new ≡ state self.old) }
+        ensures holds_still { OnErr result (held self.new ≡ held self.old) }
+        ensures fails { OnErr result (is_failed self.new ≡ (is_failed self.old || met_device result)) }
+        ensures trouble { IfErr result CanMeet }
+        ensures any_moment { Throughout (λ x. (x ≡ state self.old) ⊎ (IsSome (held self.old) × IfSome (held self.old) (λ ask. x ≡ Self.Plain.after (state self.old) ask))) self.old self.new }
+        ensures kept { OnOk result (Throughout (λ x. x ≡ state self.new) self.new self.new) };
+
+    /// The state of the plain machine; while failed, the one before the ask that met the fault.
+    fn plain(&self) -> &Self::Plain
+        ensures { result.now ≡ state self.now };
+}
+
+/// A node without a device: its machine in memory, which a crash of the model leaves. It never fails.
+#[derive(Debug, Drop)]
+pub struct InMemory<M> {
+    machine: M,
+}
+
+impl<M> InMemory<M> {
+    /// A node that serves as this machine.
+    pub fn new(machine: M) -> Self
+        ensures { result.machine ≡ machine }
+    {
+        InMemory { machine }
+    }
+
+    /// Gives the machine back.
+    pub fn into_plain(self) -> M
+        ensures { result ≡ self.machine }
+    {
+        self.machine
+    }
+}
+
+impl<M: Machine + Send> Node for InMemory<M> {
+    ghost use Rattle.std.specs.Prelude.{◌≡◌, false, None};
+    ghost use Rattle.fr_base.specs.declared.node.NodeFault.TheVariants.{Memory};
+
+    type Plain = M;
+
+    ghost state = { λ n. n.machine };
+
+    ghost is_failed = { λ n. false };
+
+    ghost held = { λ n. None };
+
+    ghost Throughout = { λ P n later. P n.machine × P later.machine };
+
+    ghost CanMeet = { λ fault. fault ≡ Memory };
+
+    fn serve(&mut self, alloc: Global, ask: M::Ask) -> Result<M::Tell, NodeFault> {
+        self.machine.step(alloc, ask).map_err(|_| NodeFault::Memory)
+    }
+
+    fn reopen(&mut self, _alloc: Global) -> Result<Reopened, NodeFault> {
+        Ok(Reopened::Before)
+    }
+
+    fn plain(&self) -> &M {
+        &self.machine
+    }
+}

@@ -1,0 +1,12 @@
+mod Crash
+mod Moments
+mod PutLemmas
+mod PutRun
+mod FileLemmas
+mod TableLemmas
+mod Grown
+mod ParseLemmas
+mod GroupLemmas
+mod ReadRun
+mod ReadLemmas
+mod RestLemmas

@@ -1,0 +1,271 @@
+//! Record files.
+ghost use Rattle.std.specs.Prelude.{◌≡◌, ◌≢◌, ◌↔◌, ◌⊎◌, ◌||◌, ◌+◌, ◌-◌, ◌^◌, ◌<◌, nat_lt, min, [], ◌∷◌, ◌++◌, All, List, ℕ, length, false, Err, IsTrue, IfOk, IfErr, OnOk, OnErr};
+ghost use Rattle.fr_device.specs.Disk.{Stands, written};
+ghost use Rattle.fr_record.specs.State.{record_at};
+ghost use Rattle.fr_device.specs.Moments.{Throughout, LeavesOnly};
+ghost use Rattle.fr_record.specs.Fault.{met_device};
+ghost use Rattle.fr_record.specs.Group.{records_of};
+ghost use Rattle.fr_record.specs.File.{frames, AreShort, StandsFor, IsLeft, IsAtRest};
+
+use crate::fault::RecordFault;
+use crate::frame::{Frame, add_places, behind_gate, framed, framed_len};
+use crate::gate::put;
+use crate::read::{read_file, read_record};
+use fr_base::Bytes;
+use fr_device::{Device, DeviceFault};
+use std::alloc::Global;
+use std::marker::Model;
+
+/// A file of records on a device. A record that was acknowledged is there after every crash.
+#[derive(Drop)]
+pub struct Records<D: Device> {
+    device: D,
+    table: Vec<Frame>,
+    end: usize,
+    is_failed: bool,
+}
+
+impl<D: Device> Model for Records<D> {
+    ghost use Rattle.fr_record.specs.State.{RecordFile};
+    ghost use Rattle.fr_record.specs.Table.{records_at, IsFile};
+
+    ghost Value = { RecordFile D };
+
+    ghost view = { λ r. record { device = r.device; records = records_at (D.disk r.device).content r.table.items; is_failed = r.is_failed } };
+
+    ghost invariant = { λ r. IsFile (D.disk r.device) r.table.items r.end r.is_failed };
+}
+
+impl<D: Device> Records<D> {
+    /// How many records there are.
+    pub fn len(&self) -> usize
+        ensures value { result ≡ length self.now.records }
+        ensures kept { self.now.is_failed ≡ false → LeavesOnly D.Led D.disk (IsAtRest self.now.records) self.now.device }
+    {
+        self.table.len()
+    }
+
+    /// Whether the device failed in a call, and the file was not opened again since.
+    pub fn is_failed(&self) -> bool
+        ensures value { result ≡ self.now.is_failed }
+        ensures kept { self.now.is_failed ≡ false → LeavesOnly D.Led D.disk (IsAtRest self.now.records) self.now.device }
+    {
+        self.is_failed
+    }
+
+    /// Whether so many bytes have room behind the closed gate.
+    fn has_room(&self, len: usize) -> bool
+        ensures result { result ≡ nat_lt (length (frames self.now.records) + len) (D.capacity_of self.now.device) }
+        ensures within { D.capacity_of self.now.device < 2 ^ 64 }
+    {
+        len < self.device.capacity() - self.end
+    }
+
+    /// A record, the first being number 0, or none where there are no more.
+    pub fn get(&mut self, alloc: Global, i: usize) -> Result<Option<Bytes>, RecordFault>
+        ensures value { IfOk result (λ found. found ≡ record_at self.old.records i) }
+        ensures failed { (result ≡ Err RecordFault.Failed) ↔ IsTrue self.old.is_failed }
+        ensures never_full { result ≢ Err RecordFault.Full }
+        ensures never_broken { result ≢ Err RecordFault.Broken }
+        ensures same { self.new.records ≡ self.old.records }
+        ensures fails { self.new.is_failed ≡ (self.old.is_failed || met_device result) }
+        ensures stands { Stands (D.disk self.old.device) (D.disk self.new.device) }
+        ensures capacity { D.capacity_of self.new.device ≡ D.capacity_of self.old.device }
+        ensures device { (result ≡ Err RecordFault.Device) → D.failures_of self.new.device ≡ min (D.failures_of self.old.device + 1) (2 ^ 64 - 1) }
+    {
+        if self.is_failed {
+            return Err(RecordFault::Failed);
+        }
+        if i >= self.table.len() {
+            return Ok(None);
+        }
+        let place = self.table[i];
+        match read_record(alloc, &mut self.device, place) {
+            Ok(found) => Ok(Some(found)),
+            Err(RecordFault::Device) => {
+                self.is_failed = true;
+                Err(RecordFault::Device)
+            }
+            Err(RecordFault::Memory) => Err(RecordFault::Memory),
+            Err(RecordFault::Full) => unreachable!(),
+            Err(RecordFault::Failed) => unreachable!(),
+            Err(RecordFault::Broken) => unreachable!(),
+        }
+    }
+
+    /// Adds a record. Once it answered `Ok`, every crash leaves it.
+    pub fn append(&mut self, alloc: Global, payload: &[u8]) -> Result<(), RecordFault>
+        requires { length payload.now < 2 ^ 32 }
+        ensures ok { OnOk result (self.new.records ≡ self.old.records ++ payload.now ∷ []) }
+        ensures kept { OnOk result (LeavesOnly D.Led D.disk (IsAtRest self.new.records) self.new.device) }
+        ensures failed { (result ≡ Err RecordFault.Failed) ↔ IsTrue self.old.is_failed }
+        ensures never_broken { result ≢ Err RecordFault.Broken }
+        ensures err { OnErr result (self.new.records ≡ self.old.records) }
+        ensures fails { self.new.is_failed ≡ (self.old.is_failed || met_device result) }
+        ensures device { (result ≡ Err RecordFault.Device) → D.failures_of self.new.device ≡ min (D.failures_of self.old.device + 1) (2 ^ 64 - 1) }
+        ensures full { (result ≡ Err RecordFault.Full) ↔ ((self.old.is_failed ≡ false) × (D.capacity_of self.old.device < length (frames self.old.records) + length payload.now + 6)) }
+        ensures capacity { D.capacity_of self.new.device ≡ D.capacity_of self.old.device }
+        ensures any_moment { self.old.is_failed ≡ false → Throughout D.Led D.disk (IsLeft self.old.records (payload.now ∷ [])) self.old.device self.new.device }
+    {
+        if self.is_failed {
+            return Err(RecordFault::Failed);
+        }
+        if !self.has_room(payload.len() + 5) {
+            return Err(RecordFault::Full);
+        }
+        let new = behind_gate(alloc, payload)?;
+        self.table.reserve(1)?;
+        let gate = self.end;
+        match put(&mut self.device, gate, &new) {
+            Ok(()) => {}
+            Err(DeviceFault::Full) => unreachable!(),
+            Err(DeviceFault::Device) => {
+                self.is_failed = true;
+                return Err(RecordFault::Device);
+            }
+        }
+        let place = Frame {
+            at: gate + 5,
+            len: payload.len(),
+        };
+        match self.table.push(place) {
+            Ok(()) => {}
+            Err(_) => unreachable!(),
+        }
+        self.end = gate + new.len();
+        Ok(())
+    }
+
+    /// Adds records, all of them or none. Once it answered `Ok`, every crash leaves them; no record changes nothing.
+    pub fn append_group(&mut self, alloc: Global, group: &[Vec<u8>]) -> Result<(), RecordFault>
+        requires { All (λ v. length v.items < 2 ^ 32) group.now }
+        ensures ok { OnOk result (self.new.records ≡ self.old.records ++ records_of group.now) }
+        ensures kept { OnOk result (LeavesOnly D.Led D.disk (IsAtRest self.new.records) self.new.device) }
+        ensures failed { (result ≡ Err RecordFault.Failed) ↔ IsTrue self.old.is_failed }
+        ensures never_broken { result ≢ Err RecordFault.Broken }
+        ensures err { OnErr result (self.new.records ≡ self.old.records) }
+        ensures fails { self.new.is_failed ≡ (self.old.is_failed || met_device result) }
+        ensures device { (result ≡ Err RecordFault.Device) → D.failures_of self.new.device ≡ min (D.failures_of self.old.device + 1) (2 ^ 64 - 1) }
+        ensures full { (result ≡ Err RecordFault.Full) ↔ ((self.old.is_failed ≡ false) × (D.capacity_of self.old.device < length (frames self.old.records) + length (frames (records_of group.now)) + 1)) }
+        ensures capacity { D.capacity_of self.new.device ≡ D.capacity_of self.old.device }
+        ensures any_moment { self.old.is_failed ≡ false → Throughout D.Led D.disk (IsLeft self.old.records (records_of group.now)) self.old.device self.new.device }
+    {
+        if self.is_failed {
+            return Err(RecordFault::Failed);
+        }
+        if !self.has_room(framed_len(group)) {
+            return Err(RecordFault::Full);
+        }
+        if group.is_empty() {
+            return Ok(());
+        }
+        let bytes = framed(alloc, group)?;
+        self.table.reserve(group.len())?;
+        let gate = self.end;
+        match put(&mut self.device, gate, &bytes[1..]) {
+            Ok(()) => {}
+            Err(DeviceFault::Full) => unreachable!(),
+            Err(DeviceFault::Device) => {
+                self.is_failed = true;
+                return Err(RecordFault::Device);
+            }
+        }
+        add_places(&mut self.table, gate, group);
+        self.end = gate + (bytes.len() - 1);
+        Ok(())
+    }
+
+    /// A file with no records, on a device that it is the only one to use.
+    pub fn format(alloc: Global, device: D) -> Result<Self, RecordFault>
+        ensures records { IfOk result (λ file. file.records ≡ []) }
+        ensures works { IfOk result (λ file. file.is_failed ≡ false) }
+        ensures content { IfOk result (λ file. (D.disk file.device).content ≡ written (D.disk device).content 0 (0 ∷ [])) }
+        ensures kept { IfOk result (λ file. LeavesOnly D.Led D.disk (IsAtRest file.records) file.device) }
+        ensures capacity { IfOk result (λ file. D.capacity_of file.device ≡ D.capacity_of device) }
+        ensures failures { IfOk result (λ file. D.failures_of file.device ≡ D.failures_of device) }
+        ensures full { (result ≡ Err RecordFault.Full) ↔ (D.capacity_of device < 1) }
+        ensures only_device { IfErr result (λ fault. (fault ≡ RecordFault.Device) ⊎ (fault ≡ RecordFault.Full)) }
+    {
+        let mut device = device;
+        if device.capacity() < 1 {
+            return Err(RecordFault::Full);
+        }
+        device.write_at(0, &[0])?;
+        device.sync()?;
+        Ok(Records {
+            device,
+            table: Vec::new(alloc),
+            end: 0,
+            is_failed: false,
+        })
+    }
+
+    /// The file that a device holds, whatever a crash made of it.
+    pub fn open(alloc: Global, device: D) -> Result<Self, RecordFault>
+        ensures records { IfOk result (λ file. StandsFor (D.disk device).content file.records) }
+        ensures any_moment { IfOk result (λ file. (before : List (List ℕ)) (first : List ℕ) (others : List (List ℕ)) → AreShort (before ++ first ∷ others)
+            → LeavesOnly D.Led D.disk (IsLeft before (first ∷ others)) device
+            → Throughout D.Led D.disk (IsLeft before (first ∷ others)) device file.device) }
+        ensures at_rest { IfOk result (λ file. (before : List (List ℕ)) → LeavesOnly D.Led D.disk (IsAtRest before) device → Throughout D.Led D.disk (IsAtRest before) device file.device) }
+        ensures works { IfOk result (λ file. file.is_failed ≡ false) }
+        ensures kept { IfOk result (λ file. LeavesOnly D.Led D.disk (IsAtRest file.records) file.device) }
+        ensures capacity { IfOk result (λ file. D.capacity_of file.device ≡ D.capacity_of device) }
+        ensures broken { (result ≡ Err RecordFault.Broken) → (rs : List (List ℕ)) → StandsFor (D.disk device).content rs → ⊥ }
+        ensures never_full { result ≢ Err RecordFault.Full }
+        ensures never_failed { result ≢ Err RecordFault.Failed }
+    {
+        let mut device = device;
+        match read_file(alloc, &mut device) {
+            Ok((table, end)) => Ok(Records {
+                device,
+                table,
+                end,
+                is_failed: false,
+            }),
+            Err(fault) => Err(fault),
+        }
+    }
+
+    /// Opens the file again, failed or not: what the device holds then is what the file stands for. Where it is refused
+    /// the records stay, and the file stays failed if it was.
+    pub fn reopen(&mut self, alloc: Global) -> Result<(), RecordFault>
+        ensures records { OnOk result (StandsFor (D.disk self.old.device).content self.new.records) }
+        ensures works { OnOk result (self.new.is_failed ≡ false) }
+        ensures kept { OnOk result (LeavesOnly D.Led D.disk (IsAtRest self.new.records) self.new.device) }
+        ensures capacity { D.capacity_of self.new.device ≡ D.capacity_of self.old.device }
+        ensures err { OnErr result (self.new.records ≡ self.old.records) }
+        ensures fails { OnErr result (self.new.is_failed ≡ (self.old.is_failed || met_device result)) }
+        ensures broken { (result ≡ Err RecordFault.Broken) → (rs : List (List ℕ)) → StandsFor (D.disk self.old.device).content rs → ⊥ }
+        ensures never_full { result ≢ Err RecordFault.Full }
+        ensures never_failed { result ≢ Err RecordFault.Failed }
+        ensures device { (result ≡ Err RecordFault.Device) → D.failures_of self.new.device ≡ min (D.failures_of self.old.device + 1) (2 ^ 64 - 1) }
+        ensures any_moment { (before : List (List ℕ)) (first : List ℕ) (others : List (List ℕ)) → AreShort (before ++ first ∷ others)
+            → LeavesOnly D.Led D.disk (IsLeft before (first ∷ others)) self.old.device
+            → Throughout D.Led D.disk (IsLeft before (first ∷ others)) self.old.device self.new.device }
+        ensures at_rest { (before : List (List ℕ)) → LeavesOnly D.Led D.disk (IsAtRest before) self.old.device → Throughout D.Led D.disk (IsAtRest before) self.old.device self.new.device }
+    {
+        match read_file(alloc, &mut self.device) {
+            Ok((table, end)) => {
+                self.table = table;
+                self.end = end;
+                self.is_failed = false;
+                Ok(())
+            }
+            Err(RecordFault::Device) => {
+                self.is_failed = true;
+                Err(RecordFault::Device)
+            }
+            Err(RecordFault::Memory) => Err(RecordFault::Memory),
+            Err(RecordFault::Broken) => Err(RecordFault::Broken),
+            Err(RecordFault::Full) => unreachable!(),
+            Err(RecordFault::Failed) => unreachable!(),
+        }
+    }
+
+    /// Gives the device back.
+    pub fn into_device(self) -> D
+        ensures { result ≡ self.device }
+    {
+        self.device
+    }
+}
