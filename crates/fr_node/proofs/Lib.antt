@@ -1,0 +1,2 @@
+mod Lemmas
+mod NodeLemmas
