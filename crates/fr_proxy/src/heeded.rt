@@ -4,7 +4,7 @@ use fr_base::Version;
 
 /// What a tell is to a proxy: what it changes.
 #[derive(Clone, Copy, Debug, PartialEq, Eq)]
-pub(crate) enum Heeded {
+pub enum Heeded {
     /// Nothing.
     Ignored,
     /// The batch under way has this place in the chain of versions.

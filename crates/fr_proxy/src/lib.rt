@@ -12,6 +12,7 @@ mod under_way;
 
 pub use fault::SubmitFault;
 pub use laws::{account_law, growth_law, heard_law, kept_law, stored_law};
+pub use heeded::Heeded;
 pub use number::{Number, Place};
 pub use outcome::Outcome;
 pub use proxy::Proxy;

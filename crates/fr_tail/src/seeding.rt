@@ -54,7 +54,7 @@ impl Tail {
             records.push(SeedRecord {
                 version: record.version,
                 tag: tag_at(number),
-                batch: record.batch.copy(alloc)?,
+                batch: record.batch.copy()?,
             })?;
             taken[number] += 1;
         }

@@ -1,0 +1,4 @@
+pub mod Issued
+pub mod IssuedLaws
+pub mod Contents
+pub mod Laws

@@ -1,0 +1,6 @@
+pub mod ByTurn
+pub mod Growth
+pub mod Accounts
+pub mod Cells
+pub mod Register
+pub mod States

@@ -1,0 +1,12 @@
+pub mod Config
+pub mod Turn
+pub mod Nodes
+pub mod Run
+pub mod Batches
+pub mod States
+pub mod GrowthLaws
+pub mod AskLaws
+pub mod CellLaws
+pub mod ParentLaws
+pub mod StateLaws
+pub mod Laws
