@@ -4,6 +4,7 @@ use Rattle.std.specs.Ordering.{nat_cmp, eq_by_cmp}
 use Rattle.std.specs.Cmp.{nat_cmp_total, eq_by_cmp_equiv}
 use Rattle.std.specs.FinMap.{get, insert, get-insert, nat_cmp-IsAntisymmetric}
 use Rattle.fr_base.proofs.MapLemmas.{one_key}
+use Rattle.fr_log.specs.Fields.{three}
 use Rattle.fr_ask.specs.declared.sequencer.SeqAsk.TheVariants.{Next}
 use Rattle.fr_ask.specs.declared.sequencer.SeqTell.{SeqTell}
 use Rattle.fr_ask.specs.declared.sequencer.SeqTell.TheVariants.{Numbered, Refused}
@@ -21,7 +22,7 @@ same_number n r prev version e =
     let a : n.request ≡ r = cc in
     let b : n.prev ≡ prev = cc in
     let d : n.version ≡ version = cc in
-    cc
+    ap Some (three (λ x y z. let u : Number = record { request = x; prev = y; version = z } in u) a b d)
 
 stored : (o : Option Number) (r prev version : ℕ) → told_before o ≡ Numbered r prev version → o ≡ Some (record { request = r; prev = prev; version = version })
 stored None r prev version e = absurd (cc)

@@ -122,7 +122,7 @@ impl Proxy {
             number: self.number,
             m: self.m,
             k: self.k,
-            map: self.map.copy(alloc)?,
+            map: self.map.copy()?,
             known: self.known,
             requests: self.requests,
             under_way: copy_under_way(&self.under_way)?,

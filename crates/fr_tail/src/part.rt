@@ -68,7 +68,7 @@ impl TagCopy {
     {
         let mut records = Vec::with_capacity(alloc, self.records.len())?;
         for record in self.records.as_slice() {
-            records.push(record.copy(alloc)?)?;
+            records.push(record.copy()?)?;
         }
         Ok(TagCopy {
             reached: self.reached,
