@@ -38,7 +38,7 @@ abbrev pub all_ops : List AtomicOp
 all_ops = ops.Add ∷ ops.And ∷ ops.Or ∷ ops.Xor ∷ ops.Max ∷ ops.Min ∷ []
 
 -- the operation that has this name
-abbrev pub op_named : List ℕ → Option AtomicOp
+unfoldable pub op_named : List ℕ → Option AtomicOp
 op_named name = find (λ op. bytes_eq (op_name op) name) all_ops
 
 -- the operation that has this byte

@@ -52,6 +52,7 @@ impl AtomicOp {
     }
 
     /// The operation that has this name.
+    #[tactic(auto, unfolding(crate::specs::Atomic::op_named))]
     pub fn from_name(name: &str) -> Option<Self>
         ensures { result ≡ op_named name.now }
     {

@@ -137,50 +137,44 @@ fn the_first_limit_is_answered(rt: HostRuntime) -> Result<(), Fail> {
     let alloc = rt.alloc();
     let long_key = vec![in alloc; 0x62u8; 10_001]?;
     let long_value = vec![in alloc; 0u8; 100_001]?;
-    let set = Kind::Set;
+    let long_set = keyed(alloc, Kind::Set, long_key.as_slice(), long_value.as_slice())?;
     let add = Kind::Atomic(AtomicOp::Add);
-    let rows: [(&[Mutation], BatchFault); 6] = [
-        (
-            &[keyed(alloc, set, long_key.as_slice(), long_value.as_slice())?],
-            BatchFault::KeyTooLong,
-        ),
-        (
-            &[keyed(alloc, add, long_key.as_slice(), long_value.as_slice())?],
-            BatchFault::KeyTooLong,
-        ),
-        (
-            &[clear(alloc, long_key.as_slice(), b"a")?],
-            BatchFault::KeyTooLong,
-        ),
-        (
-            &[
-                keyed(alloc, set, b"a", long_value.as_slice())?,
-                keyed(alloc, set, long_key.as_slice(), b"")?,
-            ],
-            BatchFault::ValueTooLong,
-        ),
-        (
-            &[
-                clear(alloc, b"b", b"a")?,
-                keyed(alloc, add, b"a", long_value.as_slice())?,
-            ],
-            BatchFault::Inverted,
-        ),
-        (
-            &[
-                keyed(alloc, add, b"a", long_value.as_slice())?,
-                clear(alloc, b"b", b"a")?,
-            ],
-            BatchFault::ValueTooLong,
-        ),
-    ];
-    for (mutations, want) in rows {
-        let mut copies = Vec::new(alloc);
-        for mutation in mutations {
-            copies.push(mutation.copy()?)?;
-        }
-        assert_eq!(rt; Batch::new(copies).err(), Some(want));
+    let long_add = keyed(alloc, add, long_key.as_slice(), long_value.as_slice())?;
+    let long_clear = clear(alloc, long_key.as_slice(), b"a")?;
+    for mutation in [long_set, long_add, long_clear] {
+        let alone = Vec::from_array(alloc, [mutation])?;
+        assert_eq!(rt; Batch::new(alone).err(), Some(BatchFault::KeyTooLong));
     }
+    let value_then_key = Vec::from_array(
+        alloc,
+        [
+            keyed(alloc, Kind::Set, b"a", long_value.as_slice())?,
+            keyed(alloc, Kind::Set, long_key.as_slice(), b"")?,
+        ],
+    )?;
+    assert_eq!(rt;
+        Batch::new(value_then_key).err(),
+        Some(BatchFault::ValueTooLong)
+    );
+    let ends_then_value = Vec::from_array(
+        alloc,
+        [
+            clear(alloc, b"b", b"a")?,
+            keyed(alloc, add, b"a", long_value.as_slice())?,
+        ],
+    )?;
+    assert_eq!(rt; Batch::new(ends_then_value).err(), Some(BatchFault::Inverted));
+    let value_then_ends = Vec::from_array(
+        alloc,
+        [
+            keyed(alloc, add, b"a", long_value.as_slice())?,
+            clear(alloc, b"b", b"a")?,
+        ],
+    )?;
+    assert_eq!(rt;
+        Batch::new(value_then_ends).err(),
+        Some(BatchFault::ValueTooLong)
+    );
     let mut many = Vec::new(alloc);
     for _ in 0..1_001 {
         many.push(clear(alloc, b"b", b"a")?)?;
