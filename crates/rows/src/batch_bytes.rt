@@ -91,9 +91,15 @@ fn the_first_fault_from_the_left(rt: HostRuntime) {
         // 1,001 mutations, and the first of no kind.
         (&[0x01, 0x03, 0xe9, 0x09], DecodeFault::OverLimit),
         // A mutation of no kind, and a length of 10,001.
-        (&[0x01, 0x00, 0x01, 0x09, 0x27, 0x11], DecodeFault::UnknownKind),
+        (
+            &[0x01, 0x00, 0x01, 0x09, 0x27, 0x11],
+            DecodeFault::UnknownKind,
+        ),
         // A key of 10,001 bytes that are not there.
-        (&[0x01, 0x00, 0x01, 0x01, 0x27, 0x11], DecodeFault::OverLimit),
+        (
+            &[0x01, 0x00, 0x01, 0x01, 0x27, 0x11],
+            DecodeFault::OverLimit,
+        ),
         // A clear whose end is below its begin, as far as it is there, and is cut off.
         (
             &[0x01, 0x00, 0x01, 0x02, 0x00, 0x01, 0x62, 0x00, 0x02, 0x61],

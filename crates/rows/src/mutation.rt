@@ -54,11 +54,7 @@ fn mutations_act_in_turn(rt: HostRuntime) -> Result<(), Fail> {
         (Kind::Atomic(AtomicOp::Max), b"a", &[0, 1]),
         (Kind::Atomic(AtomicOp::Min), b"b", &[0, 2]),
     ];
-    apply(
-        alloc,
-        &mut rows,
-        &batch(alloc, second.as_slice())?.copy()?,
-    )?;
+    apply(alloc, &mut rows, &batch(alloc, second.as_slice())?.copy()?)?;
     assert_eq!(rt; rows.len(), 4);
     let wanted: [(&[u8], &[u8]); 4] = [
         (b"a", &[0, 1]),
@@ -84,7 +80,12 @@ fn old_values_are_fitted(rt: HostRuntime) -> Result<(), Fail> {
         (Kind::Atomic(AtomicOp::Add), &[1, 2, 3], &[5], &[6]),
         (Kind::Atomic(AtomicOp::Add), &[0xff, 0xff], &[1, 0], &[0, 0]),
         (Kind::Atomic(AtomicOp::Add), &[7], &[], &[]),
-        (Kind::Atomic(AtomicOp::And), &[0x3c], &[0xff, 0xff], &[0x3c, 0]),
+        (
+            Kind::Atomic(AtomicOp::And),
+            &[0x3c],
+            &[0xff, 0xff],
+            &[0x3c, 0],
+        ),
         (Kind::Atomic(AtomicOp::Or), &[0x80], &[1, 1], &[0x81, 1]),
         (Kind::Atomic(AtomicOp::Xor), &[0x0f, 0xf0], &[0xff], &[0xf0]),
         (Kind::Atomic(AtomicOp::Max), &[5], &[1, 0], &[5, 0]),
@@ -163,7 +164,10 @@ fn the_first_limit_is_answered(rt: HostRuntime) -> Result<(), Fail> {
             keyed(alloc, add, b"a", long_value.as_slice())?,
         ],
     )?;
-    assert_eq!(rt; Batch::new(ends_then_value).err(), Some(BatchFault::Inverted));
+    assert_eq!(rt;
+        Batch::new(ends_then_value).err(),
+        Some(BatchFault::Inverted)
+    );
     let value_then_ends = Vec::from_array(
         alloc,
         [
