@@ -12,12 +12,10 @@ use Rattle.fr_log.specs.Push.{PushContent}
 use Rattle.fr_log.specs.LogState.{LogState, holds, is_push_held}
 use Rattle.fr_log.specs.Refusal.{refusal_of, seed_refusal}
 use Rattle.fr_log.specs.Step.{answer_of, next_of, answer_unless, next_unless, granted_answer, granted_next}
+use Rattle.fr_log.specs.StepLaws.{passes, granted}
 use Rattle.fr_log.specs.Change.{with_seed, with_push, with_stop, IsFirst, IsNext, LogChange, Stands, Seeds, Holds, Stops}
 use Rattle.fr_log.specs.Law.{AskIsChange, RefusedChangesNothing, TakenIsNext}
-use Rattle.fr_log.proofs.Pushing.{passed, some_from, next_push}
-
-pub granted : (l : LogState) (a : LogAsk) → refusal_of l a ≡ None → next_of l a ≡ granted_next l a
-granted l a e = ap (λ o. next_unless o l (granted_next l a)) e
+use Rattle.fr_log.proofs.Pushing.{some_from, next_push}
 
 pub refused : (l : LogState) (a : LogAsk) (why : LogRefusal) → refusal_of l a ≡ Some why → next_of l a ≡ l
 refused l a why e = ap (λ o. next_unless o l (granted_next l a)) e
@@ -28,16 +26,16 @@ told l a o e = ap (λ x. answer_unless x (granted_answer l a)) e
 -- what follows from each test of a seed, and of a lock
 pub first_seed : (l : LogState) (s : SeedContent) → seed_refusal l s ≡ None → l.seed ≡ None → IsFirst l s
 first_seed l s e none =
-    let a = passed (not (eqb s.epoch l.epoch)) _ _ e in
-    let b = passed (not (list_all (λ r. holds l r.tag) s.records)) _ _ a.1 in
+    let a = passes (not (eqb s.epoch l.epoch)) _ _ e in
+    let b = passes (not (list_all (λ r. holds l r.tag) s.records)) _ _ a.1 in
     record { granted = e; unseeded = none; epoch = eqb-true s.epoch l.epoch (not-false (eqb s.epoch l.epoch) a.0); tags = not-false (list_all (λ r. holds l r.tag) s.records) b.0 }
 
 -- an ask that is granted is for the log's epoch, and the log has a seed
 pub own_and_seeded : (l : LogState) (epoch : ℕ) (rest : Option LogRefusal) (why unseeded : LogRefusal)
     → cond (not (eqb epoch l.epoch)) (Some why) (cond (is_none l.seed) (Some unseeded) rest) ≡ None → (epoch ≡ l.epoch) × IsSome l.seed × (rest ≡ None)
 own_and_seeded l epoch rest why unseeded e =
-    let a = passed (not (eqb epoch l.epoch)) why _ e in
-    let b = passed (is_none l.seed) unseeded rest a.1 in
+    let a = passes (not (eqb epoch l.epoch)) why _ e in
+    let b = passes (is_none l.seed) unseeded rest a.1 in
     (eqb-true epoch l.epoch (not-false (eqb epoch l.epoch) a.0), some_from l.seed b.0, b.1)
 
 seed_changes : (l : LogState) (s : SeedContent) (o : Option LogRefusal) → refusal_of l (Seed s) ≡ o → (held : Option SeedContent) → l.seed ≡ held → LogChange l (Seed s) (next_of l (Seed s))

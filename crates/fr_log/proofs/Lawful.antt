@@ -14,12 +14,12 @@ use Rattle.fr_log.specs.Chain.{IsChain, IsLog, IsOwnSeed}
 use Rattle.fr_log.specs.Refusal.{push_refusal}
 use Rattle.fr_log.specs.Step.{next_of}
 use Rattle.fr_log.specs.Change.{with_seed, with_push, with_stop, IsFirst, IsNext}
-use Rattle.fr_log.specs.StepLaws.{greatest}
+use Rattle.fr_log.specs.StepLaws.{greatest, granted}
 use Rattle.fr_log.specs.Law.{IsLogAsk, after_all, AskLeavesLog, AsksLeaveLog, last_version, DurableIsLast, DurableIsBounded, KnownIsHeld, RecordsRise, StandsStill, Grows, AskGrows, AsksGrow, is_newly_held, FirstSeedSets, PushAdds, NewPushRaises, NothingElseRaises}
 use Rattle.fr_log.proofs.Chains.{reach}
 use Rattle.fr_log.proofs.Rising.{rises_test, through_test, records_rise, records_through}
 use Rattle.fr_log.proofs.Pushing.{next_push, with_push_is_log, durable_more, known_more, some_is_not_none}
-use Rattle.fr_log.proofs.Changes.{granted, by_change}
+use Rattle.fr_log.proofs.Changes.{by_change}
 
 -- ---- what every log is
 

@@ -11,13 +11,9 @@ use Rattle.fr_log.specs.Push.{PushContent, IsPush}
 use Rattle.fr_log.specs.LogState.{LogState, headers, holds, durable_of, known_of, seeded_to_of, first_of, is_push_held}
 use Rattle.fr_log.specs.Chain.{IsChain, BeginsWithMark, IsLog, IsKept, IsOwnPush}
 use Rattle.fr_log.specs.Refusal.{push_refusal, new_push_refusal}
+use Rattle.fr_log.specs.StepLaws.{passes}
 use Rattle.fr_log.specs.Change.{IsNext, with_push}
 use Rattle.fr_log.proofs.Chains.{reach, reach_above, held_within_reach}
-
--- a test that was passed: it did not refuse, and the later ones did not either
-pub passed : (test : Bool) (why : LogRefusal) (later : Option LogRefusal) → cond test (Some why) later ≡ None → (test ≡ false) × (later ≡ None)
-passed true why later e = absurd (cc)
-passed false why later e = (refl, e)
 
 pub some_from : {A : Type 0} (o : Option A) → is_none o ≡ false → IsSome o
 some_from None e = absurd (cc)
@@ -25,11 +21,11 @@ some_from (Some x) e = refl
 
 new_next : (l : LogState) (p : PushContent) → p.epoch ≡ l.epoch → is_none l.seed ≡ false → is_push_held l p ≡ false → push_refusal l p ≡ None → new_push_refusal l p ≡ None → IsNext l p
 new_next l p own seeded other granted e =
-    let a = passed l.stopped _ _ e in
-    let b = passed (nat_lt p.prev (durable_of l) || (is_some p.mark && not (eqb p.prev (seeded_to_of l.seed)))) _ _ a.1 in
-    let c = passed (nat_lt (durable_of l) p.prev) _ _ b.1 in
-    let d = passed (not (list_all (λ x. holds l x.tag) p.bodies)) _ _ c.1 in
-    let f = passed (is_none p.mark && eqb (durable_of l) (seeded_to_of l.seed)) _ _ d.1 in
+    let a = passes l.stopped _ _ e in
+    let b = passes (nat_lt p.prev (durable_of l) || (is_some p.mark && not (eqb p.prev (seeded_to_of l.seed)))) _ _ a.1 in
+    let c = passes (nat_lt (durable_of l) p.prev) _ _ b.1 in
+    let d = passes (not (list_all (λ x. holds l x.tag) p.bodies)) _ _ c.1 in
+    let f = passes (is_none p.mark && eqb (durable_of l) (seeded_to_of l.seed)) _ _ d.1 in
     let stale = or_parts (nat_lt p.prev (durable_of l)) (is_some p.mark && not (eqb p.prev (seeded_to_of l.seed))) b.0 in
     let above = ltb-false p.prev (durable_of l) stale.0 in
     let below = ltb-false (durable_of l) p.prev c.0 in
@@ -55,8 +51,8 @@ new_next l p own seeded other granted e =
 
 pub next_push : (l : LogState) (p : PushContent) → push_refusal l p ≡ None → is_push_held l p ≡ false → IsNext l p
 next_push l p e other =
-    let a = passed (not (eqb p.epoch l.epoch)) _ _ e in
-    let b = passed (is_none l.seed) _ _ a.1 in
+    let a = passes (not (eqb p.epoch l.epoch)) _ _ e in
+    let b = passes (is_none l.seed) _ _ a.1 in
     new_next l p (eqb-true p.epoch l.epoch (not-false (eqb p.epoch l.epoch) a.0)) b.0 other e (unheld (is_push_held l p) (new_push_refusal l p) other b.1)
   where
     unheld : (t : Bool) (later : Option LogRefusal) → t ≡ false → cond t None later ≡ None → later ≡ None

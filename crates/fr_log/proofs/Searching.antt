@@ -2,7 +2,7 @@
 use Rattle.std.proofs.Common.{◌≡◌, ℕ, zero, suc, ◌+◌, ◌<◌, ◌≤◌, Bool, true, false, List, [], ◌∷◌, ◌++◌, length, get_or, take, drop, nat_lt, Option, None, Some, eqb, refl, sym, ◌∙◌, ap, inl, inr, arith, append_assoc, length-append, take-append-drop}
 use Rattle.std.specs.List.{filter, filter_map}
 use Rattle.std.proofs.lemmas.Bool.{lt-ltb, le-ltb, false_from_ne_true, cases_order, cases_Bool}
-use Rattle.std.proofs.lemmas.List.{take_all, take_at, take_more, drop_more, length_push}
+use Rattle.std.proofs.lemmas.List.{append-nil, take_all, take_at, take_more, drop_more, length_push}
 use Rattle.std.proofs.lemmas.List.Elements.{filter_map-append, All-from_get_or}
 use Rattle.std.proofs.lemmas.List.Folds.{list_any_none, list_any_at}
 use Rattle.fr_log.specs.Push.{PushContent, is_one_push, is_one_push-parts}
@@ -74,11 +74,7 @@ module _ {X Y : Type 0} where
   pub gather_skip : (h : X → Option Y) (old given : List Y) (xs : List X) (i : ℕ) (d : X) → i < length xs → given ≡ old ++ filter_map h (take i xs) → h (get_or xs i d) ≡ None
       → given ≡ old ++ filter_map h (take (i + 1) xs)
   gather_skip h old given xs i d within so_far is =
-      so_far ∙ ap (λ zs. old ++ zs) (sym (ap (filter_map h) (take_more xs i d within) ∙ filter_map-append h (take i xs) (get_or xs i d ∷ []) ∙ rw is (append_nil (filter_map h (take i xs)))))
-    where
-      append_nil : (zs : List Y) → zs ++ [] ≡ zs
-      append_nil [] = refl
-      append_nil (z ∷ zs) = ap (λ ws. z ∷ ws) (append_nil zs)
+      so_far ∙ ap (λ zs. old ++ zs) (sym (ap (filter_map h) (take_more xs i d within) ∙ filter_map-append h (take i xs) (get_or xs i d ∷ []) ∙ rw is (append-nil (filter_map h (take i xs)))))
 
   pub gather_full : (h : X → Option Y) (old given : List Y) (xs : List X) (i most : ℕ) (d : X) (y : Y) → i < length xs → given ≡ old ++ filter_map h (take i xs) → h (get_or xs i d) ≡ Some y
       → length given ≡ most → AreGathered given (old ++ filter_map h xs) most true

@@ -17,12 +17,12 @@ use Rattle.fr_log.specs.LogState.{LogState, holds, first_of, durable_of, records
 use Rattle.fr_log.specs.Refusal.{refusal_of, seed_refusal, push_refusal, has_other_seed}
 use Rattle.fr_log.specs.Step.{answer_of, next_of, granted_answer, mark_answer, peek_of, records_above, upto_of}
 use Rattle.fr_log.specs.Fields.{five}
+use Rattle.fr_log.specs.StepLaws.{passes, granted}
 use Rattle.fr_log.specs.Change.{with_seed, with_push}
 use Rattle.fr_log.specs.Answer.{IsAnswer, IsSeededAnswer, IsHeldAnswer}
 use Rattle.fr_log.specs.Law.{TellIsAnswer, HeldIsHeld, OnePushIsSame, SameSeedIsSame, LockedIsStopped, PeekIsWhole, PeekGoesOn}
 use Rattle.fr_log.proofs.Rising.{Rises, Through, above, records_rise, records_through, rises_above, through_above, rises_take, last_of, last_above}
-use Rattle.fr_log.proofs.Pushing.{passed}
-use Rattle.fr_log.proofs.Changes.{granted, told, own_and_seeded}
+use Rattle.fr_log.proofs.Changes.{told, own_and_seeded}
 
 -- ---- which ask a tell answers
 
@@ -32,9 +32,9 @@ has_seed l s e None is =
     let k : next_of l (Seed s) ≡ with_seed l s = granted l (Seed s) e ∙ rw is refl in
     ap (λ n. n.seed) k
 has_seed l s e (Some t) is =
-    let a = passed (not (eqb s.epoch l.epoch)) _ _ e in
-    let b = passed _ _ _ a.1 in
-    let c = passed (has_other_seed l.seed s) _ _ b.1 in
+    let a = passes (not (eqb s.epoch l.epoch)) _ _ e in
+    let b = passes _ _ _ a.1 in
+    let c = passes (has_other_seed l.seed s) _ _ b.1 in
     let other : not (is_same_seed t s) ≡ false = ap (λ o. has_other_seed o s) (sym is) ∙ c.0 in
     let same = is_same_seed-IsSameness.same t s (not-false (is_same_seed t s) other) in
     let k : next_of l (Seed s) ≡ l = granted l (Seed s) e ∙ rw is refl in
@@ -45,7 +45,7 @@ seeded_answer l s e = record {
   seed = s;
   ask = refl;
   granted = e;
-  epoch = let a = passed (not (eqb s.epoch l.epoch)) _ _ e in eqb-true s.epoch l.epoch (not-false (eqb s.epoch l.epoch) a.0);
+  epoch = let a = passes (not (eqb s.epoch l.epoch)) _ _ e in eqb-true s.epoch l.epoch (not-false (eqb s.epoch l.epoch) a.0);
   after = has_seed l s e l.seed refl;
 }
 
@@ -69,8 +69,8 @@ held_answer l p e =
 peeked_answer : (l : LogState) (epoch tag after most : ℕ) → refusal_of l (Peek epoch tag after most) ≡ None → IsAnswer l (Peek epoch tag after most) (Peeked (peek_of l tag after most))
 peeked_answer l epoch tag after most e =
     let own = own_and_seeded l epoch _ _ _ e in
-    let c = passed (not (holds l tag)) _ _ own.2 in
-    let d = passed (nat_lt after (first_of l.seed - 1)) _ _ c.1 in
+    let c = passes (not (holds l tag)) _ _ own.2 in
+    let d = passes (nat_lt after (first_of l.seed - 1)) _ _ c.1 in
     record {
       tag = tag;
       after = after;
@@ -86,7 +86,7 @@ peeked_answer l epoch tag after most e =
 marked_answer : (l : LogState) (epoch : ℕ) → refusal_of l (MarkAsked epoch) ≡ None → (mark : Option CoordinatedState) → mark_among l.pushes ≡ mark → IsAnswer l (MarkAsked epoch) (mark_answer mark)
 marked_answer l epoch e None is =
     let own = own_and_seeded l epoch _ _ _ e in
-    let c = passed (is_none (mark_among l.pushes)) _ _ own.2 in
+    let c = passes (is_none (mark_among l.pushes)) _ _ own.2 in
     let k : is_none (mark_among l.pushes) ≡ true = ap is_none is in
     absurd (cc)
 marked_answer l epoch e (Some state) is =

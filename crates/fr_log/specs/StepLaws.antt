@@ -32,7 +32,7 @@ pub record IsRepeatable (l : LogState) (a : LogAsk) : Type 0 where
   pub high : NoneFell (log_high_water l) (log_high_water (next_of l a))
 
 -- a test that was passed: it did not refuse, and the later ones did not either
-passes : (test : Bool) (why : LogRefusal) (later : Option LogRefusal) → cond test (Some why) later ≡ None → (test ≡ false) × (later ≡ None)
+pub passes : (test : Bool) (why : LogRefusal) (later : Option LogRefusal) → cond test (Some why) later ≡ None → (test ≡ false) × (later ≡ None)
 passes true why later e = absurd (cc)
 passes false why later e = (refl, e)
 
@@ -56,10 +56,10 @@ moves l n a e told after high = record {
 refused : (l : LogState) (a : LogAsk) (why : LogRefusal) → refusal_of l a ≡ Some why → IsRepeatable l a
 refused l a why e = stays l a (ap (λ o. next_unless o l (granted_next l a)) e)
 
-granted : (l : LogState) (a : LogAsk) → refusal_of l a ≡ None → next_of l a ≡ granted_next l a
+pub granted : (l : LogState) (a : LogAsk) → refusal_of l a ≡ None → next_of l a ≡ granted_next l a
 granted l a e = ap (λ o. next_unless o l (granted_next l a)) e
 
-told_granted : (l : LogState) (a : LogAsk) → refusal_of l a ≡ None → answer_of l a ≡ granted_answer l a
+pub told_granted : (l : LogState) (a : LogAsk) → refusal_of l a ≡ None → answer_of l a ≡ granted_answer l a
 told_granted l a e = ap (λ o. answer_unless o (granted_answer l a)) e
 
 -- the greatest of more is not less
