@@ -105,13 +105,36 @@ fn a_program_ends_by_its_words(rt: HostRuntime) -> Result<(), Fail> {
     assert_eq!(rt; ending.status(), 2);
     assert!(rt; matches!(&ending, Ending::BadWords(_)));
     assert!(rt; written.is_empty());
-    let (ending, written) = end_of(rt.alloc(), ["fdbrec", "--version"].as_slice(), b"".as_slice())?;
+    let (ending, written) = end_of(
+        rt.alloc(),
+        ["fdbrec", "--version"].as_slice(),
+        b"".as_slice(),
+    )?;
     assert_eq!(rt; ending.status(), 0);
     assert!(rt; written.starts_with(b"fdbrec 0.1.0 (rattle-kit-".as_slice()));
-    let (ending, written) = end_of(rt.alloc(), ["fdbrec", "apply", "--help"].as_slice(), b"".as_slice())?;
+    let (ending, written) = end_of(
+        rt.alloc(),
+        ["fdbrec", "apply", "--help"].as_slice(),
+        b"".as_slice(),
+    )?;
     assert_eq!(rt; ending.status(), 0);
-    for name in ["undo", "forget", "advance", "clear", "xor", "TooMany", "BelowFloor", "4 input"] {
-        assert!(rt; written.as_slice().windows(name.len()).any(|at| at == name.as_bytes()), "{name}");
+    for name in [
+        "undo",
+        "forget",
+        "advance",
+        "clear",
+        "xor",
+        "TooMany",
+        "BelowFloor",
+        "4 input",
+    ] {
+        assert!(rt;
+            written
+                .as_slice()
+                .windows(name.len())
+                .any(|at| at == name.as_bytes()),
+            "{name}"
+        );
     }
     Ok(())
 }
@@ -151,7 +174,12 @@ fn a_program_ends_by_its_devices(rt: HostRuntime) -> Result<(), Fail> {
         assert!(rt; matches!(&ending, Ending::Fault(CliFault::Output)));
     }
     let words = words_of(rt.alloc(), ["fdbrec", "apply"].as_slice())?;
-    let ending = run_program(rt.alloc(), words.as_slice(), &mut Closed, &mut Vec::new(rt.alloc()));
+    let ending = run_program(
+        rt.alloc(),
+        words.as_slice(),
+        &mut Closed,
+        &mut Vec::new(rt.alloc()),
+    );
     assert!(rt; matches!(&ending, Ending::Fault(CliFault::Input)));
     Ok(())
 }

@@ -6,10 +6,12 @@ use std::alloc::{AllocError, Global};
 use std::test::Fail;
 
 /// An operation of each kind and mutations of each shape, as short as can be.
-const EACH: &str = r#"{"ops":[{"apply":{"version":5,"batch":[{"set":{"key":"6a","value":"01"}},{"clear":{"begin":"","end":"ff"}},{"max":{"param":"02","key":"6b"}}]}},{"undo":{"to":9}}]}"#;
+const EACH: &str =
+    r#"{"ops":[{"apply":{"version":5,"batch":[{"set":{"key":"6a","value":"01"}},{"clear":{"begin":"","end":"ff"}},{"max":{"param":"02","key":"6b"}}]}},{"undo":{"to":9}}]}"#;
 
 /// The other kinds, with an escape, spaces and members in the other order.
-const OTHERS: &str = r#"{ "o\u0070s":[{"apply":{"batch":[{"add":{"key":"00","param":"ff00"}}],"version":12}},{"advance":{"version" : 13}},{"forget":{"through":0}}]}"#;
+const OTHERS: &str =
+    r#"{ "o\u0070s":[{"apply":{"batch":[{"add":{"key":"00","param":"ff00"}}],"version":12}},{"advance":{"version" : 13}},{"forget":{"through":0}}]}"#;
 
 /// Short scripts, of which each byte is changed to each other.
 const CHANGED: [&str; 2] = [
@@ -42,7 +44,11 @@ fn both(alloc: Global, input: &[u8]) -> Result<Option<Result<u8, CliFault>>, All
 #[test]
 fn whole_scripts(rt: HostRuntime) -> Result<(), Fail> {
     for script in [EACH, OTHERS] {
-        assert_eq!(rt; both(rt.alloc(), script.as_bytes())?, Some(Ok(0)), "{script}");
+        assert_eq!(rt;
+            both(rt.alloc(), script.as_bytes())?,
+            Some(Ok(0)),
+            "{script}"
+        );
     }
     Ok(())
 }
@@ -98,10 +104,35 @@ fn undo_to(alloc: Global, text: &str) -> Result<String, AllocError> {
 fn numbers(rt: HostRuntime) -> Result<(), Fail> {
     let good = ["0", "1", "9", "4611686018427387903", " 7 ", "\t7\n"];
     let bad = [
-        "", "-", "-0", "-1", "+1", "00", "01", "1.0", "1.", ".5", "1e0", "1E2", "1e", "0x1", "1_0",
-        "4611686018427387904", "9223372036854775808", "18446744073709551615",
-        "18446744073709551616", "100000000000000000000000", "1e400", "NaN", "null", "true",
-        "\"1\"", "[1]", "{}", "1 1", "1,",
+        "",
+        "-",
+        "-0",
+        "-1",
+        "+1",
+        "00",
+        "01",
+        "1.0",
+        "1.",
+        ".5",
+        "1e0",
+        "1E2",
+        "1e",
+        "0x1",
+        "1_0",
+        "4611686018427387904",
+        "9223372036854775808",
+        "18446744073709551615",
+        "18446744073709551616",
+        "100000000000000000000000",
+        "1e400",
+        "NaN",
+        "null",
+        "true",
+        "\"1\"",
+        "[1]",
+        "{}",
+        "1 1",
+        "1,",
     ];
     for text in good {
         let script = undo_to(rt.alloc(), text)?;
@@ -117,7 +148,9 @@ fn numbers(rt: HostRuntime) -> Result<(), Fail> {
 
 /// A script that sets a key, which stands as a text in the quotes.
 fn set_of(alloc: Global, key: &str) -> Result<String, AllocError> {
-    format!(in alloc; "{{\"ops\":[{{\"apply\":{{\"version\":1,\"batch\":[{{\"set\":{{\"key\":\"{key}\",\"value\":\"\"}}}}]}}}}]}}")
+    format!(in alloc;
+        "{{\"ops\":[{{\"apply\":{{\"version\":1,\"batch\":[{{\"set\":{{\"key\":\"{key}\",\"value\":\"\"}}}}]}}}}]}}"
+    )
 }
 
 #[test]
@@ -127,7 +160,10 @@ fn hex_texts(rt: HostRuntime) -> Result<(), Fail> {
         ("00", "ok 1 floor 0 undo 1\n00 -\n"),
         ("09af", "ok 1 floor 0 undo 1\n09af -\n"),
         (r"\u0030\u0061", "ok 1 floor 0 undo 1\n0a -\n"),
-        ("abcdef0123456789", "ok 1 floor 0 undo 1\nabcdef0123456789 -\n"),
+        (
+            "abcdef0123456789",
+            "ok 1 floor 0 undo 1\nabcdef0123456789 -\n",
+        ),
     ];
     for (key, lines) in cases {
         let script = set_of(rt.alloc(), key)?;
@@ -135,7 +171,9 @@ fn hex_texts(rt: HostRuntime) -> Result<(), Fail> {
         let (_, written) = run(rt.alloc(), script.as_bytes());
         assert!(rt; written.as_slice() == lines.as_bytes(), "{key}");
     }
-    for key in ["0", "0a0", "0A", "g0", "0g", "/0", ":0", "`0", "é", "0 ", r"\n0"] {
+    for key in [
+        "0", "0a0", "0A", "g0", "0g", "/0", ":0", "`0", "é", "0 ", r"\n0",
+    ] {
         let script = set_of(rt.alloc(), key)?;
         let found = both(rt.alloc(), script.as_bytes())?;
         assert_eq!(rt; found, Some(Err(CliFault::BadScript)), "{key}");
@@ -157,9 +195,16 @@ fn repeated_members(rt: HostRuntime) -> Result<(), Fail> {
         r#"{"ops":[{"apply":{"version":7,"batch":[{"clear":0,"clear":{"begin":"","end":""}}]}}]}"#,
     ];
     for script in scripts {
-        assert_eq!(rt; both(rt.alloc(), script.as_bytes())?, Some(Ok(0)), "{script}");
+        assert_eq!(rt;
+            both(rt.alloc(), script.as_bytes())?,
+            Some(Ok(0)),
+            "{script}"
+        );
         let (_, written) = run(rt.alloc(), script.as_bytes());
-        assert!(rt; written.as_slice() == b"ok 7 floor 0 undo 0\n".as_slice(), "{script}");
+        assert!(rt;
+            written.as_slice() == b"ok 7 floor 0 undo 0\n".as_slice(),
+            "{script}"
+        );
     }
     let first_alone = r#"{"ops":[{"advance":{"version":7,"version":"no"}}]}"#;
     let found = both(rt.alloc(), first_alone.as_bytes())?;
@@ -185,7 +230,11 @@ fn nested(alloc: Global, depth: usize) -> Result<Vec<u8>, AllocError> {
 fn nesting(rt: HostRuntime) -> Result<(), Fail> {
     for depth in [1, 2, 125, 126] {
         let script = nested(rt.alloc(), depth)?;
-        assert_eq!(rt; both(rt.alloc(), script.as_slice())?, Some(Ok(0)), "{depth}");
+        assert_eq!(rt;
+            both(rt.alloc(), script.as_slice())?,
+            Some(Ok(0)),
+            "{depth}"
+        );
     }
     for depth in [127, 128, 129, 1000] {
         let script = nested(rt.alloc(), depth)?;
@@ -213,7 +262,11 @@ fn what_follows_a_script(rt: HostRuntime) -> Result<(), Fail> {
         } else {
             Err(CliFault::BadScript)
         };
-        assert_eq!(rt; both(rt.alloc(), script.as_bytes())?, Some(wanted), "{rest}");
+        assert_eq!(rt;
+            both(rt.alloc(), script.as_bytes())?,
+            Some(wanted),
+            "{rest}"
+        );
     }
     Ok(())
 }
