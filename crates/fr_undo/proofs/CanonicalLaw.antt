@@ -12,7 +12,7 @@ use Rattle.fr_mutation.specs.Mutation.{after}
 use Rattle.fr_undo.specs.State.{Place, place_cmp, StoreState, IsStoreState, fresh}
 use Rattle.fr_undo.specs.Undo.{same_value, before_if_changed, row_at, rows, undone, extended, forgotten}
 use Rattle.fr_undo.specs.Canonical.{Commit, Rises, contents_after, rows_after, canonical, commits_through}
-use Rattle.fr_undo.specs.Laws.{LeadsOn}
+use Rattle.fr_undo.specs.Law.{LeadsOn}
 use Rattle.fr_undo.proofs.UndoLemmas.{place_total, place_exact, same_from_same_value, get-rows, get-joined, get-contents_undone, get-rows_through, get-rows_above, same_state}
 use Rattle.fr_undo.proofs.RowLemmas.{least_by, least_row-by, least_by-none, least_by-same, least_by-at, option_or_none}
 use Rattle.fr_undo.proofs.ChangeLemmas.{cond_none}

@@ -19,7 +19,7 @@ use Rattle.fr_base.specs.Map.{map_of}
 use Rattle.fr_base.proofs.MapLemmas.{get-map_of, one_key, is_same-comm}
 use Rattle.fr_undo.specs.State.{Place, place_cmp, UndoRows}
 use Rattle.fr_undo.specs.declared.changes.Change.{Change}
-use Rattle.fr_undo.specs.Trees.{Contents, Rows, IsUpTo, IsAbove, PopsAbove}
+use Rattle.fr_undo.specs.Trees.{Rows, IsUpTo, IsAbove, PopsAbove}
 use Rattle.fr_undo.specs.Changes.{Changes, KnowBefore, after_of, first_row}
 use Rattle.fr_undo.specs.Undo.{least_row}
 use Rattle.fr_undo.proofs.UndoLemmas.{place_total, is_eq_second}

@@ -1,6 +1,6 @@
 use crate::{MapStore, ShardStore, StoreFault};
 use fr_base::{Bytes, Memory, Version};
-use fr_mutation::{Batch, Mutation, Shard};
+use fr_mutation::{AtomicOp, Batch, Mutation, Shard};
 use std::alloc::Global;
 use std::test::Fail;
 
@@ -38,7 +38,8 @@ fn undo_gives_the_earlier_value(rt: HostRuntime) -> Result<(), Fail> {
         begin: bytes(alloc, b"a")?,
         end: bytes(alloc, b"c")?,
     })?;
-    second.push(Mutation::Add {
+    second.push(Mutation::Atomic {
+        op: AtomicOp::Add,
         key: bytes(alloc, b"a")?,
         param: bytes(alloc, b"\x05")?,
     })?;

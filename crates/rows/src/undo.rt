@@ -1,7 +1,7 @@
 //! Batches applied and undone, call by call, on a store in memory and on one whose device fails once.
 use fails_once::FailsOnce;
 use fr_base::{Bytes, Memory, Version};
-use fr_mutation::{Batch, Mutation, Shard};
+use fr_mutation::{AtomicOp, Batch, Mutation, Shard};
 use fr_undo::{MapStore, ShardStore, StoreFault};
 use std::alloc::Global;
 use std::process::Abort;
@@ -26,7 +26,8 @@ fn batch(alloc: Global, byte: u8) -> Result<Batch, Fail> {
         begin: bytes(alloc, b"b")?,
         end: bytes(alloc, b"c")?,
     })?;
-    mutations.push(Mutation::Add {
+    mutations.push(Mutation::Atomic {
+        op: AtomicOp::Add,
         key: bytes(alloc, b"d")?,
         param: bytes(alloc, b"\x01")?,
     })?;

@@ -1,4 +1,4 @@
-use Rattle.std.proofs.Common.{◌≡◌, ◌||◌, ap, sym, ◌∙◌}
+use Rattle.std.proofs.Common.{◌||◌, ap, sym, ◌∙◌}
 use Rattle.fr_mutation.specs.Mutation.{is_between}
 use Rattle.fr_undo.specs.Changes.{covers}
 use Rattle.fr_undo.proofs.RangeLemmas.{or_assoc}
