@@ -24,11 +24,17 @@ pub enum Last {
         stopped: bool,
     },
     /// The last version that a sequencer gave.
-    Sequencer { last: Version },
+    Sequencer {
+        last: Version,
+    },
     /// The last version that a proxy knows to be committed.
-    Proxy { known: Version },
+    Proxy {
+        known: Version,
+    },
     /// The phase of a recoverer, as text.
-    Recoverer { phase: Bytes },
+    Recoverer {
+        phase: Bytes,
+    },
     /// The position of a storage server, the version through which it forgot its undo rows, and its rows
     /// in key order.
     Storage {

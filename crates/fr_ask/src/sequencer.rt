@@ -31,7 +31,9 @@ pub enum SeqTell {
         version: Version,
     },
     /// It gave no version, and nothing changed.
-    Refused { why: SeqRefusal },
+    Refused {
+        why: SeqRefusal,
+    },
 }
 
 impl SeqTell {

@@ -64,7 +64,7 @@ submit_keeps p step batch s e =
 
 -- ---- a tell is heard
 
-open_of : (p : ProxyState) (o : Open) → IsProxy p → p.under_way ≡ Some o → IsOpenOf p o
+pub open_of : (p : ProxyState) (o : Open) → IsProxy p → p.under_way ≡ Some o → IsOpenOf p o
 open_of p o s e = subst (λ u. IfSome u (IsOpenOf p)) e s.open_batch
 
 -- a number from which a push can be made

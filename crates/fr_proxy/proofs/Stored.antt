@@ -22,7 +22,8 @@ same_number n r prev version e =
     let a : n.request ≡ r = cc in
     let b : n.prev ≡ prev = cc in
     let d : n.version ≡ version = cc in
-    ap Some (three (λ x y z. let u : Number = record { request = x; prev = y; version = z } in u) a b d)
+    let make : ℕ → ℕ → ℕ → Number = λ x y z. record { request = x; prev = y; version = z } in
+    ap Some (three make a b d)
 
 stored : (o : Option Number) (r prev version : ℕ) → told_before o ≡ Numbered r prev version → o ≡ Some (record { request = r; prev = prev; version = version })
 stored None r prev version e = absurd (cc)

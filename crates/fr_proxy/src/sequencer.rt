@@ -141,9 +141,21 @@ impl Sequencer {
     {
         let prev = self.last;
         let version = after(prev, step);
-        put(&mut self.given, proxy, Number { request, prev, version })?;
+        put(
+            &mut self.given,
+            proxy,
+            Number {
+                request,
+                prev,
+                version,
+            },
+        )?;
         self.last = version;
-        Ok(SeqTell::Numbered { request, prev, version })
+        Ok(SeqTell::Numbered {
+            request,
+            prev,
+            version,
+        })
     }
 }
 

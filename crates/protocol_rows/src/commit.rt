@@ -102,24 +102,67 @@ fn committed_once_both_logs_hold_it(rt: HostRuntime) -> Result<(), Fail> {
     let alloc = rt.alloc();
     let mut proxy = proxy(alloc, 2, 1)?;
     let ask = proxy.submit(one()?, batch(alloc)?)?;
-    assert_eq!(rt; ask, Ask::Seq(SeqAsk::Next { proxy: 0, request: 1, step: one()? }));
+    assert_eq!(rt;
+        ask,
+        Ask::Seq(SeqAsk::Next {
+            proxy: 0,
+            request: 1,
+            step: one()?
+        })
+    );
     assert_eq!(rt; proxy.pending(alloc)?.len(), 1);
-    assert_eq!(rt; hear(&mut proxy, alloc, sequencer(257)?, numbered(1, 1, 2)?)?, (Outcome::Waiting, 2));
-    assert_eq!(rt; hear(&mut proxy, alloc, log(257, 0)?, held(2)?)?, (Outcome::Waiting, 0));
-    assert_eq!(rt; hear(&mut proxy, alloc, log(257, 0)?, held(2)?)?, (Outcome::Waiting, 0));
+    assert_eq!(rt;
+        hear(&mut proxy, alloc, sequencer(257)?, numbered(1, 1, 2)?)?,
+        (Outcome::Waiting, 2)
+    );
+    assert_eq!(rt;
+        hear(&mut proxy, alloc, log(257, 0)?, held(2)?)?,
+        (Outcome::Waiting, 0)
+    );
+    assert_eq!(rt;
+        hear(&mut proxy, alloc, log(257, 0)?, held(2)?)?,
+        (Outcome::Waiting, 0)
+    );
     assert_eq!(rt; proxy.pending(alloc)?.len(), 1);
-    assert!(rt; matches!(proxy.submit(one()?, batch(alloc)?), Err(SubmitFault::TwoOpen)));
+    assert!(rt;
+        matches!(
+            proxy.submit(one()?, batch(alloc)?),
+            Err(SubmitFault::TwoOpen)
+        )
+    );
     assert_eq!(rt; proxy.known(), at(0)?);
-    assert_eq!(rt; hear(&mut proxy, alloc, log(257, 1)?, held(2)?)?, (committed(2)?, 0));
+    assert_eq!(rt;
+        hear(&mut proxy, alloc, log(257, 1)?, held(2)?)?,
+        (committed(2)?, 0)
+    );
     assert_eq!(rt; proxy.known(), at(2)?);
     assert_eq!(rt; proxy.pending(alloc)?.len(), 0);
     let ask = proxy.submit(one()?, batch(alloc)?)?;
-    assert_eq!(rt; ask, Ask::Seq(SeqAsk::Next { proxy: 0, request: 2, step: one()? }));
-    assert_eq!(rt; hear(&mut proxy, alloc, sequencer(257)?, numbered(2, 2, 3)?)?, (Outcome::Waiting, 2));
-    assert_eq!(rt; hear(&mut proxy, alloc, log(257, 1)?, stopped())?, (Outcome::Ended, 0));
+    assert_eq!(rt;
+        ask,
+        Ask::Seq(SeqAsk::Next {
+            proxy: 0,
+            request: 2,
+            step: one()?
+        })
+    );
+    assert_eq!(rt;
+        hear(&mut proxy, alloc, sequencer(257)?, numbered(2, 2, 3)?)?,
+        (Outcome::Waiting, 2)
+    );
+    assert_eq!(rt;
+        hear(&mut proxy, alloc, log(257, 1)?, stopped())?,
+        (Outcome::Ended, 0)
+    );
     assert!(rt; matches!(proxy.submit(one()?, batch(alloc)?), Err(SubmitFault::Over)));
-    assert_eq!(rt; hear(&mut proxy, alloc, log(257, 0)?, held(3)?)?, (Outcome::Waiting, 0));
-    assert_eq!(rt; hear(&mut proxy, alloc, log(257, 1)?, stopped())?, (Outcome::Waiting, 0));
+    assert_eq!(rt;
+        hear(&mut proxy, alloc, log(257, 0)?, held(3)?)?,
+        (Outcome::Waiting, 0)
+    );
+    assert_eq!(rt;
+        hear(&mut proxy, alloc, log(257, 1)?, stopped())?,
+        (Outcome::Waiting, 0)
+    );
     assert_eq!(rt; proxy.known(), at(2)?);
     Ok(())
 }
@@ -161,13 +204,36 @@ fn what_counts_nothing(rt: HostRuntime) -> Result<(), Fail> {
     // before the number
     assert_eq!(rt; hear(&mut proxy, alloc, log(257, 0)?, held(2)?)?, waits);
     // of another request, of another epoch's sequencer, at a version that is not above the one before
-    assert_eq!(rt; hear(&mut proxy, alloc, sequencer(257)?, numbered(2, 1, 2)?)?, waits);
-    assert_eq!(rt; hear(&mut proxy, alloc, sequencer(513)?, numbered(1, 1, 2)?)?, waits);
-    assert_eq!(rt; hear(&mut proxy, alloc, sequencer(257)?, numbered(1, 2, 2)?)?, waits);
-    assert_eq!(rt; hear(&mut proxy, alloc, sequencer(257)?, numbered(1, 1, 1_000_002)?)?, waits);
-    assert_eq!(rt; hear(&mut proxy, alloc, sequencer(257)?, numbered(1, 1, 2)?)?, (Outcome::Waiting, 2));
+    assert_eq!(rt;
+        hear(&mut proxy, alloc, sequencer(257)?, numbered(2, 1, 2)?)?,
+        waits
+    );
+    assert_eq!(rt;
+        hear(&mut proxy, alloc, sequencer(513)?, numbered(1, 1, 2)?)?,
+        waits
+    );
+    assert_eq!(rt;
+        hear(&mut proxy, alloc, sequencer(257)?, numbered(1, 2, 2)?)?,
+        waits
+    );
+    assert_eq!(rt;
+        hear(
+            &mut proxy,
+            alloc,
+            sequencer(257)?,
+            numbered(1, 1, 1_000_002)?
+        )?,
+        waits
+    );
+    assert_eq!(rt;
+        hear(&mut proxy, alloc, sequencer(257)?, numbered(1, 1, 2)?)?,
+        (Outcome::Waiting, 2)
+    );
     // a second number of the same request
-    assert_eq!(rt; hear(&mut proxy, alloc, sequencer(257)?, numbered(1, 2, 3)?)?, waits);
+    assert_eq!(rt;
+        hear(&mut proxy, alloc, sequencer(257)?, numbered(1, 2, 3)?)?,
+        waits
+    );
     // of another version, from another epoch's log, from beyond the logs, from no log
     assert_eq!(rt; hear(&mut proxy, alloc, log(257, 0)?, held(1)?)?, waits);
     assert_eq!(rt; hear(&mut proxy, alloc, log(513, 0)?, held(2)?)?, waits);
@@ -176,8 +242,14 @@ fn what_counts_nothing(rt: HostRuntime) -> Result<(), Fail> {
     assert_eq!(rt; hear(&mut proxy, alloc, log(513, 0)?, stopped())?, waits);
     assert_eq!(rt; hear(&mut proxy, alloc, log(257, 0)?, held(2)?)?, waits);
     let mut copy = proxy.copy(alloc)?;
-    assert_eq!(rt; hear(&mut proxy, alloc, log(257, 1)?, held(2)?)?, (committed(2)?, 0));
-    assert_eq!(rt; hear(&mut copy, alloc, sequencer(257)?, spent())?, (Outcome::Ended, 0));
+    assert_eq!(rt;
+        hear(&mut proxy, alloc, log(257, 1)?, held(2)?)?,
+        (committed(2)?, 0)
+    );
+    assert_eq!(rt;
+        hear(&mut copy, alloc, sequencer(257)?, spent())?,
+        (Outcome::Ended, 0)
+    );
     Ok(())
 }
 
@@ -186,11 +258,20 @@ fn ended_before_the_number(rt: HostRuntime) -> Result<(), Fail> {
     let alloc = rt.alloc();
     let mut first = proxy(alloc, 2, 1)?;
     let _ask = first.submit(one()?, batch(alloc)?)?;
-    assert_eq!(rt; hear(&mut first, alloc, log(257, 1)?, stopped())?, (Outcome::Ended, 0));
-    assert_eq!(rt; hear(&mut first, alloc, sequencer(257)?, numbered(1, 1, 2)?)?, (Outcome::Waiting, 0));
+    assert_eq!(rt;
+        hear(&mut first, alloc, log(257, 1)?, stopped())?,
+        (Outcome::Ended, 0)
+    );
+    assert_eq!(rt;
+        hear(&mut first, alloc, sequencer(257)?, numbered(1, 1, 2)?)?,
+        (Outcome::Waiting, 0)
+    );
     let mut second = proxy(alloc, 2, 1)?;
     let _ask = second.submit(one()?, batch(alloc)?)?;
-    assert_eq!(rt; hear(&mut second, alloc, sequencer(257)?, spent())?, (Outcome::Ended, 0));
+    assert_eq!(rt;
+        hear(&mut second, alloc, sequencer(257)?, spent())?,
+        (Outcome::Ended, 0)
+    );
     assert!(rt; matches!(second.submit(one()?, batch(alloc)?), Err(SubmitFault::Over)));
     Ok(())
 }
@@ -228,11 +309,27 @@ fn known_of_the_next_generation_begins_below_its_first(rt: HostRuntime) -> Resul
     let mut proxy = Proxy::new(epoch(513)?, 1, 1, 1, map, at(9)?);
     assert_eq!(rt; proxy.known(), at(9)?);
     let ask = proxy.submit(one()?, batch(alloc)?)?;
-    assert_eq!(rt; ask, Ask::Seq(SeqAsk::Next { proxy: 1, request: 1, step: one()? }));
+    assert_eq!(rt;
+        ask,
+        Ask::Seq(SeqAsk::Next {
+            proxy: 1,
+            request: 1,
+            step: one()?
+        })
+    );
     // a number from below what is known makes no push
-    assert_eq!(rt; hear(&mut proxy, alloc, sequencer(513)?, numbered(1, 8, 12)?)?, (Outcome::Waiting, 0));
-    assert_eq!(rt; hear(&mut proxy, alloc, sequencer(513)?, numbered(1, 11, 12)?)?, (Outcome::Waiting, 1));
-    assert_eq!(rt; hear(&mut proxy, alloc, log(513, 0)?, held(12)?)?, (committed(12)?, 0));
+    assert_eq!(rt;
+        hear(&mut proxy, alloc, sequencer(513)?, numbered(1, 8, 12)?)?,
+        (Outcome::Waiting, 0)
+    );
+    assert_eq!(rt;
+        hear(&mut proxy, alloc, sequencer(513)?, numbered(1, 11, 12)?)?,
+        (Outcome::Waiting, 1)
+    );
+    assert_eq!(rt;
+        hear(&mut proxy, alloc, log(513, 0)?, held(12)?)?,
+        (committed(12)?, 0)
+    );
     assert_eq!(rt; proxy.known(), at(12)?);
     Ok(())
 }

@@ -42,7 +42,10 @@ fn a_request_is_told_its_number_again(rt: HostRuntime) -> Result<(), Fail> {
     assert_eq!(rt; sequencer.step(alloc, ask(0, 1, 1)?)?, numbered(1, 1, 2)?);
     assert_eq!(rt; sequencer.step(alloc, ask(0, 1, 1)?)?, numbered(1, 1, 2)?);
     assert_eq!(rt; sequencer.step(alloc, ask(0, 1, 9)?)?, numbered(1, 1, 2)?);
-    assert_eq!(rt; sequencer.step(alloc, ask(0, 3, 1)?)?, refused(SeqRefusal::OutOfTurn));
+    assert_eq!(rt;
+        sequencer.step(alloc, ask(0, 3, 1)?)?,
+        refused(SeqRefusal::OutOfTurn)
+    );
     assert_eq!(rt; sequencer.last(), at(2)?);
     Ok(())
 }
@@ -51,11 +54,23 @@ fn a_request_is_told_its_number_again(rt: HostRuntime) -> Result<(), Fail> {
 fn the_last_version_is_below_two_to_the_62nd(rt: HostRuntime) -> Result<(), Fail> {
     let alloc = rt.alloc();
     let mut spent = sequencer(alloc, (1 << 62) - 1)?;
-    assert_eq!(rt; spent.step(alloc, ask(0, 1, 1)?)?, refused(SeqRefusal::Spent));
-    assert_eq!(rt; spent.step(alloc, ask(0, 2, 1)?)?, refused(SeqRefusal::OutOfTurn));
+    assert_eq!(rt;
+        spent.step(alloc, ask(0, 1, 1)?)?,
+        refused(SeqRefusal::Spent)
+    );
+    assert_eq!(rt;
+        spent.step(alloc, ask(0, 2, 1)?)?,
+        refused(SeqRefusal::OutOfTurn)
+    );
     let mut nearly = sequencer(alloc, (1 << 62) - 2)?;
-    assert_eq!(rt; nearly.step(alloc, ask(0, 1, 2)?)?, refused(SeqRefusal::Spent));
-    assert_eq!(rt; nearly.step(alloc, ask(0, 1, 1)?)?, numbered(1, (1 << 62) - 2, (1 << 62) - 1)?);
+    assert_eq!(rt;
+        nearly.step(alloc, ask(0, 1, 2)?)?,
+        refused(SeqRefusal::Spent)
+    );
+    assert_eq!(rt;
+        nearly.step(alloc, ask(0, 1, 1)?)?,
+        numbered(1, (1 << 62) - 2, (1 << 62) - 1)?
+    );
     Ok(())
 }
 
@@ -67,7 +82,10 @@ fn two_proxies_share_one_chain(rt: HostRuntime) -> Result<(), Fail> {
     assert_eq!(rt; sequencer.step(alloc, ask(1, 1, 5)?)?, numbered(1, 2, 7)?);
     assert_eq!(rt; sequencer.step(alloc, ask(0, 1, 1)?)?, numbered(1, 1, 2)?);
     assert_eq!(rt; sequencer.step(alloc, ask(0, 2, 3)?)?, numbered(2, 7, 10)?);
-    assert_eq!(rt; sequencer.step(alloc, ask(0, 1, 1)?)?, refused(SeqRefusal::OutOfTurn));
+    assert_eq!(rt;
+        sequencer.step(alloc, ask(0, 1, 1)?)?,
+        refused(SeqRefusal::OutOfTurn)
+    );
     let mut copy = sequencer.copy()?;
     assert_eq!(rt; copy.step(alloc, ask(1, 2, 1)?)?, numbered(2, 10, 11)?);
     assert_eq!(rt; sequencer.last(), at(10)?);
