@@ -5,3 +5,4 @@ pub mod Given
 pub mod Pushing
 pub mod Sound
 pub mod Stored
+pub mod CommittedLaw

@@ -1,5 +1,6 @@
 //! Laws of sequencers and proxies.
 ghost use Rattle.fr_proxy.specs.Heard.{HearIsHeard, NewIsPush};
+ghost use Rattle.fr_proxy.specs.Committed.{CommittedIsHeldByAll};
 ghost use Rattle.fr_proxy.specs.KeptLaw.{GivenIsStored, HearKeeps, KnownRises, NewIsProxy, OthersKeepTheirs, SubmitKeeps, ToldIsStored};
 ghost use Rattle.fr_proxy.specs.Law.{AccountedStays, HearGrows, LastRises, NewIsAccounted, SubmitGrows, SubmitIsAccounted};
 
@@ -38,4 +39,11 @@ pub fn stored_law()
     ensures told { ToldIsStored }
     ensures given { GivenIsStored }
     ensures others { OthersKeepTheirs }
+{}
+
+/// Over every list of tells since a batch had its place: committed is said only at a tell by which each
+/// of the m logs has told that it holds the batch at its version, while not all had told so before, and
+/// only where none of the tells before ended it.
+pub fn committed_law()
+    ensures { CommittedIsHeldByAll }
 {}

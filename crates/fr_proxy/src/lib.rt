@@ -11,8 +11,8 @@ mod sequencer;
 mod under_way;
 
 pub use fault::SubmitFault;
-pub use laws::{account_law, growth_law, heard_law, kept_law, stored_law};
 pub use heeded::Heeded;
+pub use laws::{account_law, committed_law, growth_law, heard_law, kept_law, stored_law};
 pub use number::{Number, Place};
 pub use outcome::Outcome;
 pub use proxy::Proxy;
