@@ -1,6 +1,6 @@
 -- Records applied one after the other: what is left of them, done to the store so far, is all of them done to the first one.
 use Rattle.std.proofs.Common.{◌≡◌, ℕ, suc, ◌+◌, ◌<◌, ◌≤◌, Bool, true, false, nat_lt, nat_le, List, [], ◌∷◌, map, drop, length, get_or, cond, Option, inl, inr, refl, sym, ap, ◌∙◌, subst, arith}
-use Rattle.std.specs.Prelude.{◌⊎◌, ◌&&◌, IsTrue, Contains, filter}
+use Rattle.std.specs.Prelude.{◌⊎◌, ◌&&◌, IsTrue, Contains}
 use Rattle.std.proofs.lemmas.Bool.{and_parts, leb-true, ltb-true, le-leb}
 use Rattle.std.proofs.Math.Seq.{drop-cons}
 use Rattle.fr_undo.specs.State.{StoreState}

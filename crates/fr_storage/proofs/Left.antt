@@ -1,13 +1,13 @@
 -- What a crash may leave after calls of a store: a store on the way of the calls.
-use Rattle.std.proofs.Common.{◌≡◌, ℕ, zero, suc, ◌<◌, ◌≤◌, Bool, true, false, max, min, nat_lt, ◌||◌, List, [], ◌∷◌, ◌++◌, map, length, cond, inl, inr, refl, sym, ap, ◌∙◌, subst, arith}
-use Rattle.std.specs.Prelude.{◌⊎◌, Contains, Result, Ok, Err, OnErr, IsOk}
+use Rattle.std.proofs.Common.{◌≡◌, ℕ, zero, suc, Bool, true, false, max, nat_lt, ◌||◌, List, [], ◌∷◌, ◌++◌, map, cond, inl, inr, refl, sym, ◌∙◌, subst, arith}
+use Rattle.std.specs.Prelude.{Contains, Result, Ok, Err, OnErr, IsOk}
 use Rattle.std.proofs.lemmas.Bool.{ltb-true, ltb-false}
 use Rattle.fr_undo.specs.declared.fault.StoreFault.{StoreFault}
 use Rattle.fr_undo.specs.declared.fault.StoreFault.TheVariants.{Device, Full, Failed, Memory, NotAfter, BelowFloor, AboveApplied}
 use Rattle.fr_undo.specs.State.{StoreState}
-use Rattle.fr_undo.specs.Calls.{is_device, met_device, LeavesOneOf, StaysUnlessFailed, LeftAsIs, Writes}
+use Rattle.fr_undo.specs.Calls.{is_device, met_device, LeavesOneOf, StaysUnlessFailed, Writes}
 use Rattle.fr_log.specs.declared.records.PeekedRecord.{PeekedRecord}
-use Rattle.fr_storage.specs.Storage.{Call, Advance, called, after_calls, stages, apply_of, reached, advance_calls, forget_calls}
+use Rattle.fr_storage.specs.Storage.{Call, Advance, called, after_calls, stages, apply_of, reached, advance_calls}
 use Rattle.fr_storage.specs.Server.{IsWhole, LeavesStages}
 
 -- ---- stages

@@ -1,15 +1,14 @@
 -- Position and floor after each hear.
-use Rattle.std.proofs.Common.{◌≡◌, ℕ, ◌≤◌, Bool, true, false, cond, max, min, nat_lt, ◌&&◌, List, [], ◌∷◌, ◌++◌, map, filter, Option, None, Some, refl, sym, ap, ◌∙◌, subst, arith}
+use Rattle.std.proofs.Common.{◌≡◌, ℕ, ◌≤◌, Bool, true, false, cond, max, min, nat_lt, ◌&&◌, List, [], ◌∷◌, Option, None, Some, refl, sym, ap, ◌∙◌, arith}
 use Rattle.std.proofs.lemmas.Bool.{and_parts, ltb-true, ltb-false}
 use Rattle.fr_undo.specs.State.{StoreState}
-use Rattle.fr_state.specs.Generations.{CoordinatedState}
 use Rattle.fr_state.specs.LookUp.{end_of}
 use Rattle.fr_state.specs.Same.{is_same_state}
 use Rattle.fr_state.specs.Spelling.{spelling}
 use Rattle.fr_log.specs.declared.records.PeekedRecord.{PeekedRecord}
 use Rattle.fr_log.specs.Peeked.{PeekedContent}
 use Rattle.fr_storage.specs.declared.fault.StorageFault.{StorageFault}
-use Rattle.fr_storage.specs.Storage.{StorageState, Call, UndoTo, SetState, Forget, after_calls, own_epoch, cut_in, marked_fault, marked_calls, after_marked, records_between, is_within, reached, reached_by, new_records, target_of, forget_calls, peeked_fault, peeked_calls, after_peeked, unless_fault}
+use Rattle.fr_storage.specs.Storage.{StorageState, Call, UndoTo, SetState, Forget, after_calls, own_epoch, cut_in, marked_fault, marked_calls, records_between, is_within, reached, reached_by, new_records, target_of, forget_calls, peeked_fault, peeked_calls, after_peeked, unless_fault}
 use Rattle.fr_storage.specs.Position.{MarkedApplied, MarkedFloor, PeekedApplied, PeekedRises, PeekedFloor}
 use Rattle.fr_storage.proofs.Left.{applied_after, floor_after, applied_advanced, floor_advanced}
 use Rattle.fr_storage.proofs.Pulls.{applies, advances, forgets, ends}

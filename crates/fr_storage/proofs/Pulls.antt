@@ -1,9 +1,8 @@
 -- The calls at an answer of a log, in three parts: the records, the advance and the forget.
-use Rattle.std.proofs.Common.{◌≡◌, ℕ, Bool, List, [], ◌∷◌, ◌++◌, map, max, min, Option, refl, sym, ap, ◌∙◌, subst, ◌+◌, arith, IsTrue}
+use Rattle.std.proofs.Common.{◌≡◌, ℕ, List, [], ◌∷◌, ◌++◌, map, max, min, Option, refl, sym, ap, ◌∙◌, subst, ◌+◌, arith, IsTrue}
 use Rattle.std.specs.Prelude.{Contains}
 use Rattle.std.proofs.lemmas.List.{append_assoc}
 use Rattle.fr_undo.specs.State.{StoreState}
-use Rattle.fr_log.specs.declared.records.PeekedRecord.{PeekedRecord}
 use Rattle.fr_log.specs.Peeked.{PeekedContent, IsPeeked, is_rising_from}
 use Rattle.fr_storage.specs.Storage.{Call, after_calls, stages, records_between, reached, apply_of, advance_calls, forget_calls, cut_at}
 use Rattle.fr_storage.specs.Server.{LeavesStages}

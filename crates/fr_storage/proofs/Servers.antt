@@ -1,5 +1,5 @@
 -- A storage server whose store was called.
-use Rattle.std.proofs.Common.{◌≡◌, ℕ, zero, suc, ◌<◌, Bool, true, false, cond, nat_lt, List, [], ◌∷◌, ◌++◌, map, Option, None, Some, refl, sym, ap, ◌∙◌, subst, ◌+◌, arith}
+use Rattle.std.proofs.Common.{◌≡◌, ℕ, zero, suc, Bool, true, false, cond, nat_lt, List, [], ◌∷◌, ◌++◌, map, Option, None, refl, sym, ap, ◌∙◌, subst, arith}
 use Rattle.std.specs.Prelude.{Contains}
 use Rattle.fr_undo.specs.State.{StoreState}
 use Rattle.fr_log.specs.declared.records.PeekedRecord.{PeekedRecord}
@@ -9,7 +9,7 @@ use Rattle.fr_state.specs.Same.{is_same_state}
 use Rattle.fr_state.specs.Spelling.{spelling}
 use Rattle.fr_state.specs.LookUp.{end_of}
 use Rattle.fr_storage.specs.declared.fault.StorageFault.{StorageFault}
-use Rattle.fr_storage.specs.Storage.{StorageState, Call, Advance, Forget, UndoTo, SetState, called, after_calls, stages, apply_of, advance_calls, forget_calls, records_between, reached, cut_at, cut_in, own_epoch, marked_fault, marked_calls, peeked_fault, peeked_calls, unless_fault}
+use Rattle.fr_storage.specs.Storage.{StorageState, Call, Advance, Forget, UndoTo, SetState, called, after_calls, stages, apply_of, advance_calls, forget_calls, records_between, reached, cut_at, cut_in, own_epoch, marked_fault, marked_calls, peeked_calls, unless_fault}
 use Rattle.fr_storage.specs.Server.{Server, storage_of, IsSpelled, IsServer, IsWhole, LeavesStages}
 use Rattle.fr_storage.specs.Pull.{pull_calls}
 use Rattle.fr_storage.proofs.Left.{first_stage, last_stage, one_stage}

@@ -1,7 +1,7 @@
-use Rattle.std.proofs.Common.{rules, ◌≡◌, ℕ, Bool, true, false, None, List, [], ◌∷◌, subst, sym, ap, ◌∙◌}
+use Rattle.std.proofs.Common.{rules, ◌≡◌, ℕ, true, false, None, List, [], ◌∷◌, subst, sym, ◌∙◌}
 use Rattle.fr_state.specs.Same.{is_same_state}
 use Rattle.fr_state.specs.Spelling.{spelling}
-use Rattle.fr_storage.specs.Storage.{Call, UndoTo, SetState, cut_in, own_epoch, marked_fault, marked_calls}
+use Rattle.fr_storage.specs.Storage.{Call, UndoTo, SetState, marked_fault}
 use Rattle.fr_storage.specs.Server.{Server, storage_of, LeavesStages}
 use Rattle.fr_storage.proofs.Servers.{moves, stays, ended}
 use Rattle.fr_storage.proofs.storage.Storage.hear_marked.Goals as goal

@@ -1,6 +1,5 @@
-use Rattle.std.proofs.Common.{rules, ◌≡◌, ℕ, false, true, None, Option, List, [], subst, sym, ap, ◌∙◌}
+use Rattle.std.proofs.Common.{rules, ◌≡◌, ℕ, None, Option, List, subst, sym, ap, ◌∙◌}
 use Rattle.fr_undo.specs.State.{StoreState}
-use Rattle.fr_state.specs.LookUp.{end_of}
 use Rattle.fr_storage.specs.Storage.{StorageState, Call, after_calls, records_between, new_records, peeked_fault, peeked_calls}
 use Rattle.fr_storage.specs.Pull.{pull_calls}
 use Rattle.fr_storage.specs.Server.{Server, storage_of, IsServer, IsSpelled, LeavesStages}

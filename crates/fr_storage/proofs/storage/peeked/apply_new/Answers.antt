@@ -1,5 +1,4 @@
-use Rattle.std.proofs.Common.{◌≡◌, ◌+◌, ◌∷◌, false, drop, map, rules, subst, sym, refl, ap, ◌∙◌}
-use Rattle.fr_log.specs.declared.records.PeekedRecord.{PeekedRecord}
+use Rattle.std.proofs.Common.{◌≡◌, ◌+◌, ◌∷◌, drop, map, subst, sym, ap, ◌∙◌}
 use Rattle.fr_undo.specs.Undo.{extended}
 use Rattle.fr_storage.specs.Storage.{apply_of, records_between}
 use Rattle.fr_storage.specs.Server.{IsWhole}

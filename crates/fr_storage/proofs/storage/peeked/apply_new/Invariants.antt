@@ -1,7 +1,4 @@
-use Rattle.std.proofs.Common.{◌≡◌, ◌+◌, ◌⊎◌, false, [], drop, map, IsTrue}
-use Rattle.fr_undo.specs.State.{StoreState}
-use Rattle.fr_log.specs.Peeked.{is_rising_from}
-use Rattle.fr_storage.specs.Storage.{records_between, apply_of, after_calls, stages}
+use Rattle.std.proofs.Common.{drop}
 use Rattle.fr_storage.specs.Server.{IsWhole}
 use Rattle.fr_storage.proofs.Applied.{Lies}
 use Rattle.fr_storage.proofs.storage.peeked.apply_new.Given as goal

@@ -1,10 +1,8 @@
-use Rattle.std.proofs.Common.{◌≡◌, ℕ, [], List, map, min, subst, sym, ap, ◌∙◌}
-use Rattle.fr_undo.specs.State.{StoreState}
-use Rattle.fr_log.specs.declared.records.PeekedRecord.{PeekedRecord}
+use Rattle.std.proofs.Common.{◌≡◌, ℕ, [], List, map, min, subst, ap, ◌∙◌}
 use Rattle.fr_storage.specs.Storage.{Call, after_calls, records_between, apply_of, advance_calls, forget_calls, cut_at}
 use Rattle.fr_storage.specs.Server.{LeavesStages}
 use Rattle.fr_storage.proofs.Left.{on_err, not_ok}
-use Rattle.fr_storage.proofs.Pulls.{rise, applies, advances, forgets, ends, at_records, at_advance, at_forget, no_records, no_advance, no_forget}
+use Rattle.fr_storage.proofs.Pulls.{rise, applies, advances, ends, at_records, at_advance, at_forget, no_records, no_advance, no_forget}
 use Rattle.fr_storage.proofs.storage.peeked.pull.Goals as goal
 
 pub apply_new-requires-clause-rise : goal.apply_new-requires-clause-rise

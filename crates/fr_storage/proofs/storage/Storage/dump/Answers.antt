@@ -1,1 +1,0 @@
-use Rattle.fr_storage.proofs.Servers.{taken}
