@@ -24,7 +24,7 @@ pub record IsEndOfReplies (s : EndState) (pev rv : ℕ) : Type 0 where
   pub durable_some : (r : Reply) × Contains s.replies r × (r.durable ≡ rv)
 
 abbrev pub EndIsOfReplies : Type 0
-EndIsOfReplies = (s : EndState) (e : EpochEnd) → end_of s ≡ Ok (Some e) → 1 ≤ s.m → IsEndOfReplies s e.pev e.rv
+EndIsOfReplies = (s : EndState) (e : EpochEnd) → end_of s ≡ Ok (Some e) → IsEndOfReplies s e.pev e.rv
 
 -- more replies leave a tally that covers covering, so once there is an end, or an inconsistency, there is one or the other
 abbrev pub CoveredStays : Type 0

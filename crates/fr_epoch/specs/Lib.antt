@@ -6,3 +6,4 @@ pub mod Hear
 pub mod Asks
 pub mod Change
 pub mod Law
+pub mod WriteLaw

@@ -1,5 +1,8 @@
 //! Laws of recoverers.
+ghost use Rattle.fr_epoch.specs.EndLaw.{CoveredStays, EndIsOfReplies};
 ghost use Rattle.fr_epoch.specs.Law.{AccountedStays, HearGrows, HearIsChange, HearLeavesPlan, HearLeavesRecoverer, NewIsAccounted, PendingIsAccounted};
+
+ghost use Rattle.fr_epoch.specs.WriteLaw.{HearKeepsMade, HearKeepsSeeded, MarkIsChosen, MarksAreOne, SeedIsOfCopied, SeedsAreOne, WriteIsParentExtended, WrittenIsSeeded};
 
 use fr_tail::laws::tail_law;
 
@@ -15,3 +18,25 @@ pub fn recovery_law()
 {
     tail_law();
 }
+
+/// The end of an epoch is that of all replies that count: `pev` is the greatest version that one of the
+/// logs knows to be committed, `rv` the least that one of them holds. Replies that cover stay so.
+pub fn end_law()
+    ensures end { EndIsOfReplies }
+    ensures covered { CoveredStays }
+{}
+
+/// What a recoverer writes, and when: it writes no state before each log of the new generation counts as
+/// seeded, and then one state, that of its parent with the new generation behind it. It seeds from a
+/// complete copy alone, each log always with the same seed, and it pushes the mark, which is one push,
+/// only once its state is chosen.
+pub fn write_law()
+    ensures made { HearKeepsMade }
+    ensures seeded { HearKeepsSeeded }
+    ensures written { WrittenIsSeeded }
+    ensures extended { WriteIsParentExtended }
+    ensures mark { MarkIsChosen }
+    ensures marks { MarksAreOne }
+    ensures seed { SeedIsOfCopied }
+    ensures seeds { SeedsAreOne }
+{}
