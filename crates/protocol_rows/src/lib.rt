@@ -4,6 +4,10 @@
 #[cfg(test)]
 mod commit;
 #[cfg(test)]
+mod end;
+#[cfg(test)]
 mod sequencer;
 #[cfg(test)]
 mod storage;
+#[cfg(test)]
+mod tail;
