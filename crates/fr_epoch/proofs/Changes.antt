@@ -2,7 +2,6 @@
 use Rattle.std.proofs.Common.{◌≡◌, ℕ, ◌+◌, ◌^◌, ◌<◌, ◌≤◌, Bool, true, false, cond, nat_lt, nat_le, ◌==◌, ◌&&◌, not, Option, None, Some, refl, ◌∙◌, ap}
 use Rattle.std.specs.Prelude.{Result, Ok, Err}
 use Rattle.std.proofs.lemmas.Bool.{and_parts, eqb-true, ltb-false, ltb-true, leb-false, not-true}
-use Rattle.fr_base.specs.declared.place.NodeId.{NodeId}
 use Rattle.fr_register.specs.Tally.{hear_read, hear_write, progress_of}
 use Rattle.fr_register.specs.declared.ask.CellTell.{CellTell}
 use Rattle.fr_register.specs.declared.poll.Progress.{Progress}
@@ -18,10 +17,10 @@ use Rattle.fr_log.specs.declared.ask.LogTell.TheVariants as log
 use Rattle.fr_log.specs.Peeked.{PeekedContent}
 use Rattle.fr_epoch.specs.EndTally.{EndState, is_covered, pev_of, rv_of}
 use Rattle.fr_epoch.specs.Recoverer.{RecState, Phase, Parent, Plan, Reading, Locking, Copying, Writing, Chosen, Lost, is_copied, is_written}
-use Rattle.fr_epoch.specs.Words.{Word, OfCell, OfLog, Other, Heed, Nothing, Replied, Given, IsSeeded, IsMarked, is_in, word_of, heed_in, heed_locked, heed_lock, heed_peeked, heed_seeded, heed_copy, heed_held, heed_mark, is_newly_seeded, is_newly_marked}
-use Rattle.fr_epoch.specs.Hear.{lost, why_of, with_last, with_parent, after_reads, with_read, with_plan, ended, after_reply, with_lock, next_generation, with_tail, after_seeded, with_seeded, after_writes, with_write, after_heed}
+use Rattle.fr_epoch.specs.Words.{Word, OfCell, OfLog, Other, Nothing, Replied, Given, IsSeeded, IsMarked, is_in, word_of, heed_in, heed_locked, heed_lock, heed_peeked, heed_seeded, heed_copy, heed_held, heed_mark, is_newly_seeded, is_newly_marked}
+use Rattle.fr_epoch.specs.Hear.{lost, why_of, with_last, with_parent, after_reads, with_read, with_plan, ended, after_reply, with_lock, next_generation, with_seeded, after_writes, with_write, after_heed}
 use Rattle.fr_epoch.specs.declared.why.LostWhy.TheVariants as why
-use Rattle.fr_epoch.specs.Change.{IsPromised, IsReplied, IsGiven, IsNewlySeeded, IsVoted, IsNewlyMarked, replied, Change, Stands, LosesReads, Reads, Finds, Locks, LosesLocks, Plans, Copies, Seeds, SeedsAll, Writes, LosesWrites, Chooses, Marks}
+use Rattle.fr_epoch.specs.Change.{IsPromised, IsReplied, IsNewlySeeded, IsVoted, replied, Change, Stands, LosesReads, Reads, Finds, Locks, LosesLocks, Plans, Copies, Seeds, SeedsAll, Writes, LosesWrites, Chooses, Marks}
 use Rattle.fr_epoch.specs.Law.{HearIsChange}
 
 -- ---- reading
@@ -63,7 +62,7 @@ reply r w p end i durable known at = go (is_covered (replied end i durable known
 
     consistent : (b : Bool) → is_covered (replied end i durable known) ≡ true → nat_lt (rv_of (replied end i durable known)) (pev_of (replied end i durable known)) ≡ b
         → Change r w (cond b (lost (with_lock r end i durable known) why.Inconsistent) (cond (nat_le (2 ^ 62) (rv_of (replied end i durable known) + 1)) (lost (with_lock r end i durable known) why.Spent)
-            (with_plan (with_lock r end i durable known) p (replied end i durable known) (extended p.state (next_generation r p (replied end i durable known))))))
+        (with_plan (with_lock r end i durable known) p (replied end i durable known) (extended p.state (next_generation r p (replied end i durable known))))))
     consistent true cov e = LosesLocks p end i durable known why.Inconsistent at
     consistent false cov e = later (nat_le (2 ^ 62) (rv_of (replied end i durable known) + 1)) cov (ltb-false (rv_of (replied end i durable known)) (pev_of (replied end i durable known)) e) refl
 

@@ -1,12 +1,12 @@
 -- What the end of an epoch says of the replies that are counted.
-use Rattle.std.proofs.Common.{◌≡◌, ℕ, ◌+◌, ◌-◌, ◌<◌, ◌≤◌, ◌⊎◌, Bool, true, false, cond, not, ◌&&◌, ◌||◌, nat_lt, ◌==◌, List, [], ◌∷◌, ◌++◌, map, min, max, Some, refl, sym, ◌∙◌, ap, subst, inl, inr, arith}
-use Rattle.std.specs.Prelude.{fold, Ok, Err, count_by, Option, None, Result}
-use Rattle.std.specs.List.{All, Contains, list_any, range_with_len}
+use Rattle.std.proofs.Common.{◌≡◌, ℕ, ◌+◌, ◌-◌, ◌≤◌, ◌⊎◌, Bool, true, false, cond, not, ◌&&◌, ◌||◌, nat_lt, ◌==◌, List, [], ◌∷◌, ◌++◌, map, min, max, Some, refl, sym, ◌∙◌, ap, subst, inl, inr, arith}
+use Rattle.std.specs.Prelude.{fold, Ok, Err, count_by, None}
+use Rattle.std.specs.List.{All, Contains, range_with_len}
 use Rattle.std.proofs.lemmas.Bool.{cases_lt, le-ltb, lt-ltb, ltb-true, ltb-false}
 use Rattle.std.proofs.lemmas.List.Elements.{All-nil, All-cons, All-head, Contains-append_left, Contains-append_right, Contains-push}
 use Rattle.std.proofs.lemmas.List.Sums.{sum_by-cons}
 use Rattle.fr_tags.specs.Placement.{covers, is_among, log_count}
-use Rattle.fr_epoch.specs.EndTally.{EndState, has_replied, with_reply, is_covered, responders, greatest_known, least_durable, pev_of, rv_of, end_of}
+use Rattle.fr_epoch.specs.EndTally.{EndState, has_replied, is_covered, responders, greatest_known, least_durable, pev_of, rv_of}
 use Rattle.fr_epoch.specs.EndLaw.{IsEndOfReplies, EndIsOfReplies, CoveredStays}
 use Rattle.fr_epoch.specs.declared.reply.Reply.{Reply}
 use Rattle.fr_epoch.specs.declared.end.EpochEnd.{EpochEnd}

@@ -1,9 +1,8 @@
 -- Tallies of replies: at most one reply of each log counts, and the end is of all of them.
-use Rattle.std.proofs.Common.{◌≡◌, ℕ, zero, suc, ◌+◌, ◌<◌, ◌≤◌, ◌⊎◌, Bool, true, false, cond, ◌&&◌, ◌||◌, not, nat_lt, ◌==◌, eqb, List, [], ◌∷◌, ◌++◌, length, map, take, set, min, max, Option, None, Some, refl, sym, ◌∙◌, ap, subst, inl, inr, arith, length-take, length-append}
-use Rattle.std.specs.Prelude.{fold, Ok, Err, Result}
-use Rattle.std.specs.List.{All, AllByRecursion, Contains, IsDistinct, list_any}
-use Rattle.std.proofs.lemmas.Bool.{eq-eqb, eqb-true, ltb-true, ltb-false, lt-ltb, ne_eqb, or_parts, cases_lt}
-
+use Rattle.std.proofs.Common.{◌≡◌, ℕ, zero, suc, ◌+◌, ◌<◌, ◌≤◌, Bool, true, false, cond, ◌&&◌, ◌||◌, not, nat_lt, ◌==◌, eqb, List, [], ◌∷◌, ◌++◌, length, map, take, set, None, Some, refl, sym, ◌∙◌, ap, subst, arith, length-take}
+use Rattle.std.specs.Prelude.{Ok, Err}
+use Rattle.std.specs.List.{All, AllByRecursion, IsDistinct, list_any}
+use Rattle.std.proofs.lemmas.Bool.{eq-eqb, eqb-true, lt-ltb, ne_eqb, or_parts}
 use Rattle.std.proofs.lemmas.List.Elements.{All-nil, All-cons, All-append, All-tail, All-head}
 use Rattle.std.proofs.lemmas.Map.Steps.{length-le_from_distinct_below}
 use Rattle.fr_epoch.specs.EndTally.{EndState, reply_of, has_replied, with_reply, heard_reply, differs, differs_from}

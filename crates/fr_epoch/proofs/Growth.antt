@@ -63,7 +63,7 @@ shape w r n (Finds i t s g at is) h = record {
   chosen = λ e. absurd (cc);
   parentless = λ e. absurd (cc);
   tallied = λ q e. (let k : Some (let p : Parent = record { state = s; last = g } in p) ≡ Some q = e in let d : (let p : Parent = record { state = s; last = g } in p) ≡ q = cc in
-    (new_end g.m g.k, refl, ap (λ (p : Parent). p.last.m) d, ap (λ (p : Parent). p.last.k) d));
+      (new_end g.m g.k, refl, ap (λ (p : Parent). p.last.m) d, ap (λ (p : Parent). p.last.k) d));
 }
 shape w r n (Locks p end i durable known at) h = record {
   reading = h.reading;

@@ -1,12 +1,11 @@
 -- What a recoverer writes, and when.
-use Rattle.std.proofs.Common.{◌≡◌, ℕ, ◌+◌, ◌<◌, ◌≤◌, Bool, true, false, ◌&&◌, ◌||◌, nat_le, ◌==◌, eqb, List, [], ◌∷◌, ◌++◌, length, Option, None, Some, refl, sym, ◌∙◌, ap, subst, inl, inr, arith}
+use Rattle.std.proofs.Common.{◌≡◌, ℕ, ◌<◌, ◌≤◌, Bool, true, false, ◌||◌, nat_le, ◌==◌, eqb, List, [], ◌∷◌, ◌++◌, length, Option, None, Some, refl, sym, ◌∙◌, ap, subst, arith}
 use Rattle.std.specs.List.{All, AllByRecursion, IsDistinct, list_any}
-use Rattle.std.proofs.lemmas.Bool.{and_parts, leb-true, eq-eqb, eqb-true, ne_eqb, or_parts, false_from_ne_true}
+use Rattle.std.proofs.lemmas.Bool.{and_parts, leb-true, eq-eqb, eqb-true, ne_eqb, or_parts}
 use Rattle.std.proofs.lemmas.List.Elements.{All-nil, All-cons, All-append, All-head, All-tail}
 use Rattle.std.proofs.lemmas.Map.Steps.{length-le_from_distinct_below}
 use Rattle.fr_tail.specs.Tail.{TailState, is_complete, seed_for, after_hear as after_peeked}
-use Rattle.fr_epoch.specs.EndTally.{EndState}
-use Rattle.fr_epoch.specs.Recoverer.{RecState, Parent, Plan, Reading, Locking, Copying, Writing, Chosen, is_written_in, mark_of}
+use Rattle.fr_epoch.specs.Recoverer.{RecState, Plan, is_written_in, mark_of}
 use Rattle.fr_epoch.specs.Words.{Word, word_of, is_in}
 use Rattle.fr_epoch.specs.Hear.{plan_of, after_hear}
 use Rattle.fr_epoch.specs.Change.{replied, Change, Stands, LosesReads, Reads, Finds, Locks, LosesLocks, Plans, Copies, Seeds, SeedsAll, Writes, LosesWrites, Chooses, Marks}
@@ -27,17 +26,23 @@ made w r n (Finds i t s g at is) h k = none_made r n (h.parentless (h.reading at
 made w r n (Locks p end i durable known at) h k = none_made r n (h.locking at.phase) refl
 made w r n (LosesLocks p end i durable known why at) h k = none_made r n (h.locking at.phase) refl
 made w r n (Plans p end i durable known s at is) h k = λ q e. (
-    let d : plan_of r p (replied end i durable known) s ≡ q = cc in
-    (p, replied end i durable known, subst (λ x. IsMadeOf n x p (replied end i durable known)) d
-        (record { parent = at.parent; tally = refl; covered = is.covered; within = is.within; below = is.below; first = refl; seeded_to = refl; state = is.state })))
+    let d : plan_of r p (replied end i durable known) s ≡ q = cc in (
+      p,
+      replied end i durable known,
+      subst (λ x. IsMadeOf n x p (replied end i durable known)) d
+          (record { parent = at.parent; tally = refl; covered = is.covered; within = is.within; below = is.below; first = refl; seeded_to = refl; state = is.state }),
+    ))
 made w r n (Copies parent p i peeked at) h k = λ q e. (
     let t : TailState = after_peeked p.tail i peeked.tag peeked in
     let m : Plan = record { state = p.state; generation = p.generation; tail = t } in
     let d : m ≡ q = cc in
     let was = k p at.plan in
-    let is = was.2 in
-    (was.0, was.1, subst (λ x. IsMadeOf n x was.0 was.1) d
-        (record { parent = is.parent; tally = is.tally; covered = is.covered; within = is.within; below = is.below; first = is.first; seeded_to = is.seeded_to; state = is.state })))
+    let is = was.2 in (
+      was.0,
+      was.1,
+      subst (λ x. IsMadeOf n x was.0 was.1) d
+          (record { parent = is.parent; tally = is.tally; covered = is.covered; within = is.within; below = is.below; first = is.first; seeded_to = is.seeded_to; state = is.state }),
+    ))
 made w r n (Seeds p i at l) h k = λ q e. (let was = k q e in let is = was.2 in (was.0, was.1, record { parent = is.parent; tally = is.tally; covered = is.covered; within = is.within; below = is.below; first = is.first; seeded_to = is.seeded_to; state = is.state }))
 made w r n (SeedsAll p i at l) h k = λ q e. (let was = k q e in let is = was.2 in (was.0, was.1, record { parent = is.parent; tally = is.tally; covered = is.covered; within = is.within; below = is.below; first = is.first; seeded_to = is.seeded_to; state = is.state }))
 made w r n (Writes i t at) h k = λ q e. (let was = k q e in let is = was.2 in (was.0, was.1, record { parent = is.parent; tally = is.tally; covered = is.covered; within = is.within; below = is.below; first = is.first; seeded_to = is.seeded_to; state = is.state }))
@@ -69,7 +74,7 @@ one_more : (plan : Option Plan) (p : Plan) (seeded : List ℕ) (i : ℕ) → pla
 one_more plan p seeded i at below first k = record {
   none = λ e. let c : Some p ≡ None = sym at ∙ e in absurd (cc);
   below = λ q e. (let c : Some p ≡ Some q = sym at ∙ e in let d : p ≡ q = cc in
-    All-append (λ j. j < q.generation.m) seeded (i ∷ []) (k.below q e) (All-cons (λ j. j < q.generation.m) i [] (subst (λ (x : Plan). i < x.generation.m) d below) (All-nil (λ j. j < q.generation.m))));
+      All-append (λ j. j < q.generation.m) seeded (i ∷ []) (k.below q e) (All-cons (λ j. j < q.generation.m) i [] (subst (λ (x : Plan). i < x.generation.m) d below) (All-nil (λ j. j < q.generation.m))));
   distinct = distinct_more seeded i first k.distinct;
 }
 
@@ -88,9 +93,9 @@ seeded w r n (Plans p end i durable known s at is) h k = record {
 seeded w r n (Copies parent p i peeked at) h k = record {
   none = λ e. absurd (cc);
   below = λ q e. (
-    let m : Plan = record { state = p.state; generation = p.generation; tail = after_peeked p.tail i peeked.tag peeked } in
-    let d : m ≡ q = cc in
-    subst (λ (x : Plan). All (λ j. j < x.generation.m) r.seeded) d (k.below p at.plan));
+      let m : Plan = record { state = p.state; generation = p.generation; tail = after_peeked p.tail i peeked.tag peeked } in
+      let d : m ≡ q = cc in
+      subst (λ (x : Plan). All (λ j. j < x.generation.m) r.seeded) d (k.below p at.plan));
   distinct = k.distinct;
 }
 seeded w r n (Seeds p i at l) h k = one_more r.plan p r.seeded i at.plan at.below at.first k

@@ -1,5 +1,5 @@
 -- What every tally of replies is, and what its end says of the replies.
-use Rattle.std.specs.Prelude.{◌≡◌, ℕ, ◌<◌, ◌≤◌, ◌==◌, true, List, [], ◌∷◌, map, length, take, All, Contains, Some, Ok, Err}
+use Rattle.std.specs.Prelude.{◌≡◌, ℕ, ◌<◌, ◌≤◌, ◌==◌, true, List, map, length, take, All, Contains, Some, Ok}
 use Rattle.std.specs.List.{IsDistinct}
 use Rattle.fr_epoch.specs.EndTally.{EndState, with_reply, is_covered, end_of}
 use Rattle.fr_epoch.specs.declared.reply.Reply.{Reply}

@@ -1,8 +1,7 @@
 -- What a recoverer writes, and when.
-use Rattle.std.specs.Prelude.{◌≡◌, ◌<◌, ◌≤◌, ◌+◌, ◌^◌, ◌==◌, ℕ, true, List, [], Option, None, Some, Ok, All, Contains}
+use Rattle.std.specs.Prelude.{◌≡◌, ◌<◌, ◌≤◌, ◌+◌, ◌^◌, ◌==◌, ℕ, true, List, [], Option, None, Some, Ok, All}
 use Rattle.std.specs.List.{IsDistinct}
 use Rattle.fr_base.specs.declared.place.NodeId.{NodeId}
-use Rattle.fr_register.specs.declared.ask.CellAsk.{CellAsk}
 use Rattle.fr_register.specs.declared.ask.CellAsk.TheVariants.{Write}
 use Rattle.fr_log.specs.declared.ask.LogAsk.TheVariants.{Push, Seed}
 use Rattle.fr_log.specs.Push.{PushContent}

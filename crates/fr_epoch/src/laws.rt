@@ -1,7 +1,6 @@
 //! Laws of recoverers.
 ghost use Rattle.fr_epoch.specs.EndLaw.{CoveredStays, EndIsOfReplies};
 ghost use Rattle.fr_epoch.specs.Law.{AccountedStays, HearGrows, HearIsChange, HearLeavesPlan, HearLeavesRecoverer, NewIsAccounted, PendingIsAccounted};
-
 ghost use Rattle.fr_epoch.specs.WriteLaw.{HearKeepsMade, HearKeepsSeeded, MarkIsChosen, MarksAreOne, SeedIsOfCopied, SeedsAreOne, WriteIsParentExtended, WrittenIsSeeded};
 
 use fr_tail::laws::tail_law;

@@ -7,7 +7,7 @@ pub mod laws;
 mod reply;
 mod why;
 
-pub use end_tally::EndTally;
 pub use end::{EpochEnd, Inconsistent, ReplyFault};
+pub use end_tally::EndTally;
 pub use reply::Reply;
 pub use why::LostWhy;

@@ -1,6 +1,6 @@
-use Rattle.std.proofs.Common.{◌≡◌, ◌<◌, false, ap, ◌∙◌, sym, subst, arith, rules}
+use Rattle.std.proofs.Common.{◌<◌, ap, ◌∙◌, sym, subst}
 use Rattle.fr_epoch.specs.EndTally.{EndState, has_replied}
-use Rattle.fr_epoch.proofs.Ends.{IsPlaced, placed, placed_is}
+use Rattle.fr_epoch.proofs.Ends.{placed, placed_is}
 use Rattle.fr_epoch.proofs.end_tally.EndTally.add.Goals as goal
 
 pub listed : goal.listed

@@ -1,5 +1,4 @@
-use Rattle.std.proofs.Common.{◌≡◌, Some, None, ap, ◌∙◌, sym, subst, arith, rules}
-use Rattle.fr_epoch.specs.EndTally.{reply_of}
+use Rattle.std.proofs.Common.{sym, rules}
 use Rattle.fr_epoch.specs.declared.reply.Reply.{Reply}
 use Rattle.fr_epoch.proofs.Ends.{none_replied, counted_once, heard_again}
 use Rattle.fr_epoch.proofs.end_tally.EndTally.hear.Goals as goal
