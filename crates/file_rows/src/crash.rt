@@ -5,6 +5,7 @@ use std::alloc::Global;
 use std::test::Fail;
 
 const ROOM: usize = 64;
+
 const FILLS: [u8; 3] = [0x00, 0x01, 0xff];
 
 /// Three records of one, two and three bytes.
@@ -40,7 +41,11 @@ fn stopped(alloc: Global, is_group: bool, stop: u64, fill: u8) -> Result<MemoryD
 /// How many records are there after a stop: the gate that was written and not synced is the fill.
 fn wanted(is_group: bool, stop: u64, fill: u8) -> usize {
     let more = if is_group { 3 } else { 1 };
-    if stop == 5 || stop == 4 && fill == 1 { 1 + more } else { 1 }
+    if stop == 5 || stop == 4 && fill == 1 {
+        1 + more
+    } else {
+        1
+    }
 }
 
 #[test]
@@ -110,7 +115,10 @@ fn each_call_fails_in_turn(rt: HostRuntime) -> Result<(), Fail> {
     for n in 3..7 {
         let device = FaultyDevice::once(MemoryDevice::new(alloc, ROOM)?, n);
         let mut file = Records::format(alloc, device)?;
-        assert_eq!(rt; file.append(alloc, &[0x61]).err(), Some(RecordFault::Device));
+        assert_eq!(rt;
+            file.append(alloc, &[0x61]).err(),
+            Some(RecordFault::Device)
+        );
         file.reopen(alloc)?;
         let found = if n < 6 { 0 } else { 1 };
         assert_eq!(rt; file.len(), found);

@@ -47,7 +47,10 @@ fn a_group_in_bytes(rt: HostRuntime) -> Result<(), Fail> {
     let found = file.get(alloc, 1)?.ok_or("no record")?;
     assert_eq!(rt; found.as_slice(), [2, 3].as_slice());
     let device = file.into_device();
-    assert_eq!(rt; device.bytes(), [1, 0, 0, 0, 1, 1, 1, 0, 0, 0, 2, 2, 3, 0].as_slice());
+    assert_eq!(rt;
+        device.bytes(),
+        [1, 0, 0, 0, 1, 1, 1, 0, 0, 0, 2, 2, 3, 0].as_slice()
+    );
     let file = Records::open(alloc, device)?;
     assert_eq!(rt; file.len(), 2);
     Ok(())
@@ -59,7 +62,10 @@ fn no_file(rt: HostRuntime) -> Result<(), Fail> {
     let broken = Some(RecordFault::Broken);
     assert_eq!(rt; Records::open(alloc, holding(alloc, &[])?).err(), broken);
     assert_eq!(rt; Records::open(alloc, holding(alloc, &[1])?).err(), broken);
-    assert_eq!(rt; Records::open(alloc, holding(alloc, &[1, 0, 0, 0, 2, 0x61])?).err(), broken);
+    assert_eq!(rt;
+        Records::open(alloc, holding(alloc, &[1, 0, 0, 0, 2, 0x61])?).err(),
+        broken
+    );
     let file = Records::open(alloc, holding(alloc, &[7])?)?;
     assert_eq!(rt; file.len(), 0);
     assert_eq!(rt; file.into_device().bytes(), [0].as_slice());
@@ -72,11 +78,17 @@ fn room_for_one(rt: HostRuntime) -> Result<(), Fail> {
     let none = Records::format(alloc, MemoryDevice::new(alloc, 0)?);
     assert_eq!(rt; none.err(), Some(RecordFault::Full));
     let mut file = Records::format(alloc, MemoryDevice::new(alloc, 7)?)?;
-    assert_eq!(rt; file.append(alloc, &[0x61, 0x62]).err(), Some(RecordFault::Full));
+    assert_eq!(rt;
+        file.append(alloc, &[0x61, 0x62]).err(),
+        Some(RecordFault::Full)
+    );
     assert_eq!(rt; file.len(), 0);
     let mut group = Vec::new(alloc);
     group.push(Vec::from_slice(alloc, &[0x61, 0x62])?)?;
-    assert_eq!(rt; file.append_group(alloc, &group).err(), Some(RecordFault::Full));
+    assert_eq!(rt;
+        file.append_group(alloc, &group).err(),
+        Some(RecordFault::Full)
+    );
     assert_eq!(rt; file.into_device().bytes(), [0].as_slice());
     let mut file = Records::format(alloc, MemoryDevice::new(alloc, 8)?)?;
     file.append(alloc, &[0x61, 0x62])?;
@@ -111,9 +123,15 @@ fn a_failed_file_is_opened_again(rt: HostRuntime) -> Result<(), Fail> {
     let alloc = rt.alloc();
     let device = FaultyDevice::once(MemoryDevice::new(alloc, ROOM)?, 6);
     let mut file = Records::format(alloc, device)?;
-    assert_eq!(rt; file.append(alloc, &[0x61]).err(), Some(RecordFault::Device));
+    assert_eq!(rt;
+        file.append(alloc, &[0x61]).err(),
+        Some(RecordFault::Device)
+    );
     assert_eq!(rt; file.is_failed(), true);
-    assert_eq!(rt; file.append(alloc, &[0x61]).err(), Some(RecordFault::Failed));
+    assert_eq!(rt;
+        file.append(alloc, &[0x61]).err(),
+        Some(RecordFault::Failed)
+    );
     assert_eq!(rt; file.get(alloc, 0).err(), Some(RecordFault::Failed));
     assert_eq!(rt; file.len(), 0);
     file.reopen(alloc)?;

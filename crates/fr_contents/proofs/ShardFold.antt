@@ -12,7 +12,7 @@ use Rattle.fr_mutation.specs.declared.mutation.Mutation.{Mutation}
 use Rattle.fr_mutation.specs.Mutation.{after}
 use Rattle.fr_mutation.specs.Clip.{clipped}
 use Rattle.fr_mutation.specs.Shard.{part}
-use Rattle.fr_mutation.specs.Laws.{ValueAfterLaw, ClipLaw}
+use Rattle.fr_mutation.specs.Law.{ValueAfterLaw, ClipLaw}
 use Rattle.fr_tags.specs.Shards.{shard_at}
 use Rattle.fr_tags.specs.SplitLaw.{ClipsMakeThePartFromNothing}
 use Rattle.fr_undo.specs.Canonical.{Commit, contents_after}

@@ -1,6 +1,6 @@
 -- What a file opens to, at rest and while a group is in flight.
-use Rattle.std.proofs.Common.{◌≡◌, ◌⊎◌, inl, inr, ℕ, ◌+◌, ◌<◌, ◌≤◌, Bool, List, [], ◌∷◌, ◌++◌, length, refl, sym, ap, ◌∙◌, subst, arith, length-append, Vec}
-use Rattle.std.specs.Prelude.{◌^◌, Option, None, Some, fold, All, zero, suc, Result, Ok, Err, OnOk}
+use Rattle.std.proofs.Common.{◌≡◌, ◌⊎◌, inl, inr, ℕ, ◌<◌, ◌≤◌, List, [], ◌∷◌, ◌++◌, length, refl, sym, ap, ◌∙◌, subst, arith, length-append, Vec}
+use Rattle.std.specs.Prelude.{◌^◌, Option, Some, fold, All, zero, suc, Result, Ok, Err, OnOk}
 use Rattle.std.specs.declared.alloc.Global.{Global}
 use Rattle.std.proofs.lemmas.List.{append-nil}
 use Rattle.std.proofs.lemmas.List.Sums.{fold-append}
@@ -11,7 +11,10 @@ use Rattle.fr_record.specs.File.{AreShort, StandsFor, IsLeft, IsAtRest}
 use Rattle.fr_record.specs.Group.{records_of}
 use Rattle.fr_record.specs.Laws.{OneList, WholeOrNot, RestStands}
 use Rattle.fr_node.specs.Replay.{replayed, next_replayed, Opens}
-use Rattle.fr_node.specs.Node.{InFlight}
+use Rattle.fr_base.specs.declared.node.NodeFault.TheVariants as node
+use Rattle.fr_record.specs.declared.fault.RecordFault.{RecordFault}
+use Rattle.fr_record.specs.declared.fault.RecordFault.TheVariants.{Device, Full, Failed, Memory, Broken}
+use Rattle.fr_node.specs.Node.{InFlight, node_fault}
 
 pub content_left : (disk : Disk) → MayLeave disk disk.content
 content_left disk = record { no_shorter = omega arith; no_longer = omega arith; same = λ i h k. refl }
@@ -116,3 +119,11 @@ no_records (v ∷ vs) none = absurd (omega (arith, none))
 pub on_ok : {T E : Type 0} (r : Result T E) (P Q : Type 0) → (P → Q) → OnOk r P → OnOk r Q
 on_ok (Ok x) P Q f p = f p
 on_ok (Err e) P Q f p = p
+
+-- a node's file is no file of its format only where the file says so
+pub is_broken : (fault : RecordFault) → node_fault fault ≡ node.Broken → fault ≡ Broken
+is_broken Device e = absurd (cc e)
+is_broken Full e = absurd (cc e)
+is_broken Failed e = absurd (cc e)
+is_broken Memory e = absurd (cc e)
+is_broken Broken e = refl

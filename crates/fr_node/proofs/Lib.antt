@@ -1,2 +1,4 @@
 mod Lemmas
 mod NodeLemmas
+mod ReadLemmas
+mod CellLemmas

@@ -1,5 +1,5 @@
 -- A node, before and after a call of its file.
-use Rattle.std.proofs.Common.{◌≡◌, ◌⊎◌, inl, inr, ℕ, Bool, true, false, List, [], ◌∷◌, ◌++◌, refl, sym, ap, ◌∙◌, subst}
+use Rattle.std.proofs.Common.{◌≡◌, ◌⊎◌, inl, inr, ℕ, Bool, true, false, List, [], ◌++◌, refl, sym, ap, ◌∙◌, subst}
 use Rattle.std.specs.Prelude.{Option, None, Some, IsSome, IfSome}
 use Rattle.fr_device.specs.Disk.{Disk}
 use Rattle.fr_device.specs.Moments.{LeavesOnly, Throughout}
@@ -9,12 +9,12 @@ use Rattle.fr_node.specs.Replay.{replayed, Opens}
 use Rattle.fr_node.specs.Node.{NodeState, InFlight, group_of, IsNode}
 use Rattle.fr_node.proofs.Lemmas.{started, weaker, at_last, put_flight, replays_more, rest_opens, flight_opens}
 
-module _ {D M A : Type 0} (Led : D → D → Type 0) (disk : D → Disk) (fresh : M → M) (replay : M → List ℕ → Option M) (written : M → A → List (List ℕ)) (IsAsk : A → Type 0) (IsReached : M → Type 0) (after : M → A → M) where
+module _ {D M A : Type 0} (Led : D → D → Type 0) (disk : D → Disk) (fresh : M → M) (replay : M → List ℕ → Option M) (written : M → A → List (List ℕ)) (IsAsk : A → Type 0) (IsSound : M → Type 0) (after : M → A → M) where
   abbrev pub IsNodeHere : NodeState D M A → Type 0
-  IsNodeHere n = IsNode Led disk fresh replay written IsAsk IsReached n
+  IsNodeHere n = IsNode Led disk fresh replay written IsAsk IsSound n
 
   abbrev pub Replays : Type 0
-  Replays = (s : M) (a : A) → IsReached s → IsAsk a → replayed replay (Some s) (written s a) ≡ Some (after s a)
+  Replays = (s : M) (a : A) → IsSound s → IsAsk a → replayed replay (Some s) (written s a) ≡ Some (after s a)
 
   abbrev pub SameFresh : Type 0
   SameFresh = (s : M) (a : A) → fresh (after s a) ≡ fresh s
@@ -43,7 +43,7 @@ module _ {D M A : Type 0} (Led : D → D → Type 0) (disk : D → Disk) (fresh 
     pub claimed : Replays → WholeOrNot → RestStands → (a : A) → IsAsk a → (last : D) → Throughout Led disk (InFlight n.records (written n.machine a)) n.device last → Claim a last
     claimed law whole_or_not rest_stands a asks last moments =
         weaker Led disk (InFlight n.records (written n.machine a)) _
-        (flight_opens replay (fresh n.machine) n.records n.machine node.replays _ (inl refl) whole_or_not rest_stands (written n.machine a) (after n.machine a) (law n.machine a node.reached asks) (inr refl))
+        (flight_opens replay (fresh n.machine) n.records n.machine node.replays _ (inl refl) whole_or_not rest_stands (written n.machine a) (after n.machine a) (law n.machine a node.sound asks) (inr refl))
         n.device last moments
 
     -- what the records and the machine are then
@@ -51,7 +51,7 @@ module _ {D M A : Type 0} (Led : D → D → Type 0) (disk : D → Disk) (fresh 
     grown law same_fresh a asks m records m_is records_is =
         ap (λ f. replayed replay (Some f) records) (ap fresh m_is ∙ same_fresh n.machine a)
         ∙ ap (λ rs. replayed replay (Some (fresh n.machine)) rs) records_is
-        ∙ replays_more replay (fresh n.machine) n.records n.machine node.replays (written n.machine a) (after n.machine a) (law n.machine a node.reached asks)
+        ∙ replays_more replay (fresh n.machine) n.records n.machine node.replays (written n.machine a) (after n.machine a) (law n.machine a node.sound asks)
         ∙ ap (λ x. Some x) (sym m_is)
 
     pub same : (m : M) (records : List (List ℕ)) → m ≡ n.machine → records ≡ n.records → replayed replay (Some (fresh m)) records ≡ Some m
@@ -59,11 +59,11 @@ module _ {D M A : Type 0} (Led : D → D → Type 0) (disk : D → Disk) (fresh 
         ap (λ x. replayed replay (Some (fresh x)) records) m_is ∙ ap (λ rs. replayed replay (Some (fresh n.machine)) rs) records_is ∙ node.replays ∙ ap (λ x. Some x) (sym m_is)
 
     -- the node while its device works
-    pub working : n.is_failed ≡ false → (device : D) (records : List (List ℕ)) (is_failed : Bool) (m : M) → is_failed ≡ false → replayed replay (Some (fresh m)) records ≡ Some m → IsReached m
+    pub working : n.is_failed ≡ false → (device : D) (records : List (List ℕ)) (is_failed : Bool) (m : M) → is_failed ≡ false → replayed replay (Some (fresh m)) records ≡ Some m → IsSound m
         → IsNodeHere (record { device = device; records = records; is_failed = is_failed; machine = m; held = n.held })
-    working works device records is_failed m still_works replays reached = record {
+    working works device records is_failed m still_works replays sound = record {
       replays = replays;
-      reached = reached;
+      sound = sound;
       idle = λ _. node.idle works;
       asked = node.asked;
       owed = λ fails. absurd (cc (fails, still_works));
@@ -71,11 +71,11 @@ module _ {D M A : Type 0} (Led : D → D → Type 0) (disk : D → Disk) (fresh 
 
     -- the node whose device failed in an ask
     pub failing : (a : A) → IsAsk a → (device : D) → Throughout Led disk (InFlight n.records (written n.machine a)) n.device device
-        → (records : List (List ℕ)) (is_failed : Bool) (m : M) (b : A) → records ≡ n.records → is_failed ≡ true → m ≡ n.machine → b ≡ a → IsReached m
+        → (records : List (List ℕ)) (is_failed : Bool) (m : M) (b : A) → records ≡ n.records → is_failed ≡ true → m ≡ n.machine → b ≡ a → IsSound m
         → IsNodeHere (record { device = device; records = records; is_failed = is_failed; machine = m; held = Some b })
-    failing a asks device moments records is_failed m b records_is fails m_is b_is reached = record {
+    failing a asks device moments records is_failed m b records_is fails m_is b_is sound = record {
       replays = same m records m_is records_is;
-      reached = reached;
+      sound = sound;
       idle = λ works. absurd (cc (fails, works));
       asked = λ c is. let e : c ≡ a = cc (is, b_is) in subst (λ x. IsAsk x) (sym e) asks;
       owed = λ _.
@@ -90,7 +90,7 @@ module _ {D M A : Type 0} (Led : D → D → Type 0) (disk : D → Disk) (fresh 
         → IsNodeHere (record { device = device; records = records; is_failed = is_failed; machine = n.machine; held = n.held })
     idle_again none device records is_failed records_is moments = record {
       replays = same n.machine records refl records_is;
-      reached = node.reached;
+      sound = node.sound;
       idle = λ _. none;
       asked = node.asked;
       owed = λ _.
@@ -111,17 +111,17 @@ module _ {D M A : Type 0} (Led : D → D → Type 0) (disk : D → Disk) (fresh 
           go true e = e
           go false e = absurd (let none = node.idle e in cc (none, held_is))
 
-      pub held_again : (device : D) (records : List (List ℕ)) (is_failed : Bool) (m : M) → records ≡ n.records → m ≡ n.machine → is_failed ≡ true → IsReached m
+      pub held_again : (device : D) (records : List (List ℕ)) (is_failed : Bool) (m : M) → records ≡ n.records → m ≡ n.machine → is_failed ≡ true → IsSound m
           → Throughout Led disk (InFlight n.records (written n.machine ask)) n.device device
           → IsNodeHere (record { device = device; records = records; is_failed = is_failed; machine = m; held = n.held })
-      held_again device records is_failed m records_is m_is fails reached moments =
+      held_again device records is_failed m records_is m_is fails sound moments =
           subst (λ h. IsNodeHere (record { device = device; records = records; is_failed = is_failed; machine = m; held = h })) (sym held_is)
-          (failing ask (node.asked ask held_is) device moments records is_failed m ask records_is fails m_is refl reached)
+          (failing ask (node.asked ask held_is) device moments records is_failed m ask records_is fails m_is refl sound)
 
       pub held_claim : Replays → WholeOrNot → RestStands → (last : D) → Throughout Led disk (InFlight n.records (written n.machine ask)) n.device last
           → Throughout Led disk (Opens replay (fresh n.machine) (λ x. (x ≡ n.machine) ⊎ (IsSome n.held × IfSome n.held (λ a. x ≡ after n.machine a)))) n.device last
       held_claim law whole_or_not rest_stands last moments =
           let there : IsSome n.held × IfSome n.held (λ a. after n.machine ask ≡ after n.machine a) = subst (λ h. IsSome h × IfSome h (λ a. after n.machine ask ≡ after n.machine a)) (sym held_is) (refl, refl) in
           weaker Led disk (InFlight n.records (written n.machine ask)) _
-          (flight_opens replay (fresh n.machine) n.records n.machine node.replays _ (inl refl) whole_or_not rest_stands (written n.machine ask) (after n.machine ask) (law n.machine ask node.reached (node.asked ask held_is)) (inr there))
+          (flight_opens replay (fresh n.machine) n.records n.machine node.replays _ (inl refl) whole_or_not rest_stands (written n.machine ask) (after n.machine ask) (law n.machine ask node.sound (node.asked ask held_is)) (inr there))
           n.device last moments

@@ -1,2 +1,4 @@
 pub mod Replay
 pub mod Node
+pub mod CellFile
+pub mod CellFileLaws

@@ -1,5 +1,5 @@
 -- A machine whose changes are records of a file.
-use Rattle.std.specs.Prelude.{◌≡◌, ◌⊎◌, ℕ, Bool, true, false, List, [], ◌∷◌, ◌++◌, Option, None, Some, IsTrue}
+use Rattle.std.specs.Prelude.{◌≡◌, ℕ, Bool, true, false, List, [], ◌∷◌, ◌++◌, Option, None, Some}
 use Rattle.fr_base.specs.declared.node.NodeFault.{NodeFault}
 use Rattle.fr_base.specs.declared.node.NodeFault.TheVariants as node
 use Rattle.fr_record.specs.declared.fault.RecordFault.{RecordFault}
@@ -28,10 +28,10 @@ group_of written None = []
 group_of written (Some ask) = written ask
 
 -- what is true of every node
-pub record IsNode {D M A : Type 0} (Led : D → D → Type 0) (disk : D → Disk) (fresh : M → M) (replay : M → List ℕ → Option M) (written : M → A → List (List ℕ)) (IsAsk : A → Type 0) (IsReached : M → Type 0) (n : NodeState D M A) : Type 0 where
+pub record IsNode {D M A : Type 0} (Led : D → D → Type 0) (disk : D → Disk) (fresh : M → M) (replay : M → List ℕ → Option M) (written : M → A → List (List ℕ)) (IsAsk : A → Type 0) (IsSound : M → Type 0) (n : NodeState D M A) : Type 0 where
   -- the records bring the machine back
   pub replays : replayed replay (Some (fresh n.machine)) n.records ≡ Some n.machine
-  pub reached : IsReached n.machine
+  pub sound : IsSound n.machine
   pub idle : n.is_failed ≡ false → n.held ≡ None
   pub asked : (ask : A) → n.held ≡ Some ask → IsAsk ask
   -- while failed, a crash leaves the records with those of the ask in flight or without them

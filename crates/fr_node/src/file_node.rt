@@ -1,12 +1,17 @@
 //! A machine over a record file.
-ghost use Rattle.std.specs.Prelude.{◌≡◌, ◌≢◌, ◌⊎◌, ◌||◌, ◌↔◌, [], ◌∷◌, Ok, Err, Some, None, List, ℕ, IfOk, OnOk, OnErr, IfErr, IfSome, IsSome, IsTrue, false};
+ghost use Rattle.std.specs.Prelude.{◌≡◌, ◌≢◌, ◌⊎◌, ◌||◌, ◌↔◌, ◌<◌, [], ◌∷◌, Ok, Err, Some, None, List, ℕ, IfOk, OnOk, OnErr, IfErr, IfSome, IsSome, IsTrue, false};
+ghost use Rattle.fr_record.specs.File.{StandsFor};
+ghost use Rattle.fr_node.specs.Replay.{replayed};
 
+mod reading;
 mod reopening;
 
+use crate::fault::node_fault;
 use crate::recorded::Recorded;
 use fr_base::{Machine, Node, NodeFault, Reopened};
 use fr_device::Device;
 use fr_record::{RecordFault, Records, left_law};
+use reading::read_all;
 use reopening::{reopen_held, reopen_idle};
 use std::alloc::Global;
 use std::marker::Model;
@@ -28,13 +33,67 @@ impl<M: Recorded, D: Device> Model for FileNode<M, D> {
 
     ghost view = { λ n. record { device = n.file.device; records = n.file.records; is_failed = n.file.is_failed; machine = n.machine; held = n.held } };
 
-    ghost invariant = { λ n. IsNode D.Led D.disk M.fresh M.replay M.written M.IsAsk M.IsReached (record { device = n.file.device; records = n.file.records; is_failed = n.file.is_failed; machine = n.machine; held = n.held }) };
+    ghost invariant = { λ n. IsNode D.Led D.disk M.fresh M.replay M.written M.IsAsk M.IsSound (record { device = n.file.device; records = n.file.records; is_failed = n.file.is_failed; machine = n.machine; held = n.held }) };
 }
 
 impl<M: Recorded, D: Device> FileNode<M, D>
 where
     M::Ask: Drop,
 {
+    /// A node whose machine was never asked, over a device that it is the only one to use.
+    pub fn format(alloc: Global, device: D, machine: M) -> Result<Self, NodeFault>
+        requires fresh { M.fresh machine ≡ machine }
+        requires sound { M.IsSound machine }
+        ensures machine { IfOk result (λ node. node.machine ≡ machine) }
+        ensures records { IfOk result (λ node. node.records ≡ []) }
+        ensures works { IfOk result (λ node. node.is_failed ≡ false) }
+        ensures full { (result ≡ Err NodeFault.Full) ↔ (D.capacity_of device < 1) }
+        ensures only_device { IfErr result (λ fault. (fault ≡ NodeFault.Device) ⊎ (fault ≡ NodeFault.Full)) }
+    {
+        match Records::format(alloc, device) {
+            Ok(file) => {
+                let _is_failed = file.is_failed();
+                Ok(FileNode {
+                    file,
+                    machine,
+                    held: None,
+                })
+            }
+            Err(fault) => Err(node_fault(fault)),
+        }
+    }
+
+    /// The node whose file a device holds, whatever a crash made of it. The machine that is handed over was
+    /// never asked; it takes the changes of the file. `Broken` where the device holds no record file, or
+    /// one of records that no asks of such a machine write.
+    pub fn open(alloc: Global, device: D, machine: M) -> Result<Self, NodeFault>
+        requires fresh { M.fresh machine ≡ machine }
+        requires sound { M.IsSound machine }
+        ensures records { IfOk result (λ node. StandsFor (D.disk device).content node.records) }
+        ensures replays { IfOk result (λ node. replayed M.replay (Some machine) node.records ≡ Some node.machine) }
+        ensures works { IfOk result (λ node. node.is_failed ≡ false) }
+        ensures broken { (result ≡ Err NodeFault.Broken) → (records : List (List ℕ)) → StandsFor (D.disk device).content records → replayed M.replay (Some machine) records ≡ None }
+        ensures never_full { result ≢ Err NodeFault.Full }
+        ensures never_failed { result ≢ Err NodeFault.Failed }
+    {
+        left_law();
+        let mut file = match Records::open(alloc, device) {
+            Ok(file) => file,
+            Err(fault) => return Err(node_fault(fault)),
+        };
+        let mut machine = machine;
+        match read_all(&mut file, &mut machine, alloc) {
+            Ok(()) => {}
+            Err(fault) => return Err(fault),
+        }
+        let _is_failed = file.is_failed();
+        Ok(FileNode {
+            file,
+            machine,
+            held: None,
+        })
+    }
+
     /// Gives the device back.
     pub fn into_device(self) -> D
         ensures { result ≡ self.device }

@@ -1,10 +1,12 @@
-//! Nodes over devices: a machine whose changes are records of a file.
+//! Nodes over devices: a machine whose changes are records of a file, and the records of cells.
 #![tactic(auto)]
 
+mod cell_file;
 mod fault;
 mod file_node;
 mod recorded;
 
+pub use cell_file::{CellNode, CellPlace};
 pub use fault::ReadFault;
 pub use file_node::FileNode;
 pub use recorded::Recorded;

@@ -25,6 +25,9 @@ pub trait Recorded: Machine + Drop {
     /// The records of an ask; none where the ask changes nothing.
     ghost written: { Self → Self.Ask → List (List ℕ) };
 
+    /// A machine within its limits.
+    ghost IsSound: { Self → Type 0 };
+
     /// An ask within its limits.
     ghost IsAsk: { Self.Ask → Type 0 };
 
@@ -35,7 +38,8 @@ pub trait Recorded: Machine + Drop {
     fn records(&self, alloc: Global, ask: &Self::Ask) -> Result<Vec<Vec<u8>>, Memory>
         ensures records { IfOk result (λ group. records_of group.items ≡ written self.now ask.now) }
         ensures short { IfOk result (λ group. All (λ v. length v.items < 2 ^ 32) group.items) }
-        ensures ask { IsAsk ask.now };
+        ensures ask { IsAsk ask.now }
+        ensures sound { IsSound self.now };
 
     /// Where the machine stands before an ask.
     fn place(&self, alloc: Global, ask: &Self::Ask) -> Result<Self::Place, Memory>
@@ -55,11 +59,18 @@ pub trait Recorded: Machine + Drop {
     fn read(&mut self, alloc: Global, change: &[u8]) -> Result<(), ReadFault>
         ensures ok { OnOk result (replay self.old change.now ≡ Some self.new) }
         ensures broken { (result ≡ Err ReadFault.Broken) → replay self.old change.now ≡ None }
-        ensures reached { Self.IsReached self.new };
+        ensures err { OnErr result (self.new ≡ self.old) }
+        ensures sound { IsSound self.new };
 
     /// The records of an ask bring the machine where the ask does.
-    ghost replays: { (s : Self) (a : Self.Ask) → Self.IsReached s → IsAsk a → replayed replay (Some s) (written s a) ≡ Some (Self.after s a) };
+    ghost replays: { (s : Self) (a : Self.Ask) → IsSound s → IsAsk a → replayed replay (Some s) (written s a) ≡ Some (Self.after s a) };
+
+    /// An ask leaves a machine within its limits.
+    ghost stays_sound: { (s : Self) (a : Self.Ask) → IsSound s → IsAsk a → IsSound (Self.after s a) };
 
     /// An ask makes no other machine of it.
     ghost same_fresh: { (s : Self) (a : Self.Ask) → fresh (Self.after s a) ≡ fresh s };
+
+    /// A record makes no other machine of it.
+    ghost same_read: { (s n : Self) (change : List ℕ) → replay s change ≡ Some n → fresh n ≡ fresh s };
 }

@@ -1,5 +1,5 @@
 //! A ballot cell: what it promised, and the last value that it took.
-ghost use Rattle.std.specs.Prelude.{◌≡◌, IfOk, OnErr, IsOk};
+ghost use Rattle.std.specs.Prelude.{◌≡◌, ◌≤◌, ◌↔◌, IsSome, IfSome, IfOk, OnErr, IsOk};
 ghost use Rattle.fr_register.specs.CellState.{fresh_cell};
 ghost use Rattle.fr_register.specs.Cell.{answer_of, next_of, IsWithinPromise, IsAnsweredInPlace};
 ghost use Rattle.fr_register.specs.declared.ask.CellAsk.{CellAsk};
@@ -39,6 +39,23 @@ impl Cell {
             promised: Ballot::ZERO,
             written: Ballot::ZERO,
             value: CellValue::empty(alloc),
+        }
+    }
+
+    /// The cell that promised this ballot and wrote this value last, where it wrote no higher than it promised. It takes
+    /// no memory.
+    pub fn restored(promised: Ballot, written: Ballot, value: CellValue) -> Option<Self>
+        ensures within { IsSome result ↔ (written ≤ promised) }
+        ensures value { IfSome result (λ c. c ≡ record { promised = promised; written = written; value = value }) }
+    {
+        if written <= promised {
+            Some(Cell {
+                promised,
+                written,
+                value,
+            })
+        } else {
+            None
         }
     }
 

@@ -1,7 +1,7 @@
 //! Opening a node again.
 ghost use Rattle.std.specs.Prelude.{◌≡◌, ◌≢◌, ◌⊎◌, ◌||◌, [], Ok, Err, Some, None, OnOk, OnErr, IfErr, IsTrue, false};
 ghost use Rattle.fr_device.specs.Moments.{Throughout, LeavesOnly};
-ghost use Rattle.fr_base.specs.Node.{met_device};
+ghost use Rattle.fr_base.specs.Faults.{met_device};
 ghost use Rattle.fr_record.specs.File.{IsAtRest};
 ghost use Rattle.fr_node.specs.Replay.{replayed, Opens};
 ghost use Rattle.fr_node.specs.Node.{InFlight, is_trouble};
@@ -47,12 +47,12 @@ where
     M::Tell: Drop,
     requires owed { LeavesOnly D.Led D.disk (InFlight file.old.records (M.written machine.old ask.now)) file.old.device }
     requires replays { replayed M.replay (Some (M.fresh machine.old)) file.old.records ≡ Some machine.old }
-    requires reached { M.IsReached machine.old }
+    requires sound { M.IsSound machine.old }
     requires asked { M.IsAsk ask.now }
     ensures before { (result ≡ Ok Reopened.Before) → machine.new ≡ machine.old }
     ensures after { (result ≡ Ok Reopened.After) → machine.new ≡ M.after machine.old ask.now }
     ensures replays { replayed M.replay (Some (M.fresh machine.new)) file.new.records ≡ Some machine.new }
-    ensures reached { M.IsReached machine.new }
+    ensures sound { M.IsSound machine.new }
     ensures works { OnOk result (file.new.is_failed ≡ false) }
     ensures err { OnErr result (machine.new ≡ machine.old) }
     ensures err_records { OnErr result (file.new.records ≡ file.old.records) }

@@ -1,7 +1,6 @@
-use Rattle.std.proofs.Common.{rules, ◌≡◌, ◌<◌, ◌≤◌, length, Some, Err, ap, sym, subst, ◌∙◌, ◌⊎◌, inl, inr, arith}
+use Rattle.std.proofs.Common.{rules, ◌≡◌, ◌<◌, ◌≤◌, length, Some, Err, ap, sym, ◌∙◌, inl, inr}
 use Rattle.fr_record.specs.declared.fault.RecordFault.TheVariants.{Broken}
 use Rattle.fr_node.specs.Replay.{replayed}
-use Rattle.fr_node.specs.Node.{InFlight}
 use Rattle.fr_node.proofs.Lemmas.{content_left, reopened, flight_stands, found_more, found_same, replays_more}
 use Rattle.fr_node.proofs.file_node.reopening.reopen_held.Goals as goal
 
@@ -17,7 +16,7 @@ returns-then-len-before-clause-replays g c =
     (c.requires.owed disk.content (content_left disk)) c.in-Ok-reopen.ensures.records more in
     let moved : c.step.new.self ≡ g.M.Machine.after s a = search rules in
     let fresh : g.M.Recorded.fresh c.step.new.self ≡ g.M.Recorded.fresh s = ap g.M.Recorded.fresh moved ∙ g.met.M.Recorded.same_fresh s a in
-    let goes = g.met.M.Recorded.replays s a c.requires.reached c.requires.asked in
+    let goes = g.met.M.Recorded.replays s a c.requires.sound c.requires.asked in
     ap (λ f. replayed g.M.Recorded.replay (Some f) c.reopen.new.self.records) fresh
     ∙ ap (λ rs. replayed g.M.Recorded.replay (Some (g.M.Recorded.fresh s)) rs) now
     ∙ replays_more g.M.Recorded.replay (g.M.Recorded.fresh s) before s c.requires.replays group (g.M.Machine.after s a) goes
