@@ -1,4 +1,6 @@
 //! Cells over record files: what they tell, what a crash leaves of them, and their bytes.
+ghost use Rattle.std.specs.Prelude.{◌<◌, ◌^◌, length};
+
 use fr_base::{Ballot, Node, NodeFault, Reopened};
 use fr_device::{Device, FaultyDevice, MemoryDevice};
 use fr_node::FileNode;
@@ -30,12 +32,18 @@ fn write(alloc: Global, number: u64, bytes: &[u8]) -> Result<CellAsk, Fail> {
     })
 }
 
-#[test]
-fn what_a_cell_tells(rt: HostRuntime) -> Result<(), Fail> {
-    let alloc = rt.alloc();
+/// A cell over a file that took a write of ballot 257.
+fn written(alloc: Global) -> Result<FileNode<Cell, MemoryDevice>, Fail> {
     let device = MemoryDevice::new(alloc, ROOM)?;
     let mut node = FileNode::format(alloc, device, Cell::new(alloc))?;
     node.serve(alloc, write(alloc, 257, b"x")?)?;
+    Ok(node)
+}
+
+#[test]
+fn what_a_cell_promises(rt: HostRuntime) -> Result<(), Fail> {
+    let alloc = rt.alloc();
+    let mut node = written(alloc)?;
     let promise = CellTell::Promise {
         written: ballot(257)?,
         value: value(alloc, b"x")?,
@@ -45,21 +53,37 @@ fn what_a_cell_tells(rt: HostRuntime) -> Result<(), Fail> {
         promised: ballot(513)?,
     };
     assert_eq!(rt; node.serve(alloc, read(512)?)?, refused);
-    let written = CellTell::Written {
+    Ok(())
+}
+
+#[test]
+fn what_a_cell_writes(rt: HostRuntime) -> Result<(), Fail> {
+    let alloc = rt.alloc();
+    let mut node = written(alloc)?;
+    let told = CellTell::Written {
         ballot: ballot(513)?,
     };
-    assert_eq!(rt; node.serve(alloc, write(alloc, 513, b"y")?)?, written);
+    assert_eq!(rt; node.serve(alloc, write(alloc, 513, b"y")?)?, told);
     assert_eq!(rt;
         node.serve(alloc, write(alloc, 513, b"z")?)?,
         CellTell::TwoValues
     );
+    Ok(())
+}
+
+/// After a crash the cell is opened as it was, and what was written is not written again.
+#[test]
+fn what_a_crash_leaves_of_a_cell(rt: HostRuntime) -> Result<(), Fail> {
+    let alloc = rt.alloc();
+    let mut node = written(alloc)?;
+    node.serve(alloc, write(alloc, 513, b"y")?)?;
     let mut device = node.into_device();
     device.crash(0xff);
     let len = device.len()?;
     let mut node = FileNode::open(alloc, device, Cell::new(alloc))?;
     assert_eq!(rt; node.plain().promised(), ballot(513)?);
     assert_eq!(rt; node.plain().value().as_slice(), b"y".as_slice());
-    assert_eq!(rt; node.serve(alloc, write(alloc, 513, b"y")?)?, written);
+    node.serve(alloc, write(alloc, 513, b"y")?)?;
     let mut device = node.into_device();
     assert_eq!(rt; device.len()?, len);
     Ok(())
@@ -82,7 +106,9 @@ fn a_cell_in_bytes(rt: HostRuntime) -> Result<(), Fail> {
 }
 
 /// Opens a file of one record as that of a cell.
-fn opened(alloc: Global, record: &[u8]) -> Result<Option<NodeFault>, Fail> {
+fn opened(alloc: Global, record: &[u8]) -> Result<Option<NodeFault>, Fail>
+    requires { length record.now < 2 ^ 32 }
+{
     let mut file = Records::format(alloc, MemoryDevice::new(alloc, ROOM)?)?;
     file.append(alloc, record)?;
     Ok(FileNode::open(alloc, file.into_device(), Cell::new(alloc)).err())

@@ -1,4 +1,6 @@
 //! What crashes leave: at each stop of an append and of a group, and inside the opening after them.
+ghost use Rattle.std.specs.Prelude.{◌≤◌};
+
 use fr_device::{Device, FaultyDevice, MemoryDevice};
 use fr_record::{RecordFault, Records};
 use std::alloc::Global;
@@ -8,25 +10,22 @@ const ROOM: usize = 64;
 
 const FILLS: [u8; 3] = [0x00, 0x01, 0xff];
 
-/// Three records of one, two and three bytes.
-fn three(alloc: Global) -> Result<Vec<Vec<u8>>, Fail> {
+/// A file with one record; then a second is added, or a group of three, and the device fails from call
+/// `stop` of that on. Call 1 writes behind the gate, 2 syncs, 3 writes the gate, 4 syncs, 5 is none.
+/// Then a crash: what is not synced holds `fill`.
+fn stopped(alloc: Global, is_group: bool, stop: u64, fill: u8) -> Result<MemoryDevice, Fail>
+    requires { stop ≤ 5 }
+{
     let mut group = Vec::new(alloc);
     group.push(Vec::from_slice(alloc, &[0x61])?)?;
     group.push(Vec::from_slice(alloc, &[0x62, 0x63])?)?;
     group.push(Vec::from_slice(alloc, &[0x01, 0x01, 0x01])?)?;
-    Ok(group)
-}
-
-/// A file with one record; then a second is added, or a group of three, and the device fails from call
-/// `stop` of that on. Call 1 writes behind the gate, 2 syncs, 3 writes the gate, 4 syncs, 5 is none.
-/// Then a crash: what is not synced holds `fill`.
-fn stopped(alloc: Global, is_group: bool, stop: u64, fill: u8) -> Result<MemoryDevice, Fail> {
     let mut file = Records::format(alloc, MemoryDevice::new(alloc, ROOM)?)?;
     file.append(alloc, &[0x60])?;
     let device = FaultyDevice::from(file.into_device(), stop + 3);
     let mut file = Records::open(alloc, device)?;
     let result = if is_group {
-        file.append_group(alloc, &three(alloc)?)
+        file.append_group(alloc, &group)
     } else {
         file.append(alloc, &[0x61, 0x62])
     };
@@ -39,7 +38,9 @@ fn stopped(alloc: Global, is_group: bool, stop: u64, fill: u8) -> Result<MemoryD
 }
 
 /// How many records are there after a stop: the gate that was written and not synced is the fill.
-fn wanted(is_group: bool, stop: u64, fill: u8) -> usize {
+fn wanted(is_group: bool, stop: u64, fill: u8) -> usize
+    ensures { result ≤ 4 }
+{
     let more = if is_group { 3 } else { 1 };
     if stop == 5 || stop == 4 && fill == 1 {
         1 + more
@@ -96,6 +97,9 @@ fn a_crash_inside_the_opening(rt: HostRuntime) -> Result<(), Fail> {
         assert_eq!(rt; Records::open(alloc, read)?.len(), 1);
         let mut closing = stopped(alloc, true, 4, 0xff)?;
         closing.sync()?;
+        if closing.len()? < 7 {
+            return Err(Fail::from("the file is short"));
+        }
         closing.write_at(6, &[0])?;
         closing.crash(fill);
         let file = Records::open(alloc, closing)?;

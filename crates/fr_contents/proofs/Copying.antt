@@ -1,6 +1,6 @@
 -- Each copy has parts of what its parent's epoch issues, if the answers that were told are true.
-use Rattle.std.proofs.Common.{◌≡◌, ℕ, zero, suc, ◌<◌, ◌≤◌, Bool, true, false, cond, min, nat_lt, nat_le, ◌==◌, ◌&&◌, ◌||◌, not, List, [], ◌∷◌, length, map, filter, Option, None, Some, refl, sym, ◌∙◌, ap, subst, arith}
-use Rattle.std.specs.Prelude.{IfSome, slice_set, Result, Ok, Err}
+use Rattle.std.proofs.Common.{◌≡◌, ℕ, zero, suc, ◌<◌, ◌≤◌, Bool, true, false, cond, nat_lt, nat_le, ◌==◌, ◌&&◌, List, [], ◌∷◌, length, map, filter, Option, None, Some, refl, sym, ◌∙◌, ap, subst, arith}
+use Rattle.std.specs.Prelude.{IfSome, slice_set, Ok, Err}
 use Rattle.std.specs.List.{range_with_len, list_any}
 use Rattle.std.proofs.lemmas.Bool.{and_parts, ltb-true}
 use Rattle.std.proofs.lemmas.List.{length-map}
@@ -13,10 +13,10 @@ use Rattle.fr_log.specs.declared.ask.LogTell.TheVariants as ltell
 use Rattle.fr_ask.specs.declared.tell.Tell.{Tell}
 use Rattle.fr_ask.specs.declared.tell.Tell.TheVariants as tell
 use Rattle.fr_tail.specs.Tail.{TailState, TagPart, new_part, part_at, is_responder, take, take_next, heard, kept, new_tail, after_hear as after_peeked}
-use Rattle.fr_tail.specs.Copied.{IsWhole, IsTrueAnswer}
+use Rattle.fr_tail.specs.Copied.{IsWhole}
 use Rattle.fr_tail.specs.declared.fault.TailFault.TheVariants as fault
 use Rattle.fr_epoch.specs.EndTally.{responders, pev_of, rv_of}
-use Rattle.fr_epoch.specs.Recoverer.{RecState, Parent, Plan, new_recoverer}
+use Rattle.fr_epoch.specs.Recoverer.{RecState, Parent, Plan}
 use Rattle.fr_epoch.specs.Words.{word_of}
 use Rattle.fr_epoch.specs.Hear as rec
 use Rattle.fr_epoch.specs.Hear.{plan_of}
@@ -148,7 +148,7 @@ change laws c h config run tells b from t told r at shape k n (Copies p' q' i pe
       let old = before.is in
       let w = of_log from t p'.last.epoch i (ltell.Peeked peeked) is.word in
       let heard : Told h (node.Log p'.last.epoch i) (node.Recoverer b) (tell.Log (ltell.Peeked peeked)) =
-          subst (λ x. Told h (node.Log p'.last.epoch i) (node.Recoverer b) x) w.said (subst (λ x. Told h x (node.Recoverer b) t) w.sender told) in
+      subst (λ x. Told h (node.Log p'.last.epoch i) (node.Recoverer b) x) w.said (subst (λ x. Told h x (node.Recoverer b) t) w.sender told) in
       let true_tell = tells p'.last.epoch i (node.Recoverer b) peeked heard in
       let whole = wholes laws c h config run b r p' at is.parent_is in
       let copy : IsTrueCopy c h p' m = record {

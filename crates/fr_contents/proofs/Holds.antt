@@ -1,13 +1,11 @@
 -- What a log has of a tag after a seed and after a push.
-use Rattle.std.proofs.Common.{◌≡◌, ℕ, ◌+◌, ◌-◌, ◌<◌, ◌≤◌, Bool, true, false, cond, max, ◌==◌, List, [], ◌∷◌, ◌++◌, length, map, Option, None, Some, filter_map, inl, inr, ◌⊎◌, refl, sym, ◌∙◌, ap, subst, arith}
-use Rattle.std.specs.Prelude.{IfSome, fold}
+use Rattle.std.proofs.Common.{◌≡◌, ℕ, ◌+◌, ◌-◌, ◌<◌, ◌≤◌, Bool, true, false, cond, max, ◌==◌, List, [], ◌∷◌, ◌++◌, length, map, Option, None, Some, filter_map, refl, sym, ◌∙◌, ap, subst, arith}
+use Rattle.std.specs.Prelude.{fold}
 use Rattle.std.specs.List.{Contains}
-use Rattle.std.proofs.lemmas.Bool.{eqb-true}
-use Rattle.std.proofs.lemmas.List.{append-nil, map-append}
+use Rattle.std.proofs.lemmas.List.{map-append}
 use Rattle.std.proofs.lemmas.List.Sums.{fold-append}
 use Rattle.fr_base.specs.declared.place.NodeId.{NodeId}
 use Rattle.fr_base.specs.declared.place.NodeId.TheVariants as node
-use Rattle.fr_mutation.specs.declared.mutation.Mutation.{Mutation}
 use Rattle.fr_state.specs.Generations.{LogGeneration}
 use Rattle.fr_tags.specs.Placement.{is_held}
 use Rattle.fr_log.specs.declared.ask.LogAsk.TheVariants.{Seed, Push}
@@ -18,7 +16,7 @@ use Rattle.fr_log.specs.LogState.{LogState, durable_of, seeded_to_of, records_of
 use Rattle.fr_ask.specs.declared.ask.Ask.TheVariants as ask
 use Rattle.fr_tail.specs.Tail.{is_complete, part_at, seed_for}
 use Rattle.fr_tail.specs.Copied.{RiseOn}
-use Rattle.fr_epoch.specs.Recoverer.{RecState, Parent, Plan, is_copied_in, mark_of}
+use Rattle.fr_epoch.specs.Recoverer.{RecState, Parent, Plan, is_copied_in}
 use Rattle.fr_history.specs.Config.{Config, first_epoch, first_generation}
 use Rattle.fr_history.specs.Turn.{Turn, Sent}
 use Rattle.fr_history.specs.Nodes.{rec_at, plan_in, plan_at, generation_in, generation_at}
@@ -29,8 +27,7 @@ use Rattle.fr_history.specs.StateLaws.{IsConfig}
 use Rattle.fr_history.proofs.Accounts.{sent_is_accounted}
 use Rattle.fr_history.proofs.Growth.{rec_is}
 use Rattle.fr_history.proofs.States.{recoverers_have_states}
-use Rattle.fr_versions.specs.Logs.{IsLogOf}
-use Rattle.fr_versions.specs.Numbers.{Numbering, numbers, top_at}
+use Rattle.fr_versions.specs.Numbers.{numbers, top_at}
 use Rattle.fr_versions.specs.Proxies.{IsProxyPush}
 use Rattle.fr_versions.proofs.Ends.{end_is_of_replies}
 use Rattle.fr_versions.proofs.Known.{push_is_part}
@@ -41,7 +38,7 @@ use Rattle.fr_contents.specs.Issued.{Entry, entry_of, issued}
 use Rattle.fr_contents.specs.Contents.{HasParts, IsTrueCopy, part_records}
 use Rattle.fr_contents.specs.Laws.{Laws}
 use Rattle.fr_contents.proofs.PartLists.{part_of, part_concat, parts_of}
-use Rattle.fr_contents.proofs.PeekLists.{record_of, records_part, records_rise}
+use Rattle.fr_contents.proofs.PeekLists.{record_of, records_rise}
 use Rattle.fr_contents.proofs.PushLists.{pushed_is_part, mark_brings_none}
 use Rattle.fr_contents.proofs.LogLists.{holds_seed, holds_pushed}
 use Rattle.fr_contents.proofs.Parts.{issued_rises}
@@ -118,7 +115,7 @@ seeded_has laws c h config run copies e i l named empty from s sent tag below = 
         let high : durable_of now ≡ q.tail.rv = ap (λ ps. fold (λ v (p : PushContent). max v p.version) s.seeded_to ps) empty ∙ ap (λ (x : SeedContent). x.seeded_to) is in
         let same : part_records c h pe tag q.tail.pev q.tail.rv ≡ part_records c h b tag q.tail.pev q.tail.rv = ap (map record_of) (sym (part_of_parent laws.nodes c h config run b r p q at parent planned tag q.tail.pev q.tail.rv (omega (arith, ps)))) in
         let all : (part_at q.tail tag).records ≡ part_records c h e tag (s.first - 1) (durable_of now) =
-            whole ∙ same ∙ ap (λ x. part_records c h x tag q.tail.pev q.tail.rv) (sym here) ∙ ap (λ v. part_records c h e tag v q.tail.rv) (sym low) ∙ ap (part_records c h e tag (s.first - 1)) (sym high) in
+        whole ∙ same ∙ ap (λ x. part_records c h x tag q.tail.pev q.tail.rv) (sym here) ∙ ap (λ v. part_records c h e tag v q.tail.rv) (sym low) ∙ ap (part_records c h e tag (s.first - 1)) (sym high) in
         held
         ∙ ap (λ x. cond (is_held tag x q.generation.k i) (part_at q.tail tag).records []) (sym m)
         ∙ ap (λ x. cond (is_held tag l.m x i) (part_at q.tail tag).records []) (sym k)
@@ -170,8 +167,8 @@ pushed_has laws c h config run e i l named s seeded starts has q took from sent 
         let d = durable_of l in
         let rise = issued_rises laws.nodes c h config run e named.generation named.of in
         let on : part_records c h e tag a d ++ part_records c h e tag d q.version ≡ part_records c h e tag a q.version =
-            sym (map-append record_of (part_of c tag a d (issued c h e)) (part_of c tag d q.version (issued c h e)))
-            ∙ ap (map record_of) (part_concat c tag 0 (top_at c h e) a d q.version (issued c h e) rise start (omega (arith, above))) in
+        sym (map-append record_of (part_of c tag a d (issued c h e)) (part_of c tag d q.version (issued c h e)))
+        ∙ ap (map record_of) (part_concat c tag 0 (top_at c h e) a d q.version (issued c h e) rise start (omega (arith, above))) in
         ap (λ rs. cond (is_held tag l.m l.k i) (part_records c h e tag a d) [] ++ rs) brings
         ∙ held_on (is_held tag l.m l.k i) (part_records c h e tag a d) (part_records c h e tag d q.version) (part_records c h e tag a q.version) on
         ∙ ap (λ v. cond (is_held tag l.m l.k i) (part_records c h e tag a v) []) (sym reached)
@@ -197,7 +194,7 @@ pushed_has laws c h config run e i l named s seeded starts has q took from sent 
         let whole : entry.batch ≡ Some push.part.batch = ap (λ y. batch_at h e y n.request) push.part.own ∙ ap (λ y. batch_at h y p n.request) here ∙ push.part.taken in
         let brings = pushed_is_part laws.clips c tag push.part.generation.m push.part.generation.k i q entry push.part.batch push.part.below below whole version push.part.bodies in
         let part : map record_of (parts_of c tag (entry ∷ [])) ≡ part_records c h e tag (durable_of l) q.version =
-            ap (map record_of) (sym num.0) ∙ ap (λ v. part_records c h e tag v n.version) (sym prev) ∙ ap (part_records c h e tag (durable_of l)) (sym version) in
+        ap (map record_of) (sym num.0) ∙ ap (λ v. part_records c h e tag v n.version) (sym prev) ∙ ap (part_records c h e tag (durable_of l)) (sym version) in
         let rises = num.2 in
         goes_on (omega (arith, prev, version, rises))
         (brings
@@ -218,6 +215,6 @@ pushed_has laws c h config run e i l named s seeded starts has q took from sent 
         let version : q.version ≡ p.generation.seeded_to + 1 = ap (λ (x : PushContent). x.version) is in
         let empty = mark_brings_none tag q (ap (λ (x : PushContent). x.bodies) is) in
         let part : part_records c h e tag (durable_of l) q.version ≡ [] =
-            ap (λ v. part_records c h e tag v q.version) prev ∙ ap (part_records c h e tag p.generation.seeded_to) version ∙ ap (map record_of) (part_of_mark laws.nodes c h config run e p.generation mine tag) in
+        ap (λ v. part_records c h e tag v q.version) prev ∙ ap (part_records c h e tag p.generation.seeded_to) version ∙ ap (map record_of) (part_of_mark laws.nodes c h config run e p.generation mine tag) in
         goes_on (omega (arith, prev, version)) (empty ∙ none (is_held tag l.m l.k i) (part_records c h e tag (durable_of l) q.version) part)
     go (node.Storage t) sent k = absurd k

@@ -1,8 +1,8 @@
 -- The generations of each epoch that is planned: in order, each one its ballot's, and each numbered through what the next was seeded to.
-use Rattle.std.proofs.Common.{◌≡◌, ℕ, zero, suc, ◌<◌, ◌≤◌, Bool, true, false, cond, ◌==◌, List, [], ◌∷◌, ◌++◌, Option, None, Some, inl, inr, ◌⊎◌, refl, sym, ◌∙◌, ap, subst, arith}
+use Rattle.std.proofs.Common.{◌≡◌, ℕ, zero, suc, ◌<◌, ◌≤◌, Bool, true, false, cond, ◌==◌, List, [], ◌∷◌, ◌++◌, Option, None, Some, inl, inr, refl, sym, ◌∙◌, ap, subst, arith}
 use Rattle.std.specs.List.{All, AllByRecursion}
 use Rattle.std.proofs.lemmas.Bool.{eqb-true}
-use Rattle.std.proofs.lemmas.List.Elements.{All-nil, All-push, All-weaker, recursion_from_All}
+use Rattle.std.proofs.lemmas.List.Elements.{All-weaker, recursion_from_All}
 use Rattle.fr_state.specs.Generations.{LogGeneration, CoordinatedState, AreOrdered, last_of}
 use Rattle.fr_epoch.specs.Recoverer.{RecState, Parent, Plan}
 use Rattle.fr_history.specs.Config.{Config, first_epoch, first_generation, first_state}
@@ -14,13 +14,12 @@ use Rattle.fr_history.specs.StateLaws.{IsConfig}
 use Rattle.fr_history.specs.Laws.{Laws}
 use Rattle.fr_history.proofs.Growth.{rec_is, plan_grows}
 use Rattle.fr_history.proofs.Register.{has_found}
-use Rattle.fr_history.proofs.States.{first_is, recoverers_have_states}
+use Rattle.fr_history.proofs.States.{recoverers_have_states}
 use Rattle.fr_versions.specs.Numbers.{top_at}
 use Rattle.fr_versions.proofs.Pushes.{plan_is}
 use Rattle.fr_versions.proofs.Ends.{always_chained, seed_is_reached}
 use Rattle.fr_versions.proofs.Transport.{parent_comes, plans_are_lines, first_line}
-use Rattle.fr_contents.specs.Issued.{Entry, entries}
-use Rattle.fr_contents.proofs.Versions.{RiseIn}
+use Rattle.fr_contents.specs.Issued.{entries}
 use Rattle.fr_contents.proofs.IssuedLists.{EntriesRise, GainsAbove, Reaches}
 use Rattle.fr_contents.proofs.EntryLists.{entries_rise}
 use Rattle.fr_contents.proofs.Stays.{entries_gain}

@@ -1,13 +1,13 @@
 -- The state that a recoverer took over is that of the epoch that it ends, and its own is that with one generation more.
-use Rattle.std.proofs.Common.{◌≡◌, ℕ, ◌≤◌, Bool, true, false, cond, ◌==◌, List, [], ◌∷◌, ◌++◌, Option, None, Some, inl, inr, refl, sym, ◌∙◌, ap, subst, arith}
-use Rattle.std.specs.List.{All, AllByRecursion}
+use Rattle.std.proofs.Common.{◌≡◌, ℕ, ◌≤◌, Bool, true, false, cond, ◌==◌, List, [], ◌∷◌, ◌++◌, Some, inl, inr, refl, sym, ◌∙◌, ap, subst}
+use Rattle.std.specs.List.{AllByRecursion}
 use Rattle.std.proofs.lemmas.Bool.{eqb-true}
-use Rattle.std.proofs.lemmas.List.Elements.{All-append, recursion_from_All, All-nil, All-push}
+use Rattle.std.proofs.lemmas.List.Elements.{All-nil, All-push}
 use Rattle.fr_state.specs.Generations.{LogGeneration, CoordinatedState, AreOrdered, last_of}
 use Rattle.fr_epoch.specs.Recoverer.{RecState, Parent, Plan}
 use Rattle.fr_history.specs.Config.{Config, first_epoch, first_generation, first_state}
 use Rattle.fr_history.specs.Turn.{Turn}
-use Rattle.fr_history.specs.Nodes.{rec_at, plan_in, plan_at, generation_in, generation_at}
+use Rattle.fr_history.specs.Nodes.{rec_at, plan_in, plan_at, generation_at}
 use Rattle.fr_history.specs.Run.{IsRun}
 use Rattle.fr_history.specs.States.{state_in, state_of}
 use Rattle.fr_history.specs.StateLaws.{IsConfig}
@@ -18,10 +18,10 @@ use Rattle.fr_history.proofs.States.{recoverers_have_states}
 use Rattle.fr_versions.specs.Numbers.{top_at}
 use Rattle.fr_versions.proofs.Pushes.{plan_is, plan_generation}
 use Rattle.fr_versions.proofs.Transport.{parent_comes}
-use Rattle.fr_contents.specs.Issued.{Entry, entries, issued_of, issued}
+use Rattle.fr_contents.specs.Issued.{entries, issued_of, issued}
 use Rattle.fr_contents.proofs.IssuedLists.{EntriesRise}
 use Rattle.fr_contents.proofs.PartLists.{part_of, part_agree}
-use Rattle.fr_contents.proofs.Lists.{HasList, planned_list, list_rises, last_more}
+use Rattle.fr_contents.proofs.Lists.{planned_list, list_rises, last_more}
 
 -- the state and the generation of a ballot's plan, as those of its epoch
 pub plan_state : Laws → (c : Config) (h : List Turn) → IsRun c h → (b : ℕ) (r : RecState) (q : Plan) → rec_at c h b ≡ Some r → r.plan ≡ Some q → state_of c h b ≡ q.state
@@ -38,23 +38,23 @@ pub record IsOfParent (c : Config) (h : List Turn) (p : Parent) : Type 0 where
 
 pub parent_is : Laws → (c : Config) (h : List Turn) → IsConfig c → IsRun c h → (b : ℕ) (r : RecState) (p : Parent) → rec_at c h b ≡ Some r → r.parent ≡ Some p → IsOfParent c h p
 parent_is laws c h config run b r p at parent = elim (parent_comes laws c h config run b r p at parent) [
-      | inl first ↦ (
-          let found : Some (first_generation c) ≡ Some p.last = ap (λ (s : CoordinatedState). last_of s.gens) first ∙ last in
-          let same : first_generation c ≡ p.last = cc in
-          let here : first_epoch ≡ p.last.epoch = ap (λ (g : LogGeneration). g.epoch) same in
-          record { state = subst (λ e. state_of c h e ≡ p.state) here first; generation = subst (λ e. generation_at c h e ≡ Some p.last) here (ap Some same) })
-      | inr k ↦ (
-          let states = (recoverers_have_states laws c h config run k.ballot k.recoverer k.at).plan k.plan k.planned in
-          let before : Parent = states.1.0 in
-          let found : Some k.plan.generation ≡ Some p.last = sym (ap last_of states.1.2 ∙ last_more before.state.gens k.plan.generation) ∙ ap (λ (s : CoordinatedState). last_of s.gens) k.is ∙ last in
-          let same : k.plan.generation ≡ p.last = cc in
-          let own : k.plan.generation.epoch ≡ k.ballot = (plan_is laws c h run k.ballot k.recoverer k.at k.plan k.planned).epoch ∙ (rec_is laws c h run k.ballot k.recoverer k.at).ballot in
-          let here : k.ballot ≡ p.last.epoch = sym own ∙ ap (λ (g : LogGeneration). g.epoch) same in
-          record {
-            state = subst (λ e. state_of c h e ≡ p.state) here (plan_state laws c h run k.ballot k.recoverer k.plan k.at k.planned ∙ k.is);
-            generation = subst (λ e. generation_at c h e ≡ Some p.last) here (plan_generation laws c h run k.ballot k.recoverer k.at k.plan k.planned ∙ ap Some same);
-          })
-    ]
+  | inl first ↦ (
+      let found : Some (first_generation c) ≡ Some p.last = ap (λ (s : CoordinatedState). last_of s.gens) first ∙ last in
+      let same : first_generation c ≡ p.last = cc in
+      let here : first_epoch ≡ p.last.epoch = ap (λ (g : LogGeneration). g.epoch) same in
+      record { state = subst (λ e. state_of c h e ≡ p.state) here first; generation = subst (λ e. generation_at c h e ≡ Some p.last) here (ap Some same) })
+  | inr k ↦ (
+      let states = (recoverers_have_states laws c h config run k.ballot k.recoverer k.at).plan k.plan k.planned in
+      let before : Parent = states.1.0 in
+      let found : Some k.plan.generation ≡ Some p.last = sym (ap last_of states.1.2 ∙ last_more before.state.gens k.plan.generation) ∙ ap (λ (s : CoordinatedState). last_of s.gens) k.is ∙ last in
+      let same : k.plan.generation ≡ p.last = cc in
+      let own : k.plan.generation.epoch ≡ k.ballot = (plan_is laws c h run k.ballot k.recoverer k.at k.plan k.planned).epoch ∙ (rec_is laws c h run k.ballot k.recoverer k.at).ballot in
+      let here : k.ballot ≡ p.last.epoch = sym own ∙ ap (λ (g : LogGeneration). g.epoch) same in
+      record {
+        state = subst (λ e. state_of c h e ≡ p.state) here (plan_state laws c h run k.ballot k.recoverer k.plan k.at k.planned ∙ k.is);
+        generation = subst (λ e. generation_at c h e ≡ Some p.last) here (plan_generation laws c h run k.ballot k.recoverer k.at k.plan k.planned ∙ ap Some same);
+      })
+]
   where
     last : last_of p.state.gens ≡ Some p.last
     last = ((has_found laws c h run b r at).found p parent).last

@@ -10,11 +10,11 @@ use Rattle.fr_history.specs.States.{state_of}
 use Rattle.fr_history.specs.StateLaws.{IsConfig}
 use Rattle.fr_history.specs.Laws.{Laws}
 use Rattle.fr_versions.specs.Numbers.{top_at}
-use Rattle.fr_contents.specs.Issued.{Entry, entries, issued_of, issued}
+use Rattle.fr_contents.specs.Issued.{entries, issued_of, issued}
 use Rattle.fr_contents.proofs.Versions.{RiseIn, through, rise_wider}
 use Rattle.fr_contents.proofs.IssuedLists.{version_of, top_in, issued_sorted, issued_stays}
 use Rattle.fr_contents.proofs.PartLists.{part_of, part_stays}
-use Rattle.fr_contents.proofs.Lists.{HasList, planned_list, list_rises, list_gains, reaches, planned_state_stays}
+use Rattle.fr_contents.proofs.Lists.{planned_list, list_rises, list_gains, reaches, planned_state_stays}
 
 top_in_last : (top : ℕ → ℕ) (gens : List LogGeneration) (g : LogGeneration) → last_of gens ≡ Some g → top_in top gens ≡ top g.epoch
 top_in_last top [] g last = absurd (cc)

@@ -1,16 +1,13 @@
 -- What a push brings of a tag is what its entry has of it.
-use Rattle.std.proofs.Common.{◌≡◌, ℕ, ◌<◌, Bool, true, false, ◌==◌, cond, nat_lt, List, [], ◌∷◌, Option, None, Some, length, map, filter_map, refl, sym, ◌∙◌, ap}
-use Rattle.std.specs.List.{AllByRecursion, cons_option}
+use Rattle.std.proofs.Common.{◌≡◌, ℕ, ◌<◌, Bool, true, false, cond, nat_lt, List, [], ◌∷◌, None, Some, length, map, filter_map, refl, sym, ◌∙◌, ap}
+use Rattle.std.specs.List.{cons_option}
 use Rattle.std.specs.Option.{option_map}
-use Rattle.std.proofs.lemmas.Bool.{lt-ltb}
-use Rattle.std.proofs.lemmas.List.Elements.{recursion_from_All}
 use Rattle.fr_mutation.specs.declared.mutation.Mutation.{Mutation}
 use Rattle.fr_mutation.specs.Clip.{clipped}
 use Rattle.fr_tags.specs.Placement.{is_held}
 use Rattle.fr_tags.specs.Shards.{shard_at}
 use Rattle.fr_tags.specs.Bodies.{batch_of, filled}
 use Rattle.fr_tags.specs.SplitLaw.{bodies_at, HeldTagsHaveTheirClips}
-use Rattle.fr_tags.specs.declared.body.Body.{Body}
 use Rattle.fr_log.specs.declared.records.PeekedRecord.{PeekedRecord}
 use Rattle.fr_log.specs.Push.{PushContent}
 use Rattle.fr_log.specs.LogState.{pushed_record}

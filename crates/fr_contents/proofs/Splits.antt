@@ -1,5 +1,5 @@
 -- What a planned epoch issues, split at its mark and at each of its numbers.
-use Rattle.std.proofs.Common.{◌≡◌, ℕ, ◌+◌, ◌<◌, ◌≤◌, List, [], ◌∷◌, ◌++◌, map, reverse, Option, None, Some, inl, inr, refl, sym, ◌∙◌, ap, subst, arith}
+use Rattle.std.proofs.Common.{◌≡◌, ℕ, ◌+◌, ◌<◌, ◌≤◌, List, [], ◌∷◌, ◌++◌, map, reverse, None, Some, inl, inr, refl, sym, ◌∙◌, ap, subst, arith}
 use Rattle.std.specs.List.{All, AllByRecursion, Contains}
 use Rattle.std.proofs.lemmas.List.{append_assoc, map-append, reverse-append}
 use Rattle.fr_state.specs.Generations.{LogGeneration, AreOrdered, last_of}
@@ -19,7 +19,7 @@ use Rattle.fr_contents.proofs.IssuedLists.{version_of, EntriesRise}
 use Rattle.fr_contents.proofs.EntryLists.{chained_rise}
 use Rattle.fr_contents.proofs.PartLists.{parts_of, part_of, part_one}
 use Rattle.fr_contents.proofs.PushLists.{mark_has_none}
-use Rattle.fr_contents.proofs.Lists.{HasList, planned_list, list_rises}
+use Rattle.fr_contents.proofs.Lists.{planned_list, list_rises}
 
 -- ---- what the generations before issue, and then the own entries
 
@@ -77,27 +77,27 @@ record IsSplit (h : List Turn) (e base : ℕ) (ns : List Numbering) (n : Numberi
 split_at : (h : List Turn) (e base : ℕ) (ns : List Numbering) → AreChained base ns → (n : Numbering) → Contains ns n → IsSplit h e base ns n
 split_at h e base [] chain n k = absurd (Contains-none k)
 split_at h e base (m ∷ ns) (follows, rises, chain) n k = elim (Contains-cases m ns n k) [
-      | inl same ↦ subst (IsSplit h e base (m ∷ ns)) same (record {
-          before = reverse ns;
-          after = [];
-          is = reverse-append (m ∷ []) ns;
-          low = subst (RiseIn version_of base (map (entry_of h e) (reverse ns))) (sym follows) (chained_rise h e base ns chain);
-          high = omega arith;
-          rises = rises;
-        })
-      | inr old ↦ (
-          let s = split_at h e base ns chain n old in
-          let up : RiseIn version_of (top_of base ns) (entry_of h e m ∷ []) m.version = ((omega (arith, follows, rises)), omega arith) in
-          record {
-            before = s.before;
-            after = s.after ++ m ∷ [];
-            is = reverse-append (m ∷ []) ns ∙ ap (λ xs. xs ++ m ∷ []) s.is ∙ append_assoc s.before (n ∷ s.after) (m ∷ []);
-            low = s.low;
-            high = subst (λ xs. RiseIn version_of n.version xs m.version) (sym (map-append (entry_of h e) s.after (m ∷ [])))
-                (rise_on version_of n.version (top_of base ns) m.version (map (entry_of h e) s.after) (entry_of h e m ∷ []) s.high up);
-            rises = s.rises;
-          })
-    ]
+  | inl same ↦ subst (IsSplit h e base (m ∷ ns)) same (record {
+    before = reverse ns;
+    after = [];
+    is = reverse-append (m ∷ []) ns;
+    low = subst (RiseIn version_of base (map (entry_of h e) (reverse ns))) (sym follows) (chained_rise h e base ns chain);
+    high = omega arith;
+    rises = rises;
+  })
+  | inr old ↦ (
+      let s = split_at h e base ns chain n old in
+      let up : RiseIn version_of (top_of base ns) (entry_of h e m ∷ []) m.version = ((omega (arith, follows, rises)), omega arith) in
+      record {
+        before = s.before;
+        after = s.after ++ m ∷ [];
+        is = reverse-append (m ∷ []) ns ∙ ap (λ xs. xs ++ m ∷ []) s.is ∙ append_assoc s.before (n ∷ s.after) (m ∷ []);
+        low = s.low;
+        high = subst (λ xs. RiseIn version_of n.version xs m.version) (sym (map-append (entry_of h e) s.after (m ∷ [])))
+            (rise_on version_of n.version (top_of base ns) m.version (map (entry_of h e) s.after) (entry_of h e m ∷ []) s.high up);
+        rises = s.rises;
+      })
+]
 
 -- ---- parts
 
@@ -117,10 +117,10 @@ part_of_number laws c h config run e g at n given tag =
     let last = rise_above base n.prev own s.low in
     let low : RiseIn version_of 0 before n.prev = rise_on version_of 0 g.seeded_to n.prev f.front (mark_entry c h e ∷ own) f.rise ((omega (arith, mark)), s.low) in
     let is : issued c h e ≡ before ++ entry_of h e n ∷ map (entry_of h e) s.after =
-        f.is
-        ∙ ap (λ xs. f.front ++ mark_entry c h e ∷ map (entry_of h e) xs) s.is
-        ∙ ap (λ xs. f.front ++ mark_entry c h e ∷ xs) (map-append (entry_of h e) s.before (n ∷ s.after))
-        ∙ sym (append_assoc f.front (mark_entry c h e ∷ own) (entry_of h e n ∷ map (entry_of h e) s.after)) in
+    f.is
+    ∙ ap (λ xs. f.front ++ mark_entry c h e ∷ map (entry_of h e) xs) s.is
+    ∙ ap (λ xs. f.front ++ mark_entry c h e ∷ xs) (map-append (entry_of h e) s.before (n ∷ s.after))
+    ∙ sym (append_assoc f.front (mark_entry c h e ∷ own) (entry_of h e n ∷ map (entry_of h e) s.after)) in
     (ap (part_of c tag n.prev n.version) is ∙ part_one c tag 0 n.prev (top_of base (numbers h e)) before (entry_of h e n) (map (entry_of h e) s.after) low s.rises s.high, (omega (arith, mark, last)), s.rises)
   where
     rise_above : (a b : ℕ) (xs : List Entry) → RiseIn version_of a xs b → a ≤ b

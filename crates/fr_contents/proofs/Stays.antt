@@ -1,9 +1,8 @@
 -- What is issued through the last version of an epoch stays as it is.
-use Rattle.std.proofs.Common.{◌≡◌, ℕ, ◌<◌, ◌≤◌, Bool, true, false, cond, ◌==◌, List, [], ◌∷◌, ◌++◌, map, reverse, Option, None, Some, inl, inr, ◌⊎◌, refl, sym, ◌∙◌, ap, subst, arith}
+use Rattle.std.proofs.Common.{◌≡◌, ℕ, ◌<◌, ◌≤◌, Bool, true, false, cond, ◌==◌, List, [], ◌∷◌, ◌++◌, map, reverse, None, Some, inl, inr, ◌⊎◌, refl, sym, ◌∙◌, ap, subst, arith}
 use Rattle.std.specs.List.{Contains}
 use Rattle.std.proofs.lemmas.Bool.{eqb-true}
 use Rattle.std.proofs.lemmas.List.{map-append, reverse-append}
-use Rattle.fr_mutation.specs.declared.mutation.Mutation.{Mutation}
 use Rattle.fr_state.specs.Generations.{LogGeneration}
 use Rattle.fr_ask.specs.declared.sequencer.SeqAsk.TheVariants.{Next}
 use Rattle.fr_ask.specs.declared.sequencer.SeqTell.{SeqTell}
@@ -76,9 +75,9 @@ adds c h (Crashed who) is e = inl refl
 -- an epoch gains entries above its last version alone
 pub entries_gain : Laws → (c : Config) (h : List Turn) (t : Turn) → IsRun c h → IsTurn c h t → (g : LogGeneration) → generation_at c h g.epoch ≡ Some g → GainsAbove (entries c h) (entries c (t ∷ h)) (top_at c h) g
 entries_gain laws c h t run is g at = elim (adds c h t is e) [
-      | inl same ↦ ap (through version_of (top_at c h e)) (sym (ap (λ ns. entry_of_mark ∷ map (entry_of (t ∷ h) e) (reverse ns)) same ∙ old))
-      | inr (n, new) ↦ gains n new
-    ]
+  | inl same ↦ ap (through version_of (top_at c h e)) (sym (ap (λ ns. entry_of_mark ∷ map (entry_of (t ∷ h) e) (reverse ns)) same ∙ old))
+  | inr (n, new) ↦ gains n new
+]
   where
     e : ℕ
     e = g.epoch
@@ -118,16 +117,16 @@ entries_gain laws c h t run is g at = elim (adds c h t is e) [
 -- the last version of a planned epoch does not fall
 pub top_rises : Laws → (c : Config) (h : List Turn) (t : Turn) → IsRun c h → IsTurn c h t → (e : ℕ) (g : LogGeneration) → generation_at c h e ≡ Some g → top_at c h e ≤ top_at c (t ∷ h) e
 top_rises laws c h t run is e g at = elim (adds c h t is e) [
-      | inl same ↦ (let k : top_at c (t ∷ h) e ≡ top_at c h e = (λ i. top_of (mark_version (stays i)) (same i)) in omega (arith, k))
-      | inr (n, new) ↦ (
-          let base = mark_version (generation_at c h e) in
-          let chain' = (numbers_chain laws c (t ∷ h) (is, run) e (open_stays laws c h t run is e new.opened)).chain in
-          let chain : AreChained base (n ∷ numbers h e) = subst (AreChained base) new.more (subst (λ o. AreChained (mark_version o) (numbers (t ∷ h) e)) stays chain') in
-          let k : top_at c (t ∷ h) e ≡ n.version = ap (top_of (mark_version (generation_at c (t ∷ h) e))) new.more in
-          let follows = chain.0 in
-          let rises = chain.1 in
-          omega (arith, k, follows, rises))
-    ]
+  | inl same ↦ (let k : top_at c (t ∷ h) e ≡ top_at c h e = (λ i. top_of (mark_version (stays i)) (same i)) in omega (arith, k))
+  | inr (n, new) ↦ (
+      let base = mark_version (generation_at c h e) in
+      let chain' = (numbers_chain laws c (t ∷ h) (is, run) e (open_stays laws c h t run is e new.opened)).chain in
+      let chain : AreChained base (n ∷ numbers h e) = subst (AreChained base) new.more (subst (λ o. AreChained (mark_version o) (numbers (t ∷ h) e)) stays chain') in
+      let k : top_at c (t ∷ h) e ≡ n.version = ap (top_of (mark_version (generation_at c (t ∷ h) e))) new.more in
+      let follows = chain.0 in
+      let rises = chain.1 in
+      omega (arith, k, follows, rises))
+]
   where
     stays : generation_at c (t ∷ h) e ≡ generation_at c h e
     stays = generation_stays laws c h t run is e g at ∙ sym at

@@ -1,18 +1,16 @@
 -- Each number has the batch of its request, and keeps it.
-use Rattle.std.proofs.Common.{◌≡◌, ℕ, zero, suc, ◌-◌, ◌<◌, ◌≤◌, Bool, true, false, cond, ◌==◌, List, [], ◌∷◌, length, reverse, get_or, Option, None, Some, inl, inr, ◌⊎◌, refl, sym, ◌∙◌, ap, subst, arith}
+use Rattle.std.proofs.Common.{◌≡◌, ℕ, zero, suc, ◌-◌, ◌<◌, Bool, true, false, cond, ◌==◌, List, [], ◌∷◌, length, reverse, Option, None, Some, inl, inr, ◌⊎◌, refl, sym, ◌∙◌, ap, subst, arith}
 use Rattle.std.specs.List.{Contains}
 use Rattle.std.specs.Prelude.{slice_get}
 use Rattle.std.specs.FinMap.{get}
 use Rattle.std.proofs.lemmas.Bool.{eqb-true}
 use Rattle.std.proofs.lemmas.List.{length-reverse}
-use Rattle.std.proofs.lemmas.Option.{slice_get-get_or}
-use Rattle.fr_base.specs.declared.place.NodeId.{NodeId}
 use Rattle.fr_mutation.specs.declared.mutation.Mutation.{Mutation}
 use Rattle.fr_ask.specs.declared.sequencer.SeqAsk.TheVariants.{Next}
 use Rattle.fr_ask.specs.declared.sequencer.SeqTell.{SeqTell}
 use Rattle.fr_ask.specs.declared.sequencer.SeqTell.TheVariants as stell
 use Rattle.fr_ask.specs.declared.sequencer.SeqRefusal.{SeqRefusal}
-use Rattle.fr_proxy.specs.Sequencer.{SeqState, is_of, new_number, new_refusal, told, told_unless, told_before, answer_of}
+use Rattle.fr_proxy.specs.Sequencer.{SeqState, is_of, new_number, new_refusal, told_unless, told_before, answer_of}
 use Rattle.fr_proxy.specs.declared.number.Number.{Number}
 use Rattle.fr_history.specs.Config.{Config}
 use Rattle.fr_history.specs.Turn.{Turn, Begun, CellTurn, LogTurn, SeqTurn, Submitted, ProxyHeard, RecHeard, StorageHeard, Gone, Crashed}

@@ -1,5 +1,5 @@
 -- In every run each log has its parts, each answer to a peek is one, and each copy has them.
-use Rattle.std.proofs.Common.{◌≡◌, ℕ, ◌+◌, ◌<◌, ◌≤◌, Bool, true, false, cond, ◌==◌, List, [], ◌∷◌, ◌++◌, ◌-◌, length, map, Option, None, Some, inl, inr, ◌⊎◌, refl, sym, ◌∙◌, ap, subst, arith}
+use Rattle.std.proofs.Common.{◌≡◌, ℕ, ◌<◌, ◌≤◌, Bool, true, false, cond, List, [], ◌∷◌, ◌++◌, ◌-◌, map, Option, None, Some, inl, inr, ◌⊎◌, refl, sym, ◌∙◌, ap, subst, arith}
 use Rattle.std.specs.Prelude.{IfSome}
 use Rattle.fr_base.specs.declared.place.NodeId.{NodeId}
 use Rattle.fr_base.specs.declared.place.NodeId.TheVariants as node
@@ -9,13 +9,13 @@ use Rattle.fr_log.specs.declared.ask.LogAsk.TheVariants.{Seed, Push}
 use Rattle.fr_log.specs.declared.records.PeekedRecord.{PeekedRecord}
 use Rattle.fr_log.specs.Push.{PushContent}
 use Rattle.fr_log.specs.Seed.{SeedContent}
-use Rattle.fr_log.specs.LogState.{LogState, durable_of, records_of}
+use Rattle.fr_log.specs.LogState.{LogState, durable_of}
 use Rattle.fr_log.specs.Step.{next_of}
 use Rattle.fr_ask.specs.declared.ask.Ask.TheVariants as ask
 use Rattle.fr_epoch.specs.Recoverer.{RecState, Parent, Plan}
 use Rattle.fr_history.specs.Config.{Config, first_epoch, first_generation, first_log}
 use Rattle.fr_history.specs.Turn.{Turn, Sent}
-use Rattle.fr_history.specs.Nodes.{rec_at, plan_at, generation_at, logs_in, logs_at, log_at, new_log_in}
+use Rattle.fr_history.specs.Nodes.{rec_at, logs_at, log_at, new_log_in}
 use Rattle.fr_history.specs.Run.{IsTurn, IsRun, StorageMayAsk}
 use Rattle.fr_history.specs.StateLaws.{IsConfig}
 use Rattle.fr_versions.specs.Bounds.{IsSeedAt}
@@ -27,7 +27,7 @@ use Rattle.fr_versions.proofs.LogChanges.{IsTaken, log_change}
 use Rattle.fr_versions.proofs.LogRule.{log_step, log_starts}
 use Rattle.fr_versions.proofs.Logs.{asked_log, durable_below, logs_are_own, no_push, no_seed}
 use Rattle.fr_versions.proofs.Named.{log_named}
-use Rattle.fr_contents.specs.Contents.{HasParts, IsTrueCopy, IsTrueTell, part_records, LogsHaveParts, PeeksAreTrue, CopiesAreTrue}
+use Rattle.fr_contents.specs.Contents.{HasParts, IsTrueCopy, part_records, LogsHaveParts, PeeksAreTrue, CopiesAreTrue}
 use Rattle.fr_contents.specs.Laws.{Laws}
 use Rattle.fr_contents.proofs.PeekLists.{record_of}
 use Rattle.fr_contents.proofs.Parts.{part_lasts}

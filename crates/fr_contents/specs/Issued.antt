@@ -1,7 +1,7 @@
 -- What an epoch issues, what of it is a tag's, and what is committed.
 use Rattle.fr_history.specs.Batches.{batch_at}
 use Rattle.fr_history.specs.States.{state_of}
-use Rattle.std.specs.Prelude.{ℕ, ◌-◌, nat_lt, nat_le, ◌&&◌, List, [], ◌∷◌, ◌++◌, length, map, reverse, filter, fold, min, Option, None, Some, if◌then◌else◌}
+use Rattle.std.specs.Prelude.{ℕ, nat_lt, nat_le, ◌&&◌, List, [], ◌∷◌, ◌++◌, length, map, reverse, filter, fold, min, Option, None, Some, if◌then◌else◌}
 use Rattle.std.specs.List.{range_with_len, filter_map}
 use Rattle.fr_mutation.specs.declared.mutation.Mutation.{Mutation}
 use Rattle.fr_mutation.specs.Clip.{clipped}

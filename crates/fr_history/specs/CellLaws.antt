@@ -1,5 +1,5 @@
 -- What the cells of a run hold, and what their promises are worth.
-use Rattle.std.specs.Prelude.{◌≡◌, ℕ, true, List, [], Some}
+use Rattle.std.specs.Prelude.{◌≡◌, ℕ, true, List, Some}
 use Rattle.fr_base.specs.declared.place.NodeId.TheVariants as node
 use Rattle.fr_register.specs.declared.ask.CellTell.TheVariants.{Promise}
 use Rattle.fr_register.specs.Poll.{Stamped}
@@ -11,7 +11,6 @@ use Rattle.fr_epoch.specs.Recoverer.{RecState, Plan, is_written}
 use Rattle.fr_history.specs.Config.{Config, first_cell}
 use Rattle.fr_history.specs.Turn.{Turn, Told, cell_turns}
 use Rattle.fr_history.specs.Nodes.{cell_at, rec_at}
-use Rattle.fr_proxy.specs.Sequencer.{told}
 use Rattle.fr_history.specs.Run.{IsRun}
 
 -- what the cells did is a history of the register

@@ -1,5 +1,5 @@
 -- That each node grows at each turn of a run.
-use Rattle.std.specs.Prelude.{◌≡◌, ◌<◌, ◌≤◌, ℕ, true, List, [], ◌∷◌, Some}
+use Rattle.std.specs.Prelude.{◌≡◌, ◌<◌, ◌≤◌, ℕ, true, List, ◌∷◌, Some}
 use Rattle.fr_register.specs.CellState.{CellState}
 use Rattle.fr_log.specs.Law.{Grows}
 use Rattle.fr_proxy.specs.Law as proxy

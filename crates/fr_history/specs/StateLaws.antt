@@ -1,5 +1,5 @@
 -- That the states of a run are within their limits, and those that are chosen one chain.
-use Rattle.std.specs.Prelude.{◌≡◌, ◌<◌, ◌≤◌, ◌+◌, ℕ, List, [], ◌∷◌, ◌++◌, Some}
+use Rattle.std.specs.Prelude.{◌≡◌, ◌<◌, ◌≤◌, ℕ, List, [], ◌∷◌, ◌++◌, Some}
 use Rattle.fr_state.specs.Generations.{LogGeneration, IsCoordinatedState}
 use Rattle.fr_state.specs.Spelling.{spelling}
 use Rattle.fr_epoch.specs.Recoverer.{RecState, Parent, Plan}

@@ -1,5 +1,5 @@
 -- The state that each epoch writes, and which epochs are chosen.
-use Rattle.std.specs.Prelude.{◌≤◌, ℕ, ◌-◌, ◌==◌, List, [], Option, None, Some, if◌then◌else◌}
+use Rattle.std.specs.Prelude.{◌≤◌, ℕ, ◌==◌, List, Option, None, Some, if◌then◌else◌}
 use Rattle.fr_register.specs.Poll.{Stamped}
 use Rattle.fr_register.specs.Chosen.{IsChosen}
 use Rattle.fr_state.specs.Generations.{CoordinatedState}

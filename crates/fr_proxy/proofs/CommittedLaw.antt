@@ -1,5 +1,5 @@
 -- Committed is said at no other word than that by which the last log is heard to hold the batch.
-use Rattle.std.proofs.Common.{◌≡◌, ℕ, ◌+◌, ◌<◌, ◌≤◌, Bool, true, false, cond, not, ◌==◌, ◌&&◌, ◌||◌, length, List, [], ◌∷◌, ◌++◌, Option, None, Some, IsTrue, ◌⊎◌, inl, inr, refl, sym, ap, ap₂, subst, ◌∙◌, arith, suc}
+use Rattle.std.proofs.Common.{◌≡◌, ℕ, ◌+◌, ◌<◌, Bool, true, false, cond, not, ◌==◌, ◌||◌, length, List, [], ◌∷◌, ◌++◌, Option, None, Some, IsTrue, ◌⊎◌, inl, inr, refl, sym, ap, ap₂, subst, ◌∙◌, arith, suc}
 use Rattle.std.specs.Option.{option_map}
 use Rattle.std.specs.List.{list_any, IsDistinct, AllByRecursion}
 use Rattle.std.proofs.Math.Dec.{eqb}
@@ -10,12 +10,11 @@ use Rattle.fr_base.specs.declared.place.NodeId.TheVariants as node
 use Rattle.fr_log.specs.declared.ask.LogTell.TheVariants as log
 use Rattle.fr_ask.specs.declared.tell.Tell.{Tell}
 use Rattle.fr_ask.specs.declared.tell.Tell.TheVariants as tell
-use Rattle.fr_proxy.specs.declared.outcome.Outcome.{Outcome}
-use Rattle.fr_proxy.specs.declared.outcome.Outcome.TheVariants.{Waiting, Committed, Ended}
-use Rattle.fr_proxy.specs.Proxy.{ProxyState, Open, Place, Heeded, Ignored, Placed, HeldBy, HeldByAll, Cut, is_in, is_own_log, placed, with_held, heeded, heed_held, heed_new, after_heeded, after_hear, outcome_of, outcome_of_heeded}
+use Rattle.fr_proxy.specs.declared.outcome.Outcome.TheVariants.{Waiting, Committed}
+use Rattle.fr_proxy.specs.Proxy.{ProxyState, Open, Place, Heeded, Ignored, HeldBy, HeldByAll, Cut, is_in, with_held, heeded, heed_new, after_heeded, after_hear, outcome_of, outcome_of_heeded}
 use Rattle.fr_proxy.specs.Heard.{IsNewHolder, IsEnding, Spends, Stops, Heard, Ignores, Places, Holds, HoldsAll, Cuts}
 use Rattle.fr_proxy.specs.IsProxy.{IsProxy, IsOpenOf, are_distinct}
-use Rattle.fr_proxy.specs.Committed.{Word, after_all, WasHeard, held_word, AllHold, IsPlacedNow, IsHeldByAllNow, CommittedIsHeldByAll}
+use Rattle.fr_proxy.specs.Committed.{Word, after_all, WasHeard, held_word, CommittedIsHeldByAll}
 use Rattle.fr_proxy.proofs.Heard.{hear_is_heard}
 use Rattle.fr_proxy.proofs.Sound.{keeps, open_of}
 

@@ -1,5 +1,5 @@
 -- Each tell that a proxy hears is one of the cases, and each push is of the batch that was numbered just now.
-use Rattle.std.proofs.Common.{◌≡◌, ℕ, ◌+◌, ◌<◌, ◌≤◌, Bool, true, false, cond, not, nat_lt, nat_le, ◌==◌, ◌&&◌, length, is_some, map, get_or, Option, None, Some, refl, sym, ◌∙◌, ap, subst, arith}
+use Rattle.std.proofs.Common.{◌≡◌, ℕ, ◌+◌, ◌<◌, Bool, true, false, cond, not, nat_lt, nat_le, ◌==◌, ◌&&◌, length, is_some, Option, None, Some, refl, sym, ◌∙◌, ap, subst, arith}
 use Rattle.std.specs.List.{All, range_with_len}
 use Rattle.std.specs.Prelude.{filter}
 use Rattle.std.specs.Option.{option_map}
@@ -20,7 +20,7 @@ use Rattle.fr_ask.specs.declared.tell.Tell.TheVariants as tell
 use Rattle.fr_ask.specs.declared.sequencer.SeqTell.{SeqTell}
 use Rattle.fr_ask.specs.declared.sequencer.SeqTell.TheVariants as stell
 use Rattle.fr_ask.specs.declared.sequencer.SeqRefusal.TheVariants as turn
-use Rattle.fr_proxy.specs.Proxy.{ProxyState, Open, Place, Heeded, Ignored, Placed, HeldBy, HeldByAll, Cut, placed, push_of, is_in, asks_of_open, asks_of_heeded, after_heeded, heeded, heed, heed_open, heed_seq, heed_log, heed_held, heed_new, heed_refusal, is_own_log, may_place}
+use Rattle.fr_proxy.specs.Proxy.{ProxyState, Open, Place, Heeded, Ignored, Placed, HeldBy, HeldByAll, placed, push_of, is_in, asks_of_open, asks_of_heeded, after_heeded, heeded, heed, heed_open, heed_seq, heed_log, heed_held, heed_new, heed_refusal, is_own_log, may_place}
 use Rattle.fr_proxy.specs.Heard.{IsNewNumber, IsNewHolder, Heard, Ignores, Places, Holds, HoldsAll, Cuts, Spends, Stops, HearIsHeard, IsPushTo, NewIsPush}
 
 is_none_from : (o : Option Place) → not (is_some o) ≡ true → o ≡ None

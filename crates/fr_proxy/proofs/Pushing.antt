@@ -1,5 +1,5 @@
 -- The pushes of a batch, one log after the other.
-use Rattle.std.proofs.Common.{◌≡◌, ℕ, ◌+◌, ◌<◌, ◌≤◌, Bool, true, false, cond, not, List, [], ◌∷◌, ◌++◌, length, map, drop, get_or, Some, IsTrue, refl, sym, ap, subst, ◌∙◌, arith, suc}
+use Rattle.std.proofs.Common.{◌≡◌, ℕ, ◌+◌, ◌<◌, Bool, true, false, cond, not, List, [], ◌∷◌, ◌++◌, length, map, drop, get_or, IsTrue, refl, sym, ap, ◌∙◌, arith, suc}
 use Rattle.std.specs.Prelude.{filter}
 use Rattle.std.specs.List.{range_with_len}
 use Rattle.std.proofs.Math.Seq.{drop-cons}
@@ -11,9 +11,9 @@ use Rattle.fr_base.specs.declared.place.NodeId.TheVariants as node
 use Rattle.fr_tags.specs.declared.body.Body.{Body}
 use Rattle.fr_tags.specs.Bodies.{is_rising_from}
 use Rattle.fr_tags.specs.Split.{split, bodies, bodies_for}
-use Rattle.fr_tags.specs.SplitLaw.{bodies_at, EachLogHasItsBodies, EachLogIsServed}
+use Rattle.fr_tags.specs.SplitLaw.{bodies_at, EachLogHasItsBodies}
 use Rattle.fr_ask.specs.declared.ask.Ask.{Ask}
-use Rattle.fr_proxy.specs.Proxy.{ProxyState, Open, Place, is_in, push_with, pushes_at}
+use Rattle.fr_proxy.specs.Proxy.{ProxyState, Open, Place, is_in, push_with}
 
 -- the push of the batch to a log
 abbrev pub ask_at : ProxyState → Open → Place → ℕ → NodeId × Ask

@@ -1,13 +1,12 @@
 -- What holds of every proxy stays so.
-use Rattle.std.proofs.Common.{◌≡◌, ℕ, ◌+◌, ◌<◌, ◌≤◌, ◌^◌, Bool, true, false, cond, not, nat_le, ◌==◌, ◌&&◌, ◌||◌, is_some, length, [], ◌∷◌, List, Option, None, Some, IsTrue, IfSome, refl, sym, ap, subst, ◌∙◌, arith, suc}
+use Rattle.std.proofs.Common.{◌≡◌, ℕ, ◌+◌, ◌<◌, ◌≤◌, ◌^◌, Bool, true, false, cond, nat_le, ◌==◌, ◌||◌, is_some, length, ◌∷◌, List, Option, None, Some, IsTrue, IfSome, refl, sym, ap, subst, arith, suc}
 use Rattle.std.specs.Option.{option_map}
 use Rattle.std.proofs.lemmas.Bool.{eqb-true, eqb-false, leb-false}
 use Rattle.fr_base.specs.declared.place.NodeId.{NodeId}
 use Rattle.fr_mutation.specs.declared.mutation.Mutation.{Mutation}
 use Rattle.fr_ask.specs.declared.tell.Tell.{Tell}
-use Rattle.fr_proxy.specs.declared.fault.SubmitFault.{SubmitFault}
 use Rattle.fr_proxy.specs.declared.fault.SubmitFault.TheVariants.{TwoOpen, Over}
-use Rattle.fr_proxy.specs.Proxy.{ProxyState, Open, Place, Heeded, Ignored, Placed, HeldBy, HeldByAll, Cut, new_proxy, is_in, is_over, submit_fault, submitted, opened, placed, with_held, after_heeded, after_hear, heeded}
+use Rattle.fr_proxy.specs.Proxy.{ProxyState, Open, Place, Heeded, Placed, HeldBy, new_proxy, is_in, is_over, submit_fault, submitted, placed, with_held, after_heeded, after_hear, heeded}
 use Rattle.fr_proxy.specs.Heard.{IsNewNumber, IsNewHolder, Heard, Ignores, Places, Holds, HoldsAll, Cuts}
 use Rattle.fr_proxy.specs.IsProxy.{IsPlace, IsOpenOf, IsProxy}
 use Rattle.fr_proxy.proofs.Heard.{hear_is_heard}

@@ -1,17 +1,14 @@
 -- What a sequencer stores.
-use Rattle.std.proofs.Common.{◌≡◌, ◌≢◌, ℕ, ◌+◌, Bool, true, false, cond, ◌==◌, Option, None, Some, refl, sym, ap, subst, ◌∙◌, arith}
+use Rattle.std.proofs.Common.{◌≡◌, ◌≢◌, ℕ, Bool, true, false, cond, Option, None, Some, refl, ap, ◌∙◌}
 use Rattle.std.specs.Ordering.{nat_cmp, eq_by_cmp}
 use Rattle.std.specs.Cmp.{nat_cmp_total, eq_by_cmp_equiv}
 use Rattle.std.specs.FinMap.{get, insert, get-insert, nat_cmp-IsAntisymmetric}
 use Rattle.fr_base.proofs.MapLemmas.{one_key}
 use Rattle.fr_log.specs.Fields.{three}
-use Rattle.fr_ask.specs.declared.sequencer.SeqAsk.TheVariants.{Next}
-use Rattle.fr_ask.specs.declared.sequencer.SeqTell.{SeqTell}
-use Rattle.fr_ask.specs.declared.sequencer.SeqTell.TheVariants.{Numbered, Refused}
+use Rattle.fr_ask.specs.declared.sequencer.SeqTell.TheVariants.{Numbered}
 use Rattle.fr_ask.specs.declared.sequencer.SeqRefusal.{SeqRefusal}
-use Rattle.fr_ask.specs.declared.sequencer.SeqRefusal.TheVariants.{OutOfTurn}
 use Rattle.fr_proxy.specs.declared.number.Number.{Number}
-use Rattle.fr_proxy.specs.Sequencer.{SeqState, answer_of, next_of, is_of, new_number, new_refusal, next_unless, told_unless, told_before, told}
+use Rattle.fr_proxy.specs.Sequencer.{SeqState, is_of, new_number, new_refusal, next_unless, told_unless, told_before, told}
 use Rattle.fr_proxy.specs.KeptLaw.{ToldIsStored, GivenIsStored, OthersKeepTheirs}
 
 get_given : (s : SeqState) (proxy q : ℕ) (n : Number) → get (insert s.given proxy n) q ≡ cond (eq_by_cmp nat_cmp q proxy) (Some n) (get s.given q)

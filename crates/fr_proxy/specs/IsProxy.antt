@@ -1,5 +1,5 @@
 -- What holds of every proxy.
-use Rattle.std.specs.Prelude.{◌≡◌, ℕ, ◌+◌, ◌<◌, ◌≤◌, ◌^◌, Bool, true, ◌&&◌, not, List, [], ◌∷◌, length, Option, None, IsTrue, IfSome}
+use Rattle.std.specs.Prelude.{◌≡◌, ℕ, ◌+◌, ◌<◌, ◌≤◌, ◌^◌, Bool, true, ◌&&◌, not, List, [], ◌∷◌, length, None, IsTrue, IfSome}
 use Rattle.fr_proxy.specs.Proxy.{ProxyState, Open, Place, is_in}
 
 -- a place from which a push can be made: above the one before by a step, and no commit above that one is known

@@ -1,6 +1,5 @@
 -- That a sequencer told the same ask twice at once tells the same and stays as it is, and never goes back.
-use Rattle.std.specs.Prelude.{◌≡◌, ℕ, ◌+◌, ◌<◌, ◌≤◌, ◌^◌, ◌==◌, Bool, true, false, nat_le, List, [], ◌∷◌, Option, None, Some, if◌then◌else◌, refl, cond}
-use Rattle.std.specs.Ordering.{nat_cmp}
+use Rattle.std.specs.Prelude.{◌≡◌, ℕ, ◌+◌, ◌<◌, ◌^◌, ◌==◌, Bool, true, false, nat_le, List, [], ◌∷◌, Option, None, Some, refl, cond}
 use Rattle.std.specs.Cmp.{nat_cmp_total, eq_by_cmp_equiv}
 use Rattle.std.specs.FinMap.{get, insert, get-insert}
 use Rattle.std.proofs.Common.{arith, ap, ◌∙◌}
@@ -11,7 +10,7 @@ use Rattle.fr_ask.specs.declared.sequencer.SeqAsk.TheVariants.{Next}
 use Rattle.fr_ask.specs.declared.sequencer.SeqRefusal.{SeqRefusal}
 use Rattle.fr_ask.specs.declared.sequencer.SeqRefusal.TheVariants.{Spent, OutOfTurn}
 use Rattle.fr_proxy.specs.declared.number.Number.{Number}
-use Rattle.fr_proxy.specs.Sequencer.{SeqState, answer_of, next_of, is_of, last_request, new_refusal, new_number, next_unless, told_unless, told_before, told, IsWithinLimit}
+use Rattle.fr_proxy.specs.Sequencer.{SeqState, answer_of, next_of, is_of, last_request, new_refusal, new_number, IsWithinLimit}
 
 -- the values that never go back
 abbrev pub sequencer_high_water : SeqState → List ℕ

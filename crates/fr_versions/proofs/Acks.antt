@@ -14,7 +14,6 @@ use Rattle.fr_proxy.specs.declared.outcome.Outcome.TheVariants.{Waiting, Committ
 use Rattle.fr_proxy.specs.Proxy.{Open, after_heeded, heeded, outcome_of_heeded}
 use Rattle.fr_proxy.specs.declared.number.Place.{Place}
 use Rattle.fr_proxy.specs.declared.heeded.Heeded.{Heeded}
-use Rattle.fr_proxy.specs.declared.heeded.Heeded.TheVariants as heeds
 use Rattle.fr_proxy.specs.Heard.{IsNewHolder, Heard, Ignores, Places, Holds, HoldsAll, Cuts}
 use Rattle.fr_history.specs.Config.{Config}
 use Rattle.fr_history.specs.Turn.{Turn, Sending, Submitted, ProxyHeard, Told}
@@ -127,7 +126,7 @@ commits : Laws → (c : Config) (h : List Turn) → IsRun c h → (e p : ℕ) �
     → IsSafe c h e v
 commits laws c h run e p op from t told v x Ignores says = let d : Committed v ≡ Waiting = says in absurd (cc)
 commits laws c h run e p op from t told v x (Places o at n) says = let d : Committed v ≡ Waiting = says in absurd (cc)
-commits laws c h run e p op from t told v x (Holds o at log n) says = let d : Committed v ≡ Waiting = says in absurd (cc)
+commits laws c h run e p op from t told v x (Holds o at log n more) says = let d : Committed v ≡ Waiting = says in absurd (cc)
 commits laws c h run e p op from t told v x (HoldsAll o at log n m) says =
     let d : Committed v ≡ Committed at.version = says in
     let same : at.version ≡ v = cc in
@@ -138,9 +137,9 @@ acked : Laws → (c : Config) (h : List Turn) → IsRun c h → (e p v : ℕ) (f
 acked laws c [] run e p v from t asks k = absurd (Contains-none k)
 acked laws c (u ∷ h) run e p v from t asks k = safe_later laws c h u run.1 run.0 e v (elim (Contains-cases u h (ProxyHeard e p from t (Committed v) asks) k) [
   | inl now ↦ (
-    let is : IsTurn c h (ProxyHeard e p from t (Committed v) asks) = subst (IsTurn c h) now run.0 in
-    let op = (and_parts (is_open c h e) (nat_lt p c.proxies) is.0.actor.there).0 in
-    commits laws c h run.1 e p op from t is.0.told v (heeded (proxy_at c h e p) from t) (laws.proxy_heard (proxy_at c h e p) from t) is.1)
+      let is : IsTurn c h (ProxyHeard e p from t (Committed v) asks) = subst (IsTurn c h) now run.0 in
+      let op = (and_parts (is_open c h e) (nat_lt p c.proxies) is.0.actor.there).0 in
+      commits laws c h run.1 e p op from t is.0.told v (heeded (proxy_at c h e p) from t) (laws.proxy_heard (proxy_at c h e p) from t) is.1)
   | inr before ↦ acked laws c h run.1 e p v from t asks before
 ])
 
@@ -153,7 +152,7 @@ knows : Laws → (c : Config) (h : List Turn) → IsRun c h → (e p : ℕ) → 
     → IsBelow c h e (after_heeded (proxy_at c h e p) x).known
 knows laws c h run e p op from t told k x Ignores = k
 knows laws c h run e p op from t told k x (Places o at n) = k
-knows laws c h run e p op from t told k x (Holds o at log n) = k
+knows laws c h run e p op from t told k x (Holds o at log n more) = k
 knows laws c h run e p op from t told k x (HoldsAll o at log n m) =
     let s = committed_safe laws c h run e p at.version op (all_hold laws c h run e p op from t told o at log n m) in
     record { generation = s.generation; at = s.of; below = inr s.reached }

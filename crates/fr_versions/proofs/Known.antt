@@ -1,5 +1,5 @@
 -- What each push that was sent tells to be known, and what each log knows, has been reached by each log of the epoch, or is below its first version.
-use Rattle.std.proofs.Common.{◌≡◌, ℕ, ◌-◌, ◌<◌, Bool, true, false, max, nat_le, List, [], ◌∷◌, map, Option, None, Some, inl, inr, ◌⊎◌, refl, sym, ◌∙◌, ap, subst, arith}
+use Rattle.std.proofs.Common.{◌≡◌, ℕ, ◌-◌, ◌<◌, Bool, true, false, max, nat_le, List, [], ◌∷◌, Option, None, Some, inl, inr, ◌⊎◌, refl, sym, ◌∙◌, ap, subst, arith}
 use Rattle.std.specs.Prelude.{IfSome, fold}
 use Rattle.std.specs.List.{All, Contains}
 use Rattle.std.proofs.lemmas.Bool.{and_parts, leb-true, leb-false}
@@ -17,7 +17,6 @@ use Rattle.fr_log.specs.Step.{next_of}
 use Rattle.fr_ask.specs.declared.ask.Ask.TheVariants as ask
 use Rattle.fr_ask.specs.declared.tell.Tell.{Tell}
 use Rattle.fr_proxy.specs.Proxy as proxy
-
 use Rattle.fr_proxy.specs.Heard as heard
 use Rattle.fr_epoch.specs.Recoverer.{Plan, mark_of}
 use Rattle.fr_history.specs.Config.{Config, first_epoch, first_generation, first_mark}

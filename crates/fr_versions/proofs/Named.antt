@@ -1,8 +1,7 @@
 -- Each log has its own name, and the m and k of its generation.
-use Rattle.std.proofs.Common.{◌≡◌, ℕ, ◌<◌, Bool, true, false, cond, ◌==◌, List, [], ◌∷◌, Option, None, Some, refl, sym, ◌∙◌, ap, subst, arith}
+use Rattle.std.proofs.Common.{◌≡◌, ℕ, ◌<◌, false, cond, ◌==◌, List, Option, None, Some, refl, ◌∙◌, ap, arith}
 use Rattle.fr_state.specs.Generations.{LogGeneration}
 use Rattle.fr_log.specs.LogState.{LogState}
-use Rattle.fr_log.specs.Step.{next_of}
 use Rattle.fr_epoch.specs.Recoverer.{Plan}
 use Rattle.fr_history.specs.Config.{Config, first_epoch, first_generation}
 use Rattle.fr_history.specs.Turn.{Turn}
@@ -10,7 +9,6 @@ use Rattle.fr_history.specs.Nodes.{plan_at, generation_in, generation_at, logs_i
 use Rattle.fr_history.specs.Run.{IsRun}
 use Rattle.fr_history.specs.Laws.{Laws}
 use Rattle.fr_history.proofs.Growth.{generation_stays}
-use Rattle.fr_versions.proofs.Logs.{logs_generation}
 use Rattle.fr_versions.proofs.LogRule.{IsLogRule, log_holds}
 
 pub record IsNamed (c : Config) (h : List Turn) (e i : ℕ) (l : LogState) : Type 0 where

@@ -66,10 +66,10 @@ logs_within c h e i g at below = go (e == first_epoch) at below
 pub below_is_durable : Laws → (c : Config) (h : List Turn) → IsRun c h → (e v : ℕ) → IsBelow c h e v → (i : ℕ) → i < logs_at c h e → IsSome (log_at c h e i).seed → v ≤ durable_of (log_at c h e i)
 below_is_durable laws c h run e v k i there seeded = elim k.below [
   | inl low ↦ (
-    let ends = generation_ends laws c h run e k.generation k.at in
-    let seed = from (log_at c h e i).seed (logs_know laws c h run e i there).seed seeded in
-    let start = from_start (seeded_to_of (log_at c h e i).seed) (log_at c h e i).pushes in
-    omega (arith, low, ends, seed, start))
+      let ends = generation_ends laws c h run e k.generation k.at in
+      let seed = from (log_at c h e i).seed (logs_know laws c h run e i there).seed seeded in
+      let start = from_start (seeded_to_of (log_at c h e i).seed) (log_at c h e i).pushes in
+      omega (arith, low, ends, seed, start))
   | inr all ↦ (all i (logs_within c h e i k.generation k.at there)).durable
 ]
   where
@@ -103,7 +103,7 @@ below_is_taken_over laws c h run b r p q at parent planned v k =
     let end = end_is_of_replies laws c h run b r q at planned in
     let stand = replies_stand_still laws c h run b r p at parent in
     let each : All (λ x. v ≤ x.durable) (tally r).replies = All-weaker (λ x. StandsAt c h p.last.epoch x.log x.durable x.known) (λ x. v ≤ x.durable)
-        (λ x s. (let l = below_is_durable laws c h run p.last.epoch v k x.log s.there s.seeded in omega (arith, l, s.durable_is))) (tally r).replies stand in
+    (λ x s. (let l = below_is_durable laws c h run p.last.epoch v k x.log s.there s.seeded in omega (arith, l, s.durable_is))) (tally r).replies stand in
     let low = low_least v (tally r).m (tally r).k (tally r).replies end.covered each in
     omega (arith, low, end.seeded_to)
 

@@ -220,7 +220,7 @@ heard_next laws c h run e p from t told k x (Places o at n) =
       over = λ over. let d : None ≡ Some o = sym (k.over over) ∙ n.under_way in absurd (cc);
       under_way = subst (λ u. IfSome (option_map (placed at) u) (IsOpenOf c h e p (after_heeded s (heeds.Placed at)))) (sym n.under_way) now;
     }
-heard_next laws c h run e p from t told k x (Holds o at log n) =
+heard_next laws c h run e p from t told k x (Holds o at log n more) =
     let s = proxy_at c h e p in
     let was : IsOpenOf c h e p s o = subst (λ u. IfSome u (IsOpenOf c h e p s)) n.under_way k.under_way in
     let all : AreHolders c h e s (Some at) o.held = subst (λ y. AreHolders c h e s y o.held) n.given was.holders in

@@ -16,7 +16,6 @@ use Rattle.fr_ask.specs.declared.tell.Tell.TheVariants as tell
 use Rattle.fr_ask.specs.declared.sequencer.SeqTell.TheVariants as stell
 use Rattle.fr_proxy.specs.declared.number.Number.{Number}
 use Rattle.fr_proxy.specs.Proxy as proxy
-use Rattle.fr_proxy.specs.Law as proxy_law
 use Rattle.fr_epoch.specs.Recoverer.{RecState, Plan, new_recoverer, mark_of}
 use Rattle.fr_epoch.specs.Law as rec_law
 use Rattle.fr_proxy.specs.Heard.{IsPushOf, IsPushTo}

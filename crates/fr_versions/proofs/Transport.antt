@@ -48,17 +48,17 @@ pub parent_comes : Laws → (c : Config) (h : List Turn) → IsConfig c → IsRu
 parent_comes laws c h config run b r p at parent = elim kept.holds [
   | inl start ↦ inl (one_spelling laws (first_state c) p.state (first_is c config) par.0 (sym (ap (λ (s : Stamped). s.value) start) ∙ greatest))
   | inr w ↦ (
-    let k = written_is_state laws c h run (parent_at c h b) (record { cell = ready.read.found.0; tell = _; comes = w }) in
-    let states = (recoverers_have_states laws c h config run (parent_at c h b).ballot k.recoverer k.at).plan k.plan k.planned in
-    inr (record {
-      ballot = (parent_at c h b).ballot;
-      below = ready.below;
-      recoverer = k.recoverer;
-      at = k.at;
-      plan = k.plan;
-      planned = k.planned;
-      is = one_spelling laws k.plan.state p.state states.0 par.0 (sym k.value ∙ greatest);
-    }))
+      let k = written_is_state laws c h run (parent_at c h b) (record { cell = ready.read.found.0; tell = _; comes = w }) in
+      let states = (recoverers_have_states laws c h config run (parent_at c h b).ballot k.recoverer k.at).plan k.plan k.planned in
+      inr (record {
+        ballot = (parent_at c h b).ballot;
+        below = ready.below;
+        recoverer = k.recoverer;
+        at = k.at;
+        plan = k.plan;
+        planned = k.planned;
+        is = one_spelling laws k.plan.state p.state states.0 par.0 (sym k.value ∙ greatest);
+      }))
 ]
   where
     par : IsCoordinatedState p.state × (r.reads.greatest.value ≡ spelling p.state)
@@ -96,7 +96,7 @@ seed_rises : Laws → (c : Config) (h : List Turn) → IsRun c h → (b : ℕ) (
 seed_rises laws c h run b r p q at parent planned last =
     let end = end_is_of_replies laws c h run b r q at planned in
     let each : All (λ x. p.last.seeded_to ≤ x.durable) (tally r).replies = All-weaker (λ x. StandsAt c h p.last.epoch x.log x.durable x.known) (λ x. p.last.seeded_to ≤ x.durable)
-        (λ x s. (let l = seeded_is_durable laws c h run p.last.epoch p.last last x.log s.there s.seeded in omega (arith, l, s.durable_is))) (tally r).replies (replies_stand_still laws c h run b r p at parent) in
+    (λ x s. (let l = seeded_is_durable laws c h run p.last.epoch p.last last x.log s.there s.seeded in omega (arith, l, s.durable_is))) (tally r).replies (replies_stand_still laws c h run b r p at parent) in
     let low = low_least p.last.seeded_to (tally r).m (tally r).k (tally r).replies end.covered each in
     omega (arith, low, end.seeded_to)
 

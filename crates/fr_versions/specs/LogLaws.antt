@@ -1,6 +1,6 @@
 -- What the logs of a run hold, what a lock fixes, and the end that is taken from it.
 use Rattle.fr_history.specs.StateLaws.{IsConfig}
-use Rattle.std.specs.Prelude.{Option, None, ◌≡◌, ◌<◌, ◌≤◌, ◌+◌, ℕ, true, List, [], Some, IsSome, IsTrue, All}
+use Rattle.std.specs.Prelude.{Option, None, ◌≡◌, ◌<◌, ◌≤◌, ◌+◌, ℕ, true, List, Some, IsSome, IsTrue, All}
 use Rattle.fr_base.specs.declared.place.NodeId.{NodeId}
 use Rattle.fr_base.specs.declared.place.NodeId.TheVariants as node
 use Rattle.fr_log.specs.LogState.{durable_of, known_of}
@@ -16,8 +16,7 @@ use Rattle.fr_history.specs.Config.{Config}
 use Rattle.fr_history.specs.Turn.{Turn, Sent, Told}
 use Rattle.fr_history.specs.Nodes.{rec_at, logs_at, log_at}
 use Rattle.fr_versions.specs.Logs.{IsOfEpoch, IsSeedOf, IsLogOf}
-use Rattle.fr_versions.specs.Numbers.{numbers, top_at}
-use Rattle.fr_proxy.specs.Sequencer.{told}
+use Rattle.fr_versions.specs.Numbers.{top_at}
 use Rattle.fr_history.specs.Run.{IsRun}
 
 -- each push that was sent to a log is of the log's epoch, and each seed

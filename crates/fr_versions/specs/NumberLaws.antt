@@ -1,5 +1,5 @@
 -- That the numbers of each epoch are one chain.
-use Rattle.std.specs.Prelude.{◌≡◌, ℕ, true, List, [], Contains}
+use Rattle.std.specs.Prelude.{◌≡◌, ℕ, true, List, Contains}
 use Rattle.fr_base.specs.declared.place.NodeId.{NodeId}
 use Rattle.fr_base.specs.declared.place.NodeId.TheVariants as node
 use Rattle.fr_ask.specs.declared.tell.Tell.TheVariants as tell

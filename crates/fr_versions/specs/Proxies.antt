@@ -1,5 +1,5 @@
 -- What is true of each proxy of an open epoch, and of what it pushed.
-use Rattle.std.specs.Prelude.{◌≡◌, ◌<◌, ◌≤◌, ℕ, nat_eq, List, [], map, Option, None, Some, IfSome, IsTrue, All, Contains}
+use Rattle.std.specs.Prelude.{◌≡◌, ◌<◌, ◌≤◌, ℕ, nat_eq, List, [], Option, None, Some, IfSome, IsTrue, All, Contains}
 use Rattle.std.specs.List.{IsDistinct}
 use Rattle.fr_base.specs.declared.place.NodeId.{NodeId}
 use Rattle.fr_base.specs.declared.place.NodeId.TheVariants as node

@@ -51,18 +51,20 @@ fn peeked(
 /// The copy of 2 tags above 9 through 10 from the logs 0, 1 and 2 of 4, of which 2 hold each tag.
 fn new_tail(alloc: Global) -> Result<Tail, Fail> {
     let responders = Vec::from_slice(alloc, &[0, 1, 2])?;
-    Ok(Tail::new(alloc, 2, 4, 2, responders, at(9)?, at(10)?)?)
+    let pev = at(9)?;
+    let rv = at(10)?;
+    if pev.get() > rv.get() || rv.get() > 10 {
+        return Err(Fail::from("other versions"));
+    }
+    Ok(Tail::new(alloc, 2, 4, 2, responders, pev, rv)?)
 }
 
 /// Whether records are those of these versions and tags.
 fn are(records: &[SeedRecord], wanted: &[(u64, u8)]) -> bool {
     records.len() == wanted.len()
-        && records
-            .iter()
-            .zip(wanted.iter())
-            .all(|(record, (version, number))| {
-                record.version.get() == *version && record.tag.get() == *number
-            })
+        && records.iter().zip(wanted.iter()).all(|(record, (version, number))| {
+            record.version.get() == *version && record.tag.get() == *number
+        })
 }
 
 #[test]
@@ -80,7 +82,10 @@ fn a_copy_refuses_what_does_not_go_on(rt: HostRuntime) -> Result<(), Fail> {
         assert!(rt; tail.hear(index, tag(number)?, answer) == Err(wanted));
     }
     tail.hear(0, tag(0)?, peeked(alloc, 0, 9, &[10], 12)?)?;
-    assert_eq!(rt; (tail.reached(tag(0)?).get(), tail.reached(tag(1)?).get()), (10, 9));
+    assert_eq!(rt;
+        (tail.reached(tag(0)?).get(), tail.reached(tag(1)?).get()),
+        (10, 9)
+    );
     assert!(rt; !tail.complete());
     tail.hear(1, tag(0)?, peeked(alloc, 0, 8, &[], 8)?)?;
     tail.hear(1, tag(0)?, peeked(alloc, 0, 10, &[], 10)?)?;
@@ -116,7 +121,11 @@ fn a_copy_of_250_records_takes_three_answers(rt: HostRuntime) -> Result<(), Fail
         for version in first..last + 1 {
             versions.push(version)?;
         }
-        tail.hear(index, tag(0)?, peeked(alloc, 0, first - 1, &versions, last)?)?;
+        tail.hear(
+            index,
+            tag(0)?,
+            peeked(alloc, 0, first - 1, &versions, last)?,
+        )?;
         assert_eq!(rt; tail.reached(tag(0)?).get(), last);
     }
     assert!(rt; tail.complete());
@@ -132,6 +141,13 @@ fn a_copy_of_nothing_is_complete(rt: HostRuntime) -> Result<(), Fail> {
     let tail = Tail::new(alloc, 1, 2, 2, responders, at(0)?, at(0)?)?;
     assert!(rt; tail.complete());
     let seed = tail.seeds_for(alloc, log(1)?, 2, 2)?;
-    assert_eq!(rt; (seed.first().get(), seed.seeded_to().get(), seed.records().len()), (1, 0, 0));
+    assert_eq!(rt;
+        (
+            seed.first().get(),
+            seed.seeded_to().get(),
+            seed.records().len()
+        ),
+        (1, 0, 0)
+    );
     Ok(())
 }

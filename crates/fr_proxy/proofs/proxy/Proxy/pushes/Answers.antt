@@ -1,13 +1,13 @@
-use Rattle.std.proofs.Common.{rules, ◌≡◌, ◌+◌, ◌<◌, ◌≤◌, map, length, List, sym, ap, subst, ◌∙◌, arith, refl, IsTrue}
+use Rattle.std.proofs.Common.{rules, ◌≡◌, ◌<◌, ◌≤◌, map, length, List, sym, ap, subst, ◌∙◌, arith, IsTrue}
 use Rattle.std.proofs.lemmas.List.{length-map}
 use Rattle.std.specs.Vec.{vec_len}
-use Rattle.std.specs.Vec.Iter.{into_iter_items, into_iter_len}
+use Rattle.std.specs.Vec.Iter.{into_iter_items}
 use Rattle.fr_tags.specs.declared.body.Body.{Body}
 use Rattle.fr_tags.specs.Bodies.{is_rising_from}
 use Rattle.fr_tags.specs.Split.{split}
-use Rattle.fr_proxy.specs.Proxy.{ProxyState, push_with}
+use Rattle.fr_proxy.specs.Proxy.{ProxyState}
 use Rattle.fr_proxy.specs.UnderWay.{open_of}
-use Rattle.fr_proxy.proofs.Pushing.{next_bodies, bodies_rise, asks_below-more, length-split, pushes_so_far}
+use Rattle.fr_proxy.proofs.Pushing.{next_bodies, bodies_rise, length-split, pushes_so_far}
 use Rattle.fr_proxy.proofs.proxy.Proxy.pushes.Goals as goal
 
 pub loop-bodies-init : goal.loop-bodies-init
