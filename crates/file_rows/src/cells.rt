@@ -106,11 +106,11 @@ fn a_cell_in_bytes(rt: HostRuntime) -> Result<(), Fail> {
 }
 
 /// Opens a file of one record as that of a cell.
-fn opened(alloc: Global, record: &[u8]) -> Result<Option<NodeFault>, Fail>
-    requires { length record.now < 2 ^ 32 }
+fn opened(alloc: Global, payload: &[u8]) -> Result<Option<NodeFault>, Fail>
+    requires { length payload.now < 2 ^ 32 }
 {
     let mut file = Records::format(alloc, MemoryDevice::new(alloc, ROOM)?)?;
-    file.append(alloc, record)?;
+    file.append(alloc, payload)?;
     Ok(FileNode::open(alloc, file.into_device(), Cell::new(alloc)).err())
 }
 

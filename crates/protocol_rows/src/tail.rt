@@ -1,3 +1,5 @@
+ghost use Rattle.std.specs.Prelude.{◌+◌, ◌<◌, ◌≤◌, ◌^◌, IfOk};
+
 use fr_base::{Bytes, Epoch, LogId, Tag, Version};
 use fr_log::{Peeked, PeekedRecord, SeedRecord};
 use fr_mutation::{Batch, Mutation};
@@ -48,14 +50,22 @@ fn peeked(
     Ok(answer.ok_or("an answer")?)
 }
 
+/// The versions above which and through which is copied.
+fn range(pev: u64, rv: u64) -> Result<(Version, Version), Fail>
+    ensures order { IfOk result (λ versions. versions.0 ≤ versions.1) }
+    ensures room { IfOk result (λ versions. versions.1 + 1 < 2 ^ 62) }
+{
+    let (pev, rv) = (at(pev)?, at(rv)?);
+    if pev.get() > rv.get() || rv.get() > 1000 {
+        return Err(Fail::from("no range of versions"));
+    }
+    Ok((pev, rv))
+}
+
 /// The copy of 2 tags above 9 through 10 from the logs 0, 1 and 2 of 4, of which 2 hold each tag.
 fn new_tail(alloc: Global) -> Result<Tail, Fail> {
     let responders = Vec::from_slice(alloc, &[0, 1, 2])?;
-    let pev = at(9)?;
-    let rv = at(10)?;
-    if pev.get() > rv.get() || rv.get() > 10 {
-        return Err(Fail::from("other versions"));
-    }
+    let (pev, rv) = range(9, 10)?;
     Ok(Tail::new(alloc, 2, 4, 2, responders, pev, rv)?)
 }
 
@@ -97,7 +107,8 @@ fn a_copy_refuses_what_does_not_go_on(rt: HostRuntime) -> Result<(), Fail> {
 fn seeds_have_the_records_of_the_new_logs_tags(rt: HostRuntime) -> Result<(), Fail> {
     let alloc = rt.alloc();
     let responders = Vec::from_slice(alloc, &[1, 2])?;
-    let mut tail = Tail::new(alloc, 2, 4, 2, responders, at(4)?, at(9)?)?;
+    let (pev, rv) = range(4, 9)?;
+    let mut tail = Tail::new(alloc, 2, 4, 2, responders, pev, rv)?;
     tail.hear(1, tag(0)?, peeked(alloc, 0, 4, &[5, 7], 7)?)?;
     tail.hear(1, tag(0)?, peeked(alloc, 0, 7, &[9, 11], 12)?)?;
     tail.hear(2, tag(1)?, peeked(alloc, 1, 4, &[7, 8], 9)?)?;
@@ -115,7 +126,8 @@ fn seeds_have_the_records_of_the_new_logs_tags(rt: HostRuntime) -> Result<(), Fa
 fn a_copy_of_250_records_takes_three_answers(rt: HostRuntime) -> Result<(), Fail> {
     let alloc = rt.alloc();
     let responders = Vec::from_slice(alloc, &[0, 1])?;
-    let mut tail = Tail::new(alloc, 1, 2, 2, responders, at(0)?, at(250)?)?;
+    let (pev, rv) = range(0, 250)?;
+    let mut tail = Tail::new(alloc, 1, 2, 2, responders, pev, rv)?;
     for (index, first, last) in [(0, 1, 100), (1, 101, 200), (0, 201, 250)] {
         let mut versions = Vec::new(alloc);
         for version in first..last + 1 {
@@ -138,7 +150,8 @@ fn a_copy_of_250_records_takes_three_answers(rt: HostRuntime) -> Result<(), Fail
 fn a_copy_of_nothing_is_complete(rt: HostRuntime) -> Result<(), Fail> {
     let alloc = rt.alloc();
     let responders = Vec::from_slice(alloc, &[0])?;
-    let tail = Tail::new(alloc, 1, 2, 2, responders, at(0)?, at(0)?)?;
+    let (pev, rv) = range(0, 0)?;
+    let tail = Tail::new(alloc, 1, 2, 2, responders, pev, rv)?;
     assert!(rt; tail.complete());
     let seed = tail.seeds_for(alloc, log(1)?, 2, 2)?;
     assert_eq!(rt;
