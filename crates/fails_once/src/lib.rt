@@ -1,5 +1,6 @@
 //! A store in memory whose device fails in one call, for tests of what stands on a store.
 #![tactic(auto)]
+
 ghost use Rattle.std.specs.Prelude.{◌≡◌, ◌⊎◌, ◌↔◌, ◌||◌, false, Err, IfErr, IsTrue};
 ghost use Rattle.fr_undo.specs.State.{fresh, IsStoreState};
 ghost use Rattle.fr_undo.specs.Calls.{met_device};
