@@ -191,7 +191,7 @@ fn a_failed_call_stands_before_or_after(rt: HostRuntime) -> Result<(), Fail> {
     let (batch, versions) = (batch(alloc, 1)?, [at(4)?, at(5)?, at(6)?]);
     for case in cases {
         for (is_done, wanted) in [(false, case.before), (true, case.after)] {
-            let mut store = FailsOnce::new(alloc, case.calls + 1, is_done);
+            let mut store = FailsOnce::new(alloc, case.calls.wrapping_add(1), is_done);
             fill(alloc, &mut store)?;
             assert!(rt; each_call(alloc, &mut store, &batch, versions) == Err(StoreFault::Device));
             assert!(rt; store.is_failed());
