@@ -2,12 +2,8 @@
 #![tactic(auto)]
 
 #[cfg(test)]
-mod commit;
-#[cfg(test)]
 mod end;
 #[cfg(test)]
 mod sequencer;
 #[cfg(test)]
 mod storage;
-#[cfg(test)]
-mod tail;

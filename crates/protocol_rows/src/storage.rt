@@ -244,7 +244,7 @@ fn what_did_not_survive_is_taken_back(rt: HostRuntime) -> Result<(), Fail> {
 /// A server of 257 at 6, which 513 ends at 11, over a store that fails in the call after `calls` others of the
 /// hear that follows: it set its state bytes, applied 5 and advanced to 6 before.
 fn before_the_hear(alloc: Global, calls: u32, is_done: bool) -> Result<Storage<FailsOnce>, Fail> {
-    let store = FailsOnce::new(alloc, calls + 3, is_done);
+    let store = FailsOnce::new(alloc, calls.wrapping_add(3), is_done);
     let mut storage = Storage::start(alloc, store, tag(0)?, state(alloc, &[(513, 12, 12)])?)?;
     storage.hear_peeked(alloc, epoch(257)?, &peeked(alloc, 0, &[5], 6, 0)?)?;
     Ok(storage)
@@ -252,6 +252,7 @@ fn before_the_hear(alloc: Global, calls: u32, is_done: bool) -> Result<Storage<F
 
 /// The hear of three records, an end and a known, broken off in its call number `calls`, counted from 0.
 fn break_off(rt: &impl Abort, alloc: Global, calls: u32, is_done: bool) -> Result<(), Fail> {
+    assert!(rt; calls < 5);
     let places = [
         (6, 0, 5),
         (7, 0, 7),
