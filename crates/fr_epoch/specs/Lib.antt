@@ -7,3 +7,9 @@ pub mod Asks
 pub mod Change
 pub mod Law
 pub mod WriteLaw
+pub mod Standing
+pub mod Kept
+pub mod Lists
+pub mod Drafting
+pub mod Going
+pub mod Steps

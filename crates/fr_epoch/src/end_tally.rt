@@ -60,6 +60,22 @@ impl EndTally {
         }
     }
 
+    /// How many logs the generation has.
+    pub fn m(&self) -> u8
+        ensures value { result ≡ self.now.m }
+        ensures sound { IsEnd self.now }
+    {
+        self.m
+    }
+
+    /// On how many of them each tag stands.
+    pub fn k(&self) -> u8
+        ensures value { result ≡ self.now.k }
+        ensures sound { IsEnd self.now }
+    {
+        self.k
+    }
+
     /// Hears what the log of this number replied to its lock. The same reply again changes nothing.
     pub fn hear(&mut self, index: u8, durable: Version, known: Version) -> Result<(), ReplyFault>
         ensures ok { IfOk result (λ _. heard_reply self.old (record { log = index; durable = durable; known = known }) ≡ Ok self.new) }

@@ -1,8 +1,10 @@
 //! Laws of recoverers.
 ghost use Rattle.fr_epoch.specs.EndLaw.{CoveredStays, EndIsOfReplies};
+ghost use Rattle.fr_epoch.specs.Kept.{HearKeepsKept, NewIsKept};
 ghost use Rattle.fr_epoch.specs.Law.{AccountedStays, HearGrows, HearIsChange, HearLeavesPlan, HearLeavesRecoverer, NewIsAccounted, PendingIsAccounted};
 ghost use Rattle.fr_epoch.specs.WriteLaw.{HearKeepsMade, HearKeepsSeeded, MarkIsChosen, MarksAreOne, SeedIsOfCopied, SeedsAreOne, WriteIsParentExtended, WrittenIsSeeded};
 
+use fr_state::next_law;
 use fr_tail::laws::tail_law;
 
 /// A recoverer only grows, and its state accounts for each ask that it ever gave.
@@ -39,3 +41,13 @@ pub fn write_law()
     ensures seed { SeedIsOfCopied }
     ensures seeds { SeedsAreOne }
 {}
+
+/// What holds of a recoverer that heard nothing stays so: what its phase has come by, that its plan is of
+/// its ballot, and that the generations which it found and is going to open are within their limits.
+pub fn kept_law()
+    ensures new { NewIsKept }
+    ensures hear { HearKeepsKept }
+{
+    next_law();
+    tail_law();
+}

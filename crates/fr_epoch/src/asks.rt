@@ -1,0 +1,301 @@
+//! Lists of asks.
+ghost use Rattle.std.specs.Prelude.{◌≡◌, ◌≤◌, ◌+◌, ◌<◌, ◌^◌, true, map, IfOk};
+ghost use Rattle.fr_state.specs.Generations.{IsGeneration};
+ghost use Rattle.fr_state.specs.Spelling.{spelling};
+ghost use Rattle.fr_tail.specs.Tail.{is_complete};
+ghost use Rattle.fr_epoch.specs.Recoverer.{mark_of};
+ghost use Rattle.fr_epoch.specs.Lists.{read_ask, lock_ask, peek_ask, seed_ask, write_ask, mark_ask, unheard, unlocked, others, holding, peeks_from, peeks_below};
+ghost use Rattle.fr_epoch.specs.Standing.{plan_in};
+
+use crate::end_tally::EndTally;
+use crate::standing::Draft;
+use fr_ask::Ask;
+use fr_base::{Ballot, Epoch, LogId, Memory, NodeId, Tag, Version};
+use fr_log::{LogAsk, Most, Push};
+use fr_register::{CellAsk, CellValue, ReadTally, WriteTally};
+use fr_state::{CoordState, Generation, encode};
+use fr_tags::{MAX_SHARDS, is_held};
+use fr_tail::Tail;
+use std::alloc::Global;
+
+/// The reads of the cells that were not heard.
+pub(crate) fn reads(
+    alloc: Global,
+    ballot: Ballot,
+    tally: &ReadTally,
+) -> Result<Vec<(NodeId, Ask)>, Memory>
+    ensures { IfOk result (λ asks. asks.items ≡ map (read_ask ballot) (unheard tally.now.poll)) }
+{
+    let cells = unread(alloc, tally)?;
+    let mut asks = Vec::with_capacity(alloc, cells.len())?;
+    for index in cells.as_slice() {
+        let to = NodeId::Cell { index: *index };
+        asks.push((to, Ask::Cell(CellAsk::Read { ballot })))?;
+    }
+    Ok(asks)
+}
+
+/// The cells that were not heard to promise.
+fn unread(alloc: Global, tally: &ReadTally) -> Result<Vec<u8>, Memory>
+    ensures { IfOk result (λ cells. cells.items ≡ unheard tally.now.poll) }
+{
+    Ok(
+        (0..tally.cells())
+            .filter(|index| !tally.has_heard(*index))
+            .collect(alloc)?,
+    )
+}
+
+/// The locks of the logs that did not reply.
+pub(crate) fn locks(
+    alloc: Global,
+    epoch: Epoch,
+    end: &EndTally,
+) -> Result<Vec<(NodeId, Ask)>, Memory>
+    ensures { IfOk result (λ asks. asks.items ≡ map (lock_ask epoch) (unlocked end.now)) }
+{
+    let logs = unlocked(alloc, end)?;
+    let mut asks = Vec::with_capacity(alloc, logs.len())?;
+    for index in logs.as_slice() {
+        let to = NodeId::Log {
+            epoch,
+            index: *index,
+        };
+        asks.push((to, Ask::Log(LogAsk::Lock { epoch })))?;
+    }
+    Ok(asks)
+}
+
+/// The logs that did not reply.
+fn unlocked(alloc: Global, end: &EndTally) -> Result<Vec<u8>, Memory>
+    ensures { IfOk result (λ logs. logs.items ≡ unlocked end.now) }
+{
+    Ok(
+        (0..end.m())
+            .filter(|index| !end.has_replied(*index))
+            .collect(alloc)?,
+    )
+}
+
+/// The seeds of the logs of an epoch, of this generation, that are not among those seeded, from a copy
+/// that is complete.
+pub(crate) fn seeds(
+    alloc: Global,
+    epoch: Epoch,
+    generation: Generation,
+    tail: &Tail,
+    seeded: &[u8],
+) -> Result<Vec<(NodeId, Ask)>, Memory>
+    requires complete { is_complete tail.now ≡ true }
+    requires limits { IsGeneration generation }
+    ensures { IfOk result (λ asks. asks.items ≡ map (seed_ask epoch tail.now generation.m generation.k) (others generation.m seeded.now)) }
+{
+    let logs = logs_but(alloc, generation.m(), seeded)?;
+    let mut asks = Vec::with_capacity(alloc, logs.len())?;
+    for index in logs.as_slice() {
+        let id = LogId {
+            epoch,
+            index: *index,
+        };
+        let seed = tail.seeds_for(alloc, id, generation.m(), generation.k())?;
+        let to = NodeId::Log {
+            epoch,
+            index: *index,
+        };
+        asks.push((to, Ask::Log(LogAsk::Seed(seed))))?;
+    }
+    Ok(asks)
+}
+
+/// The writes of a state to the cells that were not heard.
+pub(crate) fn writes(
+    alloc: Global,
+    ballot: Ballot,
+    state: &CoordState,
+    tally: &WriteTally,
+) -> Result<Vec<(NodeId, Ask)>, Memory>
+    ensures { IfOk result (λ asks. asks.items ≡ map (write_ask ballot (spelling state.now)) (unheard tally.now.poll)) }
+{
+    let value = value_of(alloc, state)?;
+    let cells = unwritten(alloc, tally)?;
+    writes_to(alloc, ballot, &value, cells.as_slice())
+}
+
+/// The writes of a value to these cells.
+fn writes_to(
+    alloc: Global,
+    ballot: Ballot,
+    value: &CellValue,
+    cells: &[u8],
+) -> Result<Vec<(NodeId, Ask)>, Memory>
+    ensures { IfOk result (λ asks. asks.items ≡ map (write_ask ballot value.now) cells.now) }
+{
+    let mut asks = Vec::with_capacity(alloc, cells.len())?;
+    for index in cells {
+        let to = NodeId::Cell { index: *index };
+        let write = CellAsk::Write {
+            ballot,
+            value: value.copy()?,
+        };
+        asks.push((to, Ask::Cell(write)))?;
+    }
+    Ok(asks)
+}
+
+/// The cells that are not known to hold the write.
+fn unwritten(alloc: Global, tally: &WriteTally) -> Result<Vec<u8>, Memory>
+    ensures { IfOk result (λ cells. cells.items ≡ unheard tally.now.poll) }
+{
+    Ok(
+        (0..tally.cells())
+            .filter(|index| !tally.has_heard(*index))
+            .collect(alloc)?,
+    )
+}
+
+/// The value that spells a state.
+fn value_of(alloc: Global, state: &CoordState) -> Result<CellValue, Memory>
+    ensures { IfOk result (λ value. value ≡ spelling state.now) }
+{
+    match CellValue::new(encode(alloc, state)?) {
+        Some(value) => Ok(value),
+        None => unreachable!(),
+    }
+}
+
+/// The pushes of a plan's mark to the logs of an epoch that are not known to hold it.
+pub(crate) fn marks(
+    alloc: Global,
+    epoch: Epoch,
+    draft: &Draft,
+    marked: &[u8],
+) -> Result<Vec<(NodeId, Ask)>, Memory>
+    requires mine { draft.now.generation.epoch ≡ epoch }
+    requires seeded_to { draft.now.generation.seeded_to ≡ draft.now.tail.rv }
+    ensures { IfOk result (λ asks. asks.items ≡ map (mark_ask epoch (mark_of (plan_in draft.now))) (others draft.now.generation.m marked.now)) }
+{
+    let logs = logs_but(alloc, draft.generation.m(), marked)?;
+    let mark = mark(alloc, draft)?;
+    let mut asks = Vec::with_capacity(alloc, logs.len())?;
+    for index in logs.as_slice() {
+        let to = NodeId::Log {
+            epoch,
+            index: *index,
+        };
+        asks.push((to, Ask::Log(LogAsk::Push(mark.copy()?))))?;
+    }
+    Ok(asks)
+}
+
+/// The mark of a plan.
+fn mark(alloc: Global, draft: &Draft) -> Result<Push, Memory>
+    requires { draft.now.generation.seeded_to ≡ draft.now.tail.rv }
+    ensures { IfOk result (λ push. push ≡ mark_of (plan_in draft.now)) }
+{
+    let state = draft.state.copy()?;
+    let pev = draft.tail.pev();
+    match Push::mark(
+        alloc,
+        draft.generation.epoch(),
+        draft.generation.seeded_to(),
+        pev,
+        state,
+    ) {
+        Some(push) => Ok(push),
+        None => unreachable!(),
+    }
+}
+
+/// The logs below a number that are not among these.
+fn logs_but(alloc: Global, m: u8, done: &[u8]) -> Result<Vec<u8>, Memory>
+    ensures { IfOk result (λ logs. logs.items ≡ others m done.now) }
+{
+    Ok((0..m).filter(|log| !done.contains(log)).collect(alloc)?)
+}
+
+/// The peeks of the first tags, of each that is not complete, at the responders that hold it.
+pub(crate) fn peeks(
+    alloc: Global,
+    epoch: Epoch,
+    tail: &Tail,
+    tags: usize,
+) -> Result<Vec<(NodeId, Ask)>, Memory>
+    requires { tags ≤ MAX_SHARDS }
+    ensures { IfOk result (λ asks. asks.items ≡ peeks_below epoch tail.now tags) }
+{
+    let mut asks = Vec::new(alloc);
+    for number in 0..tags {
+        let tag = tag_at(number);
+        let mut more = peeks_from(alloc, epoch, tail, tag, tail.reached(tag))?;
+        asks.append(&mut more)?;
+    }
+    Ok(asks)
+}
+
+/// The peeks of a tag that is reached through this version, if it is not complete there.
+pub(crate) fn peeks_from(
+    alloc: Global,
+    epoch: Epoch,
+    tail: &Tail,
+    tag: Tag,
+    reached: Version,
+) -> Result<Vec<(NodeId, Ask)>, Memory>
+    ensures { IfOk result (λ asks. asks.items ≡ peeks_from epoch tail.now tag reached) }
+{
+    if reached >= tail.rv() {
+        return Ok(Vec::new(alloc));
+    }
+    let most = most_records();
+    let logs = holding(alloc, tail, tag)?;
+    let mut asks = Vec::with_capacity(alloc, logs.len())?;
+    for index in logs.as_slice() {
+        let to = NodeId::Log {
+            epoch,
+            index: *index,
+        };
+        let peek = LogAsk::Peek {
+            epoch,
+            tag,
+            after: reached,
+            most,
+        };
+        asks.push((to, Ask::Log(peek)))?;
+    }
+    Ok(asks)
+}
+
+/// The responders that hold a tag.
+fn holding(alloc: Global, tail: &Tail, tag: Tag) -> Result<Vec<u8>, Memory>
+    ensures { IfOk result (λ logs. logs.items ≡ holding tail.now tag) }
+{
+    let m = tail.m();
+    let k = tail.k();
+    Ok(
+        tail.responders()
+            .iter()
+            .copied()
+            .filter(|log| is_held(tag, m, k, *log))
+            .collect(alloc)?,
+    )
+}
+
+/// How many records a peek asks for.
+fn most_records() -> Most
+    ensures { result ≡ 100 }
+{
+    match Most::new(100) {
+        Some(most) => most,
+        None => unreachable!(),
+    }
+}
+
+/// The tag of this number.
+pub(crate) fn tag_at(number: usize) -> Tag
+    requires { number < MAX_SHARDS }
+    ensures { result ≡ number }
+{
+    match Tag::new(number as u8) {
+        Some(tag) => tag,
+        None => unreachable!(),
+    }
+}

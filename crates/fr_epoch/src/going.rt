@@ -1,0 +1,58 @@
+//! How far an answer brings a copy, before the copy hears it.
+ghost use Rattle.std.specs.Prelude.{◌≡◌, ◌<◌, min, length};
+ghost use Rattle.fr_tail.specs.Tail.{is_complete, is_responder, after_hear};
+ghost use Rattle.fr_epoch.specs.Going.{goes_on, reached_with};
+
+use crate::asks::tag_at;
+use fr_base::{Tag, Version};
+use fr_log::Peeked;
+use fr_tags::is_held;
+use fr_tail::Tail;
+
+/// Whether a copy is complete once it heard what the log of this number answered.
+pub(crate) fn completes(tail: &Tail, index: u8, peeked: &Peeked) -> bool
+    ensures { result ≡ is_complete (after_hear tail.now index peeked.now.tag peeked.now) }
+{
+    for number in 0..tail.tags() {
+        if reached_with(tail, index, peeked, tag_at(number)) != tail.rv() {
+            return false;
+        }
+    }
+    true
+}
+
+/// The version through which a tag is copied once the copy heard that answer.
+pub(crate) fn reached_with(tail: &Tail, index: u8, peeked: &Peeked, tag: Tag) -> Version
+    ensures { result ≡ reached_with tail.now index peeked.now tag }
+{
+    if tag == peeked.tag() && goes_on(tail, index, peeked) {
+        earlier(peeked.upto(), tail.rv())
+    } else {
+        tail.reached(tag)
+    }
+}
+
+/// Whether an answer goes on from what is copied of its tag.
+fn goes_on(tail: &Tail, index: u8, peeked: &Peeked) -> bool
+    ensures { result ≡ goes_on tail.now index peeked.now }
+{
+    let after = peeked.after();
+    let is_next = after == tail.reached(peeked.tag()) && after < tail.rv() && after < peeked.upto();
+    is_responder(tail, index, peeked.tag()) && is_next
+}
+
+/// Whether a log replied and holds the tag, of which there is one.
+fn is_responder(tail: &Tail, index: u8, tag: Tag) -> bool
+    ensures { result ≡ is_responder tail.now index tag }
+{
+    tail.responders().contains(&index)
+        && is_held(tag, tail.m(), tail.k(), index)
+        && usize::from(tag.get()) < tail.tags()
+}
+
+/// The lesser of two versions.
+fn earlier(a: Version, b: Version) -> Version
+    ensures { result ≡ min a b }
+{
+    if a < b { a } else { b }
+}

@@ -1,0 +1,148 @@
+//! What a recoverer hears of the logs that it locks.
+ghost use Rattle.std.specs.Prelude.{◌≡◌, ◌≤◌, true, length, IsSome, IfOk, OnOk, OnErr};
+ghost use Rattle.fr_base.specs.declared.place.NodeId.{NodeId};
+ghost use Rattle.fr_log.specs.declared.ask.LogTell.{LogTell};
+ghost use Rattle.fr_ask.specs.declared.tell.Tell.{Tell};
+ghost use Rattle.fr_epoch.specs.Asks.{new_asks};
+ghost use Rattle.fr_epoch.specs.Change.{replied};
+ghost use Rattle.fr_epoch.specs.EndTally.{is_covered};
+ghost use Rattle.fr_epoch.specs.Steps.{replied_in};
+ghost use Rattle.fr_epoch.specs.Hear.{after_hear};
+ghost use Rattle.fr_epoch.specs.Kept.{IsKept};
+ghost use Rattle.fr_epoch.specs.Standing.{state_of};
+ghost use Rattle.fr_epoch.specs.Drafting.{with_draft, plan_result, draft_asks, draft_in};
+ghost use Rattle.fr_state.specs.Generations.{IsGeneration};
+
+use crate::draft::{copy_asks, draft};
+use crate::end_tally::EndTally;
+use crate::phase::Stage;
+use crate::standing::{Draft, Standing};
+use crate::why::LostWhy;
+use fr_ask::Ask;
+use fr_base::{Epoch, Memory, NodeId, Version};
+use fr_tags::MAX_SHARDS;
+use std::alloc::Global;
+
+impl Standing {
+    /// Hears that a log is locked: once the replies of the parent's last generation cover, the end is
+    /// fixed, and with it the plan, or why there is none.
+    pub(super) fn hear_locked(
+        &mut self,
+        alloc: Global,
+        epoch: Epoch,
+        index: u8,
+        durable: Version,
+        known: Version,
+    ) -> Result<Vec<(NodeId, Ask)>, Memory>
+        requires locking { self.old.stage ≡ Stage.Locking }
+        requires sound { IsKept (state_of self.old) }
+        ensures asks { IfOk result (λ asks. asks.items ≡ new_asks (state_of self.old) (NodeId.Log epoch index) (Tell.Log (LogTell.Locked durable known))) }
+        ensures state { OnOk result (state_of self.new ≡ after_hear (state_of self.old) (NodeId.Log epoch index) (Tell.Log (LogTell.Locked durable known))) }
+        ensures err { OnErr result (state_of self.new ≡ state_of self.old) }
+    {
+        let Some(end) = self.replied(epoch, index, durable, known) else {
+            return Ok(Vec::new(alloc));
+        };
+        if !end.is_covered() {
+            self.end = Some(end);
+            return Ok(Vec::new(alloc));
+        }
+        let drafted = self.draft(alloc, &end)?;
+        let tags = self.tags();
+        let asks = draft_asks(
+            alloc,
+            self.epoch,
+            epoch,
+            tags,
+            &drafted,
+            self.seeded.as_slice(),
+        )?;
+        self.end = Some(end);
+        self.plan_on(drafted);
+        Ok(asks)
+    }
+
+    /// The replies with one more, if it is of a log of the parent's last generation.
+    fn replied(&self, epoch: Epoch, index: u8, durable: Version, known: Version) -> Option<EndTally>
+        ensures { result ≡ replied_in (state_of self.now).parent self.now.end epoch index durable known }
+    {
+        match &self.parent {
+            Some(found) => match &self.end {
+                Some(end) => {
+                    if epoch == found.last.epoch() {
+                        Some(replied(end, index, durable, known))
+                    } else {
+                        None
+                    }
+                }
+                None => None,
+            },
+            None => None,
+        }
+    }
+
+    /// The plan behind the parent that it found, or why there is none.
+    fn draft(&self, alloc: Global, end: &EndTally) -> Result<Result<Draft, LostWhy>, Memory>
+        requires sound { IsKept (state_of self.now) }
+        requires found { IsSome self.now.parent }
+        requires covered { is_covered end.now ≡ true }
+        ensures plan { IfOk result (λ drafted. plan_result drafted ≡ draft_in self.now.epoch (length self.now.map) (state_of self.now).parent end.now) }
+        ensures limits { IfOk result (λ drafted. IfOk drafted (λ draft. IsGeneration draft.generation)) }
+    {
+        match &self.parent {
+            Some(found) => draft(alloc, self.epoch, self.tags(), found, end),
+            None => unreachable!(),
+        }
+    }
+
+    /// It has its plan, or it is lost.
+    fn plan_on(&mut self, drafted: Result<Draft, LostWhy>)
+        ensures { state_of self.new ≡ with_draft (state_of self.old) (plan_result drafted) }
+    {
+        match drafted {
+            Ok(draft) => {
+                self.stage = Stage::Copying;
+                self.plan = Some(draft);
+            }
+            Err(why) => {
+                self.stage = Stage::Lost { why };
+            }
+        }
+    }
+
+    /// How many tags there are.
+    pub(crate) fn tags(&self) -> u8
+        ensures value { result ≡ length self.now.map }
+        ensures few { result ≤ MAX_SHARDS }
+    {
+        self.map.begins().len() as u8
+    }
+}
+
+/// The replies with one more.
+fn replied(end: &EndTally, index: u8, durable: Version, known: Version) -> EndTally
+    ensures { result ≡ replied end.now index durable known }
+{
+    let mut end = end.copy();
+    let _ = end.hear(index, durable, known);
+    end
+}
+
+/// What a recoverer asks once it has its plan: none where it is lost.
+fn draft_asks(
+    alloc: Global,
+    epoch: Epoch,
+    old: Epoch,
+    tags: u8,
+    drafted: &Result<Draft, LostWhy>,
+    seeded: &[u8],
+) -> Result<Vec<(NodeId, Ask)>, Memory>
+    requires tags { tags ≤ MAX_SHARDS }
+    requires limits { IfOk drafted.now (λ draft. IsGeneration draft.generation) }
+    ensures { IfOk result (λ asks. asks.items ≡ draft_asks epoch old tags seeded.now (plan_result drafted.now)) }
+{
+    match drafted {
+        Ok(draft) => copy_asks(alloc, epoch, old, tags, draft, seeded),
+        Err(_) => Ok(Vec::new(alloc)),
+    }
+}
