@@ -1,101 +1,131 @@
 //! Recoverers that give up, and why.
-use crate::made::{at, ballot, begun, cell, epoch, hears, locked, log, promise, promise_of, reader, start, start_and};
-use fr_epoch::{LostWhy, Phase, Recoverer};
-use fr_state::{CoordState, Generation};
-use std::alloc::Global;
+use crate::made::{Scene, Told, after, stands};
+use fr_epoch::{LostWhy, Phase};
 use std::test::Fail;
+
+/// One cell, and two logs that both hold each tag.
+const ALONE: Scene = Scene {
+    cells: 1,
+    m: 2,
+    k: 2,
+};
+
+/// The last version.
+const LAST: u64 = (1 << 62) - 1;
 
 fn lost(why: LostWhy) -> Phase {
     Phase::Lost { why }
 }
 
+/// What log 0 of an epoch replies, with nothing known.
+fn locked(epoch: u64, durable: u64) -> Told {
+    Told::Locked {
+        epoch,
+        log: 0,
+        durable,
+        known: 0,
+    }
+}
+
 #[test]
 fn what_the_cells_hold_is_no_state(rt: HostRuntime) -> Result<(), Fail> {
-    let alloc = rt.alloc();
-    let mut recoverer = begun(alloc, 1)?;
-    let fresh = promise_of(0, Vec::new(alloc))?;
-    assert_eq!(rt; hears(alloc, &mut recoverer, cell(0), fresh)?, lost(LostWhy::BadState));
-    Ok(())
+    let fresh = Told::Empty {
+        cell: 0,
+        written: 0,
+    };
+    stands(rt.alloc(), ALONE, &[fresh], lost(LostWhy::BadState), 0)
 }
 
 #[test]
 fn the_greatest_written_ballot_is_the_parent(rt: HostRuntime) -> Result<(), Fail> {
-    let alloc = rt.alloc();
-    let mut recoverer = begun(alloc, 3)?;
-    recoverer.hear(alloc, cell(0), promise(alloc, &start(alloc, 2, 2)?)?)?;
-    let greater = promise_of(300, Vec::new(alloc))?;
-    assert_eq!(rt; hears(alloc, &mut recoverer, cell(1), greater)?, lost(LostWhy::BadState));
-    Ok(())
+    let three = Scene { cells: 3, ..ALONE };
+    let greater = Told::Empty {
+        cell: 1,
+        written: 300,
+    };
+    let told = [Told::Promise { cell: 0 }, greater];
+    stands(rt.alloc(), three, &told, lost(LostWhy::BadState), 0)
 }
 
 #[test]
+fn of_a_lesser_written_ballot_nothing_counts(rt: HostRuntime) -> Result<(), Fail> {
+    let three = Scene { cells: 3, ..ALONE };
+    let fresh = Told::Empty {
+        cell: 1,
+        written: 0,
+    };
+    stands(
+        rt.alloc(),
+        three,
+        &[fresh, Told::Promise { cell: 0 }],
+        Phase::Locking,
+        2,
+    )
+}
+
+/// What each of two logs replies, of which each tag stands on one.
+const FIRST: Told = Told::Locked {
+    epoch: 257,
+    log: 0,
+    durable: 5,
+    known: 5,
+};
+
+const SECOND: Told = Told::Locked {
+    epoch: 257,
+    log: 1,
+    durable: 3,
+    known: 2,
+};
+
+#[test]
 fn a_log_knows_what_another_one_lacks(rt: HostRuntime) -> Result<(), Fail> {
-    let alloc = rt.alloc();
-    let mut recoverer = reader(alloc, &start(alloc, 2, 1)?)?;
-    assert_eq!(rt; hears(alloc, &mut recoverer, log(257, 0)?, locked(5, 5)?)?, Phase::Locking);
-    let phase = hears(alloc, &mut recoverer, log(257, 1)?, locked(3, 2)?)?;
-    assert_eq!(rt; phase, lost(LostWhy::Inconsistent));
-    Ok(())
+    let apart = Scene { k: 1, ..ALONE };
+    let told = [Told::Promise { cell: 0 }, FIRST, SECOND];
+    stands(rt.alloc(), apart, &told, lost(LostWhy::Inconsistent), 0)
+}
+
+#[test]
+fn one_reply_does_not_cover_where_each_tag_stands_on_one_log(rt: HostRuntime) -> Result<(), Fail> {
+    let apart = Scene { k: 1, ..ALONE };
+    let told = [Told::Promise { cell: 0 }, FIRST];
+    stands(rt.alloc(), apart, &told, Phase::Locking, 1)
 }
 
 #[test]
 fn there_is_no_version_for_the_mark(rt: HostRuntime) -> Result<(), Fail> {
-    let alloc = rt.alloc();
-    let mut recoverer = reader(alloc, &start(alloc, 2, 2)?)?;
-    let phase = hears(alloc, &mut recoverer, log(257, 0)?, locked((1 << 62) - 1, 0)?)?;
-    assert_eq!(rt; phase, lost(LostWhy::Spent));
-    let mut nearly = reader(alloc, &start(alloc, 2, 2)?)?;
-    let phase = hears(alloc, &mut nearly, log(257, 0)?, locked((1 << 62) - 2, 0)?)?;
-    assert_eq!(rt; phase, Phase::Copying);
-    Ok(())
+    let told = [Told::Promise { cell: 0 }, locked(257, LAST)];
+    stands(rt.alloc(), ALONE, &told, lost(LostWhy::Spent), 0)
+}
+
+#[test]
+fn there_is_one_version_left_for_the_mark(rt: HostRuntime) -> Result<(), Fail> {
+    let told = [Told::Promise { cell: 0 }, locked(257, LAST - 1)];
+    stands(rt.alloc(), ALONE, &told, Phase::Copying, 1)
 }
 
 #[test]
 fn spent_is_told_before_not_later(rt: HostRuntime) -> Result<(), Fail> {
-    let alloc = rt.alloc();
-    let mut recoverer = reader(alloc, &start_and(alloc, 2, 2, 769, 1, 1)?)?;
-    let phase = hears(alloc, &mut recoverer, log(769, 0)?, locked((1 << 62) - 1, 0)?)?;
-    assert_eq!(rt; phase, lost(LostWhy::Spent));
-    Ok(())
+    let told = [Told::Later { cell: 0 }, locked(769, LAST)];
+    stands(rt.alloc(), ALONE, &told, lost(LostWhy::Spent), 0)
 }
 
 #[test]
 fn the_parent_is_of_a_later_epoch(rt: HostRuntime) -> Result<(), Fail> {
-    let alloc = rt.alloc();
-    let mut recoverer = reader(alloc, &start_and(alloc, 2, 2, 769, 1, 1)?)?;
-    let phase = hears(alloc, &mut recoverer, log(769, 0)?, locked(2, 0)?)?;
-    assert_eq!(rt; phase, lost(LostWhy::NotLater));
-    Ok(())
-}
-
-/// A state of 64 generations, of the epochs 257 to 320.
-fn full(alloc: Global) -> Result<CoordState, Fail> {
-    let mut state = start(alloc, 2, 2)?;
-    for number in 258..321 {
-        let next = Generation::new(epoch(number)?, 2, 2, at(1)?, at(0)?);
-        state.extend(next.ok_or("a generation")?)?;
-    }
-    Ok(state)
+    let told = [Told::Later { cell: 0 }, locked(769, 2)];
+    stands(rt.alloc(), ALONE, &told, lost(LostWhy::NotLater), 0)
 }
 
 #[test]
 fn a_state_has_no_65th_generation(rt: HostRuntime) -> Result<(), Fail> {
-    let alloc = rt.alloc();
-    let mut recoverer = reader(alloc, &full(alloc)?)?;
-    assert_eq!(rt; recoverer.phase(), Phase::Locking);
-    let phase = hears(alloc, &mut recoverer, log(320, 0)?, locked(2, 0)?)?;
-    assert_eq!(rt; phase, lost(LostWhy::TooMany));
-    Ok(())
+    let told = [Told::Full { cell: 0 }, locked(320, 2)];
+    stands(rt.alloc(), ALONE, &told, lost(LostWhy::TooMany), 0)
 }
 
 #[test]
-fn one_that_is_lost_keeps_its_generation_and_asks_nothing(rt: HostRuntime) -> Result<(), Fail> {
-    let alloc = rt.alloc();
-    let mut recoverer: Recoverer = reader(alloc, &start(alloc, 2, 1)?)?;
-    recoverer.hear(alloc, log(257, 0)?, locked(5, 5)?)?;
-    recoverer.hear(alloc, log(257, 1)?, locked(3, 2)?)?;
-    assert_eq!(rt; recoverer.pending(alloc)?.len(), 0);
-    assert_eq!(rt; recoverer.ballot(), ballot(513)?);
-    assert_eq!(rt; recoverer.copy(alloc)?.phase(), lost(LostWhy::Inconsistent));
+fn one_that_is_lost_has_no_generation_that_it_did_not_plan(rt: HostRuntime) -> Result<(), Fail> {
+    let told = [Told::Full { cell: 0 }, locked(320, 2)];
+    let recoverer = after(rt.alloc(), ALONE, &told)?;
+    assert!(rt; recoverer.generation().is_none());
     Ok(())
 }
