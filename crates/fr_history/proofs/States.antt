@@ -182,7 +182,7 @@ recoverers_have_states laws c h config run b r at = subst (λ o. IfSome o HasSta
 
 -- ---- chains
 
-front_itself : (gens : List LogGeneration) → IsFrontOf gens gens
+pub front_itself : (gens : List LogGeneration) → IsFrontOf gens gens
 front_itself gens = ([], append-nil gens)
 
 front_more : (front gens : List LogGeneration) (g : LogGeneration) → IsFrontOf front gens → IsFrontOf front (gens ++ g ∷ [])
@@ -203,7 +203,7 @@ descends_front laws c h config run p q (by_parent came d) x y i v j w =
     subst (λ (s : CoordinatedState). IsFrontOf y.gens s.gens) same (subst (IsFrontOf y.gens) (sym plan.1.2) (front_more y.gens plan.1.0.state.gens k.plan.generation below))
 
 -- the state of each epoch is within its limits
-state_is : Laws → (c : Config) (h : List Turn) → IsConfig c → IsRun c h → (e : ℕ) → IsCoordinatedState (state_of c h e)
+pub state_is : Laws → (c : Config) (h : List Turn) → IsConfig c → IsRun c h → (e : ℕ) → IsCoordinatedState (state_of c h e)
 state_is laws c h config run e = go (e == first_epoch)
   where
     planned : (o : Option RecState) → rec_at c h e ≡ o → (q : Option Plan) → plan_in o ≡ q → IsCoordinatedState (state_in c q)
