@@ -28,7 +28,7 @@ use Rattle.fr_history.proofs.Votes.{pair_in, has_votes}
 -- ---- plans as epochs
 
 -- a ballot that has a recoverer is not that of the first epoch
-other_epoch : Laws → (c : Config) (h : List Turn) → IsRun c h → (b : ℕ) (r : RecState) → rec_at c h b ≡ Some r → (b == first_epoch) ≡ false
+pub other_epoch : Laws → (c : Config) (h : List Turn) → IsRun c h → (b : ℕ) (r : RecState) → rec_at c h b ≡ Some r → (b == first_epoch) ≡ false
 other_epoch laws c h run b r at = go (b == first_epoch) refl
   where
     go : (s : Bool) → (b == first_epoch) ≡ s → s ≡ false

@@ -36,11 +36,11 @@ use Rattle.fr_versions.proofs.LogRule.{IsLogRule, log_holds}
 
 -- ---- a rule for what a log told: it is so when it is told, and later on
 
-pub told_holds : (c : Config) (P : List Turn → Type 0) (e i : ℕ) (to : NodeId) (u : LogTell) → ((h : List Turn) (t : Turn) → IsRun c h → IsTurn c h t → P h → P (t ∷ h))
-    → ((h : List Turn) (from : NodeId) (a : LogAsk) → IsRun c h → IsTurn c h (LogTurn from e i a u) → P (LogTurn from e i a u ∷ h)) → (h : List Turn) → IsRun c h → Told h (node.Log e i) to (tell.Log u) → P h
-told_holds c P e i to u lasts says [] run k = absurd k
-told_holds c P e i to u lasts says (t ∷ h) run (inr k) = lasts h t run.1 run.0 (told_holds c P e i to u lasts says h run.1 k)
-told_holds c P e i to u lasts says (t ∷ h) run (inl k) = now t run.0 k
+pub told_turn : (c : Config) (P : List Turn → Type 0) (e i : ℕ) (to : NodeId) (u : LogTell) → ((h : List Turn) (t : Turn) → IsRun c h → IsTurn c h t → P h → P (t ∷ h))
+    → ((h : List Turn) (a : LogAsk) → IsRun c h → IsTurn c h (LogTurn to e i a u) → P (LogTurn to e i a u ∷ h)) → (h : List Turn) → IsRun c h → Told h (node.Log e i) to (tell.Log u) → P h
+told_turn c P e i to u lasts says [] run k = absurd k
+told_turn c P e i to u lasts says (t ∷ h) run (inr k) = lasts h t run.1 run.0 (told_turn c P e i to u lasts says h run.1 k)
+told_turn c P e i to u lasts says (t ∷ h) run (inl k) = now t run.0 k
   where
     now : (t : Turn) → IsTurn c h t → TellsBy t (node.Log e i) to (tell.Log u) → P (t ∷ h)
     now (Begun b asks) is k = absurd k
@@ -49,8 +49,8 @@ told_holds c P e i to u lasts says (t ∷ h) run (inl k) = now t run.0 k
         let d : x ≡ e = cc in
         let f : j ≡ i = cc in
         let w : v ≡ u = cc in
-        let turn : LogTurn from x j a v ≡ LogTurn from e i a u = ap (λ y. LogTurn from y j a v) d ∙ (ap (λ y. LogTurn from e y a v) f ∙ ap (LogTurn from e i a) w) in
-        subst (λ y. P (y ∷ h)) (sym turn) (says h from a run.1 (subst (IsTurn c h) turn is))
+        let turn : LogTurn from x j a v ≡ LogTurn to e i a u = ap (λ y. LogTurn y x j a v) own ∙ (ap (λ y. LogTurn to y j a v) d ∙ (ap (λ y. LogTurn to e y a v) f ∙ ap (LogTurn to e i a) w)) in
+        subst (λ y. P (y ∷ h)) (sym turn) (says h a run.1 (subst (IsTurn c h) turn is))
     now (SeqTurn from x a v) is (at, own, same) = let d : node.Sequencer x ≡ node.Log e i = at in absurd (cc)
     now (Submitted x p step batch asks) is k = absurd k
     now (ProxyHeard x p from v outcome asks) is k = absurd k
@@ -58,6 +58,11 @@ told_holds c P e i to u lasts says (t ∷ h) run (inl k) = now t run.0 k
     now (StorageHeard tag from v taken fault) is k = absurd k
     now (Gone who) is k = absurd k
     now (Crashed who) is k = absurd k
+
+-- whoever it told it to
+pub told_holds : (c : Config) (P : List Turn → Type 0) (e i : ℕ) (to : NodeId) (u : LogTell) → ((h : List Turn) (t : Turn) → IsRun c h → IsTurn c h t → P h → P (t ∷ h))
+    → ((h : List Turn) (from : NodeId) (a : LogAsk) → IsRun c h → IsTurn c h (LogTurn from e i a u) → P (LogTurn from e i a u ∷ h)) → (h : List Turn) → IsRun c h → Told h (node.Log e i) to (tell.Log u) → P h
+told_holds c P e i to u lasts says = told_turn c P e i to u lasts (λ h a run is. says h to a run is)
 
 -- ---- Seeded
 
@@ -94,7 +99,7 @@ answers_seeded l (MarkAsked epoch) e = absurd (go (refusal_of l (MarkAsked epoch
     go None (Some s) k = absurd (cc)
     go (Some why) m k = absurd (cc)
 
-seeded_later : Laws → (c : Config) (h : List Turn) (t : Turn) → IsRun c h → IsTurn c h t → (e i : ℕ) → IsSeededLog c h e i → IsSeededLog c (t ∷ h) e i
+pub seeded_later : Laws → (c : Config) (h : List Turn) (t : Turn) → IsRun c h → IsTurn c h t → (e i : ℕ) → IsSeededLog c h e i → IsSeededLog c (t ∷ h) e i
 seeded_later laws c h t run is e i k = record {
   there = subst (λ n. i < n) (sym (logs_stay laws c h t run is e i k.there)) k.there;
   seeded = ap is_some ((log_grows laws c h t run is e i k.there).seed k.seeded) ∙ k.seeded;

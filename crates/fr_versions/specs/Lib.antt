@@ -5,3 +5,5 @@ pub mod Proxies
 pub mod NumberLaws
 pub mod LogLaws
 pub mod BoundLaws
+pub mod SeededLaws
+pub mod TellLaws
