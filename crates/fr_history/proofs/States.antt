@@ -62,6 +62,12 @@ last_is P [] g e all = absurd (cc)
 last_is P (x ∷ []) g e all = let d : x ≡ g = cc in subst P d (All-head P x [] all)
 last_is P (x ∷ y ∷ gens) g e all = last_is P (y ∷ gens) g e (All-tail P x (y ∷ gens) all)
 
+-- the last of a list with one more is that one
+pub last_more : (gens : List LogGeneration) (n : LogGeneration) → last_of (gens ++ n ∷ []) ≡ Some n
+last_more [] n = refl
+last_more (x ∷ []) n = refl
+last_more (x ∷ y ∷ gens) n = last_more (y ∷ gens) n
+
 -- the next generation is within the limits
 next_is : (r : RecState) (p : Parent) (end : EndState) → IsGeneration p.last → 256 ≤ r.ballot → r.ballot < 2 ^ 48 → pev_of end ≤ rv_of end → rv_of end + 1 < 2 ^ 62 → IsGeneration (next_generation r p end)
 next_is r p end k low high le below = record {

@@ -1,5 +1,5 @@
 -- The generations of an epoch's state: each is its own epoch's, the front through it is that epoch's state, and its logs are seeded.
-use Rattle.std.proofs.Common.{◌≡◌, ℕ, zero, suc, ◌<◌, Bool, true, false, cond, ◌==◌, List, [], ◌∷◌, ◌++◌, append_assoc, Option, None, Some, inl, inr, refl, sym, ◌∙◌, ap, subst, arith}
+use Rattle.std.proofs.Common.{◌≡◌, ℕ, zero, suc, ◌<◌, Bool, true, false, cond, ◌==◌, List, [], ◌∷◌, ◌++◌, append_assoc, Option, None, Some, inl, inr, ◌⊎◌, refl, sym, ◌∙◌, ap, subst, arith}
 use Rattle.std.specs.List.{All}
 use Rattle.std.proofs.lemmas.Bool.{eqb-true}
 use Rattle.std.proofs.lemmas.List.Elements.{All-nil, All-push, All-head, All-tail}
@@ -13,17 +13,18 @@ use Rattle.fr_history.specs.Laws.{Laws}
 use Rattle.fr_history.specs.States.{state_of}
 use Rattle.fr_history.specs.StateLaws.{IsConfig}
 use Rattle.fr_history.proofs.Growth.{rec_is}
-use Rattle.fr_history.proofs.States.{recoverers_have_states}
+use Rattle.fr_history.proofs.States.{last_more, recoverers_have_states}
 use Rattle.fr_history.proofs.Chosen.{state_planned}
-use Rattle.fr_versions.specs.SeededLaws.{IsSeededEpoch, HasGenerations, GenerationsAreOwn, FrontIsState, BehindIsSeeded}
+use Rattle.fr_versions.specs.SeededLaws.{IsSeededEpoch}
+use Rattle.fr_versions.specs.BehindLaws.{HasGenerations, GenerationsAreOwn, FrontIsState, BehindIsSeeded}
 use Rattle.fr_versions.proofs.Pushes.{plan_is}
 use Rattle.fr_versions.proofs.Transport.{parent_comes, plans_are_lines, first_line}
-use Rattle.fr_versions.proofs.Seeds.{last_more, writing_is_seeded, first_is_seeded}
+use Rattle.fr_versions.proofs.Seeds.{writing_is_seeded, first_is_seeded}
 
 -- ---- fronts
 
 -- behind some generations, each further one's epoch has those through it as its state
-abbrev AreFronts : Config → List Turn → List LogGeneration → List LogGeneration → Type 0
+abbrev pub AreFronts : Config → List Turn → List LogGeneration → List LogGeneration → Type 0
 AreFronts c h before [] = Unit {0}
 AreFronts c h before (g ∷ gens) = ((state_of c h g.epoch).gens ≡ before ++ g ∷ []) × AreFronts c h (before ++ g ∷ []) gens
 
@@ -84,12 +85,12 @@ plans laws c h config run (suc n) b l r q at planned =
 -- ---- epochs
 
 -- the state of an epoch that has a generation: its generations, and those behind the last one
-record IsState (c : Config) (h : List Turn) (e : ℕ) (g : LogGeneration) : Type 0 where
-  has : HasGenerations c h e g
-  behind : List LogGeneration
-  is : (state_of c h e).gens ≡ behind ++ g ∷ []
-  fronts : AreFronts c h [] (state_of c h e).gens
-  seeded : All (λ x. IsSeededEpoch c h x.epoch) behind
+pub record IsState (c : Config) (h : List Turn) (e : ℕ) (g : LogGeneration) : Type 0 where
+  pub has : HasGenerations c h e g
+  pub behind : List LogGeneration
+  pub is : (state_of c h e).gens ≡ behind ++ g ∷ []
+  pub fronts : AreFronts c h [] (state_of c h e).gens
+  pub seeded : All (λ x. IsSeededEpoch c h x.epoch) behind
 
 first_is : Laws → (c : Config) (h : List Turn) → IsConfig c → IsRun c h → IsState c h first_epoch (first_generation c)
 first_is laws c h config run = record {
@@ -119,20 +120,34 @@ plan_state laws c h config run b r q at planned =
       seeded = k.1.behind;
     }
 
-state_is : Laws → (c : Config) (h : List Turn) → IsConfig c → IsRun c h → (e : ℕ) (g : LogGeneration) → generation_at c h e ≡ Some g → IsState c h e g
-state_is laws c h config run e g at = go (e == first_epoch) refl at
-  where
-    plan : (r : RecState) → rec_at c h e ≡ Some r → (o : Option Plan) → r.plan ≡ o → generation_in o ≡ Some g → IsState c h e g
-    plan r at None planned m = absurd (cc)
-    plan r at (Some q) planned m = let same : q.generation ≡ g = cc in subst (IsState c h e) same (plan_state laws c h config run e r q at planned)
+-- an epoch that has a generation and is not the first has it by its ballot's plan
+pub record IsPlannedBy (c : Config) (h : List Turn) (e : ℕ) (g : LogGeneration) : Type 0 where
+  pub recoverer : RecState
+  pub at : rec_at c h e ≡ Some recoverer
+  pub plan : Plan
+  pub planned : recoverer.plan ≡ Some plan
+  pub is : plan.generation ≡ g
 
-    rec : (o : Option RecState) → rec_at c h e ≡ o → generation_in (plan_in o) ≡ Some g → IsState c h e g
+pub planned_by : (c : Config) (h : List Turn) (e : ℕ) (g : LogGeneration) → generation_at c h e ≡ Some g → ((e ≡ first_epoch) × (first_generation c ≡ g)) ⊎ IsPlannedBy c h e g
+planned_by c h e g at = go (e == first_epoch) refl at
+  where
+    plan : (r : RecState) → rec_at c h e ≡ Some r → (o : Option Plan) → r.plan ≡ o → generation_in o ≡ Some g → IsPlannedBy c h e g
+    plan r at None planned m = absurd (cc)
+    plan r at (Some q) planned m = let same : q.generation ≡ g = cc in record { recoverer = r; at = at; plan = q; planned = planned; is = same }
+
+    rec : (o : Option RecState) → rec_at c h e ≡ o → generation_in (plan_in o) ≡ Some g → IsPlannedBy c h e g
     rec None at m = absurd (cc)
     rec (Some r) at m = plan r at r.plan refl m
 
-    go : (s : Bool) → (e == first_epoch) ≡ s → cond s (Some (first_generation c)) (generation_in (plan_at c h e)) ≡ Some g → IsState c h e g
-    go true k m = let same : first_generation c ≡ g = cc in subst (IsState c h e) same (subst (λ x. IsState c h x (first_generation c)) (sym (eqb-true e first_epoch k)) (first_is laws c h config run))
-    go false k m = rec (rec_at c h e) refl m
+    go : (s : Bool) → (e == first_epoch) ≡ s → cond s (Some (first_generation c)) (generation_in (plan_at c h e)) ≡ Some g → ((e ≡ first_epoch) × (first_generation c ≡ g)) ⊎ IsPlannedBy c h e g
+    go true k m = let same : first_generation c ≡ g = cc in inl (eqb-true e first_epoch k, same)
+    go false k m = inr (rec (rec_at c h e) refl m)
+
+pub state_is : Laws → (c : Config) (h : List Turn) → IsConfig c → IsRun c h → (e : ℕ) (g : LogGeneration) → generation_at c h e ≡ Some g → IsState c h e g
+state_is laws c h config run e g at = elim (planned_by c h e g at) [
+  | inl first ↦ subst (IsState c h e) first.1 (subst (λ x. IsState c h x (first_generation c)) (sym first.0) (first_is laws c h config run))
+  | inr k ↦ subst (IsState c h e) k.is (plan_state laws c h config run e k.recoverer k.plan k.at k.planned)
+]
 
 pub generations_are_own : Laws → GenerationsAreOwn
 generations_are_own laws c h config run e g at = (state_is laws c h config run e g at).has

@@ -19,3 +19,4 @@ pub mod Counted
 pub mod Seeds
 pub mod Behind
 pub mod Asked
+pub mod Taking

@@ -7,7 +7,7 @@ use Rattle.std.proofs.lemmas.List.Elements.{All-nil, All-push, All-head, All-tai
 use Rattle.fr_base.specs.declared.place.NodeId.{NodeId}
 use Rattle.fr_base.specs.declared.place.NodeId.TheVariants as node
 use Rattle.fr_register.specs.declared.ask.CellAsk.TheVariants.{Write}
-use Rattle.fr_state.specs.Generations.{LogGeneration, IsGeneration, last_of}
+use Rattle.fr_state.specs.Generations.{IsGeneration, last_of}
 use Rattle.fr_log.specs.declared.ask.LogTell.TheVariants.{Seeded}
 use Rattle.fr_ask.specs.declared.tell.Tell.{Tell}
 use Rattle.fr_ask.specs.declared.tell.Tell.TheVariants as tell
@@ -26,7 +26,7 @@ use Rattle.fr_history.specs.StateLaws.{IsConfig}
 use Rattle.fr_history.proofs.ByTurn.{rec_by_turn}
 use Rattle.fr_history.proofs.Growth.{rec_is, log_grows}
 use Rattle.fr_history.proofs.Accounts.{cell_ask_is_own}
-use Rattle.fr_history.proofs.States.{last_is, recoverers_have_states}
+use Rattle.fr_history.proofs.States.{last_is, last_more, recoverers_have_states}
 use Rattle.fr_history.proofs.Chosen.{other_epoch, generation_planned, chosen_is_written}
 use Rattle.fr_versions.specs.Bounds.{IsSeededLog}
 use Rattle.fr_versions.specs.SeededLaws.{IsSeededEpoch, CountedIsSeeded, AllCountedIsSeeded, WritingIsSeeded, SentIsSeeded, ChosenIsSeeded}
@@ -101,11 +101,6 @@ pub counted_is_seeded : Laws → CountedIsSeeded
 counted_is_seeded laws c h run b r at i e = found (IsSeededLog c h b) r.seeded i (has_counted laws c h run b r at).each e
 
 -- ---- epochs
-
-pub last_more : (gens : List LogGeneration) (n : LogGeneration) → last_of (gens ++ n ∷ []) ≡ Some n
-last_more [] n = refl
-last_more (x ∷ []) n = refl
-last_more (x ∷ y ∷ gens) n = last_more (y ∷ gens) n
 
 -- a generation that is planned is within its limits
 planned_within : Laws → (c : Config) (h : List Turn) → IsConfig c → IsRun c h → (b : ℕ) (r : RecState) → rec_at c h b ≡ Some r → (q : Plan) → r.plan ≡ Some q → IsGeneration q.generation

@@ -7,3 +7,4 @@ pub mod LogLaws
 pub mod BoundLaws
 pub mod SeededLaws
 pub mod TellLaws
+pub mod BehindLaws

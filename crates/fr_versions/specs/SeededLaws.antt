@@ -1,8 +1,8 @@
--- That the logs of an epoch are seeded before its state is written, and which epochs the state of an epoch goes back to.
-use Rattle.std.specs.Prelude.{◌≡◌, ◌<◌, ◌≤◌, ℕ, true, List, [], ◌∷◌, ◌++◌, Some, IsSome, All}
+-- That the logs of an epoch are seeded before its state is written.
+use Rattle.std.specs.Prelude.{◌≡◌, ◌<◌, ◌≤◌, ℕ, true, List, Some, IsSome}
 use Rattle.fr_base.specs.declared.place.NodeId.{NodeId}
 use Rattle.fr_register.specs.declared.ask.CellAsk.TheVariants.{Write}
-use Rattle.fr_state.specs.Generations.{LogGeneration, AreOrdered, last_of}
+use Rattle.fr_state.specs.Generations.{LogGeneration}
 use Rattle.fr_log.specs.LogState.{durable_of}
 use Rattle.fr_ask.specs.declared.ask.Ask.TheVariants as ask
 use Rattle.fr_epoch.specs.Recoverer.{RecState, Plan, is_written}
@@ -11,11 +11,9 @@ use Rattle.fr_history.specs.Config.{Config}
 use Rattle.fr_history.specs.Turn.{Turn, Sent}
 use Rattle.fr_history.specs.Nodes.{rec_at, generation_at, logs_at, log_at}
 use Rattle.fr_history.specs.Run.{IsRun}
-use Rattle.fr_history.specs.States.{state_of, IsChosenEpoch}
+use Rattle.fr_history.specs.States.{IsChosenEpoch}
 use Rattle.fr_history.specs.StateLaws.{IsConfig}
 use Rattle.fr_versions.specs.Bounds.{IsSeededLog}
-
--- ---- seeded epochs
 
 -- an epoch whose logs are there, at least one, and all seeded, so that each holds through what its generation was seeded to
 pub record IsSeededEpoch (c : Config) (h : List Turn) (e : ℕ) : Type 0 where
@@ -47,27 +45,3 @@ SentIsSeeded = (c : Config) (h : List Turn) → IsConfig c → IsRun c h → (fr
 -- and each epoch that is chosen, the first one with them
 abbrev pub ChosenIsSeeded : Type 0
 ChosenIsSeeded = (c : Config) (h : List Turn) → IsConfig c → IsRun c h → (e : ℕ) → IsChosenEpoch c h e → IsSeededEpoch c h e
-
--- ---- the epochs behind one
-
--- the generations of an epoch's state: in order, each its own epoch's, the last one the epoch's
-pub record HasGenerations (c : Config) (h : List Turn) (e : ℕ) (g : LogGeneration) : Type 0 where
-  pub own : g.epoch ≡ e
-  pub last : last_of (state_of c h e).gens ≡ Some g
-  pub ordered : AreOrdered (state_of c h e).gens
-  pub each : All (λ x. generation_at c h x.epoch ≡ Some x) (state_of c h e).gens
-
-abbrev pub GenerationsAreOwn : Type 0
-GenerationsAreOwn = (c : Config) (h : List Turn) → IsConfig c → IsRun c h → (e : ℕ) (g : LogGeneration) → generation_at c h e ≡ Some g → HasGenerations c h e g
-
--- the front of them through any one is the state of that one's epoch
-abbrev pub FrontIsState : Type 0
-FrontIsState =
-    (c : Config) (h : List Turn) → IsConfig c → IsRun c h → (e : ℕ) (own : LogGeneration) → generation_at c h e ≡ Some own
-    → (front : List LogGeneration) (g : LogGeneration) (rest : List LogGeneration) → (state_of c h e).gens ≡ front ++ g ∷ rest → (state_of c h g.epoch).gens ≡ front ++ g ∷ []
-
--- and the epoch of each but the last is seeded, chosen or not
-abbrev pub BehindIsSeeded : Type 0
-BehindIsSeeded =
-    (c : Config) (h : List Turn) → IsConfig c → IsRun c h → (e : ℕ) (own : LogGeneration) → generation_at c h e ≡ Some own
-    → (front : List LogGeneration) (g next : LogGeneration) (rest : List LogGeneration) → (state_of c h e).gens ≡ front ++ g ∷ next ∷ rest → IsSeededEpoch c h g.epoch

@@ -1,4 +1,6 @@
 //! Laws of versions.
+ghost use Rattle.fr_versions.specs.BehindLaws.{AcknowledgedIsKept, BehindIsSeeded, BelowIsHeldBehind, BelowStaysBelow};
+ghost use Rattle.fr_versions.specs.BehindLaws.{ChosenStaysBelow, FrontIsState, GenerationsAreOwn};
 ghost use Rattle.fr_versions.specs.BoundLaws.{AcknowledgedIsHeldLater, AcknowledgedIsSafe, AcknowledgedIsTakenOver};
 ghost use Rattle.fr_versions.specs.BoundLaws.{BelowIsHeldLater, BelowIsTakenOver, KnownIsDurable, PlansAreLines, RepliesAgree};
 ghost use Rattle.fr_versions.specs.BoundLaws.{HeldIsThere, MarkedIsState, SeededIsSeeded};
@@ -7,8 +9,7 @@ ghost use Rattle.fr_versions.specs.BoundLaws.{NumbersAreCounted, NumbersAreOwn, 
 ghost use Rattle.fr_versions.specs.LogLaws.{EndIsOfReplies, LockedStandsStill, LogsAreOwn, PushesAreOwn};
 ghost use Rattle.fr_versions.specs.LogLaws.{RepliesStandStill, SeedIsReached, SeedsAreOwn};
 ghost use Rattle.fr_versions.specs.NumberLaws.{NumbersChain, NumbersTold};
-ghost use Rattle.fr_versions.specs.SeededLaws.{AllCountedIsSeeded, BehindIsSeeded, ChosenIsSeeded, CountedIsSeeded};
-ghost use Rattle.fr_versions.specs.SeededLaws.{FrontIsState, GenerationsAreOwn, SentIsSeeded, WritingIsSeeded};
+ghost use Rattle.fr_versions.specs.SeededLaws.{AllCountedIsSeeded, ChosenIsSeeded, CountedIsSeeded, SentIsSeeded, WritingIsSeeded};
 ghost use Rattle.fr_versions.specs.TellLaws.{MarkedIsChosen, PeekedIsAsked, PeekedIsOwn};
 
 use fr_history::laws::node_laws;
@@ -116,6 +117,17 @@ pub fn behind_law()
     ensures own { GenerationsAreOwn }
     ensures front { FrontIsState }
     ensures seeded { BehindIsSeeded }
+{
+    node_laws();
+}
+
+/// What is below in an epoch is held in each generation behind which it stands, and is below in each later epoch
+/// that is chosen. So what was acknowledged in any epoch is taken over by each recovery of a greater ballot.
+pub fn below_law()
+    ensures held { BelowIsHeldBehind }
+    ensures stays { BelowStaysBelow }
+    ensures chosen { ChosenStaysBelow }
+    ensures acknowledged { AcknowledgedIsKept }
 {
     node_laws();
 }
