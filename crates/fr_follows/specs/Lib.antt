@@ -1,0 +1,3 @@
+pub mod Storages
+pub mod Ancestors
+pub mod Laws
