@@ -1,3 +1,5 @@
 pub mod Ancestors
 pub mod Chosen
 pub mod Agreement
+pub mod Floors
+pub mod Hears

@@ -1,3 +1,4 @@
 pub mod Storages
 pub mod Ancestors
 pub mod Laws
+pub mod Awaited
