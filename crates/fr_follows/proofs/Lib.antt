@@ -3,3 +3,4 @@ pub mod Chosen
 pub mod Agreement
 pub mod Floors
 pub mod Hears
+pub mod Following
