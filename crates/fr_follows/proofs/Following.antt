@@ -127,28 +127,29 @@ hears laws more c h config run tag inside s k (node.Storage u) t told taken may 
 
 -- ---- all turns
 
-step : Laws → Awaited → (c : Config) (h : List Turn) (t : Turn) → IsConfig c → IsRun c h → IsTurn c h t → (tag : ℕ) → tag < length c.begins → IsStorageOf c h tag (storage_at c h tag) → IsStorageOf c h tag (storage_after t tag (storage_at c h tag))
-step laws more c h (Begun b asks) config run is tag inside k = k
-step laws more c h (CellTurn from i a u) config run is tag inside k = k
-step laws more c h (LogTurn from x i a u) config run is tag inside k = k
-step laws more c h (SeqTurn from x a u) config run is tag inside k = k
-step laws more c h (Submitted x p n batch asks) config run is tag inside k = k
-step laws more c h (ProxyHeard x p from u outcome asks) config run is tag inside k = k
-step laws more c h (RecHeard b from u asks) config run is tag inside k = k
-step laws more c h (StorageHeard y from u taken fault) config run is tag inside k = go (y == tag) refl
+step : Laws → Awaited → (c : Config) (h : List Turn) (t : Turn) → IsConfig c → IsRun c h → IsTurn c h t → (tag : ℕ) → IsStorageOf c h tag (storage_at c h tag) → IsStorageOf c h tag (storage_after t tag (storage_at c h tag))
+step laws more c h (Begun b asks) config run is tag k = k
+step laws more c h (CellTurn from i a u) config run is tag k = k
+step laws more c h (LogTurn from x i a u) config run is tag k = k
+step laws more c h (SeqTurn from x a u) config run is tag k = k
+step laws more c h (Submitted x p n batch asks) config run is tag k = k
+step laws more c h (ProxyHeard x p from u outcome asks) config run is tag k = k
+step laws more c h (RecHeard b from u asks) config run is tag k = k
+step laws more c h (StorageHeard y from u taken fault) config run is tag k = go (y == tag) refl
   where
     go : (b : Bool) → (y == tag) ≡ b → IsStorageOf c h tag (cond b (storage_hear taken (storage_at c h tag) from u) (storage_at c h tag))
     go true at =
         let here : y ≡ tag = eqb-true y tag at in
+        let inside : tag < length c.begins = subst (λ z. z < length c.begins) here (ltb-true y (length c.begins) is.0.actor.there) in
         hears laws more c h config run tag inside (storage_at c h tag) k from u (subst (λ z. Told h from (node.Storage z) u) here is.0.told) taken (subst (λ z. MayBreak taken (storage_at c h z) from u) here is.2)
     go false at = k
-step laws more c h (Gone who) config run is tag inside k = k
-step laws more c h (Crashed who) config run is tag inside k = k
+step laws more c h (Gone who) config run is tag k = k
+step laws more c h (Crashed who) config run is tag k = k
 
 pub storages_follow : Laws → Awaited → StoragesFollow
-storages_follow laws more c [] config run tag inside = starts laws c config tag
-storages_follow laws more c (t ∷ h) config run tag inside =
-    lasts laws c h t config run.1 run.0 tag (storage_after t tag (storage_at c h tag)) (step laws more c h t config run.1 run.0 tag inside (storages_follow laws more c h config run.1 tag inside))
+storages_follow laws more c [] config run tag = starts laws c config tag
+storages_follow laws more c (t ∷ h) config run tag =
+    lasts laws c h t config run.1 run.0 tag (storage_after t tag (storage_at c h tag)) (step laws more c h t config run.1 run.0 tag (storages_follow laws more c h config run.1 tag))
 
 -- ---- refusals
 
@@ -197,4 +198,4 @@ pub hears_are_taken : Laws → Awaited → HearsAreTaken
 hears_are_taken laws more c h tag from u taken fault config run =
     let is = run.0 in
     let inside : tag < length c.begins = ltb-true tag (length c.begins) is.0.actor.there in
-    subst IsTakenFault (sym is.1) (taken_tell laws more c h config run.1 tag inside (storage_at c h tag) (storages_follow laws more c h config run.1 tag inside) from u is.0.told)
+    subst IsTakenFault (sym is.1) (taken_tell laws more c h config run.1 tag inside (storage_at c h tag) (storages_follow laws more c h config run.1 tag) from u is.0.told)

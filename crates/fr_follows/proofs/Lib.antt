@@ -4,3 +4,5 @@ pub mod Agreement
 pub mod Floors
 pub mod Hears
 pub mod Following
+pub mod Places
+pub mod Later

@@ -41,7 +41,7 @@ pub record IsStorageOf (c : Config) (h : List Turn) (tag : ℕ) (s : StorageStat
 
 -- at every moment each storage server is such a one, also one that ran ahead, that skipped epochs, or whose hear broke off
 abbrev pub StoragesFollow : Type 0
-StoragesFollow = (c : Config) (h : List Turn) → IsConfig c → IsRun c h → (tag : ℕ) → tag < length c.begins → IsStorageOf c h tag (storage_at c h tag)
+StoragesFollow = (c : Config) (h : List Turn) → IsConfig c → IsRun c h → (tag : ℕ) → IsStorageOf c h tag (storage_at c h tag)
 
 -- no hear of a storage server is refused as that of a stranger, nor below its floor
 abbrev pub HearsAreTaken : Type 0

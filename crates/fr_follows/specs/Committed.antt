@@ -1,0 +1,120 @@
+-- What storage servers hold of what is committed, and that nothing acknowledged is undone.
+use Rattle.std.specs.Prelude.{◌≡◌, ◌<◌, ◌≤◌, ℕ, List, [], ◌∷◌, ◌++◌, length, Option, None, Some, Contains}
+use Rattle.std.specs.List.{filter_map}
+use Rattle.std.specs.Option.{option_map}
+use Rattle.std.specs.FinMap.{empty}
+use Rattle.fr_base.specs.Map.{Map}
+use Rattle.fr_base.specs.declared.place.NodeId.TheVariants as node
+use Rattle.fr_mutation.specs.declared.mutation.Mutation.{Mutation}
+use Rattle.fr_mutation.specs.Shard as shard
+use Rattle.fr_tags.specs.Shards.{shard_at}
+use Rattle.fr_undo.specs.Canonical.{Commit, contents_after, rows_after}
+use Rattle.fr_state.specs.Generations.{CoordinatedState}
+use Rattle.fr_state.specs.LookUp.{cut_of}
+use Rattle.fr_state.specs.Spelling.{spelling}
+use Rattle.fr_log.specs.declared.ask.LogTell.TheVariants.{Marked}
+use Rattle.fr_ask.specs.declared.tell.Tell.TheVariants as tell
+use Rattle.fr_storage.specs.Storage.{StorageState, own_epoch}
+use Rattle.fr_history.specs.Config.{Config}
+use Rattle.fr_history.specs.Turn.{Turn, StorageHeard}
+use Rattle.fr_history.specs.Nodes.{storage_at}
+use Rattle.fr_history.specs.Run.{IsRun}
+use Rattle.fr_history.specs.Batches.{batch_at, IsAcknowledged}
+use Rattle.fr_history.specs.States.{state_of, IsChosenEpoch, IsLatest}
+use Rattle.fr_history.specs.StateLaws.{IsConfig}
+use Rattle.fr_versions.specs.Numbers.{Numbering, numbers}
+use Rattle.fr_contents.specs.Issued.{Entry, issued, part, least_durable, committed}
+use Rattle.fr_contents.specs.IssuedLaws.{through}
+
+-- ---- maps
+
+-- the batch of an entry as a commit; a mark has none
+abbrev pub commit_in : Entry → Option Commit
+commit_in x = option_map (λ batch. (x.version, batch)) x.batch
+
+-- the map that entries make of the empty one: their batches, from first to last
+abbrev pub map_after : List Entry → Map
+map_after xs = contents_after empty (filter_map commit_in xs)
+
+-- what a tag's shard has of a map
+abbrev pub shard_of : Config → ℕ → Map → Map
+shard_of c tag m = shard.part m (shard_at c.begins tag)
+
+-- ---- every storage server follows
+
+-- a storage server against its own epoch, which is chosen: it has its shard of the map that this epoch issued through the version applied, an undo row for each
+-- change above its floor, and spells the state that it keeps
+pub record IsFollowing (c : Config) (h : List Turn) (tag : ℕ) (s : StorageState) : Type 0 where
+  pub chosen : IsChosenEpoch c h (own_epoch s.state)
+  pub state : s.state ≡ state_of c h (own_epoch s.state)
+  pub contents : s.store.contents ≡ shard_of c tag (map_after (through s.store.applied (issued c h (own_epoch s.state))))
+  pub undo : s.store.undo ≡ rows_after s.store.floor empty (part c h (own_epoch s.state) tag 0 s.store.applied)
+  pub bytes : s.store.bytes ≡ spelling s.state
+  pub floor : s.store.floor ≤ s.store.applied
+
+abbrev pub EveryStorageFollows : Type 0
+EveryStorageFollows = (c : Config) (h : List Turn) → IsConfig c → IsRun c h → (tag : ℕ) → IsFollowing c h tag (storage_at c h tag)
+
+-- ---- storage servers that have rolled back
+
+-- a storage server has just rolled back: the last turn is its hear, whole and not refused, of the state of a later epoch than its own
+pub record HasRolledBack (c : Config) (h : List Turn) (tag : ℕ) : Type 0 where
+  pub before : List Turn
+  pub epoch : ℕ
+  pub log : ℕ
+  pub state : CoordinatedState
+  pub now : StorageHeard tag (node.Log epoch log) (tell.Log (Marked state)) None None ∷ before ≡ h
+  pub later : own_epoch (storage_at c before tag).state < own_epoch state
+
+-- the epoch that it left, and its version applied now
+abbrev pub left_epoch : {c : Config} {h : List Turn} {tag : ℕ} → HasRolledBack c h tag → ℕ
+left_epoch {c = c} {tag = tag} r = own_epoch (storage_at c r.before tag).state
+
+abbrev pub applied_at : Config → List Turn → ℕ → ℕ
+applied_at c h tag = (storage_at c h tag).store.applied
+
+-- it keeps the new state, and has its shard of the map given by the committed batches through the version applied, which is at most the recovery version: the cut, in
+-- the new state, of the epoch that it left
+pub record HoldsCommitted (c : Config) (h : List Turn) (tag latest : ℕ) (r : HasRolledBack c h tag) : Type 0 where
+  pub state : (storage_at c h tag).state ≡ r.state
+  pub contents : (storage_at c h tag).store.contents ≡ shard_of c tag (map_after (through (applied_at c h tag) (committed c h latest)))
+  pub recovery : ℕ
+  pub is_cut : cut_of r.state.gens (left_epoch r) ≡ Some recovery
+  pub within : applied_at c h tag ≤ recovery
+  pub committed : applied_at c h tag ≤ least_durable c h latest
+
+abbrev pub RolledBackIsExact : Config → List Turn → Type 0
+RolledBackIsExact c h = (tag latest : ℕ) (r : HasRolledBack c h tag) → IsLatest c h latest → HoldsCommitted c h tag latest r
+
+-- ---- acknowledged commits
+
+-- some entries have the commit of an epoch's version: the batch of the request that its sequencer gave this number
+pub record HasCommit (h : List Turn) (xs : List Entry) (e version : ℕ) : Type 0 where
+  pub number : Numbering
+  pub given : Contains (numbers h e) number
+  pub at : number.version ≡ version
+  pub batch : List Mutation
+  pub taken : batch_at h e number.proxy number.request ≡ Some batch
+  pub there : Contains xs (record { version = version; origin = e; batch = Some batch })
+
+-- a storage server has applied such a commit: what its own epoch issued has it, and the version applied is not below it
+pub record HasApplied (c : Config) (h : List Turn) (tag e version : ℕ) : Type 0 where
+  pub commit : HasCommit h (issued c h (own_epoch (storage_at c h tag).state)) e version
+  pub applied : version ≤ applied_at c h tag
+
+-- a commit stands in the committed list of every later moment
+abbrev pub Stands : Config → List Turn → ℕ → ℕ → Type 0
+Stands c h e version = (more : List Turn) → IsRun c (more ++ h) → (latest : ℕ) → IsLatest c (more ++ h) latest → HasCommit (more ++ h) (committed c (more ++ h) latest) e version
+
+-- no storage server that has applied it undoes it, now or later
+abbrev pub IsNeverUndone : Config → List Turn → ℕ → ℕ → Type 0
+IsNeverUndone c h e version = (more after : List Turn) (tag : ℕ) → IsRun c (after ++ (more ++ h)) → HasApplied c (more ++ h) tag e version → HasApplied c (after ++ (more ++ h)) tag e version
+
+abbrev pub AcknowledgedIsNeverUndone : Config → List Turn → Type 0
+AcknowledgedIsNeverUndone c h = (e version : ℕ) → IsAcknowledged h e version → Stands c h e version × IsNeverUndone c h e version
+
+-- the committed list only grows
+abbrev pub CommittedGrows : Type 0
+CommittedGrows =
+    (c : Config) (h more : List Turn) → IsConfig c → IsRun c (more ++ h) → (latest later : ℕ) → IsLatest c h latest → IsLatest c (more ++ h) later
+    → (rest : List Entry) × (committed c h latest ++ rest ≡ committed c (more ++ h) later)
