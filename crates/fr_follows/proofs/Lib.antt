@@ -3,6 +3,8 @@ pub mod Chosen
 pub mod Agreement
 pub mod Floors
 pub mod Hears
-pub mod Following
 pub mod Places
+pub mod Splits
+pub mod Keeping
+pub mod Following
 pub mod Later
