@@ -38,6 +38,16 @@ use Rattle.fr_follows.specs.Awaited.{Awaited}
 use Rattle.fr_follows.proofs.Chosen.{chosen_is_planned, chosen_lasts}
 use Rattle.fr_follows.proofs.Agreement.{parts_are_pieces}
 use Rattle.fr_follows.proofs.Floors.{seed_is_numbered, floor_later}
+use Rattle.fr_history.specs.Nodes.{generation_at}
+use Rattle.fr_versions.specs.Numbers.{numbers}
+use Rattle.fr_versions.specs.Bounds.{IsBelow}
+use Rattle.fr_versions.proofs.Numbers.{numbers_stay}
+use Rattle.fr_versions.proofs.Proxies.{batch_stays}
+use Rattle.fr_contents.specs.Issued.{issued}
+use Rattle.fr_contents.proofs.Parts.{issued_lasts}
+use Rattle.fr_follows.specs.Committed.{HasCommit}
+use Rattle.fr_follows.proofs.Places.{same_has}
+use Rattle.fr_follows.proofs.Keeping.{HasIn, mark_keeps, broken_mark_keeps, peek_keeps, broken_peek_keeps}
 use Rattle.fr_follows.proofs.Hears.{mark_leads, after_mark, broken_mark, left_at, after_peek, broken_peek}
 
 -- ---- the start
@@ -72,6 +82,14 @@ lasts laws c h t config run is tag s k =
 
 -- ---- one hear
 
+-- a hear leaves a server that follows, and that has what it had applied of what is below in an ancestor
+record Moves (c : Config) (h : List Turn) (tag : ℕ) (s n : StorageState) : Type 0 where
+  is : IsStorageOf c h tag n
+  keeps : (e v : ℕ) → IsBelow c h e v → HasIn c h s e v → HasIn c h n e v
+
+stands : (c : Config) (h : List Turn) (tag : ℕ) (s : StorageState) → IsStorageOf c h tag s → Moves c h tag s s
+stands c h tag s k = record { is = k; keeps = λ e v below has. has }
+
 -- a hear that broke off leaves the store that it broke off at
 found_at : (o : Option StoreState) → is_some o ≡ true → (s : StoreState) → o ≡ Some (unwrap_or o s)
 found_at None some s = absurd (cc)
@@ -86,21 +104,30 @@ unmoved s version = go (is_broken_at s.store version s.store)
     go false = refl
 
 hears_log : Laws → Awaited → (c : Config) (h : List Turn) → IsConfig c → IsRun c h → (tag : ℕ) → tag < length c.begins → (s : StorageState) → IsStorageOf c h tag s
-    → (e i : ℕ) (u : LogTell) → Told h (node.Log e i) (node.Storage tag) (tell.Log u) → (taken : Option ℕ) → MayBreak taken s (node.Log e i) (tell.Log u) → IsStorageOf c h tag (part_hear taken s e u)
-hears_log laws more c h config run tag inside s k e i ltell.Seeded told None may = k
-hears_log laws more c h config run tag inside s k e i ltell.Seeded told (Some v) may = subst (IsStorageOf c h tag) (sym (unmoved s v)) k
-hears_log laws more c h config run tag inside s k e i (ltell.Held w) told None may = k
-hears_log laws more c h config run tag inside s k e i (ltell.Held w) told (Some v) may = subst (IsStorageOf c h tag) (sym (unmoved s v)) k
-hears_log laws more c h config run tag inside s k e i (ltell.Locked d w) told None may = k
-hears_log laws more c h config run tag inside s k e i (ltell.Locked d w) told (Some v) may = subst (IsStorageOf c h tag) (sym (unmoved s v)) k
+    → (e i : ℕ) (u : LogTell) → Told h (node.Log e i) (node.Storage tag) (tell.Log u) → (taken : Option ℕ) → MayBreak taken s (node.Log e i) (tell.Log u) → Moves c h tag s (part_hear taken s e u)
+hears_log laws more c h config run tag inside s k e i ltell.Seeded told None may = stands c h tag s k
+hears_log laws more c h config run tag inside s k e i ltell.Seeded told (Some v) may = subst (Moves c h tag s) (sym (unmoved s v)) (stands c h tag s k)
+hears_log laws more c h config run tag inside s k e i (ltell.Held w) told None may = stands c h tag s k
+hears_log laws more c h config run tag inside s k e i (ltell.Held w) told (Some v) may = subst (Moves c h tag s) (sym (unmoved s v)) (stands c h tag s k)
+hears_log laws more c h config run tag inside s k e i (ltell.Locked d w) told None may = stands c h tag s k
+hears_log laws more c h config run tag inside s k e i (ltell.Locked d w) told (Some v) may = subst (Moves c h tag s) (sym (unmoved s v)) (stands c h tag s k)
 hears_log laws more c h config run tag inside s k e i (ltell.Peeked p) told None may =
-    after_peek laws c h config run tag s k e i p (more.peeked c h config run e i tag p told) inside (peeks_are_true laws.contents c h config run e i (node.Storage tag) p told)
+    let own = more.peeked c h config run e i tag p told in
+    let true_tell = peeks_are_true laws.contents c h config run e i (node.Storage tag) p told in
+    record { is = after_peek laws c h config run tag s k e i p own inside true_tell; keeps = λ x v below has. peek_keeps laws c h config run tag s k e i p own inside true_tell x v has }
 hears_log laws more c h config run tag inside s k e i (ltell.Peeked p) told (Some v) may =
-    broken_peek laws c h config run tag s k e i p (more.peeked c h config run e i tag p told) inside (peeks_are_true laws.contents c h config run e i (node.Storage tag) p told) may.0 v
-    (unwrap_or (broken_at s.store (peeked_calls s e p) v) s.store) (found_at (broken_at s.store (peeked_calls s e p) v) may.1 s.store)
+    let own = more.peeked c h config run e i tag p told in
+    let true_tell = peeks_are_true laws.contents c h config run e i (node.Storage tag) p told in
+    let t = unwrap_or (broken_at s.store (peeked_calls s e p) v) s.store in
+    let at : broken_at s.store (peeked_calls s e p) v ≡ Some t = found_at (broken_at s.store (peeked_calls s e p) v) may.1 s.store in
+    record {
+      is = broken_peek laws c h config run tag s k e i p own inside true_tell may.0 v t at;
+      keeps = λ x w below has. broken_peek_keeps laws c h config run tag s k e i p own inside true_tell may.0 v t at x w has;
+    }
 hears_log laws more c h config run tag inside s k e i (ltell.Marked x) told None may =
     let m = more.marked c h config run e i tag x told in
-    subst (λ (y : CoordinatedState). IsStorageOf c h tag (after_marked s y)) (sym m.1) (after_mark laws c h config run tag s k e m.0)
+    subst (λ (y : CoordinatedState). Moves c h tag s (after_marked s y)) (sym m.1)
+    (record { is = after_mark laws c h config run tag s k e m.0; keeps = λ z v below has. mark_keeps laws c h config run tag s k e m.0 z v below has })
 hears_log laws more c h config run tag inside s k e i (ltell.Marked x) told (Some v) may =
     let m = more.marked c h config run e i tag x told in
     let y = state_of c h e in
@@ -110,46 +137,72 @@ hears_log laws more c h config run tag inside s k e i (ltell.Marked x) told (Som
     let left = broken_mark laws c h config run tag s k e m.0 taken v t at in
     let high = left.high in
     let was = k.numbered in
-    left_at c h tag s k v _ _ t left (omega (arith, high, was))
-hears_log laws more c h config run tag inside s k e i (ltell.Refused why) told None may = k
-hears_log laws more c h config run tag inside s k e i (ltell.Refused why) told (Some v) may = subst (IsStorageOf c h tag) (sym (unmoved s v)) k
+    record {
+      is = left_at c h tag s k v _ _ t left (omega (arith, high, was));
+      keeps = λ z w below has. broken_mark_keeps laws c h config run tag s k e m.0 taken v t at z w below has;
+    }
+hears_log laws more c h config run tag inside s k e i (ltell.Refused why) told None may = stands c h tag s k
+hears_log laws more c h config run tag inside s k e i (ltell.Refused why) told (Some v) may = subst (Moves c h tag s) (sym (unmoved s v)) (stands c h tag s k)
 
 hears : Laws → Awaited → (c : Config) (h : List Turn) → IsConfig c → IsRun c h → (tag : ℕ) → tag < length c.begins → (s : StorageState) → IsStorageOf c h tag s
-    → (from : NodeId) (t : Tell) → Told h from (node.Storage tag) t → (taken : Option ℕ) → MayBreak taken s from t → IsStorageOf c h tag (storage_hear taken s from t)
-hears laws more c h config run tag inside s k (node.Cell i) t told taken may = k
-hears laws more c h config run tag inside s k (node.Log e i) (tell.Cell u) told taken may = k
+    → (from : NodeId) (t : Tell) → Told h from (node.Storage tag) t → (taken : Option ℕ) → MayBreak taken s from t → Moves c h tag s (storage_hear taken s from t)
+hears laws more c h config run tag inside s k (node.Cell i) t told taken may = stands c h tag s k
+hears laws more c h config run tag inside s k (node.Log e i) (tell.Cell u) told taken may = stands c h tag s k
 hears laws more c h config run tag inside s k (node.Log e i) (tell.Log u) told taken may = hears_log laws more c h config run tag inside s k e i u told taken may
-hears laws more c h config run tag inside s k (node.Log e i) (tell.Seq u) told taken may = k
-hears laws more c h config run tag inside s k (node.Sequencer e) t told taken may = k
-hears laws more c h config run tag inside s k (node.Proxy e p) t told taken may = k
-hears laws more c h config run tag inside s k (node.Recoverer b) t told taken may = k
-hears laws more c h config run tag inside s k (node.Storage u) t told taken may = k
+hears laws more c h config run tag inside s k (node.Log e i) (tell.Seq u) told taken may = stands c h tag s k
+hears laws more c h config run tag inside s k (node.Sequencer e) t told taken may = stands c h tag s k
+hears laws more c h config run tag inside s k (node.Proxy e p) t told taken may = stands c h tag s k
+hears laws more c h config run tag inside s k (node.Recoverer b) t told taken may = stands c h tag s k
+hears laws more c h config run tag inside s k (node.Storage u) t told taken may = stands c h tag s k
 
 -- ---- all turns
 
-step : Laws → Awaited → (c : Config) (h : List Turn) (t : Turn) → IsConfig c → IsRun c h → IsTurn c h t → (tag : ℕ) → IsStorageOf c h tag (storage_at c h tag) → IsStorageOf c h tag (storage_after t tag (storage_at c h tag))
-step laws more c h (Begun b asks) config run is tag k = k
-step laws more c h (CellTurn from i a u) config run is tag k = k
-step laws more c h (LogTurn from x i a u) config run is tag k = k
-step laws more c h (SeqTurn from x a u) config run is tag k = k
-step laws more c h (Submitted x p n batch asks) config run is tag k = k
-step laws more c h (ProxyHeard x p from u outcome asks) config run is tag k = k
-step laws more c h (RecHeard b from u asks) config run is tag k = k
+step : Laws → Awaited → (c : Config) (h : List Turn) (t : Turn) → IsConfig c → IsRun c h → IsTurn c h t → (tag : ℕ) → IsStorageOf c h tag (storage_at c h tag) → Moves c h tag (storage_at c h tag) (storage_after t tag (storage_at c h tag))
+step laws more c h (Begun b asks) config run is tag k = stands c h tag (storage_at c h tag) k
+step laws more c h (CellTurn from i a u) config run is tag k = stands c h tag (storage_at c h tag) k
+step laws more c h (LogTurn from x i a u) config run is tag k = stands c h tag (storage_at c h tag) k
+step laws more c h (SeqTurn from x a u) config run is tag k = stands c h tag (storage_at c h tag) k
+step laws more c h (Submitted x p n batch asks) config run is tag k = stands c h tag (storage_at c h tag) k
+step laws more c h (ProxyHeard x p from u outcome asks) config run is tag k = stands c h tag (storage_at c h tag) k
+step laws more c h (RecHeard b from u asks) config run is tag k = stands c h tag (storage_at c h tag) k
 step laws more c h (StorageHeard y from u taken fault) config run is tag k = go (y == tag) refl
   where
-    go : (b : Bool) → (y == tag) ≡ b → IsStorageOf c h tag (cond b (storage_hear taken (storage_at c h tag) from u) (storage_at c h tag))
+    go : (b : Bool) → (y == tag) ≡ b → Moves c h tag (storage_at c h tag) (cond b (storage_hear taken (storage_at c h tag) from u) (storage_at c h tag))
     go true at =
         let here : y ≡ tag = eqb-true y tag at in
         let inside : tag < length c.begins = subst (λ z. z < length c.begins) here (ltb-true y (length c.begins) is.0.actor.there) in
         hears laws more c h config run tag inside (storage_at c h tag) k from u (subst (λ z. Told h from (node.Storage z) u) here is.0.told) taken (subst (λ z. MayBreak taken (storage_at c h z) from u) here is.2)
-    go false at = k
-step laws more c h (Gone who) config run is tag k = k
-step laws more c h (Crashed who) config run is tag k = k
+    go false at = stands c h tag (storage_at c h tag) k
+step laws more c h (Gone who) config run is tag k = stands c h tag (storage_at c h tag) k
+step laws more c h (Crashed who) config run is tag k = stands c h tag (storage_at c h tag) k
 
 pub storages_follow : Laws → Awaited → StoragesFollow
 storages_follow laws more c [] config run tag = starts laws c config tag
 storages_follow laws more c (t ∷ h) config run tag =
-    lasts laws c h t config run.1 run.0 tag (storage_after t tag (storage_at c h tag)) (step laws more c h t config run.1 run.0 tag (storages_follow laws more c h config run.1 tag))
+    lasts laws c h t config run.1 run.0 tag (storage_after t tag (storage_at c h tag)) (step laws more c h t config run.1 run.0 tag (storages_follow laws more c h config run.1 tag)).is
+
+-- what a server has applied of what is below in an ancestor it has after each turn
+pub keeps_applied : Laws → Awaited → (c : Config) (h : List Turn) (t : Turn) → IsConfig c → IsRun c h → IsTurn c h t → (tag e v : ℕ) → IsBelow c h e v → HasIn c h (storage_at c h tag) e v → HasIn c (t ∷ h) (storage_at c (t ∷ h) tag) e v
+keeps_applied laws more c h t config run is tag e v below has =
+    let n = storage_after t tag (storage_at c h tag) in
+    let moves = step laws more c h t config run is tag (storages_follow laws more c h config run tag) in
+    let now = moves.keeps e v below has in
+    let own = own_epoch n.state in
+    let g = chosen_is_planned laws.contents.nodes c h run own moves.is.chosen in
+    let applied = now.applied in
+    let numbered = moves.is.numbered in
+    record { commit = commit_later laws c h t config run is own g.0 g.1 e v (omega (arith, applied, numbered)) now.commit; applied = applied }
+  where
+    commit_later : Laws → (c : Config) (h : List Turn) (t : Turn) → IsConfig c → IsRun c h → IsTurn c h t → (own : ℕ) (g : LogGeneration) → generation_at c h own ≡ Some g → (e v : ℕ) → v ≤ top_at c h own
+        → HasCommit h (issued c h own) e v → HasCommit (t ∷ h) (issued c (t ∷ h) own) e v
+    commit_later laws c h t config run is own g at e v le k = record {
+      number = k.number;
+      given = numbers_stay t e (numbers h e) k.number k.given;
+      at = k.at;
+      batch = k.batch;
+      taken = batch_stays t h e k.number.proxy k.number.request k.batch k.taken;
+      there = same_has v (issued c h own) (issued c (t ∷ h) own) _ (sym (issued_lasts laws.contents.nodes c h t config run is own g at v le)) (omega arith) k.there;
+    }
 
 -- ---- refusals
 

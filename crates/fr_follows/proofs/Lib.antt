@@ -8,3 +8,4 @@ pub mod Splits
 pub mod Keeping
 pub mod Following
 pub mod Later
+pub mod Durables
