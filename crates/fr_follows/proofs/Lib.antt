@@ -9,3 +9,5 @@ pub mod Keeping
 pub mod Following
 pub mod Later
 pub mod Durables
+pub mod Exact
+pub mod Standing

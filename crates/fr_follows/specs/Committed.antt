@@ -66,25 +66,22 @@ pub record HasRolledBack (c : Config) (h : List Turn) (tag : ℕ) : Type 0 where
   pub now : StorageHeard tag (node.Log epoch log) (tell.Log (Marked state)) None None ∷ before ≡ h
   pub later : own_epoch (storage_at c before tag).state < own_epoch state
 
--- the epoch that it left, and its version applied now
-abbrev pub left_epoch : {c : Config} {h : List Turn} {tag : ℕ} → HasRolledBack c h tag → ℕ
-left_epoch {c = c} {tag = tag} r = own_epoch (storage_at c r.before tag).state
-
+-- the version applied of a storage server
 abbrev pub applied_at : Config → List Turn → ℕ → ℕ
 applied_at c h tag = (storage_at c h tag).store.applied
 
--- it keeps the new state, and has its shard of the map given by the committed batches through the version applied, which is at most the recovery version: the cut, in
--- the new state, of the epoch that it left
-pub record HoldsCommitted (c : Config) (h : List Turn) (tag latest : ℕ) (r : HasRolledBack c h tag) : Type 0 where
-  pub state : (storage_at c h tag).state ≡ r.state
+-- a storage server keeps a state, and has exactly its shard of the map given by the committed batches through its applied version, which is at most the recovery
+-- version: the cut, in that state, of the epoch that it left
+pub record HoldsCommitted (c : Config) (h : List Turn) (tag latest left : ℕ) (state : CoordinatedState) : Type 0 where
+  pub kept : (storage_at c h tag).state ≡ state
   pub contents : (storage_at c h tag).store.contents ≡ shard_of c tag (map_after (through (applied_at c h tag) (committed c h latest)))
   pub recovery : ℕ
-  pub is_cut : cut_of r.state.gens (left_epoch r) ≡ Some recovery
+  pub is_cut : cut_of state.gens left ≡ Some recovery
   pub within : applied_at c h tag ≤ recovery
   pub committed : applied_at c h tag ≤ least_durable c h latest
 
 abbrev pub RolledBackIsExact : Config → List Turn → Type 0
-RolledBackIsExact c h = (tag latest : ℕ) (r : HasRolledBack c h tag) → IsLatest c h latest → HoldsCommitted c h tag latest r
+RolledBackIsExact c h = (tag latest : ℕ) (r : HasRolledBack c h tag) → IsLatest c h latest → HoldsCommitted c h tag latest (own_epoch (storage_at c r.before tag).state) r.state
 
 -- ---- acknowledged commits
 
