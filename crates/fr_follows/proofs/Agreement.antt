@@ -1,13 +1,12 @@
 -- What epochs have for a tag is pieces, and along the list of a planned epoch they agree.
-use Rattle.std.proofs.Common.{◌≡◌, ℕ, ◌+◌, ◌<◌, ◌≤◌, Bool, true, false, cond, ◌==◌, List, [], ◌∷◌, ◌++◌, append_assoc, Option, None, Some, inl, inr, refl, sym, ◌∙◌, ap, subst, arith}
+use Rattle.std.proofs.Common.{◌≡◌, ℕ, ◌≤◌, Bool, true, false, cond, ◌==◌, List, [], ◌∷◌, ◌++◌, append_assoc, Option, None, Some, refl, sym, ◌∙◌, ap, subst, arith}
 use Rattle.std.specs.Prelude.{slice_get}
 use Rattle.std.specs.List.{All, AllByRecursion}
 use Rattle.std.specs.Option.{option_map}
 use Rattle.std.proofs.lemmas.Bool.{eqb-true}
 use Rattle.std.proofs.lemmas.List.Elements.{All-tail}
-use Rattle.fr_undo.specs.Canonical.{Commit, Rises}
 use Rattle.fr_state.specs.Generations.{LogGeneration, CoordinatedState, AreOrdered}
-use Rattle.fr_state.specs.LookUp.{next_of, cut_of}
+use Rattle.fr_state.specs.LookUp.{next_of}
 use Rattle.fr_state.proofs.ListLemmas.{next_of-cons}
 use Rattle.fr_epoch.specs.Recoverer.{Plan}
 use Rattle.fr_storage.specs.Storage.{epoch_of, own_epoch}
@@ -22,12 +21,12 @@ use Rattle.fr_versions.specs.Numbers.{top_at}
 use Rattle.fr_contents.specs.Issued.{entries, issued_of, issued, part}
 use Rattle.fr_contents.proofs.Versions.{RiseIn, through}
 use Rattle.fr_contents.proofs.IssuedLists.{version_of, EntriesRise, agree}
-use Rattle.fr_contents.proofs.PartLists.{part_of, commit_version, part_rises, commits_rise, part_concat, part_none, part_same}
+use Rattle.fr_contents.proofs.PartLists.{part_rises, commits_rise, part_concat, part_none, part_same}
 use Rattle.fr_contents.proofs.Lists.{HasList, planned_list, list_rises}
 use Rattle.fr_contents.proofs.Parts.{issued_rises}
-use Rattle.fr_follows.specs.Storages.{pieces_at}
+use Rattle.fr_follows.specs.Agreement.{pieces_at}
 use Rattle.fr_follows.specs.Laws.{Laws}
-use Rattle.fr_follows.proofs.Ancestors.{ancestors_are_fronts}
+use Rattle.fr_versions.proofs.Behind.{front_is_state}
 
 -- ---- pieces
 
@@ -98,7 +97,7 @@ front_issues laws c h config run e g at front own next rest is upto le =
     list = planned_list laws.contents.nodes c h config run e g at
 
     mine : (state_of c h own.epoch).gens ≡ front ++ own ∷ []
-    mine = ancestors_are_fronts laws.contents.nodes c h config run e g at front own (next ∷ rest) is
+    mine = front_is_state laws.contents.nodes c h config run e g at front own (next ∷ rest) is
 
     each : All (λ x. generation_at c h x.epoch ≡ Some x) (next ∷ rest)
     each = all_back (λ x. generation_at c h x.epoch ≡ Some x) (front ++ own ∷ []) (next ∷ rest) (subst (All (λ x. generation_at c h x.epoch ≡ Some x)) (is ∙ sym (append_assoc front (own ∷ []) (next ∷ rest))) list.each)

@@ -1,25 +1,24 @@
 -- What is below in a generation of a chosen epoch is not above any later cut: floors are safe.
-use Rattle.std.proofs.Common.{◌≡◌, ℕ, zero, suc, ◌+◌, ◌-◌, ◌<◌, ◌≤◌, Bool, true, false, max, min, List, [], ◌∷◌, ◌++◌, append_assoc, Option, None, Some, inl, inr, ◌⊎◌, refl, sym, ◌∙◌, ap, subst, arith}
+use Rattle.std.proofs.Common.{◌≡◌, ℕ, ◌+◌, ◌≤◌, List, [], ◌∷◌, ◌++◌, append_assoc, Option, None, Some, inl, inr, refl, sym, ◌∙◌, ap, subst, arith}
 use Rattle.std.specs.Prelude.{IfSome, unwrap_or}
-use Rattle.std.specs.List.{All, Contains}
+use Rattle.std.specs.List.{Contains}
 use Rattle.std.specs.Option.{option_map}
-use Rattle.std.proofs.lemmas.List.Elements.{All-contains, Contains-append_left, Contains-append_right}
-use Rattle.fr_state.specs.Generations.{LogGeneration, CoordinatedState, AreOrdered}
+use Rattle.std.proofs.lemmas.List.Elements.{Contains-append_left, Contains-append_right}
+use Rattle.fr_state.specs.Generations.{LogGeneration}
 use Rattle.fr_state.specs.LookUp.{next_of, cut_of}
-use Rattle.fr_storage.specs.Storage.{own_epoch, cut_in}
+use Rattle.fr_storage.specs.Storage.{cut_in}
 use Rattle.fr_storage.specs.Follows.{IsFrontOf}
 use Rattle.fr_history.specs.Config.{Config}
 use Rattle.fr_history.specs.Turn.{Turn}
 use Rattle.fr_history.specs.Nodes.{mark_version, generation_at}
 use Rattle.fr_history.specs.Run.{IsTurn, IsRun}
-use Rattle.fr_history.specs.States.{state_of, IsChosenEpoch}
+use Rattle.fr_history.specs.States.{state_of}
 use Rattle.fr_history.specs.StateLaws.{IsConfig}
-use Rattle.fr_history.proofs.Cells.{Contains-here, Contains-later, Contains-none, Contains-cases}
+use Rattle.fr_history.proofs.Cells.{Contains-here, Contains-none, Contains-cases}
 use Rattle.fr_versions.specs.Numbers.{numbers, top_at}
-use Rattle.fr_versions.specs.Bounds.{HasReached, AllReach, IsBelow, TakesOver, AreTakenOver, IsLine}
+use Rattle.fr_versions.specs.Bounds.{IsBelow}
 use Rattle.fr_versions.proofs.Acks.{below_later}
 use Rattle.fr_versions.proofs.Ends.{always_chained}
-use Rattle.fr_versions.proofs.Transport.{first_line, plans_are_lines}
 use Rattle.fr_contents.proofs.Versions.{rise_over}
 use Rattle.fr_contents.proofs.IssuedLists.{version_of}
 use Rattle.fr_contents.proofs.EntryLists.{chained_rise}
@@ -28,8 +27,9 @@ use Rattle.std.specs.Prelude.{map, reverse}
 use Rattle.fr_contents.proofs.Lists.{HasList, planned_list}
 use Rattle.fr_follows.specs.Storages.{IsSafeFloor}
 use Rattle.fr_follows.specs.Laws.{Laws}
-use Rattle.fr_follows.proofs.Ancestors.{planned_by, ancestors_are_fronts, planned_state_is}
-use Rattle.fr_follows.proofs.Agreement.{IsSplit, split_at}
+use Rattle.fr_versions.proofs.Behind.{front_is_state}
+use Rattle.fr_versions.proofs.Taking.{below_is_held_behind}
+use Rattle.fr_follows.proofs.Agreement.{split_at}
 
 -- ---- lists
 
@@ -79,24 +79,12 @@ cut_is_seeded laws c h config run e g at epoch = go (cut_of (state_of c h e).gen
     go None here = omega arith
     go (Some cut) here = laws.stores.below_last (state_of c h e).gens g epoch cut list.ordered list.last here
 
--- ---- lines
-
-pub line_of : Laws → (c : Config) (h : List Turn) → IsConfig c → IsRun c h → (e : ℕ) (g : LogGeneration) → generation_at c h e ≡ Some g → IsLine c h (state_of c h e).gens
-line_of laws c h config run e g at = elim (planned_by laws.contents.nodes c h run e g at) [
-  | inl k ↦ subst (λ (s : CoordinatedState). IsLine c h s.gens) (sym k.state) (first_line c h)
-  | inr k ↦ subst (λ (s : CoordinatedState). IsLine c h s.gens) (sym k.state) (plans_are_lines laws.contents.nodes c h config run e k.recoverer k.plan k.at k.planned)
-]
-
-over_at : (c : Config) (h : List Turn) (front : List LogGeneration) (g : LogGeneration) (rest : List LogGeneration) → AreTakenOver c h (front ++ g ∷ rest) → All (TakesOver c h g) rest
-over_at c h [] g rest k = k.0
-over_at c h (x ∷ front) g rest k = over_at c h front g rest k.1
+-- ---- later generations
 
 -- what is below in a generation is not above what any later one of the list was seeded to
 pub taken_over : Laws → (c : Config) (h : List Turn) → IsConfig c → IsRun c h → (e : ℕ) (g : LogGeneration) → generation_at c h e ≡ Some g
     → (front : List LogGeneration) (a n : LogGeneration) (rest : List LogGeneration) → (state_of c h e).gens ≡ front ++ a ∷ rest → Contains rest n → (v : ℕ) → IsBelow c h a.epoch v → v ≤ n.seeded_to
-taken_over laws c h config run e g at front a n rest is later v below =
-    let line = line_of laws c h config run e g at in
-    All-contains (TakesOver c h a) rest n (over_at c h front a rest (subst (AreTakenOver c h) is line.over)) later v below
+taken_over laws c h config run e g at front a n rest is later v below = (below_is_held_behind laws.contents.nodes c h config run e g at front a n rest is later v below).0
 
 -- ---- floors
 
@@ -109,13 +97,13 @@ floor_within_cut laws c h config run e own g at floor safe = go (next_of (state_
     go None here = tt
     go (Some next) here =
         let s = split_at (state_of c h e).gens own next here in
-        let mine : (state_of c h own).gens ≡ s.before ++ s.own ∷ [] = ap (λ x. (state_of c h x).gens) (sym s.is) ∙ ancestors_are_fronts laws.contents.nodes c h config run e g at s.before s.own (next ∷ s.after) s.are in
+        let mine : (state_of c h own).gens ≡ s.before ++ s.own ∷ [] = ap (λ x. (state_of c h x).gens) (sym s.is) ∙ front_is_state laws.contents.nodes c h config run e g at s.before s.own (next ∷ s.after) s.are in
         let place = place_of (s.before ++ s.own ∷ []) safe.generation (subst (λ xs. Contains xs safe.generation) mine safe.there) in
         let all : (state_of c h e).gens ≡ place.front ++ safe.generation ∷ (place.back ++ next ∷ s.after) =
-            s.are
-            ∙ sym (append_assoc s.before (s.own ∷ []) (next ∷ s.after))
-            ∙ ap (λ (xs : List LogGeneration). xs ++ next ∷ s.after) place.is
-            ∙ append_assoc place.front (safe.generation ∷ place.back) (next ∷ s.after) in
+        s.are
+        ∙ sym (append_assoc s.before (s.own ∷ []) (next ∷ s.after))
+        ∙ ap (λ (xs : List LogGeneration). xs ++ next ∷ s.after) place.is
+        ∙ append_assoc place.front (safe.generation ∷ place.back) (next ∷ s.after) in
         taken_over laws c h config run e g at place.front safe.generation next (place.back ++ next ∷ s.after) all (Contains-append_right place.back (next ∷ s.after) next (Contains-here next s.after)) floor safe.below
 
 pub floor_in_front : (c : Config) (h : List Turn) (front gens : List LogGeneration) (floor : ℕ) → IsFrontOf front gens → IsSafeFloor c h front floor → IsSafeFloor c h gens floor

@@ -1,27 +1,25 @@
 -- A hear of what a log told leaves a storage server of the run one that follows.
-use Rattle.std.proofs.Common.{◌≡◌, ◌≢◌, ℕ, zero, suc, ◌+◌, ◌-◌, ◌<◌, ◌≤◌, Bool, true, false, cond, not, max, min, nat_lt, ◌==◌, List, [], ◌∷◌, ◌++◌, map, Option, None, Some, inl, inr, ◌⊎◌, refl, sym, ◌∙◌, ap, subst, arith}
-use Rattle.std.specs.Prelude.{IfSome, IsSome, is_some, unwrap_or, length}
-use Rattle.std.specs.List.{All, Contains}
+use Rattle.std.proofs.Common.{◌≡◌, ℕ, ◌+◌, ◌-◌, ◌<◌, ◌≤◌, Bool, true, false, cond, not, max, min, nat_lt, ◌==◌, List, [], ◌∷◌, map, Option, None, Some, inl, inr, ◌⊎◌, refl, sym, ◌∙◌, ap, subst, arith}
+use Rattle.std.specs.Prelude.{IsSome, is_some, unwrap_or, length}
+use Rattle.std.specs.List.{Contains}
 use Rattle.std.specs.Option.{option_map}
 use Rattle.std.proofs.lemmas.Bool.{cases_lt, eqb-true}
-use Rattle.std.proofs.lemmas.List.Elements.{All-contains, Contains-append_right}
 use Rattle.fr_undo.specs.State.{StoreState}
 use Rattle.fr_undo.specs.Canonical.{Commit}
-use Rattle.fr_state.specs.Generations.{LogGeneration, CoordinatedState, IsGeneration, IsCoordinatedState, last_of}
+use Rattle.fr_state.specs.Generations.{LogGeneration, CoordinatedState, IsCoordinatedState}
 use Rattle.fr_state.specs.LookUp.{next_of, end_of, cut_of, source_of}
-use Rattle.fr_log.specs.declared.records.PeekedRecord.{PeekedRecord}
 use Rattle.fr_log.specs.Peeked.{PeekedContent}
 use Rattle.fr_log.specs.LogState.{durable_of, known_of}
 use Rattle.fr_storage.specs.declared.fault.StorageFault.{StorageFault}
-use Rattle.fr_storage.specs.declared.fault.StorageFault.TheVariants.{Older, Stranger, BelowFloor, NotMyGeneration, Hole}
+use Rattle.fr_storage.specs.declared.fault.StorageFault.TheVariants.{NotMyGeneration, Hole}
 use Rattle.fr_storage.specs.Storage.{StorageState, epoch_of, own_epoch, cut_in, marked_fault, marked_calls, after_marked, peeked_fault, peeked_calls, after_peeked, target_of, cut_at, unless_fault, after_calls, is_epoch, broken_at}
-use Rattle.fr_storage.specs.Follows.{Follows, ArePieces, Agrees, IsTrueMark, IsTruePeek, commit_of, IsFrontOf}
+use Rattle.fr_storage.specs.Follows.{Agrees, IsTrueMark, IsTruePeek, commit_of, IsFrontOf}
 use Rattle.fr_storage.specs.Law.{MarkedLeads, PeekedLeads, BreaksAt}
 use Rattle.fr_storage.proofs.Generations.{HasLast, has_last, greatest}
 use Rattle.fr_history.specs.Config.{Config}
 use Rattle.fr_history.specs.Turn.{Turn}
 use Rattle.fr_history.specs.Nodes.{generation_at, logs_at, log_at}
-use Rattle.fr_history.specs.Run.{IsTurn, IsRun}
+use Rattle.fr_history.specs.Run.{IsRun}
 use Rattle.fr_history.specs.States.{state_of, IsChosenEpoch}
 use Rattle.fr_history.specs.StateLaws.{IsConfig}
 use Rattle.fr_versions.specs.Numbers.{top_at}
@@ -31,11 +29,12 @@ use Rattle.fr_versions.proofs.Known.{log_known_below}
 use Rattle.fr_versions.proofs.Logs.{durable_below, logs_are_own}
 use Rattle.fr_contents.specs.Issued.{part}
 use Rattle.fr_contents.specs.Contents.{record_of_commit, part_records, IsTrueTell}
-use Rattle.fr_follows.specs.Storages.{pieces_at, IsSafeFloor, IsStorageOf}
+use Rattle.fr_follows.specs.Agreement.{pieces_at}
+use Rattle.fr_follows.specs.Storages.{IsSafeFloor, IsStorageOf}
 use Rattle.fr_follows.specs.Laws.{Laws}
-use Rattle.fr_follows.proofs.Ancestors.{planned_state_is}
-use Rattle.fr_follows.proofs.Chosen.{chosen_is_planned, chosen_are_chain}
-use Rattle.fr_follows.proofs.Agreement.{IsSplit, split_at, parts_are_pieces, parts_agree, planned_epoch}
+use Rattle.fr_history.proofs.States.{state_is}
+use Rattle.fr_history.proofs.Chosen.{chosen_is_planned, chosen_are_chain}
+use Rattle.fr_follows.proofs.Agreement.{parts_are_pieces, parts_agree, planned_epoch}
 use Rattle.fr_follows.proofs.Floors.{seed_is_numbered, cut_is_seeded, floor_within_cut, floor_in_front, floor_lower, below_lower}
 
 -- ---- a state
@@ -45,12 +44,12 @@ pub true_mark : Laws → (c : Config) (h : List Turn) → IsConfig c → IsRun c
 true_mark laws c h config run tag s k e chosen =
     let g = chosen_is_planned laws.contents.nodes c h run e chosen in
     record {
-      state = planned_state_is laws.contents.nodes c h config run e g.0 g.1;
+      state = state_is laws.contents.nodes c h config run e;
       agrees = parts_agree laws c h config run e g.0 g.1 tag;
       chain = subst (λ (x : CoordinatedState). IsFrontOf x.gens (state_of c h e).gens ⊎ IsFrontOf (state_of c h e).gens x.gens) (sym k.state) (elim (cases_lt e own) [
-          | inl lt ↦ inr (chosen_are_chain laws.contents.nodes c h config run e own chosen k.chosen (omega (arith, lt)))
-          | inr ge ↦ inl (chosen_are_chain laws.contents.nodes c h config run own e k.chosen chosen ge)
-        ]);
+        | inl lt ↦ inr (chosen_are_chain laws.contents.nodes c h config run e own chosen k.chosen (omega (arith, lt)))
+        | inr ge ↦ inl (chosen_are_chain laws.contents.nodes c h config run own e k.chosen chosen ge)
+      ]);
       floor = floor_within_cut laws c h config run e own g.0 g.1 s.store.floor (subst (λ (x : CoordinatedState). IsSafeFloor c h x.gens s.store.floor) k.state k.floor);
     }
   where

@@ -1,18 +1,17 @@
 -- A hear undoes nothing of what is below in a generation of the server's own list.
-use Rattle.std.proofs.Common.{◌≡◌, ℕ, ◌+◌, ◌<◌, ◌≤◌, Bool, true, false, cond, max, min, List, [], ◌∷◌, ◌++◌, map, reverse, Option, None, Some, inl, inr, ◌⊎◌, refl, sym, ◌∙◌, ap, subst, arith}
+use Rattle.std.proofs.Common.{◌≡◌, ℕ, ◌<◌, ◌≤◌, Bool, true, false, cond, List, [], ◌∷◌, map, reverse, Option, None, Some, inl, inr, refl, sym, ◌∙◌, ap, subst, arith}
 use Rattle.std.specs.Prelude.{IfSome, unwrap_or, length}
 use Rattle.std.specs.List.{Contains}
 use Rattle.std.proofs.lemmas.Bool.{cases_lt}
 use Rattle.std.proofs.lemmas.List.Elements.{Contains-append_cases}
 use Rattle.fr_undo.specs.State.{StoreState}
 use Rattle.fr_state.specs.Generations.{LogGeneration, CoordinatedState}
-use Rattle.fr_state.specs.LookUp.{cut_of}
 use Rattle.fr_state.specs.Same.{is_same_state}
 use Rattle.fr_log.specs.Peeked.{PeekedContent}
 use Rattle.fr_storage.specs.declared.fault.StorageFault.{StorageFault}
-use Rattle.fr_storage.specs.Storage.{StorageState, Call, own_epoch, cut_in, marked_fault, marked_calls, after_marked, peeked_fault, peeked_calls, after_peeked, target_of, broken_at, is_broken_at, UndoTo, SetState}
+use Rattle.fr_storage.specs.Storage.{StorageState, Call, own_epoch, cut_in, marked_fault, marked_calls, after_marked, peeked_fault, peeked_calls, after_peeked, broken_at, is_broken_at, UndoTo, SetState}
 use Rattle.fr_state.specs.Spelling.{spelling}
-use Rattle.fr_storage.specs.Law.{MarkedLeads, PeekedLeads, BreaksAt}
+use Rattle.fr_storage.specs.Law.{MarkedLeads, PeekedLeads}
 use Rattle.fr_history.specs.Config.{Config}
 use Rattle.fr_history.specs.Turn.{Turn}
 use Rattle.fr_history.specs.Nodes.{generation_at, mark_version}
@@ -26,10 +25,11 @@ use Rattle.fr_contents.specs.Issued.{Entry, entry_of, entries, issued_of, issued
 use Rattle.fr_contents.specs.Contents.{IsTrueTell}
 use Rattle.fr_contents.proofs.Versions.{through}
 use Rattle.fr_contents.proofs.IssuedLists.{version_of}
-use Rattle.fr_follows.specs.Storages.{pieces_at, IsSafeFloor, IsStorageOf}
+use Rattle.fr_follows.specs.Agreement.{pieces_at}
+use Rattle.fr_follows.specs.Storages.{IsSafeFloor, IsStorageOf}
 use Rattle.fr_follows.specs.Committed.{HasCommit}
 use Rattle.fr_follows.specs.Laws.{Laws}
-use Rattle.fr_follows.proofs.Chosen.{chosen_is_planned}
+use Rattle.fr_history.proofs.Chosen.{chosen_is_planned}
 use Rattle.fr_follows.proofs.Agreement.{planned_epoch, parts_are_pieces}
 use Rattle.fr_follows.proofs.Floors.{floor_within_cut}
 use Rattle.fr_follows.proofs.Hears.{mark_leads, broken_mark, peek_leads, true_peek, own_agrees}
@@ -103,7 +103,7 @@ cut_above laws c h config run tag s is x g at k e v below has =
 pub mark_keeps : Laws → (c : Config) (h : List Turn) → IsConfig c → IsRun c h → (tag : ℕ) (s : StorageState) → IsStorageOf c h tag s → (x : ℕ) → IsChosenEpoch c h x → (e v : ℕ) → IsBelow c h e v → HasIn c h s e v → HasIn c h (after_marked s (state_of c h x)) e v
 mark_keeps laws c h config run tag s is x chosen e v below has = elim (cases_lt own x) [
   | inl lt ↦ (
-      let k = later_split laws c h config run own x g.0 is.chosen g.1 lt in
+      let k = later_split laws c h config run own x g.0 is.chosen chosen g.1 lt in
       let above = cut_above laws c h config run tag s is x g.0 g.1 k e v below has in
       let cut = above.1 in
       let same : (after_marked s y).state ≡ y = leads.state (omega (arith, lt, here)) in
@@ -144,7 +144,7 @@ pub broken_mark_keeps : Laws → (c : Config) (h : List Turn) → IsConfig c →
     → (version : ℕ) (t : StoreState) → broken_at s.store (marked_calls s (state_of c h x)) version ≡ Some t → (e v : ℕ) → IsBelow c h e v → HasIn c h s e v → HasIn c h (record s { store = t }) e v
 broken_mark_keeps laws c h config run tag s is x chosen taken version t at e v below has = elim (cases_lt own x) [
   | inl lt ↦ (
-      let k = later_split laws c h config run own x g.0 is.chosen g.1 lt in
+      let k = later_split laws c h config run own x g.0 is.chosen chosen g.1 lt in
       let above = cut_above laws c h config run tag s is x g.0 g.1 k e v below has in
       let cut = above.1 in
       let left = broken_mark laws c h config run tag s is x chosen taken version t at in

@@ -1,12 +1,12 @@
 -- What is so at a moment of a run, and at every later one.
-use Rattle.std.proofs.Common.{◌≡◌, ℕ, ◌<◌, ◌≤◌, List, [], ◌∷◌, ◌++◌, Option, None, Some, refl, sym, ◌∙◌, ap, subst, arith}
+use Rattle.std.proofs.Common.{◌≡◌, ℕ, ◌≤◌, List, [], ◌∷◌, ◌++◌, Some, refl, ◌∙◌, arith}
 use Rattle.std.specs.List.{Contains}
 use Rattle.fr_mutation.specs.declared.mutation.Mutation.{Mutation}
 use Rattle.fr_state.specs.Generations.{LogGeneration}
 use Rattle.fr_history.specs.Config.{Config}
 use Rattle.fr_history.specs.Turn.{Turn}
 use Rattle.fr_history.specs.Nodes.{generation_at}
-use Rattle.fr_history.specs.Run.{IsTurn, IsRun}
+use Rattle.fr_history.specs.Run.{IsRun}
 use Rattle.fr_history.specs.Batches.{batch_at, IsAcknowledged}
 use Rattle.fr_history.specs.States.{IsChosenEpoch}
 use Rattle.fr_history.specs.StateLaws.{IsConfig}
@@ -23,7 +23,7 @@ use Rattle.fr_contents.proofs.IssuedLists.{version_of}
 use Rattle.fr_contents.proofs.Parts.{issued_lasts}
 use Rattle.fr_contents.proofs.Stays.{top_rises}
 use Rattle.fr_follows.specs.Laws.{Laws}
-use Rattle.fr_follows.proofs.Chosen.{chosen_lasts}
+use Rattle.fr_history.proofs.Chosen.{chosen_lasts}
 
 pub run_before : (c : Config) (more h : List Turn) → IsRun c (more ++ h) → IsRun c h
 run_before c [] h run = run
@@ -31,7 +31,7 @@ run_before c (t ∷ more) h run = run_before c more h run.1
 
 pub still_chosen : Laws → (c : Config) (more h : List Turn) → IsConfig c → IsRun c (more ++ h) → (e : ℕ) → IsChosenEpoch c h e → IsChosenEpoch c (more ++ h) e
 still_chosen laws c [] h config run e k = k
-still_chosen laws c (t ∷ more) h config run e k = chosen_lasts laws.contents.nodes c (more ++ h) t config run.1 run.0 e (still_chosen laws c more h config run.1 e k)
+still_chosen laws c (t ∷ more) h config run e k = (chosen_lasts laws.contents.nodes c (more ++ h) t run.1 run.0 e (still_chosen laws c more h config run.1 e k)).0
 
 pub still_planned : Laws → (c : Config) (more h : List Turn) → IsRun c (more ++ h) → (e : ℕ) (g : LogGeneration) → generation_at c h e ≡ Some g → generation_at c (more ++ h) e ≡ Some g
 still_planned laws c [] h run e g at = at

@@ -1,5 +1,3 @@
-pub mod Ancestors
-pub mod Chosen
 pub mod Agreement
 pub mod Floors
 pub mod Hears

@@ -1,8 +1,8 @@
 -- A chosen epoch stands in the list of each later one, with a next generation.
-use Rattle.std.proofs.Common.{◌≡◌, ℕ, ◌+◌, ◌<◌, ◌≤◌, List, [], ◌∷◌, ◌++◌, append_assoc, append-nil, Option, None, Some, refl, sym, ◌∙◌, ap, subst, arith}
+use Rattle.std.proofs.Common.{◌≡◌, ℕ, ◌<◌, ◌≤◌, List, [], ◌∷◌, ◌++◌, append_assoc, append-nil, Some, sym, ◌∙◌, ap, subst, arith}
 use Rattle.std.specs.List.{Contains}
 use Rattle.std.proofs.lemmas.List.Elements.{Contains-append_right}
-use Rattle.fr_state.specs.Generations.{LogGeneration, CoordinatedState, AreOrdered, last_of}
+use Rattle.fr_state.specs.Generations.{LogGeneration, AreOrdered, last_of}
 use Rattle.fr_state.specs.LookUp.{cut_of}
 use Rattle.fr_history.specs.Config.{Config}
 use Rattle.fr_history.specs.Turn.{Turn}
@@ -17,7 +17,7 @@ use Rattle.fr_contents.proofs.Versions.{through}
 use Rattle.fr_contents.proofs.IssuedLists.{version_of}
 use Rattle.fr_contents.proofs.Lists.{HasList, planned_list}
 use Rattle.fr_follows.specs.Laws.{Laws}
-use Rattle.fr_follows.proofs.Chosen.{chosen_is_planned, planned_descends}
+use Rattle.fr_history.proofs.Chosen.{chosen_is_planned, chosen_are_chain}
 use Rattle.fr_follows.proofs.Agreement.{front_issues}
 use Rattle.fr_follows.proofs.Floors.{taken_over}
 use Rattle.fr_follows.proofs.Places.{IsLast, last_place}
@@ -35,8 +35,8 @@ pub record IsLaterSplit (c : Config) (h : List Turn) (a e : ℕ) (g : LogGenerat
   pub low : own.seeded_to ≤ next.seeded_to
   pub high : next.seeded_to ≤ g.seeded_to
 
-pub later_split : Laws → (c : Config) (h : List Turn) → IsConfig c → IsRun c h → (a e : ℕ) (g : LogGeneration) → IsChosenEpoch c h a → generation_at c h e ≡ Some g → a < e → IsLaterSplit c h a e g
-later_split laws c h config run a e g chosen at lt = go front.0 front.1
+pub later_split : Laws → (c : Config) (h : List Turn) → IsConfig c → IsRun c h → (a e : ℕ) (g : LogGeneration) → IsChosenEpoch c h a → IsChosenEpoch c h e → generation_at c h e ≡ Some g → a < e → IsLaterSplit c h a e g
+later_split laws c h config run a e g chosen new at lt = go front.0 front.1
   where
     own : (own : LogGeneration) × (generation_at c h a ≡ Some own)
     own = chosen_is_planned laws.contents.nodes c h run a chosen
@@ -51,7 +51,7 @@ later_split laws c h config run a e g chosen at lt = go front.0 front.1
     place = last_place (state_of c h a).gens own.0 mine.last
 
     front : IsFrontOf (state_of c h a).gens (state_of c h e).gens
-    front = planned_descends laws.contents.nodes c h config run a e g chosen at (omega (arith, lt))
+    front = chosen_are_chain laws.contents.nodes c h config run a e chosen new (omega (arith, lt))
 
     go : (more : List LogGeneration) → (state_of c h a).gens ++ more ≡ (state_of c h e).gens → IsLaterSplit c h a e g
     go [] is =

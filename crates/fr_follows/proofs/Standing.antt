@@ -1,34 +1,32 @@
 -- What is acknowledged stands and is never undone, and the committed list only grows.
-use Rattle.std.proofs.Common.{◌≡◌, ℕ, ◌+◌, ◌<◌, ◌≤◌, Bool, true, false, List, [], ◌∷◌, ◌++◌, append_assoc, Option, None, Some, inl, inr, ◌⊎◌, refl, sym, ◌∙◌, ap, subst, arith}
+use Rattle.std.proofs.Common.{◌≡◌, ℕ, List, [], ◌∷◌, ◌++◌, Option, Some, inr, refl, sym, ◌∙◌, ap, subst, arith}
 use Rattle.std.specs.List.{Contains}
-use Rattle.std.proofs.lemmas.Bool.{cases_lt}
 use Rattle.fr_mutation.specs.declared.mutation.Mutation.{Mutation}
-use Rattle.fr_state.specs.Generations.{LogGeneration, last_of}
+use Rattle.fr_state.specs.Generations.{LogGeneration}
 use Rattle.fr_history.specs.Config.{Config}
 use Rattle.fr_history.specs.Turn.{Turn}
 use Rattle.fr_history.specs.Nodes.{generation_at, storage_at}
 use Rattle.fr_history.specs.Run.{IsRun}
-use Rattle.fr_history.specs.Batches.{batch_at, IsAcknowledged}
+use Rattle.fr_history.specs.Batches.{IsAcknowledged}
 use Rattle.fr_history.specs.States.{state_of, IsChosenEpoch, IsLatest}
 use Rattle.fr_history.specs.StateLaws.{IsConfig}
 use Rattle.fr_versions.specs.Numbers.{Numbering, numbers, top_at}
-use Rattle.fr_versions.specs.Bounds.{IsBelow, IsSafe}
+use Rattle.fr_versions.specs.Bounds.{IsBelow}
 use Rattle.fr_versions.proofs.Acks.{acknowledged_is_safe}
 use Rattle.fr_contents.specs.Issued.{Entry, entry_of, entries, issued_of, issued, least_durable, committed}
 use Rattle.fr_contents.proofs.Versions.{through, between, through_on, through_twice}
 use Rattle.fr_contents.proofs.IssuedLists.{version_of}
 use Rattle.fr_contents.proofs.Lists.{planned_list}
 use Rattle.fr_contents.proofs.Parts.{issued_rises}
-use Rattle.fr_contents.proofs.Taken.{HasBatch, number_has_batch}
-use Rattle.fr_follows.specs.Committed.{HasCommit, HasApplied, Stands, IsNeverUndone, AcknowledgedIsNeverUndone, CommittedGrows}
+use Rattle.fr_contents.proofs.Taken.{number_has_batch}
+use Rattle.fr_follows.specs.Committed.{HasCommit, Stands, IsNeverUndone, AcknowledgedIsNeverUndone, CommittedGrows}
 use Rattle.fr_follows.specs.Headline.{Headline}
 use Rattle.fr_follows.specs.Laws.{Laws}
-use Rattle.fr_follows.specs.Awaited.{Awaited}
-use Rattle.fr_follows.proofs.Chosen.{chosen_is_planned}
-use Rattle.fr_follows.proofs.Places.{entries_have, issued_has, same_has, IsLast, last_place}
+use Rattle.fr_history.proofs.Chosen.{open_is_chosen, chosen_is_planned}
+use Rattle.fr_follows.proofs.Places.{entries_have, issued_has, last_place}
 use Rattle.fr_follows.proofs.Keeping.{HasIn, commit_in_same}
 use Rattle.fr_follows.proofs.Following.{keeps_applied}
-use Rattle.fr_follows.proofs.Later.{run_before, still_chosen, still_planned, still_below, top_still, issued_still, still_acknowledged}
+use Rattle.fr_follows.proofs.Later.{run_before, still_chosen, still_below, issued_still, still_acknowledged}
 use Rattle.fr_follows.proofs.Durables.{least_is_below, least_is_numbered, IsCommittedThrough, below_is_committed}
 use Rattle.fr_follows.proofs.Exact.{rolled_back_is_exact}
 
@@ -54,36 +52,37 @@ own_commit laws c h config run e g at n k =
       there = subst (λ (o : Option (List Mutation)). Contains (issued c h e) (record { version = n.version; origin = e; batch = o })) b.at all;
     }
 
-stands_now : Laws → Awaited → (c : Config) (h : List Turn) → IsConfig c → IsRun c h → (e v : ℕ) → IsAcknowledged h e v → (latest : ℕ) → IsLatest c h latest → HasCommit h (committed c h latest) e v
-stands_now laws more c h config run e v acked latest is =
+stands_now : Laws → (c : Config) (h : List Turn) → IsConfig c → IsRun c h → (e v : ℕ) → IsAcknowledged h e v → (latest : ℕ) → IsLatest c h latest → HasCommit h (committed c h latest) e v
+stands_now laws c h config run e v acked latest is =
     let s = acknowledged_is_safe laws.contents.nodes c h run e v acked in
-    let chosen = more.opened c h config run e s.opened in
+    let chosen = open_is_chosen laws.contents.nodes c h run e s.opened in
     let own : HasCommit h (issued c h e) e v = subst (HasCommit h (issued c h e) e) s.at (own_commit laws c h config run e s.generation s.of s.number s.given) in
-    let all = below_is_committed laws more c h config run e latest chosen is.chosen (is.greatest e chosen) v (acknowledged_below laws c h run e v acked) in
+    let all = below_is_committed laws c h config run e latest chosen is.chosen (is.greatest e chosen) v (acknowledged_below laws c h run e v acked) in
     commit_in_same h (issued c h e) (committed c h latest) e v v all.same (omega arith) own
 
-pub acknowledged_stands : Laws → Awaited → (c : Config) (h : List Turn) → IsConfig c → (e v : ℕ) → IsAcknowledged h e v → Stands c h e v
-acknowledged_stands laws more c h config e v acked later run latest is = stands_now laws more c (later ++ h) config run e v (still_acknowledged later h e v acked) latest is
+pub acknowledged_stands : Laws → (c : Config) (h : List Turn) → IsConfig c → (e v : ℕ) → IsAcknowledged h e v → Stands c h e v
+acknowledged_stands laws c h config e v acked later run latest is = stands_now laws c (later ++ h) config run e v (still_acknowledged later h e v acked) latest is
 
 -- ---- and is not undone
 
-keeps_all : Laws → Awaited → (c : Config) (after h : List Turn) → IsConfig c → IsRun c (after ++ h) → (tag e v : ℕ) → IsBelow c h e v → HasIn c h (storage_at c h tag) e v → HasIn c (after ++ h) (storage_at c (after ++ h) tag) e v
-keeps_all laws more c [] h config run tag e v below has = has
-keeps_all laws more c (t ∷ after) h config run tag e v below has =
-    keeps_applied laws more c (after ++ h) t config run.1 run.0 tag e v (still_below laws c after h run.1 e v below) (keeps_all laws more c after h config run.1 tag e v below has)
+keeps_all : Laws → (c : Config) (after h : List Turn) → IsConfig c → IsRun c (after ++ h) → (tag e v : ℕ) → IsBelow c h e v → HasIn c h (storage_at c h tag) e v → HasIn c (after ++ h) (storage_at c (after ++ h) tag) e v
+keeps_all laws c [] h config run tag e v below has = has
+keeps_all laws c (t ∷ after) h config run tag e v below has =
+    keeps_applied laws c (after ++ h) t config run.1 run.0 tag e v (still_below laws c after h run.1 e v below) (keeps_all laws c after h config run.1 tag e v below has)
 
-pub never_undone : Laws → Awaited → (c : Config) (h : List Turn) → IsConfig c → (e v : ℕ) → IsAcknowledged h e v → IsNeverUndone c h e v
-never_undone laws more c h config e v acked later after tag run has =
+pub never_undone : Laws → (c : Config) (h : List Turn) → IsConfig c → (e v : ℕ) → IsAcknowledged h e v → IsNeverUndone c h e v
+never_undone laws c h config e v acked later after tag run has =
     let below = acknowledged_below laws c (later ++ h) (run_before c after (later ++ h) run) e v (still_acknowledged later h e v acked) in
-    let k = keeps_all laws more c after (later ++ h) config run tag e v below (record { commit = has.commit; applied = has.applied }) in
+    let k = keeps_all laws c after (later ++ h) config run tag e v below (record { commit = has.commit; applied = has.applied }) in
     record { commit = k.commit; applied = k.applied }
 
 -- ---- the committed list grows
 
-pub committed_grows : Laws → Awaited → CommittedGrows
-committed_grows laws more c h later config run latest now is new =
-    (between version_of low high all,
-      ap (λ xs. xs ++ between version_of low high all) front ∙ through_on version_of 0 (top_at c w now) low high all (issued_rises laws.contents.nodes c w config run now g'.0 g'.1) through_later.within)
+pub committed_grows : Laws → CommittedGrows
+committed_grows laws c h later config run latest now is new = (
+  between version_of low high all,
+  ap (λ xs. xs ++ between version_of low high all) front ∙ through_on version_of 0 (top_at c w now) low high all (issued_rises laws.contents.nodes c w config run now g'.0 g'.1) through_later.within,
+)
   where
     w : List Turn
     w = later ++ h
@@ -110,18 +109,18 @@ committed_grows laws more c h later config run latest now is new =
     still = still_chosen laws c later h config run latest is.chosen
 
     through_later : IsCommittedThrough c w latest now (least_durable c h latest)
-    through_later = below_is_committed laws more c w config run latest now still new.chosen (new.greatest latest still) low (still_below laws c later h run latest low (least_is_below laws more c h config before latest g.0 is.chosen g.1))
+    through_later = below_is_committed laws c w config run latest now still new.chosen (new.greatest latest still) low (still_below laws c later h run latest low (least_is_below laws c h config before latest g.0 is.chosen g.1))
 
     front : committed c h latest ≡ through version_of low all
     front =
-        sym (issued_still laws c later h config run latest g.0 g.1 low (least_is_numbered laws more c h config before latest g.0 is.chosen g.1))
+        sym (issued_still laws c later h config run latest g.0 g.1 low (least_is_numbered laws c h config before latest g.0 is.chosen g.1))
         ∙ through_later.same
         ∙ through_twice version_of low high all through_later.within
 
 -- ---- the main theorem
 
-pub acknowledged_is_never_undone : Laws → Awaited → (c : Config) (h : List Turn) → IsConfig c → AcknowledgedIsNeverUndone c h
-acknowledged_is_never_undone laws more c h config e v acked = (acknowledged_stands laws more c h config e v acked, never_undone laws more c h config e v acked)
+pub acknowledged_is_never_undone : Laws → (c : Config) (h : List Turn) → IsConfig c → AcknowledgedIsNeverUndone c h
+acknowledged_is_never_undone laws c h config e v acked = (acknowledged_stands laws c h config e v acked, never_undone laws c h config e v acked)
 
-pub headline : Laws → Awaited → Headline
-headline laws more c h config run = (rolled_back_is_exact laws more c h config run, acknowledged_is_never_undone laws more c h config)
+pub headline : Laws → Headline
+headline laws c h config run = (rolled_back_is_exact laws c h config run, acknowledged_is_never_undone laws c h config)

@@ -1,6 +1,5 @@
+pub mod Agreement
 pub mod Storages
-pub mod Ancestors
-pub mod Laws
-pub mod Awaited
 pub mod Committed
 pub mod Headline
+pub mod Laws

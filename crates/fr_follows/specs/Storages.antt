@@ -1,27 +1,21 @@
 -- What each storage server of a run is: it keeps the state of a chosen epoch, and follows that epoch.
-use Rattle.std.specs.Prelude.{◌≡◌, ◌≢◌, ◌≤◌, ◌<◌, ℕ, List, [], ◌∷◌, ◌++◌, length, Option, Some, Contains}
+use Rattle.std.specs.Prelude.{◌≡◌, ◌≢◌, ◌≤◌, ℕ, List, ◌∷◌, Option, Some, Contains}
 use Rattle.fr_base.specs.declared.place.NodeId.{NodeId}
-use Rattle.fr_mutation.specs.declared.mutation.Mutation.{Mutation}
-use Rattle.fr_undo.specs.Canonical.{Commit}
 use Rattle.fr_state.specs.Generations.{LogGeneration}
 use Rattle.fr_ask.specs.declared.tell.Tell.{Tell}
 use Rattle.fr_storage.specs.declared.fault.StorageFault.{StorageFault}
 use Rattle.fr_storage.specs.declared.fault.StorageFault.TheVariants.{Stranger, BelowFloor}
 use Rattle.fr_storage.specs.Storage.{StorageState, own_epoch}
-use Rattle.fr_storage.specs.Follows.{Pieces, Follows}
+use Rattle.fr_storage.specs.Follows.{Follows}
 use Rattle.fr_history.specs.Config.{Config}
 use Rattle.fr_history.specs.Turn.{Turn, StorageHeard}
 use Rattle.fr_history.specs.Nodes.{storage_at}
-use Rattle.fr_history.specs.Run.{IsTurn, IsRun}
+use Rattle.fr_history.specs.Run.{IsRun}
 use Rattle.fr_history.specs.States.{state_of, IsChosenEpoch}
 use Rattle.fr_history.specs.StateLaws.{IsConfig}
 use Rattle.fr_versions.specs.Numbers.{top_at}
 use Rattle.fr_versions.specs.Bounds.{IsBelow}
-use Rattle.fr_contents.specs.Issued.{part}
-
--- what the epochs of a run have for a tag
-abbrev pub pieces_at : Config → List Turn → ℕ → Pieces
-pieces_at c h tag epoch after upto = part c h epoch tag after upto
+use Rattle.fr_follows.specs.Agreement.{pieces_at}
 
 -- a floor that no recovery goes below: in some generation of the list it was known, so each log of that one has reached it, or it is below its first version
 pub record IsSafeFloor (c : Config) (h : List Turn) (gens : List LogGeneration) (floor : ℕ) : Type 0 where

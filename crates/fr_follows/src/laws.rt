@@ -1,5 +1,8 @@
 //! Laws of storage servers, and of what is committed.
-ghost use Rattle.fr_follows.specs.Ancestors.{AncestorsAreFronts, ChosenAreChain, ChosenIsPlanned, ChosenLasts, PartsAgree, PartsArePieces};
+ghost use Rattle.fr_follows.specs.Agreement.{PartsAgree, PartsArePieces};
+ghost use Rattle.fr_follows.specs.Committed.{CommittedGrows, EveryStorageFollows};
+ghost use Rattle.fr_follows.specs.Headline.{Headline};
+ghost use Rattle.fr_follows.specs.Storages.{HearsAreTaken, StoragesFollow};
 ghost use Rattle.fr_follows.specs.Laws.{Laws};
 ghost use Rattle.fr_contents.specs.Laws as contents;
 ghost use Rattle.fr_storage.specs.Laws as storage;
@@ -7,7 +10,7 @@ ghost use Rattle.fr_storage.specs.Laws as storage;
 use fr_history::laws::node_laws;
 use fr_mutation::{after_law, clip_law};
 use fr_state::{cut_law, equal_law, front_law, source_law, spelling_law};
-use fr_storage::follow_law;
+use fr_storage::follow_law as hear_law;
 use fr_tags::laws::{cover_law, shard_fold_law, split_law};
 use fr_tail::laws::copy_law;
 use fr_undo::canonical_law;
@@ -44,18 +47,41 @@ fn lower_laws()
     after_law();
     clip_law();
     shard_fold_law();
-    follow_law();
+    hear_law();
 }
 
-/// The generations of an epoch's state are its ancestors, chosen epochs are one chain, and along it epochs
-/// agree on what they issue.
-pub fn chain_law()
-    ensures ancestors { AncestorsAreFronts }
-    ensures planned { ChosenIsPlanned }
-    ensures lasts { ChosenLasts }
-    ensures chain { ChosenAreChain }
+/// What epochs have for a tag is pieces of commits, and along the generations of an epoch's state they agree
+/// through each cut.
+pub fn agree_law()
     ensures pieces { PartsArePieces }
     ensures agree { PartsAgree }
+{
+    lower_laws();
+}
+
+/// At every moment each storage server keeps the state of a chosen epoch and follows that epoch, also one that ran
+/// ahead, that skipped epochs, or whose hear broke off: it has exactly its shard of the map that the epoch issued
+/// through the version applied. No hear is refused as that of a stranger, nor below the floor.
+pub fn follow_law()
+    ensures storages { StoragesFollow }
+    ensures exact { EveryStorageFollows }
+    ensures taken { HearsAreTaken }
+{
+    lower_laws();
+}
+
+/// The committed list only grows: at each later moment it begins with what it was.
+pub fn committed_law()
+    ensures grows { CommittedGrows }
+{
+    lower_laws();
+}
+
+/// The main theorem. Over every list of commits, pulls, crashes, recoveries and losses of logs, a storage server that
+/// has rolled back holds exactly its shard of the map given by the committed batches through its applied version,
+/// which is at most the recovery version, and no acknowledged commit is ever undone.
+pub fn headline_law()
+    ensures headline { Headline }
 {
     lower_laws();
 }

@@ -1,0 +1,5 @@
+use Rattle.fr_follows.proofs.Standing.{committed_grows}
+use Rattle.fr_follows.proofs.laws.committed_law.Goals as goal
+
+pub returns : goal.returns
+returns c = record { grows = committed_grows c.lower_laws.ensures }

@@ -1,0 +1,5 @@
+use Rattle.fr_follows.proofs.Standing.{headline}
+use Rattle.fr_follows.proofs.laws.headline_law.Goals as goal
+
+pub returns : goal.returns
+returns c = record { headline = headline c.lower_laws.ensures }
