@@ -9,3 +9,4 @@ pub mod Later
 pub mod Durables
 pub mod Exact
 pub mod Standing
+pub mod Retrieving

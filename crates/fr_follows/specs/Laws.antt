@@ -2,7 +2,7 @@
 use Rattle.fr_mutation.specs.Law.{ValueAfterLaw, ClipLaw}
 use Rattle.fr_tags.specs.SplitLaw.{ClipsMakeThePartFromNothing}
 use Rattle.fr_tags.specs.CoverLaw.{HolderIsLeft}
-use Rattle.fr_state.specs.Laws.{NextTells}
+use Rattle.fr_state.specs.Laws.{NextTells, SourceIsNone}
 use Rattle.fr_storage.specs.Law.{PeekedKeepsState, MarkedKeepsTag, MarkedRefused, PeekedRefused, MarkedFollows, PeekedFollows, MarkedBreaks, PeekedBreaks, FirstFollows, FollowsOn}
 use Rattle.fr_storage.specs.Laws as storage
 use Rattle.fr_contents.specs.Laws as contents
@@ -11,6 +11,7 @@ pub record Laws : Type 0 where
   pub contents : contents.Laws
   pub stores : storage.Laws
   pub next_tells : NextTells
+  pub source_none : SourceIsNone
   pub holder_left : HolderIsLeft
   pub values : ValueAfterLaw
   pub clips : ClipLaw

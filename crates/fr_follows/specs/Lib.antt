@@ -1,5 +1,6 @@
 pub mod Agreement
 pub mod Storages
 pub mod Committed
+pub mod Retrievable
 pub mod Headline
 pub mod Laws

@@ -2,6 +2,7 @@
 ghost use Rattle.fr_follows.specs.Agreement.{PartsAgree, PartsArePieces};
 ghost use Rattle.fr_follows.specs.Committed.{CommittedGrows, EveryStorageFollows};
 ghost use Rattle.fr_follows.specs.Headline.{Headline};
+ghost use Rattle.fr_follows.specs.Retrievable.{CommittedIsRetrievable};
 ghost use Rattle.fr_follows.specs.Storages.{HearsAreTaken, StoragesFollow};
 ghost use Rattle.fr_follows.specs.Laws.{Laws};
 ghost use Rattle.fr_contents.specs.Laws as contents;
@@ -43,6 +44,7 @@ fn lower_laws()
     contents_laws();
     store_laws();
     cut_law();
+    source_law();
     cover_law();
     after_law();
     clip_law();
@@ -73,6 +75,14 @@ pub fn follow_law()
 /// The committed list only grows: at each later moment it begins with what it was.
 pub fn committed_law()
     ensures grows { CommittedGrows }
+{
+    lower_laws();
+}
+
+/// While fewer than k logs of each generation are lost, each version of the committed list can be retrieved for each
+/// tag: a log of the version's source that is not lost holds the tag and has exactly what was issued of it there.
+pub fn retrievable_law()
+    ensures retrievable { CommittedIsRetrievable }
 {
     lower_laws();
 }

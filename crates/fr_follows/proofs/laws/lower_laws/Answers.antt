@@ -5,6 +5,7 @@ returns c = record {
   contents = c.contents_laws.ensures;
   stores = c.store_laws.ensures;
   next_tells = c.cut_law.ensures.next;
+  source_none = c.source_law.ensures.none;
   holder_left = c.cover_law.ensures.left;
   values = c.after_law.ensures;
   clips = c.clip_law.ensures;
