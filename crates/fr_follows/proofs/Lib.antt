@@ -10,3 +10,4 @@ pub mod Durables
 pub mod Exact
 pub mod Standing
 pub mod Retrieving
+pub mod Latest

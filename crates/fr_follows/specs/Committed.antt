@@ -110,6 +110,10 @@ IsNeverUndone c h e version = (more after : List Turn) (tag : ℕ) → IsRun c (
 abbrev pub AcknowledgedIsNeverUndone : Config → List Turn → Type 0
 AcknowledgedIsNeverUndone c h = (e version : ℕ) → IsAcknowledged h e version → Stands c h e version × IsNeverUndone c h e version
 
+-- at every moment there is a chosen epoch of the greatest ballot, by which the list is committed
+abbrev pub LatestIsThere : Type 0
+LatestIsThere = (c : Config) (h : List Turn) → IsRun c h → (latest : ℕ) × IsLatest c h latest
+
 -- the committed list only grows
 abbrev pub CommittedGrows : Type 0
 CommittedGrows =

@@ -1,6 +1,6 @@
 //! Laws of storage servers, and of what is committed.
 ghost use Rattle.fr_follows.specs.Agreement.{PartsAgree, PartsArePieces};
-ghost use Rattle.fr_follows.specs.Committed.{CommittedGrows, EveryStorageFollows};
+ghost use Rattle.fr_follows.specs.Committed.{CommittedGrows, EveryStorageFollows, LatestIsThere};
 ghost use Rattle.fr_follows.specs.Headline.{Headline};
 ghost use Rattle.fr_follows.specs.Retrievable.{CommittedIsRetrievable};
 ghost use Rattle.fr_follows.specs.Storages.{HearsAreTaken, StoragesFollow};
@@ -72,8 +72,10 @@ pub fn follow_law()
     lower_laws();
 }
 
-/// The committed list only grows: at each later moment it begins with what it was.
+/// At every moment there is a committed list, by the chosen epoch of the greatest ballot, and it only grows: at each
+/// later moment it begins with what it was.
 pub fn committed_law()
+    ensures latest { LatestIsThere }
     ensures grows { CommittedGrows }
 {
     lower_laws();
