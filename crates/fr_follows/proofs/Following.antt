@@ -1,11 +1,11 @@
 -- Each storage server of a run follows the chosen epoch whose state it keeps.
-use Rattle.std.proofs.Common.{◌≡◌, ◌≢◌, ℕ, ◌<◌, ◌≤◌, Bool, true, false, cond, not, nat_lt, ◌==◌, List, [], ◌∷◌, ◌+◌, Option, None, Some, inl, inr, refl, sym, ◌∙◌, ap, subst, arith}
+use Rattle.std.proofs.Common.{◌≡◌, ◌≢◌, ℕ, ◌<◌, Bool, true, false, cond, not, nat_lt, ◌==◌, List, [], ◌∷◌, ◌+◌, Option, None, Some, inl, inr, refl, sym, ◌∙◌, ap, subst, arith}
 use Rattle.std.specs.Prelude.{is_some, unwrap_or, length}
 use Rattle.std.proofs.lemmas.Bool.{eqb-true, ltb-true}
 use Rattle.fr_base.specs.declared.place.NodeId.{NodeId}
 use Rattle.fr_base.specs.declared.place.NodeId.TheVariants as node
 use Rattle.fr_undo.specs.State.{StoreState}
-use Rattle.fr_state.specs.Generations.{LogGeneration, CoordinatedState}
+use Rattle.fr_state.specs.Generations.{CoordinatedState}
 use Rattle.fr_state.specs.LookUp.{source_of}
 use Rattle.fr_log.specs.Peeked.{PeekedContent}
 use Rattle.fr_log.specs.declared.ask.LogTell.{LogTell}
@@ -23,7 +23,6 @@ use Rattle.fr_history.specs.States.{state_of}
 use Rattle.fr_history.specs.StateLaws.{IsConfig}
 use Rattle.fr_history.proofs.Cells.{Contains-here}
 use Rattle.fr_history.proofs.States.{first_is}
-use Rattle.fr_versions.specs.Numbers.{top_at}
 use Rattle.fr_contents.proofs.Lists.{planned_state_stays}
 use Rattle.fr_contents.proofs.Parts.{part_lasts}
 use Rattle.fr_contents.proofs.Stays.{top_rises}
@@ -34,15 +33,10 @@ use Rattle.fr_follows.specs.Laws.{Laws}
 use Rattle.fr_history.proofs.Chosen.{chosen_is_planned, chosen_lasts}
 use Rattle.fr_follows.proofs.Agreement.{parts_are_pieces}
 use Rattle.fr_follows.proofs.Floors.{floor_later}
-use Rattle.fr_history.specs.Nodes.{generation_at}
-use Rattle.fr_versions.specs.Numbers.{numbers}
 use Rattle.fr_versions.specs.Bounds.{IsBelow}
 use Rattle.fr_versions.proofs.Asked.{marked_is_chosen, peeked_is_own}
-use Rattle.fr_versions.proofs.Numbers.{numbers_stay}
-use Rattle.fr_versions.proofs.Proxies.{batch_stays}
-use Rattle.fr_contents.specs.Issued.{issued}
+use Rattle.fr_contents.specs.Issued.{Entry, issued}
 use Rattle.fr_contents.proofs.Parts.{issued_lasts}
-use Rattle.fr_follows.specs.Committed.{HasCommit}
 use Rattle.fr_follows.proofs.Places.{same_has}
 use Rattle.fr_follows.proofs.Keeping.{HasIn, mark_keeps, broken_mark_keeps, peek_keeps, broken_peek_keeps}
 use Rattle.fr_follows.proofs.Hears.{mark_leads, after_mark, broken_mark, left_at, after_peek, broken_peek}
@@ -82,10 +76,10 @@ lasts laws c h t config run is tag s k =
 -- a hear leaves a server that follows, and that has what it had applied of what is below in an ancestor
 record Moves (c : Config) (h : List Turn) (tag : ℕ) (s n : StorageState) : Type 0 where
   is : IsStorageOf c h tag n
-  keeps : (e v : ℕ) → IsBelow c h e v → HasIn c h s e v → HasIn c h n e v
+  keeps : (entry : Entry) → IsBelow c h entry.origin entry.version → HasIn c h s entry → HasIn c h n entry
 
 stands : (c : Config) (h : List Turn) (tag : ℕ) (s : StorageState) → IsStorageOf c h tag s → Moves c h tag s s
-stands c h tag s k = record { is = k; keeps = λ e v below has. has }
+stands c h tag s k = record { is = k; keeps = λ entry below has. has }
 
 -- a hear that broke off leaves the store that it broke off at
 found_at : (o : Option StoreState) → is_some o ≡ true → (s : StoreState) → o ≡ Some (unwrap_or o s)
@@ -111,7 +105,7 @@ hears_log laws c h config run tag inside s k e i (ltell.Locked d w) told (Some v
 hears_log laws c h config run tag inside s k e i (ltell.Peeked p) told None may =
     let own = (peeked_is_own laws.contents.nodes c h run e i tag p told).0 in
     let true_tell = peeks_are_true laws.contents c h config run e i (node.Storage tag) p told in
-    record { is = after_peek laws c h config run tag s k e i p own inside true_tell; keeps = λ x v below has. peek_keeps laws c h config run tag s k e i p own inside true_tell x v has }
+    record { is = after_peek laws c h config run tag s k e i p own inside true_tell; keeps = λ entry below has. peek_keeps laws c h config run tag s k e i p own inside true_tell entry has }
 hears_log laws c h config run tag inside s k e i (ltell.Peeked p) told (Some v) may =
     let own = (peeked_is_own laws.contents.nodes c h run e i tag p told).0 in
     let true_tell = peeks_are_true laws.contents c h config run e i (node.Storage tag) p told in
@@ -119,12 +113,12 @@ hears_log laws c h config run tag inside s k e i (ltell.Peeked p) told (Some v) 
     let at : broken_at s.store (peeked_calls s e p) v ≡ Some t = found_at (broken_at s.store (peeked_calls s e p) v) may.1 s.store in
     record {
       is = broken_peek laws c h config run tag s k e i p own inside true_tell may.0 v t at;
-      keeps = λ x w below has. broken_peek_keeps laws c h config run tag s k e i p own inside true_tell may.0 v t at x w has;
+      keeps = λ entry below has. broken_peek_keeps laws c h config run tag s k e i p own inside true_tell may.0 v t at entry has;
     }
 hears_log laws c h config run tag inside s k e i (ltell.Marked x) told None may =
     let m = marked_is_chosen laws.contents.nodes c h run e i (node.Storage tag) x told in
     subst (λ (y : CoordinatedState). Moves c h tag s (after_marked s y)) (sym m.1)
-    (record { is = after_mark laws c h config run tag s k e m.0; keeps = λ z v below has. mark_keeps laws c h config run tag s k e m.0 z v below has })
+    (record { is = after_mark laws c h config run tag s k e m.0; keeps = λ entry below has. mark_keeps laws c h config run tag s k e m.0 entry below has })
 hears_log laws c h config run tag inside s k e i (ltell.Marked x) told (Some v) may =
     let m = marked_is_chosen laws.contents.nodes c h run e i (node.Storage tag) x told in
     let y = state_of c h e in
@@ -136,7 +130,7 @@ hears_log laws c h config run tag inside s k e i (ltell.Marked x) told (Some v) 
     let was = k.numbered in
     record {
       is = left_at c h tag s k v _ _ t left (omega (arith, high, was));
-      keeps = λ z w below has. broken_mark_keeps laws c h config run tag s k e m.0 taken v t at z w below has;
+      keeps = λ entry below has. broken_mark_keeps laws c h config run tag s k e m.0 taken v t at entry below has;
     }
 hears_log laws c h config run tag inside s k e i (ltell.Refused why) told None may = stands c h tag s k
 hears_log laws c h config run tag inside s k e i (ltell.Refused why) told (Some v) may = subst (Moves c h tag s) (sym (unmoved s v)) (stands c h tag s k)
@@ -179,27 +173,18 @@ storages_follow laws c (t ∷ h) config run tag =
     lasts laws c h t config run.1 run.0 tag (storage_after t tag (storage_at c h tag)) (step laws c h t config run.1 run.0 tag (storages_follow laws c h config run.1 tag)).is
 
 -- what a server has applied of what is below in an ancestor it has after each turn
-pub keeps_applied : Laws → (c : Config) (h : List Turn) (t : Turn) → IsConfig c → IsRun c h → IsTurn c h t → (tag e v : ℕ) → IsBelow c h e v → HasIn c h (storage_at c h tag) e v → HasIn c (t ∷ h) (storage_at c (t ∷ h) tag) e v
-keeps_applied laws c h t config run is tag e v below has =
+pub keeps_applied : Laws → (c : Config) (h : List Turn) (t : Turn) → IsConfig c → IsRun c h → IsTurn c h t → (tag : ℕ) (entry : Entry) → IsBelow c h entry.origin entry.version → HasIn c h (storage_at c h tag) entry
+    → HasIn c (t ∷ h) (storage_at c (t ∷ h) tag) entry
+keeps_applied laws c h t config run is tag entry below has =
     let n = storage_after t tag (storage_at c h tag) in
     let moves = step laws c h t config run is tag (storages_follow laws c h config run tag) in
-    let now = moves.keeps e v below has in
+    let now = moves.keeps entry below has in
     let own = own_epoch n.state in
     let g = chosen_is_planned laws.contents.nodes c h run own moves.is.chosen in
     let applied = now.applied in
     let numbered = moves.is.numbered in
-    record { commit = commit_later laws c h t config run is own g.0 g.1 e v (omega (arith, applied, numbered)) now.commit; applied = applied }
-  where
-    commit_later : Laws → (c : Config) (h : List Turn) (t : Turn) → IsConfig c → IsRun c h → IsTurn c h t → (own : ℕ) (g : LogGeneration) → generation_at c h own ≡ Some g → (e v : ℕ) → v ≤ top_at c h own
-        → HasCommit h (issued c h own) e v → HasCommit (t ∷ h) (issued c (t ∷ h) own) e v
-    commit_later laws c h t config run is own g at e v le k = record {
-      number = k.number;
-      given = numbers_stay t e (numbers h e) k.number k.given;
-      at = k.at;
-      batch = k.batch;
-      taken = batch_stays t h e k.number.proxy k.number.request k.batch k.taken;
-      there = same_has v (issued c h own) (issued c (t ∷ h) own) _ (sym (issued_lasts laws.contents.nodes c h t config run is own g at v le)) (omega arith) k.there;
-    }
+    let same = issued_lasts laws.contents.nodes c h t config run is own g.0 g.1 entry.version (omega (arith, applied, numbered)) in
+    record { issued = same_has entry.version (issued c h own) (issued c (t ∷ h) own) entry (sym same) (omega arith) now.issued; applied = applied }
 
 -- ---- refusals
 

@@ -27,7 +27,6 @@ use Rattle.fr_contents.proofs.Versions.{through}
 use Rattle.fr_contents.proofs.IssuedLists.{version_of}
 use Rattle.fr_follows.specs.Agreement.{pieces_at}
 use Rattle.fr_follows.specs.Storages.{IsSafeFloor, IsStorageOf}
-use Rattle.fr_follows.specs.Committed.{HasCommit}
 use Rattle.fr_follows.specs.Laws.{Laws}
 use Rattle.fr_history.proofs.Chosen.{chosen_is_planned}
 use Rattle.fr_follows.proofs.Agreement.{planned_epoch, parts_are_pieces}
@@ -62,59 +61,49 @@ issued_from c h (g ∷ n ∷ gens) x k = elim (Contains-append_cases (through ve
 
 -- ---- what a server has applied
 
-pub record HasIn (c : Config) (h : List Turn) (s : StorageState) (e v : ℕ) : Type 0 where
-  pub commit : HasCommit h (issued c h (own_epoch s.state)) e v
-  pub applied : v ≤ s.store.applied
+pub record HasIn (c : Config) (h : List Turn) (s : StorageState) (entry : Entry) : Type 0 where
+  pub issued : Contains (issued c h (own_epoch s.state)) entry
+  pub applied : entry.version ≤ s.store.applied
 
 -- what it has applied is, as a floor, safe, if it is below in its epoch
-has_safe : (c : Config) (h : List Turn) (tag : ℕ) (s : StorageState) → IsStorageOf c h tag s → (e v : ℕ) → IsBelow c h e v → HasIn c h s e v → IsSafeFloor c h (state_of c h (own_epoch s.state)).gens v
-has_safe c h tag s k e v below has =
-    let from = issued_from c h (state_of c h (own_epoch s.state)).gens _ has.commit.there in
-    record { generation = from.0; there = from.1; below = subst (λ x. IsBelow c h x v) (sym from.2) below }
-
-pub commit_in_same : (h : List Turn) (xs ys : List Entry) (e v upto : ℕ) → through version_of upto xs ≡ through version_of upto ys → v ≤ upto → HasCommit h xs e v → HasCommit h ys e v
-commit_in_same h xs ys e v upto same le k = record {
-  number = k.number;
-  given = k.given;
-  at = k.at;
-  batch = k.batch;
-  taken = k.taken;
-  there = same_has upto xs ys _ same le k.there;
-}
+has_safe : (c : Config) (h : List Turn) (tag : ℕ) (s : StorageState) → IsStorageOf c h tag s → (entry : Entry) → IsBelow c h entry.origin entry.version → HasIn c h s entry → IsSafeFloor c h (state_of c h (own_epoch s.state)).gens entry.version
+has_safe c h tag s k entry below has =
+    let from = issued_from c h (state_of c h (own_epoch s.state)).gens entry has.issued in
+    record { generation = from.0; there = from.1; below = subst (λ x. IsBelow c h x entry.version) (sym from.2) below }
 
 -- ---- hears
 
 -- a hear that leaves the state and does not lower the version applied
-pub has_on : (c : Config) (h : List Turn) (s n : StorageState) → n.state ≡ s.state → s.store.applied ≤ n.store.applied → (e v : ℕ) → HasIn c h s e v → HasIn c h n e v
-has_on c h s n same le e v k = record {
-  commit = subst (λ (x : CoordinatedState). HasCommit h (issued c h (own_epoch x)) e v) (sym same) k.commit;
+pub has_on : (c : Config) (h : List Turn) (s n : StorageState) → n.state ≡ s.state → s.store.applied ≤ n.store.applied → (entry : Entry) → HasIn c h s entry → HasIn c h n entry
+has_on c h s n same le entry k = record {
+  issued = subst (λ (x : CoordinatedState). Contains (issued c h (own_epoch x)) entry) (sym same) k.issued;
   applied = (let was = k.applied in omega (arith, was, le));
 }
 
 -- the cut of a later epoch is not below
 cut_above : Laws → (c : Config) (h : List Turn) → IsConfig c → IsRun c h → (tag : ℕ) (s : StorageState) → IsStorageOf c h tag s → (x : ℕ) (g : LogGeneration) → generation_at c h x ≡ Some g → (k : IsLaterSplit c h (own_epoch s.state) x g)
-    → (e v : ℕ) → IsBelow c h e v → HasIn c h s e v → (v ≤ k.next.seeded_to) × (v ≤ cut_in (state_of c h x) (own_epoch s.state))
-cut_above laws c h config run tag s is x g at k e v below has =
-    let safe = floor_within_cut laws c h config run x (own_epoch s.state) g at v (has_safe c h tag s is e v below has) in
-    let low : v ≤ k.next.seeded_to = subst (λ (o : Option ℕ). IfSome o (λ cut. v ≤ cut)) k.cut safe in
+    → (entry : Entry) → IsBelow c h entry.origin entry.version → HasIn c h s entry → (entry.version ≤ k.next.seeded_to) × (entry.version ≤ cut_in (state_of c h x) (own_epoch s.state))
+cut_above laws c h config run tag s is x g at k entry below has =
+    let safe = floor_within_cut laws c h config run x (own_epoch s.state) g at entry.version (has_safe c h tag s is entry below has) in
+    let low : entry.version ≤ k.next.seeded_to = subst (λ (o : Option ℕ). IfSome o (λ cut. entry.version ≤ cut)) k.cut safe in
     let same : cut_in (state_of c h x) (own_epoch s.state) ≡ k.next.seeded_to = ap (λ (o : Option ℕ). unwrap_or o 0) k.cut in
     (low, omega (arith, low, same))
 
-pub mark_keeps : Laws → (c : Config) (h : List Turn) → IsConfig c → IsRun c h → (tag : ℕ) (s : StorageState) → IsStorageOf c h tag s → (x : ℕ) → IsChosenEpoch c h x → (e v : ℕ) → IsBelow c h e v → HasIn c h s e v → HasIn c h (after_marked s (state_of c h x)) e v
-mark_keeps laws c h config run tag s is x chosen e v below has = elim (cases_lt own x) [
+pub mark_keeps : Laws → (c : Config) (h : List Turn) → IsConfig c → IsRun c h → (tag : ℕ) (s : StorageState) → IsStorageOf c h tag s → (x : ℕ) → IsChosenEpoch c h x → (entry : Entry) → IsBelow c h entry.origin entry.version → HasIn c h s entry → HasIn c h (after_marked s (state_of c h x)) entry
+mark_keeps laws c h config run tag s is x chosen entry below has = elim (cases_lt own x) [
   | inl lt ↦ (
       let k = later_split laws c h config run own x g.0 is.chosen chosen g.1 lt in
-      let above = cut_above laws c h config run tag s is x g.0 g.1 k e v below has in
+      let above = cut_above laws c h config run tag s is x g.0 g.1 k entry below has in
       let cut = above.1 in
       let same : (after_marked s y).state ≡ y = leads.state (omega (arith, lt, here)) in
       let epoch : own_epoch (after_marked s y).state ≡ x = ap own_epoch same ∙ here in
       let applied = leads.applied (omega (arith, lt, here)) in
       let was = has.applied in
       record {
-        commit = subst (λ z. HasCommit h (issued c h z) e v) (sym epoch) (commit_in_same h (issued c h own) (issued c h x) e v v (split_issues laws c h config run own x g.0 g.1 k v above.0) (omega arith) has.commit);
+        issued = subst (λ z. Contains (issued c h z) entry) (sym epoch) (same_has entry.version (issued c h own) (issued c h x) entry (split_issues laws c h config run own x g.0 g.1 k entry.version above.0) (omega arith) has.issued);
         applied = omega (arith, applied, was, cut);
       })
-  | inr ge ↦ subst (λ n. HasIn c h n e v) (sym (leads.stays (omega (arith, ge, here)))) has
+  | inr ge ↦ subst (λ n. HasIn c h n entry) (sym (leads.stays (omega (arith, ge, here)))) has
 ]
   where
     own : ℕ
@@ -141,17 +130,17 @@ no_calls s version t e = go (is_broken_at s version s) e
     go false e = absurd (cc)
 
 pub broken_mark_keeps : Laws → (c : Config) (h : List Turn) → IsConfig c → IsRun c h → (tag : ℕ) (s : StorageState) → IsStorageOf c h tag s → (x : ℕ) → IsChosenEpoch c h x → marked_fault s (state_of c h x) ≡ None
-    → (version : ℕ) (t : StoreState) → broken_at s.store (marked_calls s (state_of c h x)) version ≡ Some t → (e v : ℕ) → IsBelow c h e v → HasIn c h s e v → HasIn c h (record s { store = t }) e v
-broken_mark_keeps laws c h config run tag s is x chosen taken version t at e v below has = elim (cases_lt own x) [
+    → (version : ℕ) (t : StoreState) → broken_at s.store (marked_calls s (state_of c h x)) version ≡ Some t → (entry : Entry) → IsBelow c h entry.origin entry.version → HasIn c h s entry → HasIn c h (record s { store = t }) entry
+broken_mark_keeps laws c h config run tag s is x chosen taken version t at entry below has = elim (cases_lt own x) [
   | inl lt ↦ (
       let k = later_split laws c h config run own x g.0 is.chosen chosen g.1 lt in
-      let above = cut_above laws c h config run tag s is x g.0 g.1 k e v below has in
+      let above = cut_above laws c h config run tag s is x g.0 g.1 k entry below has in
       let cut = above.1 in
       let left = broken_mark laws c h config run tag s is x chosen taken version t at in
       let low = left.low in
       let now = left.applied in
       let was = has.applied in
-      record { commit = has.commit; applied = omega (arith, cut, low, now, was) })
+      record { issued = has.issued; applied = omega (arith, cut, low, now, was) })
   | inr ge ↦ (
       let le = leads.later taken in
       let equal : own ≡ x = omega (arith, ge, le, here) in
@@ -160,7 +149,7 @@ broken_mark_keeps laws c h config run tag s is x chosen taken version t at e v b
       let none : marked_calls s (state_of c h x) ≡ [] = ap (λ (b : Bool). cond b [] (UndoTo (cut_in (state_of c h x) own) ∷ SetState (spelling (state_of c h x)) ∷ [])) true_same in
       let store : s.store ≡ t = no_calls s.store version t (ap (λ (calls : List Call). broken_at s.store calls version) (sym none) ∙ at) in
       let applied = ap (λ (u : StoreState). u.applied) store in
-      has_on c h s (record s { store = t }) refl (omega (arith, applied)) e v has)
+      has_on c h s (record s { store = t }) refl (omega (arith, applied)) entry has)
 ]
   where
     own : ℕ
@@ -176,8 +165,8 @@ broken_mark_keeps laws c h config run tag s is x chosen taken version t at e v b
     leads = mark_leads laws c h config run tag s is x chosen
 
 pub peek_keeps : Laws → (c : Config) (h : List Turn) → IsConfig c → IsRun c h → (tag : ℕ) (s : StorageState) → IsStorageOf c h tag s → (x i : ℕ) (p : PeekedContent) → p.tag ≡ tag → tag < length c.begins → IsTrueTell c h x i p
-    → (e v : ℕ) → HasIn c h s e v → HasIn c h (after_peeked s x p) e v
-peek_keeps laws c h config run tag s is x i p same inside told e v has = has_on c h s (after_peeked s x p) (laws.keeps_state s x p) (rises (peeked_fault s x p) refl) e v has
+    → (entry : Entry) → HasIn c h s entry → HasIn c h (after_peeked s x p) entry
+peek_keeps laws c h config run tag s is x i p same inside told entry has = has_on c h s (after_peeked s x p) (laws.keeps_state s x p) (rises (peeked_fault s x p) refl) entry has
   where
     leads : PeekedLeads (pieces_at c h tag) s x p
     leads = peek_leads laws c h config run tag s is x i p same inside told
@@ -187,9 +176,9 @@ peek_keeps laws c h config run tag s is x i p same inside told e v has = has_on 
     rises None at = (let applied = leads.applied at in omega (arith, applied))
 
 pub broken_peek_keeps : Laws → (c : Config) (h : List Turn) → IsConfig c → IsRun c h → (tag : ℕ) (s : StorageState) → IsStorageOf c h tag s → (x i : ℕ) (p : PeekedContent) → p.tag ≡ tag → tag < length c.begins → IsTrueTell c h x i p → peeked_fault s x p ≡ None
-    → (version : ℕ) (t : StoreState) → broken_at s.store (peeked_calls s x p) version ≡ Some t → (e v : ℕ) → HasIn c h s e v → HasIn c h (record s { store = t }) e v
-broken_peek_keeps laws c h config run tag s is x i p same inside told taken version t at e v has =
+    → (version : ℕ) (t : StoreState) → broken_at s.store (peeked_calls s x p) version ≡ Some t → (entry : Entry) → HasIn c h s entry → HasIn c h (record s { store = t }) entry
+broken_peek_keeps laws c h config run tag s is x i p same inside told taken version t at entry has =
     let left = laws.peeked_breaks (pieces_at c h tag) s x p version t (parts_are_pieces laws c h config run tag) is.follows (own_agrees laws c h config run tag s is) (true_peek c h tag x i p same inside told) taken at in
     let low = left.low in
     let now = left.applied in
-    has_on c h s (record s { store = t }) refl (omega (arith, low, now)) e v has
+    has_on c h s (record s { store = t }) refl (omega (arith, low, now)) entry has

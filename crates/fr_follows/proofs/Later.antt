@@ -1,5 +1,5 @@
 -- What is so at a moment of a run, and at every later one.
-use Rattle.std.proofs.Common.{◌≡◌, ℕ, ◌≤◌, List, [], ◌∷◌, ◌++◌, Some, refl, ◌∙◌, arith}
+use Rattle.std.proofs.Common.{◌≡◌, ℕ, ◌≤◌, List, [], ◌∷◌, ◌++◌, Some, inr, refl, ◌∙◌, arith}
 use Rattle.std.specs.List.{Contains}
 use Rattle.fr_mutation.specs.declared.mutation.Mutation.{Mutation}
 use Rattle.fr_state.specs.Generations.{LogGeneration}
@@ -7,10 +7,9 @@ use Rattle.fr_history.specs.Config.{Config}
 use Rattle.fr_history.specs.Turn.{Turn}
 use Rattle.fr_history.specs.Nodes.{generation_at}
 use Rattle.fr_history.specs.Run.{IsRun}
-use Rattle.fr_history.specs.Batches.{batch_at, IsAcknowledged}
+use Rattle.fr_history.specs.Batches.{batch_at}
 use Rattle.fr_history.specs.States.{IsChosenEpoch}
 use Rattle.fr_history.specs.StateLaws.{IsConfig}
-use Rattle.fr_history.proofs.Cells.{Contains-later}
 use Rattle.fr_history.proofs.Growth.{generation_stays}
 use Rattle.fr_versions.specs.Numbers.{Numbering, numbers, top_at}
 use Rattle.fr_versions.specs.Bounds.{IsBelow}
@@ -22,6 +21,7 @@ use Rattle.fr_contents.proofs.Versions.{through}
 use Rattle.fr_contents.proofs.IssuedLists.{version_of}
 use Rattle.fr_contents.proofs.Parts.{issued_lasts}
 use Rattle.fr_contents.proofs.Stays.{top_rises}
+use Rattle.fr_follows.specs.Committed.{IsAcknowledgedBatch}
 use Rattle.fr_follows.specs.Laws.{Laws}
 use Rattle.fr_history.proofs.Chosen.{chosen_lasts}
 
@@ -64,9 +64,6 @@ pub still_taken : (more h : List Turn) (e p r : ℕ) (batch : List Mutation) →
 still_taken [] h e p r batch k = k
 still_taken (t ∷ more) h e p r batch k = batch_stays t (more ++ h) e p r batch (still_taken more h e p r batch k)
 
-still_there : (more h : List Turn) (t : Turn) → Contains h t → Contains (more ++ h) t
-still_there [] h t k = k
-still_there (u ∷ more) h t k = Contains-later u (more ++ h) t (still_there more h t k)
-
-pub still_acknowledged : (more h : List Turn) (e v : ℕ) → IsAcknowledged h e v → IsAcknowledged (more ++ h) e v
-still_acknowledged more h e v k = record { proxy = k.proxy; from = k.from; tell = k.tell; asks = k.asks; turn = still_there more h _ k.turn }
+pub still_acknowledged : (c : Config) (more h : List Turn) (e v : ℕ) (batch : List Mutation) → IsAcknowledgedBatch c h e v batch → IsAcknowledgedBatch c (more ++ h) e v batch
+still_acknowledged c [] h e v batch k = k
+still_acknowledged c (t ∷ more) h e v batch k = inr (still_acknowledged c more h e v batch k)

@@ -1,23 +1,23 @@
 -- At every moment there is a chosen epoch of the greatest ballot.
-use Rattle.std.proofs.Common.{◌≡◌, ◌≢◌, ℕ, zero, suc, ◌+◌, ◌*◌, ◌<◌, ◌≤◌, ◌^◌, Bool, true, false, cond, ◌==◌, ◌&&◌, ◌||◌, nat_eq, filter, List, [], ◌∷◌, length, Option, None, Some, inl, inr, ◌⊎◌, refl, sym, ◌∙◌, ap, subst, arith}
-use Rattle.std.specs.List.{All, AllByRecursion, Contains, IsDistinct, list_any, range_with_len}
-use Rattle.std.proofs.lemmas.Bool.{and_from, and_parts, cases_lt, cases_Bool, eq-eqb, eqb-true, ne_eqb}
+use Rattle.std.proofs.Common.{◌≡◌, ℕ, zero, suc, ◌+◌, ◌*◌, ◌<◌, ◌≤◌, ◌^◌, Bool, true, false, cond, ◌==◌, ◌&&◌, ◌||◌, nat_eq, filter, List, [], ◌∷◌, length, inl, inr, ◌⊎◌, refl, sym, ◌∙◌, ap, subst, arith}
+use Rattle.std.specs.List.{AllByRecursion, Contains, IsDistinct, list_any, range_with_len}
+use Rattle.std.proofs.lemmas.Bool.{and_from, and_parts, cases_lt, eq-eqb, eqb-true, ne_eqb}
 use Rattle.std.proofs.lemmas.Cmp.{nat_eq_equiv}
-use Rattle.std.proofs.lemmas.List.Elements.{All-from_recursion, All-contains}
+use Rattle.std.proofs.lemmas.List.Elements.{All-from_recursion}
 use Rattle.std.proofs.lemmas.Map.Made.{length-le_from_is_member}
 use Rattle.fr_base.proofs.ListLemmas.{All-found}
 use Rattle.fr_register.specs.Poll.{Stamped}
 use Rattle.fr_register.specs.History as register
-use Rattle.fr_register.specs.Chosen.{IsMajority, IsWrittenByMajority}
+use Rattle.fr_register.specs.Chosen.{IsWrittenByMajority}
 use Rattle.fr_ask.specs.Cells.{is_same_cell_ask, is_same_cell_ask-IsSameness, is_same_cell_tell, is_same_cell_tell-IsSameness}
 use Rattle.fr_history.specs.Config.{Config, first_epoch}
 use Rattle.fr_history.specs.Turn.{Turn, cell_turns}
 use Rattle.fr_history.specs.Run.{IsRun}
-use Rattle.fr_history.specs.States.{pair_of, IsChosenEpoch, IsLatest}
+use Rattle.fr_history.specs.States.{pair_of, IsChosenEpoch}
 use Rattle.fr_history.proofs.Cells.{Contains-here, Contains-later, Contains-none, Contains-cases}
 use Rattle.fr_history.proofs.Chosen.{first_is_chosen, chosen_is_planned}
 use Rattle.fr_history.proofs.Growth.{rec_is}
-use Rattle.fr_versions.proofs.Behind.{IsPlannedBy, planned_by}
+use Rattle.fr_versions.proofs.Behind.{planned_by}
 use Rattle.fr_follows.specs.Committed.{LatestIsThere}
 use Rattle.fr_follows.specs.Laws.{Laws}
 use Rattle.fr_follows.proofs.Places.{filter_has}
@@ -115,20 +115,20 @@ any_has q (x ∷ xs) k = elim (Contains-cases x xs q k) [
 majority_or_not : (n : ℕ) (ts : List register.Turn) (p : Stamped) → IsWrittenByMajority n ts p ⊎ (IsWrittenByMajority n ts p → ⊥)
 majority_or_not n ts p = elim (cases_lt n (2 * length (voters n ts p))) [
   | inl more ↦ inl (record {
-      who = voters n ts p;
-      majority = record {
-        distinct = are_distinct (λ i. has ts (register.written_turn i p)) 0 n;
-        below = All-from_recursion (λ i. i < n) (voters n ts p) (each_is (λ i. i < n) (λ i. has ts (register.written_turn i p)) 0 n (λ i l u e. omega (arith, u)));
-        more = more;
-      };
-      each = All-from_recursion (λ i. Contains ts (register.written_turn i p)) (voters n ts p) (each_is (λ i. Contains ts (register.written_turn i p)) (λ i. has ts (register.written_turn i p)) 0 n (λ i l u e. has_is ts (register.written_turn i p) e));
-    })
+    who = voters n ts p;
+    majority = record {
+      distinct = are_distinct (λ i. has ts (register.written_turn i p)) 0 n;
+      below = All-from_recursion (λ i. i < n) (voters n ts p) (each_is (λ i. i < n) (λ i. has ts (register.written_turn i p)) 0 n (λ i l u e. omega (arith, u)));
+      more = more;
+    };
+    each = All-from_recursion (λ i. Contains ts (register.written_turn i p)) (voters n ts p) (each_is (λ i. Contains ts (register.written_turn i p)) (λ i. has ts (register.written_turn i p)) 0 n (λ i l u e. has_is ts (register.written_turn i p) e));
+  })
   | inr few ↦ inr (λ k. (
       let m = k.majority.more in
       let le = length-le_from_is_member nat_eq_equiv k.who (voters n ts p) k.majority.distinct (λ q in_who. (
-          let below = All-found (λ i. i < n) q k.who in_who k.majority.below in
-          let vote = All-found (λ i. Contains ts (register.written_turn i p)) q k.who in_who k.each in
-          any_has q (voters n ts p) (filter_has (λ i. has ts (register.written_turn i p)) (range_with_len 0 n) q (range_has 0 n q (omega arith) (omega (arith, below))) (is_has ts (register.written_turn q p) vote)))) in
+      let below = All-found (λ i. i < n) q k.who in_who k.majority.below in
+      let vote = All-found (λ i. Contains ts (register.written_turn i p)) q k.who in_who k.each in
+      any_has q (voters n ts p) (filter_has (λ i. has ts (register.written_turn i p)) (range_with_len 0 n) q (range_has 0 n q (omega arith) (omega (arith, below))) (is_has ts (register.written_turn q p) vote)))) in
       omega (arith, few, m, le)))
 ]
 
@@ -154,10 +154,14 @@ search_up c h (suc n) = go (chosen_or_not c h (first_epoch + suc n)) (search_up 
     go : IsChosenEpoch c h (first_epoch + suc n) ⊎ (IsChosenEpoch c h (first_epoch + suc n) → ⊥) → (e : ℕ) × IsChosenEpoch c h e × ((d : ℕ) → IsChosenEpoch c h d → d ≤ first_epoch + n → d ≤ e)
         → (e : ℕ) × IsChosenEpoch c h e × ((d : ℕ) → IsChosenEpoch c h d → d ≤ first_epoch + suc n → d ≤ e)
     go (inl holds) rest = (first_epoch + suc n, holds, (λ d k le. le))
-    go (inr fails) (e, chosen, below) = (e, chosen, (λ d k le. elim (cases_lt d (first_epoch + suc n)) [
+    go (inr fails) (e, chosen, below) = (
+      e,
+      chosen,
+      (λ d k le. elim (cases_lt d (first_epoch + suc n)) [
         | inl lt ↦ below d k (omega (arith, lt))
         | inr ge ↦ (let same : d ≡ first_epoch + suc n = omega (arith, le, ge) in absurd (fails (subst (IsChosenEpoch c h) same k)))
-      ]))
+      ]),
+    )
 
 chosen_within : Laws → (c : Config) (h : List Turn) → IsRun c h → (d : ℕ) → IsChosenEpoch c h d → d ≤ first_epoch + 2 ^ 48
 chosen_within laws c h run d chosen =

@@ -8,6 +8,7 @@ pub mod Following
 pub mod Later
 pub mod Durables
 pub mod Exact
+pub mod Acknowledging
 pub mod Standing
 pub mod Retrieving
 pub mod Latest

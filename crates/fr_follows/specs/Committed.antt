@@ -1,9 +1,10 @@
 -- What storage servers hold of what is committed, and that nothing acknowledged is undone.
-use Rattle.std.specs.Prelude.{◌≡◌, ◌<◌, ◌≤◌, ℕ, List, ◌∷◌, ◌++◌, Option, None, Some, Contains}
+use Rattle.std.specs.Prelude.{◌≡◌, ◌<◌, ◌≤◌, ◌⊎◌, ℕ, List, [], ◌∷◌, ◌++◌, Option, None, Some, Contains}
 use Rattle.std.specs.List.{filter_map}
 use Rattle.std.specs.Option.{option_map}
 use Rattle.std.specs.FinMap.{empty}
 use Rattle.fr_base.specs.Map.{Map}
+use Rattle.fr_base.specs.declared.place.NodeId.{NodeId}
 use Rattle.fr_base.specs.declared.place.NodeId.TheVariants as node
 use Rattle.fr_mutation.specs.declared.mutation.Mutation.{Mutation}
 use Rattle.fr_mutation.specs.Shard as shard
@@ -13,16 +14,18 @@ use Rattle.fr_state.specs.Generations.{CoordinatedState}
 use Rattle.fr_state.specs.LookUp.{cut_of}
 use Rattle.fr_state.specs.Spelling.{spelling}
 use Rattle.fr_log.specs.declared.ask.LogTell.TheVariants.{Marked}
+use Rattle.fr_ask.specs.declared.tell.Tell.{Tell}
 use Rattle.fr_ask.specs.declared.tell.Tell.TheVariants as tell
+use Rattle.fr_proxy.specs.Proxy.{Open}
+use Rattle.fr_proxy.specs.declared.outcome.Outcome.TheVariants.{Committed}
 use Rattle.fr_storage.specs.Storage.{StorageState, own_epoch}
 use Rattle.fr_history.specs.Config.{Config}
-use Rattle.fr_history.specs.Turn.{Turn, StorageHeard}
-use Rattle.fr_history.specs.Nodes.{storage_at}
+use Rattle.fr_history.specs.Turn.{Turn, Sending, ProxyHeard, StorageHeard}
+use Rattle.fr_history.specs.Nodes.{proxy_at, storage_at}
 use Rattle.fr_history.specs.Run.{IsRun}
-use Rattle.fr_history.specs.Batches.{batch_at, IsAcknowledged}
+use Rattle.fr_history.specs.Batches.{IsAcknowledged}
 use Rattle.fr_history.specs.States.{state_of, IsChosenEpoch, IsLatest}
 use Rattle.fr_history.specs.StateLaws.{IsConfig}
-use Rattle.fr_versions.specs.Numbers.{Numbering, numbers}
 use Rattle.fr_contents.specs.Issued.{Entry, issued, part, least_durable, committed}
 use Rattle.fr_contents.specs.IssuedLaws.{through}
 
@@ -85,30 +88,50 @@ RolledBackIsExact c h = (tag latest : ℕ) (r : HasRolledBack c h tag) → IsLat
 
 -- ---- acknowledged commits
 
--- some entries have the commit of an epoch's version: the batch of the request that its sequencer gave this number
-pub record HasCommit (h : List Turn) (xs : List Entry) (e version : ℕ) : Type 0 where
-  pub number : Numbering
-  pub given : Contains (numbers h e) number
-  pub at : number.version ≡ version
-  pub batch : List Mutation
-  pub taken : batch_at h e number.proxy number.request ≡ Some batch
-  pub there : Contains xs (record { version = version; origin = e; batch = Some batch })
+abbrev pub batch_under_way : Option Open → Option (List Mutation)
+batch_under_way None = None
+batch_under_way (Some o) = Some o.batch
 
--- a storage server has applied such a commit: what its own epoch issued has it, and the version applied is not below it
-pub record HasApplied (c : Config) (h : List Turn) (tag e version : ℕ) : Type 0 where
-  pub commit : HasCommit h (issued c h (own_epoch (storage_at c h tag).state)) e version
-  pub applied : version ≤ applied_at c h tag
+-- a turn acknowledges a batch at a version of an epoch: a proxy of the epoch, with this batch under way, answers that this version is committed
+pub record Acknowledges (c : Config) (before : List Turn) (t : Turn) (e version : ℕ) (batch : List Mutation) : Type 0 where
+  pub proxy : ℕ
+  pub from : NodeId
+  pub heard : Tell
+  pub asks : List Sending
+  pub is : t ≡ ProxyHeard e proxy from heard (Committed version) asks
+  pub under_way : batch_under_way (proxy_at c before e proxy).under_way ≡ Some batch
 
--- a commit stands in the committed list of every later moment
-abbrev pub Stands : Config → List Turn → ℕ → ℕ → Type 0
-Stands c h e version = (more : List Turn) → IsRun c (more ++ h) → (latest : ℕ) → IsLatest c (more ++ h) latest → HasCommit (more ++ h) (committed c (more ++ h) latest) e version
+-- a batch was acknowledged at a version of an epoch
+abbrev pub IsAcknowledgedBatch : Config → List Turn → ℕ → ℕ → List Mutation → Type 0
+IsAcknowledgedBatch c [] e version batch = ⊥
+IsAcknowledgedBatch c (t ∷ h) e version batch = Acknowledges c h t e version batch ⊎ IsAcknowledgedBatch c h e version batch
 
--- no storage server that has applied it undoes it, now or later
-abbrev pub IsNeverUndone : Config → List Turn → ℕ → ℕ → Type 0
-IsNeverUndone c h e version = (more after : List Turn) (tag : ℕ) → IsRun c (after ++ (more ++ h)) → HasApplied c (more ++ h) tag e version → HasApplied c (after ++ (more ++ h)) tag e version
+-- each version that was acknowledged was so with a batch
+abbrev pub AcknowledgedHasBatch : Type 0
+AcknowledgedHasBatch = (c : Config) (h : List Turn) → IsRun c h → (e version : ℕ) → IsAcknowledged h e version → (batch : List Mutation) × IsAcknowledgedBatch c h e version batch
+
+-- the entry of a batch that an epoch numbered
+abbrev pub commit_at : ℕ → ℕ → List Mutation → Entry
+commit_at e version batch = record { version = version; origin = e; batch = Some batch }
+
+-- a storage server has applied an entry: what its own epoch issued has it, and the version applied is not below it
+pub record HasApplied (c : Config) (h : List Turn) (tag : ℕ) (entry : Entry) : Type 0 where
+  pub issued : Contains (issued c h (own_epoch (storage_at c h tag).state)) entry
+  pub applied : entry.version ≤ applied_at c h tag
+
+-- an entry stands in the committed list of every moment from now on
+abbrev pub Stands : Config → List Turn → Entry → Type 0
+Stands c h entry = (more : List Turn) → IsRun c (more ++ h) → (latest : ℕ) → IsLatest c (more ++ h) latest → Contains (committed c (more ++ h) latest) entry
+
+-- no storage server that has applied it, now or at a later moment, undoes it after that
+abbrev pub IsNeverUndone : Config → List Turn → Entry → Type 0
+IsNeverUndone c h entry = (more after : List Turn) (tag : ℕ) → IsRun c (after ++ (more ++ h)) → HasApplied c (more ++ h) tag entry → HasApplied c (after ++ (more ++ h)) tag entry
 
 abbrev pub AcknowledgedIsNeverUndone : Config → List Turn → Type 0
-AcknowledgedIsNeverUndone c h = (e version : ℕ) → IsAcknowledged h e version → Stands c h e version × IsNeverUndone c h e version
+AcknowledgedIsNeverUndone c h =
+    (e version : ℕ) (batch : List Mutation) → IsAcknowledgedBatch c h e version batch → Stands c h (commit_at e version batch) × IsNeverUndone c h (commit_at e version batch)
+
+-- ---- the committed list
 
 -- at every moment there is a chosen epoch of the greatest ballot, by which the list is committed
 abbrev pub LatestIsThere : Type 0

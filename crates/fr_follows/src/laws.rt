@@ -1,6 +1,6 @@
 //! Laws of storage servers, and of what is committed.
 ghost use Rattle.fr_follows.specs.Agreement.{PartsAgree, PartsArePieces};
-ghost use Rattle.fr_follows.specs.Committed.{CommittedGrows, EveryStorageFollows, LatestIsThere};
+ghost use Rattle.fr_follows.specs.Committed.{AcknowledgedHasBatch, CommittedGrows, EveryStorageFollows, LatestIsThere};
 ghost use Rattle.fr_follows.specs.Headline.{Headline};
 ghost use Rattle.fr_follows.specs.Retrievable.{CommittedIsRetrievable};
 ghost use Rattle.fr_follows.specs.Storages.{HearsAreTaken, StoragesFollow};
@@ -91,9 +91,11 @@ pub fn retrievable_law()
 
 /// The main theorem. Over every list of commits, pulls, crashes, recoveries and losses of logs, a storage server that
 /// has rolled back holds exactly its shard of the map given by the committed batches through its applied version,
-/// which is at most the recovery version, and no acknowledged commit is ever undone.
+/// which is at most the recovery version, and no acknowledged commit is ever undone. Each version that a proxy answers
+/// to be committed is acknowledged with the batch that the proxy has under way.
 pub fn headline_law()
     ensures headline { Headline }
+    ensures batches { AcknowledgedHasBatch }
 {
     lower_laws();
 }
