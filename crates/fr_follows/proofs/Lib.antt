@@ -12,3 +12,4 @@ pub mod Acknowledging
 pub mod Standing
 pub mod Retrieving
 pub mod Latest
+pub mod Ordering

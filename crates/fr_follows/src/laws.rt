@@ -2,6 +2,7 @@
 ghost use Rattle.fr_follows.specs.Agreement.{PartsAgree, PartsArePieces};
 ghost use Rattle.fr_follows.specs.Committed.{AcknowledgedHasBatch, CommittedGrows, EveryStorageFollows, LatestIsThere};
 ghost use Rattle.fr_follows.specs.Headline.{Headline};
+ghost use Rattle.fr_follows.specs.Order.{AcknowledgedIsNeverCut, FloorIsNeverCut, HeldIsChosen, KnownIsNeverCut};
 ghost use Rattle.fr_follows.specs.Retrievable.{CommittedIsRetrievable};
 ghost use Rattle.fr_follows.specs.Storages.{HearsAreTaken, StoragesFollow};
 ghost use Rattle.fr_follows.specs.Laws.{Laws};
@@ -77,6 +78,17 @@ pub fn follow_law()
 pub fn committed_law()
     ensures latest { LatestIsThere }
     ensures grows { CommittedGrows }
+{
+    lower_laws();
+}
+
+/// What a log knows, what was acknowledged and the floor of a storage server are not above the cut of their epoch in any
+/// state that goes on from it; and logs hold pushes of chosen epochs alone.
+pub fn order_law()
+    ensures known { KnownIsNeverCut }
+    ensures acknowledged { AcknowledgedIsNeverCut }
+    ensures floors { FloorIsNeverCut }
+    ensures held { HeldIsChosen }
 {
     lower_laws();
 }
