@@ -8,6 +8,7 @@ ghost use Rattle.fr_follows.specs.Storages.{HearsAreTaken, StoragesFollow};
 ghost use Rattle.fr_follows.specs.Laws.{Laws};
 ghost use Rattle.fr_contents.specs.Laws as contents;
 ghost use Rattle.fr_storage.specs.Laws as storage;
+ghost use Rattle.fr_undo.specs.Law.{InverseLaw};
 
 use fr_history::laws::node_laws;
 use fr_mutation::{after_law, clip_law};
@@ -15,7 +16,7 @@ use fr_state::{cut_law, equal_law, front_law, source_law, spelling_law};
 use fr_storage::follow_law as hear_law;
 use fr_tags::laws::{cover_law, shard_fold_law, split_law};
 use fr_tail::laws::copy_law;
-use fr_undo::canonical_law;
+use fr_undo::{canonical_law, inverse_law};
 
 /// The laws of what logs hold.
 fn contents_laws()
@@ -93,21 +94,23 @@ pub fn order_law()
     lower_laws();
 }
 
-/// While fewer than k logs of each generation are lost, each version of the committed list can be retrieved for each
-/// tag: a log of the version's source that is not lost holds the tag and has exactly what was issued of it there.
-pub fn retrievable_law()
-    ensures retrievable { CommittedIsRetrievable }
+/// Each version that a proxy answers to be committed is acknowledged with the batch that the proxy has under way.
+pub fn acknowledged_law()
+    ensures batches { AcknowledgedHasBatch }
 {
     lower_laws();
 }
 
-/// The main theorem. Over every list of commits, pulls, crashes, recoveries and losses of logs, a storage server that
-/// has rolled back holds exactly its shard of the map given by the committed batches through its applied version,
-/// which is at most the recovery version, and no acknowledged commit is ever undone. Each version that a proxy answers
-/// to be committed is acknowledged with the batch that the proxy has under way.
+/// The main theorem. On every state of a store a batch applied and then undone is the identity; hence, over every list
+/// of commits, pulls, crashes, recoveries and losses of fewer than k logs of each generation, a storage server that has
+/// rolled back holds exactly its shard of the map given by the committed batches through its applied version, which is
+/// at most the recovery version, and no acknowledged commit is ever undone. Only that what is committed can be
+/// retrieved wants fewer than k logs to be lost; the rest holds whatever is lost.
 pub fn headline_law()
+    ensures undo { InverseLaw }
     ensures headline { Headline }
-    ensures batches { AcknowledgedHasBatch }
+    ensures retrievable { CommittedIsRetrievable }
 {
+    inverse_law();
     lower_laws();
 }

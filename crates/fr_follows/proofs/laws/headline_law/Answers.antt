@@ -1,6 +1,8 @@
-use Rattle.fr_follows.proofs.Acknowledging.{acknowledged_has_batch}
+use Rattle.fr_follows.proofs.Retrieving.{committed_is_retrievable}
 use Rattle.fr_follows.proofs.Standing.{headline}
 use Rattle.fr_follows.proofs.laws.headline_law.Goals as goal
 
 pub returns : goal.returns
-returns c = record { headline = headline c.lower_laws.ensures; batches = acknowledged_has_batch c.lower_laws.ensures }
+returns c =
+    let laws = c.lower_laws.ensures in
+    record { undo = c.inverse_law.ensures; headline = headline laws; retrievable = committed_is_retrievable laws }
