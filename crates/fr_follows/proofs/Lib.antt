@@ -13,3 +13,4 @@ pub mod Standing
 pub mod Retrieving
 pub mod Latest
 pub mod Ordering
+pub mod Example

@@ -4,4 +4,5 @@ pub mod Committed
 pub mod Order
 pub mod Retrievable
 pub mod Headline
+pub mod Example
 pub mod Laws

@@ -1,6 +1,7 @@
 //! Laws of storage servers, and of what is committed.
 ghost use Rattle.fr_follows.specs.Agreement.{PartsAgree, PartsArePieces};
 ghost use Rattle.fr_follows.specs.Committed.{AcknowledgedHasBatch, CommittedGrows, EveryStorageFollows, LatestIsThere};
+ghost use Rattle.fr_follows.specs.Example.{RollbackHappens};
 ghost use Rattle.fr_follows.specs.Headline.{Headline};
 ghost use Rattle.fr_follows.specs.Order.{AcknowledgedIsNeverCut, FloorIsNeverCut, HeldIsChosen, KnownIsNeverCut};
 ghost use Rattle.fr_follows.specs.Retrievable.{CommittedIsRetrievable};
@@ -114,3 +115,8 @@ pub fn headline_law()
     inverse_law();
     lower_laws();
 }
+
+/// The theorem says something: there is a run in which a storage server ran ahead of what survived, and rolled back.
+pub fn example_law()
+    ensures { RollbackHappens }
+{}
