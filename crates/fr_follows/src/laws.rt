@@ -116,7 +116,8 @@ pub fn headline_law()
     lower_laws();
 }
 
-/// The theorem says something: there is a run in which a storage server ran ahead of what survived, and rolled back.
+/// The theorem says something: there is a run in which a batch is acknowledged, a storage server runs ahead of what
+/// survives, one of two logs is lost, and the storage server rolls back by one version.
 pub fn example_law()
     ensures { RollbackHappens }
 {}
