@@ -14,3 +14,4 @@ pub mod Retrieving
 pub mod Latest
 pub mod Ordering
 pub mod Example
+pub mod Consistent

@@ -3,7 +3,7 @@ ghost use Rattle.fr_follows.specs.Agreement.{PartsAgree, PartsArePieces};
 ghost use Rattle.fr_follows.specs.Committed.{AcknowledgedHasBatch, CommittedGrows, EveryStorageFollows, LatestIsThere};
 ghost use Rattle.fr_follows.specs.Example.{RollbackHappens};
 ghost use Rattle.fr_follows.specs.Headline.{Headline};
-ghost use Rattle.fr_follows.specs.Order.{AcknowledgedIsNeverCut, FloorIsNeverCut, HeldIsChosen, KnownIsNeverCut};
+ghost use Rattle.fr_follows.specs.Order.{AcknowledgedIsNeverCut, FloorIsNeverCut, HeldIsChosen, KnownIsNeverCut, NeverInconsistent};
 ghost use Rattle.fr_follows.specs.Retrievable.{CommittedIsRetrievable};
 ghost use Rattle.fr_follows.specs.Storages.{HearsAreTaken, StoragesFollow};
 ghost use Rattle.fr_follows.specs.Laws.{Laws};
@@ -85,12 +85,13 @@ pub fn committed_law()
 }
 
 /// What a log knows, what was acknowledged and the floor of a storage server are not above the cut of their epoch in any
-/// state that goes on from it; and logs hold pushes of chosen epochs alone.
+/// state that goes on from it; logs hold pushes of chosen epochs alone; and no recoverer finds its replies at odds.
 pub fn order_law()
     ensures known { KnownIsNeverCut }
     ensures acknowledged { AcknowledgedIsNeverCut }
     ensures floors { FloorIsNeverCut }
     ensures held { HeldIsChosen }
+    ensures consistent { NeverInconsistent }
 {
     lower_laws();
 }
