@@ -12,9 +12,10 @@ use Rattle.fr_history.specs.Run.{IsTurn, IsRun}
 use Rattle.fr_history.specs.States.{state_in, state_of}
 use Rattle.fr_history.specs.StateLaws.{IsConfig}
 use Rattle.fr_history.specs.Laws.{Laws}
-use Rattle.fr_history.proofs.Growth.{rec_is, plan_grows}
+use Rattle.fr_history.proofs.Growth.{rec_is}
 use Rattle.fr_history.proofs.Register.{has_found}
-use Rattle.fr_history.proofs.States.{recoverers_have_states}
+use Rattle.fr_history.proofs.States.{last_more, recoverers_have_states}
+use Rattle.fr_history.proofs.Chosen.{state_lasts}
 use Rattle.fr_versions.specs.Numbers.{top_at}
 use Rattle.fr_versions.proofs.Pushes.{plan_is}
 use Rattle.fr_versions.proofs.Ends.{always_chained, seed_is_reached}
@@ -42,11 +43,6 @@ pub reaches : (top : ℕ → ℕ) (gens : List LogGeneration) (g : LogGeneration
 reaches top [] g upto last l all = absurd (cc)
 reaches top (x ∷ []) g upto last l all = let same : x ≡ g = cc in subst (λ y. upto ≤ top y.epoch) (sym same) l
 reaches top (x ∷ y ∷ gens) g upto last l all = (all.0, reaches top (y ∷ gens) g upto last l all.1)
-
-pub last_more : (gens : List LogGeneration) (n : LogGeneration) → last_of (gens ++ n ∷ []) ≡ Some n
-last_more [] n = refl
-last_more (x ∷ []) n = refl
-last_more (x ∷ y ∷ gens) n = last_more (y ∷ gens) n
 
 -- ---- plans
 
@@ -129,12 +125,4 @@ list_gains laws c h t run is gens each =
 
 -- the state of an epoch that is planned stays
 pub planned_state_stays : Laws → (c : Config) (h : List Turn) (t : Turn) → IsRun c h → IsTurn c h t → (e : ℕ) (g : LogGeneration) → generation_at c h e ≡ Some g → state_of c (t ∷ h) e ≡ state_of c h e
-planned_state_stays laws c h t run is e g at = go (e == first_epoch) at
-  where
-    planned : (o : Option Plan) → plan_at c h e ≡ o → generation_in o ≡ Some g → state_in c (plan_at c (t ∷ h) e) ≡ state_in c o
-    planned None at k = absurd (cc)
-    planned (Some p) at k = let q = plan_grows laws c h t run is e p at in ap (state_in c) q.is ∙ q.grows.state
-
-    go : (s : Bool) → cond s (Some (first_generation c)) (generation_in (plan_at c h e)) ≡ Some g → cond s (first_state c) (state_in c (plan_at c (t ∷ h) e)) ≡ cond s (first_state c) (state_in c (plan_at c h e))
-    go true k = refl
-    go false k = planned (plan_at c h e) refl k
+planned_state_stays laws c h t run is e g at = (state_lasts laws c h t run is e g at).1

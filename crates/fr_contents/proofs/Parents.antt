@@ -1,35 +1,31 @@
 -- The state that a recoverer took over is that of the epoch that it ends, and its own is that with one generation more.
-use Rattle.std.proofs.Common.{◌≡◌, ℕ, ◌≤◌, Bool, true, false, cond, ◌==◌, List, [], ◌∷◌, ◌++◌, Some, inl, inr, refl, sym, ◌∙◌, ap, subst}
+use Rattle.std.proofs.Common.{◌≡◌, ℕ, ◌≤◌, List, [], ◌∷◌, ◌++◌, Some, inl, inr, sym, ◌∙◌, ap, subst}
 use Rattle.std.specs.List.{AllByRecursion}
-use Rattle.std.proofs.lemmas.Bool.{eqb-true}
 use Rattle.std.proofs.lemmas.List.Elements.{All-nil, All-push}
 use Rattle.fr_state.specs.Generations.{LogGeneration, CoordinatedState, AreOrdered, last_of}
 use Rattle.fr_epoch.specs.Recoverer.{RecState, Parent, Plan}
-use Rattle.fr_history.specs.Config.{Config, first_epoch, first_generation, first_state}
+use Rattle.fr_history.specs.Config.{Config, first_epoch, first_generation}
 use Rattle.fr_history.specs.Turn.{Turn}
-use Rattle.fr_history.specs.Nodes.{rec_at, plan_in, plan_at, generation_at}
+use Rattle.fr_history.specs.Nodes.{rec_at, generation_at}
 use Rattle.fr_history.specs.Run.{IsRun}
-use Rattle.fr_history.specs.States.{state_in, state_of}
+use Rattle.fr_history.specs.States.{state_of}
 use Rattle.fr_history.specs.StateLaws.{IsConfig}
 use Rattle.fr_history.specs.Laws.{Laws}
 use Rattle.fr_history.proofs.Growth.{rec_is}
 use Rattle.fr_history.proofs.Register.{has_found}
-use Rattle.fr_history.proofs.States.{recoverers_have_states}
+use Rattle.fr_history.proofs.States.{last_more, recoverers_have_states}
+use Rattle.fr_history.proofs.Chosen.{state_planned}
 use Rattle.fr_versions.specs.Numbers.{top_at}
 use Rattle.fr_versions.proofs.Pushes.{plan_is, plan_generation}
 use Rattle.fr_versions.proofs.Transport.{parent_comes}
 use Rattle.fr_contents.specs.Issued.{entries, issued_of, issued}
 use Rattle.fr_contents.proofs.IssuedLists.{EntriesRise}
 use Rattle.fr_contents.proofs.PartLists.{part_of, part_agree}
-use Rattle.fr_contents.proofs.Lists.{planned_list, list_rises, last_more}
+use Rattle.fr_contents.proofs.Lists.{planned_list, list_rises}
 
 -- the state and the generation of a ballot's plan, as those of its epoch
 pub plan_state : Laws → (c : Config) (h : List Turn) → IsRun c h → (b : ℕ) (r : RecState) (q : Plan) → rec_at c h b ≡ Some r → r.plan ≡ Some q → state_of c h b ≡ q.state
-plan_state laws c h run b r q at planned = go (b == first_epoch) refl
-  where
-    go : (s : Bool) → (b == first_epoch) ≡ s → cond s (first_state c) (state_in c (plan_at c h b)) ≡ q.state
-    go true k = absurd ((rec_is laws c h run b r at).other (eqb-true b first_epoch k))
-    go false k = ap (λ o. state_in c (plan_in o)) at ∙ ap (state_in c) planned
+plan_state laws c h run b r q at planned = state_planned laws c h run b r at q planned
 
 -- what a recoverer took over
 pub record IsOfParent (c : Config) (h : List Turn) (p : Parent) : Type 0 where

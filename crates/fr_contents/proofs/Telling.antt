@@ -1,21 +1,17 @@
 -- An answer to a peek is a part of what the log's epoch issues, if the log has its parts.
-use Rattle.std.proofs.Common.{◌≡◌, ℕ, zero, suc, ◌-◌, ◌<◌, ◌≤◌, Bool, true, false, cond, not, nat_lt, ◌==◌, List, [], ◌∷◌, length, map, Option, None, Some, inl, inr, refl, sym, ◌∙◌, ap, subst, arith}
-use Rattle.std.specs.Prelude.{IfSome, is_none}
-use Rattle.std.proofs.lemmas.Bool.{ltb-false, ltb-true}
+use Rattle.std.proofs.Common.{◌≡◌, ℕ, zero, suc, ◌-◌, ◌<◌, ◌≤◌, true, false, cond, List, [], ◌∷◌, length, map, Option, None, Some, inl, inr, refl, sym, ◌∙◌, ap, subst, arith}
+use Rattle.std.specs.Prelude.{IfSome, is_some}
+use Rattle.std.proofs.lemmas.Bool.{ltb-true}
 use Rattle.fr_base.specs.declared.place.NodeId.{NodeId}
 use Rattle.fr_base.specs.declared.place.NodeId.TheVariants as node
-use Rattle.fr_state.specs.Generations.{LogGeneration, CoordinatedState}
+use Rattle.fr_state.specs.Generations.{LogGeneration}
 use Rattle.fr_tags.specs.Placement.{is_held}
 use Rattle.fr_log.specs.declared.ask.LogAsk.{LogAsk}
-use Rattle.fr_log.specs.declared.ask.LogAsk.TheVariants.{Seed, Push, Lock, Peek, MarkAsked}
 use Rattle.fr_log.specs.declared.ask.LogTell.TheVariants as ltell
-use Rattle.fr_log.specs.declared.ask.LogRefusal.{LogRefusal}
-use Rattle.fr_log.specs.declared.ask.LogRefusal.TheVariants as why
 use Rattle.fr_log.specs.Peeked.{PeekedContent}
 use Rattle.fr_log.specs.Seed.{SeedContent}
-use Rattle.fr_log.specs.LogState.{LogState, first_of, durable_of, known_of, holds, mark_among, records_of}
-use Rattle.fr_log.specs.Refusal.{refusal_of, peek_refusal}
-use Rattle.fr_log.specs.Step.{answer_of, answer_unless, granted_answer, mark_answer, peek_of}
+use Rattle.fr_log.specs.LogState.{LogState, first_of, durable_of, known_of, holds, records_of}
+use Rattle.fr_log.specs.Step.{answer_of, peek_of}
 use Rattle.fr_ask.specs.declared.tell.Tell.TheVariants as tell
 use Rattle.fr_history.specs.Config.{Config}
 use Rattle.fr_history.specs.Turn.{Turn, Begun, CellTurn, LogTurn, SeqTurn, Submitted, ProxyHeard, RecHeard, StorageHeard, Gone, Crashed, TellsBy, Told}
@@ -35,67 +31,18 @@ use Rattle.fr_contents.proofs.Parts.{issued_rises, part_lasts}
 
 -- ---- one answer
 
--- a peek that a log answers with records: it is not refused
-pub record IsAnswered (l : LogState) (a : LogAsk) (peeked : PeekedContent) : Type 0 where
-  pub epoch : ℕ
-  pub tag : ℕ
-  pub after : ℕ
-  pub most : ℕ
-  pub asked : a ≡ Peek epoch tag after most
-  pub granted : peek_refusal l epoch tag after ≡ None
-  pub is : peeked ≡ peek_of l tag after most
-
-answered : (l : LogState) (a : LogAsk) (peeked : PeekedContent) → answer_of l a ≡ ltell.Peeked peeked → IsAnswered l a peeked
-answered l (Seed s) peeked e = absurd (go (refusal_of l (Seed s)) e)
-  where
-    go : (o : Option LogRefusal) → answer_unless o ltell.Seeded ≡ ltell.Peeked peeked → ⊥
-    go None k = absurd (cc)
-    go (Some why) k = absurd (cc)
-answered l (Push p) peeked e = absurd (go (refusal_of l (Push p)) e)
-  where
-    go : (o : Option LogRefusal) → answer_unless o (ltell.Held p.version) ≡ ltell.Peeked peeked → ⊥
-    go None k = absurd (cc)
-    go (Some why) k = absurd (cc)
-answered l (Lock epoch) peeked e = absurd (go (refusal_of l (Lock epoch)) e)
-  where
-    go : (o : Option LogRefusal) → answer_unless o (granted_answer l (Lock epoch)) ≡ ltell.Peeked peeked → ⊥
-    go None k = absurd (cc)
-    go (Some why) k = absurd (cc)
-answered l (Peek epoch tag after most) peeked e = go (peek_refusal l epoch tag after) refl e
-  where
-    go : (o : Option LogRefusal) → peek_refusal l epoch tag after ≡ o → answer_unless o (ltell.Peeked (peek_of l tag after most)) ≡ ltell.Peeked peeked → IsAnswered l (Peek epoch tag after most) peeked
-    go None at k = let d : peek_of l tag after most ≡ peeked = cc in record { epoch = epoch; tag = tag; after = after; most = most; asked = refl; granted = at; is = sym d }
-    go (Some why) at k = absurd (cc)
-answered l (MarkAsked epoch) peeked e = absurd (go (refusal_of l (MarkAsked epoch)) (mark_among l.pushes) e)
-  where
-    go : (o : Option LogRefusal) (m : Option CoordinatedState) → answer_unless o (mark_answer m) ≡ ltell.Peeked peeked → ⊥
-    go None None k = absurd (cc)
-    go None (Some s) k = absurd (cc)
-    go (Some why) m k = absurd (cc)
-
 -- what a peek that is not refused shows of the log
 record IsGranted (l : LogState) (tag after : ℕ) : Type 0 where
-  seeded : is_none l.seed ≡ false
+  seeded : is_some l.seed ≡ true
   holds_it : holds l tag ≡ true
   low : first_of l.seed - 1 ≤ after
-
-granted : (l : LogState) (epoch tag after : ℕ) → peek_refusal l epoch tag after ≡ None → IsGranted l tag after
-granted l epoch tag after = one (epoch == l.epoch) (is_none l.seed) refl (holds l tag) refl (nat_lt after (first_of l.seed - 1)) refl
-  where
-    one : (a b : Bool) → is_none l.seed ≡ b → (d : Bool) → holds l tag ≡ d → (e : Bool) → nat_lt after (first_of l.seed - 1) ≡ e
-        → cond (not a) (Some why.WrongEpoch) (cond b (Some why.Unseeded) (cond (not d) (Some why.NotMine) (cond e (Some (why.TooEarly (first_of l.seed))) None))) ≡ None → IsGranted l tag after
-    one false b bk d dk e ek k = absurd (cc)
-    one true true bk d dk e ek k = absurd (cc)
-    one true false bk false dk e ek k = absurd (cc)
-    one true false bk true dk true ek k = absurd (cc)
-    one true false bk true dk false ek k = record { seeded = bk; holds_it = dk; low = ltb-false after (first_of l.seed - 1) ek }
 
 -- ---- one turn
 
 -- a log that has its parts gives the first records of a part
 given : Laws → (c : Config) (h : List Turn) → IsConfig c → IsRun c h → (e : ℕ) (g : LogGeneration) → generation_at c h e ≡ Some g → (i : ℕ) (l : LogState) → l.index ≡ i → (tag after : ℕ) → IsGranted l tag after → tag < length c.begins
     → (o : Option SeedContent) → l.seed ≡ o → IfSome o (HasParts c h e i l) → (most : ℕ) → 1 ≤ most → let p = peek_of l tag after most in (p.upto ≤ durable_of l) × (p.records ≡ part_records c h e tag after p.upto)
-given laws c h config run e g of i l index tag after k inside None seeded parts most wants = let d : true ≡ false = sym (ap is_none seeded) ∙ k.seeded in absurd (cc)
+given laws c h config run e g of i l index tag after k inside None seeded parts most wants = let d : false ≡ true = sym (ap is_some seeded) ∙ k.seeded in absurd (cc)
 given laws c h config run e g of i l index tag after k inside (Some s) seeded parts zero wants = absurd (omega (arith, wants))
 given laws c h config run e g of i l index tag after k inside (Some s) seeded parts (suc n) wants =
     let held : is_held tag l.m l.k i ≡ true = ap (is_held tag l.m l.k) (sym index) ∙ k.holds_it in
@@ -109,12 +56,12 @@ pub told_now : Laws → (c : Config) (h : List Turn) → IsConfig c → IsRun c 
     → answer_of (log_at c h e i) a ≡ ltell.Peeked peeked → IsTrueTell c h e i peeked
 told_now laws c h config run e i below parts a some peeked says =
     let l = log_at c h e i in
-    let k = answered l a peeked says in
+    let k = laws.nodes.log_answers l a (ltell.Peeked peeked) says in
     let named = log_named laws.nodes c h run e i below in
-    let g = granted l k.epoch k.tag k.after k.granted in
-    let tag : peeked.tag ≡ k.tag = ap (λ (p : PeekedContent). p.tag) k.is in
-    let known : peeked.known ≡ known_of l = ap (λ (p : PeekedContent). p.known) k.is in
-    let wants : 1 ≤ k.most = subst WantsSome k.asked some in
+    let g : IsGranted l k.tag k.after = record { seeded = k.seeded; holds_it = k.held; low = k.early } in
+    let tag : peeked.tag ≡ k.tag = ap (λ (p : PeekedContent). p.tag) k.value in
+    let known : peeked.known ≡ known_of l = ap (λ (p : PeekedContent). p.known) k.value in
+    let wants : 1 ≤ k.most = subst WantsSome k.ask some in
     let held : is_held k.tag named.generation.m named.generation.k i ≡ true = (λ j. is_held k.tag (sym named.m j) (sym named.k j) (sym named.index j)) ∙ g.holds_it in
     record {
       there = below;
@@ -123,11 +70,11 @@ told_now laws c h config run e i below parts a some peeked says =
       held = ap (λ t. is_held t named.generation.m named.generation.k i) tag ∙ held;
       upto = λ inside. (
           let all = given laws c h config run e named.generation named.of i l named.index k.tag k.after g (subst (λ t. t < length c.begins) tag inside) l.seed refl parts k.most wants in
-          subst (λ (p : PeekedContent). p.upto ≤ durable_of l) (sym k.is) all.0);
+          subst (λ (p : PeekedContent). p.upto ≤ durable_of l) (sym k.value) all.0);
       known = omega (arith, known);
       records = λ inside. (
           let all = given laws c h config run e named.generation named.of i l named.index k.tag k.after g (subst (λ t. t < length c.begins) tag inside) l.seed refl parts k.most wants in
-          subst (λ (p : PeekedContent). p.records ≡ part_records c h e p.tag p.after p.upto) (sym k.is) all.1);
+          subst (λ (p : PeekedContent). p.records ≡ part_records c h e p.tag p.after p.upto) (sym k.value) all.1);
     }
 
 -- ---- later on

@@ -4,3 +4,5 @@ pub mod Accounts
 pub mod Cells
 pub mod Register
 pub mod States
+pub mod Votes
+pub mod Chosen

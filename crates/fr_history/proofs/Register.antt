@@ -92,7 +92,7 @@ pub record HasFound (c : Config) (h : List Turn) (b : ℕ) (r : RecState) : Type
   pub found : (p : Parent) → r.parent ≡ Some p → IsFound r p.state p.last
   pub below : (p : Parent) → r.parent ≡ Some p → r.reads.greatest.ballot < b
 
-not_written : (plan : Option Plan) (seeded : List ℕ) → plan ≡ None → is_written_in plan seeded ≡ true → ⊥
+pub not_written : (plan : Option Plan) (seeded : List ℕ) → plan ≡ None → is_written_in plan seeded ≡ true → ⊥
 not_written None seeded e c = absurd (cc)
 not_written (Some p) seeded e c = absurd (cc)
 

@@ -62,6 +62,12 @@ last_is P [] g e all = absurd (cc)
 last_is P (x ∷ []) g e all = let d : x ≡ g = cc in subst P d (All-head P x [] all)
 last_is P (x ∷ y ∷ gens) g e all = last_is P (y ∷ gens) g e (All-tail P x (y ∷ gens) all)
 
+-- the last of a list with one more is that one
+pub last_more : (gens : List LogGeneration) (n : LogGeneration) → last_of (gens ++ n ∷ []) ≡ Some n
+last_more [] n = refl
+last_more (x ∷ []) n = refl
+last_more (x ∷ y ∷ gens) n = last_more (y ∷ gens) n
+
 -- the next generation is within the limits
 next_is : (r : RecState) (p : Parent) (end : EndState) → IsGeneration p.last → 256 ≤ r.ballot → r.ballot < 2 ^ 48 → pev_of end ≤ rv_of end → rv_of end + 1 < 2 ^ 62 → IsGeneration (next_generation r p end)
 next_is r p end k low high le below = record {
@@ -182,7 +188,7 @@ recoverers_have_states laws c h config run b r at = subst (λ o. IfSome o HasSta
 
 -- ---- chains
 
-front_itself : (gens : List LogGeneration) → IsFrontOf gens gens
+pub front_itself : (gens : List LogGeneration) → IsFrontOf gens gens
 front_itself gens = ([], append-nil gens)
 
 front_more : (front gens : List LogGeneration) (g : LogGeneration) → IsFrontOf front gens → IsFrontOf front (gens ++ g ∷ [])
@@ -203,7 +209,7 @@ descends_front laws c h config run p q (by_parent came d) x y i v j w =
     subst (λ (s : CoordinatedState). IsFrontOf y.gens s.gens) same (subst (IsFrontOf y.gens) (sym plan.1.2) (front_more y.gens plan.1.0.state.gens k.plan.generation below))
 
 -- the state of each epoch is within its limits
-state_is : Laws → (c : Config) (h : List Turn) → IsConfig c → IsRun c h → (e : ℕ) → IsCoordinatedState (state_of c h e)
+pub state_is : Laws → (c : Config) (h : List Turn) → IsConfig c → IsRun c h → (e : ℕ) → IsCoordinatedState (state_of c h e)
 state_is laws c h config run e = go (e == first_epoch)
   where
     planned : (o : Option RecState) → rec_at c h e ≡ o → (q : Option Plan) → plan_in o ≡ q → IsCoordinatedState (state_in c q)

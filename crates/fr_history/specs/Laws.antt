@@ -5,6 +5,7 @@ use Rattle.fr_log.specs.Law as log
 use Rattle.fr_proxy.specs.Law as proxy
 use Rattle.fr_proxy.specs.Heard as heard
 use Rattle.fr_epoch.specs.Law as rec
+use Rattle.fr_epoch.specs.WriteLaw as writes
 
 pub record Laws : Type 0 where
   pub cells_hold : register.CellsHoldTheirLast
@@ -34,3 +35,12 @@ pub record Laws : Type 0 where
   pub proxy_pushes : heard.NewIsPush
   pub held_held : log.HeldIsHeld
   pub one_push : log.OnePushIsSame
+  pub written_answers : register.WrittenAnswersWrite
+  pub start_least : register.StartIsLeast
+  pub new_write : register.NewWriteIsFaithful
+  pub write_hears : register.HearingKeepsWrite
+  pub write_stays : register.TurnsKeepWrite
+  pub write_majority : register.FaithfulWriteIsWritten
+  pub log_answers : log.TellIsAnswer
+  pub rec_seeded : writes.HearKeepsSeeded
+  pub all_seeded : writes.WrittenIsSeeded

@@ -9,4 +9,5 @@ pub mod AskLaws
 pub mod CellLaws
 pub mod ParentLaws
 pub mod StateLaws
+pub mod ChosenLaws
 pub mod Laws

@@ -1,15 +1,17 @@
 //! Laws of runs: growth, asks, cells, and the chain of states.
 ghost use Rattle.fr_history.specs.AskLaws.{ReadsAreOwn, SentIsAccounted};
 ghost use Rattle.fr_history.specs.CellLaws.{CellsAreOrdered, CellsHaveHistory, PromisesTell, WrittenIsState};
+ghost use Rattle.fr_history.specs.ChosenLaws.{ChosenAreChain, ChosenIsBefore, ChosenIsPlanned, ChosenIsWritten, ChosenLasts};
+ghost use Rattle.fr_history.specs.ChosenLaws.{FirstIsChosen, FirstIsLeast, OpenIsChosen, StateLasts, StatesAreWithin};
 ghost use Rattle.fr_history.specs.GrowthLaws.{CellsGrow, LogsGrow, ProxiesGrow, RecoverersGrow};
 ghost use Rattle.fr_history.specs.Laws.{Laws};
 ghost use Rattle.fr_history.specs.ParentLaws.{ParentIsGreatest, ParentIsRead, ParentsDescend, RunHasParents};
 ghost use Rattle.fr_history.specs.StateLaws.{ChosenIsFront, RecoverersHaveStates};
 
-use fr_epoch::laws::recovery_law;
+use fr_epoch::laws::{recovery_law, write_law};
 use fr_log::laws::{growth_law as log_growth_law, raise_law, tell_law};
 use fr_proxy::{account_law, growth_law as proxy_growth_law, heard_law};
-use fr_register::{cell_law, parent_law, register_law};
+use fr_register::{answer_law, cell_law, faithful_law, parent_law, register_law};
 use fr_state::{extend_law, spelling_law};
 
 /// The laws of the nodes, on which all laws of runs rest.
@@ -17,6 +19,8 @@ pub fn node_laws()
     ensures { Laws }
 {
     cell_law();
+    answer_law();
+    faithful_law();
     register_law();
     parent_law();
     extend_law();
@@ -28,6 +32,7 @@ pub fn node_laws()
     account_law();
     heard_law();
     recovery_law();
+    write_law();
 }
 
 /// At each turn each node that is there grows.
@@ -73,6 +78,24 @@ pub fn parents_law()
 pub fn states_law()
     ensures states { RecoverersHaveStates }
     ensures front { ChosenIsFront }
+{
+    node_laws();
+}
+
+/// The state of an epoch that is open is chosen: its recoverer heard of a majority of the cells that they
+/// took it, and each that told so did. An epoch that is chosen stays chosen, with the same state, and all
+/// chosen states are one chain.
+pub fn chosen_law()
+    ensures opened { OpenIsChosen }
+    ensures first { FirstIsChosen }
+    ensures least { FirstIsLeast }
+    ensures written { ChosenIsWritten }
+    ensures planned { ChosenIsPlanned }
+    ensures within { StatesAreWithin }
+    ensures state_lasts { StateLasts }
+    ensures lasts { ChosenLasts }
+    ensures before { ChosenIsBefore }
+    ensures chain { ChosenAreChain }
 {
     node_laws();
 }

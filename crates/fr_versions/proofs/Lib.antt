@@ -16,3 +16,7 @@ pub mod Orders
 pub mod Transport
 pub mod Marks
 pub mod Counted
+pub mod Seeds
+pub mod Behind
+pub mod Asked
+pub mod Taking

@@ -6,15 +6,12 @@ use Rattle.std.proofs.lemmas.Bool.{eq-eqb, ltb-true}
 use Rattle.std.proofs.lemmas.List.Elements.{All-nil, All-push, All-weaker}
 use Rattle.fr_base.specs.declared.place.NodeId.{NodeId}
 use Rattle.fr_base.specs.declared.place.NodeId.TheVariants as node
-use Rattle.fr_state.specs.Generations.{CoordinatedState}
 use Rattle.fr_log.specs.declared.ask.LogAsk.{LogAsk}
-use Rattle.fr_log.specs.declared.ask.LogAsk.TheVariants.{Seed, Push, Lock, Peek, MarkAsked}
+use Rattle.fr_log.specs.declared.ask.LogAsk.TheVariants.{Lock}
 use Rattle.fr_log.specs.declared.ask.LogTell.{LogTell}
 use Rattle.fr_log.specs.declared.ask.LogTell.TheVariants as ltell
-use Rattle.fr_log.specs.declared.ask.LogRefusal.{LogRefusal}
-use Rattle.fr_log.specs.LogState.{LogState, durable_of, known_of, mark_among}
-use Rattle.fr_log.specs.Refusal.{refusal_of}
-use Rattle.fr_log.specs.Step.{answer_of, next_of, answer_unless, granted_answer, mark_answer}
+use Rattle.fr_log.specs.LogState.{LogState, durable_of, known_of}
+use Rattle.fr_log.specs.Step.{answer_of, next_of}
 use Rattle.fr_ask.specs.declared.tell.Tell.{Tell}
 use Rattle.fr_ask.specs.declared.tell.Tell.TheVariants as tell
 use Rattle.fr_epoch.specs.declared.reply.Reply.{Reply}
@@ -49,43 +46,18 @@ stands_later laws c h t run is e i durable known k =
       known_is = still.known ∙ k.known_is;
     }
 
--- only a lock is answered by Locked
-locked_ask : (l : LogState) (a : LogAsk) (durable known : ℕ) → answer_of l a ≡ ltell.Locked durable known → (epoch : ℕ) × (a ≡ Lock epoch)
-locked_ask l (Seed s) durable known e = absurd (go (refusal_of l (Seed s)) e)
-  where
-    go : (o : Option LogRefusal) → answer_unless o ltell.Seeded ≡ ltell.Locked durable known → ⊥
-    go None k = absurd (cc)
-    go (Some why) k = absurd (cc)
-locked_ask l (Push p) durable known e = absurd (go (refusal_of l (Push p)) e)
-  where
-    go : (o : Option LogRefusal) → answer_unless o (ltell.Held p.version) ≡ ltell.Locked durable known → ⊥
-    go None k = absurd (cc)
-    go (Some why) k = absurd (cc)
-locked_ask l (Lock epoch) durable known e = (epoch, refl)
-locked_ask l (Peek epoch tag after most) durable known e = absurd (go (refusal_of l (Peek epoch tag after most)) e)
-  where
-    go : (o : Option LogRefusal) → answer_unless o (granted_answer l (Peek epoch tag after most)) ≡ ltell.Locked durable known → ⊥
-    go None k = absurd (cc)
-    go (Some why) k = absurd (cc)
-locked_ask l (MarkAsked epoch) durable known e = absurd (go (refusal_of l (MarkAsked epoch)) (mark_among l.pushes) e)
-  where
-    go : (o : Option LogRefusal) (m : Option CoordinatedState) → answer_unless o (mark_answer m) ≡ ltell.Locked durable known → ⊥
-    go None None k = absurd (cc)
-    go None (Some s) k = absurd (cc)
-    go (Some why) m k = absurd (cc)
-
 -- a log that is locked now stands still from now on
 locked_now : Laws → (c : Config) (h : List Turn) (from : NodeId) (e i : ℕ) (a : LogAsk) (t : LogTell) → IsRun c h → IsTurn c h (LogTurn from e i a t) → (durable known : ℕ) → t ≡ ltell.Locked durable known
     → StandsAt c (LogTurn from e i a t ∷ h) e i durable known
 locked_now laws c h from e i a t run is durable known says =
     let l = log_at c h e i in
     let below = ltb-true i (logs_at c h e) is.0.there in
-    let k = locked_ask l a durable known (sym is.2 ∙ says) in
-    let lock : answer_of l (Lock k.0) ≡ ltell.Locked durable known = subst (λ x. answer_of l x ≡ ltell.Locked durable known) k.1 (sym is.2 ∙ says) in
-    let told = laws.locked_stopped l k.0 durable known lock in
-    let still = laws.nothing_raises l (Lock k.0) told.2 refl in
-    let now : log_at c (LogTurn from e i a t ∷ h) e i ≡ next_of l (Lock k.0) =
-    log_stays laws c h (LogTurn from e i a t) run is e i below ∙ (rw (eq-eqb e e refl, eq-eqb i i refl) (ap (next_of l) k.1)) in
+    let ask = (laws.log_answers l a (ltell.Locked durable known) (sym is.2 ∙ says)).ask in
+    let lock : answer_of l (Lock l.epoch) ≡ ltell.Locked durable known = subst (λ x. answer_of l x ≡ ltell.Locked durable known) ask (sym is.2 ∙ says) in
+    let told = laws.locked_stopped l l.epoch durable known lock in
+    let still = laws.nothing_raises l (Lock l.epoch) told.2 refl in
+    let now : log_at c (LogTurn from e i a t ∷ h) e i ≡ next_of l (Lock l.epoch) =
+    log_stays laws c h (LogTurn from e i a t) run is e i below ∙ (rw (eq-eqb e e refl, eq-eqb i i refl) (ap (next_of l) ask)) in
     let g = log_grows laws c h (LogTurn from e i a t) run is e i below in
     record {
       there = subst (λ n. i < n) (sym (logs_stay laws c h (LogTurn from e i a t) run is e i below)) below;

@@ -116,7 +116,7 @@ acknowledged_is_taken_over laws c h run b r p q at parent planned v acked =
 
 -- ---- replies
 
-known_fold : (v w : ℕ) (rs : List Reply) → w ≤ v → All (λ r. r.known ≤ v) rs → fold (λ x (q : Reply). max x q.known) w rs ≤ v
+pub known_fold : (v w : ℕ) (rs : List Reply) → w ≤ v → All (λ r. r.known ≤ v) rs → fold (λ x (q : Reply). max x q.known) w rs ≤ v
 known_fold v w [] l all = l
 known_fold v w (r ∷ rs) l all = known_fold v (max w r.known) rs (let k = All-head (λ r. r.known ≤ v) r rs all in omega (arith, k, l)) (All-tail (λ r. r.known ≤ v) r rs all)
 

@@ -1,8 +1,8 @@
 -- Each push and each seed that was sent to a log is of the log's epoch.
-use Rattle.std.proofs.Common.{◌≡◌, ℕ, ◌+◌, Bool, true, false, cond, ◌==◌, List, [], ◌∷◌, Option, None, Some, inl, inr, refl, sym, ◌∙◌, ap, subst}
+use Rattle.std.proofs.Common.{◌≡◌, ℕ, ◌+◌, true, ◌==◌, List, [], ◌∷◌, Option, None, Some, inl, inr, refl, sym, ◌∙◌, ap, subst}
 use Rattle.std.specs.List.{Contains}
 use Rattle.std.specs.Prelude.{IfSome}
-use Rattle.std.proofs.lemmas.Bool.{eqb-true, or_right}
+use Rattle.std.proofs.lemmas.Bool.{or_right}
 use Rattle.std.proofs.lemmas.List.Elements.{All-contains}
 use Rattle.fr_base.specs.declared.place.NodeId.{NodeId}
 use Rattle.fr_base.specs.declared.place.NodeId.TheVariants as node
@@ -19,9 +19,9 @@ use Rattle.fr_proxy.specs.Proxy as proxy
 use Rattle.fr_epoch.specs.Recoverer.{RecState, Plan, new_recoverer, mark_of}
 use Rattle.fr_epoch.specs.Law as rec_law
 use Rattle.fr_proxy.specs.Heard.{IsPushOf, IsPushTo}
-use Rattle.fr_history.specs.Config.{Config, first_epoch, first_generation}
+use Rattle.fr_history.specs.Config.{Config, first_epoch}
 use Rattle.fr_history.specs.Turn.{Turn, Sending, Begun, CellTurn, LogTurn, SeqTurn, Submitted, ProxyHeard, RecHeard, StorageHeard, Gone, Crashed, actor_of, asks_of, Sent, Told}
-use Rattle.fr_history.specs.Nodes.{rec_at, plan_in, plan_at, generation_in, generation_at, mark_version, is_chosen_phase, is_open_in, is_open, proxy_at, proxy_from, new_proxy_in}
+use Rattle.fr_history.specs.Nodes.{rec_at, generation_at, mark_version, is_chosen_phase, is_open_in, is_open, proxy_at, proxy_from, new_proxy_in}
 use Rattle.fr_versions.specs.Numbers.{Numbering, numbers, numbering_of}
 use Rattle.fr_versions.specs.Logs.{IsAt, IsPlaced, IsOfEpoch, IsSeedOf}
 use Rattle.fr_history.specs.Run.{IsTurn, IsRun}
@@ -29,6 +29,7 @@ use Rattle.fr_history.specs.Laws.{Laws}
 use Rattle.fr_history.specs.AskLaws.{SenderAccounts}
 use Rattle.fr_versions.specs.LogLaws.{PushesAreOwn, SeedsAreOwn}
 use Rattle.fr_history.proofs.ByTurn.{rec_by_turn, proxy_by_turn}
+use Rattle.fr_history.proofs.Chosen.{generation_planned}
 use Rattle.fr_history.proofs.Growth.{rec_is}
 use Rattle.fr_history.proofs.Accounts.{sent_is_accounted, none_sent}
 use Rattle.fr_history.proofs.Cells.{Contains-none, Contains-cases}
@@ -51,11 +52,7 @@ plan_is laws c h run b r at p e = (let k : rec_law.HasSoundPlan r = subst (λ o.
 
 -- the generation of a ballot that has a plan
 pub plan_generation : Laws → (c : Config) (h : List Turn) → IsRun c h → (b : ℕ) (r : RecState) → rec_at c h b ≡ Some r → (p : Plan) → r.plan ≡ Some p → generation_at c h b ≡ Some p.generation
-plan_generation laws c h run b r at p e = go (b == first_epoch) refl
-  where
-    go : (s : Bool) → (b == first_epoch) ≡ s → cond s (Some (first_generation c)) (generation_in (plan_at c h b)) ≡ Some p.generation
-    go true k = absurd ((rec_is laws c h run b r at).other (eqb-true b first_epoch k))
-    go false k = ap (λ o. generation_in (plan_in o)) at ∙ ap generation_in e
+plan_generation laws c h run b r at p e = generation_planned laws c h run b r at p e
 
 -- ---- proxies
 

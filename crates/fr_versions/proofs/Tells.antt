@@ -6,17 +6,14 @@ use Rattle.std.proofs.lemmas.Bool.{eq-eqb, ltb-true}
 use Rattle.std.proofs.lemmas.List.Elements.{Contains-append_left}
 use Rattle.fr_base.specs.declared.place.NodeId.{NodeId}
 use Rattle.fr_base.specs.declared.place.NodeId.TheVariants as node
-use Rattle.fr_state.specs.Generations.{CoordinatedState}
 use Rattle.fr_log.specs.declared.ask.LogAsk.{LogAsk}
-use Rattle.fr_log.specs.declared.ask.LogAsk.TheVariants.{Seed, Push, Lock, Peek, MarkAsked}
+use Rattle.fr_log.specs.declared.ask.LogAsk.TheVariants.{Push}
 use Rattle.fr_log.specs.declared.ask.LogTell.{LogTell}
 use Rattle.fr_log.specs.declared.ask.LogTell.TheVariants as ltell
-use Rattle.fr_log.specs.declared.ask.LogRefusal.{LogRefusal}
 use Rattle.fr_log.specs.Push.{PushContent, is_one_push}
 use Rattle.fr_log.specs.Seed.{SeedContent}
-use Rattle.fr_log.specs.LogState.{LogState, seeded_to_of, mark_among}
-use Rattle.fr_log.specs.Refusal.{refusal_of}
-use Rattle.fr_log.specs.Step.{answer_of, next_of, answer_unless, granted_answer, mark_answer}
+use Rattle.fr_log.specs.LogState.{LogState, seeded_to_of}
+use Rattle.fr_log.specs.Step.{answer_of, next_of}
 use Rattle.fr_ask.specs.declared.tell.Tell.TheVariants as tell
 use Rattle.fr_history.specs.Config.{Config}
 use Rattle.fr_history.specs.Turn.{Turn, Begun, CellTurn, LogTurn, SeqTurn, Submitted, ProxyHeard, RecHeard, StorageHeard, Gone, Crashed, TellsBy, Told}
@@ -80,31 +77,6 @@ push_is_reached laws c h run e i v k = record {
 
 -- ---- Held
 
--- only a push is answered by Held
-held_ask : (l : LogState) (a : LogAsk) (v : ℕ) → answer_of l a ≡ ltell.Held v → (p : PushContent) × (a ≡ Push p)
-held_ask l (Seed s) v e = absurd (go (refusal_of l (Seed s)) e)
-  where
-    go : (o : Option LogRefusal) → answer_unless o ltell.Seeded ≡ ltell.Held v → ⊥
-    go None k = absurd (cc)
-    go (Some why) k = absurd (cc)
-held_ask l (Push p) v e = (p, refl)
-held_ask l (Lock epoch) v e = absurd (go (refusal_of l (Lock epoch)) e)
-  where
-    go : (o : Option LogRefusal) → answer_unless o (granted_answer l (Lock epoch)) ≡ ltell.Held v → ⊥
-    go None k = absurd (cc)
-    go (Some why) k = absurd (cc)
-held_ask l (Peek epoch tag after most) v e = absurd (go (refusal_of l (Peek epoch tag after most)) e)
-  where
-    go : (o : Option LogRefusal) → answer_unless o (granted_answer l (Peek epoch tag after most)) ≡ ltell.Held v → ⊥
-    go None k = absurd (cc)
-    go (Some why) k = absurd (cc)
-held_ask l (MarkAsked epoch) v e = absurd (go (refusal_of l (MarkAsked epoch)) (mark_among l.pushes) e)
-  where
-    go : (o : Option LogRefusal) (m : Option CoordinatedState) → answer_unless o (mark_answer m) ≡ ltell.Held v → ⊥
-    go None None k = absurd (cc)
-    go None (Some s) k = absurd (cc)
-    go (Some why) m k = absurd (cc)
-
 -- one of some pushes has this version, where one of them is the same as a push of that version
 one_held : Laws → (p : PushContent) (ps : List PushContent) → list_any (is_one_push p) ps ≡ true → (q : PushContent) × Contains ps q × (q.version ≡ p.version)
 one_held laws p [] k = absurd (cc)
@@ -119,10 +91,10 @@ held_now : Laws → (c : Config) (h : List Turn) (from : NodeId) (e i : ℕ) (a 
 held_now laws c h from e i a u run is v says =
     let l = log_at c h e i in
     let below : i < logs_at c h e = ltb-true i (logs_at c h e) is.0.there in
-    let asked = held_ask l a v (sym is.2 ∙ says) in
-    let told = laws.held_held l asked.0 v (subst (λ x. answer_of l x ≡ ltell.Held v) asked.1 (sym is.2 ∙ says)) in
-    let now : log_at c (LogTurn from e i a u ∷ h) e i ≡ next_of l (Push asked.0) = log_stays laws c h (LogTurn from e i a u) run is e i below ∙ (rw (eq-eqb e e refl, eq-eqb i i refl) refl ∙ ap (next_of l) asked.1) in
-    let one = one_held laws asked.0 (next_of l (Push asked.0)).pushes told.1 in
+    let asked = laws.log_answers l a (ltell.Held v) (sym is.2 ∙ says) in
+    let told = laws.held_held l asked.push v (subst (λ x. answer_of l x ≡ ltell.Held v) asked.ask (sym is.2 ∙ says)) in
+    let now : log_at c (LogTurn from e i a u ∷ h) e i ≡ next_of l (Push asked.push) = log_stays laws c h (LogTurn from e i a u) run is e i below ∙ (rw (eq-eqb e e refl, eq-eqb i i refl) refl ∙ ap (next_of l) asked.ask) in
+    let one = one_held laws asked.push (next_of l (Push asked.push)).pushes told.1 in
     record {
       there = subst (λ n. i < n) (sym (logs_stay laws c h (LogTurn from e i a u) run is e i below)) below;
       push = one.0;

@@ -9,7 +9,7 @@ use Rattle.fr_register.specs.Poll.{Stamped}
 use Rattle.fr_register.specs.Chosen.{IsKept, IsReady}
 use Rattle.fr_log.specs.Seed.{SeedContent}
 use Rattle.fr_log.specs.LogState.{durable_of, seeded_to_of}
-use Rattle.fr_epoch.specs.Recoverer.{RecState, Parent, Plan}
+use Rattle.fr_epoch.specs.Recoverer.{RecState, Parent, Plan, is_written}
 use Rattle.fr_history.specs.Config.{Config, first_generation, first_state, first_cell}
 use Rattle.fr_history.specs.Turn.{Turn, cell_turns}
 use Rattle.fr_history.specs.Nodes.{rec_at, generation_at, logs_at, log_at}
@@ -42,6 +42,7 @@ pub record IsPlanBelow (c : Config) (h : List Turn) (b : ℕ) (s : CoordinatedSt
   pub at : rec_at c h ballot ≡ Some recoverer
   pub plan : Plan
   pub planned : recoverer.plan ≡ Some plan
+  pub written : is_written recoverer ≡ true
   pub is : plan.state ≡ s
 
 pub parent_comes : Laws → (c : Config) (h : List Turn) → IsConfig c → IsRun c h → (b : ℕ) (r : RecState) (p : Parent) → rec_at c h b ≡ Some r → r.parent ≡ Some p → (first_state c ≡ p.state) ⊎ IsPlanBelow c h b p.state
@@ -57,6 +58,7 @@ parent_comes laws c h config run b r p at parent = elim kept.holds [
         at = k.at;
         plan = k.plan;
         planned = k.planned;
+        written = k.written;
         is = one_spelling laws k.plan.state p.state states.0 par.0 (sym k.value ∙ greatest);
       }))
 ]

@@ -5,3 +5,6 @@ pub mod Proxies
 pub mod NumberLaws
 pub mod LogLaws
 pub mod BoundLaws
+pub mod SeededLaws
+pub mod TellLaws
+pub mod BehindLaws

@@ -1,4 +1,6 @@
 //! Laws of versions.
+ghost use Rattle.fr_versions.specs.BehindLaws.{AcknowledgedIsKept, BehindIsSeeded, BelowIsHeldBehind, BelowStaysBelow};
+ghost use Rattle.fr_versions.specs.BehindLaws.{ChosenStaysBelow, FrontIsState, GenerationsAreOwn};
 ghost use Rattle.fr_versions.specs.BoundLaws.{AcknowledgedIsHeldLater, AcknowledgedIsSafe, AcknowledgedIsTakenOver};
 ghost use Rattle.fr_versions.specs.BoundLaws.{BelowIsHeldLater, BelowIsTakenOver, KnownIsDurable, PlansAreLines, RepliesAgree};
 ghost use Rattle.fr_versions.specs.BoundLaws.{HeldIsThere, MarkedIsState, SeededIsSeeded};
@@ -7,6 +9,8 @@ ghost use Rattle.fr_versions.specs.BoundLaws.{NumbersAreCounted, NumbersAreOwn, 
 ghost use Rattle.fr_versions.specs.LogLaws.{EndIsOfReplies, LockedStandsStill, LogsAreOwn, PushesAreOwn};
 ghost use Rattle.fr_versions.specs.LogLaws.{RepliesStandStill, SeedIsReached, SeedsAreOwn};
 ghost use Rattle.fr_versions.specs.NumberLaws.{NumbersChain, NumbersTold};
+ghost use Rattle.fr_versions.specs.SeededLaws.{AllCountedIsSeeded, ChosenIsSeeded, CountedIsSeeded, SentIsSeeded, WritingIsSeeded};
+ghost use Rattle.fr_versions.specs.TellLaws.{MarkedIsChosen, PeekedIsAsked, PeekedIsOwn};
 
 use fr_history::laws::node_laws;
 
@@ -59,11 +63,15 @@ pub fn proxies_law()
     node_laws();
 }
 
-/// What a log told is so: that it holds a push, that it is seeded, and what its mark is.
+/// What a log told is so: that it holds a push, that it is seeded, and what its mark is, the state of an epoch
+/// that is chosen. Records that it told were asked for, and those told to a storage server are of its own tag.
 pub fn told_law()
     ensures held { HeldIsThere }
     ensures seeded { SeededIsSeeded }
     ensures marked { MarkedIsState }
+    ensures chosen { MarkedIsChosen }
+    ensures asked { PeekedIsAsked }
+    ensures own { PeekedIsOwn }
 {
     node_laws();
 }
@@ -87,6 +95,39 @@ pub fn order_law()
     ensures lines { PlansAreLines }
     ensures below_later { BelowIsHeldLater }
     ensures acknowledged_later { AcknowledgedIsHeldLater }
+{
+    node_laws();
+}
+
+/// The logs of an epoch are all seeded before its state is written anywhere, and so are those of each epoch
+/// that is chosen.
+pub fn seeded_law()
+    ensures counted { CountedIsSeeded }
+    ensures all { AllCountedIsSeeded }
+    ensures writing { WritingIsSeeded }
+    ensures sent { SentIsSeeded }
+    ensures chosen { ChosenIsSeeded }
+{
+    node_laws();
+}
+
+/// The generations of an epoch's state are in order, each its own epoch's; the front of them through any one is
+/// the state of that one's epoch, and the logs of each but the last are seeded, whether or not it was chosen.
+pub fn behind_law()
+    ensures own { GenerationsAreOwn }
+    ensures front { FrontIsState }
+    ensures seeded { BehindIsSeeded }
+{
+    node_laws();
+}
+
+/// What is below in an epoch is held in each generation behind which it stands, and is below in each later epoch
+/// that is chosen. So what was acknowledged in any epoch is taken over by each recovery of a greater ballot.
+pub fn below_law()
+    ensures held { BelowIsHeldBehind }
+    ensures stays { BelowStaysBelow }
+    ensures chosen { ChosenStaysBelow }
+    ensures acknowledged { AcknowledgedIsKept }
 {
     node_laws();
 }

@@ -29,4 +29,13 @@ returns c = record {
   proxy_pushes = c.heard_law.ensures.pushes;
   held_held = c.tell_law.ensures.held;
   one_push = c.tell_law.ensures.one_push;
+  written_answers = c.answer_law.ensures.written;
+  start_least = c.parent_law.ensures.least;
+  new_write = c.faithful_law.ensures.new_write;
+  write_hears = c.faithful_law.ensures.write_hears;
+  write_stays = c.faithful_law.ensures.write_stays;
+  write_majority = c.faithful_law.ensures.write;
+  log_answers = c.tell_law.ensures.answer;
+  rec_seeded = c.write_law.ensures.seeded;
+  all_seeded = c.write_law.ensures.written;
 }

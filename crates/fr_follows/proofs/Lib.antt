@@ -1,0 +1,17 @@
+pub mod Agreement
+pub mod Floors
+pub mod Hears
+pub mod Places
+pub mod Splits
+pub mod Keeping
+pub mod Following
+pub mod Later
+pub mod Durables
+pub mod Exact
+pub mod Acknowledging
+pub mod Standing
+pub mod Retrieving
+pub mod Latest
+pub mod Ordering
+pub mod Example
+pub mod Consistent
