@@ -1,7 +1,9 @@
 pub mod Applied
 pub mod Between
 pub mod Breaks
+pub mod Broken
 pub mod Course
+pub mod Cuts
 pub mod Generations
 pub mod Hears
 pub mod Left
@@ -13,3 +15,4 @@ pub mod Positions
 pub mod Pulls
 pub mod Servers
 pub mod Shards
+pub mod Stops
