@@ -1,5 +1,6 @@
 pub mod Applied
 pub mod Between
+pub mod BreakOff
 pub mod Breaks
 pub mod Broken
 pub mod Course

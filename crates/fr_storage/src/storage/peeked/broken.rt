@@ -49,6 +49,7 @@ impl<S: ShardStore> Storage<S> {
         if let Some(refusal) = self.peeked_refusal(epoch, peeked) {
             return Err(refusal);
         }
+        let records = peeked.records();
         if version == self.applied {
             return Ok(true);
         }
@@ -59,7 +60,7 @@ impl<S: ShardStore> Storage<S> {
         if !stops_at(&reach, peeked, version) {
             return Ok(false);
         }
-        match pull_through(alloc, &mut self.store, peeked.records(), version) {
+        match pull_through(alloc, &mut self.store, records, version) {
             Ok(()) => {
                 self.applied = version;
                 Ok(true)
