@@ -1,11 +1,11 @@
 -- A storage server whose hear of records breaks off at a version.
-use Rattle.std.proofs.Common.{◌≡◌, ℕ, Bool, true, false, List, ◌++◌, Option, None, Some, refl, sym, ap, ◌∙◌, subst}
+use Rattle.std.proofs.Common.{◌≡◌, ℕ, Bool, true, false, List, ◌++◌, Option, None, Some, sym, ◌∙◌, subst}
 use Rattle.std.specs.Prelude.{◌==◌}
 use Rattle.std.proofs.lemmas.Bool.{eq-eqb}
 use Rattle.fr_undo.specs.State.{StoreState}
 use Rattle.fr_state.specs.LookUp.{end_of}
 use Rattle.fr_log.specs.Peeked.{PeekedContent, IsPeeked}
-use Rattle.fr_storage.specs.Storage.{StorageState, Call, after_calls, broken_at, peeked_calls}
+use Rattle.fr_storage.specs.Storage.{Call, after_calls, broken_at, peeked_calls}
 use Rattle.fr_storage.specs.Broken.{stops_at, calls_through}
 use Rattle.fr_storage.specs.Server.{Server, storage_of, LeavesStages}
 use Rattle.fr_storage.proofs.Broken.{IsBroken, found_is_broken}

@@ -1,20 +1,17 @@
 -- Where the calls of a store break off at a version, and the first calls that lead there.
-use Rattle.std.proofs.Common.{◌≡◌, ℕ, zero, suc, ◌+◌, ◌<◌, ◌≤◌, Bool, true, false, cond, ◌&&◌, ◌||◌, nat_lt, nat_le, max, min, List, [], ◌∷◌, ◌++◌, map, Option, None, Some, inl, inr, refl, sym, ap, ◌∙◌, subst, arith, IsTrue}
-use Rattle.std.specs.Prelude.{◌⊎◌, ◌==◌, find, filter, reverse, Contains}
+use Rattle.std.proofs.Common.{◌≡◌, ℕ, ◌<◌, ◌≤◌, Bool, true, false, cond, ◌&&◌, ◌||◌, nat_lt, nat_le, max, List, [], ◌∷◌, ◌++◌, map, Option, None, Some, inl, inr, refl, sym, ap, ◌∙◌, subst, arith}
+use Rattle.std.specs.Prelude.{◌==◌, find, filter, reverse}
 use Rattle.std.specs.Option.{option_or}
-use Rattle.std.specs.List.{list_all, list_any}
-use Rattle.std.proofs.lemmas.Bool.{and_parts, and_right, and_left, or_parts, cases_order, eq-eqb, eqb-true, eqb-false, false_from_ne_true, ne_eqb, leb-true, le-leb, lt-leb, lt-ltb, le-ltb, ltb-true, ltb-false}
-use Rattle.std.proofs.lemmas.List.{reverse-append, append_assoc}
+use Rattle.std.proofs.lemmas.Bool.{and_parts, and_right, and_left, or_parts, cases_order, eq-eqb, eqb-true, eqb-false, false_from_ne_true, ne_eqb, le-leb, lt-leb, lt-ltb, le-ltb, ltb-true}
+use Rattle.std.proofs.lemmas.List.{reverse-append}
 use Rattle.std.proofs.lemmas.List.Folds.{find-append}
 use Rattle.fr_base.specs.Bytes.{bytes_eq}
 use Rattle.fr_base.specs.Same.{bytes_eq-IsSameness}
 use Rattle.fr_undo.specs.State.{StoreState}
 use Rattle.fr_undo.specs.Undo.{advanced, forgotten}
 use Rattle.fr_log.specs.declared.records.PeekedRecord.{PeekedRecord}
-use Rattle.fr_log.specs.Peeked.{is_rising_from}
-use Rattle.fr_storage.specs.Storage.{Call, Advance, Forget, called, after_calls, stages, is_broken_at, broken_at, is_within, cut_at, records_between, reached, apply_of, advance_calls, forget_calls}
+use Rattle.fr_storage.specs.Storage.{Call, Advance, Forget, called, after_calls, stages, is_broken_at, broken_at, reached, apply_of, advance_calls, forget_calls}
 use Rattle.fr_storage.specs.Broken.{has_version}
-use Rattle.fr_storage.proofs.Left.{floor_after}
 
 -- ---- the last stage at a version
 

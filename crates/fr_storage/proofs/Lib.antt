@@ -4,7 +4,6 @@ pub mod BreakOff
 pub mod Breaks
 pub mod Broken
 pub mod Course
-pub mod Cuts
 pub mod Generations
 pub mod Hears
 pub mod Left

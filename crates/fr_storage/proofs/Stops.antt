@@ -1,10 +1,9 @@
 -- The versions at which an answer of a log breaks off.
-use Rattle.std.proofs.Common.{◌≡◌, ℕ, suc, ◌+◌, ◌<◌, ◌≤◌, Bool, true, false, cond, ◌&&◌, ◌||◌, nat_lt, nat_le, max, min, List, [], ◌∷◌, ◌++◌, map, Option, None, Some, inl, inr, refl, sym, ap, ◌∙◌, subst, arith, IsTrue}
-use Rattle.std.specs.Prelude.{◌⊎◌, ◌==◌, filter, Contains}
-use Rattle.std.specs.List.{list_all, list_any}
-use Rattle.std.proofs.lemmas.Bool.{and_parts, and_from, and_right, and_cases, or_parts, cases_lt, cases_order, cases_Bool, eqb-true, eq-eqb, ne_eqb, leb-true, leb-false, le-leb, lt-ltb, ltb-true}
+use Rattle.std.proofs.Common.{◌≡◌, ℕ, ◌+◌, ◌<◌, ◌≤◌, Bool, true, false, cond, ◌&&◌, ◌||◌, nat_lt, nat_le, max, min, List, [], ◌∷◌, ◌++◌, map, Option, None, Some, inl, inr, refl, sym, ap, ◌∙◌, subst, arith, IsTrue}
+use Rattle.std.specs.Prelude.{◌⊎◌, ◌==◌, Contains}
+use Rattle.std.specs.List.{list_all}
+use Rattle.std.proofs.lemmas.Bool.{and_parts, and_from, and_right, or_parts, cases_order, cases_Bool, eq-eqb, ne_eqb, leb-true, le-leb, lt-ltb, ltb-true}
 use Rattle.std.proofs.lemmas.List.{append_assoc}
-use Rattle.fr_base.specs.Bytes.{bytes_eq}
 use Rattle.fr_undo.specs.State.{StoreState}
 use Rattle.fr_log.specs.declared.records.PeekedRecord.{PeekedRecord}
 use Rattle.fr_log.specs.Peeked.{PeekedContent, IsPeeked, is_rising_from}
@@ -14,7 +13,7 @@ use Rattle.fr_storage.specs.Pull.{pull_calls}
 use Rattle.fr_storage.specs.Server.{LeavesStages}
 use Rattle.fr_storage.proofs.Left.{front_stages}
 use Rattle.fr_storage.proofs.Pulls.{rise}
-use Rattle.fr_storage.proofs.Broken.{Keeps, keeps_itself, Rises, Bounded, through, Leads, all_calls, first_calls, broken_is_last, last_at, below, here, missing, leads}
+use Rattle.fr_storage.proofs.Broken.{keeps_itself, Rises, Bounded, through, Leads, all_calls, first_calls, broken_is_last, last_at, below, here, missing, leads}
 
 -- ---- ends
 

@@ -1,10 +1,9 @@
-use Rattle.std.proofs.Common.{◌≡◌, ℕ, Option, None, Some, false, true, List, subst, sym, ap, ◌∙◌}
+use Rattle.std.proofs.Common.{◌≡◌, Option, List, subst, sym, ap, ◌∙◌}
 use Rattle.std.specs.Prelude.{is_some, unwrap_or}
 use Rattle.std.proofs.lemmas.Bool.{eqb-true}
 use Rattle.fr_undo.specs.State.{StoreState}
 use Rattle.fr_state.specs.LookUp.{end_of}
-use Rattle.fr_log.specs.declared.records.PeekedRecord.{PeekedRecord}
-use Rattle.fr_storage.specs.Storage.{StorageState, Call, after_calls, peeked_calls}
+use Rattle.fr_storage.specs.Storage.{Call, after_calls, peeked_calls}
 use Rattle.fr_storage.specs.Broken.{calls_through, after_broken}
 use Rattle.fr_storage.specs.Server.{Server, storage_of, IsSpelled, IsServer, LeavesStages}
 use Rattle.fr_storage.proofs.Servers.{opened, own_spelled, broken, rests, pulled_bytes, ended}

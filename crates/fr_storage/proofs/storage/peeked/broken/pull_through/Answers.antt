@@ -1,11 +1,8 @@
-use Rattle.std.proofs.Common.{rules, ◌≡◌, ℕ, Some, List, map, subst, sym, ap, ◌∙◌}
+use Rattle.std.proofs.Common.{◌≡◌, ℕ, Some, map, subst, sym, ap, ◌∙◌}
 use Rattle.fr_undo.specs.State.{StoreState}
-use Rattle.fr_storage.specs.Storage.{Call, after_calls, records_between, reached, apply_of, advance_calls}
-use Rattle.fr_storage.specs.Broken.{calls_through}
+use Rattle.fr_storage.specs.Storage.{after_calls, records_between, reached, apply_of, advance_calls}
 use Rattle.fr_storage.specs.Server.{LeavesStages}
 use Rattle.fr_storage.proofs.Left.{on_err, after_both, front_stages, last_stages, applied_after}
-use Rattle.fr_storage.proofs.Stops.{stops_there}
-use Rattle.fr_storage.proofs.Cuts.{undone_at}
 use Rattle.fr_storage.proofs.storage.peeked.broken.pull_through.Goals as goal
 
 pub returns-in_err-apply_new-clause-leaves : goal.returns-in_err-apply_new-clause-leaves
