@@ -1,15 +1,15 @@
 -- A storage server whose hear of records breaks off at a version.
-use Rattle.std.proofs.Common.{◌≡◌, ℕ, Bool, true, false, List, ◌++◌, Option, None, Some, sym, ◌∙◌, subst}
+use Rattle.std.proofs.Common.{◌≡◌, ℕ, Bool, true, false, nat_lt, ◌&&◌, ◌||◌, List, [], ◌++◌, Option, None, Some, sym, ap, ◌∙◌, subst}
 use Rattle.std.specs.Prelude.{◌==◌}
-use Rattle.std.proofs.lemmas.Bool.{eq-eqb}
+use Rattle.std.proofs.lemmas.Bool.{and_parts, eq-eqb}
 use Rattle.fr_undo.specs.State.{StoreState}
 use Rattle.fr_state.specs.LookUp.{end_of}
 use Rattle.fr_log.specs.Peeked.{PeekedContent, IsPeeked}
-use Rattle.fr_storage.specs.Storage.{Call, after_calls, broken_at, peeked_calls}
-use Rattle.fr_storage.specs.Broken.{stops_at, calls_through}
+use Rattle.fr_storage.specs.Storage.{Call, is_within, cut_at, records_between, after_calls, new_records, broken_at, peeked_calls}
+use Rattle.fr_storage.specs.Broken.{has_version, stops_at, calls_through}
 use Rattle.fr_storage.specs.Server.{Server, storage_of, LeavesStages}
-use Rattle.fr_storage.proofs.Broken.{IsBroken, found_is_broken}
-use Rattle.fr_storage.proofs.Stops.{Stop, stops_here, stops_there, stops_nowhere, at_first}
+use Rattle.fr_storage.proofs.Broken.{through, IsBroken, found_is_broken}
+use Rattle.fr_storage.proofs.Stops.{through_new, Stop, stops_here, stops_there, stops_nowhere, at_first}
 
 -- what is something is not nothing
 pub not_none : {X P : Type 0} (o : Option X) (x : X) → o ≡ Some x → o ≡ None → P
@@ -30,6 +30,14 @@ module _ {S : Type 0} (state_of : S → StoreState) (s n : Server S) (view : s �
     pub off_nowhere : (v == s.applied) ≡ false → stops_at s.applied end peeked v ≡ false → broken_at (state_of n.store) (peeked_calls (storage_of state_of n) epoch peeked) v ≡ None
     off_nowhere other never = subst (λ (m : Server S). broken_at (state_of m.store) (peeked_calls (storage_of state_of m) epoch peeked) v ≡ None) view
         (stops_nowhere (state_of s.store) (end_of s.state.gens epoch) peeked is v (λ e. let k : false ≡ true = sym other ∙ eq-eqb v s.applied (e ∙ at) in cc) (stops false never))
+
+    -- where there is no new record, none is applied
+    pub off_none : stops_at s.applied end peeked v ≡ true → new_records (storage_of state_of n) epoch peeked ≡ [] → records_between (state_of s.store).applied (Some v) peeked.records ≡ []
+    off_none there none =
+        let parts = and_parts (nat_lt (state_of s.store).applied v && is_within (end_of s.state.gens epoch) v) ((v == cut_at (end_of s.state.gens epoch) peeked.upto) || has_version v peeked.records) (stops true there) in
+        let within = (and_parts (nat_lt (state_of s.store).applied v) (is_within (end_of s.state.gens epoch) v) parts.0).1 in
+        through_new (state_of s.store).applied (end_of s.state.gens epoch) v peeked.records within
+        ∙ ap (through v) (ap (λ (m : Server S). new_records (storage_of state_of m) epoch peeked) view ∙ none)
 
     -- where it stops the calls through the version lead to what is found
     pub record Off : Type 0 where

@@ -101,7 +101,7 @@ module _ (a : ℕ) (end : Option ℕ) where
       go false is rest = rest
 
   -- the new ones through a version are those that lie between
-  through_new : (v : ℕ) (rs : List PeekedRecord) → is_within end v ≡ true → records_between a (Some v) rs ≡ through v (records_between a end rs)
+  pub through_new : (v : ℕ) (rs : List PeekedRecord) → is_within end v ≡ true → records_between a (Some v) rs ≡ through v (records_between a end rs)
   through_new v [] within = refl
   through_new v (r ∷ rs) within = go (through_new v rs within) (nat_le r.version v) refl (nat_lt a r.version)
     where

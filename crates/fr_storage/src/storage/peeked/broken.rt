@@ -1,8 +1,9 @@
 //! Records of a log are heard in part: the hear breaks off at a version.
-ghost use Rattle.std.specs.Prelude.{◌≡◌, ◌≢◌, ◌↔◌, ◌||◌, false, Ok, Err, None, OnOk, OnErr, IfOk, IfErr, IfSome, IsOk, IsTrue, is_some};
+ghost use Rattle.std.specs.Prelude.{◌≡◌, ◌≢◌, ◌↔◌, ◌||◌, false, [], Ok, Err, None, Some, OnOk, OnErr, IfOk, IfErr, IfSome, IsOk, IsTrue, is_some};
+ghost use Rattle.fr_undo.specs.Calls.{IsTrouble};
 ghost use Rattle.fr_log.specs.Peeked.{is_rising_from};
 ghost use Rattle.fr_storage.specs.declared.fault.StorageFault.{StorageFault};
-ghost use Rattle.fr_storage.specs.Storage.{StorageState, after_calls, broken_at, peeked_fault, peeked_calls};
+ghost use Rattle.fr_storage.specs.Storage.{StorageState, records_between, after_calls, new_records, broken_at, peeked_fault, peeked_calls};
 ghost use Rattle.fr_storage.specs.Broken.{has_version, stops_at, calls_through, after_broken};
 ghost use Rattle.fr_storage.specs.Server.{storage_of, kept_of, met_store, refusal_of, store_fault, IsCallTrouble, IsWhole, LeavesStages};
 
@@ -38,6 +39,7 @@ impl<S: ShardStore> Storage<S> {
         ensures refused { self.old.failed ≡ false → refusal_of result ≡ peeked_fault (storage_of S.state self.old) epoch peeked.now }
         ensures same { met_store result ≡ false → OnErr result (self.new ≡ self.old) }
         ensures trouble { IfSome (store_fault result) (λ fault. fault ≢ StoreFault.Failed → IsCallTrouble S.CanMeet S.CanMeetInPlace fault) }
+        ensures in_place { new_records (storage_of S.state self.old) epoch peeked.now ≡ [] → IfSome (store_fault result) (λ fault. fault ≢ StoreFault.Failed → IsTrouble S.CanMeetInPlace fault) }
         ensures err { OnErr result (kept_of self.new ≡ kept_of self.old) }
         ensures fails { self.new.failed ≡ (self.old.failed || met_store result) }
         ensures leaves { self.old.failed ≡ false → LeavesStages (S.MayLeave self.new.store) (S.state self.old.store) (peeked_calls (storage_of S.state self.old) epoch peeked.now) }
@@ -103,6 +105,7 @@ fn pull_through<S: ShardStore>(
     ensures ok { OnOk result (S.state store.new ≡ after_calls (S.state store.old) (calls_through (S.state store.old) version records.now)) }
     ensures whole { OnOk result (IsWhole S.state S.is_failed S.MayLeave store.new) }
     ensures trouble { IfErr result (IsCallTrouble S.CanMeet S.CanMeetInPlace) }
+    ensures in_place { records_between (S.state store.old).applied (Some version) records.now ≡ [] → IfErr result (IsTrouble S.CanMeetInPlace) }
     ensures leaves { OnErr result (LeavesStages (S.MayLeave store.new) (S.state store.old) (calls_through (S.state store.old) version records.now)) }
 {
     let reach = Reach {

@@ -1,14 +1,14 @@
-use Rattle.std.proofs.Common.{◌≡◌, Option, List, subst, sym, ap, ◌∙◌}
+use Rattle.std.proofs.Common.{Some, ◌≡◌, Option, List, subst, sym, ap, ◌∙◌}
 use Rattle.std.specs.Prelude.{is_some, unwrap_or}
 use Rattle.std.proofs.lemmas.Bool.{eqb-true}
 use Rattle.fr_undo.specs.State.{StoreState}
 use Rattle.fr_state.specs.LookUp.{end_of}
-use Rattle.fr_storage.specs.Storage.{Call, after_calls, peeked_calls}
+use Rattle.fr_storage.specs.Storage.{records_between, Call, after_calls, peeked_calls}
 use Rattle.fr_storage.specs.Broken.{calls_through, after_broken}
 use Rattle.fr_storage.specs.Server.{Server, storage_of, IsSpelled, IsServer, LeavesStages}
 use Rattle.fr_storage.proofs.Servers.{opened, own_spelled, broken, rests, pulled_bytes, ended}
 use Rattle.fr_storage.proofs.Pulls.{rise}
-use Rattle.fr_storage.proofs.BreakOff.{Off, not_none, off_here, off_nowhere, off_there, off_leaves, off_seen}
+use Rattle.fr_storage.proofs.BreakOff.{Off, not_none, off_here, off_nowhere, off_there, off_none, off_leaves, off_seen}
 use Rattle.fr_storage.proofs.storage.Storage.break_off_peeked.Goals as goal
 
 pub returns-in-Some-clause-leaves : goal.returns-in-Some-clause-leaves
@@ -143,6 +143,14 @@ returns-in-Ok-clause-leaves g c fine =
     c.in-Ok.ensures.ok ∙ ap (after_calls (g.S.ShardStore.state c.self.inside.store)) part in
     off_seen g.S.ShardStore.state s c.args.self.now c.self.view_is (c.self.invariant.applied c.if-self.false) c.args.epoch c.args.peeked.now c.records-records.ensures.sound c.args.version c.end_of.result c.end_of.ensures off (store.MayLeave c.pull_through.new.store)
     (ended store.state store.is_failed store.MayLeave c.pull_through.new.store (store.state c.self.inside.store) (calls_through (store.state c.self.inside.store) c.args.version c.args.peeked.now.records) c.in-Ok.ensures.whole store_is)
+
+pub returns-in-Err-clause-in_place : goal.returns-in-Err-clause-in_place
+returns-in-Err-clause-in_place g c none differs =
+    let s : Server g.row.S.Denot = record { tag = c.self.inside.tag; state = c.self.inside.state; applied = c.self.inside.applied; floor = c.self.inside.floor; store = c.self.inside.store; failed = c.self.inside.failed } in
+    c.in-Err.ensures.in_place
+    (ap (records_between (g.S.ShardStore.state c.self.inside.store).applied (Some c.args.version)) c.records-records.ensures.value
+    ∙ off_none g.S.ShardStore.state s c.args.self.now c.self.view_is (c.self.invariant.applied c.if-self.false) c.args.epoch c.args.peeked.now c.records-records.ensures.sound c.args.version c.end_of.result c.end_of.ensures
+    (sym c.stops_at.ensures ∙ c.if-not-stops_at.false) none)
 
 pub returns-in-Err-clause-never : goal.returns-in-Err-clause-never
 returns-in-Err-clause-never g c fine taken none =

@@ -2,7 +2,7 @@ use Rattle.std.proofs.Common.{◌≡◌, ℕ, Some, map, subst, sym, ap, ◌∙�
 use Rattle.fr_undo.specs.State.{StoreState}
 use Rattle.fr_storage.specs.Storage.{after_calls, records_between, reached, apply_of, advance_calls}
 use Rattle.fr_storage.specs.Server.{LeavesStages}
-use Rattle.fr_storage.proofs.Left.{on_err, after_both, front_stages, last_stages, applied_after}
+use Rattle.fr_storage.proofs.Left.{on_err, not_ok, after_both, front_stages, last_stages, applied_after}
 use Rattle.fr_storage.proofs.storage.peeked.broken.pull_through.Goals as goal
 
 pub returns-in_err-apply_new-clause-leaves : goal.returns-in_err-apply_new-clause-leaves
@@ -43,3 +43,8 @@ returns-clause-ok g c =
     ∙ ap (λ (n : ℕ). after_calls middle (advance_calls n v)) at
     ∙ ap (λ (t : StoreState). after_calls t (advance_calls (reached s.applied new) v)) is
     ∙ sym (after_both s (map apply_of new) (advance_calls (reached s.applied new) v))
+
+pub returns-in_err-apply_new-clause-in_place : goal.returns-in_err-apply_new-clause-in_place
+returns-in_err-apply_new-clause-in_place g c none =
+    not_ok c.apply_new.result c.in_err-apply_new.field-0.0 c.in_err-apply_new.was
+    (c.apply_new.ensures.idle (ap (λ (n : ℕ). records_between n (Some c.args.version) c.args.records.now) c.applied.ensures.value ∙ none))
