@@ -1,6 +1,8 @@
 pub mod Applied
 pub mod Between
+pub mod BreakOff
 pub mod Breaks
+pub mod Broken
 pub mod Course
 pub mod Generations
 pub mod Hears
@@ -13,3 +15,4 @@ pub mod Positions
 pub mod Pulls
 pub mod Servers
 pub mod Shards
+pub mod Stops

@@ -1,3 +1,4 @@
+pub mod Broken
 pub mod Course
 pub mod Follows
 pub mod Law

@@ -6,6 +6,8 @@ ghost use Rattle.fr_storage.specs.declared.fault.StorageFault.{StorageFault};
 ghost use Rattle.fr_storage.specs.Storage.{StorageState, UndoTo, SetState, own_epoch, cut_in, is_front, after_calls, marked_fault, marked_calls, after_marked};
 ghost use Rattle.fr_storage.specs.Server.{storage_of, kept_of, met_store, refusal_of, store_fault, IsMarkTrouble, IsWhole, LeavesStages};
 
+mod broken;
+
 use super::Storage;
 use crate::fault::StorageFault;
 use fr_base::{Bytes, Version};

@@ -7,6 +7,8 @@ ghost use Rattle.fr_storage.specs.Storage.{StorageState, is_within, cut_at, reco
 ghost use Rattle.fr_storage.specs.Server.{storage_of, kept_of, met_store, refusal_of, store_fault, IsCallTrouble, IsWhole, LeavesStages};
 ghost use Rattle.fr_storage.specs.Pull.{pull_calls};
 
+mod broken;
+
 use super::Storage;
 use crate::fault::StorageFault;
 use fr_base::{Epoch, Version};

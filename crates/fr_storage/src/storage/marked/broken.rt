@@ -1,0 +1,83 @@
+//! A coordinated state is heard in part: the hear breaks off at a version.
+ghost use Rattle.std.specs.Prelude.{◌≡◌, ◌≢◌, ◌≤◌, ◌↔◌, ◌||◌, false, [], ◌∷◌, Ok, Err, None, OnOk, OnErr, IfOk, IfErr, IfSome, IsOk, IsTrue, is_some};
+ghost use Rattle.fr_undo.specs.Calls.{IsTrouble};
+ghost use Rattle.fr_undo.specs.Undo.{undone};
+ghost use Rattle.fr_state.specs.Laws.{OneSpellingOneState};
+ghost use Rattle.fr_storage.specs.declared.fault.StorageFault.{StorageFault};
+ghost use Rattle.fr_storage.specs.Storage.{StorageState, UndoTo, broken_at, marked_fault, marked_calls};
+ghost use Rattle.fr_storage.specs.Broken.{after_broken};
+ghost use Rattle.fr_storage.specs.Server.{storage_of, kept_of, met_store, refusal_of, store_fault, IsWhole, LeavesStages};
+
+use super::super::Storage;
+use crate::fault::StorageFault;
+use fr_base::Version;
+use fr_state::{CoordState, spelling_law};
+use fr_undo::{ShardStore, StoreFault};
+use std::alloc::Global;
+
+impl<S: ShardStore> Storage<S> {
+    /// Hears the coordinated state of a mark, as [`hear_marked`](Storage::hear_marked) does, but breaks off at
+    /// a version: the server then stands as it would if it had crashed before the state was kept, and had been
+    /// opened again. A hear breaks off at the version applied, and at the cut of the own epoch where that is
+    /// below it. True where it breaks off at this one; else nothing changes, and no call of the store is made.
+    pub fn break_off_marked(
+        &mut self,
+        alloc: Global,
+        state: &CoordState,
+        version: Version,
+    ) -> Result<bool, StorageFault>
+        ensures found { IfOk result (λ found. found ≡ is_some (broken_at (S.state self.old.store) (marked_calls (storage_of S.state self.old) state.now) version)) }
+        ensures ok { OnOk result (storage_of S.state self.new ≡ after_broken (storage_of S.state self.old) (marked_calls (storage_of S.state self.old) state.now) version) }
+        ensures position { IfOk result (λ found. IsTrue found → self.new.applied ≡ version) }
+        ensures floor { self.new.floor ≡ self.old.floor }
+        ensures unfound { IfOk result (λ found. found ≡ false → self.new ≡ self.old) }
+        ensures never { self.old.failed ≡ false → marked_fault (storage_of S.state self.old) state.now ≡ None → broken_at (S.state self.old.store) (marked_calls (storage_of S.state self.old) state.now) version ≡ None → result ≡ Ok false }
+        ensures idle { self.old.failed ≡ false → marked_fault (storage_of S.state self.old) state.now ≡ None → marked_calls (storage_of S.state self.old) state.now ≡ [] → self.new ≡ self.old × IsOk result }
+        ensures failed { (result ≡ Err (StorageFault.Store StoreFault.Failed)) ↔ IsTrue self.old.failed }
+        ensures refused { self.old.failed ≡ false → refusal_of result ≡ marked_fault (storage_of S.state self.old) state.now }
+        ensures same { met_store result ≡ false → OnErr result (self.new ≡ self.old) }
+        ensures trouble { IfSome (store_fault result) (λ fault. fault ≢ StoreFault.Failed → IsTrouble S.CanMeet fault) }
+        ensures err { OnErr result (kept_of self.new ≡ kept_of self.old) }
+        ensures fails { self.new.failed ≡ (self.old.failed || met_store result) }
+        ensures leaves { self.old.failed ≡ false → LeavesStages (S.MayLeave self.new.store) (S.state self.old.store) (marked_calls (storage_of S.state self.old) state.now) }
+        ensures still { IsTrue self.old.failed → self.new ≡ self.old }
+    {
+        if self.failed {
+            return Err(StorageFault::Store(StoreFault::Failed));
+        }
+        if let Some(refusal) = self.marked_refusal(state) {
+            return Err(refusal);
+        }
+        if self.keeps(state) {
+            return Ok(version == self.applied);
+        }
+        spelling_law();
+        let cut = self.cut_in(state);
+        if version != self.applied.min(cut) {
+            return Ok(version == self.applied);
+        }
+        match undo_to(alloc, &mut self.store, cut) {
+            Ok(()) => {
+                self.applied = version;
+                Ok(true)
+            }
+            Err(fault) => {
+                self.failed = true;
+                Err(StorageFault::Store(fault))
+            }
+        }
+    }
+}
+
+/// Undoes a store to a version that is not below its floor.
+fn undo_to<S: ShardStore>(alloc: Global, store: &mut S, cut: Version) -> Result<(), StoreFault>
+    requires whole { IsWhole S.state S.is_failed S.MayLeave store.old }
+    requires within { (S.state store.old).floor ≤ cut }
+    ensures ok { OnOk result (S.state store.new ≡ undone (S.state store.old) cut) }
+    ensures whole { OnOk result (IsWhole S.state S.is_failed S.MayLeave store.new) }
+    ensures trouble { IfErr result (IsTrouble S.CanMeet) }
+    ensures leaves { OnErr result (LeavesStages (S.MayLeave store.new) (S.state store.old) (UndoTo cut ∷ [])) }
+{
+    store.undo_to(alloc, cut)?;
+    Ok(())
+}
