@@ -13,3 +13,4 @@ pub mod Positions
 pub mod Pulls
 pub mod Servers
 pub mod Shards
+pub mod Standing

@@ -5,4 +5,5 @@ pub mod Laws
 pub mod Position
 pub mod Pull
 pub mod Server
+pub mod Standing
 pub mod Storage

@@ -5,6 +5,7 @@ ghost use Rattle.fr_undo.specs.Calls.{IsTrouble, StaysUnlessFailed, LeavesNoMore
 ghost use Rattle.fr_storage.specs.Storage.{own_epoch, ask_after};
 ghost use Rattle.fr_storage.specs.Server.{IsServer, kept_of, met_store, refusal_of, store_fault};
 
+mod course;
 mod marked;
 mod opening;
 mod peeked;

@@ -1,0 +1,53 @@
+-- What answers make of a storage server over a store of any type that is opened again where a hear broke off.
+use Rattle.std.specs.Prelude.{◌≡◌, ◌≢◌, ◌⊎◌, ℕ, Bool, true, false, IsTrue, List, [], ◌∷◌, fold, map, Option, None, Some, All, Contains}
+use Rattle.fr_undo.specs.State.{StoreState}
+use Rattle.fr_state.specs.Generations.{CoordinatedState, IsCoordinatedState}
+use Rattle.fr_state.specs.Spelling.{spelling}
+use Rattle.fr_storage.specs.declared.answer.Answer.{Answer}
+use Rattle.fr_storage.specs.declared.answer.Answer.TheVariants as answer
+use Rattle.fr_storage.specs.declared.fault.StorageFault.{StorageFault}
+use Rattle.fr_storage.specs.declared.fault.StorageFault.TheVariants.{Older, Stranger, BelowFloor, NotMyGeneration, Hole, Store, BadState}
+use Rattle.fr_storage.specs.Storage.{StorageState}
+use Rattle.fr_storage.specs.Server.{Server, storage_of}
+use Rattle.fr_storage.specs.Follows.{Pieces, ArePieces}
+use Rattle.fr_storage.specs.Course.{Heard, Mark, Records, fault_of, after_hear, IsAfter, AreOneChain, IsTrueHeard, Stands, IsChosenBy}
+
+-- what is heard of an answer
+abbrev pub heard_of : Answer → Heard
+heard_of (answer.Marked x) = Mark x
+heard_of (answer.Peeked epoch peeked) = Records epoch peeked
+
+-- a server after answers that are all heard whole
+abbrev pub after_hears : StorageState → List Answer → StorageState
+after_hears s answers = fold after_hear s (map heard_of answers)
+
+-- answers lead from one server to another, each of them heard whole or broken off and opened again
+abbrev pub LeadTo : StorageState → List Answer → StorageState → Type 0
+LeadTo s [] n = n ≡ s
+LeadTo s (answer ∷ answers) n = (mid : StorageState) × IsAfter s (heard_of answer) mid × LeadTo mid answers n
+
+-- a server refuses one of these answers so
+abbrev pub RefusesOne : StorageState → List Answer → StorageFault → Type 0
+RefusesOne s answers fault = (answer : Answer) × Contains answers answer × (fault_of s (heard_of answer) ≡ Some fault)
+
+-- whether an answer is refused since it came late or too early
+abbrev pub is_untimely : StorageFault → Bool
+is_untimely Older = true
+is_untimely Stranger = false
+is_untimely BelowFloor = false
+is_untimely NotMyGeneration = true
+is_untimely Hole = true
+is_untimely (Store fault) = false
+is_untimely BadState = false
+
+-- a server stands: while it works as it is, and once it failed in each state that opening it again may find
+pub record IsStanding {S : Type 0} (state_of : S → StoreState) (MayLeave : S → StoreState → Type 0) (pieces : Pieces) (Chosen : CoordinatedState → Type 0) (s : Server S) : Type 0 where
+  pub works : s.failed ≡ false → Stands pieces Chosen (storage_of state_of s)
+  pub found : IsTrue s.failed → (x : CoordinatedState) (left : StoreState) → MayLeave s.store left → IsCoordinatedState x → left.bytes ≡ spelling x → Stands pieces Chosen (record { tag = s.tag; state = x; store = left })
+
+-- a server that stands is left standing by what it hears, where that is true, and is refused neither as a stranger nor below its floor
+abbrev pub StaysStanding : {S : Type 0} → (S → StoreState) → (S → StoreState → Type 0) → List Heard → Server S → Server S → Option StorageFault → Type 0
+StaysStanding state_of MayLeave heards old new refusal =
+    (pieces : Pieces) (is_chosen : CoordinatedState → Bool) → let Chosen = IsChosenBy is_chosen in
+    ArePieces pieces → AreOneChain pieces Chosen → All (IsTrueHeard pieces Chosen) heards → IsStanding state_of MayLeave pieces Chosen old
+    → IsStanding state_of MayLeave pieces Chosen new × (refusal ≢ Some Stranger) × (refusal ≢ Some BelowFloor)
