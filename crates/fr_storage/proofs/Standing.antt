@@ -2,7 +2,6 @@
 use Rattle.std.proofs.Common.{◌≡◌, ℕ, suc, Bool, true, false, ◌||◌, List, [], ◌∷◌, map, Option, None, Some, inl, inr, refl, sym, ap, ◌∙◌, subst, arith}
 use Rattle.std.proofs.lemmas.List.Elements.{recursion_from_All, All-from_recursion}
 use Rattle.std.specs.Prelude.{◌≢◌, ◌↔◌, IsTrue, All, Contains, Result, Ok, Err, OnOk, OnErr}
-use Rattle.fr_undo.specs.declared.fault.StoreFault.{StoreFault}
 use Rattle.fr_undo.specs.declared.fault.StoreFault.TheVariants.{Failed}
 use Rattle.fr_undo.specs.State.{StoreState}
 use Rattle.fr_undo.specs.Calls.{LeavesNoMore}
@@ -12,9 +11,11 @@ use Rattle.fr_storage.specs.declared.answer.Answer.{Answer}
 use Rattle.fr_storage.specs.declared.fault.StorageFault.{StorageFault}
 use Rattle.fr_storage.specs.declared.fault.StorageFault.TheVariants.{Older, Stranger, BelowFloor, NotMyGeneration, Hole, Store, BadState}
 use Rattle.fr_storage.specs.Storage.{StorageState}
-use Rattle.fr_storage.specs.Server.{Server, Kept, storage_of, kept_of, met_store, refusal_of, LeavesStages}
+use Rattle.fr_storage.specs.Server.{Server, Kept, IsServer, storage_of, kept_of, met_store, refusal_of, LeavesStages}
 use Rattle.fr_storage.specs.Follows.{Pieces, ArePieces}
 use Rattle.fr_storage.specs.Course.{Heard, Mark, Records, Nothing, fault_of, calls_of, after_hear, IsAfter, AreOneChain, IsTrueHeard, Stands, IsChosenBy, HearStands}
+use Rattle.fr_storage.specs.Laws.{Laws}
+use Rattle.fr_storage.proofs.Course.{spelled_one}
 use Rattle.fr_storage.proofs.Hears.{marked_refused, peeked_refused}
 use Rattle.fr_storage.specs.Standing.{heard_of, after_hears, LeadTo, RefusesOne, IsStanding, StaysStanding}
 
@@ -97,20 +98,43 @@ module _ {S : Type 0} (state_of : S → StoreState) (MayLeave : S → StoreState
   pub heard_stands : Good new × (refusal_of result ≢ Some Stranger) × (refusal_of result ≢ Some BelowFloor)
   heard_stands = by_failed old.failed refl
 
-module _ {S : Type 0} (state_of : S → StoreState) (MayLeave : S → StoreState → Type 0) where
-  -- a failed server that stands is left standing where it is opened again, whether or not it opens
-  pub opened_stands : (old new : Server S) (result : Result (Unit {0}) StorageFault) → old.failed ≡ true
-      → OnOk result (MayLeave old.store (state_of new.store)) → OnOk result ((state_of new.store).bytes ≡ spelling new.state) → IsCoordinatedState new.state → new.tag ≡ old.tag
-      → OnOk result (new.failed ≡ false) → OnErr result (new.failed ≡ true) → LeavesNoMore (MayLeave old.store) (MayLeave new.store)
-      → (pieces : Pieces) (Chosen : CoordinatedState → Type 0) → IsStanding state_of MayLeave pieces Chosen old → IsStanding state_of MayLeave pieces Chosen new
-  opened_stands old new (Ok x) failed found spelled state tag works fails leaves pieces Chosen standing = record {
-    works = λ f. subst (λ (t : ℕ). Stands pieces Chosen (record { tag = t; state = new.state; store = state_of new.store })) (sym tag) (standing.found failed new.state (state_of new.store) found state spelled);
+-- ---- servers that are opened again
+
+-- what opening a server again may find stands
+abbrev pub FindsStanding : {S : Type 0} → (S → StoreState → Type 0) → Pieces → (CoordinatedState → Type 0) → Server S → Type 0
+FindsStanding MayLeave pieces Chosen s =
+    (x : CoordinatedState) (left : StoreState) → MayLeave s.store left → IsCoordinatedState x → left.bytes ≡ spelling x → Stands pieces Chosen (record { tag = s.tag; state = x; store = left })
+
+module _ {S : Type 0} (state_of : S → StoreState) (is_failed : S → Bool) (MayLeave : S → StoreState → Type 0) (pieces : Pieces) (Chosen : CoordinatedState → Type 0) where
+  -- of a server that stands, whether or not it failed
+  pub finds : Laws → (s : Server S) → IsServer state_of is_failed MayLeave s → IsStanding state_of MayLeave pieces Chosen s → FindsStanding MayLeave pieces Chosen s
+  finds laws s is standing x left may state spelled = go s.failed refl
+    where
+      go : (b : Bool) → s.failed ≡ b → Stands pieces Chosen (record { tag = s.tag; state = x; store = left })
+      go true failed = standing.found failed x left may state spelled
+      go false fine =
+          let store : left ≡ state_of s.store = (is.whole fine).left left may in
+          let own : x ≡ s.state = spelled_one laws x s.state state is.state (sym spelled ∙ ap (λ (t : StoreState). t.bytes) store ∙ is.bytes fine) in
+          subst (Stands pieces Chosen) (λ i. record { tag = s.tag; state = sym own i; store = sym store i }) (standing.works fine)
+
+  -- a server that failed stands, where each store that it may find is one that could be found before
+  pub failed_stands : (old new : Server S) → FindsStanding MayLeave pieces Chosen old → new.tag ≡ old.tag → new.failed ≡ true → LeavesNoMore (MayLeave old.store) (MayLeave new.store) → IsStanding state_of MayLeave pieces Chosen new
+  failed_stands old new found tag failed leaves = record {
+    works = λ f. absurd (not_both new.failed failed f);
+    found = λ f x left may is bytes. subst (λ (t : ℕ). Stands pieces Chosen (record { tag = t; state = x; store = left })) (sym tag) (found x left (leaves left may) is bytes);
+  }
+
+  -- a server that works stands, where its store is one that could be found before
+  pub opened_stands : (old new : Server S) → FindsStanding MayLeave pieces Chosen old → new.tag ≡ old.tag → new.failed ≡ false → MayLeave old.store (state_of new.store) → IsCoordinatedState new.state → (state_of new.store).bytes ≡ spelling new.state
+      → IsStanding state_of MayLeave pieces Chosen new
+  opened_stands old new found tag works may state spelled = record {
+    works = λ f. subst (λ (t : ℕ). Stands pieces Chosen (record { tag = t; state = new.state; store = state_of new.store })) (sym tag) (found new.state (state_of new.store) may state spelled);
     found = λ f. absurd (not_both new.failed f works);
   }
-  opened_stands old new (Err fault) failed found spelled state tag works fails leaves pieces Chosen standing = record {
-    works = λ f. absurd (not_both new.failed fails f);
-    found = λ f x left may is bytes. subst (λ (t : ℕ). Stands pieces Chosen (record { tag = t; state = x; store = left })) (sym tag) (standing.found failed x left (leaves left may) is bytes);
-  }
+
+  -- a server that works and stands as data stands
+  pub works_stands : (s : Server S) → s.failed ≡ false → Stands pieces Chosen (storage_of state_of s) → IsStanding state_of MayLeave pieces Chosen s
+  works_stands s fine stands = record { works = λ f. stands; found = λ f. absurd (not_both s.failed f fine) }
 
 -- ---- answers, one after the other
 
@@ -153,9 +177,11 @@ module _ {S : Type 0} (state_of : S → StoreState) (MayLeave : S → StoreState
   -- the answer is one of the answers, and it is refused
   pub refuses : (fault : StorageFault) → Among rest → mid.failed ≡ false → new ≡ mid → (mid.failed ≡ false → refusal_of result ≡ fault_of (storage_of state_of mid) (heard_of answer)) → refusal_of result ≡ Some fault
       → RefusesOne (storage_of state_of new) answers fault
-  refuses fault h fine same refused e =
-      (answer, h answer (subst (λ (xs : List Answer). Contains xs answer) (sym is) (0, omega arith, refl)),
-      ap (λ (s : Server S). fault_of (storage_of state_of s) (heard_of answer)) same ∙ sym (refused fine) ∙ e)
+  refuses fault h fine same refused e = (
+    answer,
+    h answer (subst (λ (xs : List Answer). Contains xs answer) (sym is) (0, omega arith, refl)),
+    ap (λ (s : Server S). fault_of (storage_of state_of s) (heard_of answer)) same ∙ sym (refused fine) ∙ e,
+  )
 
   module _ (pieces : Pieces) (is_chosen : CoordinatedState → Bool) (are : ArePieces pieces) (one : AreOneChain pieces (IsChosenBy is_chosen)) where
     abbrev pub Standing : Server S → List Answer → Type 0

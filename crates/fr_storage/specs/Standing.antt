@@ -1,5 +1,5 @@
 -- What answers make of a storage server over a store of any type that is opened again where a hear broke off.
-use Rattle.std.specs.Prelude.{◌≡◌, ◌≢◌, ◌⊎◌, ℕ, Bool, true, false, IsTrue, List, [], ◌∷◌, fold, map, Option, None, Some, All, Contains}
+use Rattle.std.specs.Prelude.{◌≡◌, ◌≢◌, Bool, true, false, IsTrue, List, [], ◌∷◌, fold, map, Option, Some, All, Contains}
 use Rattle.fr_undo.specs.State.{StoreState}
 use Rattle.fr_state.specs.Generations.{CoordinatedState, IsCoordinatedState}
 use Rattle.fr_state.specs.Spelling.{spelling}
@@ -51,3 +51,13 @@ StaysStanding state_of MayLeave heards old new refusal =
     (pieces : Pieces) (is_chosen : CoordinatedState → Bool) → let Chosen = IsChosenBy is_chosen in
     ArePieces pieces → AreOneChain pieces Chosen → All (IsTrueHeard pieces Chosen) heards → IsStanding state_of MayLeave pieces Chosen old
     → IsStanding state_of MayLeave pieces Chosen new × (refusal ≢ Some Stranger) × (refusal ≢ Some BelowFloor)
+
+-- a server that begins in a state stands, where that state is chosen
+abbrev pub BeginsStanding : {S : Type 0} → (S → StoreState) → (S → StoreState → Type 0) → CoordinatedState → Server S → Type 0
+BeginsStanding state_of MayLeave x s =
+    (pieces : Pieces) (is_chosen : CoordinatedState → Bool) → let Chosen = IsChosenBy is_chosen in
+    ArePieces pieces → AreOneChain pieces Chosen → Chosen x → IsStanding state_of MayLeave pieces Chosen s
+
+-- a server over what an earlier one left stands where that one did
+abbrev pub StandsAgain : {S : Type 0} → (S → StoreState) → (S → StoreState → Type 0) → StorageState → Server S → Type 0
+StandsAgain state_of MayLeave left s = (pieces : Pieces) (is_chosen : CoordinatedState → Bool) → Stands pieces (IsChosenBy is_chosen) left → IsStanding state_of MayLeave pieces (IsChosenBy is_chosen) s

@@ -12,13 +12,35 @@ use fr_undo::{ShardStore, StoreFault};
 use std::alloc::Global;
 
 impl<S: ShardStore> Storage<S> {
+    /// Hears an answer, as [`hear_marked`](Storage::hear_marked) or [`hear_peeked`](Storage::hear_peeked) does. A
+    /// server that stands is left standing by each answer that is true, and does not refuse it as of a stranger or
+    /// below its floor.
+    pub fn hear(&mut self, alloc: Global, answer: Answer) -> Result<(), StorageFault>
+        ensures ok { OnOk result (storage_of S.state self.new ≡ after_hear (storage_of S.state self.old) (heard_of answer)) }
+        ensures failed { (result ≡ Err (StorageFault.Store StoreFault.Failed)) ↔ IsTrue self.old.failed }
+        ensures refused { self.old.failed ≡ false → refusal_of result ≡ fault_of (storage_of S.state self.old) (heard_of answer) }
+        ensures same { met_store result ≡ false → OnErr result (self.new ≡ self.old) }
+        ensures trouble { IfSome (store_fault result) (λ fault. fault ≢ StoreFault.Failed → IsMarkTrouble S.CanMeet S.CanMeetInPlace fault) }
+        ensures err { OnErr result (kept_of self.new ≡ kept_of self.old) }
+        ensures fails { self.new.failed ≡ (self.old.failed || met_store result) }
+        ensures leaves { self.old.failed ≡ false → LeavesStages (S.MayLeave self.new.store) (S.state self.old.store) (calls_of (storage_of S.state self.old) (heard_of answer)) }
+        ensures still { IsTrue self.old.failed → self.new ≡ self.old }
+        ensures stands { StaysStanding S.state S.MayLeave (heard_of answer ∷ []) self.old self.new (refusal_of result) }
+    {
+        storage_law();
+        match answer {
+            Answer::Marked(state) => self.hear_marked(alloc, state),
+            Answer::Peeked(epoch, peeked) => self.hear_peeked(alloc, epoch, &peeked),
+        }
+    }
+
     /// Hears an answer, and where a call of the store is refused opens the server again: it then stands after
     /// some of the calls of the hear, in order. A server that is failed before hears nothing, and is opened
     /// again. It is failed afterwards only where it could not be opened again; the fault is then that of the
     /// opening.
     ///
-    /// A server that stands is left standing by each answer that is true (the storage law), whatever its store
-    /// refuses, and never met as a stranger nor below its floor.
+    /// A server that stands is left standing by each answer that is true, whatever its store refuses, and does not
+    /// refuse it as of a stranger or below its floor.
     pub fn follow(&mut self, alloc: Global, answer: Answer) -> Result<(), StorageFault>
         ensures ok { OnOk result (storage_of S.state self.new ≡ after_hear (storage_of S.state self.old) (heard_of answer)) }
         ensures refused { self.old.failed ≡ false → refusal_of result ≡ fault_of (storage_of S.state self.old) (heard_of answer) }
@@ -31,30 +53,11 @@ impl<S: ShardStore> Storage<S> {
         ensures kept { IsTrue self.new.failed → kept_of self.new ≡ kept_of self.old }
         ensures stands { StaysStanding S.state S.MayLeave (heard_of answer ∷ []) self.old self.new (refusal_of result) }
     {
-        storage_law();
         let heard = self.hear(alloc, answer);
         if self.failed {
             self.reopen(alloc)?;
         }
         heard
-    }
-
-    /// Hears an answer.
-    fn hear(&mut self, alloc: Global, answer: Answer) -> Result<(), StorageFault>
-        ensures ok { OnOk result (storage_of S.state self.new ≡ after_hear (storage_of S.state self.old) (heard_of answer)) }
-        ensures failed { (result ≡ Err (StorageFault.Store StoreFault.Failed)) ↔ IsTrue self.old.failed }
-        ensures refused { self.old.failed ≡ false → refusal_of result ≡ fault_of (storage_of S.state self.old) (heard_of answer) }
-        ensures same { met_store result ≡ false → OnErr result (self.new ≡ self.old) }
-        ensures trouble { IfSome (store_fault result) (λ fault. fault ≢ StoreFault.Failed → IsMarkTrouble S.CanMeet S.CanMeetInPlace fault) }
-        ensures err { OnErr result (kept_of self.new ≡ kept_of self.old) }
-        ensures fails { self.new.failed ≡ (self.old.failed || met_store result) }
-        ensures leaves { self.old.failed ≡ false → LeavesStages (S.MayLeave self.new.store) (S.state self.old.store) (calls_of (storage_of S.state self.old) (heard_of answer)) }
-        ensures still { IsTrue self.old.failed → self.new ≡ self.old }
-    {
-        match answer {
-            Answer::Marked(state) => self.hear_marked(alloc, state),
-            Answer::Peeked(epoch, peeked) => self.hear_peeked(alloc, epoch, &peeked),
-        }
     }
 
     /// Hears answers from first to last, each as [`follow`](Storage::follow) does, and gives the fault of the
@@ -63,7 +66,7 @@ impl<S: ShardStore> Storage<S> {
     /// the server cannot be opened again.
     ///
     /// A server that stands is left standing by every list of true answers, in any order, with repeats, whatever
-    /// its store refuses, and none of them is refused as of a stranger or below the floor.
+    /// its store refuses, and refuses none of them as of a stranger or below its floor.
     pub fn follow_all(
         &mut self,
         alloc: Global,

@@ -1,10 +1,9 @@
-use Rattle.std.proofs.Common.{◌≡◌, Bool, true, false, Option, None, Some, refl, sym, ap, ◌∙◌, subst}
+use Rattle.std.proofs.Common.{◌≡◌, false, sym, ap, ◌∙◌, subst}
 use Rattle.std.specs.Prelude.{Result, Err, OnErr}
 use Rattle.fr_storage.specs.declared.fault.StorageFault.{StorageFault}
-use Rattle.fr_storage.specs.declared.fault.StorageFault.TheVariants.{Older, Stranger, BelowFloor, NotMyGeneration, Hole, Store}
-use Rattle.fr_storage.specs.Storage.{StorageState}
+use Rattle.fr_storage.specs.declared.fault.StorageFault.TheVariants.{Older, Stranger, BelowFloor, NotMyGeneration, Hole}
 use Rattle.fr_storage.specs.Server.{Server, met_store, refusal_of}
-use Rattle.fr_storage.proofs.Standing.{not_both, works_before, on_whole, on_refused, on_course, on_among, on_standing}
+use Rattle.fr_storage.proofs.Standing.{works_before, on_whole, on_refused, on_course, on_among, on_standing}
 use Rattle.fr_storage.proofs.storage.Storage.follow_all.Goals as goal
 
 pub loop-answer-preserved-in-Ok : goal.loop-answer-preserved-in-Ok
