@@ -5,5 +5,3 @@
 mod end;
 #[cfg(test)]
 mod sequencer;
-#[cfg(test)]
-mod storage;

@@ -1,0 +1,88 @@
+//! Hears that break off at a call of the store, and are opened again.
+use crate::scene::{epoch, holds, peeked, stands, state, tag};
+use fails_once::FailsOnce;
+use fr_storage::{Storage, StorageFault};
+use fr_undo::StoreFault;
+use std::alloc::Global;
+use std::process::Abort;
+use std::test::Fail;
+
+/// A server of 257 at 6, which 513 ends at 11, over a store that fails in the call after `calls` others of the
+/// hear that follows: it set its state bytes, applied 5 and advanced to 6 before.
+fn before_the_hear(alloc: Global, calls: u32, is_done: bool) -> Result<Storage<FailsOnce>, Fail> {
+    let store = FailsOnce::new(alloc, calls.wrapping_add(3), is_done);
+    let mut storage = Storage::start(alloc, store, tag(0)?, state(alloc, &[(513, 12, 12)])?)?;
+    storage.hear_peeked(alloc, epoch(257)?, &peeked(alloc, 0, &[5], 6, 0)?)?;
+    Ok(storage)
+}
+
+/// The hear of three records, an end and a known, broken off in its call number `calls`, counted from 0.
+fn break_off(rt: &impl Abort, alloc: Global, calls: u32, is_done: bool) -> Result<(), Fail> {
+    assert!(rt; calls < 5);
+    let places = [
+        (6, 0, 5),
+        (7, 0, 7),
+        (8, 0, 8),
+        (9, 0, 9),
+        (11, 0, 9),
+        (11, 8, 9),
+    ];
+    let mut storage = before_the_hear(alloc, calls, is_done)?;
+    let answer = peeked(alloc, 6, &[7, 8, 9, 13], 14, 8)?;
+    let broken = storage.hear_peeked(alloc, epoch(257)?, &answer);
+    assert_eq!(rt; broken, Err(StorageFault::Store(StoreFault::Device)));
+    assert!(rt; storage.is_failed());
+    stands(rt, &storage, 513, 6, 0)?;
+    let failed = Err(StorageFault::Store(StoreFault::Failed));
+    assert_eq!(rt; storage.hear_peeked(alloc, epoch(257)?, &answer), failed);
+    assert_eq!(rt; storage.hear_marked(alloc, state(alloc, &[])?), failed);
+    assert!(rt; storage.dump(alloc).is_err());
+    storage.reopen(alloc)?;
+    let (applied, floor, value) = places[calls as usize + usize::from(is_done)];
+    stands(rt, &storage, 513, applied, floor)?;
+    holds(rt, alloc, &mut storage, &[(0x61, value)])?;
+    let again = storage.hear_peeked(alloc, epoch(257)?, &answer);
+    if applied < 11 {
+        assert_eq!(rt; again, Ok(()));
+        stands(rt, &storage, 513, 11, 8)?;
+    } else {
+        assert_eq!(rt; again, Err(StorageFault::NotMyGeneration));
+        stands(rt, &storage, 513, 11, floor)?;
+    }
+    holds(rt, alloc, &mut storage, &[(0x61, 9)])
+}
+
+#[test]
+fn a_hear_breaks_off_at_every_store_call(rt: HostRuntime) -> Result<(), Fail> {
+    let alloc = rt.alloc();
+    for calls in 0..5 {
+        break_off(&rt, alloc, calls, false)?;
+        break_off(&rt, alloc, calls, true)?;
+    }
+    Ok(())
+}
+
+#[test]
+fn a_mark_breaks_off_at_every_store_call(rt: HostRuntime) -> Result<(), Fail> {
+    let alloc = rt.alloc();
+    let places = [(257, 6, 5), (257, 4, 3), (513, 4, 3)];
+    for calls in 0..2u32 {
+        for is_done in [false, true] {
+            let store = FailsOnce::new(alloc, calls + 4, is_done);
+            let mut storage = Storage::start(alloc, store, tag(0)?, state(alloc, &[])?)?;
+            let first = peeked(alloc, 0, &[3, 5], 6, 0)?;
+            storage.hear_peeked(alloc, epoch(257)?, &first)?;
+            let broken = storage.hear_marked(alloc, state(alloc, &[(513, 4, 4)])?);
+            assert_eq!(rt; broken, Err(StorageFault::Store(StoreFault::Device)));
+            stands(&rt, &storage, 257, 6, 0)?;
+            storage.reopen(alloc)?;
+            let (of, applied, value) = places[calls as usize + usize::from(is_done)];
+            stands(&rt, &storage, of, applied, 0)?;
+            holds(&rt, alloc, &mut storage, &[(0x61, value)])?;
+            storage.hear_marked(alloc, state(alloc, &[(513, 4, 4)])?)?;
+            stands(&rt, &storage, 513, 4, 0)?;
+            holds(&rt, alloc, &mut storage, &[(0x61, 3)])?;
+        }
+    }
+    Ok(())
+}
