@@ -1,6 +1,6 @@
 //! Answers are heard one after the other, and a server whose hear broke off is opened again.
-ghost use Rattle.std.specs.Prelude.{◌≡◌, ◌≢◌, ◌↔◌, ◌||◌, false, [], ◌∷◌, map, Ok, Err, None, OnOk, OnErr, IfSome, IsTrue};
-ghost use Rattle.fr_storage.specs.Server.{storage_of, kept_of, met_store, refusal_of, store_fault, IsMarkTrouble, LeavesStages};
+ghost use Rattle.std.specs.Prelude.{◌≡◌, ◌≢◌, ◌↔◌, ◌||◌, false, [], ◌∷◌, map, Ok, Err, None, OnOk, OnErr, IfOk, IfSome, IsOk, IsTrue};
+ghost use Rattle.fr_storage.specs.Server.{storage_of, kept_of, met_store, refusal_of, store_fault, IsMarkTrouble, IsOpeningTrouble, LeavesStages};
 ghost use Rattle.fr_storage.specs.Course.{fault_of, calls_of, after_hear, IsAfter, IsReopened};
 ghost use Rattle.fr_storage.specs.Standing.{heard_of, after_hears, is_untimely, LeadTo, RefusesOne, StaysStanding};
 
@@ -21,6 +21,7 @@ impl<S: ShardStore> Storage<S> {
         ensures refused { self.old.failed ≡ false → refusal_of result ≡ fault_of (storage_of S.state self.old) (heard_of answer) }
         ensures same { met_store result ≡ false → OnErr result (self.new ≡ self.old) }
         ensures trouble { IfSome (store_fault result) (λ fault. fault ≢ StoreFault.Failed → IsMarkTrouble S.CanMeet S.CanMeetInPlace fault) }
+        ensures idle { self.old.failed ≡ false → fault_of (storage_of S.state self.old) (heard_of answer) ≡ None → calls_of (storage_of S.state self.old) (heard_of answer) ≡ [] → IsOk result }
         ensures err { OnErr result (kept_of self.new ≡ kept_of self.old) }
         ensures fails { self.new.failed ≡ (self.old.failed || met_store result) }
         ensures leaves { self.old.failed ≡ false → LeavesStages (S.MayLeave self.new.store) (S.state self.old.store) (calls_of (storage_of S.state self.old) (heard_of answer)) }
@@ -48,8 +49,10 @@ impl<S: ShardStore> Storage<S> {
         ensures after { self.old.failed ≡ false → self.new.failed ≡ false → IsAfter (storage_of S.state self.old) (heard_of answer) (storage_of S.state self.new) }
         ensures failed { (result ≡ Err (StorageFault.Store StoreFault.Failed)) → IsTrue self.old.failed }
         ensures trouble { IfSome (store_fault result) (λ fault. fault ≢ StoreFault.Failed → IsMarkTrouble S.CanMeet S.CanMeetInPlace fault) }
+        ensures idle { self.old.failed ≡ false → fault_of (storage_of S.state self.old) (heard_of answer) ≡ None → calls_of (storage_of S.state self.old) (heard_of answer) ≡ [] → IsOk result }
         ensures met { IsTrue self.old.failed → IsTrue (met_store result) }
         ensures works { met_store result ≡ false → self.new.failed ≡ false }
+        ensures unopened { IsTrue self.new.failed → IfSome (store_fault result) (IsOpeningTrouble S.CanMeet S.CanMeetInPlace) }
         ensures kept { IsTrue self.new.failed → kept_of self.new ≡ kept_of self.old }
         ensures stands { StaysStanding S.state S.MayLeave (heard_of answer ∷ []) self.old self.new (refusal_of result) }
     {
@@ -77,6 +80,8 @@ impl<S: ShardStore> Storage<S> {
         ensures works { self.old.failed ≡ false → OnOk result (self.new.failed ≡ false) }
         ensures stops { self.old.failed ≡ false → IfSome (refusal_of result) (λ fault. (is_untimely fault ≡ false) × RefusesOne (storage_of S.state self.new) answers.items fault) }
         ensures fails { IsTrue (met_store result) → IsTrue self.new.failed }
+        ensures unopened { IfSome (store_fault result) (IsOpeningTrouble S.CanMeet S.CanMeetInPlace) }
+        ensures met { IfOk result (λ met. IfSome met (λ fault. fault ≢ StoreFault.Failed → IsMarkTrouble S.CanMeet S.CanMeetInPlace fault)) }
         ensures stands { StaysStanding S.state S.MayLeave (map heard_of answers.items) self.old self.new (refusal_of result) }
     {
         let mut met = None;

@@ -1,8 +1,9 @@
 use Rattle.std.proofs.Common.{◌≡◌, false, sym, ap, ◌∙◌, subst}
-use Rattle.std.specs.Prelude.{Result, Err, OnErr}
+use Rattle.std.specs.Prelude.{◌≢◌, IfSome, Result, Err, OnErr}
+use Rattle.fr_undo.specs.declared.fault.StoreFault.TheVariants.{Failed}
 use Rattle.fr_storage.specs.declared.fault.StorageFault.{StorageFault}
-use Rattle.fr_storage.specs.declared.fault.StorageFault.TheVariants.{Older, Stranger, BelowFloor, NotMyGeneration, Hole}
-use Rattle.fr_storage.specs.Server.{Server, met_store, refusal_of}
+use Rattle.fr_storage.specs.declared.fault.StorageFault.TheVariants.{Older, Stranger, BelowFloor, NotMyGeneration, Hole, Store}
+use Rattle.fr_storage.specs.Server.{Server, met_store, refusal_of, store_fault, IsMarkTrouble}
 use Rattle.fr_storage.proofs.Standing.{works_before, on_whole, on_refused, on_course, on_among, on_standing}
 use Rattle.fr_storage.proofs.storage.Storage.follow_all.Goals as goal
 
@@ -16,6 +17,7 @@ loop-answer-preserved-in-Ok g c =
       can_next = tt;
       is_finite = tt;
       whole = λ none. on_whole store.state store.MayLeave c.args.self.now c.loop-answer.self c.follow.new.self c.args.answers.items c.loop-answer.answer-iterator.rest.items c.next.new.self.rest.items c.in-Some.answer c.follow.result c.in-Some.ensures.steps.0 (h.whole none) c.in-Ok.ensures.ok;
+      met = h.met;
       works = λ fine. f.works met;
       course = λ fine. on_course store.state store.MayLeave c.args.self.now c.loop-answer.self c.follow.new.self c.args.answers.items c.loop-answer.answer-iterator.rest.items c.next.new.self.rest.items c.in-Some.answer c.follow.result c.in-Some.ensures.steps.0 (h.course fine) (f.after (h.works fine) (f.works met));
       among = on_among store.state store.MayLeave c.args.self.now c.loop-answer.self c.follow.new.self c.args.answers.items c.loop-answer.answer-iterator.rest.items c.next.new.self.rest.items c.in-Some.answer c.follow.result c.in-Some.ensures.steps.0 h.among;
@@ -34,6 +36,7 @@ loop-answer-preserved-in-Err-Older g c =
       can_next = tt;
       is_finite = tt;
       whole = λ none. on_refused store.state store.MayLeave c.args.self.now c.loop-answer.self c.follow.new.self c.args.answers.items c.loop-answer.answer-iterator.rest.items c.next.new.self.rest.items c.in-Some.answer c.follow.result c.in-Some.ensures.steps.0 Older (h.whole none) fine (subst (λ (r : Result (Unit {0}) StorageFault). OnErr r (c.follow.new.self ≡ c.loop-answer.self)) is (f.same met)) f.refused (ap refusal_of is);
+      met = h.met;
       works = λ fine. f.works met;
       course = λ fine. on_course store.state store.MayLeave c.args.self.now c.loop-answer.self c.follow.new.self c.args.answers.items c.loop-answer.answer-iterator.rest.items c.next.new.self.rest.items c.in-Some.answer c.follow.result c.in-Some.ensures.steps.0 (h.course fine) (f.after (h.works fine) (f.works met));
       among = on_among store.state store.MayLeave c.args.self.now c.loop-answer.self c.follow.new.self c.args.answers.items c.loop-answer.answer-iterator.rest.items c.next.new.self.rest.items c.in-Some.answer c.follow.result c.in-Some.ensures.steps.0 h.among;
@@ -52,6 +55,7 @@ loop-answer-preserved-in-Err-NotMyGeneration g c =
       can_next = tt;
       is_finite = tt;
       whole = λ none. on_refused store.state store.MayLeave c.args.self.now c.loop-answer.self c.follow.new.self c.args.answers.items c.loop-answer.answer-iterator.rest.items c.next.new.self.rest.items c.in-Some.answer c.follow.result c.in-Some.ensures.steps.0 NotMyGeneration (h.whole none) fine (subst (λ (r : Result (Unit {0}) StorageFault). OnErr r (c.follow.new.self ≡ c.loop-answer.self)) is (f.same met)) f.refused (ap refusal_of is);
+      met = h.met;
       works = λ fine. f.works met;
       course = λ fine. on_course store.state store.MayLeave c.args.self.now c.loop-answer.self c.follow.new.self c.args.answers.items c.loop-answer.answer-iterator.rest.items c.next.new.self.rest.items c.in-Some.answer c.follow.result c.in-Some.ensures.steps.0 (h.course fine) (f.after (h.works fine) (f.works met));
       among = on_among store.state store.MayLeave c.args.self.now c.loop-answer.self c.follow.new.self c.args.answers.items c.loop-answer.answer-iterator.rest.items c.next.new.self.rest.items c.in-Some.answer c.follow.result c.in-Some.ensures.steps.0 h.among;
@@ -70,6 +74,7 @@ loop-answer-preserved-in-Err-Hole g c =
       can_next = tt;
       is_finite = tt;
       whole = λ none. on_refused store.state store.MayLeave c.args.self.now c.loop-answer.self c.follow.new.self c.args.answers.items c.loop-answer.answer-iterator.rest.items c.next.new.self.rest.items c.in-Some.answer c.follow.result c.in-Some.ensures.steps.0 Hole (h.whole none) fine (subst (λ (r : Result (Unit {0}) StorageFault). OnErr r (c.follow.new.self ≡ c.loop-answer.self)) is (f.same met)) f.refused (ap refusal_of is);
+      met = h.met;
       works = λ fine. f.works met;
       course = λ fine. on_course store.state store.MayLeave c.args.self.now c.loop-answer.self c.follow.new.self c.args.answers.items c.loop-answer.answer-iterator.rest.items c.next.new.self.rest.items c.in-Some.answer c.follow.result c.in-Some.ensures.steps.0 (h.course fine) (f.after (h.works fine) (f.works met));
       among = on_among store.state store.MayLeave c.args.self.now c.loop-answer.self c.follow.new.self c.args.answers.items c.loop-answer.answer-iterator.rest.items c.next.new.self.rest.items c.in-Some.answer c.follow.result c.in-Some.ensures.steps.0 h.among;
@@ -82,10 +87,12 @@ loop-answer-preserved g c =
     let h = c.loop-answer.invariant in
     let f = c.follow.ensures in
     let works : c.follow.new.self.failed ≡ false = ap (λ (s : Server g.row.S.Denot). s.failed) (sym c.self.view_is) ∙ c.if-self.false in
+    let is : c.follow.result ≡ Err (Store c.in-Err-Store.fault) = c.in-Err-Store.is ∙ ap (λ (fault : StorageFault). Err fault) c.in-Err-Store.field-0-is in
     record {
       can_next = tt;
       is_finite = tt;
       whole = λ none. absurd cc;
+      met = subst (λ (r : Result (Unit {0}) StorageFault). IfSome (store_fault r) (λ fault. fault ≢ Failed → IsMarkTrouble store.CanMeet store.CanMeetInPlace fault)) is f.trouble;
       works = λ fine. works;
       course = λ fine. on_course store.state store.MayLeave c.args.self.now c.loop-answer.self c.follow.new.self c.args.answers.items c.loop-answer.answer-iterator.rest.items c.next.new.self.rest.items c.in-Some.answer c.follow.result c.in-Some.ensures.steps.0 (h.course fine) (f.after (h.works fine) (works));
       among = on_among store.state store.MayLeave c.args.self.now c.loop-answer.self c.follow.new.self c.args.answers.items c.loop-answer.answer-iterator.rest.items c.next.new.self.rest.items c.in-Some.answer c.follow.result c.in-Some.ensures.steps.0 h.among;
