@@ -1,7 +1,7 @@
 -- What answers make of a server that is opened again where a hear broke off.
 use Rattle.std.proofs.Common.{◌≡◌, ℕ, suc, Bool, true, false, ◌||◌, List, [], ◌∷◌, map, Option, None, Some, inl, inr, refl, sym, ap, ◌∙◌, subst, arith}
 use Rattle.std.proofs.lemmas.List.Elements.{recursion_from_All, All-from_recursion}
-use Rattle.std.specs.Prelude.{◌≢◌, ◌↔◌, IsTrue, All, Contains, Result, Ok, Err, OnOk, OnErr}
+use Rattle.std.specs.Prelude.{◌≢◌, ◌↔◌, IfSome, IsTrue, All, Contains, Result, Ok, Err, OnOk, OnErr}
 use Rattle.fr_undo.specs.declared.fault.StoreFault.TheVariants.{Failed}
 use Rattle.fr_undo.specs.State.{StoreState}
 use Rattle.fr_undo.specs.Calls.{LeavesNoMore}
@@ -17,7 +17,7 @@ use Rattle.fr_storage.specs.Course.{Heard, Mark, Records, Nothing, fault_of, cal
 use Rattle.fr_storage.specs.Laws.{Laws}
 use Rattle.fr_storage.proofs.Course.{spelled_one}
 use Rattle.fr_storage.proofs.Hears.{marked_refused, peeked_refused}
-use Rattle.fr_storage.specs.Standing.{heard_of, after_hears, LeadTo, RefusesOne, IsStanding, StaysStanding}
+use Rattle.fr_storage.specs.Standing.{heard_of, is_untimely, after_hears, LeadTo, RefusesOne, IsStanding, StaysStanding}
 
 -- a fault of the store refuses nothing
 pub store_refuses_none : {T : Type 0} (r : Result T StorageFault) → met_store r ≡ true → refusal_of r ≡ None
@@ -165,8 +165,11 @@ module _ {S : Type 0} (state_of : S → StoreState) (MayLeave : S → StoreState
   abbrev pub Course : Server S → List Answer → Type 0
   Course s left = (n : StorageState) → LeadTo (storage_of state_of s) left n → LeadTo (storage_of state_of first) answers n
 
-  pub on_course : Course mid rest → IsAfter (storage_of state_of mid) (heard_of answer) (storage_of state_of new) → Course new more
-  on_course h after n lead = h n (subst (λ (xs : List Answer). LeadTo (storage_of state_of mid) xs n) (sym is) (storage_of state_of new, after, lead))
+  pub on_course : Course mid rest → IsAfter (storage_of state_of mid) (heard_of answer) (storage_of state_of new) → refusal_of result ≡ fault_of (storage_of state_of mid) (heard_of answer)
+      → (refusal : Option StorageFault) → refusal_of result ≡ refusal → IfSome refusal (λ fault. IsTrue (is_untimely fault)) → Course new more
+  on_course h after told refusal e passed n lead =
+      h n (subst (λ (xs : List Answer). LeadTo (storage_of state_of mid) xs n) (sym is)
+      (storage_of state_of new, after, subst (λ (o : Option StorageFault). IfSome o (λ fault. IsTrue (is_untimely fault))) (sym e ∙ told) passed, lead))
 
   abbrev pub Among : List Answer → Type 0
   Among left = (a : Answer) → Contains left a → Contains answers a

@@ -1,5 +1,5 @@
 -- What answers make of a storage server over a store of any type that is opened again where a hear broke off.
-use Rattle.std.specs.Prelude.{◌≡◌, ◌≢◌, Bool, true, false, IsTrue, List, [], ◌∷◌, fold, map, Option, Some, All, Contains}
+use Rattle.std.specs.Prelude.{◌≡◌, ◌≢◌, Bool, true, false, IsTrue, List, [], ◌∷◌, fold, map, Option, Some, IfSome, All, Contains}
 use Rattle.fr_undo.specs.State.{StoreState}
 use Rattle.fr_state.specs.Generations.{CoordinatedState, IsCoordinatedState}
 use Rattle.fr_state.specs.Spelling.{spelling}
@@ -21,15 +21,6 @@ heard_of (answer.Peeked epoch peeked) = Records epoch peeked
 abbrev pub after_hears : StorageState → List Answer → StorageState
 after_hears s answers = fold after_hear s (map heard_of answers)
 
--- answers lead from one server to another, each of them heard whole or broken off and opened again
-abbrev pub LeadTo : StorageState → List Answer → StorageState → Type 0
-LeadTo s [] n = n ≡ s
-LeadTo s (answer ∷ answers) n = (mid : StorageState) × IsAfter s (heard_of answer) mid × LeadTo mid answers n
-
--- a server refuses one of these answers so
-abbrev pub RefusesOne : StorageState → List Answer → StorageFault → Type 0
-RefusesOne s answers fault = (answer : Answer) × Contains answers answer × (fault_of s (heard_of answer) ≡ Some fault)
-
 -- whether an answer is refused since it came late or too early
 abbrev pub is_untimely : StorageFault → Bool
 is_untimely Older = true
@@ -39,6 +30,15 @@ is_untimely NotMyGeneration = true
 is_untimely Hole = true
 is_untimely (Store fault) = false
 is_untimely BadState = false
+
+-- answers lead from one server to another: each is heard whole, or broken off and opened again, and where it is refused it is untimely
+abbrev pub LeadTo : StorageState → List Answer → StorageState → Type 0
+LeadTo s [] n = n ≡ s
+LeadTo s (answer ∷ answers) n = (mid : StorageState) × IsAfter s (heard_of answer) mid × IfSome (fault_of s (heard_of answer)) (λ fault. IsTrue (is_untimely fault)) × LeadTo mid answers n
+
+-- a server refuses one of these answers so
+abbrev pub RefusesOne : StorageState → List Answer → StorageFault → Type 0
+RefusesOne s answers fault = (answer : Answer) × Contains answers answer × (fault_of s (heard_of answer) ≡ Some fault)
 
 -- a server stands: while it works as it is, and once it failed in each state that opening it again may find
 pub record IsStanding {S : Type 0} (state_of : S → StoreState) (MayLeave : S → StoreState → Type 0) (pieces : Pieces) (Chosen : CoordinatedState → Type 0) (s : Server S) : Type 0 where

@@ -13,8 +13,8 @@ use std::alloc::Global;
 
 impl<S: ShardStore> Storage<S> {
     /// Hears an answer, as [`hear_marked`](Storage::hear_marked) or [`hear_peeked`](Storage::hear_peeked) does. A
-    /// server that stands is left standing by each answer that is true, and does not refuse it as of a stranger or
-    /// below its floor.
+    /// server that stands ([`storage_law`](crate::storage_law)) is left standing by each answer that is true, and
+    /// does not refuse it as of a stranger or below its floor.
     pub fn hear(&mut self, alloc: Global, answer: Answer) -> Result<(), StorageFault>
         ensures ok { OnOk result (storage_of S.state self.new ≡ after_hear (storage_of S.state self.old) (heard_of answer)) }
         ensures failed { (result ≡ Err (StorageFault.Store StoreFault.Failed)) ↔ IsTrue self.old.failed }
@@ -40,8 +40,8 @@ impl<S: ShardStore> Storage<S> {
     /// again. It is failed afterwards only where it could not be opened again; the fault is then that of the
     /// opening.
     ///
-    /// A server that stands is left standing by each answer that is true, whatever its store refuses, and does not
-    /// refuse it as of a stranger or below its floor.
+    /// A server that stands ([`storage_law`](crate::storage_law)) is left standing by each answer that is true,
+    /// whatever its store refuses, and does not refuse it as of a stranger or below its floor.
     pub fn follow(&mut self, alloc: Global, answer: Answer) -> Result<(), StorageFault>
         ensures ok { OnOk result (storage_of S.state self.new ≡ after_hear (storage_of S.state self.old) (heard_of answer)) }
         ensures refused { self.old.failed ≡ false → refusal_of result ≡ fault_of (storage_of S.state self.old) (heard_of answer) }

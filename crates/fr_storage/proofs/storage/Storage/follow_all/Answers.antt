@@ -1,4 +1,4 @@
-use Rattle.std.proofs.Common.{◌≡◌, false, sym, ap, ◌∙◌, subst}
+use Rattle.std.proofs.Common.{◌≡◌, false, None, Some, refl, sym, ap, ◌∙◌, subst}
 use Rattle.std.specs.Prelude.{◌≢◌, IfSome, Result, Err, OnErr}
 use Rattle.fr_undo.specs.declared.fault.StoreFault.TheVariants.{Failed}
 use Rattle.fr_storage.specs.declared.fault.StorageFault.{StorageFault}
@@ -19,7 +19,7 @@ loop-answer-preserved-in-Ok g c =
       whole = λ none. on_whole store.state store.MayLeave c.args.self.now c.loop-answer.self c.follow.new.self c.args.answers.items c.loop-answer.answer-iterator.rest.items c.next.new.self.rest.items c.in-Some.answer c.follow.result c.in-Some.ensures.steps.0 (h.whole none) c.in-Ok.ensures.ok;
       met = h.met;
       works = λ fine. f.works met;
-      course = λ fine. on_course store.state store.MayLeave c.args.self.now c.loop-answer.self c.follow.new.self c.args.answers.items c.loop-answer.answer-iterator.rest.items c.next.new.self.rest.items c.in-Some.answer c.follow.result c.in-Some.ensures.steps.0 (h.course fine) (f.after (h.works fine) (f.works met));
+      course = λ fine. on_course store.state store.MayLeave c.args.self.now c.loop-answer.self c.follow.new.self c.args.answers.items c.loop-answer.answer-iterator.rest.items c.next.new.self.rest.items c.in-Some.answer c.follow.result c.in-Some.ensures.steps.0 (h.course fine) (f.after (h.works fine) (f.works met)) (f.refused (h.works fine)) None (ap refusal_of c.in-Ok.is) tt;
       among = on_among store.state store.MayLeave c.args.self.now c.loop-answer.self c.follow.new.self c.args.answers.items c.loop-answer.answer-iterator.rest.items c.next.new.self.rest.items c.in-Some.answer c.follow.result c.in-Some.ensures.steps.0 h.among;
       standing = λ pieces is_chosen are one trues standing. (on_standing store.state store.MayLeave c.args.self.now c.loop-answer.self c.follow.new.self c.args.answers.items c.loop-answer.answer-iterator.rest.items c.next.new.self.rest.items c.in-Some.answer c.follow.result c.in-Some.ensures.steps.0 pieces is_chosen are one (h.standing pieces is_chosen are one trues standing) (f.stands)).0;
     }
@@ -38,7 +38,7 @@ loop-answer-preserved-in-Err-Older g c =
       whole = λ none. on_refused store.state store.MayLeave c.args.self.now c.loop-answer.self c.follow.new.self c.args.answers.items c.loop-answer.answer-iterator.rest.items c.next.new.self.rest.items c.in-Some.answer c.follow.result c.in-Some.ensures.steps.0 Older (h.whole none) fine (subst (λ (r : Result (Unit {0}) StorageFault). OnErr r (c.follow.new.self ≡ c.loop-answer.self)) is (f.same met)) f.refused (ap refusal_of is);
       met = h.met;
       works = λ fine. f.works met;
-      course = λ fine. on_course store.state store.MayLeave c.args.self.now c.loop-answer.self c.follow.new.self c.args.answers.items c.loop-answer.answer-iterator.rest.items c.next.new.self.rest.items c.in-Some.answer c.follow.result c.in-Some.ensures.steps.0 (h.course fine) (f.after (h.works fine) (f.works met));
+      course = λ fine. on_course store.state store.MayLeave c.args.self.now c.loop-answer.self c.follow.new.self c.args.answers.items c.loop-answer.answer-iterator.rest.items c.next.new.self.rest.items c.in-Some.answer c.follow.result c.in-Some.ensures.steps.0 (h.course fine) (f.after (h.works fine) (f.works met)) (f.refused (h.works fine)) (Some Older) (ap refusal_of is) refl;
       among = on_among store.state store.MayLeave c.args.self.now c.loop-answer.self c.follow.new.self c.args.answers.items c.loop-answer.answer-iterator.rest.items c.next.new.self.rest.items c.in-Some.answer c.follow.result c.in-Some.ensures.steps.0 h.among;
       standing = λ pieces is_chosen are one trues standing. (on_standing store.state store.MayLeave c.args.self.now c.loop-answer.self c.follow.new.self c.args.answers.items c.loop-answer.answer-iterator.rest.items c.next.new.self.rest.items c.in-Some.answer c.follow.result c.in-Some.ensures.steps.0 pieces is_chosen are one (h.standing pieces is_chosen are one trues standing) (f.stands)).0;
     }
@@ -57,7 +57,7 @@ loop-answer-preserved-in-Err-NotMyGeneration g c =
       whole = λ none. on_refused store.state store.MayLeave c.args.self.now c.loop-answer.self c.follow.new.self c.args.answers.items c.loop-answer.answer-iterator.rest.items c.next.new.self.rest.items c.in-Some.answer c.follow.result c.in-Some.ensures.steps.0 NotMyGeneration (h.whole none) fine (subst (λ (r : Result (Unit {0}) StorageFault). OnErr r (c.follow.new.self ≡ c.loop-answer.self)) is (f.same met)) f.refused (ap refusal_of is);
       met = h.met;
       works = λ fine. f.works met;
-      course = λ fine. on_course store.state store.MayLeave c.args.self.now c.loop-answer.self c.follow.new.self c.args.answers.items c.loop-answer.answer-iterator.rest.items c.next.new.self.rest.items c.in-Some.answer c.follow.result c.in-Some.ensures.steps.0 (h.course fine) (f.after (h.works fine) (f.works met));
+      course = λ fine. on_course store.state store.MayLeave c.args.self.now c.loop-answer.self c.follow.new.self c.args.answers.items c.loop-answer.answer-iterator.rest.items c.next.new.self.rest.items c.in-Some.answer c.follow.result c.in-Some.ensures.steps.0 (h.course fine) (f.after (h.works fine) (f.works met)) (f.refused (h.works fine)) (Some NotMyGeneration) (ap refusal_of is) refl;
       among = on_among store.state store.MayLeave c.args.self.now c.loop-answer.self c.follow.new.self c.args.answers.items c.loop-answer.answer-iterator.rest.items c.next.new.self.rest.items c.in-Some.answer c.follow.result c.in-Some.ensures.steps.0 h.among;
       standing = λ pieces is_chosen are one trues standing. (on_standing store.state store.MayLeave c.args.self.now c.loop-answer.self c.follow.new.self c.args.answers.items c.loop-answer.answer-iterator.rest.items c.next.new.self.rest.items c.in-Some.answer c.follow.result c.in-Some.ensures.steps.0 pieces is_chosen are one (h.standing pieces is_chosen are one trues standing) (f.stands)).0;
     }
@@ -76,7 +76,7 @@ loop-answer-preserved-in-Err-Hole g c =
       whole = λ none. on_refused store.state store.MayLeave c.args.self.now c.loop-answer.self c.follow.new.self c.args.answers.items c.loop-answer.answer-iterator.rest.items c.next.new.self.rest.items c.in-Some.answer c.follow.result c.in-Some.ensures.steps.0 Hole (h.whole none) fine (subst (λ (r : Result (Unit {0}) StorageFault). OnErr r (c.follow.new.self ≡ c.loop-answer.self)) is (f.same met)) f.refused (ap refusal_of is);
       met = h.met;
       works = λ fine. f.works met;
-      course = λ fine. on_course store.state store.MayLeave c.args.self.now c.loop-answer.self c.follow.new.self c.args.answers.items c.loop-answer.answer-iterator.rest.items c.next.new.self.rest.items c.in-Some.answer c.follow.result c.in-Some.ensures.steps.0 (h.course fine) (f.after (h.works fine) (f.works met));
+      course = λ fine. on_course store.state store.MayLeave c.args.self.now c.loop-answer.self c.follow.new.self c.args.answers.items c.loop-answer.answer-iterator.rest.items c.next.new.self.rest.items c.in-Some.answer c.follow.result c.in-Some.ensures.steps.0 (h.course fine) (f.after (h.works fine) (f.works met)) (f.refused (h.works fine)) (Some Hole) (ap refusal_of is) refl;
       among = on_among store.state store.MayLeave c.args.self.now c.loop-answer.self c.follow.new.self c.args.answers.items c.loop-answer.answer-iterator.rest.items c.next.new.self.rest.items c.in-Some.answer c.follow.result c.in-Some.ensures.steps.0 h.among;
       standing = λ pieces is_chosen are one trues standing. (on_standing store.state store.MayLeave c.args.self.now c.loop-answer.self c.follow.new.self c.args.answers.items c.loop-answer.answer-iterator.rest.items c.next.new.self.rest.items c.in-Some.answer c.follow.result c.in-Some.ensures.steps.0 pieces is_chosen are one (h.standing pieces is_chosen are one trues standing) (f.stands)).0;
     }
@@ -94,7 +94,7 @@ loop-answer-preserved g c =
       whole = λ none. absurd cc;
       met = subst (λ (r : Result (Unit {0}) StorageFault). IfSome (store_fault r) (λ fault. fault ≢ Failed → IsMarkTrouble store.CanMeet store.CanMeetInPlace fault)) is f.trouble;
       works = λ fine. works;
-      course = λ fine. on_course store.state store.MayLeave c.args.self.now c.loop-answer.self c.follow.new.self c.args.answers.items c.loop-answer.answer-iterator.rest.items c.next.new.self.rest.items c.in-Some.answer c.follow.result c.in-Some.ensures.steps.0 (h.course fine) (f.after (h.works fine) (works));
+      course = λ fine. on_course store.state store.MayLeave c.args.self.now c.loop-answer.self c.follow.new.self c.args.answers.items c.loop-answer.answer-iterator.rest.items c.next.new.self.rest.items c.in-Some.answer c.follow.result c.in-Some.ensures.steps.0 (h.course fine) (f.after (h.works fine) (works)) (f.refused (h.works fine)) None (ap refusal_of is) tt;
       among = on_among store.state store.MayLeave c.args.self.now c.loop-answer.self c.follow.new.self c.args.answers.items c.loop-answer.answer-iterator.rest.items c.next.new.self.rest.items c.in-Some.answer c.follow.result c.in-Some.ensures.steps.0 h.among;
       standing = λ pieces is_chosen are one trues standing. (on_standing store.state store.MayLeave c.args.self.now c.loop-answer.self c.follow.new.self c.args.answers.items c.loop-answer.answer-iterator.rest.items c.next.new.self.rest.items c.in-Some.answer c.follow.result c.in-Some.ensures.steps.0 pieces is_chosen are one (h.standing pieces is_chosen are one trues standing) (f.stands)).0;
     }
