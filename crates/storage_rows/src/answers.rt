@@ -50,61 +50,79 @@ fn a_list_of_answers_is_followed(rt: HostRuntime) -> Result<(), Fail> {
     holds(&rt, alloc, &mut storage, &[(0x61, 10)])
 }
 
+/// The same answers, a state that does not begin with that of 513, and a record more.
+fn strange(alloc: Global) -> Result<Vec<Answer>, Fail> {
+    let mut answers = onward(alloc)?;
+    answers.push(Answer::Marked(state(alloc, &[(769, 10, 10)])?))?;
+    answers.push(answer(alloc, 513, 11, &[12], 12, 0)?)?;
+    Ok(answers)
+}
+
 #[test]
 fn a_stranger_ends_the_list(rt: HostRuntime) -> Result<(), Fail> {
     let alloc = rt.alloc();
     let mut storage = advanced(alloc, 6)?;
-    let mut answers = onward(alloc)?;
-    answers.push(Answer::Marked(state(alloc, &[(769, 10, 10)])?))?;
-    answers.push(answer(alloc, 513, 11, &[12], 12, 0)?)?;
-    let stranger = storage.follow_all(alloc, answers);
+    let stranger = storage.follow_all(alloc, strange(alloc)?);
     assert_eq!(rt; stranger, Err(StorageFault::Stranger));
-    stands(&rt, &storage, 513, 11, 9)?;
-    let mut below = Vec::new(alloc);
-    below.push(answer(alloc, 513, 11, &[], 11, 11)?)?;
-    below.push(Answer::Marked(state(alloc, &[(513, 10, 10), (769, 10, 10)])?))?;
-    assert_eq!(rt;
-        storage.follow_all(alloc, below),
-        Err(StorageFault::BelowFloor)
-    );
+    stands(&rt, &storage, 513, 11, 9)
+}
+
+/// The same answers, what makes 11 the floor, and a state that ends 513 at 9 with cut 10.
+fn cut_off(alloc: Global) -> Result<Vec<Answer>, Fail> {
+    let mut answers = onward(alloc)?;
+    answers.push(answer(alloc, 513, 11, &[], 11, 11)?)?;
+    let later = state(alloc, &[(513, 10, 10), (769, 10, 10)])?;
+    answers.push(Answer::Marked(later))?;
+    Ok(answers)
+}
+
+#[test]
+fn a_floor_ends_the_list(rt: HostRuntime) -> Result<(), Fail> {
+    let alloc = rt.alloc();
+    let mut storage = advanced(alloc, 6)?;
+    let below = storage.follow_all(alloc, cut_off(alloc)?);
+    assert_eq!(rt; below, Err(StorageFault::BelowFloor));
     stands(&rt, &storage, 513, 11, 11)
 }
 
 #[test]
-fn one_answer_is_heard_or_followed(rt: HostRuntime) -> Result<(), Fail> {
+fn one_answer_is_heard(rt: HostRuntime) -> Result<(), Fail> {
     let alloc = rt.alloc();
     let mut storage = advanced(alloc, 6)?;
     let marked = Answer::Marked(state(alloc, &[(513, 10, 10)])?);
     assert_eq!(rt; storage.hear(alloc, marked), Ok(()));
-    stands(&rt, &storage, 513, 6, 0)?;
-    let hole = storage.hear(alloc, answer(alloc, 257, 7, &[], 12, 0)?);
-    assert_eq!(rt; hole, Err(StorageFault::Hole));
-    let next = answer(alloc, 257, 6, &[7, 8, 9, 10], 12, 0)?;
+    stands(&rt, &storage, 513, 6, 0)
+}
+
+#[test]
+fn one_answer_is_followed(rt: HostRuntime) -> Result<(), Fail> {
+    let alloc = rt.alloc();
+    let mut storage = advanced(alloc, 6)?;
+    let next = answer(alloc, 257, 6, &[7, 8], 12, 0)?;
     assert_eq!(rt; storage.follow(alloc, next), Ok(()));
-    stands(&rt, &storage, 513, 9, 0)?;
-    holds(&rt, alloc, &mut storage, &[(0x61, 9)])
+    stands(&rt, &storage, 257, 12, 0)?;
+    holds(&rt, alloc, &mut storage, &[(0x61, 8)])
+}
+
+/// A server of 257 at 6 over a store that fails in its next call: it set its state bytes, applied 3 and 5 and
+/// advanced to 6 before.
+fn before_the_break(alloc: Global) -> Result<Storage<FailsOnce>, Fail> {
+    let store = FailsOnce::new(alloc, 4, false);
+    let mut storage = Storage::start(alloc, store, tag(0)?, state(alloc, &[])?)?;
+    storage.follow(alloc, answer(alloc, 257, 0, &[3, 5], 6, 0)?)?;
+    Ok(storage)
 }
 
 #[test]
 fn a_broken_answer_is_opened_again(rt: HostRuntime) -> Result<(), Fail> {
     let alloc = rt.alloc();
-    let store = FailsOnce::new(alloc, 4, false);
-    let mut storage = Storage::start(alloc, store, tag(0)?, state(alloc, &[])?)?;
+    let mut storage = before_the_break(alloc)?;
     let marked = Answer::Marked(state(alloc, &[(513, 4, 4)])?);
-    assert_eq!(rt;
-        storage.follow(alloc, answer(alloc, 257, 0, &[3, 5], 6, 0)?),
-        Ok(())
-    );
-    stands(&rt, &storage, 257, 6, 0)?;
     let device = Err(StorageFault::Store(StoreFault::Device));
     assert_eq!(rt; storage.follow(alloc, marked), device);
     assert!(rt; !storage.is_failed());
     stands(&rt, &storage, 257, 6, 0)?;
-    holds(&rt, alloc, &mut storage, &[(0x61, 5)])?;
-    let again = Answer::Marked(state(alloc, &[(513, 4, 4)])?);
-    assert_eq!(rt; storage.follow(alloc, again), Ok(()));
-    stands(&rt, &storage, 513, 4, 0)?;
-    holds(&rt, alloc, &mut storage, &[(0x61, 3)])
+    holds(&rt, alloc, &mut storage, &[(0x61, 5)])
 }
 
 /// The answers that bring a server of 257 at 0 to 513 at 11.
