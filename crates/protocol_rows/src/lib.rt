@@ -1,4 +1,4 @@
-//! Tests of the nodes' protocol: worked examples, the order of refusals, and calls that broke off.
+//! Tests of the nodes' protocol: worked examples and the order of refusals.
 #![tactic(auto)]
 
 #[cfg(test)]
