@@ -16,3 +16,4 @@ pub mod Pulls
 pub mod Servers
 pub mod Shards
 pub mod Stops
+pub mod Standing

@@ -6,4 +6,5 @@ pub mod Laws
 pub mod Position
 pub mod Pull
 pub mod Server
+pub mod Standing
 pub mod Storage

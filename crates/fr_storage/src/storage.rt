@@ -1,15 +1,18 @@
 //! A storage server, and what it tells of itself.
-ghost use Rattle.std.specs.Prelude.{◌≡◌, ◌≢◌, ◌↔◌, ◌||◌, Err, IfOk, IfErr, OnErr, IfSome, IsTrue};
+ghost use Rattle.std.specs.Prelude.{◌≡◌, ◌≢◌, ◌↔◌, ◌||◌, [], Err, IfOk, IfErr, OnErr, IfSome, IsTrue};
 ghost use Rattle.std.specs.FinMap as map;
 ghost use Rattle.fr_undo.specs.Calls.{IsTrouble, StaysUnlessFailed, LeavesNoMore};
 ghost use Rattle.fr_storage.specs.Storage.{own_epoch, ask_after};
+ghost use Rattle.fr_storage.specs.Standing.{StaysStanding};
 ghost use Rattle.fr_storage.specs.Server.{IsServer, kept_of, met_store, refusal_of, store_fault};
 
+mod course;
 mod marked;
 mod opening;
 mod peeked;
 
 use crate::fault::StorageFault;
+use crate::laws::lower_laws;
 use fr_base::{Bytes, Epoch, Memory, Tag, Version};
 use fr_log::{LogAsk, Most};
 use fr_state::CoordState;
@@ -126,7 +129,9 @@ impl<S: ShardStore> Storage<S> {
         ensures kept { kept_of self.new ≡ kept_of self.old }
         ensures fails { self.new.failed ≡ (self.old.failed || met_store result) }
         ensures leaves { LeavesNoMore (S.MayLeave self.old.store) (S.MayLeave self.new.store) }
+        ensures stands { StaysStanding S.state S.MayLeave [] self.old self.new (refusal_of result) }
     {
+        lower_laws();
         if self.failed {
             return Err(StorageFault::Store(StoreFault::Failed));
         }

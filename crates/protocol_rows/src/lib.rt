@@ -1,9 +1,7 @@
-//! Tests of the nodes' protocol: worked examples, the order of refusals, and calls that broke off.
+//! Tests of the nodes' protocol: worked examples and the order of refusals.
 #![tactic(auto)]
 
 #[cfg(test)]
 mod end;
 #[cfg(test)]
 mod sequencer;
-#[cfg(test)]
-mod storage;

@@ -1,5 +1,6 @@
 //! How a storage server begins, and how it is opened again.
-ghost use Rattle.std.specs.Prelude.{◌≡◌, ◌≢◌, ◌⊎◌, ◌↔◌, false, true, Ok, Err, IfOk, IfErr, OnOk, OnErr, IfSome, IsErr, IsTrue, MatchResult};
+ghost use Rattle.std.specs.Prelude.{◌≡◌, ◌≢◌, ◌⊎◌, ◌↔◌, false, true, Ok, Err, IfOk, IfErr, OnOk, OnErr, IfSome, IsErr, IsTrue, MatchResult, []};
+ghost use Rattle.fr_undo.specs.State.{fresh};
 ghost use Rattle.fr_undo.specs.Undo.{with_bytes};
 ghost use Rattle.fr_undo.specs.Calls.{IsTrouble, LeavesNoMore};
 ghost use Rattle.fr_state.specs.Generations.{CoordinatedState, IsCoordinatedState};
@@ -7,10 +8,12 @@ ghost use Rattle.fr_state.specs.Reading.{reading};
 ghost use Rattle.fr_state.specs.Spelling.{spelling};
 ghost use Rattle.fr_storage.specs.declared.fault.StorageFault.{StorageFault};
 ghost use Rattle.fr_storage.specs.Storage.{StorageState};
+ghost use Rattle.fr_storage.specs.Standing.{BeginsStanding, StandsAgain, StaysStanding};
 ghost use Rattle.fr_storage.specs.Server.{storage_of, kept_of, refusal_of, store_fault, IsReadingTrouble, IsOpeningTrouble, IsWhole};
 
 use super::Storage;
 use crate::fault::StorageFault;
+use crate::laws::{lower_laws, storage_law};
 use fr_base::{Bytes, Tag};
 use fr_state::{CoordState, DecodeFault, decode, encode};
 use fr_undo::{ShardStore, StoreFault};
@@ -27,7 +30,9 @@ impl<S: ShardStore + Drop> Storage<S> {
         ensures store { refusal_of result ≡ None }
         ensures failed { (result ≡ Err (StorageFault.Store StoreFault.Failed)) ↔ IsTrue (S.is_failed store) }
         ensures trouble { IfSome (store_fault result) (λ fault. fault ≢ StoreFault.Failed → IsTrouble S.CanMeetInPlace fault ⊎ (fault ≡ StoreFault.Memory)) }
+        ensures stands { IfOk result (λ s. S.state store ≡ fresh → BeginsStanding S.state S.MayLeave state s) }
     {
+        storage_law();
         let mut store = store;
         if store.is_failed() {
             return Err(StorageFault::Store(StoreFault::Failed));
@@ -57,6 +62,7 @@ impl<S: ShardStore + Drop> Storage<S> {
         ensures no_other { (refusal_of result ≡ None) ⊎ (result ≡ Err StorageFault.BadState) }
         ensures failed { (result ≡ Err (StorageFault.Store StoreFault.Failed)) ↔ IsTrue (S.is_failed store) }
         ensures trouble { IfSome (store_fault result) (λ fault. fault ≢ StoreFault.Failed → IsReadingTrouble S.CanMeet fault) }
+        ensures stands { IfOk result (λ s. StandsAgain S.state S.MayLeave (record { tag = tag; state = s.state; store = S.state store }) s) }
     {
         let mut store = store;
         let state = kept_state(alloc, &mut store)?;
@@ -74,7 +80,8 @@ impl<S: ShardStore + Drop> Storage<S> {
 impl<S: ShardStore> Storage<S> {
     /// Opens the store again, failed or not, and reads position, floor and state from it. The server then
     /// stands where a crash might have left its store: after a hear that broke off, after some of the calls of
-    /// that hear, in order. A refusal leaves it failed, with what it kept before.
+    /// that hear, in order. A refusal leaves it failed, with what it kept before. A server that stands is left
+    /// standing, opened or not.
     pub fn reopen(&mut self, alloc: Global) -> Result<(), StorageFault>
         ensures found { OnOk result (S.MayLeave self.old.store (S.state self.new.store)) }
         ensures spelled { OnOk result ((S.state self.new.store).bytes ≡ spelling self.new.state) }
@@ -88,7 +95,9 @@ impl<S: ShardStore> Storage<S> {
         ensures err { OnErr result (kept_of self.new ≡ kept_of self.old) }
         ensures fails { OnErr result (self.new.failed ≡ true) }
         ensures leaves { LeavesNoMore (S.MayLeave self.old.store) (S.MayLeave self.new.store) }
+        ensures stands { StaysStanding S.state S.MayLeave [] self.old self.new (refusal_of result) }
     {
+        lower_laws();
         self.failed = true;
         self.store.reopen(alloc)?;
         let state = kept_state(alloc, &mut self.store)?;

@@ -1,0 +1,63 @@
+-- What answers make of a storage server over a store of any type that is opened again where a hear broke off.
+use Rattle.std.specs.Prelude.{◌≡◌, ◌≢◌, Bool, true, false, IsTrue, List, [], ◌∷◌, fold, map, Option, Some, IfSome, All, Contains}
+use Rattle.fr_undo.specs.State.{StoreState}
+use Rattle.fr_state.specs.Generations.{CoordinatedState, IsCoordinatedState}
+use Rattle.fr_state.specs.Spelling.{spelling}
+use Rattle.fr_storage.specs.declared.answer.Answer.{Answer}
+use Rattle.fr_storage.specs.declared.answer.Answer.TheVariants as answer
+use Rattle.fr_storage.specs.declared.fault.StorageFault.{StorageFault}
+use Rattle.fr_storage.specs.declared.fault.StorageFault.TheVariants.{Older, Stranger, BelowFloor, NotMyGeneration, Hole, Store, BadState}
+use Rattle.fr_storage.specs.Storage.{StorageState}
+use Rattle.fr_storage.specs.Server.{Server, storage_of}
+use Rattle.fr_storage.specs.Follows.{Pieces, ArePieces}
+use Rattle.fr_storage.specs.Course.{Heard, Mark, Records, fault_of, after_hear, IsAfter, AreOneChain, IsTrueHeard, Stands, IsChosenBy}
+
+-- what is heard of an answer
+abbrev pub heard_of : Answer → Heard
+heard_of (answer.Marked x) = Mark x
+heard_of (answer.Peeked epoch peeked) = Records epoch peeked
+
+-- a server after answers that are all heard whole
+abbrev pub after_hears : StorageState → List Answer → StorageState
+after_hears s answers = fold after_hear s (map heard_of answers)
+
+-- whether an answer is refused since it came late or too early
+abbrev pub is_untimely : StorageFault → Bool
+is_untimely Older = true
+is_untimely Stranger = false
+is_untimely BelowFloor = false
+is_untimely NotMyGeneration = true
+is_untimely Hole = true
+is_untimely (Store fault) = false
+is_untimely BadState = false
+
+-- answers lead from one server to another: each is heard whole, or broken off and opened again, and where it is refused it is untimely
+abbrev pub LeadTo : StorageState → List Answer → StorageState → Type 0
+LeadTo s [] n = n ≡ s
+LeadTo s (answer ∷ answers) n = (mid : StorageState) × IsAfter s (heard_of answer) mid × IfSome (fault_of s (heard_of answer)) (λ fault. IsTrue (is_untimely fault)) × LeadTo mid answers n
+
+-- a server refuses one of these answers so
+abbrev pub RefusesOne : StorageState → List Answer → StorageFault → Type 0
+RefusesOne s answers fault = (answer : Answer) × Contains answers answer × (fault_of s (heard_of answer) ≡ Some fault)
+
+-- a server stands: while it works as it is, and once it failed in each state that opening it again may find
+pub record IsStanding {S : Type 0} (state_of : S → StoreState) (MayLeave : S → StoreState → Type 0) (pieces : Pieces) (Chosen : CoordinatedState → Type 0) (s : Server S) : Type 0 where
+  pub works : s.failed ≡ false → Stands pieces Chosen (storage_of state_of s)
+  pub found : IsTrue s.failed → (x : CoordinatedState) (left : StoreState) → MayLeave s.store left → IsCoordinatedState x → left.bytes ≡ spelling x → Stands pieces Chosen (record { tag = s.tag; state = x; store = left })
+
+-- a server that stands is left standing by what it hears, where that is true, and is refused neither as a stranger nor below its floor
+abbrev pub StaysStanding : {S : Type 0} → (S → StoreState) → (S → StoreState → Type 0) → List Heard → Server S → Server S → Option StorageFault → Type 0
+StaysStanding state_of MayLeave heards old new refusal =
+    (pieces : Pieces) (is_chosen : CoordinatedState → Bool) → let Chosen = IsChosenBy is_chosen in
+    ArePieces pieces → AreOneChain pieces Chosen → All (IsTrueHeard pieces Chosen) heards → IsStanding state_of MayLeave pieces Chosen old
+    → IsStanding state_of MayLeave pieces Chosen new × (refusal ≢ Some Stranger) × (refusal ≢ Some BelowFloor)
+
+-- a server that begins in a state stands, where that state is chosen
+abbrev pub BeginsStanding : {S : Type 0} → (S → StoreState) → (S → StoreState → Type 0) → CoordinatedState → Server S → Type 0
+BeginsStanding state_of MayLeave x s =
+    (pieces : Pieces) (is_chosen : CoordinatedState → Bool) → let Chosen = IsChosenBy is_chosen in
+    ArePieces pieces → AreOneChain pieces Chosen → Chosen x → IsStanding state_of MayLeave pieces Chosen s
+
+-- a server over what an earlier one left stands where that one did
+abbrev pub StandsAgain : {S : Type 0} → (S → StoreState) → (S → StoreState → Type 0) → StorageState → Server S → Type 0
+StandsAgain state_of MayLeave left s = (pieces : Pieces) (is_chosen : CoordinatedState → Bool) → Stands pieces (IsChosenBy is_chosen) left → IsStanding state_of MayLeave pieces (IsChosenBy is_chosen) s
