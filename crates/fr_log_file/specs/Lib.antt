@@ -3,4 +3,3 @@ pub mod Spelling
 pub mod Reading
 pub mod LogFile
 pub mod LogFileLaws
-pub mod Law

@@ -2,7 +2,6 @@
 #![tactic(auto)]
 
 mod change;
-pub mod laws;
 mod limits;
 mod log_file;
 mod log_node;

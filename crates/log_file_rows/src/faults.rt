@@ -1,4 +1,6 @@
 //! Each call of a device fails in turn: the tells are those of the plain log.
+ghost use Rattle.std.specs.Prelude.{◌≤◌};
+
 use crate::made::{Ask, ROOM, Tell, answers, ask_of, fresh};
 use fr_base::{Node, NodeFault, Reopened};
 use fr_device::{Device, FaultyDevice, MemoryDevice};
@@ -35,7 +37,9 @@ fn asked<D: Device>(
 }
 
 /// Call `n` of the steps fails; each step makes four calls, and the ask is found only where the last sync failed.
-fn failed_once(alloc: Global, n: u64) -> Result<bool, Fail> {
+fn failed_once(alloc: Global, n: u64) -> Result<bool, Fail>
+    requires { n ≤ 16 }
+{
     let device = FaultyDevice::once(MemoryDevice::new(alloc, ROOM)?, n + 2);
     let mut node = fresh(alloc, device, 257)?;
     let mut found = None;
@@ -62,15 +66,18 @@ fn each_call_fails_once(rt: HostRuntime) -> Result<(), Fail> {
 }
 
 /// From call `n` on the device fails: the log answers Device, then Failed, and stands where it stood.
-fn failed_from(alloc: Global, n: u64) -> Result<bool, Fail> {
+fn failed_from(alloc: Global, n: u64) -> Result<bool, Fail>
+    requires low { 1 ≤ n }
+    requires high { n ≤ 16 }
+{
     let device = FaultyDevice::from(MemoryDevice::new(alloc, ROOM)?, n + 2);
     let mut node = fresh(alloc, device, 257)?;
-    let mut steps = 0;
+    let mut steps = 0_u64;
     for (ask, _) in STEPS {
         if node.serve(alloc, ask_of(alloc, 257, ask)?).is_err() {
             break;
         }
-        steps += 1;
+        steps = steps.wrapping_add(1);
     }
     let is_failed = node.reopen(alloc).err() == Some(NodeFault::Device);
     Ok(is_failed && steps == (n - 1) / 4 && !node.plain().stopped())
