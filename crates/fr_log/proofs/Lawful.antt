@@ -30,19 +30,21 @@ with_seed_is_log l s h first is = record {
   m_high = h.m_high;
   index_high = h.index_high;
   unseeded = λ k. absurd (cc);
+  unlocked = λ k. absurd (cc);
   own_seed = record { within = is; epoch = first.epoch; tags = first.tags };
   own_pushes = h.own_pushes;
   chain = subst (λ ps. IsChain s.seeded_to (headers ps)) (sym (h.unseeded first.unseeded)) tt;
   marked = h.marked;
 }
 
-stopped_is_log : (l : LogState) → IsLog l → IsLog (with_stop l)
-stopped_is_log l h = record {
+stopped_is_log : (l : LogState) → IsLog l → IsSome l.seed → IsLog (with_stop l)
+stopped_is_log l h some = record {
   k_low = h.k_low;
   k_high = h.k_high;
   m_high = h.m_high;
   index_high = h.index_high;
   unseeded = h.unseeded;
+  unlocked = λ none. absurd (some_is_not_none l.seed none some);
   own_seed = h.own_seed;
   own_pushes = h.own_pushes;
   chain = h.chain;
@@ -51,7 +53,7 @@ stopped_is_log l h = record {
 
 pub ask_leaves_log : AskLeavesLog
 ask_leaves_log l a h is =
-    by_change IsLog l a h (λ s at first. with_seed_is_log l s h first (subst IsLogAsk at is)) (λ p at next. with_push_is_log l p h next (subst IsLogAsk at is)) (λ at some. stopped_is_log l h)
+    by_change IsLog l a h (λ s at first. with_seed_is_log l s h first (subst IsLogAsk at is)) (λ p at next. with_push_is_log l p h next (subst IsLogAsk at is)) (λ at some. stopped_is_log l h some)
 
 pub asks_leave_log : AsksLeaveLog
 asks_leave_log l [] h are = h

@@ -6,3 +6,5 @@ pub mod Changes
 pub mod Lawful
 pub mod Telling
 pub mod Going
+pub mod Seedings
+pub mod SeedKept

@@ -95,6 +95,7 @@ with_push_is_log l p h next is = record {
   m_high = h.m_high;
   index_high = h.index_high;
   unseeded = λ e. absurd (some_is_not_none l.seed e next.seeded);
+  unlocked = λ e. absurd (some_is_not_none l.seed e next.seeded);
   own_seed = h.own_seed;
   own_pushes = All-push (IsOwnPush l.epoch (holds l)) l.pushes p h.own_pushes (record { within = is; epoch = next.epoch; tags = next.tags });
   chain = chain_more (seeded_to_of l.seed) l.pushes p h.chain next.follows is;

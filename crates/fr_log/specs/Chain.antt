@@ -1,5 +1,5 @@
 -- What the pushes of a log are to one another.
-use Rattle.std.specs.Prelude.{◌≡◌, ℕ, ◌<◌, ◌≤◌, Bool, List, [], ◌∷◌, None, IsTrue, IsSome, IsNone, IfSome, All}
+use Rattle.std.specs.Prelude.{◌≡◌, ℕ, ◌<◌, ◌≤◌, Bool, false, List, [], ◌∷◌, None, IsTrue, IsSome, IsNone, IfSome, All}
 use Rattle.std.specs.List.{list_all}
 use Rattle.fr_log.specs.Seed.{SeedContent, IsSeed}
 use Rattle.fr_log.specs.Push.{PushContent, IsPush}
@@ -34,6 +34,7 @@ pub record IsLog (l : LogState) : Type 0 where
   pub m_high : l.m ≤ 16
   pub index_high : l.index < l.m
   pub unseeded : l.seed ≡ None → l.pushes ≡ []
+  pub unlocked : l.seed ≡ None → l.stopped ≡ false
   pub own_seed : IfSome l.seed (IsOwnSeed l.epoch (holds l))
   pub own_pushes : All (IsOwnPush l.epoch (holds l)) l.pushes
   pub chain : IsChain (seeded_to_of l.seed) (headers_of l)

@@ -12,6 +12,7 @@ pub mod Refusal
 pub mod Lists
 pub mod Step
 pub mod Change
+pub mod Seeding
 pub mod Answer
 pub mod Place
 pub mod StepLaws

@@ -8,6 +8,7 @@ ghost use Rattle.fr_log.specs.Chain.{IsLog};
 
 mod place;
 mod refusal;
+mod seeding;
 mod step;
 
 use crate::push::Push;

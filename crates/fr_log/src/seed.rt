@@ -1,8 +1,9 @@
 //! What a log is seeded with.
-ghost use Rattle.std.specs.Prelude.{◌≡◌, ◌↔◌, nat_le, ◌&&◌, IsSome, IfSome, IfOk};
+ghost use Rattle.std.specs.Prelude.{◌≡◌, ◌↔◌, nat_le, ◌&&◌, ◌++◌, ◌∷◌, [], IsTrue, IsSome, IfSome, IfOk, OnErr, if◌then◌else◌};
 ghost use Rattle.std.specs.List.{list_all};
 ghost use Rattle.std.specs.Cmp.{partial_equiv_from_equiv};
 ghost use Rattle.fr_base.specs.Same.{IsSameness-equivalence};
+ghost use Rattle.fr_log.specs.Seeding.{takes_record, with_record};
 ghost use Rattle.fr_log.specs.Seed.{IsSeed, is_within, is_rising_from, is_same_seed, is_same_seed-IsSameness};
 
 use crate::records::SeedRecord;
@@ -94,6 +95,24 @@ impl Seed {
         self.records
     }
 
+    /// Takes one record more, where the seed is one with it behind the others: its version is from `first`
+    /// through `seeded_to`, and it stands behind the last record. Else it is false, and nothing changes.
+    pub(crate) fn add(&mut self, next: SeedRecord) -> Result<bool, Memory>
+        ensures taken { IfOk result (λ taken. taken ≡ takes_record self.old next) }
+        ensures after { IfOk result (λ _. self.new ≡ (if takes_record self.old next then with_record self.old next else self.old)) }
+        ensures err { OnErr result (self.new ≡ self.old) }
+        ensures sound { IsSeed self.new }
+    {
+        if next.version < self.first || self.seeded_to < next.version {
+            return Ok(false);
+        }
+        if !may_follow(&self.records, &next) {
+            return Ok(false);
+        }
+        self.records.push(next)?;
+        Ok(true)
+    }
+
     /// An equal seed.
     pub fn copy(&self) -> Result<Self, Memory>
         ensures { IfOk result (λ seed. seed ≡ self.now) }
@@ -150,6 +169,21 @@ fn is_rising(records: &[SeedRecord]) -> bool
         tag = record.tag.get() + 1;
     }
     true
+}
+
+/// Whether a record stands behind those that rise strictly by version and tag.
+fn may_follow(records: &[SeedRecord], next: &SeedRecord) -> bool
+    requires { IsTrue (is_rising_from 0 0 records.now) }
+    ensures { result ≡ is_rising_from 0 0 (records.now ++ next.now ∷ []) }
+{
+    match records.last() {
+        Some(last) => {
+            let (version, tag) = (last.version.get(), last.tag.get());
+            version < next.version.get()
+                || version == next.version.get() && tag + 1 <= next.tag.get()
+        }
+        None => true,
+    }
 }
 
 /// Whether the versions of records are from `first` through `seeded_to`.

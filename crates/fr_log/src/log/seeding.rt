@@ -1,0 +1,48 @@
+//! A log that is read back: which asks change it, and its seed record by record.
+ghost use Rattle.std.specs.Prelude.{◌≡◌, ◌&&◌, not, IfOk, OnErr};
+ghost use Rattle.fr_log.specs.Seeding.{changes, is_empty, takes_seeded, next_seeded};
+ghost use Rattle.fr_log.specs.LogState.{holds};
+
+use super::Log;
+use crate::ask::LogAsk;
+use crate::records::SeedRecord;
+use fr_base::{Memory, Tag};
+
+impl Log {
+    /// Whether an ask would change it: a first seed, a push that it does not hold yet, and a first lock do,
+    /// where they are not refused. It takes no memory.
+    pub fn is_changed_by(&self, ask: &LogAsk) -> bool
+        ensures { result ≡ changes self.now ask.now }
+    {
+        match ask {
+            LogAsk::Seed(seed) => self.seed_refusal(seed).is_none() && self.seed.is_none(),
+            LogAsk::Push(push) => self.push_refusal(push).is_none() && !self.is_push_held(push),
+            LogAsk::Lock { epoch } => self.lock_refusal(*epoch).is_none() && !self.stopped,
+            LogAsk::Peek { .. } | LogAsk::MarkAsked { .. } => false,
+        }
+    }
+
+    /// Takes one record more into its seed, as where a log is read back record by record. It is false, and
+    /// nothing changes, where no such seed is one: without a seed, after the first push or a lock, with a
+    /// tag of another log, a version outside of the seed's, or a record that does not stand behind the last.
+    pub fn take_seeded(&mut self, next: SeedRecord) -> Result<bool, Memory>
+        ensures taken { IfOk result (λ taken. taken ≡ takes_seeded self.old next) }
+        ensures after { IfOk result (λ _. self.new ≡ next_seeded self.old next) }
+        ensures err { OnErr result (self.new ≡ self.old) }
+    {
+        if !self.is_seeding(next.tag) {
+            return Ok(false);
+        }
+        match &mut self.seed {
+            Some(seed) => seed.add(next),
+            None => Ok(false),
+        }
+    }
+
+    /// Whether nothing stands in the way of one more record of a tag in its seed, if it has one.
+    fn is_seeding(&self, tag: Tag) -> bool
+        ensures { result ≡ (not self.now.stopped && (is_empty self.now.pushes && holds self.now tag)) }
+    {
+        !self.stopped && self.pushes.is_empty() && self.holds(tag)
+    }
+}

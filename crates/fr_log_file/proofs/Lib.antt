@@ -1,0 +1,5 @@
+pub mod Lengths
+pub mod Loops
+pub mod Fields
+pub mod Records
+pub mod Group

@@ -1,0 +1,11 @@
+//! What a log does by a record of its file.
+use fr_log::{LogAsk, SeedRecord};
+
+/// What a log does by a record of its file.
+#[derive(Drop)]
+pub(crate) enum Change {
+    /// It takes this ask: a seed without records, a push, a mark or a lock.
+    Asked(LogAsk),
+    /// It takes one record more into its seed.
+    Seeded(SeedRecord),
+}
