@@ -59,7 +59,7 @@ pub where_key : (params row : Row) (q : List ℕ) → column params 0 ≡ Blob q
 unfolding binary
 where_key params row q given (id, k, v, is) = rw (is, given, value_cmp-Blob k q) (truth_and _)
 
-ge_is_le : (a b : List ℕ) → is_ge (bytes_cmp a b) ≡ is_le (bytes_cmp b a)
+pub ge_is_le : (a b : List ℕ) → is_ge (bytes_cmp a b) ≡ is_le (bytes_cmp b a)
 ge_is_le a b = rw (bytes_total.antisymm b a) (turned (bytes_cmp a b))
   where
     turned : (o : Ordering) → is_ge o ≡ is_le (ordering_reverse o)

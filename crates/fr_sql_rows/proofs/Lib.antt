@@ -10,3 +10,6 @@ pub mod QueryLemmas
 pub mod KvWrites
 pub mod UndoWrites
 pub mod MetaWrites
+pub mod ReadLemmas
+pub mod KvReads
+pub mod UndoReads

@@ -1,9 +1,9 @@
 -- What a statement that writes makes of the row of meta.
-use Rattle.std.proofs.Common.{◌≡◌, ℕ, pos, List, [], ◌∷◌, Ok, Err, Result, OnOk, refl, sym, ap, subst, ◌∙◌, arith}
+use Rattle.std.proofs.Common.{slice_get, Some, None, ◌≡◌, ℕ, pos, List, [], ◌∷◌, Ok, Err, Result, OnOk, refl, sym, ap, subst, ◌∙◌, arith}
 use Rattle.sqlite.specs.declared.types.Value.{Value}
 use Rattle.sqlite.specs.declared.types.Value.TheVariants.{Null, Int, Blob}
 use Rattle.sqlite.specs.declared.error.Error.{Error}
-use Rattle.sqlite.specs.Order.{Row}
+use Rattle.sqlite.specs.Order.{Row, column, bytes}
 use Rattle.sqlite.specs.Term.{Term, lit, col}
 use Rattle.sqlite.specs.Query.{IsSureAnswer}
 use Rattle.sqlite.specs.Edit.{edit_of, edited}
@@ -11,15 +11,15 @@ use Rattle.sqlite.specs.Rowids.TheVariants.{Given, Chosen}
 use Rattle.sqlite.specs.Tree.{Trees}
 use Rattle.sqlite.specs.Program.{overlay}
 use Rattle.sqlite.specs.Effect.{Database}
-use Rattle.sqlite.specs.State.{State, Executes}
-use Rattle.sqlite.proofs.Callers.{runs_as}
+use Rattle.sqlite.specs.State.{State, Executes, Shown}
+use Rattle.sqlite.proofs.Callers.{runs_as, reads_as}
 use Rattle.sqlite_rules.specs.Calls.{ids_of}
 use Rattle.sqlite_value.proofs.OrderLemmas.{value_cmp-Int}
 use Rattle.fr_sql_rows.specs.Schema.{schema}
-use Rattle.fr_sql_rows.specs.Rows.{AreKvRows, AreUndoRows, meta_row}
+use Rattle.fr_sql_rows.specs.Rows.{bytes_in, AreKvRows, AreUndoRows, meta_row}
 use Rattle.fr_sql_rows.specs.Connection.{IsAtRest, IsLaidOut, BeginsMeta, Versions, HoldsBytes}
 use Rattle.fr_sql_rows.proofs.StepLemmas.{cast_null, cast_int}
-use Rattle.fr_sql_rows.proofs.TextLemmas.{plain_query, begin_text, begin_is, begin_plain, versions_text, versions_is, versions_plain, bytes_text, bytes_is, bytes_plain}
+use Rattle.fr_sql_rows.proofs.TextLemmas.{plain_query, begin_text, begin_is, begin_plain, versions_text, versions_is, versions_plain, bytes_text, bytes_is, bytes_plain, state_text, state_is, state_plain, state_unlisted}
 use Rattle.fr_sql_rows.proofs.QueryLemmas.{plain_answer}
 use Rattle.fr_sql_rows.proofs.WriteLemmas.{meta_table, Replaces, inserts_meta, updates_meta}
 
@@ -88,3 +88,20 @@ begins_meta old new (Ok count) rest has empty h =
       meta = e.applies.rows ∙ begun_with old.now.trees _ empty refl;
       rest = record { is_open = w.shown.is_open; autocommit = w.shown.mode ∙ rest.autocommit; settled = sym (rw rest.autocommit at w.shown.committed_is) };
     }
+
+-- the query of the state shows it
+pub shows_state : (old new : State) (rows : List Row) → IsLaidOut old.now → Shown state_text [] old new rows → rows ≡ (Blob (bytes_in (old.now.trees 4)) ∷ []) ∷ []
+shows_state old new rows laid h =
+    let read = reads_as state_text [] old new schema laid.schema _ state_is state_plain state_unlisted rows h in
+    let is = laid.meta.3 in
+    one_shown (col 1 4 ∷ []) [] old.now.trees laid.meta.0 laid.meta.1 laid.meta.2 rows is read.answer ∙ ap (λ (bytes : List ℕ). (Blob bytes ∷ []) ∷ []) (sym (ap bytes_in is))
+
+pub state_some : (old new : State) (rows : List Row) (row : Row) (v : List ℕ) → IsLaidOut old.now → Shown state_text [] old new rows → slice_get rows 0 ≡ Some row → column row 0 ≡ Blob v → v ≡ bytes_in (old.now.trees 4)
+state_some old new rows row v laid h some is =
+    let shows = shows_state old new rows laid h in
+    let first : Some row ≡ Some (Blob (bytes_in (old.now.trees 4)) ∷ []) = sym some ∙ ap (λ rs. slice_get rs 0) shows in
+    let same : row ≡ Blob (bytes_in (old.now.trees 4)) ∷ [] = cc in
+    ap bytes (sym is ∙ ap (λ r. column r 0) same)
+
+pub state_none : (old new : State) (rows : List Row) → IsLaidOut old.now → Shown state_text [] old new rows → slice_get rows 0 ≡ None → ⊥
+state_none old new rows laid h none = let clash = sym none ∙ ap (λ rs. slice_get rs 0) (shows_state old new rows laid h) in cc

@@ -127,20 +127,20 @@ pub bytes_is : command_of (understood schema bytes_text) ≡ Update 2 (record { 
 unfolding understood everything
 bytes_is = refl
 
-abbrev pub own_text : List ℕ
-own_text = codes "SELECT applied, floor, state FROM meta"
+abbrev pub state_text : List ℕ
+state_text = codes "SELECT state FROM meta"
 
-pub own_plain : IsPlain (understood schema own_text)
+pub state_plain : IsPlain (understood schema state_text)
 unfolding understood everything
-own_plain = (refl, refl)
+state_plain = (refl, refl)
 
-pub own_unlisted : reads_listing schema own_text ≡ false
+pub state_unlisted : reads_listing schema state_text ≡ false
 unfolding understood everything
-own_unlisted = refl
+state_unlisted = refl
 
-pub own_is : command_of (understood schema own_text) ≡ Select (record { lets = []; body = plain_query 4 [] (col 1 2 ∷ col 1 3 ∷ col 1 4 ∷ []) }) (codes "applied" ∷ codes "floor" ∷ codes "state" ∷ [])
+pub state_is : command_of (understood schema state_text) ≡ Select (record { lets = []; body = plain_query 4 [] (col 1 4 ∷ []) }) (codes "state" ∷ [])
 unfolding understood everything
-own_is = refl
+state_is = refl
 
 abbrev pub note_text : List ℕ
 note_text = codes "INSERT INTO undo VALUES (?1, ?2, ?3)"

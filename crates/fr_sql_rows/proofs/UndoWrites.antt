@@ -45,7 +45,7 @@ same_place-comm a b = (eq_by_cmp_equiv place_total).symm a b
 have_ids : (rows : List Row) → AllByRecursion IsUndoRow rows → AllByRecursion HasId rows
 have_ids rows all = all_weaker IsUndoRow HasId (λ r h. (h.0, ap rowid h.4)) rows all
 
-blob_of_value : (before : Option (List ℕ)) → blob_in (as_value before) ≡ before
+pub blob_of_value : (before : Option (List ℕ)) → blob_in (as_value before) ≡ before
 blob_of_value None = refl
 blob_of_value (Some b) = refl
 
@@ -103,7 +103,7 @@ notes_none old new version k count laid lacks h =
 
 -- ---- rows dropped
 
-keeps_if : {X : Type 0} (b : Bool) (x y : X) → cond (not b) y x ≡ cond b x y
+pub keeps_if : {X : Type 0} (b : Bool) (x y : X) → cond (not b) y x ≡ cond b x y
 keeps_if true x y = refl
 keeps_if false x y = refl
 
@@ -142,7 +142,7 @@ above_is a b = go (nat_lt a b) refl (nat_lt b a) refl (nat_le a b) refl
     go false e false f true g = rw (e, f, g) refl
     go false e false f false g = absurd (let clash = sym f ∙ lt-ltb b a (not_le a b g) in cc)
 
-where_above : (r : Row) (t : ℕ) → IsUndoRow r → list_all (holds ((Int (pos t) ∷ []) ∷ r ∷ [])) is_above ≡ not (nat_le (place_of r).0 t)
+pub where_above : (r : Row) (t : ℕ) → IsUndoRow r → list_all (holds ((Int (pos t) ∷ []) ∷ r ∷ [])) is_above ≡ not (nat_le (place_of r).0 t)
 unfolding binary
 where_above r t (id, version, k, before, is) = rw (is, value_cmp-Int (pos version) (pos t)) (truth_and _ ∙ above_is version t)
 

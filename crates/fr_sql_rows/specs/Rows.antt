@@ -1,12 +1,13 @@
 -- What the rows of the tables stand for.
 use Rattle.std.specs.Prelude.{◌≡◌, ◌≤◌, ℕ, ℤ, pos, List, [], ◌∷◌, map, filter, length, slice_get, slice_index_or, Bool, Option, None, Some, option_map}
-use Rattle.std.specs.Ordering.{is_eq}
+use Rattle.std.specs.Ordering.{is_eq, nat_cmp, ordering_then}
+use Rattle.std.specs.declared.cmp.Ordering.{Ordering}
 use Rattle.std.specs.List.{AllByRecursion}
 use Rattle.sqlite.specs.declared.types.Value.{Value}
 use Rattle.sqlite.specs.declared.types.Value.TheVariants.{Null, Int, Blob}
 use Rattle.sqlite.specs.Order.{Row, column, bytes}
 use Rattle.sqlite.specs.Tree.{IsTable}
-use Rattle.fr_base.specs.Bytes.{is_same}
+use Rattle.fr_base.specs.Bytes.{is_same, bytes_cmp}
 use Rattle.fr_base.specs.Map.{Map, map_by}
 use Rattle.fr_undo.specs.State.{Place, place_cmp, UndoRows}
 
@@ -86,6 +87,18 @@ meta_row applied floor state = Int (pos 1) ∷ Null ∷ Int (pos applied) ∷ In
 -- the state bytes in the row of meta
 abbrev pub bytes_in : List Row → List ℕ
 bytes_in rows = bytes (column (slice_index_or rows 0 []) 4)
+
+-- the key and the value that a query shows
+abbrev pub pair_of : Row → List ℕ × List ℕ
+pair_of row = (bytes (column row 0), bytes (column row 1))
+
+-- the place that a query shows of an undo row, and what its key held before
+abbrev pub shown_row : Row → Place × Option (List ℕ)
+shown_row row = ((number_in (column row 0), bytes (column row 1)), blob_in (column row 2))
+
+-- by version, the newest first, and then by key
+abbrev pub newest_first : Place × Option (List ℕ) → Place × Option (List ℕ) → Ordering
+newest_first x y = ordering_then (nat_cmp y.0.0 x.0.0) (bytes_cmp x.0.1 y.0.1)
 
 -- what the tables stand for
 abbrev pub contents_in : List Row → Map

@@ -1,12 +1,17 @@
 //! The rows of the keys and their values.
-ghost use Rattle.std.specs.Prelude.{◌≡◌, None, Some, OnOk, IfOk, IsSome, IsTrue};
+ghost use Rattle.std.specs.Prelude.{map as list_map, ◌≡◌, None, Some, OnOk, IfOk, IsSome, IsTrue};
+ghost use Rattle.std.specs.FinMap as map;
+ghost use Rattle.std.specs.Ordering.{is_le};
 ghost use Rattle.sqlite.specs.Held.{state};
-ghost use Rattle.fr_sql_rows.specs.Rows.{value_in};
+ghost use Rattle.fr_base.specs.Bytes.{bytes_cmp};
+ghost use Rattle.fr_mutation.specs.Mutation.{is_between};
+ghost use Rattle.fr_sql_rows.specs.Rows.{value_in, contents_in, pair_of};
 ghost use Rattle.fr_sql_rows.specs.Connection.{IsAtRest, IsLaidOut, IsInside, KeepsIfOpen, CommitsNothing, Stays, Sets, Clears};
 
 use crate::backing::Backing;
 use fr_base::Bytes;
-use sqlite::{Connection, Error, Transaction, params};
+use sqlite::{Connection, Error, Row, Transaction, params};
+use std::alloc::Global;
 
 /// The value of a key.
 pub fn value_at<S: Backing>(
@@ -28,6 +33,70 @@ pub fn value_at<S: Backing>(
             Ok(Some(Bytes::from_vec(value)))
         }
     }
+}
+
+/// The keys and the values that rows show, in their order.
+fn pairs(alloc: Global, rows: &[Row]) -> Result<Vec<(Bytes, Bytes)>, Error>
+    ensures { IfOk result (λ pairs. pairs.items ≡ list_map pair_of rows.now) }
+{
+    let mut pairs = Vec::new(alloc);
+    for row in rows {
+        let key: Vec<u8> = row.get(0)?;
+        let value: Vec<u8> = row.get(1)?;
+        pairs.push((Bytes::from_vec(key), Bytes::from_vec(value)))?;
+    }
+    Ok(pairs)
+}
+
+/// The keys from `begin` up to, but not including, `end`, with their values, in the order of the keys.
+pub fn between<'x, S: Backing>(
+    alloc: Global,
+    conn: &mut Connection<S>,
+    begin: &'x Bytes,
+    end: &'x Bytes,
+) -> Result<Vec<(Bytes, Bytes)>, Error>
+    requires rest { IsAtRest (state S.Store conn.old) }
+    requires laid { IsLaidOut (state S.Store conn.old).now }
+    ensures rows { IfOk result (λ rows. rows.items ≡ map.entries (map.retain_keys (contents_in ((state S.Store conn.old).now.trees 0)) (is_between begin.now end.now))) }
+    ensures open { OnOk result (IsTrue (state S.Store conn.new).is_open) }
+    ensures keeps { KeepsIfOpen (state S.Store conn.old) (state S.Store conn.new) }
+    ensures survives { CommitsNothing (state S.Store conn.old) (state S.Store conn.new) }
+{
+    let rows = conn.query_all("SELECT k, v FROM kv WHERE k >= ?1 AND k < ?2 ORDER BY k", params![begin.as_slice(), end.as_slice()])?;
+    pairs(alloc, rows.as_slice())
+}
+
+/// The keys from `begin` on, with their values, in the order of the keys.
+pub fn from<S: Backing>(
+    alloc: Global,
+    conn: &mut Connection<S>,
+    begin: &Bytes,
+) -> Result<Vec<(Bytes, Bytes)>, Error>
+    requires rest { IsAtRest (state S.Store conn.old) }
+    requires laid { IsLaidOut (state S.Store conn.old).now }
+    ensures rows { IfOk result (λ rows. rows.items ≡ map.entries (map.retain_keys (contents_in ((state S.Store conn.old).now.trees 0)) (λ q. is_le (bytes_cmp begin.now q)))) }
+    ensures open { OnOk result (IsTrue (state S.Store conn.new).is_open) }
+    ensures keeps { KeepsIfOpen (state S.Store conn.old) (state S.Store conn.new) }
+    ensures survives { CommitsNothing (state S.Store conn.old) (state S.Store conn.new) }
+{
+    let rows = conn.query_all("SELECT k, v FROM kv WHERE k >= ?1 ORDER BY k", params![begin.as_slice()])?;
+    pairs(alloc, rows.as_slice())
+}
+
+/// All keys with their values, in the order of the keys.
+pub fn all<S: Backing>(
+    alloc: Global,
+    conn: &mut Connection<S>,
+) -> Result<Vec<(Bytes, Bytes)>, Error>
+    requires rest { IsAtRest (state S.Store conn.old) }
+    requires laid { IsLaidOut (state S.Store conn.old).now }
+    ensures rows { IfOk result (λ rows. rows.items ≡ map.entries (contents_in ((state S.Store conn.old).now.trees 0))) }
+    ensures open { OnOk result (IsTrue (state S.Store conn.new).is_open) }
+    ensures keeps { KeepsIfOpen (state S.Store conn.old) (state S.Store conn.new) }
+    ensures survives { CommitsNothing (state S.Store conn.old) (state S.Store conn.new) }
+{
+    let rows = conn.query_all("SELECT k, v FROM kv ORDER BY k", &[])?;
+    pairs(alloc, rows.as_slice())
 }
 
 /// Gives a key that has no value one.

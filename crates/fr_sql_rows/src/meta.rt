@@ -1,11 +1,12 @@
 //! The row of what the store has of itself.
-ghost use Rattle.std.specs.Prelude.{◌≡◌, ◌<◌, ◌^◌, pos, OnOk};
+ghost use Rattle.std.specs.Prelude.{◌≡◌, ◌<◌, ◌^◌, pos, OnOk, IfOk, IsTrue};
 ghost use Rattle.sqlite.specs.Held.{state};
-ghost use Rattle.fr_sql_rows.specs.Connection.{IsLaidOut, IsInside, CommitsNothing, Stays, Versions, HoldsBytes};
+ghost use Rattle.fr_sql_rows.specs.Rows.{bytes_in};
+ghost use Rattle.fr_sql_rows.specs.Connection.{IsAtRest, IsLaidOut, IsInside, KeepsIfOpen, CommitsNothing, Stays, Versions, HoldsBytes};
 
 use crate::backing::Backing;
 use fr_base::{Bytes, Version};
-use sqlite::{Error, Transaction, params};
+use sqlite::{Connection, Error, Transaction, params};
 
 /// A version as SQL has it.
 pub fn number_of(version: Version) -> i64
@@ -47,4 +48,23 @@ pub fn note_bytes<S: Backing>(
     ensures survives { CommitsNothing (state S.Store tx.old.conn.now) (state S.Store tx.new.conn.now) }
 {
     tx.execute("UPDATE meta SET state = ?1", params![bytes.as_slice()])
+}
+
+/// The state bytes.
+pub fn bytes<S: Backing>(conn: &mut Connection<S>) -> Result<Bytes, Error>
+    requires rest { IsAtRest (state S.Store conn.old) }
+    requires laid { IsLaidOut (state S.Store conn.old).now }
+    ensures value { IfOk result (λ bytes. bytes ≡ bytes_in ((state S.Store conn.old).now.trees 4)) }
+    ensures open { OnOk result (IsTrue (state S.Store conn.new).is_open) }
+    ensures keeps { KeepsIfOpen (state S.Store conn.old) (state S.Store conn.new) }
+    ensures survives { CommitsNothing (state S.Store conn.old) (state S.Store conn.new) }
+{
+    let rows = conn.query_all("SELECT state FROM meta", &[])?;
+    match rows.as_slice().first() {
+        None => unreachable!(),
+        Some(row) => {
+            let bytes: Vec<u8> = row.get(0)?;
+            Ok(Bytes::from_vec(bytes))
+        }
+    }
 }
