@@ -13,3 +13,4 @@ pub mod MetaWrites
 pub mod ReadLemmas
 pub mod KvReads
 pub mod UndoReads
+pub mod TransactionLemmas

@@ -17,7 +17,7 @@ use Rattle.sqlite_rules.specs.Calls.{ids_of}
 use Rattle.sqlite_value.proofs.OrderLemmas.{value_cmp-Int}
 use Rattle.fr_sql_rows.specs.Schema.{schema}
 use Rattle.fr_sql_rows.specs.Rows.{bytes_in, AreKvRows, AreUndoRows, meta_row}
-use Rattle.fr_sql_rows.specs.Connection.{IsAtRest, IsLaidOut, BeginsMeta, Versions, HoldsBytes}
+use Rattle.fr_sql_rows.specs.Connection.{IsAtRest, IsLaidOut, IsBegun, BeginsMeta, Versions, HoldsBytes}
 use Rattle.fr_sql_rows.proofs.StepLemmas.{cast_null, cast_int}
 use Rattle.fr_sql_rows.proofs.TextLemmas.{plain_query, begin_text, begin_is, begin_plain, versions_text, versions_is, versions_plain, bytes_text, bytes_is, bytes_plain, state_text, state_is, state_plain, state_unlisted}
 use Rattle.fr_sql_rows.proofs.QueryLemmas.{plain_answer}
@@ -105,3 +105,13 @@ state_some old new rows row v laid h some is =
 
 pub state_none : (old new : State) (rows : List Row) → IsLaidOut old.now → Shown state_text [] old new rows → slice_get rows 0 ≡ None → ⊥
 state_none old new rows laid h none = let clash = sym none ∙ ap (λ rs. slice_get rs 0) (shows_state old new rows laid h) in cc
+
+no_kv : (rows : List Row) → rows ≡ [] → AreKvRows rows
+no_kv rows is = subst AreKvRows (sym is) (record { shaped = tt; single = λ q. omega arith; table = tt })
+
+no_undo : (rows : List Row) → rows ≡ [] → AreUndoRows rows
+no_undo rows is = subst AreUndoRows (sym is) (record { shaped = tt; single = λ p. omega arith; table = tt })
+
+-- the tables just made are those of a store
+pub laid_out : (s : State) → IsBegun s → IsLaidOut s.now
+laid_out s b = record { schema = b.schema; kv = no_kv _ b.kv; undo = no_undo _ b.undo; meta = (0, 0, [], b.meta) }

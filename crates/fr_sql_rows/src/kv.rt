@@ -1,5 +1,5 @@
 //! The rows of the keys and their values.
-ghost use Rattle.std.specs.Prelude.{map as list_map, ◌≡◌, None, Some, OnOk, IfOk, IsSome, IsTrue};
+ghost use Rattle.std.specs.Prelude.{map as list_map, ◌≡◌, None, Some, OnOk, IfOk, IsSome, IsTrue, is_some};
 ghost use Rattle.std.specs.FinMap as map;
 ghost use Rattle.std.specs.Ordering.{is_le};
 ghost use Rattle.sqlite.specs.Held.{state};
@@ -133,6 +133,29 @@ pub fn change<'x, S: Backing>(
     ensures survives { CommitsNothing (state S.Store tx.old.conn.now) (state S.Store tx.new.conn.now) }
 {
     tx.execute("UPDATE kv SET v = ?2 WHERE k = ?1", params![key.as_slice(), value.as_slice()])
+}
+
+/// Gives a key a value, where `held` says whether it has one.
+pub fn set<'x, S: Backing>(
+    tx: &mut Transaction<'_, S>,
+    key: &'x Bytes,
+    value: &'x Bytes,
+    held: bool,
+) -> Result<usize, Error>
+    requires inside { IsInside (state S.Store tx.old.conn.now) }
+    requires laid { IsLaidOut (state S.Store tx.old.conn.now).now }
+    requires held { held ≡ is_some (value_in ((state S.Store tx.old.conn.now).now.trees 0) key.now) }
+    ensures same_reference { tx.new.conn.ghost_name ≡ tx.old.conn.ghost_name }
+    ensures ok { OnOk result (Sets key.now (Some value.now) (state S.Store tx.old.conn.now).now (state S.Store tx.new.conn.now).now) }
+    ensures inside { OnOk result (IsInside (state S.Store tx.new.conn.now)) }
+    ensures stays { Stays (state S.Store tx.old.conn.now) (state S.Store tx.new.conn.now) }
+    ensures survives { CommitsNothing (state S.Store tx.old.conn.now) (state S.Store tx.new.conn.now) }
+{
+    if held {
+        change(tx, key, value)
+    } else {
+        put(tx, key, value)
+    }
 }
 
 /// Takes the value of a key, if it has one.

@@ -11,3 +11,6 @@ pub mod undo;
 
 pub use backing::Backing;
 pub use fault::{fault_of, read_fault_of};
+
+#[cfg(test)]
+mod tests;

@@ -2,7 +2,7 @@
 ghost use Rattle.std.specs.Prelude.{◌≡◌, [], OnOk};
 ghost use Rattle.sqlite.specs.Held.{state};
 ghost use Rattle.fr_sql_rows.specs.Schema.{no_schema, kv_schema, two_schema, schema, kv, undo, meta};
-ghost use Rattle.fr_sql_rows.specs.Connection.{IsAtRest, Creates, BeginsMeta, IsBegun};
+ghost use Rattle.fr_sql_rows.specs.Connection.{IsAtRest, Creates, IsLaidOut, BeginsMeta, IsBegun};
 
 use crate::backing::Backing;
 use sqlite::{Connection, Error};
@@ -57,7 +57,8 @@ pub(crate) fn begin_meta<S: Backing>(conn: &mut Connection<S>) -> Result<usize, 
 pub fn create<S: Backing>(conn: &mut Connection<S>) -> Result<(), Error>
     requires rest { IsAtRest (state S.Store conn.old) }
     requires schema { (state S.Store conn.old).now.schema ≡ no_schema }
-    ensures { OnOk result (IsBegun (state S.Store conn.new)) }
+    ensures begun { OnOk result (IsBegun (state S.Store conn.new)) }
+    ensures laid { OnOk result (IsLaidOut (state S.Store conn.new).now) }
 {
     create_kv(conn)?;
     create_undo(conn)?;
