@@ -1,5 +1,5 @@
 -- What a statement that fails leaves.
-use Rattle.std.proofs.Common.{◌≡◌, ◌⊎◌, inl, inr, ⊎_elim, ℕ, List, Bool, true, false, IsTrue, None, Some, Ok, Err, Result, OnOk, OnErr, refl, sym, ap, subst, ◌∙◌}
+use Rattle.std.proofs.Common.{◌≡◌, ◌⊎◌, inl, inr, ⊎_elim, ℕ, List, Bool, true, false, None, Some, Ok, Err, Result, OnOk, refl, sym, ap, subst, ◌∙◌}
 use Rattle.sqlite.specs.Order.{Row}
 use Rattle.sqlite.specs.declared.error.Error.{Error}
 use Rattle.sqlite.specs.State.{State, IsUnchanged, IsRolledBack, IsNotRun, Executes, ExecutesIn, shows_rows, FailsToQuery, Shown, ExecutesInside, Survives, CommitsShowing}
@@ -7,7 +7,7 @@ use Rattle.sqlite.specs.Schema.{Schema}
 use Rattle.sqlite.specs.Listing.{understood}
 use Rattle.sqlite.proofs.Callers.{IsPlain, never_commits}
 use Rattle.sqlite.proofs.StateLemmas.{survives_weaker}
-use Rattle.fr_sql_rows.specs.Connection.{IsAtRest, IsInside, Keeps, KeepsIfOpen, CommitsNothing, Stays}
+use Rattle.fr_sql_rows.specs.Connection.{IsAtRest, IsInside, KeepsIfOpen, CommitsNothing, Stays}
 
 abbrev pub Left : State → State → Type 0
 Left old new = IsUnchanged old new ⊎ IsRolledBack old new

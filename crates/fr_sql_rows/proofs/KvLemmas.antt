@@ -1,26 +1,23 @@
 -- What a query of kv answers.
-use Rattle.std.proofs.Common.{◌≡◌, ◌≤◌, ℕ, suc, List, [], ◌∷◌, map, filter, flat_map, slice_get, option_map, length, Bool, true, false, None, Some, refl, sym, ap, subst, ◌∙◌, arith}
+use Rattle.std.proofs.Common.{◌≡◌, ◌≤◌, ℕ, List, [], ◌∷◌, map, filter, flat_map, slice_get, option_map, length, Bool, true, false, None, Some, refl, sym, ap, subst, ◌∙◌}
 use Rattle.std.specs.List.{AllByRecursion}
 use Rattle.sqlite.specs.declared.types.Value.{Value}
 use Rattle.sqlite.specs.declared.types.Value.TheVariants.{Null, Blob}
 use Rattle.sqlite.specs.Order.{Row, column, bytes}
-use Rattle.sqlite.specs.Term.{Term, col, holds, Env}
-use Rattle.sqlite.specs.Ops.{binary, is_true, from_truth}
-use Rattle.sqlite.specs.Query.{inner, end, matches_as, IsSureAnswer, output, page, Output}
+use Rattle.sqlite.specs.Term.{col, holds}
+use Rattle.sqlite.specs.Ops.{binary}
+use Rattle.sqlite.specs.Query.{end, matches_as}
 use Rattle.sqlite.specs.Term.{eval_all}
-use Rattle.sqlite.specs.Tree.{Trees}
 use Rattle.sqlite.specs.Program.{overlay}
-use Rattle.std.specs.List.Sorted.{IsPermutation}
-use Rattle.std.proofs.lemmas.List.Sorted.{length_permutation}
 use Rattle.sqlite.specs.State.{State, Shown}
-use Rattle.sqlite.proofs.Callers.{one_permutation, reads_as}
+use Rattle.sqlite.proofs.Callers.{reads_as}
 use Rattle.fr_sql_rows.specs.Schema.{schema}
 use Rattle.fr_sql_rows.specs.Connection.{IsLaidOut}
 use Rattle.sqlite_value.proofs.OrderLemmas.{value_cmp-Blob}
 use Rattle.fr_sql_rows.proofs.QueryLemmas.{truth_is, plain_answer}
 use Rattle.fr_sql_rows.proofs.ListLemmas.{map_length}
 use Rattle.fr_sql_rows.specs.Rows.{is_at_key, IsKvRow, value_in, value_of}
-use Rattle.fr_sql_rows.proofs.TextLemmas.{plain_query, has_key, get_text, get_is, get_plain, get_unlisted}
+use Rattle.fr_sql_rows.proofs.TextLemmas.{has_key, get_text, get_is, get_plain, get_unlisted}
 
 -- the condition on the key holds where the key is the one that is asked for
 pub holds_at : (params row : Row) (q : List ℕ) → IsKvRow row → column params 0 ≡ Blob q → holds (params ∷ row ∷ []) has_key ≡ is_at_key q row

@@ -1,9 +1,9 @@
 -- What the queries of kv show.
 use Rattle.std.proofs.lemmas.List.{take_more, map-append}
-use Rattle.std.proofs.Common.{◌<◌, ◌+◌, ◌++◌, length, take, slice_index_or, ◌≡◌, ℕ, List, [], ◌∷◌, map, filter, Bool, true, cond, Result, Ok, Err, OnOk, IfOk, None, Some, Option, refl, sym, ap, subst, ◌∙◌}
+use Rattle.std.proofs.Common.{◌<◌, ◌+◌, ◌++◌, length, take, slice_index_or, ◌≡◌, ℕ, List, [], ◌∷◌, map, true, Result, Ok, Err, OnOk, IfOk, refl, sym, ap, ◌∙◌}
 use Rattle.std.specs.List.{list_all}
-use Rattle.std.specs.Ordering.{is_le, is_lt}
-use Rattle.std.specs.FinMap.{retain_keys, entries, get, same_map, get-retain_keys}
+use Rattle.std.specs.Ordering.{is_le}
+use Rattle.std.specs.FinMap.{retain_keys, entries, same_map, get-retain_keys}
 use Rattle.sqlite.specs.declared.types.Value.TheVariants.{Null, Blob}
 use Rattle.sqlite.specs.Order.{Row, column, bytes}
 use Rattle.sqlite.specs.Term.{holds}

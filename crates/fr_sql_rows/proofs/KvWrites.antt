@@ -1,16 +1,16 @@
 -- What a statement that writes makes of the keys.
-use Rattle.std.proofs.Common.{◌≡◌, ◌≤◌, ℕ, ℤ, pos, length, filter, map, slice_get, option_map, List, [], ◌∷◌, inl, inr, Bool, true, false, cond, not, ◌&&◌, Option, Some, None, Ok, refl, sym, ap, subst, ◌∙◌, arith}
+use Rattle.std.proofs.Common.{◌≡◌, ◌≤◌, ℕ, ℤ, length, filter, map, slice_get, option_map, List, [], ◌∷◌, inl, Bool, true, false, cond, not, ◌&&◌, Some, None, Ok, refl, sym, ap, subst, ◌∙◌, arith}
 use Rattle.std.specs.List.{AllByRecursion, list_all}
 use Rattle.std.specs.declared.cmp.Ordering.{Ordering}
 use Rattle.std.specs.declared.cmp.Ordering.TheVariants.{Less, Equal, Greater}
-use Rattle.std.specs.Ordering.{is_eq, is_le, is_lt, is_ge, ordering_reverse}
+use Rattle.std.specs.Ordering.{is_le, is_lt, is_ge, ordering_reverse}
 use Rattle.sqlite.specs.declared.types.Value.TheVariants.{Null, Int, Blob}
 use Rattle.sqlite.specs.Order.{Row, column}
 use Rattle.sqlite.specs.Term.{Term, lit, col, holds}
 use Rattle.sqlite.specs.Ops.{binary}
-use Rattle.sqlite.specs.Edit.{edit_of, edited, next_rowid, is_taken, without_all}
+use Rattle.sqlite.specs.Edit.{edit_of, next_rowid, is_taken, without_all}
 use Rattle.sqlite.specs.Rowids.TheVariants.{Given, Chosen}
-use Rattle.sqlite.specs.Tree.{Trees, IsTable, put_row, rowid}
+use Rattle.sqlite.specs.Tree.{Trees, put_row, rowid}
 use Rattle.sqlite.specs.Program.{overlay}
 use Rattle.sqlite.specs.Effect.{Database}
 use Rattle.sqlite.specs.State.{State, Executes}
@@ -24,12 +24,11 @@ use Rattle.sqlite_value.proofs.OrderLemmas.{value_cmp-Blob}
 use Rattle.fr_base.specs.Bytes.{bytes_cmp, is_same, bytes_exact, bytes_total}
 use Rattle.fr_base.proofs.MapLemmas.{one_key, is_same-comm}
 use Rattle.fr_mutation.specs.Mutation.{is_between}
-use Rattle.fr_sql_rows.specs.Schema.{schema}
 use Rattle.fr_sql_rows.specs.Rows.{kv_row, IsKvRow, AreKvRows, AreUndoRows, key_of, value_of, is_at_key, value_in}
 use Rattle.fr_sql_rows.specs.Connection.{IsLaidOut, Sets, Clears}
 use Rattle.fr_sql_rows.proofs.StepLemmas.{cast_null, cast_int}
 use Rattle.fr_sql_rows.proofs.TextLemmas.{plain_query, has_key, in_range, put_text, put_is, put_plain, change_text, change_is, change_plain, remove_text, remove_is, remove_plain, clear_text, clear_is, clear_plain}
-use Rattle.fr_sql_rows.proofs.TableLemmas.{HasId, id_of, has_some, filter_table, left_is, one_put, absent, retained, single_in, none_left, rest_left, put_in, single_put, taken_out}
+use Rattle.fr_sql_rows.proofs.TableLemmas.{HasId, id_of, has_some, filter_table, left_is, one_put, absent, single_in, none_left, rest_left, put_in, single_put, taken_out}
 use Rattle.fr_sql_rows.proofs.QueryLemmas.{truth_and, truth_both, found_where, plain_answer, shown_ids}
 use Rattle.fr_sql_rows.proofs.WriteLemmas.{kv_table, Takes, inserts_kv, updates_kv, deletes_kv}
 

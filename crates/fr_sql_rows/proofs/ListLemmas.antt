@@ -1,5 +1,5 @@
 -- Lists that are filtered twice.
-use Rattle.std.proofs.Common.{◌≡◌, ◌≤◌, ℕ, suc, length, filter, map, List, [], ◌∷◌, Bool, true, false, not, ◌||◌, refl, ap, arith}
+use Rattle.std.proofs.Common.{◌≡◌, ◌≤◌, suc, length, filter, map, List, [], ◌∷◌, Bool, true, false, not, ◌||◌, refl, ap, arith}
 
 module _ {X : Type 0} where
   -- those that pass the one all pass the other

@@ -1,6 +1,5 @@
 -- What a statement that writes makes of the row of meta.
 use Rattle.std.proofs.Common.{slice_get, Some, None, ◌≡◌, ℕ, pos, List, [], ◌∷◌, Ok, Err, Result, OnOk, refl, sym, ap, subst, ◌∙◌, arith}
-use Rattle.sqlite.specs.declared.types.Value.{Value}
 use Rattle.sqlite.specs.declared.types.Value.TheVariants.{Null, Int, Blob}
 use Rattle.sqlite.specs.declared.error.Error.{Error}
 use Rattle.sqlite.specs.Order.{Row, column, bytes}
@@ -10,7 +9,6 @@ use Rattle.sqlite.specs.Edit.{edit_of, edited}
 use Rattle.sqlite.specs.Rowids.TheVariants.{Given, Chosen}
 use Rattle.sqlite.specs.Tree.{Trees}
 use Rattle.sqlite.specs.Program.{overlay}
-use Rattle.sqlite.specs.Effect.{Database}
 use Rattle.sqlite.specs.State.{State, Executes, Shown}
 use Rattle.sqlite.proofs.Callers.{runs_as, reads_as}
 use Rattle.sqlite_rules.specs.Calls.{ids_of}
@@ -21,7 +19,7 @@ use Rattle.fr_sql_rows.specs.Connection.{IsAtRest, IsLaidOut, IsBegun, BeginsMet
 use Rattle.fr_sql_rows.proofs.StepLemmas.{cast_null, cast_int}
 use Rattle.fr_sql_rows.proofs.TextLemmas.{plain_query, begin_text, begin_is, begin_plain, versions_text, versions_is, versions_plain, bytes_text, bytes_is, bytes_plain, state_text, state_is, state_plain, state_unlisted}
 use Rattle.fr_sql_rows.proofs.QueryLemmas.{plain_answer}
-use Rattle.fr_sql_rows.proofs.WriteLemmas.{meta_table, Replaces, inserts_meta, updates_meta}
+use Rattle.fr_sql_rows.proofs.WriteLemmas.{meta_table, inserts_meta, updates_meta}
 
 abbrev own_row : ℕ → ℕ → List ℕ → Row
 own_row applied floor bytes = Int (pos 1) ∷ meta_row applied floor bytes

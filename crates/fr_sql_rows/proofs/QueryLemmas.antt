@@ -3,19 +3,17 @@ use Rattle.std.proofs.Common.{◌≡◌, ◌≤◌, ◌&&◌, ℕ, List, [], ◌
 use Rattle.std.specs.List.{AllByRecursion, list_all}
 use Rattle.sqlite.specs.declared.types.Value.{Value}
 use Rattle.sqlite.specs.declared.types.Value.TheVariants.{Null}
-use Rattle.sqlite_value.specs.declared.keys.Key.{Key}
 use Rattle.sqlite.specs.Order.{Row}
 use Rattle.sqlite.specs.Term.{Term, col, holds, Env, eval_all}
 use Rattle.sqlite.specs.Ops.{is_true, from_truth}
-use Rattle.sqlite.specs.Query.{Query, inner, end, matches_as, IsSureAnswer, output, output_cmp, page, Output}
-use Rattle.sqlite.specs.Tree.{Trees, rowid}
-use Rattle.std.specs.List.Sorted.{IsPermutation, IsSorted}
+use Rattle.sqlite.specs.Query.{inner, end, matches_as, IsSureAnswer, output, page, Output}
+use Rattle.sqlite.specs.Tree.{Trees}
+use Rattle.std.specs.List.Sorted.{IsPermutation}
 use Rattle.std.proofs.lemmas.List.Sorted.{length_permutation, list_any-IsPermutation, IsPermutation-map}
-
 use Rattle.sqlite.proofs.Callers.{one_permutation}
 use Rattle.sqlite_rules.specs.Calls.{ids_of}
 use Rattle.sqlite.specs.Tree.{has_rowid}
-use Rattle.fr_sql_rows.proofs.TextLemmas.{plain_query, sorted_query}
+use Rattle.fr_sql_rows.proofs.TextLemmas.{plain_query}
 use Rattle.fr_sql_rows.proofs.TableLemmas.{id_of, has_some}
 
 pub truth_is : (b : Bool) → is_true (from_truth (Some b)) ≡ b
@@ -63,7 +61,6 @@ plain_answer tree filter project db params rows m e few h = go m e few
         let ordered = one_permutation (output (plain_query tree filter project) x) a.ordered (subst (λ k. IsPermutation k a.ordered) kept a.same) in
         a.shown ∙ ap (λ xs. page (plain_query tree filter project) params (map (λ (p : Output). p.1) xs)) ordered
     go (x ∷ y ∷ m) e few = absurd (omega arith)
-
 
 -- the answer of a query with no order shows what was found, in some order
 pub plain_permutation : (tree : ℕ) (filter project : List Term) (db : Trees) (params : Row) (rows : List Row) (m : List Env) → matches_as Null db filter (inner tree end) (params ∷ []) ≡ m

@@ -1,21 +1,20 @@
 -- What a query with ORDER BY shows of the keys.
-use Rattle.std.proofs.Common.{◌≡◌, ap₂, subst₂, suc, ◌≤◌, ◌<◌, ◌+◌, ◌&&◌, ℕ, length, filter, map, flat_map, slice_get, slice_index_or, option_map, List, [], ◌∷◌, Bool, true, false, cond, Option, Some, None, refl, sym, ap, subst, ◌∙◌, arith}
+use Rattle.std.proofs.Common.{◌≡◌, ap₂, subst₂, suc, ◌≤◌, ◌+◌, ℕ, length, filter, map, slice_get, slice_index_or, option_map, List, [], ◌∷◌, Bool, true, false, cond, None, refl, sym, ap, subst, ◌∙◌, arith}
 use Rattle.std.specs.Prelude.{T}
 use Rattle.std.specs.List.{AllByRecursion, list_any}
 use Rattle.std.specs.List.Sorted.{IsPermutation, IsSorted}
 use Rattle.std.specs.declared.cmp.Ordering.{Ordering}
 use Rattle.std.specs.declared.cmp.Ordering.TheVariants.{Less, Equal, Greater}
 use Rattle.std.specs.Ordering.{is_eq, is_lt, eq_by_cmp, ordering_then, ordering_reverse}
-use Rattle.std.specs.FinMap as map
 use Rattle.std.specs.FinMap.{find, is_sorted, from_sorted, get-from_sorted, entries-from_sorted, get-retain_keys, same_map, retain_keys, entries, get}
 use Rattle.std.specs.FinMap.Entries.{below_all}
 use Rattle.std.proofs.lemmas.Cmp.{tied_itself}
 use Rattle.std.proofs.lemmas.Bool.{and_parts}
 use Rattle.std.proofs.lemmas.List.Sorted.{IsPermutation-map, length_permutation}
 use Rattle.sqlite.specs.declared.types.Value.TheVariants.{Null, Blob}
-use Rattle.sqlite.specs.Order.{Row, column, bytes}
-use Rattle.sqlite.specs.Term.{Term, col, Env}
-use Rattle.sqlite.specs.Query.{Query, inner, end, matches_as, IsSureAnswer, output, output_cmp, Output}
+use Rattle.sqlite.specs.Order.{Row, column}
+use Rattle.sqlite.specs.Term.{Term, col}
+use Rattle.sqlite.specs.Query.{inner, end, matches_as, IsSureAnswer, output, output_cmp, Output}
 use Rattle.sqlite.specs.Tree.{Trees}
 use Rattle.sqlite.proofs.Callers.{one_permutation}
 use Rattle.sqlite_trees.proofs.ListLemmas.{IsPermutation-filter, all-permutation, filter-map, all-filter}
@@ -120,12 +119,14 @@ strict (o ∷ p ∷ os) outs sorted single =
         let one : k + 1 ≡ suc k = omega arith in
         let two : k + 1 + 1 ≡ suc (k + 1) = omega arith in
         subst₂ (λ i j. is_lt (ordered_by (slice_index_or (o ∷ p ∷ os) i d) (slice_index_or (o ∷ p ∷ os) j d)) ≡ false) two one h
+
     fewer : (q : List ℕ) → length (filter (is_entry_at q) (map out_of (o ∷ p ∷ os))) ≤ 1 → length (filter (is_entry_at q) (map out_of (p ∷ os))) ≤ 1
     fewer q h = go (is_entry_at q (out_of o)) refl
       where
         go : (t : Bool) → is_entry_at q (out_of o) ≡ t → length (filter (is_entry_at q) (map out_of (p ∷ os))) ≤ 1
         go true e = let more = rw e at h in omega (arith, more)
         go false e = rw e at h
+
     apart : (a b : List ℕ) → (out_of o).0 ≡ a → (out_of p).0 ≡ b → is_same a b ≡ false
     apart a b e f = go (is_same a b) refl
       where

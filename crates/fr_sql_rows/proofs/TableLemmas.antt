@@ -1,10 +1,9 @@
 -- Rows put into a table and taken out of it.
-use Rattle.std.proofs.Common.{◌≡◌, inl, inr, ◌≤◌, ℕ, ℤ, length, filter, map, slice_get, option_map, List, [], ◌∷◌, Bool, true, false, cond, not, Option, None, Some, refl, sym, ap, subst, ◌∙◌, arith}
+use Rattle.std.proofs.Common.{◌≡◌, inl, inr, ◌≤◌, ℤ, length, filter, map, slice_get, option_map, List, [], ◌∷◌, Bool, true, false, cond, not, Option, None, Some, refl, sym, ap, subst, ◌∙◌, arith}
 use Rattle.std.specs.List.{AllByRecursion, list_any}
 use Rattle.std.specs.declared.cmp.Ordering.{Ordering}
 use Rattle.std.specs.declared.cmp.Ordering.TheVariants.{Less, Equal, Greater}
 use Rattle.std.specs.Ordering.{is_eq}
-use Rattle.sqlite.specs.declared.types.Value.{Value}
 use Rattle.sqlite.specs.declared.types.Value.TheVariants.{Int}
 use Rattle.sqlite.specs.Order.{Row, value_cmp}
 use Rattle.sqlite.specs.Tree.{IsTable, rowid, put_row, without_rowid, has_rowid}
@@ -15,7 +14,6 @@ use Rattle.sqlite_rules.proofs.PlaceLemmas.{tied_same}
 use Rattle.std.proofs.lemmas.Cmp.{tied_itself}
 use Rattle.sqlite_value.proofs.OrderLemmas.{value_cmp_total}
 use Rattle.sqlite_trees.proofs.ListLemmas.{filter_same, all-filter}
-use Rattle.sqlite_trees.proofs.TreeLemmas.{IsTable-put_row, all-put_row}
 use Rattle.fr_sql_rows.proofs.ListLemmas.{kept_in, none_in, fewer, all_in, neither}
 
 -- the number of a row
@@ -76,6 +74,7 @@ picked c rows up ids x has = go (c x) refl
         let same = tied_same rows x r up has both.0 (tied x r (all_has HasId rows r ids both.0) tie) in
         absurd (let clash = sym (ap c same) ∙ e in let yes = both.1 in cc)
     apart e r found false tie = tie
+
     go : (b : Bool) → c x ≡ b → has_some (map id_of (filter c rows)) x ≡ c x
     go true e = some_id (filter c rows) x (has_kept c rows x has e) (own_id x (all_has HasId rows x ids has)) ∙ sym e
     go false e = no_id (filter c rows) x (λ r found. apart e r found (has_rowid (id_of r) x) refl) ∙ sym e

@@ -3,7 +3,7 @@ use Rattle.std.proofs.Common.{◌≡◌, IsTrue, false, [], Result, Ok, Err, OnO
 use Rattle.sqlite.specs.declared.error.Error.{Error}
 use Rattle.sqlite.specs.Effect.{Database}
 use Rattle.sqlite.specs.State.{State, Shows, KeepsCounts}
-use Rattle.fr_sql_rows.specs.Connection.{IsAtRest, IsLaidOut}
+use Rattle.fr_sql_rows.specs.Connection.{IsAtRest}
 
 -- what a commit that succeeds says
 abbrev pub IsCommitted : State → State → Type 0

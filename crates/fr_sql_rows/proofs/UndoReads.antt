@@ -1,6 +1,6 @@
 -- What the query of the undo rows shows.
 use Rattle.std.proofs.lemmas.List.{take_more, map-append}
-use Rattle.std.proofs.Common.{◌≡◌, inl, inr, ap₂, subst₂, zero, suc, ◌≤◌, ◌<◌, ◌+◌, ◌++◌, ℕ, pos, length, take, filter, map, slice_get, slice_index_or, option_map, List, [], ◌∷◌, Bool, true, false, cond, not, Option, Some, None, refl, sym, ap, subst, ◌∙◌, arith}
+use Rattle.std.proofs.Common.{◌≡◌, inl, inr, ap₂, subst₂, zero, suc, ◌≤◌, ◌<◌, ◌+◌, ◌++◌, ℕ, pos, length, take, filter, map, slice_get, slice_index_or, option_map, List, [], ◌∷◌, Bool, true, false, cond, not, Option, None, refl, sym, ap, subst, ◌∙◌, arith}
 use Rattle.std.specs.Prelude.{nat_le, nat_lt}
 use Rattle.std.specs.Cmp.{nat_cmp_is}
 use Rattle.std.proofs.lemmas.Bool.{ltb-true}
@@ -9,12 +9,12 @@ use Rattle.std.specs.List.{AllByRecursion}
 use Rattle.std.specs.List.Sorted.{IsPermutation, IsSorted}
 use Rattle.std.specs.declared.cmp.Ordering.{Ordering}
 use Rattle.std.specs.declared.cmp.Ordering.TheVariants.{Less, Equal, Greater}
-use Rattle.std.specs.Ordering.{is_eq, is_lt, eq_by_cmp, ordering_then, nat_cmp, int_cmp}
+use Rattle.std.specs.Ordering.{is_lt, eq_by_cmp, ordering_then, nat_cmp, int_cmp}
 use Rattle.std.specs.FinMap.{find}
 use Rattle.std.proofs.lemmas.List.Sorted.{IsPermutation-map}
 use Rattle.sqlite.specs.declared.types.Value.{Value}
 use Rattle.sqlite.specs.declared.types.Value.TheVariants.{Null, Int, Blob}
-use Rattle.sqlite.specs.Order.{Row, column, bytes}
+use Rattle.sqlite.specs.Order.{Row, column}
 use Rattle.sqlite.specs.Term.{Term, col}
 use Rattle.sqlite.specs.Query.{output, output_cmp, Output}
 use Rattle.sqlite.specs.Program.{overlay}
@@ -26,13 +26,13 @@ use Rattle.fr_base.specs.Bytes.{bytes_cmp}
 use Rattle.fr_undo.specs.State.{Place, place_cmp}
 use Rattle.fr_sql_rows.specs.Schema.{schema}
 use Rattle.fr_sql_rows.specs.Connection.{IsLaidOut}
-use Rattle.fr_sql_rows.specs.Rows.{IsUndoRow, as_value, blob_in, number_in, place_of, before_of, is_at_place, before_in, shown_row, newest_first}
+use Rattle.fr_sql_rows.specs.Rows.{IsUndoRow, as_value, place_of, before_of, before_in, shown_row, newest_first}
 use Rattle.fr_sql_rows.proofs.TextLemmas.{sorted_query, up, down, is_above, above_text, above_is, above_plain, above_unlisted}
 use Rattle.fr_sql_rows.proofs.ListLemmas.{map_length}
 use Rattle.fr_sql_rows.proofs.TableLemmas.{retained, single_in}
 use Rattle.fr_sql_rows.proofs.QueryLemmas.{found_where}
 use Rattle.fr_sql_rows.proofs.ReadLemmas.{no_more, then_equal}
-use Rattle.fr_sql_rows.proofs.UndoWrites.{same_place, exact_place, same_place-comm, where_above, keeps_if, blob_of_value}
+use Rattle.fr_sql_rows.proofs.UndoWrites.{same_place, exact_place, same_place-comm, where_above}
 
 abbrev Entry : Type 0
 Entry = Place × Option (List ℕ)

@@ -1,14 +1,13 @@
 -- What a statement that writes makes of the undo rows.
-use Rattle.std.proofs.Common.{◌≡◌, ◌≤◌, ◌<◌, inl, inr, ℕ, ℤ, pos, filter, map, List, [], ◌∷◌, Bool, true, false, cond, not, ◌&&◌, Option, Some, None, Ok, refl, sym, ap, subst, ◌∙◌, arith}
+use Rattle.std.proofs.Common.{◌≡◌, ◌<◌, inl, inr, ℕ, ℤ, pos, filter, List, [], ◌∷◌, Bool, true, false, cond, not, Option, Some, None, Ok, refl, sym, ap, subst, ◌∙◌, arith}
 use Rattle.std.specs.Prelude.{nat_le, nat_lt}
 use Rattle.std.specs.List.{AllByRecursion, list_all}
-use Rattle.std.specs.declared.cmp.Ordering.TheVariants.{Less, Equal, Greater}
 use Rattle.std.specs.Ordering.{is_eq, is_le, is_gt, int_cmp}
 use Rattle.std.proofs.lemmas.Bool.Decides.{leb_tells}
 use Rattle.std.proofs.lemmas.Bool.{ltb-true, lt-ltb, leb-true}
 use Rattle.std.proofs.lemmas.Cmp.{eq_by_cmp_equiv}
 use Rattle.sqlite.specs.declared.types.Value.TheVariants.{Null, Int, Blob}
-use Rattle.sqlite.specs.Order.{Row, column}
+use Rattle.sqlite.specs.Order.{Row}
 use Rattle.sqlite.specs.Term.{Term, lit, col, holds}
 use Rattle.sqlite.specs.Ops.{binary}
 use Rattle.sqlite.specs.Edit.{edit_of, next_rowid, is_taken, without_all}
@@ -24,7 +23,6 @@ use Rattle.sqlite_value.proofs.OrderLemmas.{value_cmp-Int}
 use Rattle.fr_base.proofs.MapLemmas.{one_key}
 use Rattle.fr_undo.specs.State.{Place, place_cmp}
 use Rattle.fr_undo.proofs.UndoLemmas.{place_total, place_exact}
-use Rattle.fr_sql_rows.specs.Schema.{schema}
 use Rattle.fr_sql_rows.specs.Rows.{undo_row, as_value, blob_in, IsUndoRow, AreKvRows, AreUndoRows, place_of, before_of, is_at_place, before_in}
 use Rattle.fr_sql_rows.specs.Connection.{IsLaidOut, Notes, Retains}
 use Rattle.fr_sql_rows.proofs.StepLemmas.{cast_null, cast_int}

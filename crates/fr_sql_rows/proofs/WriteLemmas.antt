@@ -1,5 +1,5 @@
 -- What a statement that writes makes of the table.
-use Rattle.std.proofs.Common.{◌≡◌, ℕ, ◌/◌, length, List, [], ◌∷◌, ◌++◌, None, Ok, refl, sym, ap, subst, ◌∙◌}
+use Rattle.std.proofs.Common.{◌≡◌, ℕ, ◌/◌, length, List, [], ◌++◌, None, Ok, refl, sym, ap, subst, ◌∙◌}
 use Rattle.sqlite.specs.Order.{Row}
 use Rattle.sqlite.specs.Term.{Term}
 use Rattle.sqlite.specs.Query.{Query, IsSureAnswer}
@@ -12,7 +12,6 @@ use Rattle.sqlite.specs.Edit.{Edit, edit_of, Applies}
 use Rattle.sqlite.specs.Rowids.TheVariants.{Given, Chosen}
 use Rattle.sqlite.specs.Does.{Tally, Does}
 use Rattle.sqlite.specs.Rows.{Written}
-use Rattle.sqlite.specs.Tree.{Trees}
 use Rattle.sqlite.specs.Table.{Table}
 use Rattle.sqlite.specs.Effect.{Database, value_rows}
 use Rattle.sqlite.specs.Listing.{understood}

@@ -14,10 +14,7 @@ use sqlite::{Connection, Error, Row, Transaction, params};
 use std::alloc::Global;
 
 /// The value of a key.
-pub fn value_at<S: Backing>(
-    conn: &mut Connection<S>,
-    key: &Bytes,
-) -> Result<Option<Bytes>, Error>
+pub fn value_at<S: Backing>(conn: &mut Connection<S>, key: &Bytes) -> Result<Option<Bytes>, Error>
     requires rest { IsAtRest (state S.Store conn.old) }
     requires laid { IsLaidOut (state S.Store conn.old).now }
     ensures value { IfOk result (λ value. value ≡ value_in ((state S.Store conn.old).now.trees 0) key.now) }
@@ -62,7 +59,10 @@ pub fn between<'x, S: Backing>(
     ensures keeps { KeepsIfOpen (state S.Store conn.old) (state S.Store conn.new) }
     ensures survives { CommitsNothing (state S.Store conn.old) (state S.Store conn.new) }
 {
-    let rows = conn.query_all("SELECT k, v FROM kv WHERE k >= ?1 AND k < ?2 ORDER BY k", params![begin.as_slice(), end.as_slice()])?;
+    let rows = conn.query_all(
+        "SELECT k, v FROM kv WHERE k >= ?1 AND k < ?2 ORDER BY k",
+        params![begin.as_slice(), end.as_slice()],
+    )?;
     pairs(alloc, rows.as_slice())
 }
 
@@ -79,7 +79,10 @@ pub fn from<S: Backing>(
     ensures keeps { KeepsIfOpen (state S.Store conn.old) (state S.Store conn.new) }
     ensures survives { CommitsNothing (state S.Store conn.old) (state S.Store conn.new) }
 {
-    let rows = conn.query_all("SELECT k, v FROM kv WHERE k >= ?1 ORDER BY k", params![begin.as_slice()])?;
+    let rows = conn.query_all(
+        "SELECT k, v FROM kv WHERE k >= ?1 ORDER BY k",
+        params![begin.as_slice()],
+    )?;
     pairs(alloc, rows.as_slice())
 }
 
@@ -114,7 +117,10 @@ pub fn put<'x, S: Backing>(
     ensures stays { Stays (state S.Store tx.old.conn.now) (state S.Store tx.new.conn.now) }
     ensures survives { CommitsNothing (state S.Store tx.old.conn.now) (state S.Store tx.new.conn.now) }
 {
-    tx.execute("INSERT INTO kv VALUES (?1, ?2)", params![key.as_slice(), value.as_slice()])
+    tx.execute(
+        "INSERT INTO kv VALUES (?1, ?2)",
+        params![key.as_slice(), value.as_slice()],
+    )
 }
 
 /// Gives a key that has a value another.
@@ -132,7 +138,10 @@ pub fn change<'x, S: Backing>(
     ensures stays { Stays (state S.Store tx.old.conn.now) (state S.Store tx.new.conn.now) }
     ensures survives { CommitsNothing (state S.Store tx.old.conn.now) (state S.Store tx.new.conn.now) }
 {
-    tx.execute("UPDATE kv SET v = ?2 WHERE k = ?1", params![key.as_slice(), value.as_slice()])
+    tx.execute(
+        "UPDATE kv SET v = ?2 WHERE k = ?1",
+        params![key.as_slice(), value.as_slice()],
+    )
 }
 
 /// Gives a key a value, where `held` says whether it has one.
@@ -159,10 +168,7 @@ pub fn set<'x, S: Backing>(
 }
 
 /// Takes the value of a key, if it has one.
-pub fn remove<S: Backing>(
-    tx: &mut Transaction<'_, S>,
-    key: &Bytes,
-) -> Result<usize, Error>
+pub fn remove<S: Backing>(tx: &mut Transaction<'_, S>, key: &Bytes) -> Result<usize, Error>
     requires inside { IsInside (state S.Store tx.old.conn.now) }
     requires laid { IsLaidOut (state S.Store tx.old.conn.now).now }
     ensures same_reference { tx.new.conn.ghost_name ≡ tx.old.conn.ghost_name }
@@ -188,5 +194,8 @@ pub fn clear<'x, S: Backing>(
     ensures stays { Stays (state S.Store tx.old.conn.now) (state S.Store tx.new.conn.now) }
     ensures survives { CommitsNothing (state S.Store tx.old.conn.now) (state S.Store tx.new.conn.now) }
 {
-    tx.execute("DELETE FROM kv WHERE k >= ?1 AND k < ?2", params![begin.as_slice(), end.as_slice()])
+    tx.execute(
+        "DELETE FROM kv WHERE k >= ?1 AND k < ?2",
+        params![begin.as_slice(), end.as_slice()],
+    )
 }

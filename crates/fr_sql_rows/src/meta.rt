@@ -31,14 +31,14 @@ pub fn note_versions<S: Backing>(
     ensures stays { Stays (state S.Store tx.old.conn.now) (state S.Store tx.new.conn.now) }
     ensures survives { CommitsNothing (state S.Store tx.old.conn.now) (state S.Store tx.new.conn.now) }
 {
-    tx.execute("UPDATE meta SET applied = ?1, floor = ?2", params![number_of(applied), number_of(floor)])
+    tx.execute(
+        "UPDATE meta SET applied = ?1, floor = ?2",
+        params![number_of(applied), number_of(floor)],
+    )
 }
 
 /// Notes the state bytes.
-pub fn note_bytes<S: Backing>(
-    tx: &mut Transaction<'_, S>,
-    bytes: &Bytes,
-) -> Result<usize, Error>
+pub fn note_bytes<S: Backing>(tx: &mut Transaction<'_, S>, bytes: &Bytes) -> Result<usize, Error>
     requires inside { IsInside (state S.Store tx.old.conn.now) }
     requires laid { IsLaidOut (state S.Store tx.old.conn.now).now }
     ensures same_reference { tx.new.conn.ghost_name ≡ tx.old.conn.ghost_name }

@@ -73,11 +73,7 @@ fn note(
 }
 
 /// Removes the undo rows through a version and those above another.
-fn drop_rows(
-    conn: &mut Connection<MemStore>,
-    through: Version,
-    above: Version,
-) -> Result<(), Error>
+fn drop_rows(conn: &mut Connection<MemStore>, through: Version, above: Version) -> Result<(), Error>
     requires rest { IsAtRest (state over_memory conn.old) }
     requires laid { IsLaidOut (state over_memory conn.old).now }
     ensures rest { OnOk result (IsAtRest (state over_memory conn.new)) }
@@ -111,7 +107,11 @@ fn a_key_takes_values_and_loses_them(rt: HostRuntime) -> Result<(), Fail> {
 fn a_range_is_shown_in_order(rt: HostRuntime) -> Result<(), Fail> {
     let alloc = rt.alloc();
     let mut conn = begun(alloc)?;
-    let (a, b, c) = (bytes(alloc, b"a")?, bytes(alloc, b"b")?, bytes(alloc, b"c")?);
+    let (a, b, c) = (
+        bytes(alloc, b"a")?,
+        bytes(alloc, b"b")?,
+        bytes(alloc, b"c")?,
+    );
     write(&mut conn, &c, &a)?;
     write(&mut conn, &a, &b)?;
     write(&mut conn, &b, &c)?;
@@ -131,7 +131,11 @@ fn a_range_is_shown_in_order(rt: HostRuntime) -> Result<(), Fail> {
 fn a_range_is_cleared(rt: HostRuntime) -> Result<(), Fail> {
     let alloc = rt.alloc();
     let mut conn = begun(alloc)?;
-    let (a, b, c) = (bytes(alloc, b"a")?, bytes(alloc, b"b")?, bytes(alloc, b"c")?);
+    let (a, b, c) = (
+        bytes(alloc, b"a")?,
+        bytes(alloc, b"b")?,
+        bytes(alloc, b"c")?,
+    );
     write(&mut conn, &c, &a)?;
     write(&mut conn, &a, &b)?;
     write(&mut conn, &b, &c)?;

@@ -29,7 +29,10 @@ pub fn note_value<'x, S: Backing>(
     ensures stays { Stays (state S.Store tx.old.conn.now) (state S.Store tx.new.conn.now) }
     ensures survives { CommitsNothing (state S.Store tx.old.conn.now) (state S.Store tx.new.conn.now) }
 {
-    tx.execute("INSERT INTO undo VALUES (?1, ?2, ?3)", params![number_of(version), key.as_slice(), before.as_slice()])
+    tx.execute(
+        "INSERT INTO undo VALUES (?1, ?2, ?3)",
+        params![number_of(version), key.as_slice(), before.as_slice()],
+    )
 }
 
 /// Adds the undo row of a key that held nothing.
@@ -47,14 +50,14 @@ pub fn note_none<S: Backing>(
     ensures stays { Stays (state S.Store tx.old.conn.now) (state S.Store tx.new.conn.now) }
     ensures survives { CommitsNothing (state S.Store tx.old.conn.now) (state S.Store tx.new.conn.now) }
 {
-    tx.execute("INSERT INTO undo VALUES (?1, ?2, NULL)", params![number_of(version), key.as_slice()])
+    tx.execute(
+        "INSERT INTO undo VALUES (?1, ?2, NULL)",
+        params![number_of(version), key.as_slice()],
+    )
 }
 
 /// Removes the undo rows above a version.
-pub fn drop_above<S: Backing>(
-    tx: &mut Transaction<'_, S>,
-    version: Version,
-) -> Result<usize, Error>
+pub fn drop_above<S: Backing>(tx: &mut Transaction<'_, S>, version: Version) -> Result<usize, Error>
     requires inside { IsInside (state S.Store tx.old.conn.now) }
     requires laid { IsLaidOut (state S.Store tx.old.conn.now).now }
     ensures same_reference { tx.new.conn.ghost_name ≡ tx.old.conn.ghost_name }
@@ -63,7 +66,10 @@ pub fn drop_above<S: Backing>(
     ensures stays { Stays (state S.Store tx.old.conn.now) (state S.Store tx.new.conn.now) }
     ensures survives { CommitsNothing (state S.Store tx.old.conn.now) (state S.Store tx.new.conn.now) }
 {
-    tx.execute("DELETE FROM undo WHERE ver > ?1", params![number_of(version)])
+    tx.execute(
+        "DELETE FROM undo WHERE ver > ?1",
+        params![number_of(version)],
+    )
 }
 
 /// Removes the undo rows through a version.
@@ -79,7 +85,10 @@ pub fn drop_through<S: Backing>(
     ensures stays { Stays (state S.Store tx.old.conn.now) (state S.Store tx.new.conn.now) }
     ensures survives { CommitsNothing (state S.Store tx.old.conn.now) (state S.Store tx.new.conn.now) }
 {
-    tx.execute("DELETE FROM undo WHERE ver <= ?1", params![number_of(version)])
+    tx.execute(
+        "DELETE FROM undo WHERE ver <= ?1",
+        params![number_of(version)],
+    )
 }
 
 /// The version that SQL has as a number; one that is out of its range is refused.
@@ -110,10 +119,7 @@ fn undo_row(row: &Row) -> Result<((Version, Bytes), Option<Bytes>), Error>
 }
 
 /// The undo rows that rows show, in their order.
-fn undo_rows(
-    alloc: Global,
-    rows: &[Row],
-) -> Result<Vec<((Version, Bytes), Option<Bytes>)>, Error>
+fn undo_rows(alloc: Global, rows: &[Row]) -> Result<Vec<((Version, Bytes), Option<Bytes>)>, Error>
     ensures { IfOk result (λ shown. shown.items ≡ list_map shown_row rows.now) }
 {
     let mut shown = Vec::new(alloc);

@@ -1,9 +1,6 @@
-use Rattle.std.proofs.Common.{rules, map, ◌≡◌, ap, [], ◌∷◌, inl, sym, ◌∙◌, Bool, true, refl}
-use Rattle.std.specs.Ordering.{is_le}
-use Rattle.sqlite.specs.declared.types.Value.TheVariants.{Blob}
+use Rattle.std.proofs.Common.{map, ap, [], inl, ◌∙◌}
 use Rattle.sqlite.specs.Held.{state}
 use Rattle.sqlite.specs.State.{Shown}
-use Rattle.fr_base.specs.Bytes.{bytes_cmp}
 use Rattle.fr_sql_rows.specs.Schema.{schema}
 use Rattle.fr_sql_rows.specs.Rows.{pair_of}
 use Rattle.fr_sql_rows.proofs.TextLemmas.{all_text, all_plain}

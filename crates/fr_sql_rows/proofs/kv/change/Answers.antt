@@ -1,13 +1,12 @@
-use Rattle.std.proofs.Common.{rules, refl, ◌≡◌, ℕ, pos, w64, to_z, of_z, Ok, Err, Result, Some, None, Option, List, [], ◌∷◌, IsSome, OnOk, nat_le, nat_lt}
-use Rattle.sqlite.specs.declared.types.Value.TheVariants.{Null, Int, Blob}
+use Rattle.std.proofs.Common.{refl, ◌≡◌, ℕ, Ok, Err, Result, Some, None, Option, List, [], ◌∷◌, IsSome, OnOk}
+use Rattle.sqlite.specs.declared.types.Value.TheVariants.{Blob}
 use Rattle.sqlite.specs.declared.error.Error.{Error}
 use Rattle.sqlite.specs.Held.{state}
 use Rattle.sqlite.specs.State.{State, ExecutesInside}
-use Rattle.fr_sql_rows.specs.Rows.{value_in, before_in}
+use Rattle.fr_sql_rows.specs.Rows.{value_in}
 use Rattle.fr_sql_rows.specs.Connection.{IsLaidOut, Sets}
 use Rattle.fr_sql_rows.proofs.TextLemmas.{change_text}
 use Rattle.fr_sql_rows.proofs.FaultLemmas.{stays, inside}
-use Rattle.fr_sql_rows.proofs.StepLemmas.{number_fits}
 use Rattle.fr_sql_rows.proofs.KvWrites.{changes}
 use Rattle.fr_sql_rows.proofs.kv.change.Goals as goal
 

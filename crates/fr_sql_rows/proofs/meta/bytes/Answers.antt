@@ -1,7 +1,5 @@
-use Rattle.std.proofs.Common.{rules, [], ◌∷◌, inl, sym}
-use Rattle.sqlite.specs.declared.types.Value.TheVariants.{Blob}
+use Rattle.std.proofs.Common.{rules, inl}
 use Rattle.sqlite.specs.Held.{state}
-use Rattle.sqlite.specs.State.{Shown}
 use Rattle.fr_sql_rows.specs.Schema.{schema}
 use Rattle.fr_sql_rows.proofs.TextLemmas.{state_text, state_plain}
 use Rattle.fr_sql_rows.proofs.MetaWrites.{state_some, state_none}

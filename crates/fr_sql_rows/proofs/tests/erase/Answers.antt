@@ -1,10 +1,7 @@
-use Rattle.std.proofs.Common.{rules, ◌≡◌, ap, sym, subst, ◌∙◌, OnOk, refl}
-use Rattle.std.specs.Option.{is_some}
-use Rattle.sqlite.specs.Effect.{Database}
+use Rattle.std.proofs.Common.{rules, ◌≡◌, subst, OnOk}
 use Rattle.sqlite.specs.Held.{state}
 use Rattle.sqlite.specs.Steps.{over_memory}
 use Rattle.sqlite.proofs.Callers.{memory_is_clean}
-use Rattle.fr_sql_rows.specs.Rows.{value_in}
 use Rattle.fr_sql_rows.specs.Connection.{IsAtRest, IsLaidOut}
 use Rattle.fr_sql_rows.proofs.TransactionLemmas.{committed_rest, committed_as}
 use Rattle.fr_sql_rows.proofs.tests.erase.Goals as goal

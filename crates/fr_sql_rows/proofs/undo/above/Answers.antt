@@ -1,9 +1,7 @@
-use Rattle.std.proofs.Common.{rules, map, subst, pos, w64, to_z, of_z, ◌≡◌, ap, [], ◌∷◌, inl, sym, ◌∙◌, Bool, true, refl}
-use Rattle.std.specs.Ordering.{is_le}
+use Rattle.std.proofs.Common.{map, subst, pos, w64, to_z, of_z, ◌≡◌, ap, [], ◌∷◌, inl, sym, ◌∙◌}
 use Rattle.sqlite.specs.declared.types.Value.TheVariants.{Int}
 use Rattle.sqlite.specs.Held.{state}
 use Rattle.sqlite.specs.State.{Shown}
-use Rattle.fr_base.specs.Bytes.{bytes_cmp}
 use Rattle.fr_sql_rows.specs.Schema.{schema}
 use Rattle.fr_sql_rows.specs.Rows.{shown_row, newest_first}
 use Rattle.fr_sql_rows.proofs.TextLemmas.{above_text, above_plain}

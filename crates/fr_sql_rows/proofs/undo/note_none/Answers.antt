@@ -1,9 +1,9 @@
-use Rattle.std.proofs.Common.{rules, refl, ◌≡◌, ℕ, pos, w64, to_z, of_z, Ok, Err, Result, Some, None, Option, List, [], ◌∷◌, IsSome, OnOk, nat_le, nat_lt}
-use Rattle.sqlite.specs.declared.types.Value.TheVariants.{Null, Int, Blob}
+use Rattle.std.proofs.Common.{◌≡◌, ℕ, pos, w64, to_z, of_z, Ok, Err, Result, None, List, [], ◌∷◌, OnOk}
+use Rattle.sqlite.specs.declared.types.Value.TheVariants.{Int, Blob}
 use Rattle.sqlite.specs.declared.error.Error.{Error}
 use Rattle.sqlite.specs.Held.{state}
 use Rattle.sqlite.specs.State.{State, ExecutesInside}
-use Rattle.fr_sql_rows.specs.Rows.{value_in, before_in}
+use Rattle.fr_sql_rows.specs.Rows.{before_in}
 use Rattle.fr_sql_rows.specs.Connection.{IsLaidOut, Notes}
 use Rattle.fr_sql_rows.proofs.TextLemmas.{note_none_text}
 use Rattle.fr_sql_rows.proofs.FaultLemmas.{stays, inside}
