@@ -1,0 +1,16 @@
+pub mod CreateLemmas
+pub mod FaultLemmas
+pub mod KvLemmas
+pub mod ListLemmas
+pub mod StepLemmas
+pub mod TableLemmas
+pub mod TextLemmas
+pub mod WriteLemmas
+pub mod QueryLemmas
+pub mod KvWrites
+pub mod UndoWrites
+pub mod MetaWrites
+pub mod ReadLemmas
+pub mod KvReads
+pub mod UndoReads
+pub mod TransactionLemmas

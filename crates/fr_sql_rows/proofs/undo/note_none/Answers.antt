@@ -1,0 +1,30 @@
+use Rattle.std.proofs.Common.{◌≡◌, ℕ, pos, w64, to_z, of_z, Ok, Err, Result, None, List, [], ◌∷◌, OnOk}
+use Rattle.sqlite.specs.declared.types.Value.TheVariants.{Int, Blob}
+use Rattle.sqlite.specs.declared.error.Error.{Error}
+use Rattle.sqlite.specs.Held.{state}
+use Rattle.sqlite.specs.State.{State, ExecutesInside}
+use Rattle.fr_sql_rows.specs.Rows.{before_in}
+use Rattle.fr_sql_rows.specs.Connection.{IsLaidOut, Notes}
+use Rattle.fr_sql_rows.proofs.TextLemmas.{note_none_text}
+use Rattle.fr_sql_rows.proofs.FaultLemmas.{stays, inside}
+use Rattle.fr_sql_rows.proofs.StepLemmas.{number_fits}
+use Rattle.fr_sql_rows.proofs.UndoWrites.{notes_none}
+use Rattle.fr_sql_rows.proofs.undo.note_none.Goals as goal
+
+on_ok : (old new : State) (version : ℕ) (k : List ℕ) (r : Result ℕ Error) → IsLaidOut old.now → before_in (old.now.trees 2) (version, k) ≡ None → ExecutesInside 0 note_none_text (Int (pos version) ∷ Blob k ∷ []) old new r
+    → OnOk r (Notes version k None old.now new.now)
+on_ok old new version k (Ok count) laid lacks h = notes_none old new version k count laid lacks h.0
+on_ok old new version k (Err e) laid lacks h = tt
+
+pub returns-clause-ok : goal.returns-clause-ok
+returns-clause-ok g c =
+    let same : c.number_of.result ≡ pos c.args.version = c.number_of.ensures.value in
+    let ran : ExecutesInside 0 note_none_text (Int (to_z w64 (of_z w64 (pos c.args.version))) ∷ Blob c.args.key.now ∷ []) (state g.S.Store c.args.tx.now.conn.now) (state g.S.Store c.execute.new.self.conn.now) c.execute.result =
+    rw (same, c.as_slice.ensures) at (rw (c.params-to_sql.ensures, c.params-to_sql-2.ensures) at (c.execute.ensures.runs (g.met.S.Backing.clean c.execute.new.self.conn.now.store) c.requires.inside.begun)) in
+    on_ok _ _ c.args.version c.args.key.now c.execute.result c.requires.laid c.requires.absent (rw (number_fits c.args.version c.number_of.ensures.below) at ran)
+
+pub returns-clause-inside : goal.returns-clause-inside
+returns-clause-inside g c = inside (state g.S.Store c.args.tx.now.conn.now) _ _ _ c.execute.result (c.execute.ensures.runs (g.met.S.Backing.clean c.execute.new.self.conn.now.store) c.requires.inside.begun)
+
+pub returns-clause-stays : goal.returns-clause-stays
+returns-clause-stays g c = stays (state g.S.Store c.args.tx.now.conn.now) _ _ _ c.execute.result (c.execute.ensures.runs (g.met.S.Backing.clean c.execute.new.self.conn.now.store) c.requires.inside.begun)

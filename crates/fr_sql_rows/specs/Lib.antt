@@ -1,0 +1,5 @@
+pub mod Backing
+pub mod Connection
+pub mod Fault
+pub mod Rows
+pub mod Schema

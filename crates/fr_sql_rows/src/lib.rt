@@ -1,0 +1,16 @@
+//! The rows of a shard's store in SQL: its tables, what their rows stand for, and each statement that reads
+//! or writes them, with what it does to the keys, the undo rows and the versions.
+#![tactic(auto)]
+
+mod backing;
+mod fault;
+pub mod kv;
+pub mod meta;
+pub mod schema;
+pub mod undo;
+
+pub use backing::Backing;
+pub use fault::{fault_of, read_fault_of};
+
+#[cfg(test)]
+mod tests;
