@@ -9,7 +9,6 @@ use crate::sequencer::SeqAsk;
 use fr_base::Memory;
 use fr_log::LogAsk;
 use fr_register::CellAsk;
-use std::alloc::Global;
 
 /// What a node is asked: the ask of a cell, of a log or of a sequencer.
 #[derive(Debug, Drop)]
@@ -21,7 +20,7 @@ pub enum Ask {
 
 impl Ask {
     /// An equal ask. One that holds no list takes no memory.
-    pub fn copy(&self, alloc: Global) -> Result<Self, Memory>
+    pub fn copy(&self) -> Result<Self, Memory>
         ensures equal { IfOk result (λ ask. ask ≡ self.now) }
         ensures free { IsTrue (ask_holds_no_list self.now) → IsOk result }
     {

@@ -4,7 +4,6 @@ ghost use Rattle.std.specs.Prelude.{◌≡◌, IfOk};
 use crate::rows::Rows;
 use fr_base::{Ballot, Bytes, Epoch, Memory, Version};
 use fr_register::CellValue;
-use std::alloc::Global;
 
 /// Where a node stood at last.
 #[derive(Debug, Drop, PartialEq, Eq)]
@@ -47,7 +46,7 @@ pub enum Last {
 
 impl Last {
     /// An equal state.
-    pub fn copy(&self, alloc: Global) -> Result<Self, Memory>
+    pub fn copy(&self) -> Result<Self, Memory>
         ensures { IfOk result (λ last. last ≡ self.now) }
     {
         Ok(match self {
@@ -85,7 +84,7 @@ impl Last {
                 epoch: *epoch,
                 version: *version,
                 floor: *floor,
-                rows: rows.copy(alloc)?,
+                rows: rows.copy()?,
             },
         })
     }

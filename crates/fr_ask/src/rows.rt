@@ -5,7 +5,6 @@ ghost use Rattle.fr_base.specs.Same.{IsSameness-equivalence};
 ghost use Rattle.fr_ask.specs.Rows.{is_same_rows, is_same_rows-IsSameness};
 
 use fr_base::{Bytes, Memory};
-use std::alloc::Global;
 use std::marker::Model;
 
 /// Pairs of key and value. Contracts see them as the list of the pairs.
@@ -52,10 +51,10 @@ impl Rows {
     }
 
     /// Equal rows.
-    pub fn copy(&self, alloc: Global) -> Result<Self, Memory>
+    pub fn copy(&self) -> Result<Self, Memory>
         ensures { IfOk result (λ rows. rows ≡ self.now) }
     {
-        let mut pairs = Vec::with_capacity(alloc, self.pairs.len())?;
+        let mut pairs = Vec::with_capacity(*self.pairs.allocator(), self.pairs.len())?;
         for (key, value) in self.pairs.as_slice() {
             pairs.push((key.copy()?, value.copy()?))?;
         }

@@ -9,7 +9,6 @@ use crate::sequencer::SeqTell;
 use fr_base::Memory;
 use fr_log::LogTell;
 use fr_register::CellTell;
-use std::alloc::Global;
 
 /// What a node tells: the tell of a cell, of a log or of a sequencer.
 #[derive(Debug, Drop)]
@@ -21,7 +20,7 @@ pub enum Tell {
 
 impl Tell {
     /// An equal tell. One that holds no list takes no memory.
-    pub fn copy(&self, alloc: Global) -> Result<Self, Memory>
+    pub fn copy(&self) -> Result<Self, Memory>
         ensures equal { IfOk result (λ tell. tell ≡ self.now) }
         ensures free { IsTrue (tell_holds_no_list self.now) → IsOk result }
     {

@@ -1,256 +1,233 @@
--- Committed is said at no other word than that by which the last log is heard to hold the batch.
-use Rattle.std.proofs.Common.{◌≡◌, ℕ, ◌+◌, ◌<◌, Bool, true, false, cond, not, ◌==◌, ◌||◌, length, List, [], ◌∷◌, ◌++◌, Option, None, Some, IsTrue, ◌⊎◌, inl, inr, refl, sym, ap, ap₂, subst, ◌∙◌, arith, suc}
+-- Committed is said exactly at the word by which the last log is heard to hold the batch since it has its number.
+use Rattle.std.proofs.Common.{◌≡◌, ℕ, ◌+◌, List, [], ◌∷◌, ◌++◌, None, Some, inl, inr, refl, sym, ap, ap₂, subst, ◌∙◌}
 use Rattle.std.specs.Option.{option_map}
-use Rattle.std.specs.List.{list_any, IsDistinct, AllByRecursion}
-use Rattle.std.proofs.Math.Dec.{eqb}
-use Rattle.std.proofs.lemmas.Bool.{eqb-true, eqb-false, eq-eqb, and_parts, lt-ltb}
-use Rattle.std.proofs.lemmas.Map.Steps.{length-le_from_distinct_below}
+use Rattle.std.proofs.lemmas.Bool.{eq-eqb, lt-ltb, le-leb}
 use Rattle.fr_base.specs.declared.place.NodeId.{NodeId}
 use Rattle.fr_base.specs.declared.place.NodeId.TheVariants as node
+use Rattle.fr_mutation.specs.declared.mutation.Mutation.{Mutation}
 use Rattle.fr_log.specs.declared.ask.LogTell.TheVariants as log
+use Rattle.fr_ask.specs.declared.sequencer.SeqTell.TheVariants as seq
 use Rattle.fr_ask.specs.declared.tell.Tell.{Tell}
 use Rattle.fr_ask.specs.declared.tell.Tell.TheVariants as tell
 use Rattle.fr_proxy.specs.declared.outcome.Outcome.TheVariants.{Waiting, Committed}
-use Rattle.fr_proxy.specs.Proxy.{ProxyState, Open, Place, Heeded, Ignored, HeldBy, HeldByAll, Cut, is_in, with_held, heeded, heed_new, after_heeded, after_hear, outcome_of, outcome_of_heeded}
-use Rattle.fr_proxy.specs.Heard.{IsNewHolder, IsEnding, Spends, Stops, Heard, Ignores, Places, Holds, HoldsAll, Cuts}
-use Rattle.fr_proxy.specs.IsProxy.{IsProxy, IsOpenOf, are_distinct}
-use Rattle.fr_proxy.specs.Committed.{Word, after_all, WasHeard, held_word, CommittedIsHeldByAll}
+use Rattle.fr_proxy.specs.Proxy.{ProxyState, Open, Place, Heeded, Ignored, Placed, HeldBy, HeldByAll, Cut, opened, placed, submit_fault, submitted, heeded, after_heeded, outcome_of, outcome_of_heeded}
+use Rattle.fr_proxy.specs.Heard.{IsNewNumber, IsNewHolder, IsEnding, Spends, Stops, Heard, Ignores, Places, Holds, HoldsAll, Cuts}
+use Rattle.fr_proxy.specs.IsProxy.{IsPlace, IsProxy}
+use Rattle.fr_proxy.specs.Committed.{Word, after_all, WasHeard, number_word, AllHold, IsHeldByAllNow, CommittedExactlyWhenHeldByAll, OtherHeldCountsNothing, known_after, KnownIsLastCommitted}
 use Rattle.fr_proxy.proofs.Heard.{hear_is_heard}
-use Rattle.fr_proxy.proofs.Sound.{keeps, open_of}
+use Rattle.fr_proxy.proofs.Sound.{keeps, open_of, number_is_place, submit_keeps}
+use Rattle.fr_proxy.proofs.HeldByAll.{IsNow, sound, one_open, idle_waits, ending_same, ignored_differs, going_on, only_heard}
+use Rattle.fr_proxy.proofs.HeldByAllBack.{back, ending_was}
 
--- ---- m distinct logs below m are all of them
+-- a batch that has no number yet
+record IsTaken (p : ProxyState) (o : Open) : Type 0 where
+  proxy : IsProxy p
+  under_way : p.under_way ≡ Some o
+  unplaced : o.place ≡ None
 
-eqb_swap : (a b : ℕ) (s t : Bool) → (a == b) ≡ s → (b == a) ≡ t → (a == b) ≡ (b == a)
-eqb_swap a b true true e d = cc
-eqb_swap a b false false e d = cc
-eqb_swap a b true false e d = let same : a ≡ b = eqb-true a b e in absurd (eqb-false b a d (sym same))
-eqb_swap a b false true e d = let same : b ≡ a = eqb-true b a d in absurd (eqb-false a b e (sym same))
+none_unplaced : (p : ProxyState) (o o' : Open) (at : Place) → IsTaken p o → p.under_way ≡ Some o' → o'.place ≡ Some at → {X : Type 0} → X
+none_unplaced p o o' at k u g = let same = one_open p o o' k.under_way u in let h : o.place ≡ Some at = subst (λ (z : Open). z.place ≡ Some at) same g in let clash : None ≡ Some at = sym k.unplaced ∙ h in absurd (cc)
 
-any_swap : (q : ℕ) (xs : List ℕ) → list_any (eqb q) xs ≡ is_in xs q
-any_swap q [] = refl
-any_swap q (x ∷ xs) = ap₂ (λ a b. a || b) (eqb_swap q x (q == x) (x == q) refl refl) (any_swap q xs)
+-- a number of the batch from which a push can be made gives it its place
+number_is_heeded : (p : ProxyState) (o : Open) (at : Place) → IsTaken p o → IsPlace p.known at → heeded p (node.Sequencer p.epoch) (tell.Seq (seq.Numbered o.request at.prev at.version)) ≡ Placed at
+number_is_heeded p o at k fits =
+    rw k.under_way (rw (eq-eqb p.epoch p.epoch refl) (rw (eq-eqb o.request o.request refl) (rw k.unplaced (rw (le-leb p.known at.prev fits.known) (rw (lt-ltb at.prev at.version fits.rises) (rw (le-leb at.version (at.prev + 1000000) fits.step) refl))))))
 
-not_in : (b : Bool) → not b ≡ true → b ≡ false
-not_in true e = absurd (cc)
-not_in false e = refl
+placed_differs : (at : Place) → Placed at ≡ Cut → ⊥
+placed_differs at e = absurd (cc)
 
-or_false : (a b : Bool) → (a || b) ≡ false → (a ≡ false) × (b ≡ false)
-or_false true b e = absurd (cc)
-or_false false b e = (refl, e)
+number_heard : (p : ProxyState) (o : Open) (at : Place) (x : Word) → IsTaken p o → IsPlace p.known at → x ≡ number_word p o.request at → heeded p x.0 x.1 ≡ Placed at
+number_heard p o at x k fits e = ap (λ (z : Word). heeded p z.0 z.1) e ∙ number_is_heeded p o at k fits
 
-none_equal : (q : ℕ) (xs : List ℕ) → is_in xs q ≡ false → AllByRecursion (λ y. eqb q y ≡ false) xs
-none_equal q [] e = tt
-none_equal q (x ∷ xs) e = let k = or_false (x == q) (is_in xs q) e in (eqb_swap q x (q == x) (x == q) refl refl ∙ k.0, none_equal q xs k.1)
+-- a word that was ignored is no such number
+not_ignored : (p : ProxyState) (o : Open) (at : Place) (x : Word) → IsTaken p o → IsPlace p.known at → heeded p x.0 x.1 ≡ Ignored → x ≡ number_word p o.request at → ⊥
+not_ignored p o at x k fits is e = let clash : Ignored ≡ Placed at = sym is ∙ number_heard p o at x k fits e in absurd (cc)
 
-distinct : (xs : List ℕ) → are_distinct xs ≡ true → IsDistinct eqb xs
-unfolding IsDistinct
-distinct [] e = tt
-distinct (x ∷ xs) e = let k = and_parts (not (is_in xs x)) (are_distinct xs) e in (none_equal x xs (not_in (is_in xs x) k.0), distinct xs k.1)
+no_number_before : (p : ProxyState) (o : Open) (at : Place) (x : Word) (xs : List Word) → IsTaken p o → IsPlace p.known at → heeded p x.0 x.1 ≡ Ignored → (WasHeard xs (number_word p o.request at) → ⊥) → WasHeard (x ∷ xs) (number_word p o.request at) → ⊥
+no_number_before p o at x xs k fits is rest (inl e) = not_ignored p o at x k fits is e
+no_number_before p o at x xs k fits is rest (inr h) = rest h
 
--- a log that is not among m distinct ones below m is not below m
-each_is_in : (m : ℕ) (xs : List ℕ) → are_distinct xs ≡ true → ((q : ℕ) → IsTrue (is_in xs q) → q < m) → length xs ≡ m → (q : ℕ) → q < m → is_in xs q ≡ true
-each_is_in m xs d below n q l = go (is_in xs q) refl
-  where
-    bound : (y : ℕ) (b : Bool) → (q == y) ≡ b → IsTrue (b || is_in xs y) → y < m
-    bound y true e h = subst (λ z. z < m) (eqb-true q y e) l
-    bound y false e h = below y h
+of_own_open : (p : ProxyState) (o o' : Open) (at : Place) (x : Word) → p.under_way ≡ Some o → IsNewNumber p o' at x.0 x.1 → x ≡ number_word p o.request at
+of_own_open p o o' at x u k = ap₂ (λ a b. (a, b)) k.sender k.said ∙ ap (λ (z : Open). number_word p z.request at) (one_open p o o' u k.under_way)
 
-    go : (b : Bool) → is_in xs q ≡ b → is_in xs q ≡ true
-    go true e = e
-    go false e =
-        let more : are_distinct (q ∷ xs) ≡ true = rw e d in
-        let few = length-le_from_distinct_below (q ∷ xs) m (distinct (q ∷ xs) more) (λ y h. bound y (q == y) refl (sym (any_swap y (q ∷ xs)) ∙ h)) in
-        absurd (omega (arith, few, n))
+-- ---- what is committed was heard from all
 
--- ---- one word
-
--- a word that ends the batch under way is heeded as such
-ends_cut : (p : ProxyState) (o : Open) (from : NodeId) (t : Tell) → p.under_way ≡ Some o → IsEnding p from t → heeded p from t ≡ Cut
-ends_cut p o from t u Spends = rw u (rw (eq-eqb p.epoch p.epoch refl) refl)
-ends_cut p o from t u (Stops i l) = rw u (rw (eq-eqb p.epoch p.epoch refl) (rw (lt-ltb i p.m l) refl))
-
--- a log of the generation that tells that it holds the batch is heeded, unless it told so before
-held_is_heeded : (p : ProxyState) (o : Open) (at : Place) (i : ℕ) → p.under_way ≡ Some o → o.place ≡ Some at → i < p.m → heeded p (node.Log p.epoch i) (tell.Log (log.Held at.version)) ≡ Ignored → IsTrue (is_in o.held i)
-held_is_heeded p o at i u g l e = go (is_in o.held i) refl
-  where
-    new : (b : Bool) → cond b (HeldByAll at.version) (HeldBy i) ≡ Ignored → {X : Type 0} → X
-    new true h = absurd (cc)
-    new false h = absurd (cc)
-
-    heed : heeded p (node.Log p.epoch i) (tell.Log (log.Held at.version)) ≡ cond (not (is_in o.held i)) (heed_new p o i at.version) Ignored
-    heed = rw u (rw (eq-eqb p.epoch p.epoch refl) (rw (lt-ltb i p.m l) (rw g (rw (eq-eqb at.version at.version refl) refl))))
-
-    go : (b : Bool) → is_in o.held i ≡ b → IsTrue (is_in o.held i)
-    go true k = k
-    go false k = let h : cond (not false) (heed_new p o i at.version) Ignored ≡ Ignored = ap (λ b. cond (not b) (heed_new p o i at.version) Ignored) (sym k) ∙ (sym heed ∙ e) in new (length o.held + 1 == p.m) h
-
--- without a batch under way everything is waiting
-idle_waits : (ws : List Word) (p : ProxyState) (w : Word) → p.under_way ≡ None → outcome_of (after_all p ws) w.0 w.1 ≡ Waiting
-idle_waits [] p w u = rw u refl
-idle_waits (x ∷ xs) p w u = let same : after_hear p x.0 x.1 ≡ p = rw u refl in ap (λ q. outcome_of (after_all q xs) w.0 w.1) same ∙ idle_waits xs p w u
-
--- ---- the whole list
-
--- what is said of it while some logs told before
-record IsNow (p : ProxyState) (o : Open) (at : Place) (ws : List Word) (w : Word) (version : ℕ) : Type 0 where
-  own : version ≡ at.version
-  all : (i : ℕ) → i < p.m → IsTrue (is_in o.held i) ⊎ WasHeard (ws ++ w ∷ []) (held_word p at.version i)
-  not_before : ((i : ℕ) → i < p.m → IsTrue (is_in o.held i) ⊎ WasHeard ws (held_word p at.version i)) → ⊥
-  going : (x : Word) → WasHeard ws x → IsEnding p x.0 x.1 → ⊥
-
-one_open : (p : ProxyState) (o o' : Open) → p.under_way ≡ Some o → p.under_way ≡ Some o' → o' ≡ o
-one_open p o o' a b = let e : Some o' ≡ Some o = sym b ∙ a in cc
-
-one_place : (o : Open) (a b : Place) → o.place ≡ Some a → o.place ≡ Some b → b ≡ a
-one_place o a b e d = let k : Some b ≡ Some a = sym d ∙ e in cc
-
-holder_of : (p : ProxyState) (o o' : Open) (at at' : Place) (i : ℕ) (w : Word) → p.under_way ≡ Some o → o.place ≡ Some at → IsNewHolder p o' at' i w.0 w.1 → IsNewHolder p o at i w.0 w.1
-holder_of p o o' at at' i w u g k =
-    let one : IsNewHolder p o at' i w.0 w.1 = subst (λ x. IsNewHolder p x at' i w.0 w.1) (one_open p o o' u k.under_way) k in
-    subst (λ a. IsNewHolder p o a i w.0 w.1) (one_place o at at' g one.given) one
-
-holder_word : (p : ProxyState) (o : Open) (at : Place) (i : ℕ) (w : Word) → IsNewHolder p o at i w.0 w.1 → w ≡ held_word p at.version i
-holder_word p o at i w k = ap₂ (λ a b. (a, b)) k.sender k.said
-
--- said of the first word, or of those after it
-first_word : (A : Type 0) (x y : Word) (xs : List Word) → A ⊎ (x ≡ y) → A ⊎ WasHeard (x ∷ xs) y
-first_word A x y xs (inl a) = inl a
-first_word A x y xs (inr e) = inr (inl e)
-
-rest_word : (A : Type 0) (x y : Word) (xs : List Word) → A ⊎ WasHeard xs y → A ⊎ WasHeard (x ∷ xs) y
-rest_word A x y xs (inl a) = inl a
-rest_word A x y xs (inr h) = inr (inr h)
-
-below_or_own : (p : ProxyState) (o : Open) (at : Place) (i : ℕ) (w : Word) → IsNewHolder p o at i w.0 w.1 → IsOpenOf p o → (y : ℕ) (b : Bool) → (i == y) ≡ b → IsTrue (b || is_in o.held y) → y < p.m
-below_or_own p o at i w k was y true e h = subst (λ z. z < p.m) (eqb-true i y e) k.below
-below_or_own p o at i w k was y false e h = was.below y h
-
--- a log among those that hold the batch and this one told so before, or by this word
-by_this_word : (p : ProxyState) (o : Open) (at : Place) (i : ℕ) (w : Word) → IsNewHolder p o at i w.0 w.1 → (q : ℕ) (b : Bool) → (i == q) ≡ b → (b || is_in o.held q) ≡ true → IsTrue (is_in o.held q) ⊎ (w ≡ held_word p at.version q)
-by_this_word p o at i w k q true e h = inr (holder_word p o at i w k ∙ ap (held_word p at.version) (eqb-true i q e))
-by_this_word p o at i w k q false e h = inl h
-
-fresh_only : (p : ProxyState) (o : Open) (at : Place) (i : ℕ) (w : Word) → IsNewHolder p o at i w.0 w.1 → IsTrue (is_in o.held i) ⊎ ⊥ → ⊥
-fresh_only p o at i w k (inl h) = let f = k.fresh in absurd (cc)
-fresh_only p o at i w k (inr h) = h
-
-count : (n m : ℕ) → n + 1 ≡ m → suc n ≡ m
-count n m e = omega (arith, e)
-
-last_word : (p : ProxyState) (o : Open) (at : Place) (w : Word) (version : ℕ) (h : Heeded) → IsProxy p → p.under_way ≡ Some o → o.place ≡ Some at → Heard p w.0 w.1 h → outcome_of_heeded h ≡ Committed version → IsNow p o at [] w version
-last_word p o at w version h s u g Ignores e = absurd (cc)
-last_word p o at w version h s u g (Places o' at' k) e = absurd (cc)
-last_word p o at w version h s u g (Holds o' at' i k n) e = absurd (cc)
-last_word p o at w version h s u g (Cuts o' v k) e = absurd (cc)
-last_word p o at w version h s u g (HoldsAll o' at' i k n) e =
-    let mine = holder_of p o o' at at' i w u g k in
-    let was = open_of p o s u in
-    let o_same = one_open p o o' u k.under_way in
-    let at_same : at' ≡ at = one_place o at at' g (subst (λ x. x.place ≡ Some at') o_same k.given) in
-    let many : length o.held + 1 ≡ p.m = ap (λ (x : Open). length x.held + 1) (sym o_same) ∙ n in
+-- where the number comes first
+numbered_now : (p : ProxyState) (o : Open) (at : Place) (x : Word) (xs : List Word) (w : Word) (version : ℕ) → IsTaken p o → IsPlace p.known at → x ≡ number_word p o.request at → heeded p x.0 x.1 ≡ Placed at →
+    IsNow (after_heeded p (Placed at)) (placed at o) at xs w version → IsHeldByAllNow p o.request (x ∷ xs) w version
+numbered_now p o at x xs w version k fits e is r =
+    let none = (open_of p o k.proxy k.under_way).unplaced k.unplaced in
     record {
-      own = (let v : version ≡ at'.version = cc in v) ∙ ap (λ (a : Place). a.version) at_same;
-      all = λ q l. first_word (IsTrue (is_in o.held q)) w (held_word p at.version q) [] (by_this_word p o at i w mine q (i == q) refl (each_is_in p.m (i ∷ o.held) (rw mine.fresh was.distinct) (λ y h. below_or_own p o at i w mine was y (i == y) refl h) (count (length o.held) p.m many) q l));
-      not_before = λ f. fresh_only p o at i w mine (f i mine.below);
-      going = λ x heard end. heard;
+      at = at;
+      before = [];
+      since = xs;
+      numbered = record { heard = ap (λ z. z ∷ xs) e; place = fits; first = λ other f h. h };
+      own = r.own;
+      all = λ i l. only_heard p o at.version i (xs ++ w ∷ []) none (r.all i l);
+      not_before = λ f. r.not_before (λ i l. inr (f i l));
+      going = λ y. going_on p o x xs (Placed at) k.under_way is (placed_differs at) y (λ heard end. r.going y heard (ending_same p (option_map (placed at) p.under_way) y.0 y.1 end));
     }
 
--- the same of a proxy that differs in what is under way alone
-ending_same : (p : ProxyState) (u : Option Open) (from : NodeId) (t : Tell) → IsEnding p from t → IsEnding (record p { under_way = u }) from t
-ending_same p u from t Spends = Spends
-ending_same p u from t (Stops i l) = Stops i l
-
-not_cut : (p : ProxyState) (o : Open) (x : Word) (h : Heeded) → p.under_way ≡ Some o → heeded p x.0 x.1 ≡ h → (h ≡ Cut → ⊥) → (y : Word) → x ≡ y → IsEnding p y.0 y.1 → ⊥
-not_cut p o x h u is differ y e end = differ (sym is ∙ ends_cut p o x.0 x.1 u (subst (λ (z : Word). IsEnding p z.0 z.1) (sym e) end))
-
-ignored_differs : Ignored ≡ Cut → ⊥
-ignored_differs e = absurd (cc)
-
-held_differs : (i : ℕ) → HeldBy i ≡ Cut → ⊥
-held_differs i e = absurd (cc)
+-- where it comes later
+numbered_later : (p : ProxyState) (o : Open) (x : Word) (xs : List Word) (w : Word) (version : ℕ) → IsTaken p o → heeded p x.0 x.1 ≡ Ignored → IsHeldByAllNow p o.request xs w version → IsHeldByAllNow p o.request (x ∷ xs) w version
+numbered_later p o x xs w version k is r = record {
+  at = r.at;
+  before = x ∷ r.before;
+  since = r.since;
+  numbered = record { heard = ap (λ zs. x ∷ zs) r.numbered.heard; place = r.numbered.place; first = λ other fits. no_number_before p o other x r.before k fits is (r.numbered.first other fits) };
+  own = r.own;
+  all = r.all;
+  not_before = r.not_before;
+  going = λ y. going_on p o x xs Ignored k.under_way is ignored_differs y (r.going y);
+}
 
 never : {X : Type 0} (v : ℕ) → Waiting ≡ Committed v → X
 never v e = absurd (cc)
 
--- of a word that was ignored: if it is that of a log, that log told so before
-ignored_holder : (p : ProxyState) (o : Open) (at : Place) (x : Word) (i : ℕ) → p.under_way ≡ Some o → o.place ≡ Some at → heeded p x.0 x.1 ≡ Ignored → i < p.m → x ≡ held_word p at.version i → IsTrue (is_in o.held i)
-ignored_holder p o at x i u g is l e = held_is_heeded p o at i u g l (ap (λ (z : Word). heeded p z.0 z.1) (sym e) ∙ is)
+not_yet : (p : ProxyState) (o : Open) (w : Word) (version : ℕ) (h : Heeded) → IsTaken p o → Heard p w.0 w.1 h → outcome_of_heeded h ≡ Committed version → {X : Type 0} → X
+not_yet p o w version h k Ignores e = absurd (cc)
+not_yet p o w version h k (Places o' at' n) e = absurd (cc)
+not_yet p o w version h k (Holds o' at' i n l) e = absurd (cc)
+not_yet p o w version h k (HoldsAll o' at' i n l) e = none_unplaced p o o' at' k n.under_way n.given
+not_yet p o w version h k (Cuts o' v n) e = absurd (cc)
 
--- a log among those that hold the batch after this word
-more_holders : (o : Open) (l i : ℕ) → IsTrue (is_in o.held i) → (b : Bool) → IsTrue (b || is_in o.held i)
-more_holders o l i h true = refl
-more_holders o l i h false = h
+next_taken : (p : ProxyState) (o : Open) (x : Word) (xs : List Word) (w : Word) (version : ℕ) (h : Heeded) → IsTaken p o → heeded p x.0 x.1 ≡ h → Heard p x.0 x.1 h → (outcome_of (after_all p xs) w.0 w.1 ≡ Committed version → IsHeldByAllNow p o.request xs w version) →
+    outcome_of (after_all (after_heeded p h) xs) w.0 w.1 ≡ Committed version → IsHeldByAllNow p o.request (x ∷ xs) w version
+next_taken p o x xs w version h k is Ignores rest e = numbered_later p o x xs w version k is (rest e)
+next_taken p o x xs w version h k is (Places o' at n) rest e =
+    let q = after_heeded p (Placed at) in
+    let r = sound xs q (placed at o) at w version (keeps p x.0 x.1 (Placed at) is k.proxy) (ap (option_map (placed at)) k.under_way) refl e in
+    numbered_now p o at x xs w version k (number_is_place p o' at x.0 x.1 n) (of_own_open p o o' at x k.under_way n) is r
+next_taken p o x xs w version h k is (Holds o' at' i n l) rest e = none_unplaced p o o' at' k n.under_way n.given
+next_taken p o x xs w version h k is (HoldsAll o' at' i n l) rest e = none_unplaced p o o' at' k n.under_way n.given
+next_taken p o x xs w version h k is (Cuts o' v n) rest e = never version (sym (idle_waits xs (after_heeded p Cut) w refl) ∙ e)
 
-own_index : (p : ProxyState) (i l version : ℕ) → held_word p version l ≡ held_word p version i → l ≡ i
-own_index p i l version k = let s : node.Log p.epoch l ≡ node.Log p.epoch i = ap (λ (z : Word). z.0) k in cc
+sound_taken : (ws : List Word) (p : ProxyState) (o : Open) (w : Word) (version : ℕ) → IsTaken p o → outcome_of (after_all p ws) w.0 w.1 ≡ Committed version → IsHeldByAllNow p o.request ws w version
+sound_taken [] p o w version k e = not_yet p o w version (heeded p w.0 w.1) k (hear_is_heard p w.0 w.1) e
+sound_taken (x ∷ xs) p o w version k e = next_taken p o x xs w version (heeded p x.0 x.1) k refl (hear_is_heard p x.0 x.1) (sound_taken xs p o w version k) e
 
-not_before_ignored : (p : ProxyState) (o : Open) (at : Place) (x : Word) (xs : List Word) (i : ℕ) → p.under_way ≡ Some o → o.place ≡ Some at → heeded p x.0 x.1 ≡ Ignored → i < p.m → IsTrue (is_in o.held i) ⊎ WasHeard (x ∷ xs) (held_word p at.version i) →
-    IsTrue (is_in o.held i) ⊎ WasHeard xs (held_word p at.version i)
-not_before_ignored p o at x xs i u g is l (inl h) = inl h
-not_before_ignored p o at x xs i u g is l (inr (inl same)) = inl (ignored_holder p o at x i u g is l same)
-not_before_ignored p o at x xs i u g is l (inr (inr h)) = inr h
+-- ---- what was heard from all is committed
 
-going_on : (p : ProxyState) (o : Open) (x : Word) (xs : List Word) (h : Heeded) → p.under_way ≡ Some o → heeded p x.0 x.1 ≡ h → (h ≡ Cut → ⊥) → (y : Word) → (WasHeard xs y → IsEnding p y.0 y.1 → ⊥) → WasHeard (x ∷ xs) y → IsEnding p y.0 y.1 → ⊥
-going_on p o x xs h u is differ y rest (inl e) end = not_cut p o x h u is differ y e end
-going_on p o x xs h u is differ y rest (inr heard) end = rest heard end
+-- what is still to be shown when some words were heard before the number
+record IsAwaited (p : ProxyState) (o : Open) (at : Place) (before since : List Word) (w : Word) : Type 0 where
+  place : IsPlace p.known at
+  first : (other : Place) → IsPlace p.known other → WasHeard before (number_word p o.request other) → ⊥
+  all : AllHold p at.version (since ++ w ∷ [])
+  not_before : AllHold p at.version since → ⊥
+  going : (x : Word) → WasHeard (before ++ number_word p o.request at ∷ since) x → IsEnding p x.0 x.1 → ⊥
 
-ignored_word : (p : ProxyState) (o : Open) (at : Place) (x : Word) (xs : List Word) (w : Word) (version : ℕ) → p.under_way ≡ Some o → o.place ≡ Some at → heeded p x.0 x.1 ≡ Ignored → IsNow p o at xs w version → IsNow p o at (x ∷ xs) w version
-ignored_word p o at x xs w version u g is r = record {
-  own = r.own;
-  all = λ i l. rest_word (IsTrue (is_in o.held i)) x (held_word p at.version i) (xs ++ w ∷ []) (r.all i l);
-  not_before = λ f. r.not_before (λ i l. not_before_ignored p o at x xs i u g is l (f i l));
-  going = λ y. going_on p o x xs Ignored u is ignored_differs y (r.going y);
-}
-
-own_log : (o : Open) (l i : ℕ) → l ≡ i → IsTrue ((l == i) || is_in o.held i)
-own_log o l i same = rw (eq-eqb l i same) refl
-
-all_taken : (p : ProxyState) (o : Open) (at : Place) (x : Word) (zs : List Word) (l i : ℕ) → IsNewHolder p o at l x.0 x.1 → IsTrue (is_in (l ∷ o.held) i) ⊎ WasHeard zs (held_word p at.version i) → IsTrue (is_in o.held i) ⊎ WasHeard (x ∷ zs) (held_word p at.version i)
-all_taken p o at x zs l i k (inl h) = first_word (IsTrue (is_in o.held i)) x (held_word p at.version i) zs (by_this_word p o at l x k i (l == i) refl h)
-all_taken p o at x zs l i k (inr h) = inr (inr h)
-
-not_before_taken : (p : ProxyState) (o : Open) (at : Place) (x : Word) (xs : List Word) (l i : ℕ) → IsNewHolder p o at l x.0 x.1 → IsTrue (is_in o.held i) ⊎ WasHeard (x ∷ xs) (held_word p at.version i) → IsTrue (is_in (l ∷ o.held) i) ⊎ WasHeard xs (held_word p at.version i)
-not_before_taken p o at x xs l i k (inl h) = inl (more_holders o l i h (l == i))
-not_before_taken p o at x xs l i k (inr (inl same)) = inl (own_log o l i (own_index p i l at.version (sym (holder_word p o at l x k) ∙ same)))
-not_before_taken p o at x xs l i k (inr (inr h)) = inr h
-
-taken_word : (p : ProxyState) (o : Open) (at : Place) (x : Word) (xs : List Word) (w : Word) (version l : ℕ) → p.under_way ≡ Some o → heeded p x.0 x.1 ≡ HeldBy l → IsNewHolder p o at l x.0 x.1 → IsNow (after_heeded p (HeldBy l)) (with_held l o) at xs w version →
-    IsNow p o at (x ∷ xs) w version
-taken_word p o at x xs w version l u is k r = record {
-  own = r.own;
-  all = λ i b. all_taken p o at x (xs ++ w ∷ []) l i k (r.all i b);
-  not_before = λ f. r.not_before (λ i b. not_before_taken p o at x xs l i k (f i b));
-  going = λ y. going_on p o x xs (HeldBy l) u is (held_differs l) y (λ heard end. r.going y heard (ending_same p (option_map (with_held l) p.under_way) y.0 y.1 end));
-}
-
-next_word : (p : ProxyState) (o : Open) (at : Place) (x : Word) (xs : List Word) (w : Word) (version : ℕ) (h : Heeded) → IsProxy p → p.under_way ≡ Some o → o.place ≡ Some at →
-    ((q : ProxyState) (r : Open) → IsProxy q → q.under_way ≡ Some r → r.place ≡ Some at → outcome_of (after_all q xs) w.0 w.1 ≡ Committed version → IsNow q r at xs w version) → heeded p x.0 x.1 ≡ h → Heard p x.0 x.1 h →
-    outcome_of (after_all (after_heeded p h) xs) w.0 w.1 ≡ Committed version → IsNow p o at (x ∷ xs) w version
-next_word p o at x xs w version h s u g rest is Ignores e = ignored_word p o at x xs w version u g is (rest p o s u g e)
-next_word p o at x xs w version h s u g rest is (Places o' at' k) e = let none = k.unplaced in let same = one_open p o o' u k.under_way in let n : o.place ≡ None = subst (λ (z : Open). z.place ≡ None) same none in let clash : Some at ≡ None = sym g ∙ n in absurd (cc)
-next_word p o at x xs w version h s u g rest is (Holds o' at' l k n) e =
-    taken_word p o at x xs w version l u is (holder_of p o o' at at' l x u g k) (rest (after_heeded p (HeldBy l)) (with_held l o) (keeps p x.0 x.1 (HeldBy l) is s) (ap (option_map (with_held l)) u) g e)
-next_word p o at x xs w version h s u g rest is (HoldsAll o' at' l k n) e = never version (sym (idle_waits xs (after_heeded p (HeldByAll at'.version)) w refl) ∙ e)
-next_word p o at x xs w version h s u g rest is (Cuts o' v k) e = never version (sym (idle_waits xs (after_heeded p Cut) w refl) ∙ e)
-
-sound : (ws : List Word) (p : ProxyState) (o : Open) (at : Place) (w : Word) (version : ℕ) → IsProxy p → p.under_way ≡ Some o → o.place ≡ Some at → outcome_of (after_all p ws) w.0 w.1 ≡ Committed version → IsNow p o at ws w version
-sound [] p o at w version s u g e = last_word p o at w version (heeded p w.0 w.1) s u g (hear_is_heard p w.0 w.1) e
-sound (x ∷ xs) p o at w version s u g e =
-    next_word p o at x xs w version (heeded p x.0 x.1) s u g (λ q r t v a f. sound xs q r at w version t v a f) refl (hear_is_heard p x.0 x.1) e
-
-unheard : (o : Open) (i : ℕ) → o.held ≡ [] → IsTrue (is_in o.held i) → ⊥
-unheard o i none h = let f : is_in o.held i ≡ false = ap (λ xs. is_in xs i) none in absurd (cc)
-
-only_heard : (p : ProxyState) (o : Open) (version i : ℕ) (ws : List Word) → o.held ≡ [] → IsTrue (is_in o.held i) ⊎ WasHeard ws (held_word p version i) → WasHeard ws (held_word p version i)
-only_heard p o version i ws none (inl h) = absurd (unheard o i none h)
-only_heard p o version i ws none (inr h) = h
-
-pub committed_is_held_by_all : CommittedIsHeldByAll
-committed_is_held_by_all p o at ws w version k e =
-    let r = sound ws p o at w version k.proxy k.under_way k.given e in
+placed_now : (p : ProxyState) (o : Open) (at : Place) (since : List Word) (w : Word) → IsTaken p o → IsAwaited p o at [] since w → IsNow (after_heeded p (Placed at)) (placed at o) at since w at.version
+placed_now p o at since w k r =
+    let none = (open_of p o k.proxy k.under_way).unplaced k.unplaced in
     record {
-      own = r.own;
-      all = λ i l. only_heard p o at.version i (ws ++ w ∷ []) k.unheard (r.all i l);
-      not_before = λ f. r.not_before (λ i l. inr (f i l));
-      going = r.going;
+      own = refl;
+      all = λ i l. inr (r.all i l);
+      not_before = λ f. r.not_before (λ i l. only_heard p o at.version i since none (f i l));
+      going = λ y heard end. r.going y (inr heard) (ending_was p (option_map (placed at) p.under_way) y.0 y.1 end);
     }
+
+number_back : (p : ProxyState) (o : Open) (at : Place) (since : List Word) (w : Word) → IsTaken p o → IsAwaited p o at [] since w → outcome_of (after_all p (number_word p o.request at ∷ since)) w.0 w.1 ≡ Committed at.version
+number_back p o at since w k r =
+    let is = number_is_heeded p o at k r.place in
+    let q = after_heeded p (Placed at) in
+    let e = back since q (placed at o) at w at.version (keeps p (node.Sequencer p.epoch) (tell.Seq (seq.Numbered o.request at.prev at.version)) (Placed at) is k.proxy) (ap (option_map (placed at)) k.under_way) refl (placed_now p o at since w k r) in
+    ap (λ h. outcome_of (after_all (after_heeded p h) since) w.0 w.1) is ∙ e
+
+less_awaited : (p : ProxyState) (o : Open) (at : Place) (x : Word) (xs since : List Word) (w : Word) → IsAwaited p o at (x ∷ xs) since w → IsAwaited p o at xs since w
+less_awaited p o at x xs since w r = record {
+  place = r.place;
+  first = λ other fits h. r.first other fits (inr h);
+  all = r.all;
+  not_before = r.not_before;
+  going = λ y heard end. r.going y (inr heard) end;
+}
+
+next_awaited : (p : ProxyState) (o : Open) (at : Place) (x : Word) (xs since : List Word) (w : Word) (h : Heeded) → IsTaken p o → IsAwaited p o at (x ∷ xs) since w → Heard p x.0 x.1 h →
+    outcome_of (after_all p (xs ++ number_word p o.request at ∷ since)) w.0 w.1 ≡ Committed at.version → outcome_of (after_all (after_heeded p h) (xs ++ number_word p o.request at ∷ since)) w.0 w.1 ≡ Committed at.version
+next_awaited p o at x xs since w h k r Ignores rest = rest
+next_awaited p o at x xs since w h k r (Places o' at' n) rest = absurd (r.first at' (number_is_place p o' at' x.0 x.1 n) (inl (of_own_open p o o' at' x k.under_way n)))
+next_awaited p o at x xs since w h k r (Holds o' at' i n l) rest = none_unplaced p o o' at' k n.under_way n.given
+next_awaited p o at x xs since w h k r (HoldsAll o' at' i n l) rest = none_unplaced p o o' at' k n.under_way n.given
+next_awaited p o at x xs since w h k r (Cuts o' v n) rest = absurd (r.going x (inl refl) n)
+
+back_taken : (before : List Word) (p : ProxyState) (o : Open) (at : Place) (since : List Word) (w : Word) → IsTaken p o → IsAwaited p o at before since w → outcome_of (after_all p (before ++ number_word p o.request at ∷ since)) w.0 w.1 ≡ Committed at.version
+back_taken [] p o at since w k r = number_back p o at since w k r
+back_taken (x ∷ xs) p o at since w k r = next_awaited p o at x xs since w (heeded p x.0 x.1) k r (hear_is_heard p x.0 x.1) (back_taken xs p o at since w k (less_awaited p o at x xs since w r))
+
+-- ---- both
+
+taken_now : (p : ProxyState) (step : ℕ) (batch : List Mutation) → IsProxy p → submit_fault p ≡ None → IsTaken (submitted p step batch) (opened p step batch)
+taken_now p step batch s f = record { proxy = submit_keeps p step batch s f; under_way = refl; unplaced = refl }
+
+-- what ends a proxy before its batch is what ends it after
+ends_after : (p : ProxyState) (step : ℕ) (batch : List Mutation) (from : NodeId) (t : Tell) → IsEnding p from t → IsEnding (submitted p step batch) from t
+ends_after p step batch from t Spends = Spends
+ends_after p step batch from t (Stops i l) = Stops i l
+
+ends_before : (p : ProxyState) (step : ℕ) (batch : List Mutation) (from : NodeId) (t : Tell) → IsEnding (submitted p step batch) from t → IsEnding p from t
+ends_before p step batch from t Spends = Spends
+ends_before p step batch from t (Stops i l) = Stops i l
+
+of_submitted : (p : ProxyState) (step : ℕ) (batch : List Mutation) (ws : List Word) (w : Word) (version : ℕ) → IsHeldByAllNow (submitted p step batch) (p.requests + 1) ws w version → IsHeldByAllNow p (p.requests + 1) ws w version
+of_submitted p step batch ws w version r = record {
+  at = r.at;
+  before = r.before;
+  since = r.since;
+  numbered = record { heard = r.numbered.heard; place = r.numbered.place; first = r.numbered.first };
+  own = r.own;
+  all = r.all;
+  not_before = r.not_before;
+  going = λ x heard end. r.going x heard (ends_after p step batch x.0 x.1 end);
+}
+
+awaited : (p : ProxyState) (step : ℕ) (batch : List Mutation) (ws : List Word) (w : Word) (version : ℕ) → (r : IsHeldByAllNow p (p.requests + 1) ws w version) → IsAwaited (submitted p step batch) (opened p step batch) r.at r.before r.since w
+awaited p step batch ws w version r = record {
+  place = r.numbered.place;
+  first = r.numbered.first;
+  all = r.all;
+  not_before = r.not_before;
+  going = λ x heard end. r.going x (subst (λ zs. WasHeard zs x) (sym r.numbered.heard) heard) (ends_before p step batch x.0 x.1 end);
+}
+
+committed_back : (p : ProxyState) (step : ℕ) (batch : List Mutation) (ws : List Word) (w : Word) (version : ℕ) → IsProxy p → submit_fault p ≡ None → IsHeldByAllNow p (p.requests + 1) ws w version →
+    outcome_of (after_all (submitted p step batch) ws) w.0 w.1 ≡ Committed version
+committed_back p step batch ws w version s f r =
+    let q = submitted p step batch in
+    let e = back_taken r.before q (opened p step batch) r.at r.since w (taken_now p step batch s f) (awaited p step batch ws w version r) in
+    ap (λ zs. outcome_of (after_all q zs) w.0 w.1) r.numbered.heard ∙ (e ∙ ap Committed (sym r.own))
+
+pub committed_exactly : CommittedExactlyWhenHeldByAll
+committed_exactly p step batch ws w version s f = (
+  λ e. of_submitted p step batch ws w version (sound_taken ws (submitted p step batch) (opened p step batch) w version (taken_now p step batch s f) e),
+  committed_back p step batch ws w version s f,
+)
+
+-- ---- beside it
+
+-- a Held ends nothing
+held_goes_on : (p : ProxyState) (from : NodeId) (version : ℕ) (t : Tell) → t ≡ tell.Log (log.Held version) → IsEnding p from t → {X : Type 0} → X
+held_goes_on p from version t e Spends = absurd (cc)
+held_goes_on p from version t e (Stops i l) = absurd (cc)
+
+other_held : (p : ProxyState) (from : NodeId) (version : ℕ) (h : Heeded) → heeded p from (tell.Log (log.Held version)) ≡ h → Heard p from (tell.Log (log.Held version)) h →
+    ((o : Open) (at : Place) (i : ℕ) → IsNewHolder p o at i from (tell.Log (log.Held version)) → ⊥) → heeded p from (tell.Log (log.Held version)) ≡ Ignored
+other_held p from version h is Ignores none = is
+other_held p from version h is (Places o at k) none = let said = k.said in absurd (cc)
+other_held p from version h is (Holds o at i k l) none = absurd (none o at i k)
+other_held p from version h is (HoldsAll o at i k l) none = absurd (none o at i k)
+other_held p from version h is (Cuts o u k) none = held_goes_on p from version (tell.Log (log.Held version)) refl k
+
+pub other_held_counts_nothing : OtherHeldCountsNothing
+other_held_counts_nothing p from version none =
+    let is = other_held p from version (heeded p from (tell.Log (log.Held version))) refl (hear_is_heard p from (tell.Log (log.Held version))) none in
+    (rw is refl, rw is refl, rw is refl)
+
+known_of : (p : ProxyState) (h : Heeded) → (after_heeded p h).known ≡ known_after p.known (outcome_of_heeded h)
+known_of p Ignored = refl
+known_of p (Placed at) = refl
+known_of p (HeldBy i) = refl
+known_of p (HeldByAll version) = refl
+known_of p Cut = refl
+
+pub known_is_last_committed : KnownIsLastCommitted
+known_is_last_committed p from t = known_of p (heeded p from t)

@@ -5,4 +5,6 @@ pub mod Given
 pub mod Pushing
 pub mod Sound
 pub mod Stored
+pub mod HeldByAll
+pub mod HeldByAllBack
 pub mod CommittedLaw

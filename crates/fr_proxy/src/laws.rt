@@ -1,6 +1,6 @@
 //! Laws of sequencers and proxies.
 ghost use Rattle.fr_proxy.specs.Heard.{HearIsHeard, NewIsPush};
-ghost use Rattle.fr_proxy.specs.Committed.{CommittedIsHeldByAll};
+ghost use Rattle.fr_proxy.specs.Committed.{CommittedExactlyWhenHeldByAll, KnownIsLastCommitted, OtherHeldCountsNothing};
 ghost use Rattle.fr_proxy.specs.KeptLaw.{GivenIsStored, HearKeeps, KnownRises, NewIsProxy, OthersKeepTheirs, SubmitKeeps, ToldIsStored};
 ghost use Rattle.fr_proxy.specs.Law.{AccountedStays, HearGrows, LastRises, NewIsAccounted, SubmitGrows, SubmitIsAccounted};
 
@@ -41,9 +41,12 @@ pub fn stored_law()
     ensures others { OthersKeepTheirs }
 {}
 
-/// Over every list of tells since a batch had its place: committed is said only at a tell by which each
-/// of the m logs has told that it holds the batch at its version, while not all had told so before, and
-/// only where none of the tells before ended it.
+/// Over every list of tells since a batch was taken: committed is said exactly at the tell by which, since
+/// the batch has its number, each of the m logs has told that it holds the batch at its version, while not
+/// all had told so before, and where none of the tells before ended it. Any other Held changes nothing. What
+/// is known to be committed is the last version that was.
 pub fn committed_law()
-    ensures { CommittedIsHeldByAll }
+    ensures exactly { CommittedExactlyWhenHeldByAll }
+    ensures others { OtherHeldCountsNothing }
+    ensures known { KnownIsLastCommitted }
 {}

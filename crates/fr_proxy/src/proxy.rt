@@ -13,7 +13,6 @@ use fr_ask::{Ask, SeqAsk};
 use fr_base::{Epoch, Memory, Step, Version};
 use fr_mutation::Batch;
 use fr_tags::{MAX_LOGS, ShardMap};
-use std::alloc::Global;
 use std::marker::Model;
 
 /// The last request that a proxy makes.
@@ -114,7 +113,7 @@ impl Proxy {
     }
 
     /// An equal proxy.
-    pub fn copy(&self, alloc: Global) -> Result<Self, Memory>
+    pub fn copy(&self) -> Result<Self, Memory>
         ensures { IfOk result (λ copy. copy ≡ self.now) }
     {
         Ok(Proxy {

@@ -13,12 +13,9 @@ use crate::outcome::Outcome;
 use crate::proxy::Proxy;
 use crate::under_way::UnderWay;
 use fr_ask::{Ask, SeqRefusal, SeqTell, Tell};
-use fr_base::{Epoch, Memory, NodeId, Version};
+use fr_base::{Epoch, Memory, NodeId, Step, Version};
 use fr_log::{LogRefusal, LogTell};
 use std::alloc::Global;
-
-/// How far one version is above the one before it, at most.
-const MAX_STEP: u64 = 1_000_000;
 
 impl Proxy {
     /// Hears what a node tells; answers what is then to be said of the batch under way, and the new asks
@@ -182,7 +179,7 @@ impl Proxy {
         ensures { result ≡ may_place self.now (open_of under_way.now) request prev version }
     {
         let is_wanted = request == under_way.request && under_way.place.is_none();
-        let is_step = prev < version && version.get() <= prev.get() + MAX_STEP;
+        let is_step = Step::between(prev, version).is_some();
         is_wanted && self.known <= prev && is_step
     }
 
