@@ -13,7 +13,7 @@ pub const MAX_READS: usize = 1_073_741_824;
 pub const READ_SIZE: usize = 8192;
 
 /// All that a reader has left. A read that was interrupted is made again, and counts.
-pub(crate) fn read_input<R: Read>(alloc: Global, reader: &mut R) -> Result<Vec<u8>, CliFault>
+pub fn read_input<R: Read>(alloc: Global, reader: &mut R) -> Result<Vec<u8>, CliFault>
     ensures all { IfOk result (λ bytes. IsInput (R.remaining reader.old) (R.remaining reader.new) bytes.items) }
     ensures fault { IfErr result (λ e. (e ≡ CliFault.Input) ⊎ (e ≡ CliFault.Memory)) }
 {

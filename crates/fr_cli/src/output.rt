@@ -10,7 +10,7 @@ use std::alloc::Global;
 use std::io::{ErrorKind, Write};
 
 /// Writes a text, in as many calls as the writer wants. An interrupted call is made again.
-pub(crate) fn put<W: Write>(writer: &mut W, text: &str) -> Result<(), CliFault>
+pub fn put<W: Write>(writer: &mut W, text: &str) -> Result<(), CliFault>
     ensures ok { OnOk result (Appends (W.contents writer.old) (W.contents writer.new) text.now) }
     ensures front { GainsFront (W.contents writer.old) (W.contents writer.new) text.now }
     ensures fault { IfErr result (λ e. e ≡ CliFault.Output) }
