@@ -1,0 +1,49 @@
+//! The command `end`.
+ghost use Rattle.std.specs.Prelude.{◌≡◌, ◌⊎◌, List, Err, IfOk, OnOk, Some, None};
+ghost use Rattle.std.specs.Io.KnownBytes.{Appends};
+ghost use Rattle.fr_cli.specs.Text.{GainsFront};
+ghost use Rattle.fr_epoch.specs.declared.reply.Reply.{Reply};
+ghost use Rattle.fr_cli_end.specs.Lines.{lines_of};
+ghost use Rattle.fr_cli_end.specs.Text.{HasReadReplies};
+
+use crate::lines::put_lines;
+use crate::options::EndOptions;
+use crate::script::read_script;
+use fr_cli::{CliFault, read_input};
+use fr_epoch::EndTally;
+use std::alloc::Global;
+use std::io::{Read, Write};
+
+/// Lets a tally of the locked generation hear the replies of a script, and writes a line for each.
+///
+/// The status is 0, for replies that are refused and for an inconsistent end too. A script is read whole
+/// before its first line is written, so what is no script writes nothing.
+pub fn run_end<R: Read, W: Write>(
+    alloc: Global,
+    options: EndOptions,
+    reader: &mut R,
+    writer: &mut W,
+) -> Result<u8, CliFault>
+    ensures status { IfOk result (λ status. status ≡ 0) }
+    ensures lines { OnOk result ((replies : List Reply)
+        × HasReadReplies (R.remaining reader.old) (R.remaining reader.new) (Some replies)
+        × Appends (W.contents writer.old) (W.contents writer.new) (lines_of options.logs options.degree replies)) }
+    ensures front { (writer.new ≡ writer.old) ⊎ ((replies : List Reply)
+        × HasReadReplies (R.remaining reader.old) (R.remaining reader.new) (Some replies)
+        × GainsFront (W.contents writer.old) (W.contents writer.new) (lines_of options.logs options.degree replies)) }
+    ensures bad { result ≡ Err CliFault.BadScript
+        → HasReadReplies (R.remaining reader.old) (R.remaining reader.new) None }
+    ensures unwritten { (result ≡ Err CliFault.BadScript) ⊎ (result ≡ Err CliFault.Input)
+        → writer.new ≡ writer.old }
+    ensures output { result ≡ Err CliFault.Output → (replies : List Reply)
+        × HasReadReplies (R.remaining reader.old) (R.remaining reader.new) (Some replies) }
+{
+    let input = read_input(alloc, reader)?;
+    let replies = read_script(alloc, input)?;
+    let mut tally = EndTally::new(options.logs(), options.degree());
+    put_lines(alloc, &mut tally, replies, writer)?;
+    if writer.flush().is_err() {
+        return Err(CliFault::Output);
+    }
+    Ok(0)
+}
