@@ -4,6 +4,10 @@
 #[cfg(test)]
 mod devices;
 #[cfg(test)]
+mod end;
+#[cfg(test)]
+mod end_devices;
+#[cfg(test)]
 mod examples;
 #[cfg(test)]
 mod forms;
