@@ -3,6 +3,7 @@
 #![tactic(auto)]
 
 mod apply;
+mod calls;
 mod fault;
 mod hex_text;
 mod input;
@@ -14,7 +15,8 @@ mod script;
 pub mod tokens;
 pub mod tree;
 
-pub use apply::{ApplyOptions, StoreKind, run_apply};
+pub use apply::{ApplyOptions, StoreKind, apply_counted, run_apply};
+pub use calls::CallCounts;
 pub use fault::CliFault;
 pub use input::{MAX_READS, READ_SIZE, read_input};
 pub use mutations::Mutations;

@@ -8,5 +8,5 @@ mod script;
 mod tokens;
 mod tree;
 
-pub use end::run_end;
+pub use end::{end_counted, run_end};
 pub use options::EndOptions;
