@@ -57,8 +57,9 @@ pub fn run_apply<R: Read, W: Write>(
     apply_counted(alloc, options, &mut calls, reader, writer)
 }
 
-/// As [`run_apply`], with the calls of the reader and of the writer counted: `Input` and `Output` are
-/// answered only where one of them failed, or where the input has no end.
+/// As [`run_apply`], with the calls of the reader and of the writer counted in `calls`, which has none
+/// yet: `Input` is answered only where a read failed or 2^30 of them found no end, `Output` only where
+/// a write or a flush failed.
 pub fn apply_counted<R: Read, W: Write>(
     alloc: Global,
     options: ApplyOptions,

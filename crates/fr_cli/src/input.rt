@@ -14,7 +14,8 @@ pub const MAX_READS: usize = 1_073_741_824;
 /// The most bytes that one read gives.
 pub const READ_SIZE: usize = 8192;
 
-/// All that a reader has left. A read that was interrupted is made again, and counts.
+/// All that a reader has left, in at most 2^30 reads, counted in `calls`, which has none yet. A read
+/// that was interrupted is made again, and counts.
 pub fn read_input<R: Read>(
     alloc: Global,
     calls: &mut CallCounts,
