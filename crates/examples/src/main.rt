@@ -1,9 +1,10 @@
-//! Runs each script `NAME.json` of the folder as `fdbrec apply` does, and compares what it prints with
-//! `NAME.out`. It prints a line for each, and ends with status 1 where one differs or is missing.
+//! Runs each script `NAME.json` of the folder as the program does, with the words of `NAME.words` (`apply`
+//! where there is no such file), and compares what it prints with `NAME.out`. It prints a line for each,
+//! and ends with status 1 where one differs or is missing.
 #![tactic(auto)]
 
-use fr_cli::{ApplyOptions, StoreKind, run_apply};
-use std::alloc::Global;
+use fr_program::{Ending, run_program};
+use std::alloc::{AllocError, Global};
 use std::process::ExitCode;
 use std::{fs, io};
 
@@ -22,7 +23,7 @@ fn main(rt: HostRuntime) -> anyhow::Result<ExitCode> {
     Ok(status)
 }
 
-/// The names of the scripts and of the outputs, in order, each once.
+/// The names of the scripts, of their words and of the outputs, in order, each once.
 fn names_of(rt: &HostRuntime, alloc: Global) -> io::Result<Vec<String>> {
     let mut names = Vec::new(alloc);
     for entry in fs::read_dir(rt, ".")? {
@@ -30,6 +31,7 @@ fn names_of(rt: &HostRuntime, alloc: Global) -> io::Result<Vec<String>> {
         let file = entry.file_name();
         let stem = file
             .strip_suffix(".json")
+            .or_else(|| file.strip_suffix(".words"))
             .or_else(|| file.strip_suffix(".out"));
         if let Some(stem) = stem {
             names.push(String::from_str(alloc, stem)?)?;
@@ -42,12 +44,35 @@ fn names_of(rt: &HostRuntime, alloc: Global) -> io::Result<Vec<String>> {
 
 /// Whether the script prints what stands beside it.
 fn holds(rt: &HostRuntime, alloc: Global, name: &String) -> io::Result<bool> {
+    let words = words_of(rt, alloc, name)?;
     let script = fs::read(rt, format!(in alloc; "{name}.json")?.as_str())?;
     let wanted = fs::read(rt, format!(in alloc; "{name}.out")?.as_str())?;
     let mut printed = Vec::new(alloc);
-    let options = ApplyOptions {
-        store: StoreKind::Map,
+    let ending = run_program(
+        alloc,
+        words.as_slice(),
+        &mut script.as_slice(),
+        &mut printed,
+    );
+    Ok(matches!(ending, Ending::Done(0)) && printed.as_slice() == wanted.as_slice())
+}
+
+/// The program's name, and the words of a script.
+fn words_of(rt: &HostRuntime, alloc: Global, name: &String) -> io::Result<Vec<String>> {
+    let text = match fs::read_to_string(rt, format!(in alloc; "{name}.words")?.as_str()) {
+        Ok(text) => text,
+        Err(error) if error.kind() == io::ErrorKind::NotFound => String::from_str(alloc, "apply")?,
+        Err(error) => return Err(error),
     };
-    let found = run_apply(alloc, options, &mut script.as_slice(), &mut printed);
-    Ok(found == Ok(0) && printed.as_slice() == wanted.as_slice())
+    Ok(split(alloc, text.as_str())?)
+}
+
+/// The program's name, and the words of a line.
+fn split(alloc: Global, line: &str) -> Result<Vec<String>, AllocError> {
+    let mut words = Vec::new(alloc);
+    words.push(String::from_str(alloc, "fdbrec")?)?;
+    for word in line.split_whitespace() {
+        words.push(String::from_str(alloc, word)?)?;
+    }
+    Ok(words)
 }

@@ -5,3 +5,4 @@ pub mod Text
 pub mod Tokens
 pub mod Hex
 pub mod Plan
+pub mod Calls

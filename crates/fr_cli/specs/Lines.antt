@@ -4,10 +4,11 @@ use Rattle.std.specs.FinMap as map
 use Rattle.hex.specs.Hex.{encode_lower}
 use Rattle.fr_mutation.specs.declared.mutation.Mutation.{Mutation}
 use Rattle.fr_mutation.specs.declared.fault.BatchFault.{BatchFault}
-use Rattle.fr_mutation.specs.declared.fault.BatchFault.TheVariants.{KeyTooLong, ValueTooLong, Inverted, TooMany, Memory as NoMemory}
 use Rattle.fr_mutation.specs.Limits.{batch_fault}
+use Rattle.fr_mutation.specs.Names.{batch_fault_name}
 use Rattle.fr_undo.specs.declared.fault.StoreFault.{StoreFault}
 use Rattle.fr_undo.specs.declared.fault.StoreFault.TheVariants.{Device, Full, Failed, Memory, NotAfter, BelowFloor, AboveApplied}
+use Rattle.fr_undo.specs.Names.{store_fault_name}
 use Rattle.fr_undo.specs.State.{StoreState, fresh}
 use Rattle.fr_undo.specs.Undo.{extended, undone, forgotten, advanced}
 use Rattle.fr_cli.specs.declared.script.Operation.{Operation}
@@ -22,17 +23,9 @@ pub data Outcome : Type 0 where
 abbrev pub if_after : StoreState → ℕ → StoreState → Outcome
 if_after s version new = if nat_le version s.applied then refused (codes "NotAfter") else done new
 
--- the name of a limit
-abbrev pub limit_name : BatchFault → List ℕ
-limit_name KeyTooLong = codes "KeyTooLong"
-limit_name ValueTooLong = codes "ValueTooLong"
-limit_name Inverted = codes "Inverted"
-limit_name TooMany = codes "TooMany"
-limit_name NoMemory = codes "Memory"
-
 -- a batch is refused by the first limit that it breaks, and only then by its version
 abbrev pub apply_outcome : StoreState → ℕ → List Mutation → Option BatchFault → Outcome
-apply_outcome s version batch (Some fault) = refused (limit_name fault)
+apply_outcome s version batch (Some fault) = refused (batch_fault_name fault)
 apply_outcome s version batch None = if_after s version (extended s version batch)
 
 -- what becomes of an operation on a store in this state
@@ -53,9 +46,9 @@ name_of Device = None
 name_of Full = None
 name_of Failed = None
 name_of Memory = None
-name_of NotAfter = Some (codes "NotAfter")
-name_of BelowFloor = Some (codes "BelowFloor")
-name_of AboveApplied = Some (codes "AboveApplied")
+name_of NotAfter = Some (store_fault_name NotAfter)
+name_of BelowFloor = Some (store_fault_name BelowFloor)
+name_of AboveApplied = Some (store_fault_name AboveApplied)
 
 abbrev pub state_after : StoreState → Outcome → StoreState
 state_after s (done new) = new

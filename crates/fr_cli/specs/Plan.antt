@@ -6,6 +6,7 @@ use Rattle.serde_json.specs.Find.{as_array}
 use Rattle.fr_mutation.specs.declared.mutation.Mutation.{Mutation}
 use Rattle.fr_mutation.specs.declared.fault.BatchFault.{BatchFault}
 use Rattle.fr_mutation.specs.Limits.{batch_fault}
+use Rattle.fr_mutation.specs.Names.{batch_fault_name}
 use Rattle.fr_undo.specs.State.{StoreState}
 use Rattle.fr_undo.specs.Undo.{extended, undone, forgotten, advanced}
 use Rattle.fr_cli.specs.declared.script.Operation.{Operation}
@@ -14,7 +15,7 @@ use Rattle.fr_cli.specs.declared.plan.Planned.{Planned}
 use Rattle.fr_cli.specs.declared.plan.Planned.TheVariants as planned
 use Rattle.fr_cli.specs.Json.{data_of, only, each_of}
 use Rattle.fr_cli.specs.Script.{operation_of}
-use Rattle.fr_cli.specs.Lines.{Outcome, done, refused, if_after, limit_name, line_of, state_after, row_lines}
+use Rattle.fr_cli.specs.Lines.{Outcome, done, refused, if_after, line_of, state_after, row_lines}
 
 abbrev pub plan_batch : ℕ → List Mutation → Option BatchFault → Planned
 plan_batch version batch (Some fault) = planned.Beyond fault
@@ -43,7 +44,7 @@ plan_of input = option_and_then plan_from (data_of input)
 -- what becomes of it
 abbrev pub plan_outcome : StoreState → Planned → Outcome
 plan_outcome s (planned.Apply version batch) = if_after s version (extended s version batch)
-plan_outcome s (planned.Beyond fault) = refused (limit_name fault)
+plan_outcome s (planned.Beyond fault) = refused (batch_fault_name fault)
 plan_outcome s (planned.Undo to) = if nat_lt to s.floor then refused (codes "BelowFloor") else done (undone s to)
 plan_outcome s (planned.Forget through) = if nat_lt s.applied through then refused (codes "AboveApplied") else done (forgotten s through)
 plan_outcome s (planned.Advance version) = if_after s version (advanced s version)

@@ -1,10 +1,12 @@
 //! The command `apply`.
-ghost use Rattle.std.specs.Prelude.{◌≡◌, ◌⊎◌, List, ℕ, Err, IfOk, OnOk, Some, None};
+ghost use Rattle.std.specs.Prelude.{◌≡◌, ◌<◌, ◌⊎◌, List, ℕ, Err, IfOk, OnOk, Some, None};
 ghost use Rattle.std.specs.Io.KnownBytes.{Appends};
 ghost use Rattle.fr_cli.specs.declared.script.Operation.{Operation};
+ghost use Rattle.fr_cli.specs.Calls.{no_calls, HasNoInput, HasNotFailed};
 ghost use Rattle.fr_cli.specs.Text.{HasRead, GainsFront};
 ghost use Rattle.fr_cli.specs.Lines.{lines_of};
 
+use crate::calls::CallCounts;
 use crate::fault::CliFault;
 use crate::input::read_input;
 use crate::operations::run_operations;
@@ -51,13 +53,43 @@ pub fn run_apply<R: Read, W: Write>(
     ensures output { result ≡ Err CliFault.Output → (script : List Operation)
         × HasRead (R.remaining reader.old) (R.remaining reader.new) (Some script) }
 {
-    let input = read_input(alloc, reader)?;
+    let mut calls = CallCounts::new();
+    apply_counted(alloc, options, &mut calls, reader, writer)
+}
+
+/// As [`run_apply`], with the calls of the reader and of the writer counted in `calls`, which has none
+/// yet: `Input` is answered only where a read failed or 2^30 of them found no end, `Output` only where
+/// a write or a flush failed.
+pub fn apply_counted<R: Read, W: Write>(
+    alloc: Global,
+    options: ApplyOptions,
+    calls: &mut CallCounts,
+    reader: &mut R,
+    writer: &mut W,
+) -> Result<u8, CliFault>
+    requires fresh { calls.old ≡ no_calls }
+    ensures status { IfOk result (λ status. status ≡ 0) }
+    ensures lines { OnOk result ((script : List Operation)
+        × HasRead (R.remaining reader.old) (R.remaining reader.new) (Some script)
+        × Appends (W.contents writer.old) (W.contents writer.new) (lines_of script)) }
+    ensures front { (writer.new ≡ writer.old) ⊎ ((script : List Operation)
+        × HasRead (R.remaining reader.old) (R.remaining reader.new) (Some script)
+        × GainsFront (W.contents writer.old) (W.contents writer.new) (lines_of script)) }
+    ensures bad { result ≡ Err CliFault.BadScript
+        → HasRead (R.remaining reader.old) (R.remaining reader.new) None }
+    ensures unwritten { (result ≡ Err CliFault.BadScript) ⊎ (result ≡ Err CliFault.Input)
+        → writer.new ≡ writer.old }
+    ensures output { result ≡ Err CliFault.Output → (script : List Operation)
+        × HasRead (R.remaining reader.old) (R.remaining reader.new) (Some script) }
+    ensures no_input { result ≡ Err CliFault.Input → HasNoInput calls.new }
+    ensures no_output { result ≡ Err CliFault.Output → 0 < calls.new.failed_writes }
+    ensures done { OnOk result (HasNotFailed calls.new) }
+{
+    let input = read_input(alloc, calls, reader)?;
     let script = read_script(alloc, input)?;
     match options.store {
-        StoreKind::Map => run_operations(alloc, &mut MapStore::new(alloc), script, writer)?,
+        StoreKind::Map => run_operations(alloc, &mut MapStore::new(alloc), script, calls, writer)?,
     }
-    if writer.flush().is_err() {
-        return Err(CliFault::Output);
-    }
+    calls.flush(writer)?;
     Ok(0)
 }

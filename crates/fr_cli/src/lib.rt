@@ -1,7 +1,9 @@
-//! The commands of `fdbrec`, each a function over a reader and a writer.
+//! The command `apply` of `fdbrec` as a function over a reader and a writer, and what further commands read
+//! and write with: the whole input, values of JSON from its tokens and from its tree, and texts.
 #![tactic(auto)]
 
 mod apply;
+mod calls;
 mod fault;
 mod hex_text;
 mod input;
@@ -10,11 +12,13 @@ mod operations;
 mod output;
 mod plan;
 mod script;
-mod tokens;
-mod tree;
+pub mod tokens;
+pub mod tree;
 
-pub use apply::{ApplyOptions, StoreKind, run_apply};
+pub use apply::{ApplyOptions, StoreKind, apply_counted, run_apply};
+pub use calls::CallCounts;
 pub use fault::CliFault;
-pub use input::{MAX_READS, READ_SIZE};
+pub use input::{MAX_READS, READ_SIZE, read_input};
 pub use mutations::Mutations;
+pub use output::put;
 pub use script::Operation;

@@ -1,15 +1,16 @@
 //! The operations of a script, run on a store.
-ghost use Rattle.std.specs.Prelude.{◌≡◌, ◌⊎◌, IfOk, IfErr, OnOk, Some, None, MatchResult, string_bytes, option_map};
+ghost use Rattle.std.specs.Prelude.{◌≡◌, IfOk, IfErr, OnOk, Some, None, MatchResult, string_bytes, option_map};
 ghost use Rattle.std.specs.Io.KnownBytes.{Appends};
 ghost use Rattle.std.specs.FinMap as map;
 ghost use Rattle.fr_cli.specs.Text.{GainsFront};
+ghost use Rattle.fr_cli.specs.Calls.{IsWriteFault};
 ghost use Rattle.fr_cli.specs.Plan.{plan_lines, plan_outcome};
-ghost use Rattle.fr_cli.specs.Lines.{ok_line, line_of as line_text, row_lines, state_after, name_in, name_of, limit_name};
+ghost use Rattle.fr_cli.specs.Lines.{ok_line, line_of as line_text, row_lines, state_after, name_in, name_of};
 
+use crate::calls::CallCounts;
 use crate::fault::CliFault;
 use crate::output::{put, put_rows};
 use crate::plan::Planned;
-use fr_mutation::BatchFault;
 use fr_undo::{ShardStore, StoreFault};
 use std::alloc::{AllocError, Global};
 use std::io::Write;
@@ -19,17 +20,19 @@ pub(crate) fn run_operations<S: ShardStore, W: Write>(
     alloc: Global,
     store: &mut S,
     operations: Vec<Planned>,
+    calls: &mut CallCounts,
     writer: &mut W,
 ) -> Result<(), CliFault>
     ensures ok { OnOk result (Appends (W.contents writer.old) (W.contents writer.new) (plan_lines (S.state store.old) operations.items)) }
     ensures front { GainsFront (W.contents writer.old) (W.contents writer.new) (plan_lines (S.state store.old) operations.items) }
-    ensures fault { IfErr result (λ e. (e ≡ CliFault.Output) ⊎ (e ≡ CliFault.Memory)) }
+    ensures fault { IfErr result (λ e. IsWriteFault calls.new e) }
+    ensures done { OnOk result (calls.new ≡ calls.old) }
 {
     for operation in operations {
         let line = line_of(alloc, store, operation)?;
-        put(writer, line.as_str())?;
+        put(calls, writer, line.as_str())?;
     }
-    put_contents(alloc, store, writer)
+    put_contents(alloc, store, calls, writer)
 }
 
 /// Runs an operation, and gives its line.
@@ -60,7 +63,7 @@ fn run_operation<S: ShardStore>(
 {
     let taken = match operation {
         Planned::Apply { version, batch } => store.apply(alloc, version, &batch),
-        Planned::Beyond { fault } => return Ok(Some(limit_of(fault)?)),
+        Planned::Beyond { fault } => return Ok(Some(fault.name())),
         Planned::Undo { to } => store.undo_to(alloc, to),
         Planned::Forget { through } => store.forget_through(alloc, through),
         Planned::Advance { version } => store.advance(version),
@@ -71,29 +74,15 @@ fn run_operation<S: ShardStore>(
     }
 }
 
-/// The name of the limit that a batch breaks.
-fn limit_of(fault: BatchFault) -> Result<&'static str, CliFault>
-    ensures { MatchResult result (λ name. name.now ≡ limit_name fault)
-        (λ e. (e ≡ CliFault.Memory) × (fault ≡ BatchFault.Memory)) }
-{
-    match fault {
-        BatchFault::KeyTooLong => Ok("KeyTooLong"),
-        BatchFault::ValueTooLong => Ok("ValueTooLong"),
-        BatchFault::Inverted => Ok("Inverted"),
-        BatchFault::TooMany => Ok("TooMany"),
-        BatchFault::Memory => Err(CliFault::Memory),
-    }
-}
-
 /// The name of a refusal. A store that found no memory, or failed, refused nothing.
 fn refusal_of(fault: StoreFault) -> Result<&'static str, CliFault>
     ensures { MatchResult result (λ name. name_of fault ≡ Some name.now)
         (λ e. (e ≡ CliFault.Memory) × (name_of fault ≡ None)) }
 {
     match fault {
-        StoreFault::NotAfter => Ok("NotAfter"),
-        StoreFault::BelowFloor => Ok("BelowFloor"),
-        StoreFault::AboveApplied => Ok("AboveApplied"),
+        StoreFault::NotAfter | StoreFault::BelowFloor | StoreFault::AboveApplied => {
+            Ok(fault.name())
+        }
         StoreFault::Device | StoreFault::Full | StoreFault::Failed | StoreFault::Memory => {
             Err(CliFault::Memory)
         }
@@ -114,14 +103,16 @@ fn ok_line<S: ShardStore>(alloc: Global, store: &S) -> Result<String, AllocError
 fn put_contents<S: ShardStore, W: Write>(
     alloc: Global,
     store: &mut S,
+    calls: &mut CallCounts,
     writer: &mut W,
 ) -> Result<(), CliFault>
     ensures ok { OnOk result (Appends (W.contents writer.old) (W.contents writer.new) (row_lines (map.entries (S.state store.old).contents))) }
     ensures front { GainsFront (W.contents writer.old) (W.contents writer.new) (row_lines (map.entries (S.state store.old).contents)) }
-    ensures fault { IfErr result (λ e. (e ≡ CliFault.Output) ⊎ (e ≡ CliFault.Memory)) }
+    ensures fault { IfErr result (λ e. IsWriteFault calls.new e) }
+    ensures done { OnOk result (calls.new ≡ calls.old) }
 {
     match store.dump(alloc) {
-        Ok(rows) => put_rows(alloc, rows, writer),
+        Ok(rows) => put_rows(alloc, rows, calls, writer),
         Err(_) => Err(CliFault::Memory),
     }
 }

@@ -20,7 +20,7 @@ use std::alloc::{AllocError, AllocFailed, Global};
 
 /// Why a script was not read straight.
 #[derive(Clone, Copy, Debug, PartialEq, Eq)]
-pub(crate) enum Unread {
+pub enum Unread {
     /// It has not the usual form: it may be no script, or one that names a member twice.
     Unusual,
     /// There is no memory.
@@ -102,7 +102,7 @@ fn read_version_at(reader: &mut Reader<'_>, name: &str) -> Result<Version, Unrea
 }
 
 /// A version: a number below 2^62, written in digits alone.
-fn read_version(reader: &mut Reader<'_>) -> Result<Version, Unread>
+pub fn read_version(reader: &mut Reader<'_>) -> Result<Version, Unread>
     ensures value { IfOk result (λ version. (depth : ℕ) → Gives version_of depth reader.old version reader.new) }
     ensures shorter { OnOk result (length reader.new < length reader.old) }
 {
@@ -113,7 +113,7 @@ fn read_version(reader: &mut Reader<'_>) -> Result<Version, Unread>
 }
 
 /// A number that fits 64 bits, written in digits alone.
-fn read_number(reader: &mut Reader<'_>) -> Result<u64, Unread>
+pub fn read_number(reader: &mut Reader<'_>) -> Result<u64, Unread>
     ensures value { IfOk result (λ n. (depth : ℕ) → Gives natural_of depth reader.old n reader.new) }
     ensures shorter { OnOk result (length reader.new < length reader.old) }
 {
@@ -134,6 +134,7 @@ fn unsigned(digits: &[u8]) -> Option<u64>
     Numeral::scan(digits).to_u64()
 }
 
+/// Takes a text.
 fn take_string<'a>(reader: &mut Reader<'a>) -> Result<&'a str, Unread>
     ensures { IfOk result (λ text. reader.old ≡ string_token text.now ∷ reader.new) }
 {
@@ -143,6 +144,7 @@ fn take_string<'a>(reader: &mut Reader<'a>) -> Result<&'a str, Unread>
     }
 }
 
+/// Takes the text of a number.
 fn take_number<'a>(reader: &mut Reader<'a>) -> Result<&'a str, Unread>
     ensures { IfOk result (λ text. reader.old ≡ number_token text.now ∷ reader.new) }
 {
@@ -153,7 +155,7 @@ fn take_number<'a>(reader: &mut Reader<'a>) -> Result<&'a str, Unread>
 }
 
 /// Takes the key of an object's next member, which is to be this one.
-fn take_key(reader: &mut Reader<'_>, name: &str) -> Result<(), Unread>
+pub fn take_key(reader: &mut Reader<'_>, name: &str) -> Result<(), Unread>
     ensures { OnOk result (read_key reader.old ≡ Some (Some name.now, reader.new)) }
 {
     match reader.next_key()? {
@@ -162,7 +164,8 @@ fn take_key(reader: &mut Reader<'_>, name: &str) -> Result<(), Unread>
     }
 }
 
-fn open_object(reader: &mut Reader<'_>) -> Result<(), Unread>
+/// Begins an object.
+pub fn open_object(reader: &mut Reader<'_>) -> Result<(), Unread>
     ensures { OnOk result (reader.old ≡ begin_object ∷ reader.new) }
 {
     match reader.next() {
@@ -172,7 +175,7 @@ fn open_object(reader: &mut Reader<'_>) -> Result<(), Unread>
 }
 
 /// Ends an object, of which no member is to be left.
-fn close_object(reader: &mut Reader<'_>) -> Result<(), Unread>
+pub fn close_object(reader: &mut Reader<'_>) -> Result<(), Unread>
     ensures { OnOk result (read_key reader.old ≡ Some (None, reader.new)) }
 {
     match reader.next_key()? {
@@ -181,7 +184,8 @@ fn close_object(reader: &mut Reader<'_>) -> Result<(), Unread>
     }
 }
 
-fn open_array(reader: &mut Reader<'_>) -> Result<(), Unread>
+/// Begins an array.
+pub fn open_array(reader: &mut Reader<'_>) -> Result<(), Unread>
     ensures { OnOk result (reader.old ≡ begin_array ∷ reader.new) }
 {
     match reader.next() {

@@ -2,7 +2,7 @@
 ghost use Rattle.std.specs.Prelude.{◌≡◌, ◌⊎◌, None, Some, IfOk, IfErr, option_map, option_and_then, string_bytes};
 ghost use Rattle.serde_json.specs.Find.{as_array};
 ghost use Rattle.serde_json.specs.View.{view, items_view};
-ghost use Rattle.fr_cli.specs.Json.{only, one_member, version_of, bytes_of, pair_of};
+ghost use Rattle.fr_cli.specs.Json.{data_of, only, one_member, version_of, bytes_of, pair_of};
 
 pub(crate) mod mutations;
 pub(crate) mod script;
@@ -12,6 +12,19 @@ use crate::hex_text::bytes_in;
 use fr_base::{Bytes, Version};
 use serde_json::Value;
 use std::alloc::Global;
+
+/// Reads the JSON of an input, and lets the input go.
+pub fn read_value(alloc: Global, input: Vec<u8>) -> Result<Value, CliFault>
+    ensures ok { IfOk result (λ value. data_of input.items ≡ Some (view value)) }
+    ensures bad { result ≡ Err CliFault.BadScript → data_of input.items ≡ None }
+    ensures fault { IfErr result (λ e. (e ≡ CliFault.BadScript) ⊎ (e ≡ CliFault.Memory)) }
+{
+    match Value::from_slice(alloc, input.as_slice()) {
+        Ok(value) => Ok(value),
+        Err(e) if e.is_memory() => Err(CliFault::Memory),
+        Err(_) => Err(CliFault::BadScript),
+    }
+}
 
 /// The value at the name, in an object of exactly `count` members.
 pub(crate) fn member_of<'v>(value: &'v Value, count: usize, name: &str) -> Option<&'v Value>
@@ -25,7 +38,7 @@ pub(crate) fn member_of<'v>(value: &'v Value, count: usize, name: &str) -> Optio
 }
 
 /// The value at the name, in an object of exactly `count` members, taken out of it.
-pub(crate) fn take_member(value: &mut Value, count: usize, name: &str) -> Option<Value>
+pub fn take_member(value: &mut Value, count: usize, name: &str) -> Option<Value>
     ensures { option_map view result ≡ only count name.now (view value.old) }
 {
     if value.as_object()?.len() != count {
@@ -49,7 +62,7 @@ pub(crate) fn into_one_member(value: Value) -> Option<(String, Value)>
 }
 
 /// The items of an array.
-pub(crate) fn into_items(value: Value) -> Option<Vec<Value>>
+pub fn into_items(value: Value) -> Option<Vec<Value>>
     ensures { option_map (λ items. items_view items.items) result ≡ as_array (view value) }
 {
     match value {
@@ -59,7 +72,7 @@ pub(crate) fn into_items(value: Value) -> Option<Vec<Value>>
 }
 
 /// A version: a number below 2^62, written in digits alone.
-pub(crate) fn read_version(value: &Value) -> Option<Version>
+pub fn read_version(value: &Value) -> Option<Version>
     ensures { result ≡ version_of (view value.now) }
 {
     Version::new(value.as_u64()?)

@@ -2,6 +2,7 @@
 use crate::words::{Request, read_words};
 use clap::error::{Error, ErrorKind};
 use fr_cli::{CliFault, run_apply};
+use fr_cli_end::run_end;
 use std::alloc::Global;
 use std::io::{Read, Write};
 
@@ -67,6 +68,7 @@ fn run<R: Read, W: Write>(
 ) -> Result<u8, CliFault> {
     match request {
         Request::Apply(options) => run_apply(alloc, options, reader, writer),
+        Request::End(options) => run_end(alloc, options, reader, writer),
     }
 }
 

@@ -2,6 +2,7 @@ use crate::program::{Ending, run_program};
 use crate::words::{Request, read_words};
 use clap::error::ErrorKind;
 use fr_cli::{ApplyOptions, CliFault, StoreKind};
+use fr_cli_end::EndOptions;
 use std::alloc::{AllocError, Global};
 use std::io;
 use std::io::{Error, ErrorKind as IoErrorKind, Read, Write};
@@ -30,6 +31,88 @@ fn words_choose_a_command(rt: HostRuntime) -> Result<(), Fail> {
         match read_words(rt.alloc(), words.as_slice()) {
             Ok(request) => assert!(rt; request == wanted),
             Err(error) => assert!(rt; false, "{error}"),
+        }
+    }
+    Ok(())
+}
+
+#[test]
+fn words_choose_the_end_of_an_epoch(rt: HostRuntime) -> Result<(), Fail> {
+    let lines = [
+        (
+            ["fdbrec", "end", "--logs", "4", "--degree", "2"].as_slice(),
+            4,
+            2,
+        ),
+        (
+            ["fdbrec", "end", "--degree=16", "--logs=16"].as_slice(),
+            16,
+            16,
+        ),
+        (
+            ["fdbrec", "end", "--logs", "16", "--degree", "1"].as_slice(),
+            16,
+            1,
+        ),
+        (["fdbrec", "end", "--logs=1", "--degree=1"].as_slice(), 1, 1),
+    ];
+    for (line, logs, degree) in lines {
+        let wanted = Request::End(EndOptions::new(logs, degree).ok_or("options")?);
+        let words = words_of(rt.alloc(), line)?;
+        match read_words(rt.alloc(), words.as_slice()) {
+            Ok(request) => assert!(rt; request == wanted),
+            Err(error) => assert!(rt; false, "{error}"),
+        }
+    }
+    Ok(())
+}
+
+#[test]
+fn other_ends_are_refused(rt: HostRuntime) -> Result<(), Fail> {
+    let missing = ErrorKind::MissingRequiredArgument;
+    let invalid = ErrorKind::ValueValidation;
+    let lines = [
+        (["fdbrec", "end"].as_slice(), missing),
+        (["fdbrec", "end", "--logs", "4"].as_slice(), missing),
+        (["fdbrec", "end", "--degree", "2"].as_slice(), missing),
+        (
+            ["fdbrec", "end", "--logs=2", "--degree=3"].as_slice(),
+            invalid,
+        ),
+        (
+            ["fdbrec", "end", "--logs=0", "--degree=0"].as_slice(),
+            invalid,
+        ),
+        (
+            ["fdbrec", "end", "--logs=4", "--degree=0"].as_slice(),
+            invalid,
+        ),
+        (
+            ["fdbrec", "end", "--logs=17", "--degree=2"].as_slice(),
+            invalid,
+        ),
+        (
+            ["fdbrec", "end", "--logs=272", "--degree=2"].as_slice(),
+            invalid,
+        ),
+        (
+            ["fdbrec", "end", "--logs=0x4", "--degree=2"].as_slice(),
+            invalid,
+        ),
+        (
+            ["fdbrec", "end", "--logs=-4", "--degree=2"].as_slice(),
+            invalid,
+        ),
+        (
+            ["fdbrec", "end", "--logs=four", "--degree=2"].as_slice(),
+            invalid,
+        ),
+    ];
+    for (line, kind) in lines {
+        let words = words_of(rt.alloc(), line)?;
+        match read_words(rt.alloc(), words.as_slice()) {
+            Ok(_) => assert!(rt; false, "taken"),
+            Err(error) => assert!(rt; error.kind() == kind, "{error}"),
         }
     }
     Ok(())
@@ -96,6 +179,55 @@ fn a_program_ends_by_its_command(rt: HostRuntime) -> Result<(), Fail> {
     assert_eq!(rt; ending.status(), 2);
     assert!(rt; matches!(&ending, Ending::Fault(CliFault::BadScript)));
     assert!(rt; written.is_empty());
+    Ok(())
+}
+
+#[test]
+fn a_program_tells_an_end(rt: HostRuntime) -> Result<(), Fail> {
+    let end = ["fdbrec", "end", "--logs", "2", "--degree", "2"].as_slice();
+    let script = b"{\"replies\":[[0,5,5],[1,3,2]]}".as_slice();
+    let (ending, written) = end_of(rt.alloc(), end, script)?;
+    assert_eq!(rt; ending.status(), 0);
+    assert!(rt; written.as_slice() == b"pev 5 rv 5\ninconsistent\n".as_slice());
+    let (ending, written) = end_of(rt.alloc(), end, &script[1..])?;
+    assert_eq!(rt; ending.status(), 2);
+    assert!(rt; matches!(&ending, Ending::Fault(CliFault::BadScript)));
+    assert!(rt; written.is_empty());
+    Ok(())
+}
+
+#[test]
+fn a_degree_above_the_logs_ends_a_program(rt: HostRuntime) -> Result<(), Fail> {
+    let words = ["fdbrec", "end", "--logs", "2", "--degree", "3"].as_slice();
+    let (ending, written) = end_of(rt.alloc(), words, b"{\"replies\":[]}".as_slice())?;
+    assert_eq!(rt; ending.status(), 2);
+    assert!(rt; matches!(&ending, Ending::BadWords(_)));
+    assert!(rt; written.is_empty());
+    Ok(())
+}
+
+#[test]
+fn the_help_of_an_end(rt: HostRuntime) -> Result<(), Fail> {
+    let words = ["fdbrec", "end", "--help"].as_slice();
+    let (ending, written) = end_of(rt.alloc(), words, b"".as_slice())?;
+    assert_eq!(rt; ending.status(), 0);
+    for name in [
+        "--logs",
+        "--degree",
+        "replies",
+        "none",
+        "inconsistent",
+        "Stranger",
+        "Differs",
+    ] {
+        assert!(rt;
+            written
+                .as_slice()
+                .windows(name.len())
+                .any(|at| at == name.as_bytes()),
+            "{name}"
+        );
+    }
     Ok(())
 }
 

@@ -1,7 +1,8 @@
 //! The words of the command line.
-use clap::error::Error;
-use clap::{Arg, ArgAction, Command};
+use clap::error::{Error, ErrorKind};
+use clap::{Arg, ArgAction, ArgMatches, Command, value_parser};
 use fr_cli::{ApplyOptions, StoreKind};
+use fr_cli_end::EndOptions;
 use std::alloc::Global;
 
 /// What the words ask for.
@@ -9,6 +10,8 @@ use std::alloc::Global;
 pub enum Request {
     /// The operations of a script, run on an empty store.
     Apply(ApplyOptions),
+    /// The end of an epoch, from the replies of a script.
+    End(EndOptions),
 }
 
 /// The kinds of store, as the words name them.
@@ -65,14 +68,65 @@ prints
 Statuses: 0 done, refused operations included; 2 bad script, or bad words; 3 out of memory;
 4 input or output failed. A bad script prints no line.";
 
+/// What stands below the help of `end`.
+const END_HELP: &str = "\
+The script is read from standard input. It is an object of what the locked logs of a generation
+replied, in the order in which the replies came:
+
+  {\"replies\":[[I,DURABLE,KNOWN],..]}
+
+I is the number of the log, 0 to 255 (the generation has those below M), DURABLE the greatest
+version that it holds, KNOWN the greatest that it knows to be committed: numbers below 2^62.
+
+It prints a line for each reply:
+
+  none                  the replies do not cover yet: only those of more than M - K logs have
+                        a log of each tag among them
+  pev P rv R            the end of the epoch: all through P is known to be committed, and the
+                        next epoch takes over all through R
+  inconsistent          P would be above R: a log knows a version to be committed that
+                        another one does not hold
+  refused NAME          not counted: Stranger (the generation has no such log) or Differs
+                        (this log replied otherwise before)
+
+For instance, with --logs 4 --degree 2,
+
+  {\"replies\":[[0,12,8],[1,10,9],[2,11,7]]}
+
+prints
+
+  none
+  none
+  pev 9 rv 10
+
+Statuses: 0 done, refused replies included; 2 bad script, or bad words, a K above M among them;
+3 out of memory; 4 input or output failed. A bad script prints no line.";
+
 /// Reads the words, the first of which is the program's name. An error is a request for help or a
 /// mistake in the words, with the text for the user.
 pub fn read_words(alloc: Global, words: &[String]) -> Result<Request, Error> {
-    let _matches = command(alloc)?.try_get_matches_from(words)?;
-    // There is one command, and one kind of store: other words are refused.
-    Ok(Request::Apply(ApplyOptions {
-        store: StoreKind::Map,
-    }))
+    let matches = command(alloc)?.try_get_matches_from(words)?;
+    match matches.subcommand_matches("end") {
+        Some(end) => read_end(alloc, end),
+        // There is one other command, and one kind of store: other words are refused.
+        None => Ok(Request::Apply(ApplyOptions {
+            store: StoreKind::Map,
+        })),
+    }
+}
+
+/// Reads the options of `end`. Each of its numbers is there and within its limits, so what is left to be
+/// refused is a degree above the number of logs.
+fn read_end(alloc: Global, matches: &ArgMatches<'_>) -> Result<Request, Error> {
+    let logs = matches.get_one::<u8>("logs").unwrap_or(0);
+    let degree = matches.get_one::<u8>("degree").unwrap_or(0);
+    match EndOptions::new(logs, degree) {
+        Some(options) => Ok(Request::End(options)),
+        None => {
+            let message = "the value of '--degree <K>' is above that of '--logs <M>'";
+            Err(command(alloc)?.error(ErrorKind::ValueValidation, message)?)
+        }
+    }
 }
 
 fn command<'a>(alloc: Global) -> Result<Command<'a>, Error> {
@@ -87,6 +141,25 @@ fn command<'a>(alloc: Global) -> Result<Command<'a>, Error> {
         .about("Runs store operations on an empty store")
         .after_help(APPLY_HELP)
         .arg(store)?;
+    let logs = Arg::new(alloc, "logs")
+        .long("logs")
+        .help("How many logs the locked generation has, 1 to 16")
+        .value_name("M")
+        .value_parser(value_parser!(u8).range(1..=16))
+        .required(true)
+        .action(ArgAction::Set);
+    let degree = Arg::new(alloc, "degree")
+        .long("degree")
+        .help("On how many of them each tag stands, 1 to M")
+        .value_name("K")
+        .value_parser(value_parser!(u8).range(1..=16))
+        .required(true)
+        .action(ArgAction::Set);
+    let end = Command::new(alloc, "end")
+        .about("Tells the end of an epoch, reply by reply of its locked logs")
+        .after_help(END_HELP)
+        .arg(logs)?
+        .arg(degree)?;
     let command = Command::new(alloc, "fdbrec")
         .about("Recovery of FoundationDB's log system, with storage servers that roll back")
         .version(VERSION)
@@ -94,6 +167,7 @@ fn command<'a>(alloc: Global) -> Result<Command<'a>, Error> {
             "Each command reads a script from standard input: 'fdbrec apply --help' shows one.",
         )
         .subcommand_required(true)
-        .subcommand(apply)?;
+        .subcommand(apply)?
+        .subcommand(end)?;
     Ok(command)
 }

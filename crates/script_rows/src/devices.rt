@@ -6,17 +6,17 @@ use std::test::Fail;
 
 /// A reader and a writer of one byte a call, of which one call fails and one is interrupted.
 #[derive(Drop)]
-struct Slow {
-    bytes: Vec<u8>,
+pub struct Slow {
+    pub bytes: Vec<u8>,
     at: usize,
     calls: u32,
-    fails: u32,
-    interrupted: u32,
-    flush_fails: bool,
+    pub fails: u32,
+    pub interrupted: u32,
+    pub flush_fails: bool,
 }
 
 impl Slow {
-    fn new(bytes: Vec<u8>) -> Slow {
+    pub fn new(bytes: Vec<u8>) -> Slow {
         Slow {
             bytes,
             at: 0,

@@ -2,7 +2,13 @@
 #![tactic(auto)]
 
 #[cfg(test)]
+mod counts;
+#[cfg(test)]
 mod devices;
+#[cfg(test)]
+mod end;
+#[cfg(test)]
+mod end_devices;
 #[cfg(test)]
 mod examples;
 #[cfg(test)]

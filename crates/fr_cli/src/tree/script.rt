@@ -1,12 +1,11 @@
 //! The script of `apply`, read from the tree of its JSON.
 ghost use Rattle.std.specs.Prelude.{◌≡◌, ◌⊎◌, None, Some, IfOk, IfErr};
 ghost use Rattle.serde_json.specs.View.{view};
-ghost use Rattle.fr_cli.specs.Json.{data_of};
 ghost use Rattle.fr_cli.specs.Plan.{plan_from, plan_of};
 ghost use Rattle.fr_cli.specs.Script.{version_at, apply_of, operation_named, operation_of};
 
 use super::mutations::read_batch;
-use super::{into_items, into_one_member, member_of, read_version, take_member};
+use super::{into_items, into_one_member, member_of, read_value, read_version, take_member};
 use crate::fault::CliFault;
 use crate::plan::Planned;
 use crate::script::Operation;
@@ -22,19 +21,6 @@ pub(crate) fn read_script(alloc: Global, input: Vec<u8>) -> Result<Vec<Planned>,
 {
     let value = read_value(alloc, input)?;
     read_operations(alloc, value)
-}
-
-/// Reads the JSON of an input, and lets the input go.
-fn read_value(alloc: Global, input: Vec<u8>) -> Result<Value, CliFault>
-    ensures ok { IfOk result (λ value. data_of input.items ≡ Some (view value)) }
-    ensures bad { result ≡ Err CliFault.BadScript → data_of input.items ≡ None }
-    ensures fault { IfErr result (λ e. (e ≡ CliFault.BadScript) ⊎ (e ≡ CliFault.Memory)) }
-{
-    match Value::from_slice(alloc, input.as_slice()) {
-        Ok(value) => Ok(value),
-        Err(e) if e.is_memory() => Err(CliFault::Memory),
-        Err(_) => Err(CliFault::BadScript),
-    }
 }
 
 /// Reads the operations of a script, and lets go of each item once it is read.

@@ -4,12 +4,15 @@ use Rattle.fr_cli.proofs.operations.run_operations.Goals as goal
 
 pub returns-in_err-put-clause-front : goal.returns-in_err-put-clause-front
 returns-in_err-put-clause-front g c =
-    let owed = rw (c.in-Some.ensures.steps.0, ← c.in_ok-line.ensures.state) at c.loop-operation.invariant in
+    let owed = rw (c.in-Some.ensures.steps.0, ← c.in_ok-line.ensures.state) at c.loop-operation.invariant.owed in
     let text = c.as_str.ensures.value ∙ c.in_ok-line.ensures.ok in
     gains_more _ _ _ _ _ _ owed (rw text at c.put.ensures.front)
 
 pub loop-operation-preserved : goal.loop-operation-preserved
 loop-operation-preserved g c =
-    let owed = rw (c.in-Some.ensures.steps.0, ← c.in_ok-line.ensures.state) at c.loop-operation.invariant in
+    let owed = rw (c.in-Some.ensures.steps.0, ← c.in_ok-line.ensures.state) at c.loop-operation.invariant.owed in
     let text = c.as_str.ensures.value ∙ c.in_ok-line.ensures.ok in
-    owes_rest _ _ _ _ _ _ owed (rw text at c.in_ok-put.ensures.ok)
+    record {
+      owed = owes_rest _ _ _ _ _ _ owed (rw text at c.in_ok-put.ensures.ok);
+      calls = c.in_ok-put.ensures.done ∙ c.loop-operation.invariant.calls;
+    }

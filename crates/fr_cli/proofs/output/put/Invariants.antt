@@ -1,5 +1,12 @@
+use Rattle.std.proofs.Common.{◌≡◌, length}
 use Rattle.fr_cli.specs.Text.{Owes}
 use Rattle.fr_cli.proofs.output.put.Given as goal
 
-abbrev pub invariant-loop-turn : goal.invariant-loop-turn
-invariant-loop-turn g l = Owes (g.W.Write.contents l.fn.writer) (g.W.Write.contents l.writer) l.rest l.text
+abbrev pub invariant-loop-rest : goal.invariant-loop-rest
+invariant-loop-rest g l = record {
+  owed : Owes (g.W.Write.contents l.fn.writer) (g.W.Write.contents l.writer) l.rest l.text;
+  calls : l.calls ≡ l.fn.calls;
+}
+
+abbrev pub decreases-loop-rest : goal.decreases-loop-rest
+decreases-loop-rest g l = length l.rest

@@ -1,0 +1,4 @@
+pub mod Options
+pub mod Script
+pub mod Text
+pub mod Lines
