@@ -1,0 +1,4 @@
+pub mod Limits
+pub mod Tests
+pub mod Step
+pub mod Law

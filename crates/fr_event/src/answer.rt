@@ -1,0 +1,34 @@
+//! What an event answers.
+ghost use Rattle.std.specs.Prelude.{◌≡◌, IfOk};
+
+use fr_ask::Tell;
+use fr_base::Memory;
+use fr_proxy::Outcome;
+use fr_storage::StorageFault;
+
+/// What an event answers.
+#[derive(Debug, Drop)]
+pub enum Answer {
+    /// What the node told to which an ask was delivered.
+    Told(Tell),
+    /// What a proxy says of its batch.
+    Heard(Outcome),
+    /// Why a storage server did not take what it heard.
+    Refused(StorageFault),
+    /// It happened, and there is nothing to tell.
+    Done,
+}
+
+impl Answer {
+    /// An equal answer.
+    pub fn copy(&self) -> Result<Self, Memory>
+        ensures equal { IfOk result (λ answer. answer ≡ self.now) }
+    {
+        Ok(match self {
+            Answer::Told(tell) => Answer::Told(tell.copy()?),
+            Answer::Heard(outcome) => Answer::Heard(*outcome),
+            Answer::Refused(fault) => Answer::Refused(*fault),
+            Answer::Done => Answer::Done,
+        })
+    }
+}
