@@ -19,7 +19,7 @@ impl<S: ShardStore> Storage<S> {
     /// Hears the coordinated state of a mark, as a log tells it. Where the own generations are the front of
     /// the state's, the server undoes what is above the cut of its own epoch, keeps the state, and stands at
     /// the state's epoch from then on. The own state changes nothing. No other call takes back what was
-    /// applied.
+    /// applied, but [`break_off_marked`](Storage::break_off_marked), which is this one in part.
     pub fn hear_marked(&mut self, alloc: Global, state: CoordState) -> Result<(), StorageFault>
         ensures ok { OnOk result (storage_of S.state self.new ≡ after_marked (storage_of S.state self.old) state) }
         ensures position { OnOk result (self.new.applied ≡ (after_marked (storage_of S.state self.old) state).store.applied) }

@@ -2,9 +2,8 @@
 ghost use Rattle.std.specs.Prelude.{◌≡◌, ◌≢◌, ◌≤◌, ◌↔◌, ◌||◌, false, [], ◌∷◌, Ok, Err, None, OnOk, OnErr, IfOk, IfErr, IfSome, IsOk, IsTrue, is_some};
 ghost use Rattle.fr_undo.specs.Calls.{IsTrouble};
 ghost use Rattle.fr_undo.specs.Undo.{undone};
-ghost use Rattle.fr_state.specs.Laws.{OneSpellingOneState};
 ghost use Rattle.fr_storage.specs.declared.fault.StorageFault.{StorageFault};
-ghost use Rattle.fr_storage.specs.Storage.{StorageState, UndoTo, broken_at, marked_fault, marked_calls};
+ghost use Rattle.fr_storage.specs.Storage.{UndoTo, broken_at, marked_fault, marked_calls};
 ghost use Rattle.fr_storage.specs.Broken.{after_broken};
 ghost use Rattle.fr_storage.specs.Server.{storage_of, kept_of, met_store, refusal_of, store_fault, IsWhole, LeavesStages};
 
@@ -20,6 +19,7 @@ impl<S: ShardStore> Storage<S> {
     /// a version: the server then stands as it would if it had crashed before the state was kept, and had been
     /// opened again. A hear breaks off at the version applied, and at the cut of the own epoch where that is
     /// below it. True where it breaks off at this one; else nothing changes, and no call of the store is made.
+    /// It is refused as the whole hear is, and a call of the store that is refused leaves the server failed.
     pub fn break_off_marked(
         &mut self,
         alloc: Global,

@@ -3,7 +3,7 @@ ghost use Rattle.std.specs.Prelude.{◌≡◌, ◌≢◌, ◌↔◌, ◌||◌, f
 ghost use Rattle.fr_undo.specs.Calls.{IsTrouble};
 ghost use Rattle.fr_log.specs.Peeked.{is_rising_from};
 ghost use Rattle.fr_storage.specs.declared.fault.StorageFault.{StorageFault};
-ghost use Rattle.fr_storage.specs.Storage.{StorageState, records_between, after_calls, new_records, broken_at, peeked_fault, peeked_calls};
+ghost use Rattle.fr_storage.specs.Storage.{records_between, after_calls, new_records, broken_at, peeked_fault, peeked_calls};
 ghost use Rattle.fr_storage.specs.Broken.{has_version, stops_at, calls_through, after_broken};
 ghost use Rattle.fr_storage.specs.Server.{storage_of, kept_of, met_store, refusal_of, store_fault, IsCallTrouble, IsWhole, LeavesStages};
 
@@ -20,7 +20,8 @@ impl<S: ShardStore> Storage<S> {
     /// but breaks off at a version: the server then stands as it would if it had crashed once that version was
     /// applied, before undo rows are forgotten, and had been opened again. A hear breaks off at the version
     /// applied, at the version of each new record, and at the end of the answer or of its generation. True
-    /// where it breaks off at this one; else nothing changes, and no call of the store is made.
+    /// where it breaks off at this one; else nothing changes, and no call of the store is made. It is refused as
+    /// the whole hear is, and a call of the store that is refused leaves the server failed.
     pub fn break_off_peeked(
         &mut self,
         alloc: Global,
