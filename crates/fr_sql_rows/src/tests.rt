@@ -72,6 +72,20 @@ fn note(
     tx.commit()
 }
 
+/// Adds the undo row of a key that held nothing, with the versions, in one transaction.
+fn note_new(conn: &mut Connection<MemStore>, version: Version, key: &Bytes) -> Result<(), Error>
+    requires rest { IsAtRest (state over_memory conn.old) }
+    requires laid { IsLaidOut (state over_memory conn.old).now }
+    requires absent { before_in ((state over_memory conn.old).now.trees 2) (version, key.now) ≡ None }
+    ensures rest { OnOk result (IsAtRest (state over_memory conn.new)) }
+    ensures laid { OnOk result (IsLaidOut (state over_memory conn.new).now) }
+{
+    let mut tx = conn.transaction();
+    undo::note_none(&mut tx, version, key)?;
+    meta::note_versions(&mut tx, version, Version::ZERO)?;
+    tx.commit()
+}
+
 /// Removes the undo rows through a version and those above another.
 fn drop_rows(conn: &mut Connection<MemStore>, through: Version, above: Version) -> Result<(), Error>
     requires rest { IsAtRest (state over_memory conn.old) }
@@ -168,5 +182,22 @@ fn an_undo_row_is_kept_and_dropped(rt: HostRuntime) -> Result<(), Fail> {
     assert_eq!(rt; undo::above(alloc, &mut conn, five)?.len(), 1);
     drop_rows(&mut conn, six, six)?;
     assert!(rt; undo::above(alloc, &mut conn, five)?.is_empty());
+    Ok(())
+}
+
+#[test]
+fn no_value_is_told_from_an_empty_one(rt: HostRuntime) -> Result<(), Fail> {
+    let alloc = rt.alloc();
+    let mut conn = begun(alloc)?;
+    let a = bytes(alloc, b"a")?;
+    let six = Version::new(6).ok_or("a version")?;
+    note_new(&mut conn, six, &a)?;
+    let rows = undo::above(alloc, &mut conn, Version::ZERO)?;
+    let [((version, key), before)] = rows.as_slice() else {
+        return Err("not one row".into());
+    };
+    assert_eq!(rt; version.get(), 6);
+    assert_eq!(rt; key.as_slice(), b"a".as_slice());
+    assert!(rt; before.is_none());
     Ok(())
 }
