@@ -4,6 +4,7 @@ use Rattle.std.specs.Prelude.{◌==◌, ◌&&◌, ◌||◌, not, nat_lt, nat_le,
 use Rattle.std.specs.List.{list_all}
 use Rattle.std.proofs.lemmas.Bool.{and_parts, eqb-true, eq-eqb}
 use Rattle.std.proofs.lemmas.List.{append-nil}
+use Rattle.std.proofs.lemmas.List.Sums.{fold-append}
 use Rattle.std.proofs.lemmas.List.Elements.{All-head, All-tail}
 use Rattle.fr_mutation.specs.Law.{SpellingIsRead}
 use Rattle.fr_state.specs.Laws.{SpelledIsRead}
@@ -18,7 +19,9 @@ use Rattle.fr_log.specs.LogState.{LogState, holds, is_push_held}
 use Rattle.fr_log.specs.Refusal.{has_other_seed, seed_refusal, push_refusal, lock_refusal, peek_refusal, mark_refusal}
 use Rattle.fr_log.specs.Step.{next_of, next_unless, granted_next}
 use Rattle.fr_log.specs.Seeding.{changes, is_empty, takes_seeded, with_seeded}
-use Rattle.fr_node.specs.Replay.{replayed}
+use Rattle.fr_node.specs.Replay.{replayed, next_replayed}
+use Rattle.fr_log_file.specs.Law.{written_all, RunIsRead}
+use Rattle.fr_log_file.specs.LogFileLaws.{stays_sound}
 use Rattle.fr_log_file.specs.declared.change.Change.{Change}
 use Rattle.fr_log_file.specs.declared.change.Change.TheVariants.{Asked, Seeded}
 use Rattle.fr_log_file.specs.Limits.{IsSoundRecord, IsSoundSeed, IsSoundPush, IsSoundAsk}
@@ -31,7 +34,7 @@ guard_none : (b : Bool) (why : LogRefusal) (o : Option LogRefusal) → cond b (S
 guard_none true why o e = absurd (cc e)
 guard_none false why o e = (refl, e)
 
-none_is : {A : Type 0} (o : Option A) → is_none o ≡ true → o ≡ None
+pub none_is : {A : Type 0} (o : Option A) → is_none o ≡ true → o ≡ None
 none_is None e = refl
 none_is (Some x) e = absurd (cc e)
 
@@ -42,7 +45,7 @@ open_is false e = absurd (cc e)
 -- ---- what a granted ask says
 
 module _ (l : LogState) where
-  seed_granted : (s : SeedContent) → seed_refusal l s ≡ None → (s.epoch ≡ l.epoch) × (list_all (λ r. holds l r.tag) s.records ≡ true)
+  pub seed_granted : (s : SeedContent) → seed_refusal l s ≡ None → (s.epoch ≡ l.epoch) × (list_all (λ r. holds l r.tag) s.records ≡ true)
   seed_granted s e =
       let a = guard_none (not (s.epoch == l.epoch)) WrongEpoch _ e in
       let b = guard_none (not (list_all (λ r. holds l r.tag) s.records)) NotMine _ a.1 in
@@ -164,3 +167,11 @@ module _ (is_read : SpellingIsRead) (state_is_read : SpelledIsRead) where
       go : (b : Bool) → changes l a ≡ b → replayed replay_log (Some l) (cond b (spelled_ask l a) []) ≡ Some (next_of l a)
       go true e = new_leads l a sound within e
       go false e = ap (λ x. Some x) (sym (stands l a e))
+
+  -- one ask after another
+  pub run_is_read : RunIsRead
+  run_is_read l [] sound within = refl
+  run_is_read l (a ∷ asks) sound within =
+      fold-append (next_replayed replay_log) (Some l) (written_log l a) (written_all (next_of l a) asks)
+      ∙ ap (λ o. replayed replay_log o (written_all (next_of l a) asks)) (ask_leads a (All-head IsSoundAsk a asks within) l sound)
+      ∙ run_is_read (next_of l a) asks (stays_sound l a sound) (All-tail IsSoundAsk a asks within)

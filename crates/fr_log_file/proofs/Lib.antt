@@ -3,3 +3,4 @@ pub mod Loops
 pub mod Fields
 pub mod Records
 pub mod Group
+pub mod Runs

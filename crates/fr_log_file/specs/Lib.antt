@@ -3,3 +3,4 @@ pub mod Spelling
 pub mod Reading
 pub mod LogFile
 pub mod LogFileLaws
+pub mod Law

@@ -2,6 +2,7 @@
 #![tactic(auto)]
 
 mod change;
+pub mod laws;
 mod limits;
 mod log_file;
 mod log_node;
