@@ -1,0 +1,4 @@
+pub mod Limits
+pub mod Turns
+pub mod Parts
+pub mod World

@@ -1,0 +1,49 @@
+//! The storage servers of a world.
+ghost use Rattle.std.specs.Prelude.{◌≡◌, ◌&&◌, false, not, is_some, IfOk, IsTrue, OnOk, Some};
+ghost use Rattle.fr_history.specs.Nodes.{whole_hear, part_hear};
+ghost use Rattle.fr_history.specs.Run.{fault_of_log};
+ghost use Rattle.fr_storage.specs.Server.{met_store, refusal_of};
+ghost use Rattle.fr_ask.specs.declared.tell.Tell.{Tell};
+ghost use Rattle.fr_event.specs.Step.{breaks_in};
+ghost use Rattle.fr_world.specs.Parts.{server_of, is_ok_true};
+
+use fr_base::{Epoch, Memory};
+use fr_log::LogTell;
+use fr_storage::{Storage, StorageFault};
+use fr_undo::MapStore;
+use std::alloc::Global;
+
+/// Tells a server what a log of an epoch told it, and answers why it refuses that. Want of memory may leave it
+/// failed.
+pub(crate) fn hear(
+    alloc: Global,
+    server: &mut Storage<MapStore>,
+    epoch: Epoch,
+    tell: &LogTell,
+) -> Result<Option<StorageFault>, Memory>
+    requires { server.old.failed ≡ false }
+    ensures fault { IfOk result (λ fault. fault ≡ fault_of_log (server_of server.old) epoch tell.now) }
+    ensures state { OnOk result (server_of server.new ≡ whole_hear (server_of server.old) epoch tell.now) }
+    ensures works { OnOk result (server.new.failed ≡ false) }
+{
+    match tell {
+        LogTell::Peeked(peeked) => refusal(server.hear_peeked(alloc, epoch, peeked)),
+        LogTell::Marked { state } => {
+            let state = state.copy()?;
+            refusal(server.hear_marked(alloc, state))
+        }
+        _ => Ok(None),
+    }
+}
+
+/// Why a hear was refused, where memory was not wanting.
+fn refusal(heard: Result<(), StorageFault>) -> Result<Option<StorageFault>, Memory>
+    ensures refusal { IfOk result (λ fault. fault ≡ refusal_of heard) }
+    ensures ok { OnOk result (met_store heard ≡ false) }
+{
+    match heard {
+        Ok(()) => Ok(None),
+        Err(StorageFault::Store(_)) => Err(Memory),
+        Err(fault) => Ok(Some(fault)),
+    }
+}
