@@ -4,3 +4,5 @@ pub mod Starts
 pub mod Keys
 pub mod Stands
 pub mod Kept
+pub mod Leaving
+pub mod Recovering

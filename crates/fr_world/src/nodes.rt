@@ -6,8 +6,11 @@ ghost use Rattle.fr_world.specs.World.{state_of, IsKept};
 
 mod asked;
 pub(crate) mod cells;
+mod leaving;
 pub(crate) mod logs;
 pub(crate) mod proxies;
+pub(crate) mod recoverers;
+mod recovering;
 pub(crate) mod sequencers;
 pub(crate) mod storages;
 
