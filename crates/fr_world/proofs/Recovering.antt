@@ -82,3 +82,20 @@ heard_world laws c h later b from t asks cells logs sequencers proxies recoverer
       recoverers_are = heard c h b from t asks recoverers new w.recoverers_are put;
       storages_are = record { all = w.storages_are.all; each = w.storages_are.each; work = w.storages_are.work };
     })
+
+-- the asks of a tell are those of the recoverer that is told
+told_turn : (c : Config) (h : List Turn) (b : ℕ) (from : NodeId) (a : Tell) (asks : List Sending) (o : Option RecState) → IsSome o → IfSome o (λ r. IsTurn c h (RecHeard b from a (new_asks r from a)))
+    → IfSome o (λ r. asks ≡ new_asks r from a) → IsTurn c h (RecHeard b from a asks)
+told_turn c h b from a asks None some turn gave = absurd (cc)
+told_turn c h b from a asks (Some r) some turn gave = subst (λ x. IsTurn c h (RecHeard b from a x)) (sym gave) turn
+
+pub told_world : Laws → (c : Config) (h later : List Turn) (b : ℕ) (from : NodeId) (a kept asked : Tell) (asks : List Sending) (cells : List CellState) (logs : Logs) (sequencers : Sequencers) (proxies : Proxies) (recoverers new : Recoverers) (storages : Storages)
+    → IsWorld c h cells logs sequencers proxies recoverers storages → IsSome (rec_at c h b) → IfSome (rec_at c h b) (λ r. IsTurn c h (RecHeard b from a (new_asks r from a))) → kept ≡ a → asked ≡ a
+    → IfSome (tree.get nat_cmp recoverers b) (λ r. asks ≡ new_asks r from asked)
+    → ((q : ℕ) → tree.get nat_cmp new q ≡ cond (tree.is_at (nat_cmp b) q) (option_map (λ r. after_hear r from asked) (tree.get nat_cmp recoverers b)) (tree.get nat_cmp recoverers q))
+    → later ≡ RecHeard b from kept asks ∷ h → IsWorld c later cells logs sequencers proxies new storages
+told_world laws c h later b from a kept asked asks cells logs sequencers proxies recoverers new storages w there turn same copied gave put entered =
+    let given : IfSome (rec_at c h b) (λ r. asks ≡ new_asks r from a) = subst (λ x. IfSome (rec_at c h b) (λ r. asks ≡ new_asks r from x)) copied (subst (λ o. IfSome o (λ r. asks ≡ new_asks r from asked)) (w.recoverers_are b) gave) in
+    heard_world laws c h later b from a asks cells logs sequencers proxies recoverers new storages w (told_turn c h b from a asks (rec_at c h b) there turn given)
+    (subst (λ x. (q : ℕ) → tree.get nat_cmp new q ≡ cond (tree.is_at (nat_cmp b) q) (option_map (λ r. after_hear r from x) (tree.get nat_cmp recoverers b)) (tree.get nat_cmp recoverers q)) copied put)
+    (entered ∙ ap (λ x. RecHeard b from x asks ∷ h) same)
