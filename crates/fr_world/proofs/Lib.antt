@@ -4,5 +4,6 @@ pub mod Starts
 pub mod Keys
 pub mod Stands
 pub mod Kept
+pub mod Quiet
 pub mod Leaving
 pub mod Recovering

@@ -21,7 +21,7 @@ use Rattle.fr_history.specs.Nodes.{rec_at}
 use Rattle.fr_history.specs.Run.{IsTurn}
 use Rattle.fr_history.specs.Laws.{Laws}
 use Rattle.fr_world.specs.Parts.{IsWorld, AreRecoverers, Logs, Sequencers, Proxies, Recoverers, Storages}
-use Rattle.fr_world.proofs.Stands.{logs_next, sequencers_next, proxies_next}
+use Rattle.fr_world.proofs.Quiet.{quiet_world}
 
 -- a tree tells numbers apart as equality does
 at_number : (n b : ℕ) → tree.is_at (nat_cmp n) b ≡ (n == b)
@@ -55,16 +55,7 @@ pub begun_world : Laws → (c : Config) (h later : List Turn) (b : ℕ) (asks : 
     → ((q : ℕ) → tree.get nat_cmp new q ≡ cond (tree.is_at (nat_cmp b) q) (Some r) (tree.get nat_cmp recoverers q)) → later ≡ Begun b asks ∷ h
     → IsWorld c later cells logs sequencers proxies new storages
 begun_world laws c h later b asks cells logs sequencers proxies recoverers new r storages w is made put entered =
-    subst (λ x. IsWorld c x cells logs sequencers proxies new storages) (sym entered) (record {
-      within = w.within;
-      run = (is, w.run);
-      cells_are = record { all = w.cells_are.all; each = w.cells_are.each };
-      logs_are = logs_next laws c h (Begun b asks) w.run is logs logs w.logs_are (record { each = λ e j l. refl; there = w.logs_are.there });
-      sequencers_are = sequencers_next laws c h (Begun b asks) w.run is sequencers sequencers w.sequencers_are (record { each = λ e o. refl; there = w.sequencers_are.there });
-      proxies_are = proxies_next laws c h (Begun b asks) w.run is proxies proxies w.proxies_are (record { each = λ e p o. refl; there = w.proxies_are.there });
-      recoverers_are = begun c h b asks recoverers new r w.recoverers_are made put;
-      storages_are = record { all = w.storages_are.all; each = w.storages_are.each; work = w.storages_are.work };
-    })
+    quiet_world laws c h later (Begun b asks) (record { cells = λ ts. refl; logs = λ e i l. refl; sequencers = λ e s. refl; proxies = λ e p s. refl; storages = λ tag s. refl }) cells logs sequencers proxies recoverers new storages w is (begun c h b asks recoverers new r w.recoverers_are made put) entered
 
 -- and after a tell
 pub heard_world : Laws → (c : Config) (h later : List Turn) (b : ℕ) (from : NodeId) (t : Tell) (asks : List Sending) (cells : List CellState) (logs : Logs) (sequencers : Sequencers) (proxies : Proxies) (recoverers new : Recoverers) (storages : Storages)
@@ -72,16 +63,7 @@ pub heard_world : Laws → (c : Config) (h later : List Turn) (b : ℕ) (from : 
     → ((q : ℕ) → tree.get nat_cmp new q ≡ cond (tree.is_at (nat_cmp b) q) (option_map (λ r. after_hear r from t) (tree.get nat_cmp recoverers b)) (tree.get nat_cmp recoverers q)) → later ≡ RecHeard b from t asks ∷ h
     → IsWorld c later cells logs sequencers proxies new storages
 heard_world laws c h later b from t asks cells logs sequencers proxies recoverers new storages w is put entered =
-    subst (λ x. IsWorld c x cells logs sequencers proxies new storages) (sym entered) (record {
-      within = w.within;
-      run = (is, w.run);
-      cells_are = record { all = w.cells_are.all; each = w.cells_are.each };
-      logs_are = logs_next laws c h (RecHeard b from t asks) w.run is logs logs w.logs_are (record { each = λ e j l. refl; there = w.logs_are.there });
-      sequencers_are = sequencers_next laws c h (RecHeard b from t asks) w.run is sequencers sequencers w.sequencers_are (record { each = λ e o. refl; there = w.sequencers_are.there });
-      proxies_are = proxies_next laws c h (RecHeard b from t asks) w.run is proxies proxies w.proxies_are (record { each = λ e p o. refl; there = w.proxies_are.there });
-      recoverers_are = heard c h b from t asks recoverers new w.recoverers_are put;
-      storages_are = record { all = w.storages_are.all; each = w.storages_are.each; work = w.storages_are.work };
-    })
+    quiet_world laws c h later (RecHeard b from t asks) (record { cells = λ ts. refl; logs = λ e i l. refl; sequencers = λ e s. refl; proxies = λ e p s. refl; storages = λ tag s. refl }) cells logs sequencers proxies recoverers new storages w is (heard c h b from t asks recoverers new w.recoverers_are put) entered
 
 -- the asks of a tell are those of the recoverer that is told
 told_turn : (c : Config) (h : List Turn) (b : ℕ) (from : NodeId) (a : Tell) (asks : List Sending) (o : Option RecState) → IsSome o → IfSome o (λ r. IsTurn c h (RecHeard b from a (new_asks r from a)))
