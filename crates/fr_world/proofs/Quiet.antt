@@ -1,5 +1,5 @@
 -- What a world keeps at a turn that changes no cell, log, sequencer, proxy or storage server.
-use Rattle.std.proofs.Common.{◌≡◌, ℕ, List, ◌∷◌, refl, sym, ◌∙◌, ap, subst}
+use Rattle.std.proofs.Common.{◌≡◌, ℕ, List, ◌∷◌, sym, ◌∙◌, ap, subst}
 use Rattle.fr_register.specs.CellState.{CellState}
 use Rattle.fr_register.specs.History as register
 use Rattle.fr_log.specs.LogState.{LogState}

@@ -12,7 +12,7 @@ use Rattle.fr_base.specs.declared.place.NodeId.{NodeId}
 use Rattle.fr_base.proofs.MapLemmas.{one_key}
 use Rattle.fr_register.specs.CellState.{CellState}
 use Rattle.fr_ask.specs.declared.tell.Tell.{Tell}
-use Rattle.fr_epoch.specs.Asks.{new_asks, pending}
+use Rattle.fr_epoch.specs.Asks.{new_asks}
 use Rattle.fr_epoch.specs.Hear.{after_hear}
 use Rattle.fr_epoch.specs.Recoverer.{RecState, new_recoverer}
 use Rattle.fr_history.specs.Config.{Config}

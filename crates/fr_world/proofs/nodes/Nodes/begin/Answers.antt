@@ -1,4 +1,4 @@
-use Rattle.std.proofs.Common.{◌≡◌, ap, ◌∙◌, refl, [], ◌∷◌, ◌++◌}
+use Rattle.std.proofs.Common.{◌≡◌, ap, ◌∙◌, [], ◌∷◌, ◌++◌}
 use Rattle.fr_epoch.specs.Asks.{pending}
 use Rattle.fr_epoch.specs.Recoverer.{new_recoverer}
 use Rattle.fr_history.specs.Turn as history
