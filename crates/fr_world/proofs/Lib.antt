@@ -7,3 +7,4 @@ pub mod Kept
 pub mod Quiet
 pub mod Leaving
 pub mod Recovering
+pub mod Ups

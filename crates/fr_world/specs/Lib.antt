@@ -2,3 +2,4 @@ pub mod Limits
 pub mod Turns
 pub mod Parts
 pub mod World
+pub mod Stepping

@@ -3,6 +3,7 @@
 #![tactic(auto)]
 
 mod config;
+mod events;
 mod fault;
 mod history;
 mod nodes;
