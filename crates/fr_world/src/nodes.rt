@@ -9,6 +9,7 @@ pub(crate) mod cells;
 pub(crate) mod logs;
 pub(crate) mod proxies;
 pub(crate) mod sequencers;
+mod served;
 pub(crate) mod storages;
 
 use crate::config::Config;

@@ -1,17 +1,60 @@
 //! The storage servers of a world.
-ghost use Rattle.std.specs.Prelude.{◌≡◌, ◌&&◌, false, not, is_some, IfOk, IsTrue, OnOk, Some};
-ghost use Rattle.fr_history.specs.Nodes.{whole_hear, part_hear};
-ghost use Rattle.fr_history.specs.Run.{fault_of_log};
+ghost use Rattle.std.specs.Prelude.{◌≡◌, ◌&&◌, false, not, is_some, IfOk, IsTrue, None, OnOk, Some};
+ghost use Rattle.fr_history.specs.Nodes.{whole_hear, part_hear, storage_hear};
+ghost use Rattle.fr_history.specs.Run.{fault_of, fault_of_log};
 ghost use Rattle.fr_storage.specs.Server.{met_store, refusal_of};
 ghost use Rattle.fr_ask.specs.declared.tell.Tell.{Tell};
 ghost use Rattle.fr_event.specs.Step.{breaks_in};
 ghost use Rattle.fr_world.specs.Parts.{server_of, is_ok_true};
 
-use fr_base::{Epoch, Memory};
+use fr_ask::Tell;
+use fr_base::{Epoch, Memory, NodeId};
 use fr_log::LogTell;
 use fr_storage::{Storage, StorageFault};
 use fr_undo::MapStore;
 use std::alloc::Global;
+
+/// A server after a hear, and why it refused what it heard.
+#[derive(Drop)]
+pub(crate) struct Heard {
+    pub(crate) server: Storage<MapStore>,
+    pub(crate) fault: Option<StorageFault>,
+}
+
+/// What a tell makes of a server, which itself stands: only what a log tells reaches it.
+pub(crate) fn tell_server(
+    alloc: Global,
+    server: &Storage<MapStore>,
+    from: &NodeId,
+    tell: &Tell,
+) -> Result<Heard, Memory>
+    requires { server.now.failed ≡ false }
+    ensures fault { IfOk result (λ heard. heard.fault ≡ fault_of (server_of server.now) from.now tell.now) }
+    ensures state { IfOk result (λ heard. server_of heard.server ≡ storage_hear None (server_of server.now) from.now tell.now) }
+    ensures works { IfOk result (λ heard. heard.server.failed ≡ false) }
+{
+    let mut server = server.copy(alloc)?;
+    let fault = hear_from(alloc, &mut server, from, tell)?;
+    Ok(Heard { server, fault })
+}
+
+/// Tells a server what a node told it. Want of memory may leave it failed.
+fn hear_from(
+    alloc: Global,
+    server: &mut Storage<MapStore>,
+    from: &NodeId,
+    tell: &Tell,
+) -> Result<Option<StorageFault>, Memory>
+    requires { server.old.failed ≡ false }
+    ensures fault { IfOk result (λ fault. fault ≡ fault_of (server_of server.old) from.now tell.now) }
+    ensures state { OnOk result (server_of server.new ≡ storage_hear None (server_of server.old) from.now tell.now) }
+    ensures works { OnOk result (server.new.failed ≡ false) }
+{
+    match (from, tell) {
+        (NodeId::Log { epoch, .. }, Tell::Log(tell)) => hear(alloc, server, *epoch, tell),
+        _ => Ok(None),
+    }
+}
 
 /// Tells a server what a log of an epoch told it, and answers why it refuses that. Want of memory may leave it
 /// failed.
