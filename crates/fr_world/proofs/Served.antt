@@ -1,20 +1,25 @@
 -- What a world keeps is kept at the turns of its storage servers.
-use Rattle.std.proofs.Common.{◌≡◌, ◌≢◌, ℕ, ◌<◌, Bool, true, false, cond, ◌==◌, List, ◌∷◌, Option, Some, refl, sym, ◌∙◌, ap, subst, length, slice_set, slice_index_or}
-use Rattle.std.specs.Prelude.{slice_get}
-use Rattle.std.proofs.lemmas.Bool.{eqb-true, eq-eqb}
+use Rattle.std.proofs.Common.{◌≡◌, ◌≢◌, ℕ, ◌<◌, Bool, true, false, cond, not, ◌==◌, ◌&&◌, List, ◌∷◌, Option, None, Some, refl, sym, ◌∙◌, ap, subst, length, slice_set, slice_index_or}
+use Rattle.std.specs.Prelude.{slice_get, is_some, IsSome}
+use Rattle.std.proofs.lemmas.Bool.{and_parts, eqb-true, eq-eqb}
 use Rattle.std.proofs.lemmas.List.{length-set}
 use Rattle.std.proofs.lemmas.Option.{slice_get-get_or}
 use Rattle.fr_base.specs.declared.place.NodeId.{NodeId}
+use Rattle.fr_base.specs.declared.place.NodeId.TheVariants as node
+use Rattle.fr_log.specs.declared.ask.LogTell.{LogTell}
 use Rattle.fr_ask.specs.declared.tell.Tell.{Tell}
+use Rattle.fr_ask.specs.declared.tell.Tell.TheVariants as tell
 use Rattle.fr_undo.specs.State.{StoreState}
 use Rattle.fr_register.specs.CellState.{CellState}
 use Rattle.fr_storage.specs.Server.{Server}
+use Rattle.fr_storage.specs.Storage.{StorageState, broken_at}
 use Rattle.fr_storage.specs.declared.fault.StorageFault.{StorageFault}
 use Rattle.fr_history.specs.Config.{Config}
 use Rattle.fr_history.specs.Turn.{Turn, StorageHeard}
-use Rattle.fr_history.specs.Nodes.{storage_at, storage_hear}
-use Rattle.fr_history.specs.Run.{IsTurn}
+use Rattle.fr_history.specs.Nodes.{storage_at, storage_hear, calls_of_log}
+use Rattle.fr_history.specs.Run.{IsTurn, IsHeardBy, MayBreakIn, fault_of, fault_of_log}
 use Rattle.fr_history.specs.Laws.{Laws}
+use Rattle.fr_event.specs.Step.{breaks_in, may_break}
 use Rattle.fr_world.specs.Parts.{IsWorld, AreStorages, Logs, Sequencers, Proxies, Recoverers, Storages, server_of}
 use Rattle.fr_world.specs.declared.turn.Turn.TheVariants as code
 use Rattle.fr_world.specs.Turns.{turn_of}
@@ -77,3 +82,29 @@ storage_world laws c h later tag n from t taken fault cells logs sequencers prox
     subst (λ x. IsWorld c x cells logs sequencers proxies recoverers (slice_set storages n s)) (sym entered)
     (subst (λ x. IsWorld c (StorageHeard tag from t taken fault ∷ h) cells logs sequencers proxies recoverers (slice_set storages x s)) (sym same)
     (storage_kept laws c h tag from t taken fault cells logs sequencers proxies recoverers storages s w is (heard ∙ ap (λ x. storage_hear taken x from t) old) works))
+
+-- ---- hears that break off
+
+none_is : (o : Option StorageFault) → not (is_some o) ≡ true → o ≡ None
+none_is None k = refl
+none_is (Some fault) k = absurd (cc)
+
+log_breaks : (s : StorageState) (e : ℕ) (u : LogTell) (version : ℕ) → (not (is_some (fault_of_log s e u)) && is_some (broken_at s.store (calls_of_log s e u) version)) ≡ true
+    → (fault_of_log s e u ≡ None) × IsSome (broken_at s.store (calls_of_log s e u) version)
+log_breaks s e u version k =
+    let p = and_parts (not (is_some (fault_of_log s e u))) (is_some (broken_at s.store (calls_of_log s e u) version)) k in
+    (none_is (fault_of_log s e u) p.0, p.1)
+
+-- a hear that can break off is not refused, and may come
+log_may : (s : StorageState) (e i : ℕ) (u : Tell) (version : ℕ) → breaks_in s e u version ≡ true → (fault_of s (node.Log e i) u ≡ None) × MayBreakIn s (node.Log e i) u version
+log_may s e i (tell.Log u) version k = let p = log_breaks s e u version k in (p.0, p)
+log_may s e i u version k = (refl, eqb-true version s.store.applied k)
+
+pub may_break_off : (s : StorageState) (from : NodeId) (u : Tell) (version : ℕ) → may_break s from u version ≡ true → (fault_of s from u ≡ None) × MayBreakIn s from u version
+may_break_off s (node.Log e i) u version k = log_may s e i u version k
+may_break_off s from u version k = (refl, eqb-true version s.store.applied k)
+
+-- the turn of a hear that broke off
+pub break_turn : (c : Config) (h : List Turn) (tag : ℕ) (from : NodeId) (t : Tell) (version : ℕ) → IsHeardBy c h (node.Storage tag) from t → may_break (storage_at c h tag) from t version ≡ true
+    → IsTurn c h (StorageHeard tag from t (Some version) (fault_of (storage_at c h tag) from t))
+break_turn c h tag from t version heard can = (heard, refl, (may_break_off (storage_at c h tag) from t version can).1)
