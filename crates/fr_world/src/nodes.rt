@@ -12,6 +12,7 @@ pub(crate) mod proxies;
 pub(crate) mod recoverers;
 mod recovering;
 pub(crate) mod sequencers;
+mod served;
 pub(crate) mod storages;
 
 use crate::config::Config;
