@@ -1,15 +1,22 @@
 //! Cells, logs and sequencers are asked.
-ghost use Rattle.std.specs.Prelude.{◌≡◌, IfOk, OnErr, OnOk};
+ghost use Rattle.std.specs.Prelude.{◌≡◌, ◌+◌, ◌<◌, ◌^◌, IfOk, OnErr, OnOk, Some};
 ghost use Rattle.fr_register.specs.Cell as cell;
+ghost use Rattle.fr_proxy.specs.Sequencer as seq;
+ghost use Rattle.fr_epoch.specs.Recoverer.{Plan};
 ghost use Rattle.fr_history.specs.Nodes as nodes;
 ghost use Rattle.fr_history.specs.Run.{IsTurn};
 ghost use Rattle.fr_history.specs.Turn as history;
 ghost use Rattle.fr_world.specs.World.{state_of, with_turn, IsKept};
 
-use super::Nodes;
 use super::cells::ask_cell;
+use super::sequencers::ask_sequencer;
+use super::{Nodes, after};
+use crate::start;
 use crate::turn::Turn;
-use fr_base::{Memory, NodeId};
+use fr_ask::{SeqAsk, SeqTell};
+use fr_base::{Epoch, Memory, NodeId, Version};
+use fr_epoch::Recoverer;
+use fr_epoch::laws::write_law;
 use fr_history::laws::node_laws;
 use fr_register::{CellAsk, CellTell};
 use std::alloc::Global;
@@ -41,5 +48,62 @@ impl Nodes {
             tell: told.kept,
         });
         Ok(told.handed)
+    }
+
+    /// A sequencer takes an ask.
+    pub(crate) fn ask_sequencer(
+        &mut self,
+        alloc: Global,
+        from: NodeId,
+        epoch: Epoch,
+        ask: SeqAsk,
+    ) -> Result<SeqTell, Memory>
+        requires kept { IsKept self.old }
+        requires turn { IsTurn (state_of self.old).config (state_of self.old).turns (history.SeqTurn from epoch ask (seq.answer_of (nodes.seq_at (state_of self.old).config (state_of self.old).turns epoch) ask)) }
+        ensures told { IfOk result (λ told. told ≡ seq.answer_of (nodes.seq_at (state_of self.old).config (state_of self.old).turns epoch) ask) }
+        ensures world { OnOk result (state_of self.new ≡ with_turn (state_of self.old) (history.SeqTurn from epoch ask (seq.answer_of (nodes.seq_at (state_of self.old).config (state_of self.old).turns epoch) ask))) }
+        ensures err { OnErr result (state_of self.new ≡ state_of self.old) }
+        ensures stays { IsKept self.new }
+    {
+        node_laws();
+        let last = self.mark_version(epoch);
+        self.turns.reserve(1)?;
+        let kept = ask;
+        let told = ask_sequencer(alloc, &mut self.sequencers, epoch, last, ask)?;
+        let tell = told;
+        self.turns.push_reserved(Turn::Sequencer {
+            from,
+            epoch,
+            ask: kept,
+            tell,
+        });
+        Ok(told)
+    }
+
+    /// The version of the mark of an epoch.
+    fn mark_version(&self, epoch: Epoch) -> Version
+        requires { IsKept self.now }
+        ensures { result ≡ nodes.mark_version (nodes.generation_at (state_of self.now).config (state_of self.now).turns epoch) }
+    {
+        node_laws();
+        write_law();
+        if epoch == start::first_epoch() {
+            return start::version_one();
+        }
+        match self.recoverers.get(&epoch.ballot()) {
+            Some(recoverer) => mark_version(recoverer),
+            None => start::version_one(),
+        }
+    }
+}
+
+/// The version of the mark of the generation that a recoverer is going to open.
+fn mark_version(recoverer: &Recoverer) -> Version
+    requires { (p : Plan) → recoverer.now.plan ≡ Some p → p.generation.seeded_to + 1 < 2 ^ 62 }
+    ensures { result ≡ nodes.mark_version (nodes.generation_in recoverer.now.plan) }
+{
+    match recoverer.generation() {
+        Some(generation) => after(generation.seeded_to()),
+        None => start::version_one(),
     }
 }
