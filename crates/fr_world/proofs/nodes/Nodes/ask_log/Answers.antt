@@ -1,12 +1,11 @@
-use Rattle.std.proofs.Common.{◌≡◌, ◌<◌, ap, sym, subst, ◌∙◌, List, [], ◌∷◌, ◌++◌}
+use Rattle.std.proofs.Common.{◌≡◌, ◌<◌, ap, sym, subst, ◌∙◌, [], ◌∷◌, ◌++◌}
 use Rattle.std.proofs.lemmas.Bool.{ltb-true}
 use Rattle.fr_log.specs.Step as log
-use Rattle.fr_log.specs.declared.ask.LogTell.{LogTell}
 use Rattle.fr_history.specs.Nodes as nodes
 use Rattle.fr_history.specs.Turn as history
 use Rattle.fr_world.specs.Parts.{IsWorld}
 use Rattle.fr_world.specs.Turns.{history_of}
-use Rattle.fr_world.specs.World.{WorldState, state_of}
+use Rattle.fr_world.specs.World.{WorldState}
 use Rattle.fr_world.specs.declared.turn.Turn.TheVariants as code
 use Rattle.fr_world.proofs.Histories.{history_push}
 use Rattle.fr_world.proofs.Asked.{log_told, log_world}
