@@ -4,3 +4,4 @@ pub mod Starts
 pub mod Keys
 pub mod Stands
 pub mod Kept
+pub mod Called
