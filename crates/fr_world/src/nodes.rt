@@ -13,8 +13,9 @@ pub(crate) mod sequencers;
 pub(crate) mod storages;
 
 use crate::config::Config;
+use crate::history;
+use crate::start;
 use crate::turn::Turn;
-use crate::{history, start};
 use fr_ask::{Ask, Tell};
 use fr_base::{Ballot, Epoch, Memory, NodeId, Version};
 use fr_epoch::Recoverer;
@@ -78,8 +79,7 @@ impl Nodes {
             NodeId::Cell { index } => index < self.config.coordinators(),
             NodeId::Log { epoch, index } => index < self.logs_of(epoch),
             NodeId::Sequencer { epoch } => self.is_open(epoch),
-            NodeId::Proxy { epoch, number } => self.is_open(epoch)
-                && number < self.config.proxies(),
+            NodeId::Proxy { epoch, number } => self.is_open(epoch) && number < self.config.proxies(),
             NodeId::Recoverer { ballot } => self.recoverers.get(&ballot).is_some(),
             NodeId::Storage { tag } => usize::from(tag.get()) < self.config.map().begins().len(),
         }

@@ -18,71 +18,25 @@ use fr_storage::StorageFault;
 #[derive(Debug, Drop)]
 pub enum Turn {
     /// A recoverer began.
-    Begun {
-        ballot: Ballot,
-        asks: Vec<(NodeId, Ask)>,
-    },
+    Begun { ballot: Ballot, asks: Vec<(NodeId, Ask)> },
     /// An ask came to a cell.
-    Cell {
-        from: NodeId,
-        index: u8,
-        ask: CellAsk,
-        tell: CellTell,
-    },
+    Cell { from: NodeId, index: u8, ask: CellAsk, tell: CellTell },
     /// An ask came to a log.
-    Log {
-        from: NodeId,
-        log: LogId,
-        ask: LogAsk,
-        tell: LogTell,
-    },
+    Log { from: NodeId, log: LogId, ask: LogAsk, tell: LogTell },
     /// An ask came to a sequencer.
-    Sequencer {
-        from: NodeId,
-        epoch: Epoch,
-        ask: SeqAsk,
-        tell: SeqTell,
-    },
+    Sequencer { from: NodeId, epoch: Epoch, ask: SeqAsk, tell: SeqTell },
     /// A proxy took a batch.
-    Submitted {
-        epoch: Epoch,
-        proxy: u8,
-        step: Step,
-        batch: Batch,
-        asks: Vec<(NodeId, Ask)>,
-    },
+    Submitted { epoch: Epoch, proxy: u8, step: Step, batch: Batch, asks: Vec<(NodeId, Ask)> },
     /// A tell came to a proxy.
-    Proxy {
-        epoch: Epoch,
-        proxy: u8,
-        from: NodeId,
-        tell: Tell,
-        outcome: Outcome,
-        asks: Vec<(NodeId, Ask)>,
-    },
+    Proxy { epoch: Epoch, proxy: u8, from: NodeId, tell: Tell, outcome: Outcome, asks: Vec<(NodeId, Ask)> },
     /// A tell came to a recoverer.
-    Recoverer {
-        ballot: Ballot,
-        from: NodeId,
-        tell: Tell,
-        asks: Vec<(NodeId, Ask)>,
-    },
+    Recoverer { ballot: Ballot, from: NodeId, tell: Tell, asks: Vec<(NodeId, Ask)> },
     /// A tell came to a storage server, which may have broken off its hear at a version, or refused it.
-    Storage {
-        tag: Tag,
-        from: NodeId,
-        tell: Tell,
-        taken: Option<Version>,
-        fault: Option<StorageFault>,
-    },
+    Storage { tag: Tag, from: NodeId, tell: Tell, taken: Option<Version>, fault: Option<StorageFault> },
     /// A sequencer, proxy or recoverer crashed, or a log was lost.
-    Gone {
-        node: NodeId,
-    },
+    Gone { node: NodeId },
     /// Another node crashed, and stands as it was.
-    Crashed {
-        node: NodeId,
-    },
+    Crashed { node: NodeId },
 }
 
 impl Turn {
@@ -91,20 +45,12 @@ impl Turn {
         ensures { result ≡ history.actor_of (turn_of self.now) }
     {
         match self {
-            Turn::Begun { ballot, .. } | Turn::Recoverer { ballot, .. } => NodeId::Recoverer {
-                ballot: *ballot,
-            },
+            Turn::Begun { ballot, .. } | Turn::Recoverer { ballot, .. } => NodeId::Recoverer { ballot: *ballot },
             Turn::Cell { index, .. } => NodeId::Cell { index: *index },
-            Turn::Log { log, .. } => NodeId::Log {
-                epoch: log.epoch,
-                index: log.index,
-            },
+            Turn::Log { log, .. } => NodeId::Log { epoch: log.epoch, index: log.index },
             Turn::Sequencer { epoch, .. } => NodeId::Sequencer { epoch: *epoch },
             Turn::Submitted { epoch, proxy, .. } | Turn::Proxy { epoch, proxy, .. } => {
-                NodeId::Proxy {
-                    epoch: *epoch,
-                    number: *proxy,
-                }
+                NodeId::Proxy { epoch: *epoch, number: *proxy }
             }
             Turn::Storage { tag, .. } => NodeId::Storage { tag: *tag },
             Turn::Gone { node } | Turn::Crashed { node } => *node,
@@ -146,30 +92,15 @@ impl Turn {
         ensures { result ≡ tests.tells by to tell.now (turn_of self.now) }
     {
         match (self, tell) {
-            (
-                Turn::Cell {
-                    from,
-                    tell: told,
-                    ..
-                },
-                Tell::Cell(tell),
-            ) => { self.node().is_same(by) && (from.is_same(to) && told == tell) }
-            (
-                Turn::Log {
-                    from,
-                    tell: told,
-                    ..
-                },
-                Tell::Log(tell),
-            ) => { self.node().is_same(by) && (from.is_same(to) && told == tell) }
-            (
-                Turn::Sequencer {
-                    from,
-                    tell: told,
-                    ..
-                },
-                Tell::Seq(tell),
-            ) => { self.node().is_same(by) && (from.is_same(to) && told == tell) }
+            (Turn::Cell { from, tell: told, .. }, Tell::Cell(tell)) => {
+                self.node().is_same(by) && (from.is_same(to) && told == tell)
+            }
+            (Turn::Log { from, tell: told, .. }, Tell::Log(tell)) => {
+                self.node().is_same(by) && (from.is_same(to) && told == tell)
+            }
+            (Turn::Sequencer { from, tell: told, .. }, Tell::Seq(tell)) => {
+                self.node().is_same(by) && (from.is_same(to) && told == tell)
+            }
             _ => false,
         }
     }
