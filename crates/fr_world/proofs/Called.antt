@@ -1,5 +1,5 @@
 -- What a world keeps, once a proxy is kept from its first call on, and after the turns of proxies.
-use Rattle.std.proofs.Common.{◌≡◌, ◌≢◌, ℕ, ◌<◌, Bool, true, false, cond, ◌==◌, ◌&&◌, ◌||◌, ◌-◌, nat_lt, List, [], ◌∷◌, Option, None, Some, option_map, refl, sym, ◌∙◌, ap, subst, arith}
+use Rattle.std.proofs.Common.{◌≡◌, ◌≢◌, ℕ, ◌<◌, Bool, true, false, cond, ◌==◌, ◌&&◌, ◌||◌, ◌-◌, not, nat_lt, List, [], ◌∷◌, Option, None, Some, option_map, refl, sym, ◌∙◌, ap, subst, arith}
 use Rattle.std.specs.Prelude.{unwrap_or, IsSome, IfSome, is_some}
 use Rattle.std.specs.Ordering.{nat_cmp, ordering_then, is_eq}
 use Rattle.std.specs.declared.cmp.Ordering.{Ordering}
@@ -8,6 +8,10 @@ use Rattle.std.specs.BTreeMap as tree
 use Rattle.std.proofs.lemmas.Bool.{and_parts, eqb-true, eq-eqb, ltb-true}
 use Rattle.fr_base.proofs.MapLemmas.{one_key}
 use Rattle.fr_base.specs.declared.place.NodeId.{NodeId}
+use Rattle.fr_base.specs.declared.place.NodeId.TheVariants as node
+use Rattle.fr_mutation.specs.declared.mutation.Mutation.{Mutation}
+use Rattle.fr_ask.specs.declared.ask.Ask.{Ask}
+use Rattle.fr_proxy.specs.declared.fault.SubmitFault.TheVariants.{TwoOpen, Over}
 use Rattle.fr_register.specs.CellState.{CellState}
 use Rattle.fr_ask.specs.declared.tell.Tell.{Tell}
 use Rattle.fr_state.specs.Generations.{LogGeneration}
@@ -17,9 +21,10 @@ use Rattle.fr_proxy.specs.declared.outcome.Outcome.{Outcome}
 use Rattle.fr_epoch.specs.Recoverer.{RecState, Plan}
 use Rattle.fr_history.specs.Config.{Config, first_epoch, first_generation}
 use Rattle.fr_history.specs.Turn.{Turn, Sending, Submitted, ProxyHeard}
-use Rattle.fr_history.specs.Nodes.{rec_at, plan_in, plan_at, generation_in, generation_at, is_open, is_open_in, new_proxy_in, proxy_at}
-use Rattle.fr_history.specs.Run.{IsTurn, IsRun}
+use Rattle.fr_history.specs.Nodes.{rec_at, plan_in, plan_at, generation_in, generation_at, is_open, is_open_in, new_proxy_in, proxy_from, proxy_at}
+use Rattle.fr_history.specs.Run.{IsUp, IsTurn, IsRun}
 use Rattle.fr_history.specs.Laws.{Laws}
+use Rattle.fr_history.proofs.ByTurn.{proxy_by_turn}
 use Rattle.fr_history.proofs.Growth.{opener, open_generation}
 use Rattle.fr_world.specs.Parts.{pair_cmp, Logs, Sequencers, Proxies, Recoverers, Storages, AreProxies, IsWorld, new_proxy}
 use Rattle.fr_world.specs.World.{WorldState}
@@ -200,3 +205,73 @@ heard_world laws c h later e p by from t outcome asks cells logs sequencers prox
 
     own : (q : ℕ × ℕ) → tree.get pair_cmp new q ≡ cond (tree.is_at (pair_cmp (e, p)) q) (option_map (λ s. proxy.after_hear s from t) (tree.get pair_cmp proxies (e, p))) (tree.get pair_cmp proxies q)
     own = subst (λ x. (q : ℕ × ℕ) → tree.get pair_cmp new q ≡ cond (tree.is_at (pair_cmp (e, p)) q) (option_map (λ s. proxy.after_hear s x t) (tree.get pair_cmp proxies (e, p))) (tree.get pair_cmp proxies q)) named put
+
+-- ---- a proxy takes a batch
+
+-- a proxy is of its epoch
+pub proxy_epoch : Laws → (c : Config) (h : List Turn) (e p : ℕ) → (proxy_at c h e p).epoch ≡ e
+proxy_epoch laws c h e p = after h ∙ made (generation_at c h e)
+  where
+    s : ProxyState
+    s = new_proxy_in c (generation_at c h e) e p
+
+    made : (o : Option LogGeneration) → (new_proxy_in c o e p).epoch ≡ e
+    made None = refl
+    made (Some g) = refl
+
+    after : (k : List Turn) → (proxy_from s k e p).epoch ≡ s.epoch
+    after [] = refl
+    after (t ∷ k) = let before = after k in proxy_by_turn t e p (proxy_from s k e p) (λ q. q.epoch ≡ s.epoch) before (λ step batch. before) (λ from u. (laws.proxy_hear (proxy_from s k e p) from u).epoch ∙ before)
+
+-- one that has no reason against a batch takes it
+pub may_take : (s : ProxyState) → proxy.submit_fault s ≡ None → proxy.takes_batch s ≡ true
+may_take s = go (is_some s.under_way) (proxy.is_over s)
+  where
+    go : (a b : Bool) → cond a (Some TwoOpen) (cond b (Some Over) None) ≡ None → (not a && not b) ≡ true
+    go true b k = absurd (cc)
+    go false true k = absurd (cc)
+    go false false k = refl
+
+abbrev pub taken_in : WorldState → ℕ → ℕ → ℕ → List Mutation → Turn
+taken_in w e p step batch = Submitted e p step batch (proxy.number_ask (proxy_at w.config w.turns e p) (proxy.opened (proxy_at w.config w.turns e p) step batch) ∷ [])
+
+pub up_same : (w v : WorldState) → w ≡ v → (who : NodeId) → IsUp v.config v.turns who → IsUp w.config w.turns who
+up_same w v same who up = subst (λ x. IsUp x.config x.turns who) (sym same) up
+
+pub up_open : (c : Config) (h : List Turn) (e p : ℕ) → IsUp c h (node.Proxy e p) → is_open c h e ≡ true
+up_open c h e p up = let there = and_parts (is_open c h e) (nat_lt p c.proxies) up.there in there.0
+
+-- the turn as the code enters it
+pub taken_entered : Laws → (c : Config) (h : List Turn) (e p step : ℕ) (batch kept given : List Mutation) (a : Ask) (proxies : Proxies) → AreProxies c h proxies → is_open c h e ≡ true → IsSome (tree.get pair_cmp proxies (e, p))
+    → kept ≡ batch → given ≡ batch → IfSome (tree.get pair_cmp proxies (e, p)) (λ s. a ≡ (proxy.number_ask s (proxy.opened s step given)).1)
+    → Submitted e p step kept ((node.Sequencer e, a) ∷ []) ≡ Submitted e p step batch (proxy.number_ask (proxy_at c h e p) (proxy.opened (proxy_at c h e p) step batch) ∷ [])
+taken_entered laws c h e p step batch kept given a proxies are open' some same copied asks =
+    let s = proxy_at c h e p in
+    let b : a ≡ (proxy.number_ask s (proxy.opened s step batch)).1 = proxy_is c h proxies are e p open' (λ s. a ≡ (proxy.number_ask s (proxy.opened s step given)).1) some asks in
+    ap (λ x. Submitted e p step x ((node.Sequencer e, a) ∷ [])) same
+    ∙ (ap (λ x. Submitted e p step batch ((node.Sequencer e, x) ∷ [])) b ∙ ap (λ x. Submitted e p step batch ((node.Sequencer x, (proxy.number_ask s (proxy.opened s step batch)).1) ∷ [])) (sym (proxy_epoch laws c h e p)))
+
+pub taken_world : Laws → (c : Config) (h later : List Turn) (e p step : ℕ) (batch given : List Mutation) (asks : List Sending) (cells : List CellState) (logs : Logs) (sequencers : Sequencers) (proxies new : Proxies) (recoverers : Recoverers) (storages : Storages)
+    → IsWorld c h cells logs sequencers proxies recoverers storages → IsTurn c h (Submitted e p step batch asks) → IsSome (tree.get pair_cmp proxies (e, p)) → given ≡ batch
+    → ((q : ℕ × ℕ) → tree.get pair_cmp new q ≡ cond (tree.is_at (pair_cmp (e, p)) q) (option_map (λ s. proxy.submitted s step given) (tree.get pair_cmp proxies (e, p))) (tree.get pair_cmp proxies q))
+    → later ≡ Submitted e p step batch asks ∷ h → IsWorld c later cells logs sequencers new recoverers storages
+taken_world laws c h later e p step batch given asks cells logs sequencers proxies new recoverers storages w is some copied put entered =
+    subst (λ x. IsWorld c x cells logs sequencers new recoverers storages) (sym entered) (record {
+      within = w.within;
+      run = (is, w.run);
+      cells_are = record { all = w.cells_are.all; each = w.cells_are.each };
+      logs_are = logs_next laws c h turn w.run is logs logs w.logs_are (record { each = λ x i l. refl; there = w.logs_are.there });
+      sequencers_are = sequencers_next laws c h turn w.run is sequencers sequencers w.sequencers_are (record { each = λ x o. refl; there = w.sequencers_are.there });
+      proxies_are = proxies_next laws c h turn w.run is proxies new w.proxies_are (record {
+        each = λ x n o. one_called e p (λ s. proxy.submitted s step batch) proxies new some own x n (new_proxy c h x n);
+        there = called_there c h e p (λ s. proxy.submitted s step batch) proxies new w.proxies_are (up_open c h e p is.0) own;
+      });
+      recoverers_are = w.recoverers_are;
+      storages_are = record { all = w.storages_are.all; each = w.storages_are.each; work = w.storages_are.work };
+    })
+  where
+    turn : Turn
+    turn = Submitted e p step batch asks
+
+    own : (q : ℕ × ℕ) → tree.get pair_cmp new q ≡ cond (tree.is_at (pair_cmp (e, p)) q) (option_map (λ s. proxy.submitted s step batch) (tree.get pair_cmp proxies (e, p))) (tree.get pair_cmp proxies q)
+    own = subst (λ x. (q : ℕ × ℕ) → tree.get pair_cmp new q ≡ cond (tree.is_at (pair_cmp (e, p)) q) (option_map (λ s. proxy.submitted s step x) (tree.get pair_cmp proxies (e, p))) (tree.get pair_cmp proxies q)) copied put

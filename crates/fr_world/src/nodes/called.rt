@@ -1,24 +1,28 @@
 //! Proxies are told, and given batches.
-ghost use Rattle.std.specs.Prelude.{◌≡◌, ◌≤◌, ◌-◌, true, IfOk, IfSome, IsSome, OnErr, OnOk};
+ghost use Rattle.std.specs.Prelude.{◌≡◌, ◌≢◌, ◌≤◌, ◌<◌, ◌-◌, ◌∷◌, [], true, None, Some, IfErr, IfOk, IfSome, IsSome, OnErr, OnOk};
+ghost use Rattle.std.specs.Vec.{vec_len, vec_capacity};
 ghost use Rattle.std.specs.BTreeMap as tree;
 ghost use Rattle.fr_proxy.specs.Proxy as proxy;
-ghost use Rattle.fr_proxy.specs.Proxy.{outcome_of, new_asks};
+ghost use Rattle.fr_proxy.specs.Proxy.{new_asks, number_ask, opened, outcome_of, submit_fault};
+ghost use Rattle.fr_proxy.specs.declared.fault.SubmitFault.TheVariants as SubmitFault;
+ghost use Rattle.fr_base.specs.declared.place.NodeId.TheVariants as node;
 ghost use Rattle.fr_history.specs.Nodes as nodes;
-ghost use Rattle.fr_history.specs.Run.{IsTurn};
+ghost use Rattle.fr_history.specs.Run.{IsTurn, IsUp};
 ghost use Rattle.fr_history.specs.Turn as history;
 ghost use Rattle.fr_world.specs.Parts.{new_proxy, pair_cmp};
 ghost use Rattle.fr_world.specs.Turns.{turn_of};
 ghost use Rattle.fr_world.specs.World.{state_of, with_turn, IsKept};
 
 use super::Nodes;
-use super::proxies::{keep_proxy, tell_proxy};
+use super::proxies::{keep_proxy, submit, tell_proxy};
 use crate::start::first_epoch;
 use crate::turn::Turn;
 use fr_ask::{Ask, Tell};
-use fr_base::{Epoch, Memory, NodeId, Version};
+use fr_base::{Epoch, Memory, NodeId, Step, Version};
 use fr_epoch::Recoverer;
 use fr_history::laws::node_laws;
-use fr_proxy::{Outcome, Proxy};
+use fr_mutation::Batch;
+use fr_proxy::{Outcome, Proxy, SubmitFault};
 use fr_tags::ShardMap;
 use std::alloc::Global;
 
@@ -48,6 +52,38 @@ impl Nodes {
         self.turns
             .push_reserved(heard(epoch, proxy, from, kept, &outcome, asks));
         Ok(outcome)
+    }
+
+    /// A proxy is given a batch. It takes it, or refuses it for its reason; want of memory can come before either.
+    pub(crate) fn submit(
+        &mut self,
+        alloc: Global,
+        epoch: Epoch,
+        proxy: u8,
+        step: Step,
+        batch: &Batch,
+    ) -> Result<(), SubmitFault>
+        requires kept { IsKept self.old }
+        requires up { IsUp (state_of self.old).config (state_of self.old).turns (node.Proxy epoch proxy) }
+        requires step { 1 ≤ step }
+        ensures taken { OnOk result (submit_fault (nodes.proxy_at (state_of self.old).config (state_of self.old).turns epoch proxy) ≡ None) }
+        ensures world { OnOk result (state_of self.new ≡ with_turn (state_of self.old) (history.Submitted epoch proxy step batch.now (number_ask (nodes.proxy_at (state_of self.old).config (state_of self.old).turns epoch proxy) (opened (nodes.proxy_at (state_of self.old).config (state_of self.old).turns epoch proxy) step batch.now) ∷ []))) }
+        ensures fault { IfErr result (λ fault. fault ≢ SubmitFault.Memory → submit_fault (nodes.proxy_at (state_of self.old).config (state_of self.old).turns epoch proxy) ≡ Some fault) }
+        ensures err { OnErr result (state_of self.new ≡ state_of self.old) }
+        ensures stays { IsKept self.new }
+    {
+        node_laws();
+        self.keep_proxy_of(epoch, proxy)?;
+        if self.turns.reserve(1).is_err() {
+            return Err(SubmitFault::Memory);
+        }
+        let kept = batch.copy()?;
+        let given = batch.copy()?;
+        let room = room(alloc)?;
+        let ask = submit(&mut self.proxies, (epoch, proxy), step, given)?;
+        self.turns
+            .push_reserved(taken(epoch, proxy, step, kept, ask, room));
+        Ok(())
     }
 
     /// Keeps a proxy of an open epoch from now on. Want of memory changes nothing.
@@ -110,6 +146,40 @@ fn heard(
         from,
         tell,
         outcome: *outcome,
+        asks,
+    }
+}
+
+/// Room for one ask.
+fn room(alloc: Global) -> Result<Vec<(NodeId, Ask)>, Memory>
+    ensures empty { IfOk result (λ asks. asks.items ≡ []) }
+    ensures room { IfOk result (λ asks. vec_len asks < vec_capacity asks) }
+{
+    let mut asks = Vec::new(alloc);
+    asks.reserve(1)?;
+    Ok(asks)
+}
+
+/// The turn of a proxy that took a batch, and asks its sequencer.
+fn taken(
+    epoch: Epoch,
+    proxy: u8,
+    step: Step,
+    batch: Batch,
+    ask: Ask,
+    asks: Vec<(NodeId, Ask)>,
+) -> Turn
+    requires empty { asks.items ≡ [] }
+    requires room { vec_len asks < vec_capacity asks }
+    ensures { turn_of result ≡ history.Submitted epoch proxy step batch ((node.Sequencer epoch, ask) ∷ []) }
+{
+    let mut asks = asks;
+    asks.push_reserved((NodeId::Sequencer { epoch }, ask));
+    Turn::Submitted {
+        epoch,
+        proxy,
+        step,
+        batch,
         asks,
     }
 }
