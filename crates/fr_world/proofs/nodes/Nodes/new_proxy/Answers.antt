@@ -1,10 +1,9 @@
-use Rattle.std.proofs.Common.{◌≡◌, ℕ, ◌==◌, ◌-◌, false, Some, ap, sym, ◌∙◌, subst}
+use Rattle.std.proofs.Common.{◌≡◌, ◌==◌, ◌-◌, false, Some, ap, sym, ◌∙◌, subst}
 use Rattle.std.specs.Prelude.{IfSome}
 use Rattle.fr_proxy.specs.Proxy as proxy
 use Rattle.std.specs.Ordering.{nat_cmp}
 use Rattle.std.specs.BTreeMap as tree
 use Rattle.fr_history.specs.Config.{first_epoch}
-use Rattle.fr_history.specs.Nodes.{rec_at}
 use Rattle.fr_world.specs.Turns.{history_of}
 use Rattle.fr_world.proofs.Called.{open_plan, made_proxy}
 use Rattle.fr_world.proofs.nodes.Nodes.new_proxy.Goals as goal

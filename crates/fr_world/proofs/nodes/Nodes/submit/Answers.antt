@@ -1,4 +1,4 @@
-use Rattle.std.proofs.Common.{◌≡◌, ap, sym, ◌∙◌, List, [], ◌∷◌, ◌++◌, None, refl}
+use Rattle.std.proofs.Common.{◌≡◌, ap, ◌∙◌, [], ◌∷◌, ◌++◌, None, refl}
 use Rattle.fr_base.specs.declared.place.NodeId.TheVariants as node
 use Rattle.fr_proxy.specs.Proxy as proxy
 use Rattle.fr_history.specs.Nodes.{proxy_at}

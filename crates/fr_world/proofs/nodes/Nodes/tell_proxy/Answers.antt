@@ -1,4 +1,4 @@
-use Rattle.std.proofs.Common.{◌≡◌, ap, sym, ◌∙◌, List, [], ◌∷◌, ◌++◌}
+use Rattle.std.proofs.Common.{◌≡◌, ap, ◌∙◌, [], ◌∷◌, ◌++◌}
 use Rattle.fr_proxy.specs.Proxy as proxy
 use Rattle.fr_history.specs.Nodes.{proxy_at}
 use Rattle.fr_history.specs.Turn.{ProxyHeard}
