@@ -10,3 +10,4 @@ pub mod Recovering
 pub mod Ups
 pub mod Served
 pub mod Asked
+pub mod Called

@@ -5,6 +5,7 @@ ghost use Rattle.fr_event.specs.Tests as tests;
 ghost use Rattle.fr_world.specs.World.{state_of, IsKept};
 
 mod asked;
+mod called;
 pub(crate) mod cells;
 mod leaving;
 pub(crate) mod logs;
