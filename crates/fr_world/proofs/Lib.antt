@@ -8,3 +8,4 @@ pub mod Quiet
 pub mod Leaving
 pub mod Recovering
 pub mod Ups
+pub mod Hears
