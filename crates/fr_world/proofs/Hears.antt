@@ -1,6 +1,6 @@
 -- The turn in which a recoverer hears.
-use Rattle.std.proofs.Common.{◌≡◌, ℕ, Bool, true, false, cond, not, List, Option, None, Some, refl, sym, ◌∙◌, ap, subst}
-use Rattle.std.specs.Prelude.{IfSome, is_some, Result, Ok, Err}
+use Rattle.std.proofs.Common.{◌≡◌, ℕ, true, false, Option, None, Some, refl, ◌∙◌, ap}
+use Rattle.std.specs.Prelude.{IfSome, is_some}
 use Rattle.fr_base.specs.declared.place.NodeId.{NodeId}
 use Rattle.fr_base.specs.declared.place.NodeId.TheVariants as node
 use Rattle.fr_ask.specs.declared.tell.Tell.{Tell}
@@ -9,12 +9,11 @@ use Rattle.fr_epoch.specs.Asks.{new_asks}
 use Rattle.fr_history.specs.Turn.{RecHeard}
 use Rattle.fr_history.specs.Nodes.{rec_at}
 use Rattle.fr_history.specs.Run.{IsTurn}
-use Rattle.fr_event.specs.declared.answer.Answer.TheVariants as answer
 use Rattle.fr_event.specs.declared.event.Event.TheVariants.{Hear}
 use Rattle.fr_event.specs.Law.{EventIsTurn}
 use Rattle.fr_event.specs.Step.{if_told, heard_by_rec, heard_by}
 use Rattle.fr_event.specs.Tests.{was_told}
-use Rattle.fr_world.specs.World.{WorldState, next_turn, with_turn, stepped, stepped_by}
+use Rattle.fr_world.specs.World.{WorldState, next_turn}
 use Rattle.fr_world.specs.Stepping.{why_not_up}
 use Rattle.fr_world.proofs.Ups.{up_turn}
 
