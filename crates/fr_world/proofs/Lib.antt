@@ -11,3 +11,4 @@ pub mod Ups
 pub mod Served
 pub mod Asked
 pub mod Called
+pub mod Hears
