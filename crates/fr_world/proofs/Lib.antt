@@ -9,3 +9,4 @@ pub mod Leaving
 pub mod Recovering
 pub mod Ups
 pub mod Served
+pub mod Heard

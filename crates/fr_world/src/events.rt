@@ -3,6 +3,8 @@ ghost use Rattle.std.specs.Prelude.{◌≡◌, Some};
 ghost use Rattle.fr_world.specs.Stepping.{why_not_up};
 ghost use Rattle.fr_world.specs.World.{state_of, IsKept};
 
+mod served;
+
 use crate::nodes::Nodes;
 use fr_base::NodeId;
 use fr_event::NotEnabled;
