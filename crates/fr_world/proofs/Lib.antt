@@ -12,3 +12,4 @@ pub mod Served
 pub mod Asked
 pub mod Called
 pub mod Hears
+pub mod Heard
