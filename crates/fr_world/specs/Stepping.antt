@@ -1,5 +1,5 @@
 -- What stands in the way of an event.
-use Rattle.std.specs.Prelude.{◌≡◌, ◌≢◌, Bool, not, List, Option, None, Some, Result, Ok, Err, if◌then◌else◌, IfOk, IfErr}
+use Rattle.std.specs.Prelude.{◌≡◌, ◌≢◌, Bool, not, List, Option, None, Some, Result, Ok, Err, if◌then◌else◌, IfOk, IfErr, unwrap_or}
 use Rattle.fr_base.specs.declared.place.NodeId.{NodeId}
 use Rattle.fr_history.specs.Config.{Config}
 use Rattle.fr_history.specs.Turn.{Turn}
@@ -22,3 +22,7 @@ Steps old new event result = IfOk result (λ answer. stepped old event ≡ Ok (n
 -- a refusal of an event, want of memory aside, is that of its definition
 abbrev pub Refuses : WorldState → Event → Result Answer NotEnabled → Type 0
 Refuses old event result = IfErr result (λ why. why ≢ not_enabled.Memory → next_turn old event ≡ Err why)
+
+-- why a node that is told nothing hears nothing
+abbrev pub why_unheard : WorldState → NodeId → NotEnabled
+why_unheard w who = unwrap_or (why_not_up w who) not_enabled.NeverSent

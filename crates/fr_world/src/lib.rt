@@ -7,7 +7,9 @@ mod events;
 mod fault;
 mod history;
 mod nodes;
+mod replay;
 mod start;
+mod step;
 mod turn;
 mod world;
 

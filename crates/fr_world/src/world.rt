@@ -1,5 +1,8 @@
 //! A world of nodes.
-ghost use Rattle.std.specs.Prelude.{◌≡◌, [], IfOk};
+ghost use Rattle.std.specs.Prelude.{◌≡◌, ℕ, [], IfOk, OnErr};
+ghost use Rattle.fr_follows.specs.Committed.{AcknowledgedIsNeverUndone, IsFollowing, RolledBackIsExact};
+ghost use Rattle.fr_history.specs.Run.{IsRun};
+ghost use Rattle.fr_world.specs.Stepping.{Steps, Refuses};
 ghost use Rattle.fr_history.specs.Nodes as nodes;
 ghost use Rattle.fr_event.specs.Tests as tests;
 
@@ -7,6 +10,8 @@ use crate::config::Config;
 use crate::nodes::Nodes;
 use fr_ask::{Ask, Tell};
 use fr_base::{Memory, NodeId};
+use fr_event::{Answer, Event, NotEnabled};
+use fr_follows::laws::{follow_law, headline_law};
 use std::alloc::Global;
 use std::marker::Model;
 
@@ -36,6 +41,24 @@ impl World {
         Ok(World {
             nodes: Nodes::start(alloc, config)?,
         })
+    }
+
+    /// Makes the turn that an event is: it answers what the turn gave, and adds it to what happened. An event that
+    /// cannot happen is refused, for the first of the reasons in the order of `NotEnabled`, and changes nothing; so
+    /// does want of memory. In the world that it leaves, a storage server that has just rolled back holds exactly
+    /// its shard of the map given by the committed batches through its applied version, which is at most the
+    /// recovery version; no acknowledged commit is ever undone; and every storage server follows.
+    pub fn step(&mut self, alloc: Global, event: &Event) -> Result<Answer, NotEnabled>
+        ensures turn { Steps self.old self.new event.now result }
+        ensures refused { Refuses self.old event.now result }
+        ensures err { OnErr result (self.new ≡ self.old) }
+        ensures run { IsRun self.new.config self.new.turns }
+        ensures headline { RolledBackIsExact self.new.config self.new.turns × AcknowledgedIsNeverUndone self.new.config self.new.turns }
+        ensures follows { (tag : ℕ) → IsFollowing self.new.config self.new.turns tag (nodes.storage_at self.new.config self.new.turns tag) }
+    {
+        headline_law();
+        follow_law();
+        self.nodes.step(alloc, event)
     }
 
     /// What it started from.
