@@ -25,7 +25,7 @@ heard_turn w b from t taken o is up told none =
     ∙ (ap (λ s. if_told s (heard_by_rec b from t taken (rec_at w.config w.turns b))) told
     ∙ (ap (λ x. heard_by_rec b from t x (rec_at w.config w.turns b)) none ∙ ap (λ r. heard_by_rec b from t None r) is))
 
-no_version : (o : Option ℕ) → is_some o ≡ false → o ≡ None
+pub no_version : (o : Option ℕ) → is_some o ≡ false → o ≡ None
 no_version None e = refl
 no_version (Some version) e = absurd (cc)
 

@@ -5,6 +5,7 @@ ghost use Rattle.fr_world.specs.World.{state_of, IsKept};
 
 mod ballots;
 mod leaving;
+mod proxies;
 mod served;
 
 use crate::nodes::Nodes;
