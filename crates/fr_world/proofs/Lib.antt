@@ -13,3 +13,4 @@ pub mod Asked
 pub mod Called
 pub mod Hears
 pub mod Heard
+pub mod Delivered
