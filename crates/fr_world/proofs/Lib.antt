@@ -14,3 +14,4 @@ pub mod Called
 pub mod Hears
 pub mod Heard
 pub mod ToProxies
+pub mod Delivered

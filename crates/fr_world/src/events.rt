@@ -4,6 +4,7 @@ ghost use Rattle.fr_world.specs.Stepping.{why_not_up};
 ghost use Rattle.fr_world.specs.World.{state_of, IsKept};
 
 mod ballots;
+mod delivered;
 mod leaving;
 mod proxies;
 mod served;
