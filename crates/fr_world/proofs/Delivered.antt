@@ -1,6 +1,6 @@
 -- An ask comes to a node that nothing stands in the way of.
 use Rattle.std.proofs.Common.{◌≡◌, ℕ, Bool, true, false, List, None, ◌∙◌, ap, subst, sym}
-use Rattle.std.specs.Prelude.{Ok, ◌||◌}
+use Rattle.std.specs.Prelude.{◌||◌}
 use Rattle.fr_ask.specs.declared.ask.Ask.{Ask}
 use Rattle.fr_ask.specs.declared.ask.Ask.TheVariants as ask
 use Rattle.fr_ask.specs.declared.sequencer.SeqAsk.{SeqAsk}
@@ -11,7 +11,7 @@ use Rattle.fr_register.specs.declared.ask.CellAsk.{CellAsk}
 use Rattle.fr_log.specs.Step as log
 use Rattle.fr_log.specs.declared.ask.LogAsk.{LogAsk}
 use Rattle.fr_proxy.specs.Sequencer as seq
-use Rattle.fr_history.specs.Turn.{Turn, CellTurn, LogTurn, SeqTurn}
+use Rattle.fr_history.specs.Turn.{CellTurn, LogTurn, SeqTurn}
 use Rattle.fr_history.specs.Nodes.{cell_at, log_at, seq_at}
 use Rattle.fr_history.specs.Run.{IsTurn, WantsSome}
 use Rattle.fr_event.specs.declared.event.Event.TheVariants.{Deliver}

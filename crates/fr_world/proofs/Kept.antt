@@ -1,21 +1,17 @@
 -- What a world keeps is kept at the turns of its nodes.
-use Rattle.std.proofs.Common.{◌≡◌, ◌≢◌, ℕ, ◌<◌, Bool, true, false, cond, ◌==◌, List, [], ◌∷◌, Option, None, Some, refl, sym, ◌∙◌, ap, subst, length, slice_set, slice_index_or, arith}
-use Rattle.std.specs.Prelude.{slice_get, unwrap_or, IsSome}
-use Rattle.std.specs.Ordering.{nat_cmp}
-use Rattle.std.specs.BTreeMap as tree
+use Rattle.std.proofs.Common.{◌≡◌, ◌≢◌, ℕ, ◌<◌, Bool, true, false, cond, ◌==◌, List, ◌∷◌, refl, sym, ◌∙◌, ap, subst, slice_set, slice_index_or}
 use Rattle.std.proofs.lemmas.Bool.{eqb-true, eq-eqb}
 use Rattle.std.proofs.lemmas.List.{length-set}
 use Rattle.std.proofs.lemmas.Option.{slice_get-get_or}
 use Rattle.fr_base.specs.declared.place.NodeId.{NodeId}
 use Rattle.fr_register.specs.CellState.{CellState, fresh_cell}
 use Rattle.fr_register.specs.Cell as cell
-use Rattle.fr_register.specs.History as register
 use Rattle.fr_register.specs.declared.ask.CellAsk.{CellAsk}
 use Rattle.fr_register.specs.declared.ask.CellTell.{CellTell}
 use Rattle.fr_history.specs.Config.{Config}
-use Rattle.fr_history.specs.Turn.{Turn, CellTurn, cell_turns}
+use Rattle.fr_history.specs.Turn.{Turn, CellTurn}
 use Rattle.fr_history.specs.Nodes.{cell_at}
-use Rattle.fr_history.specs.Run.{IsTurn, IsRun}
+use Rattle.fr_history.specs.Run.{IsTurn}
 use Rattle.fr_history.specs.Laws.{Laws}
 use Rattle.fr_world.specs.Parts.{IsWorld, AreCells, Logs, Sequencers, Proxies, Recoverers, Storages}
 use Rattle.fr_world.specs.declared.turn.Turn.TheVariants as code

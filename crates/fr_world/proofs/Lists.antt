@@ -1,5 +1,5 @@
 -- What is true of each item of a list by its place, as an item is added at the end or set.
-use Rattle.std.proofs.Common.{◌≡◌, ◌≢◌, ℕ, zero, suc, ◌+◌, ◌<◌, List, [], ◌∷◌, ◌++◌, Option, None, Some, refl, sym, ◌∙◌, ap, subst, length, slice_set, arith}
+use Rattle.std.proofs.Common.{◌≡◌, ◌≢◌, ℕ, zero, suc, List, [], ◌∷◌, ◌++◌, Some, subst, length, slice_set, arith}
 use Rattle.std.specs.Prelude.{slice_get}
 
 module _ {X : Type 0} where

@@ -1,6 +1,6 @@
 -- Logs, sequencers and proxies that a world keeps, after a turn: those that it changes, those that stand, and those that are there only now.
-use Rattle.std.proofs.Common.{◌≡◌, ◌≢◌, ℕ, ◌<◌, ◌≤◌, Bool, true, false, cond, ◌==◌, ◌&&◌, ◌||◌, not, List, [], ◌∷◌, Option, None, Some, refl, sym, ◌∙◌, ap, subst, arith}
-use Rattle.std.specs.Prelude.{IsSome, is_some, unwrap_or, length, nat_lt}
+use Rattle.std.proofs.Common.{◌≡◌, ℕ, ◌<◌, Bool, true, false, cond, ◌==◌, ◌&&◌, List, [], ◌∷◌, Option, None, Some, refl, sym, ◌∙◌, ap, subst, arith}
+use Rattle.std.specs.Prelude.{IsSome, unwrap_or, nat_lt}
 use Rattle.std.specs.Ordering.{nat_cmp}
 use Rattle.std.specs.BTreeMap as tree
 use Rattle.std.proofs.lemmas.Bool.{and_parts, eqb-true, ltb-true, ltb-false}
@@ -11,10 +11,10 @@ use Rattle.fr_proxy.specs.Proxy.{ProxyState}
 use Rattle.fr_proxy.specs.Proxy as proxy
 use Rattle.fr_history.specs.Config.{Config}
 use Rattle.fr_history.specs.Turn.{Turn, Begun, CellTurn, LogTurn, SeqTurn, Submitted, ProxyHeard, RecHeard, StorageHeard, Gone, Crashed}
-use Rattle.fr_history.specs.Nodes.{is_open, logs_at, new_log, log_after, log_from, log_at, seq_after, seq_from, seq_at, mark_version, generation_at, proxy_after, proxy_from, proxy_at, new_proxy_in}
+use Rattle.fr_history.specs.Nodes.{is_open, logs_at, new_log, log_after, log_at, seq_after, seq_from, seq_at, mark_version, generation_at, proxy_after, proxy_from, proxy_at, new_proxy_in}
 use Rattle.fr_history.specs.Run.{IsTurn, IsRun}
 use Rattle.fr_history.specs.Laws.{Laws}
-use Rattle.fr_history.proofs.Growth.{open_stays, HasGeneration, open_generation, generation_stays, proxy_stays, log_stays, new_log_stays}
+use Rattle.fr_history.proofs.Growth.{open_stays, open_generation, generation_stays, proxy_stays, log_stays, new_log_stays}
 use Rattle.fr_versions.proofs.Logs.{logs_stay, unasked, unasked_run}
 use Rattle.fr_world.specs.Parts.{pair_cmp, Logs, Sequencers, Proxies, AreLogs, AreSequencers, AreProxies, new_seq, new_proxy}
 

@@ -1,8 +1,7 @@
 -- A node that nothing stands in the way of has its turn, and one that is not up is refused.
-use Rattle.std.proofs.Common.{◌≡◌, Bool, true, false, cond, not, List, Option, None, Some, refl, sym, ◌∙◌, ap}
-use Rattle.std.specs.Prelude.{Result, Ok, Err}
+use Rattle.std.proofs.Common.{◌≡◌, Bool, true, false, cond, not, Option, None, Some, refl, ap}
+use Rattle.std.specs.Prelude.{Result, Err}
 use Rattle.fr_base.specs.declared.place.NodeId.{NodeId}
-use Rattle.fr_history.specs.Config.{Config}
 use Rattle.fr_history.specs.Turn.{Turn}
 use Rattle.fr_history.specs.Nodes.{is_there}
 use Rattle.fr_event.specs.declared.not_enabled.NotEnabled.{NotEnabled}

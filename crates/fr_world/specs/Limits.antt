@@ -1,5 +1,5 @@
 -- The limits of a config, and which of them is the first that numbers break.
-use Rattle.std.specs.Prelude.{◌≡◌, ◌≤◌, ◌<◌, ℕ, ◌==◌, ◌||◌, nat_lt, ◌%◌, List, Option, None, Some, is_some, if◌then◌else◌}
+use Rattle.std.specs.Prelude.{◌≡◌, ◌≤◌, ℕ, ◌==◌, ◌||◌, nat_lt, ◌%◌, List, Option, None, Some, is_some, if◌then◌else◌}
 use Rattle.fr_tags.specs.Shards.{shard_fault}
 use Rattle.fr_history.specs.Config.{Config}
 use Rattle.fr_world.specs.declared.fault.ConfigFault.{ConfigFault}

@@ -1,8 +1,6 @@
 -- What stands in the way of an event.
-use Rattle.std.specs.Prelude.{◌≡◌, ◌≢◌, Bool, not, List, Option, None, Some, Result, Ok, Err, if◌then◌else◌, IfOk, IfErr, unwrap_or}
+use Rattle.std.specs.Prelude.{◌≡◌, ◌≢◌, not, Option, None, Some, Result, Ok, Err, if◌then◌else◌, IfOk, IfErr, unwrap_or}
 use Rattle.fr_base.specs.declared.place.NodeId.{NodeId}
-use Rattle.fr_history.specs.Config.{Config}
-use Rattle.fr_history.specs.Turn.{Turn}
 use Rattle.fr_history.specs.Nodes.{is_there}
 use Rattle.fr_event.specs.declared.answer.Answer.{Answer}
 use Rattle.fr_event.specs.declared.event.Event.{Event}

@@ -1,6 +1,5 @@
 -- A turn as the code has it, as a turn of a history.
 use Rattle.std.specs.Prelude.{List, [], ◌∷◌, fold}
-use Rattle.fr_base.specs.declared.place.NodeId.TheVariants as node
 use Rattle.fr_history.specs.Turn as history
 use Rattle.fr_world.specs.declared.turn.Turn.{Turn}
 use Rattle.fr_world.specs.declared.turn.Turn.TheVariants as turn

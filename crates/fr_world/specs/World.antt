@@ -1,11 +1,10 @@
 -- A world as contracts see it: what it started from, and what happened.
-use Rattle.std.specs.Prelude.{◌≡◌, ◌≢◌, ℕ, List, ◌∷◌, Option, None, Some, Result, Ok, Err, OnErr, IfOk, IfErr}
+use Rattle.std.specs.Prelude.{List, ◌∷◌, Result, Ok, Err}
 use Rattle.fr_history.specs.Config.{Config}
 use Rattle.fr_history.specs.Turn.{Turn}
 use Rattle.fr_event.specs.declared.answer.Answer.{Answer}
 use Rattle.fr_event.specs.declared.event.Event.{Event}
 use Rattle.fr_event.specs.declared.not_enabled.NotEnabled.{NotEnabled}
-use Rattle.fr_event.specs.declared.not_enabled.NotEnabled.TheVariants as not_enabled
 use Rattle.fr_event.specs.Step.{turn_of, answer_of}
 use Rattle.fr_world.specs.declared.nodes.Nodes.{Nodes}
 use Rattle.fr_world.specs.Turns.{history_of}

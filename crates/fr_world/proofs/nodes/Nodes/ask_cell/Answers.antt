@@ -1,7 +1,6 @@
-use Rattle.std.proofs.Common.{◌≡◌, ℕ, ap, sym, ◌∙◌, slice_index_or, slice_set, List, [], ◌∷◌, ◌++◌}
-use Rattle.fr_register.specs.CellState.{CellState, fresh_cell}
+use Rattle.std.proofs.Common.{◌≡◌, ap, ◌∙◌, slice_index_or, slice_set, [], ◌∷◌, ◌++◌}
+use Rattle.fr_register.specs.CellState.{fresh_cell}
 use Rattle.fr_register.specs.Cell as cell
-use Rattle.fr_register.specs.declared.ask.CellTell.{CellTell}
 use Rattle.fr_history.specs.Nodes as nodes
 use Rattle.fr_history.specs.Turn as history
 use Rattle.fr_world.specs.Turns.{history_of}
