@@ -1,5 +1,5 @@
 -- What the fields of a recoverer stand for.
-use Rattle.std.specs.Prelude.{Option, None, Some}
+use Rattle.std.specs.Prelude.{Bool, true, false, Option, None, Some}
 use Rattle.std.specs.Option.{option_map}
 use Rattle.fr_state.specs.Generations.{LogGeneration}
 use Rattle.fr_epoch.specs.declared.phase.Stage.{Stage}
@@ -56,6 +56,15 @@ told_of (Lost why) plan = told.Lost why
 
 abbrev pub told_phase : RecState → Told
 told_phase r = told_of r.phase r.plan
+
+-- whether a state was chosen
+abbrev pub is_chosen_in : Phase → Bool
+is_chosen_in Reading = false
+is_chosen_in Locking = false
+is_chosen_in Copying = false
+is_chosen_in Writing = false
+is_chosen_in Chosen = true
+is_chosen_in (Lost why) = false
 
 -- the generation of a plan
 abbrev pub generation_in : Option Plan → Option LogGeneration

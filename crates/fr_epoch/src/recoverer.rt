@@ -4,8 +4,8 @@ ghost use Rattle.std.specs.Option.{option_map};
 ghost use Rattle.fr_epoch.specs.Asks.{new_asks, pending};
 ghost use Rattle.fr_epoch.specs.Hear.{after_hear};
 ghost use Rattle.fr_epoch.specs.Kept.{IsKept};
-ghost use Rattle.fr_epoch.specs.Recoverer.{new_recoverer};
-ghost use Rattle.fr_epoch.specs.Standing.{state_of, parent_of, plan_in, told_phase, chosen_of, generation_in};
+ghost use Rattle.fr_epoch.specs.Recoverer.{new_recoverer, is_copied};
+ghost use Rattle.fr_epoch.specs.Standing.{is_chosen_in, state_of, parent_of, plan_in, told_phase, chosen_of, generation_in};
 
 use crate::end_tally::EndTally;
 use crate::laws::kept_law;
@@ -141,6 +141,26 @@ impl Recoverer {
         match &self.standing.plan {
             Some(draft) => Some(draft.generation),
             None => None,
+        }
+    }
+
+    /// Whether all that the next generation takes over is copied: from then on its logs are there.
+    pub fn is_copied(&self) -> bool
+        ensures { result ≡ is_copied self.now }
+    {
+        match &self.standing.plan {
+            Some(draft) => draft.tail.complete(),
+            None => false,
+        }
+    }
+
+    /// Whether its state is chosen: from then on the sequencer and the proxies of its epoch are there.
+    pub fn is_chosen(&self) -> bool
+        ensures { result ≡ is_chosen_in self.now.phase }
+    {
+        match self.standing.stage {
+            Stage::Chosen => true,
+            _ => false,
         }
     }
 

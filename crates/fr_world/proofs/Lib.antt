@@ -1,0 +1,17 @@
+pub mod Histories
+pub mod Lists
+pub mod Starts
+pub mod Keys
+pub mod Stands
+pub mod Kept
+pub mod Quiet
+pub mod Leaving
+pub mod Recovering
+pub mod Ups
+pub mod Served
+pub mod Asked
+pub mod Called
+pub mod Hears
+pub mod Heard
+pub mod ToProxies
+pub mod Delivered

@@ -1,0 +1,5 @@
+pub mod Limits
+pub mod Turns
+pub mod Parts
+pub mod World
+pub mod Stepping

@@ -1,0 +1,26 @@
+-- What stands in the way of an event.
+use Rattle.std.specs.Prelude.{◌≡◌, ◌≢◌, not, Option, None, Some, Result, Ok, Err, if◌then◌else◌, IfOk, IfErr, unwrap_or}
+use Rattle.fr_base.specs.declared.place.NodeId.{NodeId}
+use Rattle.fr_history.specs.Nodes.{is_there}
+use Rattle.fr_event.specs.declared.answer.Answer.{Answer}
+use Rattle.fr_event.specs.declared.event.Event.{Event}
+use Rattle.fr_event.specs.declared.not_enabled.NotEnabled.{NotEnabled}
+use Rattle.fr_event.specs.declared.not_enabled.NotEnabled.TheVariants as not_enabled
+use Rattle.fr_event.specs.Tests.{is_gone}
+use Rattle.fr_world.specs.World.{WorldState, next_turn, stepped}
+
+-- why a node has no turn: it is not there, or it is gone
+abbrev pub why_not_up : WorldState → NodeId → Option NotEnabled
+why_not_up w who = if not (is_there w.config w.turns who) then Some not_enabled.NoSuchNode else if is_gone w.turns who then Some not_enabled.Gone else None
+
+-- an answer to an event is that of its turn, and the world has that turn more
+abbrev pub Steps : WorldState → WorldState → Event → Result Answer NotEnabled → Type 0
+Steps old new event result = IfOk result (λ answer. stepped old event ≡ Ok (new, answer))
+
+-- a refusal of an event, want of memory aside, is that of its definition
+abbrev pub Refuses : WorldState → Event → Result Answer NotEnabled → Type 0
+Refuses old event result = IfErr result (λ why. why ≢ not_enabled.Memory → next_turn old event ≡ Err why)
+
+-- why a node that is told nothing hears nothing
+abbrev pub why_unheard : WorldState → NodeId → NotEnabled
+why_unheard w who = unwrap_or (why_not_up w who) not_enabled.NeverSent

@@ -1,0 +1,71 @@
+//! Recoverers begin, and hear.
+ghost use Rattle.std.specs.Prelude.{◌≡◌, OnErr};
+ghost use Rattle.fr_base.specs.declared.place.NodeId.TheVariants as node;
+ghost use Rattle.fr_event.specs.Step.{is_used};
+ghost use Rattle.fr_event.specs.declared.event.Event.TheVariants as event;
+ghost use Rattle.fr_world.specs.Stepping.{Steps, Refuses};
+ghost use Rattle.fr_world.specs.World.{state_of, IsKept};
+
+use crate::nodes::Nodes;
+use crate::{history, start};
+use fr_ask::Tell;
+use fr_base::{Ballot, NodeId, Version};
+use fr_event::laws::step_law;
+use fr_event::{Answer, NotEnabled};
+use std::alloc::Global;
+
+impl Nodes {
+    /// Whether a ballot is used: a recoverer of it began, or it is that of the start, or 0.
+    fn is_used(&self, ballot: Ballot) -> bool
+        requires { IsKept self.now }
+        ensures { result ≡ is_used (state_of self.now).config (state_of self.now).turns ballot }
+    {
+        let number = ballot.get();
+        self.recoverers.get(&ballot).is_some() || number == start::FIRST || number == 0
+    }
+
+    /// The recoverer of a ballot begins, where the ballot is not used.
+    pub(crate) fn begun(&mut self, alloc: Global, ballot: Ballot) -> Result<Answer, NotEnabled>
+        requires kept { IsKept self.old }
+        ensures turn { Steps (state_of self.old) (state_of self.new) (event.Begin ballot) result }
+        ensures refused { Refuses (state_of self.old) (event.Begin ballot) result }
+        ensures err { OnErr result (state_of self.new ≡ state_of self.old) }
+        ensures stays { IsKept self.new }
+    {
+        step_law();
+        let _within = ballot.get();
+        if self.is_used(ballot) {
+            return Err(NotEnabled::BallotUsed);
+        }
+        self.begin(alloc, ballot)?;
+        Ok(Answer::Done)
+    }
+
+    /// A tell comes to a recoverer.
+    pub(crate) fn heard_by_recoverer(
+        &mut self,
+        alloc: Global,
+        ballot: Ballot,
+        from: NodeId,
+        tell: &Tell,
+        taken: Option<Version>,
+    ) -> Result<Answer, NotEnabled>
+        requires kept { IsKept self.old }
+        ensures turn { Steps (state_of self.old) (state_of self.new) (event.Hear (node.Recoverer ballot) from tell.now taken) result }
+        ensures refused { Refuses (state_of self.old) (event.Hear (node.Recoverer ballot) from tell.now taken) result }
+        ensures err { OnErr result (state_of self.new ≡ state_of self.old) }
+        ensures stays { IsKept self.new }
+    {
+        step_law();
+        let by = NodeId::Recoverer { ballot };
+        if let Some(why) = self.why_not_up(&by) {
+            return Err(why);
+        }
+        let told = history::was_told(self.turns.as_slice(), &from, &by, tell);
+        if !told || taken.is_some() {
+            return Err(NotEnabled::NeverSent);
+        }
+        self.tell_recoverer(alloc, ballot, from, tell)?;
+        Ok(Answer::Done)
+    }
+}

@@ -1,0 +1,151 @@
+//! Asks come to cells, logs and sequencers.
+ghost use Rattle.std.specs.Prelude.{◌≡◌, ◌≢◌, true, Err, IfErr, IfOk, Ok, OnErr};
+ghost use Rattle.fr_event.specs.Limits.{AskHasLimits};
+ghost use Rattle.fr_event.specs.Step.{if_sent};
+ghost use Rattle.fr_event.specs.Tests as tests;
+ghost use Rattle.fr_event.specs.declared.event.Event.TheVariants as event;
+ghost use Rattle.fr_event.specs.declared.not_enabled.NotEnabled.TheVariants as not_enabled;
+ghost use Rattle.fr_history.specs.Nodes as nodes;
+ghost use Rattle.fr_history.specs.Run.{IsTurn};
+ghost use Rattle.fr_history.specs.Turn as history;
+ghost use Rattle.fr_log.specs.Step as log;
+ghost use Rattle.fr_proxy.specs.Sequencer as seq;
+ghost use Rattle.fr_register.specs.Cell as cell;
+ghost use Rattle.fr_world.specs.Stepping.{Steps, Refuses};
+ghost use Rattle.fr_world.specs.World.{state_of, stepped_by, IsKept};
+
+use crate::history;
+use crate::nodes::Nodes;
+use fr_ask::{Ask, SeqAsk, Tell};
+use fr_base::{Epoch, LogId, NodeId};
+use fr_event::laws::step_law;
+use fr_event::{Answer, NotEnabled};
+use fr_log::LogAsk;
+use fr_register::CellAsk;
+use std::alloc::Global;
+
+impl Nodes {
+    /// An ask comes to a cell, a log or a sequencer, where it was sent, or is one that storage servers may give.
+    pub(crate) fn delivered(
+        &mut self,
+        alloc: Global,
+        from: NodeId,
+        to: NodeId,
+        ask: &Ask,
+    ) -> Result<Answer, NotEnabled>
+        requires kept { IsKept self.old }
+        requires limits { AskHasLimits ask.now }
+        ensures turn { Steps (state_of self.old) (state_of self.new) (event.Deliver from to ask.now) result }
+        ensures refused { Refuses (state_of self.old) (event.Deliver from to ask.now) result }
+        ensures err { OnErr result (state_of self.new ≡ state_of self.old) }
+        ensures stays { IsKept self.new }
+    {
+        step_law();
+        if let Some(why) = self.why_not_up(&to) {
+            return Err(why);
+        }
+        let sent = history::was_sent(self.turns.as_slice(), &from, &to, ask);
+        match ask {
+            Ask::Cell(ask) => match to {
+                NodeId::Cell { index } => self.to_cell(alloc, from, index, ask, sent),
+                _ => Err(NotEnabled::NeverSent),
+            },
+            Ask::Log(ask) => match to {
+                NodeId::Log { epoch, index } => {
+                    let may = sent || self.storage_may_ask(&from, ask);
+                    self.to_log(alloc, from, LogId { epoch, index }, ask, may)
+                }
+                _ => Err(NotEnabled::NeverSent),
+            },
+            Ask::Seq(ask) => match to {
+                NodeId::Sequencer { epoch } => self.to_sequencer(alloc, from, epoch, *ask, sent),
+                _ => Err(NotEnabled::NeverSent),
+            },
+        }
+    }
+
+    /// Whether an ask is one that storage servers may give at any time: for a mark, and for records of the own tag.
+    fn storage_may_ask(&self, from: &NodeId, ask: &LogAsk) -> bool
+        ensures { result ≡ tests.storage_may_ask (state_of self.now).config from.now ask.now }
+    {
+        match (from, ask) {
+            (NodeId::Storage { tag }, LogAsk::Peek { tag: asked, .. }) => {
+                tag.get() == asked.get()
+                    && usize::from(tag.get()) < self.config.map().begins().len()
+            }
+            (NodeId::Storage { tag }, LogAsk::MarkAsked { .. }) => {
+                usize::from(tag.get()) < self.config.map().begins().len()
+            }
+            _ => false,
+        }
+    }
+
+    /// An ask comes to a cell that is up, where it was sent.
+    fn to_cell(
+        &mut self,
+        alloc: Global,
+        from: NodeId,
+        index: u8,
+        ask: &CellAsk,
+        sent: bool,
+    ) -> Result<Answer, NotEnabled>
+        requires kept { IsKept self.old }
+        requires turn { sent ≡ true → IsTurn (state_of self.old).config (state_of self.old).turns (history.CellTurn from index ask.now (cell.answer_of (nodes.cell_at (state_of self.old).config (state_of self.old).turns index) ask.now)) }
+        ensures turn { IfOk result (λ answer. stepped_by (state_of self.old) (if_sent sent (history.CellTurn from index ask.now (cell.answer_of (nodes.cell_at (state_of self.old).config (state_of self.old).turns index) ask.now))) ≡ Ok (state_of self.new, answer)) }
+        ensures refused { IfErr result (λ why. why ≢ not_enabled.Memory → if_sent sent (history.CellTurn from index ask.now (cell.answer_of (nodes.cell_at (state_of self.old).config (state_of self.old).turns index) ask.now)) ≡ Err why) }
+        ensures err { OnErr result (state_of self.new ≡ state_of self.old) }
+        ensures stays { IsKept self.new }
+    {
+        if !sent {
+            return Err(NotEnabled::NeverSent);
+        }
+        let told = self.ask_cell(alloc, from, index, ask)?;
+        Ok(Answer::Told(Tell::Cell(told)))
+    }
+
+    /// An ask comes to a log that is up, where it was sent or may be given at any time.
+    fn to_log(
+        &mut self,
+        alloc: Global,
+        from: NodeId,
+        id: LogId,
+        ask: &LogAsk,
+        sent: bool,
+    ) -> Result<Answer, NotEnabled>
+        requires kept { IsKept self.old }
+        requires turn { sent ≡ true → IsTurn (state_of self.old).config (state_of self.old).turns (history.LogTurn from id.epoch id.index ask.now (log.answer_of (nodes.log_at (state_of self.old).config (state_of self.old).turns id.epoch id.index) ask.now)) }
+        ensures turn { IfOk result (λ answer. stepped_by (state_of self.old) (if_sent sent (history.LogTurn from id.epoch id.index ask.now (log.answer_of (nodes.log_at (state_of self.old).config (state_of self.old).turns id.epoch id.index) ask.now))) ≡ Ok (state_of self.new, answer)) }
+        ensures refused { IfErr result (λ why. why ≢ not_enabled.Memory → if_sent sent (history.LogTurn from id.epoch id.index ask.now (log.answer_of (nodes.log_at (state_of self.old).config (state_of self.old).turns id.epoch id.index) ask.now)) ≡ Err why) }
+        ensures err { OnErr result (state_of self.new ≡ state_of self.old) }
+        ensures stays { IsKept self.new }
+    {
+        if !sent {
+            return Err(NotEnabled::NeverSent);
+        }
+        let told = self.ask_log(alloc, from, id, ask)?;
+        Ok(Answer::Told(Tell::Log(told)))
+    }
+
+    /// An ask comes to a sequencer that is up, where it was sent.
+    fn to_sequencer(
+        &mut self,
+        alloc: Global,
+        from: NodeId,
+        epoch: Epoch,
+        ask: SeqAsk,
+        sent: bool,
+    ) -> Result<Answer, NotEnabled>
+        requires kept { IsKept self.old }
+        requires turn { sent ≡ true → IsTurn (state_of self.old).config (state_of self.old).turns (history.SeqTurn from epoch ask (seq.answer_of (nodes.seq_at (state_of self.old).config (state_of self.old).turns epoch) ask)) }
+        ensures turn { IfOk result (λ answer. stepped_by (state_of self.old) (if_sent sent (history.SeqTurn from epoch ask (seq.answer_of (nodes.seq_at (state_of self.old).config (state_of self.old).turns epoch) ask))) ≡ Ok (state_of self.new, answer)) }
+        ensures refused { IfErr result (λ why. why ≢ not_enabled.Memory → if_sent sent (history.SeqTurn from epoch ask (seq.answer_of (nodes.seq_at (state_of self.old).config (state_of self.old).turns epoch) ask)) ≡ Err why) }
+        ensures err { OnErr result (state_of self.new ≡ state_of self.old) }
+        ensures stays { IsKept self.new }
+    {
+        if !sent {
+            return Err(NotEnabled::NeverSent);
+        }
+        let told = self.ask_sequencer(alloc, from, epoch, ask)?;
+        Ok(Answer::Told(Tell::Seq(told)))
+    }
+}

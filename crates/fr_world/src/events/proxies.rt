@@ -1,0 +1,92 @@
+//! Proxies are given batches, and hear.
+ghost use Rattle.std.specs.Prelude.{◌≡◌, OnErr};
+ghost use Rattle.fr_base.specs.declared.place.NodeId.TheVariants as node;
+ghost use Rattle.fr_event.specs.Step.{not_taken};
+ghost use Rattle.fr_event.specs.declared.event.Event.TheVariants as event;
+ghost use Rattle.fr_world.specs.Stepping.{Steps, Refuses};
+ghost use Rattle.fr_world.specs.World.{state_of, IsKept};
+
+use crate::history;
+use crate::nodes::Nodes;
+use fr_ask::Tell;
+use fr_base::{Epoch, NodeId, Step, Version};
+use fr_event::laws::step_law;
+use fr_event::{Answer, NotEnabled};
+use fr_mutation::Batch;
+use fr_proxy::SubmitFault;
+use std::alloc::Global;
+
+impl Nodes {
+    /// A proxy is given a batch, where it takes one now.
+    pub(crate) fn submitted(
+        &mut self,
+        alloc: Global,
+        epoch: Epoch,
+        proxy: u8,
+        step: Step,
+        batch: &Batch,
+    ) -> Result<Answer, NotEnabled>
+        requires kept { IsKept self.old }
+        ensures turn { Steps (state_of self.old) (state_of self.new) (event.Submit epoch proxy step batch.now) result }
+        ensures refused { Refuses (state_of self.old) (event.Submit epoch proxy step batch.now) result }
+        ensures err { OnErr result (state_of self.new ≡ state_of self.old) }
+        ensures stays { IsKept self.new }
+    {
+        step_law();
+        let _within = step.get();
+        let by = NodeId::Proxy {
+            epoch,
+            number: proxy,
+        };
+        if let Some(why) = self.why_not_up(&by) {
+            return Err(why);
+        }
+        match self.submit(alloc, epoch, proxy, step, batch) {
+            Ok(()) => Ok(Answer::Done),
+            Err(fault) => Err(not_taken(fault)),
+        }
+    }
+
+    /// A tell comes to a proxy.
+    pub(crate) fn heard_by_proxy(
+        &mut self,
+        alloc: Global,
+        epoch: Epoch,
+        proxy: u8,
+        from: NodeId,
+        tell: &Tell,
+        taken: Option<Version>,
+    ) -> Result<Answer, NotEnabled>
+        requires kept { IsKept self.old }
+        ensures turn { Steps (state_of self.old) (state_of self.new) (event.Hear (node.Proxy epoch proxy) from tell.now taken) result }
+        ensures refused { Refuses (state_of self.old) (event.Hear (node.Proxy epoch proxy) from tell.now taken) result }
+        ensures err { OnErr result (state_of self.new ≡ state_of self.old) }
+        ensures stays { IsKept self.new }
+    {
+        step_law();
+        let by = NodeId::Proxy {
+            epoch,
+            number: proxy,
+        };
+        if let Some(why) = self.why_not_up(&by) {
+            return Err(why);
+        }
+        let told = history::was_told(self.turns.as_slice(), &from, &by, tell);
+        if !told || taken.is_some() {
+            return Err(NotEnabled::NeverSent);
+        }
+        let outcome = self.tell_proxy(alloc, epoch, proxy, from, tell)?;
+        Ok(Answer::Heard(outcome))
+    }
+}
+
+/// Why a batch cannot be given to a proxy that does not take it.
+fn not_taken(fault: SubmitFault) -> NotEnabled
+    ensures { result ≡ not_taken fault }
+{
+    match fault {
+        SubmitFault::TwoOpen => NotEnabled::TwoOpen,
+        SubmitFault::Over => NotEnabled::Over,
+        SubmitFault::Memory => NotEnabled::Memory,
+    }
+}

@@ -1,0 +1,211 @@
+//! Proxies are told, and given batches.
+ghost use Rattle.std.specs.Prelude.{◌≡◌, ◌≢◌, ◌≤◌, ◌<◌, ◌-◌, ◌∷◌, [], true, None, Some, IfErr, IfOk, IfSome, IsSome, OnErr, OnOk};
+ghost use Rattle.std.specs.Vec.{vec_len, vec_capacity};
+ghost use Rattle.std.specs.BTreeMap as tree;
+ghost use Rattle.fr_proxy.specs.Proxy as proxy;
+ghost use Rattle.fr_proxy.specs.Proxy.{new_asks, number_ask, opened, outcome_of, submit_fault};
+ghost use Rattle.fr_proxy.specs.declared.fault.SubmitFault.TheVariants as SubmitFault;
+ghost use Rattle.fr_base.specs.declared.place.NodeId.TheVariants as node;
+ghost use Rattle.fr_history.specs.Nodes as nodes;
+ghost use Rattle.fr_history.specs.Run.{IsTurn, IsUp};
+ghost use Rattle.fr_history.specs.Turn as history;
+ghost use Rattle.fr_world.specs.Parts.{new_proxy, pair_cmp};
+ghost use Rattle.fr_world.specs.Turns.{turn_of};
+ghost use Rattle.fr_world.specs.World.{state_of, with_turn, IsKept};
+
+use super::Nodes;
+use super::proxies::{keep_proxy, submit, tell_proxy};
+use crate::start::first_epoch;
+use crate::turn::Turn;
+use fr_ask::{Ask, Tell};
+use fr_base::{Epoch, Memory, NodeId, Step, Version};
+use fr_epoch::Recoverer;
+use fr_history::laws::node_laws;
+use fr_mutation::Batch;
+use fr_proxy::{Outcome, Proxy, SubmitFault};
+use fr_tags::ShardMap;
+use std::alloc::Global;
+
+impl Nodes {
+    /// A proxy hears a tell; answers what it says of its batch.
+    pub(crate) fn tell_proxy(
+        &mut self,
+        alloc: Global,
+        epoch: Epoch,
+        proxy: u8,
+        from: NodeId,
+        tell: &Tell,
+    ) -> Result<Outcome, Memory>
+        requires kept { IsKept self.old }
+        requires turn { IsTurn (state_of self.old).config (state_of self.old).turns (history.ProxyHeard epoch proxy from tell.now (outcome_of (nodes.proxy_at (state_of self.old).config (state_of self.old).turns epoch proxy) from tell.now) (new_asks (nodes.proxy_at (state_of self.old).config (state_of self.old).turns epoch proxy) from tell.now)) }
+        ensures outcome { IfOk result (λ outcome. outcome ≡ outcome_of (nodes.proxy_at (state_of self.old).config (state_of self.old).turns epoch proxy) from tell.now) }
+        ensures world { OnOk result (state_of self.new ≡ with_turn (state_of self.old) (history.ProxyHeard epoch proxy from tell.now (outcome_of (nodes.proxy_at (state_of self.old).config (state_of self.old).turns epoch proxy) from tell.now) (new_asks (nodes.proxy_at (state_of self.old).config (state_of self.old).turns epoch proxy) from tell.now))) }
+        ensures err { OnErr result (state_of self.new ≡ state_of self.old) }
+        ensures stays { IsKept self.new }
+    {
+        node_laws();
+        self.keep_proxy_of(epoch, proxy)?;
+        self.turns.reserve(1)?;
+        let kept = tell.copy()?;
+        let by = again(&from);
+        let (outcome, asks) = tell_proxy(alloc, &mut self.proxies, (epoch, proxy), by, tell)?;
+        self.turns
+            .push_reserved(heard(epoch, proxy, from, kept, &outcome, asks));
+        Ok(outcome)
+    }
+
+    /// A proxy is given a batch. It takes it, or refuses it for its reason; want of memory can come before either.
+    pub(crate) fn submit(
+        &mut self,
+        alloc: Global,
+        epoch: Epoch,
+        proxy: u8,
+        step: Step,
+        batch: &Batch,
+    ) -> Result<(), SubmitFault>
+        requires kept { IsKept self.old }
+        requires up { IsUp (state_of self.old).config (state_of self.old).turns (node.Proxy epoch proxy) }
+        requires step { 1 ≤ step }
+        ensures taken { OnOk result (submit_fault (nodes.proxy_at (state_of self.old).config (state_of self.old).turns epoch proxy) ≡ None) }
+        ensures world { OnOk result (state_of self.new ≡ with_turn (state_of self.old) (history.Submitted epoch proxy step batch.now (number_ask (nodes.proxy_at (state_of self.old).config (state_of self.old).turns epoch proxy) (opened (nodes.proxy_at (state_of self.old).config (state_of self.old).turns epoch proxy) step batch.now) ∷ []))) }
+        ensures fault { IfErr result (λ fault. fault ≢ SubmitFault.Memory → submit_fault (nodes.proxy_at (state_of self.old).config (state_of self.old).turns epoch proxy) ≡ Some fault) }
+        ensures err { OnErr result (state_of self.new ≡ state_of self.old) }
+        ensures stays { IsKept self.new }
+    {
+        node_laws();
+        self.keep_proxy_of(epoch, proxy)?;
+        if self.turns.reserve(1).is_err() {
+            return Err(SubmitFault::Memory);
+        }
+        let kept = batch.copy()?;
+        let given = batch.copy()?;
+        let room = room(alloc)?;
+        let ask = submit(&mut self.proxies, (epoch, proxy), step, given)?;
+        self.turns
+            .push_reserved(taken(epoch, proxy, step, kept, ask, room));
+        Ok(())
+    }
+
+    /// Keeps a proxy of an open epoch from now on. Want of memory changes nothing.
+    fn keep_proxy_of(&mut self, epoch: Epoch, proxy: u8) -> Result<(), Memory>
+        requires kept { IsKept self.old }
+        requires open { nodes.is_open (state_of self.old).config (state_of self.old).turns epoch ≡ true }
+        ensures there { OnOk result (IsSome (tree.get pair_cmp self.new.proxies (epoch, proxy))) }
+        ensures state { state_of self.new ≡ state_of self.old }
+        ensures stays { IsKept self.new }
+    {
+        if self.proxies.get(&(epoch, proxy)).is_some() {
+            return Ok(());
+        }
+        let new = self.new_proxy(epoch, proxy)?;
+        keep_proxy(&mut self.proxies, (epoch, proxy), new)
+    }
+
+    /// A proxy of an open epoch, before it was called.
+    fn new_proxy(&self, epoch: Epoch, number: u8) -> Result<Proxy, Memory>
+        requires kept { IsKept self.now }
+        requires open { nodes.is_open (state_of self.now).config (state_of self.now).turns epoch ≡ true }
+        ensures { IfOk result (λ proxy. proxy ≡ new_proxy (state_of self.now).config (state_of self.now).turns epoch number) }
+    {
+        node_laws();
+        let _within = self.config.coordinators();
+        let map = self.config.map().copy()?;
+        if epoch == first_epoch() {
+            let m = self.config.logs();
+            let k = self.config.degree();
+            return Ok(Proxy::new(epoch, number, m, k, map, Version::ZERO));
+        }
+        match self.recoverers.get(&epoch.ballot()) {
+            Some(recoverer) => Ok(first_proxy(recoverer, epoch, number, map)),
+            None => unreachable!(),
+        }
+    }
+}
+
+/// A node, to be named twice.
+fn again(node: &NodeId) -> NodeId
+    ensures { result ≡ node.now }
+{
+    *node
+}
+
+/// The turn of a proxy that heard a tell.
+fn heard(
+    epoch: Epoch,
+    proxy: u8,
+    from: NodeId,
+    tell: Tell,
+    outcome: &Outcome,
+    asks: Vec<(NodeId, Ask)>,
+) -> Turn
+    ensures { turn_of result ≡ history.ProxyHeard epoch proxy from tell outcome.now asks.items }
+{
+    Turn::Proxy {
+        epoch,
+        proxy,
+        from,
+        tell,
+        outcome: *outcome,
+        asks,
+    }
+}
+
+/// Room for one ask.
+fn room(alloc: Global) -> Result<Vec<(NodeId, Ask)>, Memory>
+    ensures empty { IfOk result (λ asks. asks.items ≡ []) }
+    ensures room { IfOk result (λ asks. vec_len asks < vec_capacity asks) }
+{
+    let mut asks = Vec::new(alloc);
+    asks.reserve(1)?;
+    Ok(asks)
+}
+
+/// The turn of a proxy that took a batch, and asks its sequencer.
+fn taken(
+    epoch: Epoch,
+    proxy: u8,
+    step: Step,
+    batch: Batch,
+    ask: Ask,
+    asks: Vec<(NodeId, Ask)>,
+) -> Turn
+    requires empty { asks.items ≡ [] }
+    requires room { vec_len asks < vec_capacity asks }
+    ensures { turn_of result ≡ history.Submitted epoch proxy step batch ((node.Sequencer epoch, ask) ∷ []) }
+{
+    let mut asks = asks;
+    asks.push_reserved((NodeId::Sequencer { epoch }, ask));
+    Turn::Submitted {
+        epoch,
+        proxy,
+        step,
+        batch,
+        asks,
+    }
+}
+
+/// A proxy of the generation that a recoverer planned, before it was called.
+fn first_proxy(recoverer: &Recoverer, epoch: Epoch, number: u8, map: ShardMap) -> Proxy
+    requires { IsSome recoverer.now.plan }
+    ensures { IfSome recoverer.now.plan (λ p. result ≡ proxy.new_proxy epoch number p.generation.m p.generation.k map (p.generation.first - 1)) }
+{
+    let _sound = recoverer.phase();
+    match recoverer.generation() {
+        Some(generation) => {
+            let known = before(generation.first());
+            Proxy::new(epoch, number, generation.m(), generation.k(), map, known)
+        }
+        None => unreachable!(),
+    }
+}
+
+/// The version before one that is not 0.
+fn before(version: Version) -> Version
+    requires { 1 ≤ version }
+    ensures { result ≡ version - 1 }
+{
+    match version.before() {
+        Some(version) => version,
+        None => unreachable!(),
+    }
+}

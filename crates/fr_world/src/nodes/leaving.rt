@@ -1,0 +1,40 @@
+//! Nodes crash, or are lost.
+ghost use Rattle.std.specs.Prelude.{◌≡◌, OnErr, OnOk};
+ghost use Rattle.fr_history.specs.Run.{IsTurn};
+ghost use Rattle.fr_history.specs.Turn as history;
+ghost use Rattle.fr_world.specs.World.{state_of, with_turn, IsKept};
+
+use super::Nodes;
+use crate::turn::Turn;
+use fr_base::{Memory, NodeId};
+use fr_history::laws::node_laws;
+
+impl Nodes {
+    /// A sequencer, proxy or recoverer crashes, or a log is lost.
+    pub(crate) fn leave(&mut self, node: NodeId) -> Result<(), Memory>
+        requires kept { IsKept self.old }
+        requires turn { IsTurn (state_of self.old).config (state_of self.old).turns (history.Gone node) }
+        ensures world { OnOk result (state_of self.new ≡ with_turn (state_of self.old) (history.Gone node)) }
+        ensures err { OnErr result (state_of self.new ≡ state_of self.old) }
+        ensures stays { IsKept self.new }
+    {
+        node_laws();
+        self.turns.reserve(1)?;
+        self.turns.push_reserved(Turn::Gone { node });
+        Ok(())
+    }
+
+    /// Another node crashes, and stands as it was.
+    pub(crate) fn crash(&mut self, node: NodeId) -> Result<(), Memory>
+        requires kept { IsKept self.old }
+        requires turn { IsTurn (state_of self.old).config (state_of self.old).turns (history.Crashed node) }
+        ensures world { OnOk result (state_of self.new ≡ with_turn (state_of self.old) (history.Crashed node)) }
+        ensures err { OnErr result (state_of self.new ≡ state_of self.old) }
+        ensures stays { IsKept self.new }
+    {
+        node_laws();
+        self.turns.reserve(1)?;
+        self.turns.push_reserved(Turn::Crashed { node });
+        Ok(())
+    }
+}

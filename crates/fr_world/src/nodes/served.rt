@@ -1,0 +1,88 @@
+//! Storage servers are told.
+ghost use Rattle.std.specs.Prelude.{◌≡◌, false, IfOk, IsTrue, None, OnErr, OnOk, Some};
+ghost use Rattle.fr_base.specs.declared.place.NodeId.TheVariants as node;
+ghost use Rattle.fr_event.specs.Step.{may_break};
+ghost use Rattle.fr_history.specs.Nodes as nodes;
+ghost use Rattle.fr_history.specs.Run.{fault_of, IsHeardBy, IsTurn};
+ghost use Rattle.fr_history.specs.Turn as history;
+ghost use Rattle.fr_world.specs.World.{state_of, with_turn, IsKept};
+
+use super::Nodes;
+use super::storages::{Heard, break_server, tell_server};
+use crate::turn::Turn;
+use fr_ask::Tell;
+use fr_base::{Memory, NodeId, Tag, Version};
+use fr_history::laws::node_laws;
+use fr_storage::StorageFault;
+use std::alloc::Global;
+
+impl Nodes {
+    /// A tell comes to a storage server; answers why it refuses that.
+    pub(crate) fn tell_storage(
+        &mut self,
+        alloc: Global,
+        tag: Tag,
+        from: NodeId,
+        tell: &Tell,
+    ) -> Result<Option<StorageFault>, Memory>
+        requires kept { IsKept self.old }
+        requires turn { IsTurn (state_of self.old).config (state_of self.old).turns (history.StorageHeard tag from tell.now None (fault_of (nodes.storage_at (state_of self.old).config (state_of self.old).turns tag) from tell.now)) }
+        ensures fault { IfOk result (λ fault. fault ≡ fault_of (nodes.storage_at (state_of self.old).config (state_of self.old).turns tag) from tell.now) }
+        ensures world { OnOk result (state_of self.new ≡ with_turn (state_of self.old) (history.StorageHeard tag from tell.now None (fault_of (nodes.storage_at (state_of self.old).config (state_of self.old).turns tag) from tell.now))) }
+        ensures err { OnErr result (state_of self.new ≡ state_of self.old) }
+        ensures stays { IsKept self.new }
+    {
+        node_laws();
+        self.turns.reserve(1)?;
+        let kept = tell.copy()?;
+        let number = usize::from(tag.get());
+        let Heard { server, fault } = tell_server(alloc, &self.storages[number], &from, tell)?;
+        self.storages[number] = server;
+        self.turns.push_reserved(Turn::Storage {
+            tag,
+            from,
+            tell: kept,
+            taken: None,
+            fault,
+        });
+        Ok(fault)
+    }
+
+    /// A tell comes to a storage server, which breaks off its hear at a version; answers whether it can. Where it
+    /// cannot, nothing happens.
+    pub(crate) fn break_storage(
+        &mut self,
+        alloc: Global,
+        tag: Tag,
+        from: NodeId,
+        tell: &Tell,
+        version: Version,
+    ) -> Result<bool, Memory>
+        requires kept { IsKept self.old }
+        requires heard { IsHeardBy (state_of self.old).config (state_of self.old).turns (node.Storage tag) from tell.now }
+        ensures found { IfOk result (λ found. found ≡ may_break (nodes.storage_at (state_of self.old).config (state_of self.old).turns tag) from tell.now version) }
+        ensures world { IfOk result (λ found. IsTrue found → state_of self.new ≡ with_turn (state_of self.old) (history.StorageHeard tag from tell.now (Some version) (fault_of (nodes.storage_at (state_of self.old).config (state_of self.old).turns tag) from tell.now))) }
+        ensures unfound { IfOk result (λ found. found ≡ false → state_of self.new ≡ state_of self.old) }
+        ensures err { OnErr result (state_of self.new ≡ state_of self.old) }
+        ensures stays { IsKept self.new }
+    {
+        node_laws();
+        self.turns.reserve(1)?;
+        let kept = tell.copy()?;
+        let number = usize::from(tag.get());
+        match break_server(alloc, &self.storages[number], &from, tell, version)? {
+            Some(server) => {
+                self.storages[number] = server;
+                self.turns.push_reserved(Turn::Storage {
+                    tag,
+                    from,
+                    tell: kept,
+                    taken: Some(version),
+                    fault: None,
+                });
+                Ok(true)
+            }
+            None => Ok(false),
+        }
+    }
+}

@@ -1,0 +1,80 @@
+//! One event.
+ghost use Rattle.std.specs.Prelude.{◌≡◌, OnErr};
+ghost use Rattle.fr_event.specs.declared.event.Event.TheVariants as event;
+ghost use Rattle.fr_world.specs.Stepping.{Steps, Refuses, why_unheard};
+ghost use Rattle.fr_world.specs.World.{state_of, IsKept};
+
+use crate::nodes::Nodes;
+use fr_ask::Tell;
+use fr_base::{NodeId, Version};
+use fr_event::{Answer, Event, NotEnabled};
+use std::alloc::Global;
+
+impl Nodes {
+    /// Makes the turn that an event is, or says why it cannot happen, which changes nothing.
+    pub(crate) fn step(&mut self, alloc: Global, event: &Event) -> Result<Answer, NotEnabled>
+        requires kept { IsKept self.old }
+        ensures turn { Steps (state_of self.old) (state_of self.new) event.now result }
+        ensures refused { Refuses (state_of self.old) event.now result }
+        ensures err { OnErr result (state_of self.new ≡ state_of self.old) }
+        ensures stays { IsKept self.new }
+    {
+        let _within = event.node();
+        match event {
+            Event::Begin { ballot } => self.begun(alloc, *ballot),
+            Event::Deliver { from, to, ask } => self.delivered(alloc, *from, *to, ask),
+            Event::Hear {
+                by,
+                from,
+                tell,
+                taken,
+            } => self.heard(alloc, by, from, tell, *taken),
+            Event::Submit {
+                epoch,
+                proxy,
+                step,
+                batch,
+            } => self.submitted(alloc, *epoch, *proxy, *step, batch),
+            Event::Crash { node } => self.crashed(*node),
+            Event::Lose { log } => self.lost(*log),
+        }
+    }
+
+    /// A tell comes to a node. Cells, logs and sequencers are told nothing.
+    fn heard(
+        &mut self,
+        alloc: Global,
+        by: &NodeId,
+        from: &NodeId,
+        tell: &Tell,
+        taken: Option<Version>,
+    ) -> Result<Answer, NotEnabled>
+        requires kept { IsKept self.old }
+        ensures turn { Steps (state_of self.old) (state_of self.new) (event.Hear by.now from.now tell.now taken) result }
+        ensures refused { Refuses (state_of self.old) (event.Hear by.now from.now tell.now taken) result }
+        ensures err { OnErr result (state_of self.new ≡ state_of self.old) }
+        ensures stays { IsKept self.new }
+    {
+        match by {
+            NodeId::Proxy { epoch, number } => {
+                self.heard_by_proxy(alloc, *epoch, *number, *from, tell, taken)
+            }
+            NodeId::Recoverer { ballot } => {
+                self.heard_by_recoverer(alloc, *ballot, *from, tell, taken)
+            }
+            NodeId::Storage { tag } => self.heard_by_storage(alloc, *tag, *from, tell, taken),
+            _ => Err(self.why_unheard(by)),
+        }
+    }
+
+    /// Why a cell, a log or a sequencer hears no tell.
+    fn why_unheard(&self, by: &NodeId) -> NotEnabled
+        requires { IsKept self.now }
+        ensures { result ≡ why_unheard (state_of self.now) by.now }
+    {
+        match self.why_not_up(by) {
+            Some(why) => why,
+            None => NotEnabled::NeverSent,
+        }
+    }
+}
