@@ -20,5 +20,5 @@ pub use calls::CallCounts;
 pub use fault::CliFault;
 pub use input::{MAX_READS, READ_SIZE, read_input};
 pub use mutations::Mutations;
-pub use output::put;
+pub use output::{put, put_rows};
 pub use script::Operation;

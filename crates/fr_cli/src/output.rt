@@ -27,7 +27,7 @@ pub fn put<W: Write>(calls: &mut CallCounts, writer: &mut W, text: &str) -> Resu
 }
 
 /// Writes the lines of rows, and lets go of each row once it is written.
-pub(crate) fn put_rows<W: Write>(
+pub fn put_rows<W: Write>(
     alloc: Global,
     rows: Vec<(Bytes, Bytes)>,
     calls: &mut CallCounts,

@@ -10,6 +10,7 @@ pub(crate) mod script;
 use crate::fault::CliFault;
 use crate::hex_text::bytes_in;
 use fr_base::{Bytes, Version};
+pub use mutations::read_batch;
 use serde_json::Value;
 use std::alloc::Global;
 
@@ -27,7 +28,7 @@ pub fn read_value(alloc: Global, input: Vec<u8>) -> Result<Value, CliFault>
 }
 
 /// The value at the name, in an object of exactly `count` members.
-pub(crate) fn member_of<'v>(value: &'v Value, count: usize, name: &str) -> Option<&'v Value>
+pub fn member_of<'v>(value: &'v Value, count: usize, name: &str) -> Option<&'v Value>
     ensures { option_map (λ v. view v.now) result ≡ only count name.now (view value.now) }
 {
     if value.as_object()?.len() == count {
@@ -48,7 +49,7 @@ pub fn take_member(value: &mut Value, count: usize, name: &str) -> Option<Value>
 }
 
 /// The name and the value of an object's one member.
-pub(crate) fn into_one_member(value: Value) -> Option<(String, Value)>
+pub fn into_one_member(value: Value) -> Option<(String, Value)>
     ensures { option_map (λ m. (string_bytes m.0, view m.1)) result ≡ one_member (view value) }
 {
     let Value::Object(mut members) = value else {
@@ -95,7 +96,7 @@ pub(crate) fn read_pair(
 }
 
 /// The bytes of a text of lower case hex digits, two a byte.
-fn read_bytes(alloc: Global, value: Option<&Value>) -> Result<Bytes, CliFault>
+pub fn read_bytes(alloc: Global, value: Option<&Value>) -> Result<Bytes, CliFault>
     ensures ok { IfOk result (λ bytes. option_and_then bytes_of (option_map (λ v. view v.now) value.entry) ≡ Some bytes) }
     ensures bad { result ≡ Err CliFault.BadScript → option_and_then bytes_of (option_map (λ v. view v.now) value.entry) ≡ None }
     ensures fault { IfErr result (λ e. (e ≡ CliFault.BadScript) ⊎ (e ≡ CliFault.Memory)) }

@@ -53,7 +53,7 @@ has_gone [] who = false
 has_gone (t ∷ h) who = says_gone t who || has_gone h who
 
 -- a node is up of which no turn says that it is gone
-none_gone : (h : List Turn) (who : NodeId) → has_gone h who ≡ false → Contains h (Gone who) → ⊥
+pub none_gone : (h : List Turn) (who : NodeId) → has_gone h who ≡ false → Contains h (Gone who) → ⊥
 none_gone [] who e k = Contains-none k
 none_gone (t ∷ h) who e k = elim (Contains-cases t h (Gone who) k) [
   | inl now ↦ says (subst (λ u. (says_gone u who || has_gone h who) ≡ false) now e)
@@ -68,7 +68,7 @@ none_gone (t ∷ h) who e k = elim (Contains-cases t h (Gone who) k) [
     says e = let d : true ≡ false = sym (ap (λ b. b || has_gone h who) (is_same_node-IsSameness.itself who)) ∙ e in absurd (cc)
 
 -- an element by its place
-at : {X : Type 0} (xs : List X) (x : X) (i : ℕ) → nat_lt i (length xs) ≡ true → get_or xs i x ≡ x → Contains xs x
+pub at : {X : Type 0} (xs : List X) (x : X) (i : ℕ) → nat_lt i (length xs) ≡ true → get_or xs i x ≡ x → Contains xs x
 at xs x i lt is = (i, ltb-true i (length xs) lt, is)
 
 -- the first two numbers of a sequencer
@@ -98,11 +98,11 @@ numbered_on = subst (λ s. Numbered 2 2 3 ≡ answer_of s (Next 0 2 1)) (sym (go
 
 -- ---- the run
 
-abbrev c : Config
+abbrev pub c : Config
 c = record { cells = 1; m = 2; k = 2; begins = [] ∷ []; proxies = 1 }
 
 -- the batch that is acknowledged, and the one that only a lost log has
-abbrev kept : List Mutation
+abbrev pub kept : List Mutation
 kept = Set (97 ∷ []) (1 ∷ []) ∷ []
 
 abbrev ahead : List Mutation
@@ -111,10 +111,10 @@ ahead = Set (97 ∷ []) (2 ∷ []) ∷ []
 abbrev first : CoordinatedState
 first = first_state c
 
-abbrev later : CoordinatedState
+abbrev pub later : CoordinatedState
 later = record { gens = record { epoch = 257; m = 2; k = 2; first = 1; seeded_to = 0 } ∷ record { epoch = 513; m = 2; k = 2; first = 1; seeded_to = 2 } ∷ [] }
 
-abbrev got : Option RecState → RecState
+abbrev pub got : Option RecState → RecState
 got o = unwrap_or o (new_recoverer 513 1 ([] ∷ []))
 
 abbrev h0 : List Turn
@@ -393,7 +393,7 @@ turn27 = ((record { actor = (record { there = refl; up = λ k. none_gone h26 (no
 abbrev t28 : Turn
 t28 = LogTurn (node.Recoverer 513) 513 0 (Push (record { epoch = 513; prev = 2; version = 3; known = 0; bodies = []; mark = Some later })) (Held 3)
 
-abbrev h28 : List Turn
+abbrev pub h28 : List Turn
 h28 = t28 ∷ h27
 
 turn28 : IsTurn c h27 t28
@@ -420,8 +420,11 @@ turn30 : IsTurn c h29 t30
 unfolding row generation_at is_within
 turn30 = ((record { actor = (record { there = refl; up = λ k. none_gone h29 (node.Storage 0) refl k }); told = (inl (refl, refl, refl)) }), refl, tt)
 
+pub is_run28 : IsRun c h28
+is_run28 = (turn28, (turn27, (turn26, (turn25, (turn24, (turn23, (turn22, (turn21, (turn20, (turn19, (turn18, (turn17, (turn16, (turn15, (turn14, (turn13, (turn12, (turn11, (turn10, (turn9, (turn8, (turn7, (turn6, (turn5, (turn4, (turn3, (turn2, (turn1, tt))))))))))))))))))))))))))))
+
 is_run : IsRun c h30
-is_run = (turn30, (turn29, (turn28, (turn27, (turn26, (turn25, (turn24, (turn23, (turn22, (turn21, (turn20, (turn19, (turn18, (turn17, (turn16, (turn15, (turn14, (turn13, (turn12, (turn11, (turn10, (turn9, (turn8, (turn7, (turn6, (turn5, (turn4, (turn3, (turn2, (turn1, tt))))))))))))))))))))))))))))))
+is_run = (turn30, (turn29, is_run28))
 
 pub rollback_happens : RollbackHappens
 unfolding row generation_at is_within

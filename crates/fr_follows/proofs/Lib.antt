@@ -14,4 +14,5 @@ pub mod Retrieving
 pub mod Latest
 pub mod Ordering
 pub mod Example
+pub mod Recoveries
 pub mod Consistent

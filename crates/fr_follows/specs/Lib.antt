@@ -4,5 +4,6 @@ pub mod Committed
 pub mod Order
 pub mod Retrievable
 pub mod Headline
+pub mod Safety
 pub mod Example
 pub mod Laws

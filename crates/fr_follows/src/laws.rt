@@ -1,16 +1,18 @@
 //! Laws of storage servers, and of what is committed.
 ghost use Rattle.fr_follows.specs.Agreement.{PartsAgree, PartsArePieces};
 ghost use Rattle.fr_follows.specs.Committed.{AcknowledgedHasBatch, CommittedGrows, EveryStorageFollows, LatestIsThere};
-ghost use Rattle.fr_follows.specs.Example.{RollbackHappens};
+ghost use Rattle.fr_follows.specs.Example.{RollbackHappens, SurvivesTwoRecoveries};
 ghost use Rattle.fr_follows.specs.Headline.{Headline};
 ghost use Rattle.fr_follows.specs.Order.{AcknowledgedIsNeverCut, FloorIsNeverCut, HeldIsChosen, KnownIsNeverCut, NeverInconsistent};
 ghost use Rattle.fr_follows.specs.Retrievable.{CommittedIsRetrievable};
+ghost use Rattle.fr_follows.specs.Safety.{EachTurnGrows, EveryMomentIsSafe, StandingGrows};
 ghost use Rattle.fr_follows.specs.Storages.{HearsAreTaken, StoragesFollow};
 ghost use Rattle.fr_follows.specs.Laws.{Laws};
 ghost use Rattle.fr_contents.specs.Laws as contents;
 ghost use Rattle.fr_storage.specs.Laws as storage;
 ghost use Rattle.fr_undo.specs.Law.{InverseLaw};
 
+use fr_contents::laws::contents_law;
 use fr_history::laws::node_laws;
 use fr_mutation::{after_law, clip_law};
 use fr_state::{cut_law, equal_law, front_law, source_law, spelling_law};
@@ -18,6 +20,7 @@ use fr_storage::follow_law as hear_law;
 use fr_tags::laws::{cover_law, shard_fold_law, split_law};
 use fr_tail::laws::copy_law;
 use fr_undo::{canonical_law, inverse_law};
+use fr_versions::laws::order_law as version_law;
 
 /// The laws of what logs hold.
 fn contents_laws()
@@ -117,8 +120,24 @@ pub fn headline_law()
     lower_laws();
 }
 
+/// All of it in one record: every moment of every run is safe, and from turn to turn the committed list only grows.
+pub fn safety_law()
+    ensures safe { EveryMomentIsSafe }
+    ensures turns { EachTurnGrows }
+    ensures stands { StandingGrows }
+{
+    version_law();
+    contents_law();
+    order_law();
+    follow_law();
+    committed_law();
+    headline_law();
+}
+
 /// The theorem says something: there is a run in which a batch is acknowledged, a storage server runs ahead of what
-/// survives, one of two logs is lost, and the storage server rolls back by one version.
+/// survives, one of two logs is lost, and the storage server rolls back by one version. And there is a run in which an
+/// acknowledged batch survives two recoveries.
 pub fn example_law()
-    ensures { RollbackHappens }
+    ensures rollback { RollbackHappens }
+    ensures survives { SurvivesTwoRecoveries }
 {}

@@ -2,6 +2,7 @@
 ghost use Rattle.std.specs.Prelude.{◌≡◌, ◌≢◌, ◌⊎◌, ◌↔◌, ◌<◌, ◌≤◌, [], List, ℕ, None, Some, Err, IfOk, IfErr, false};
 ghost use Rattle.fr_log.specs.LogState.{fresh_log};
 ghost use Rattle.fr_record.specs.File.{StandsFor};
+ghost use Rattle.fr_record.specs.Failing.{FailsOnceMore};
 ghost use Rattle.fr_node.specs.Replay.{replayed};
 ghost use Rattle.fr_log_file.specs.LogFile.{replay_log};
 
@@ -57,6 +58,7 @@ impl<D: Device> LogNode<D> {
         ensures works { IfOk result (λ node. node.is_failed ≡ false) }
         ensures full { (result ≡ Err NodeFault.Full) ↔ (D.capacity_of device < 1) }
         ensures only_device { IfErr result (λ fault. (fault ≡ NodeFault.Device) ⊎ (fault ≡ NodeFault.Full)) }
+        ensures device { (result ≡ Err NodeFault.Device) → FailsOnceMore D.failures_of device }
     {
         let log = fresh(alloc, id, m, k);
         log_within_limits(log.log());
@@ -77,6 +79,7 @@ impl<D: Device> LogNode<D> {
         ensures replays { IfOk result (λ node. replayed replay_log (Some (fresh_log id.epoch id.index m k)) node.records ≡ Some node.machine) }
         ensures works { IfOk result (λ node. node.is_failed ≡ false) }
         ensures broken { (result ≡ Err NodeFault.Broken) → (records : List (List ℕ)) → StandsFor (D.disk device).content records → replayed replay_log (Some (fresh_log id.epoch id.index m k)) records ≡ None }
+        ensures device { (result ≡ Err NodeFault.Device) → FailsOnceMore D.failures_of device }
         ensures never_full { result ≢ Err NodeFault.Full }
         ensures never_failed { result ≢ Err NodeFault.Failed }
     {

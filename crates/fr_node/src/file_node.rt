@@ -1,6 +1,7 @@
 //! A machine over a record file.
 ghost use Rattle.std.specs.Prelude.{◌≡◌, ◌≢◌, ◌⊎◌, ◌||◌, ◌↔◌, ◌<◌, [], ◌∷◌, Ok, Err, Some, None, List, ℕ, IfOk, OnOk, OnErr, IfErr, IfSome, IsSome, IsTrue, false};
 ghost use Rattle.fr_record.specs.File.{StandsFor};
+ghost use Rattle.fr_record.specs.Failing.{FailsOnceMore};
 ghost use Rattle.fr_node.specs.Replay.{replayed};
 
 mod reading;
@@ -49,6 +50,7 @@ where
         ensures works { IfOk result (λ node. node.is_failed ≡ false) }
         ensures full { (result ≡ Err NodeFault.Full) ↔ (D.capacity_of device < 1) }
         ensures only_device { IfErr result (λ fault. (fault ≡ NodeFault.Device) ⊎ (fault ≡ NodeFault.Full)) }
+        ensures device { (result ≡ Err NodeFault.Device) → FailsOnceMore D.failures_of device }
     {
         match Records::format(alloc, device) {
             Ok(file) => {
@@ -73,6 +75,7 @@ where
         ensures replays { IfOk result (λ node. replayed M.replay (Some machine) node.records ≡ Some node.machine) }
         ensures works { IfOk result (λ node. node.is_failed ≡ false) }
         ensures broken { (result ≡ Err NodeFault.Broken) → (records : List (List ℕ)) → StandsFor (D.disk device).content records → replayed M.replay (Some machine) records ≡ None }
+        ensures device { (result ≡ Err NodeFault.Device) → FailsOnceMore D.failures_of device }
         ensures never_full { result ≢ Err NodeFault.Full }
         ensures never_failed { result ≢ Err NodeFault.Failed }
     {

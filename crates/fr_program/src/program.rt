@@ -3,6 +3,7 @@ use crate::words::{Request, read_words};
 use clap::error::{Error, ErrorKind};
 use fr_cli::{CliFault, run_apply};
 use fr_cli_end::run_end;
+use fr_cli_simulate::run_simulate;
 use std::alloc::Global;
 use std::io::{Read, Write};
 
@@ -69,6 +70,7 @@ fn run<R: Read, W: Write>(
     match request {
         Request::Apply(options) => run_apply(alloc, options, reader, writer),
         Request::End(options) => run_end(alloc, options, reader, writer),
+        Request::Simulate => run_simulate(alloc, reader, writer),
     }
 }
 

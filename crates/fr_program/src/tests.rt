@@ -68,6 +68,21 @@ fn words_choose_the_end_of_an_epoch(rt: HostRuntime) -> Result<(), Fail> {
 }
 
 #[test]
+fn words_choose_a_simulation(rt: HostRuntime) -> Result<(), Fail> {
+    let words = words_of(rt.alloc(), ["fdbrec", "simulate"].as_slice())?;
+    match read_words(rt.alloc(), words.as_slice()) {
+        Ok(request) => assert!(rt; request == Request::Simulate),
+        Err(error) => assert!(rt; false, "{error}"),
+    }
+    let more = words_of(rt.alloc(), ["fdbrec", "simulate", "more"].as_slice())?;
+    match read_words(rt.alloc(), more.as_slice()) {
+        Ok(_) => assert!(rt; false, "taken"),
+        Err(error) => assert!(rt; error.kind() == ErrorKind::UnknownArgument, "{error}"),
+    }
+    Ok(())
+}
+
+#[test]
 fn other_ends_are_refused(rt: HostRuntime) -> Result<(), Fail> {
     let missing = ErrorKind::MissingRequiredArgument;
     let invalid = ErrorKind::ValueValidation;
@@ -193,6 +208,46 @@ fn a_program_tells_an_end(rt: HostRuntime) -> Result<(), Fail> {
     assert_eq!(rt; ending.status(), 2);
     assert!(rt; matches!(&ending, Ending::Fault(CliFault::BadScript)));
     assert!(rt; written.is_empty());
+    Ok(())
+}
+
+#[test]
+fn a_program_simulates(rt: HostRuntime) -> Result<(), Fail> {
+    let words = ["fdbrec", "simulate"].as_slice();
+    let script =
+        b"{\"config\":{\"coordinators\":1,\"degree\":1,\"logs\":1,\"proxies\":1,\"shards\":[\"\"]},\"steps\":[]}".as_slice();
+    let (ending, written) = end_of(rt.alloc(), words, script)?;
+    assert_eq!(rt; ending.status(), 0);
+    assert!(rt; written.as_slice() == b"storage 0 257 0 floor 0 rows 0\n".as_slice());
+    let (ending, written) = end_of(rt.alloc(), words, &script[1..])?;
+    assert_eq!(rt; ending.status(), 2);
+    assert!(rt; matches!(&ending, Ending::Fault(CliFault::BadScript)));
+    assert!(rt; written.is_empty());
+    Ok(())
+}
+
+#[test]
+fn the_help_of_a_simulation(rt: HostRuntime) -> Result<(), Fail> {
+    let words = ["fdbrec", "simulate", "--help"].as_slice();
+    let (ending, written) = end_of(rt.alloc(), words, b"".as_slice())?;
+    assert_eq!(rt; ending.status(), 0);
+    for name in [
+        "commit",
+        "push",
+        "pull",
+        "mark",
+        "recover",
+        "lose",
+        "chosen pev P rv R",
+    ] {
+        assert!(rt;
+            written
+                .as_slice()
+                .windows(name.len())
+                .any(|at| at == name.as_bytes()),
+            "{name}"
+        );
+    }
     Ok(())
 }
 

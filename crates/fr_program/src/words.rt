@@ -12,6 +12,8 @@ pub enum Request {
     Apply(ApplyOptions),
     /// The end of an epoch, from the replies of a script.
     End(EndOptions),
+    /// The steps of a script, taken in a world.
+    Simulate,
 }
 
 /// The kinds of store, as the words name them.
@@ -102,17 +104,78 @@ prints
 Statuses: 0 done, refused replies included; 2 bad script, or bad words, a K above M among them;
 3 out of memory; 4 input or output failed. A bad script prints no line.";
 
+/// What stands below the help of `simulate`.
+const SIMULATE_HELP: &str = "\
+The script is read from standard input. It says what a world starts from, and steps:
+
+  {\"config\":{\"coordinators\":3,\"degree\":2,\"logs\":2,\"proxies\":1,\"shards\":[\"\"]},\"steps\":[..]}
+
+There are 1, 3, 5, 7 or 9 coordinators, 1 to 16 logs, each tag on degree of them, 1 to 16 proxies,
+and a storage server for each shard, of the keys from where it begins, in lower case hex, on. The
+first epoch is 257, its first version 1. A step is one of
+
+  {\"commit\":{\"epoch\":E,\"proxy\":P,\"step\":D,\"batch\":[..],\"logs\":[I,..]}}
+      a proxy takes a batch, has it numbered D above the last version, and pushes it to these logs;
+      mutations are those of apply
+  {\"push\":{\"epoch\":E,\"proxy\":P,\"logs\":[I,..]}}
+      it pushes the batch that it has open again
+  {\"pull\":{\"storage\":S,\"epoch\":E,\"log\":I}}
+      a storage server applies what a log has for it
+  {\"mark\":{\"storage\":S,\"epoch\":E,\"log\":I}}
+      it hears of the epoch, and takes back what did not survive
+  {\"recover\":{\"ballot\":B,\"read\":[C,..],\"lock\":[I,..],\"write\":[C,..],\"mark\":[I,..]}}
+      the recoverer of a ballot begins or goes on: it reads these cells, locks these logs, copies
+      and seeds, writes to these cells, and gives these logs the mark
+  {\"lose\":{\"epoch\":E,\"log\":I}}
+      a log is lost for good
+
+It prints a line for each step, and then where each storage server stands, with its rows:
+
+  commit E P V OUTCOME      the batch has version V: committed, ended or waiting; so for push
+  commit E P ended          the batch was given no version
+  pull S E V                the server stands at version V of epoch E; so for mark
+  recover B PHASE           reading, locking, copying, writing, chosen pev P rv R (through P all is
+                            known to be committed, through R the epoch takes over) or lost WHY
+  lose E I                  the log is lost
+  .. refused NAME           not done, and nothing changed
+  storage S E V floor F rows N
+  KEY VALUE                 a row, - for no bytes
+
+For instance
+
+  {\"config\":{\"coordinators\":3,\"degree\":2,\"logs\":2,\"proxies\":1,\"shards\":[\"\"]},\"steps\":[
+    {\"commit\":{\"epoch\":257,\"proxy\":0,\"step\":1,\"batch\":[
+      {\"set\":{\"key\":\"61\",\"value\":\"01\"}}],\"logs\":[0,1]}},
+    {\"recover\":{\"ballot\":513,\"read\":[0,1],\"lock\":[1],\"write\":[0,1],\"mark\":[0,1]}},
+    {\"mark\":{\"storage\":0,\"epoch\":513,\"log\":0}},
+    {\"pull\":{\"storage\":0,\"epoch\":513,\"log\":0}}]}
+
+prints
+
+  commit 257 0 2 committed
+  recover 513 chosen pev 0 rv 2
+  mark 0 513 0
+  pull 0 513 3
+  storage 0 513 3 floor 0 rows 1
+  61 01
+
+Statuses: 0 done, refused steps included; 2 bad script, or bad words; 3 out of memory; 4 input or
+output failed. A bad script prints no line.";
+
 /// Reads the words, the first of which is the program's name. An error is a request for help or a
 /// mistake in the words, with the text for the user.
 pub fn read_words(alloc: Global, words: &[String]) -> Result<Request, Error> {
     let matches = command(alloc)?.try_get_matches_from(words)?;
-    match matches.subcommand_matches("end") {
-        Some(end) => read_end(alloc, end),
-        // There is one other command, and one kind of store: other words are refused.
-        None => Ok(Request::Apply(ApplyOptions {
-            store: StoreKind::Map,
-        })),
+    if let Some(end) = matches.subcommand_matches("end") {
+        return read_end(alloc, end);
     }
+    if matches.subcommand_matches("simulate").is_some() {
+        return Ok(Request::Simulate);
+    }
+    // There is one other command, and one kind of store: other words are refused.
+    Ok(Request::Apply(ApplyOptions {
+        store: StoreKind::Map,
+    }))
 }
 
 /// Reads the options of `end`. Each of its numbers is there and within its limits, so what is left to be
@@ -160,6 +223,11 @@ fn command<'a>(alloc: Global) -> Result<Command<'a>, Error> {
         .after_help(END_HELP)
         .arg(logs)?
         .arg(degree)?;
+    let simulate = Command::new(alloc, "simulate")
+        .about(
+            "Takes steps in a world of coordinators, logs, proxies, recoverers and storage servers",
+        )
+        .after_help(SIMULATE_HELP);
     let command = Command::new(alloc, "fdbrec")
         .about("Recovery of FoundationDB's log system, with storage servers that roll back")
         .version(VERSION)
@@ -168,6 +236,7 @@ fn command<'a>(alloc: Global) -> Result<Command<'a>, Error> {
         )
         .subcommand_required(true)
         .subcommand(apply)?
-        .subcommand(end)?;
+        .subcommand(end)?
+        .subcommand(simulate)?;
     Ok(command)
 }

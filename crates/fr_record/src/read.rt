@@ -47,6 +47,7 @@ pub(crate) fn read_record<D: Device>(
     ensures never_failed { result ≢ Err RecordFault.Failed }
     ensures never_broken { result ≢ Err RecordFault.Broken }
     ensures device { (result ≡ Err RecordFault.Device) → D.failures_of device.new ≡ min (D.failures_of device.old + 1) (2 ^ 64 - 1) }
+    ensures no_failure { OnOk result (D.failures_of device.new ≡ D.failures_of device.old) }
 {
     let mut bytes = vec![in alloc; 0; place.len]?;
     device.read_at(place.at, &mut bytes)?;
@@ -67,6 +68,7 @@ fn close<D: Device>(device: &mut D, gate: usize) -> Result<(), RecordFault>
     ensures never_failed { result ≢ Err RecordFault.Failed }
     ensures never_broken { result ≢ Err RecordFault.Broken }
     ensures device { (result ≡ Err RecordFault.Device) → D.failures_of device.new ≡ min (D.failures_of device.old + 1) (2 ^ 64 - 1) }
+    ensures no_failure { OnOk result (D.failures_of device.new ≡ D.failures_of device.old) }
 {
     let _room = device.capacity();
     device.write_at(gate, &[0])?;
@@ -86,6 +88,7 @@ pub(crate) fn read_file<D: Device>(
     ensures never_full { result ≢ Err RecordFault.Full }
     ensures never_failed { result ≢ Err RecordFault.Failed }
     ensures device { (result ≡ Err RecordFault.Device) → D.failures_of device.new ≡ min (D.failures_of device.old + 1) (2 ^ 64 - 1) }
+    ensures no_failure { OnOk result (D.failures_of device.new ≡ D.failures_of device.old) }
     ensures front { (rs : List (List ℕ)) → IsFront rs (D.disk device.old).content → IsFront rs (D.disk device.new).content }
     ensures memory { (result ≡ Err RecordFault.Memory) → Stands (D.disk device.old) (D.disk device.new) }
     ensures no_file { (result ≡ Err RecordFault.Broken) → Stands (D.disk device.old) (D.disk device.new) }

@@ -4,6 +4,7 @@ ghost use Rattle.fr_device.specs.Disk.{Stands, written};
 ghost use Rattle.fr_record.specs.State.{record_at};
 ghost use Rattle.fr_device.specs.Moments.{Throughout, LeavesOnly};
 ghost use Rattle.fr_record.specs.Fault.{met_device};
+ghost use Rattle.fr_record.specs.Failing.{FailsOnceMore};
 ghost use Rattle.fr_record.specs.Group.{records_of};
 ghost use Rattle.fr_record.specs.File.{frames, AreShort, StandsFor, IsLeft, IsAtRest};
 
@@ -72,6 +73,7 @@ impl<D: Device> Records<D> {
         ensures stands { Stands (D.disk self.old.device) (D.disk self.new.device) }
         ensures capacity { D.capacity_of self.new.device ≡ D.capacity_of self.old.device }
         ensures device { (result ≡ Err RecordFault.Device) → D.failures_of self.new.device ≡ min (D.failures_of self.old.device + 1) (2 ^ 64 - 1) }
+        ensures no_failure { OnOk result (D.failures_of self.new.device ≡ D.failures_of self.old.device) }
     {
         if self.is_failed {
             return Err(RecordFault::Failed);
@@ -185,6 +187,7 @@ impl<D: Device> Records<D> {
         ensures failures { IfOk result (λ file. D.failures_of file.device ≡ D.failures_of device) }
         ensures full { (result ≡ Err RecordFault.Full) ↔ (D.capacity_of device < 1) }
         ensures only_device { IfErr result (λ fault. (fault ≡ RecordFault.Device) ⊎ (fault ≡ RecordFault.Full)) }
+        ensures device { (result ≡ Err RecordFault.Device) → FailsOnceMore D.failures_of device }
     {
         let mut device = device;
         if device.capacity() < 1 {
@@ -210,6 +213,8 @@ impl<D: Device> Records<D> {
         ensures works { IfOk result (λ file. file.is_failed ≡ false) }
         ensures kept { IfOk result (λ file. LeavesOnly D.Led D.disk (IsAtRest file.records) file.device) }
         ensures capacity { IfOk result (λ file. D.capacity_of file.device ≡ D.capacity_of device) }
+        ensures failures { IfOk result (λ file. D.failures_of file.device ≡ D.failures_of device) }
+        ensures device { (result ≡ Err RecordFault.Device) → FailsOnceMore D.failures_of device }
         ensures broken { (result ≡ Err RecordFault.Broken) → (rs : List (List ℕ)) → StandsFor (D.disk device).content rs → ⊥ }
         ensures never_full { result ≢ Err RecordFault.Full }
         ensures never_failed { result ≢ Err RecordFault.Failed }

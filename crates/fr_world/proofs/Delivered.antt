@@ -11,15 +11,13 @@ use Rattle.fr_register.specs.declared.ask.CellAsk.{CellAsk}
 use Rattle.fr_log.specs.Step as log
 use Rattle.fr_log.specs.declared.ask.LogAsk.{LogAsk}
 use Rattle.fr_proxy.specs.Sequencer as seq
-use Rattle.fr_history.specs.Turn.{CellTurn, LogTurn, SeqTurn}
+use Rattle.fr_history.specs.Turn.{Turn, CellTurn, LogTurn, SeqTurn}
 use Rattle.fr_history.specs.Nodes.{cell_at, log_at, seq_at}
 use Rattle.fr_history.specs.Run.{IsTurn, WantsSome}
 use Rattle.fr_event.specs.declared.event.Event.TheVariants.{Deliver}
 use Rattle.fr_event.specs.Law.{EventIsTurn}
 use Rattle.fr_event.specs.Step.{delivered, if_sent}
 use Rattle.fr_event.specs.Tests.{was_sent, storage_may_ask}
-use Rattle.fr_world.specs.declared.turn.Turn as code
-use Rattle.fr_world.specs.Turns.{history_of}
 use Rattle.fr_world.specs.World.{WorldState, next_turn}
 use Rattle.fr_world.specs.Stepping.{why_not_up}
 use Rattle.fr_world.proofs.Ups.{up_turn}
@@ -47,8 +45,8 @@ sequencer_may law w from e a up sent =
     (delivery w from (node.Sequencer e) (ask.Seq a) up ∙ ap (λ b. if_sent b (SeqTurn from e a (seq.answer_of (seq_at w.config w.turns e) a))) sent)
 
 -- what a test found, of the node and the ask that they turned out to be
-pub sent_of : (turns now : List code.Turn) (from to n : NodeId) (a x : Ask) (s : Bool) → now ≡ turns → to ≡ n → a ≡ x → s ≡ was_sent (history_of now) from to a → s ≡ was_sent (history_of turns) from n x
-sent_of turns now from to n a x s same is asked test = test ∙ (ap (λ l. was_sent (history_of l) from to a) same ∙ (ap (λ m. was_sent (history_of turns) from m a) is ∙ ap (λ y. was_sent (history_of turns) from n y) asked))
+pub sent_of : (h : List Turn) (from to n : NodeId) (a x : Ask) (s : Bool) → to ≡ n → a ≡ x → s ≡ was_sent h from to a → s ≡ was_sent h from n x
+sent_of h from to n a x s is asked test = test ∙ (ap (λ m. was_sent h from m a) is ∙ ap (λ y. was_sent h from n y) asked)
 
 pub up_of : (w : WorldState) (to n : NodeId) → to ≡ n → why_not_up w to ≡ None → why_not_up w n ≡ None
 up_of w to n is up = subst (λ m. why_not_up w m ≡ None) is up

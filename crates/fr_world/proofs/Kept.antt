@@ -14,8 +14,8 @@ use Rattle.fr_history.specs.Nodes.{cell_at}
 use Rattle.fr_history.specs.Run.{IsTurn}
 use Rattle.fr_history.specs.Laws.{Laws}
 use Rattle.fr_world.specs.Parts.{IsWorld, AreCells, Logs, Sequencers, Proxies, Recoverers, Storages}
-use Rattle.fr_world.specs.declared.turn.Turn.TheVariants as code
-use Rattle.fr_world.specs.Turns.{turn_of}
+use Rattle.fr_turns.specs.declared.turn.Turn.TheVariants as code
+use Rattle.fr_turns.specs.Turns.{turn_of}
 use Rattle.fr_world.proofs.Lists.{each_set}
 use Rattle.fr_world.proofs.Stands.{logs_next, sequencers_next, proxies_next}
 

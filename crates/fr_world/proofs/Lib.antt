@@ -15,3 +15,5 @@ pub mod Hears
 pub mod Heard
 pub mod ToProxies
 pub mod Delivered
+pub mod Grows
+pub mod Lasts

@@ -21,8 +21,8 @@ use Rattle.fr_history.specs.Run.{IsTurn, IsHeardBy, MayBreakIn, fault_of, fault_
 use Rattle.fr_history.specs.Laws.{Laws}
 use Rattle.fr_event.specs.Step.{breaks_in, may_break}
 use Rattle.fr_world.specs.Parts.{IsWorld, AreStorages, Logs, Sequencers, Proxies, Recoverers, Storages, server_of}
-use Rattle.fr_world.specs.declared.turn.Turn.TheVariants as code
-use Rattle.fr_world.specs.Turns.{turn_of}
+use Rattle.fr_turns.specs.declared.turn.Turn.TheVariants as code
+use Rattle.fr_turns.specs.Turns.{turn_of}
 use Rattle.fr_world.proofs.Lists.{each_set}
 use Rattle.fr_world.proofs.Stands.{logs_next, sequencers_next, proxies_next}
 

@@ -1,5 +1,3 @@
-pub mod Limits
-pub mod Turns
 pub mod Parts
 pub mod World
 pub mod Stepping

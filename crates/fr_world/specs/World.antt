@@ -7,7 +7,6 @@ use Rattle.fr_event.specs.declared.event.Event.{Event}
 use Rattle.fr_event.specs.declared.not_enabled.NotEnabled.{NotEnabled}
 use Rattle.fr_event.specs.Step.{turn_of, answer_of}
 use Rattle.fr_world.specs.declared.nodes.Nodes.{Nodes}
-use Rattle.fr_world.specs.Turns.{history_of}
 use Rattle.fr_world.specs.Parts.{IsWorld}
 
 -- what it started from, and its turns, the newest first: by them each of its nodes is known
@@ -16,11 +15,11 @@ pub record WorldState : Type 0 where
   pub turns : List Turn
 
 abbrev pub state_of : Nodes → WorldState
-state_of a = record { config = a.config; turns = history_of a.turns.items }
+state_of a = record { config = a.config; turns = a.turns.turns }
 
 -- the nodes that it keeps are those of what happened, which is a run
 abbrev pub IsKept : Nodes → Type 0
-IsKept a = IsWorld a.config (history_of a.turns.items) a.cells.items a.logs a.sequencers a.proxies a.recoverers a.storages.items
+IsKept a = IsWorld a.config a.turns.turns a.cells.items a.logs a.sequencers a.proxies a.recoverers a.storages.items
 
 -- a turn more
 abbrev pub with_turn : WorldState → Turn → WorldState

@@ -10,23 +10,24 @@ pub(crate) mod cells;
 mod leaving;
 pub(crate) mod logs;
 pub(crate) mod proxies;
+mod readers;
 pub(crate) mod recoverers;
 mod recovering;
 pub(crate) mod sequencers;
 mod served;
 pub(crate) mod storages;
 
-use crate::config::Config;
-use crate::turn::Turn;
-use crate::{history, start};
+use crate::start;
 use fr_ask::{Ask, Tell};
 use fr_base::{Ballot, Epoch, Memory, NodeId, Version};
+use fr_config::Config;
 use fr_epoch::Recoverer;
 use fr_log::Log;
 use fr_proxy::{Proxy, Sequencer};
 use fr_register::Cell;
 use fr_state::Generation;
 use fr_storage::Storage;
+use fr_turns::Turns;
 use fr_undo::MapStore;
 use std::alloc::Global;
 use std::collections::BTreeMap;
@@ -48,7 +49,7 @@ pub(crate) struct Nodes {
     pub(crate) proxies: BTreeMap<(Epoch, u8), Proxy>,
     pub(crate) recoverers: BTreeMap<Ballot, Recoverer>,
     pub(crate) storages: Vec<Storage<MapStore>>,
-    pub(crate) turns: Vec<Turn>,
+    pub(crate) turns: Turns,
 }
 
 impl Nodes {
@@ -56,7 +57,7 @@ impl Nodes {
     pub(crate) fn start(alloc: Global, config: Config) -> Result<Self, Memory>
         ensures kept { IfOk result IsKept }
         ensures config { IfOk result (λ n. n.config ≡ config) }
-        ensures turns { IfOk result (λ n. n.turns.items ≡ []) }
+        ensures turns { IfOk result (λ n. n.turns.turns ≡ []) }
     {
         let cells = start::cells(alloc, &config)?;
         let storages = start::storages(alloc, &config)?;
@@ -69,7 +70,7 @@ impl Nodes {
             proxies: BTreeMap::new(alloc),
             recoverers: BTreeMap::new(alloc),
             storages,
-            turns: Vec::new(alloc),
+            turns: Turns::new(alloc),
         })
     }
 
@@ -135,21 +136,21 @@ impl Nodes {
     pub(crate) fn is_gone(&self, node: NodeId) -> bool
         ensures { result ≡ tests.is_gone (state_of self.now).turns node }
     {
-        history::is_gone(self.turns.as_slice(), &node)
+        self.turns.is_gone(&node)
     }
 
     /// Whether a node gave an ask to another.
     pub(crate) fn was_sent(&self, from: NodeId, to: NodeId, ask: &Ask) -> bool
         ensures { result ≡ tests.was_sent (state_of self.now).turns from to ask.now }
     {
-        history::was_sent(self.turns.as_slice(), &from, &to, ask)
+        self.turns.was_sent(&from, &to, ask)
     }
 
     /// Whether a node told this to another.
     pub(crate) fn was_told(&self, by: NodeId, to: NodeId, tell: &Tell) -> bool
         ensures { result ≡ tests.was_told (state_of self.now).turns by to tell.now }
     {
-        history::was_told(self.turns.as_slice(), &by, &to, tell)
+        self.turns.was_told(&by, &to, tell)
     }
 }
 

@@ -2,15 +2,18 @@
 ghost use Rattle.std.specs.Prelude.{◌≡◌, ◌≢◌, Err, IfErr, IfOk, Ok};
 ghost use Rattle.fr_event.specs.declared.not_enabled.NotEnabled.{NotEnabled};
 ghost use Rattle.fr_event.specs.Step.{replay};
+ghost use Rattle.fr_follows.specs.Committed.{AcknowledgedIsNeverUndone, RolledBackIsExact};
+ghost use Rattle.fr_follows.specs.Safety.{IsSafe};
 
-use crate::config::Config;
 use crate::world::World;
+use fr_config::Config;
 use fr_event::{Event, NotEnabled};
 use std::alloc::Global;
 
 impl World {
     /// The world that a list of events makes from the start; or the number of the first event that cannot happen,
-    /// from 0 on, and why. Every list of events either is a run or is refused so.
+    /// from 0 on, and why. Every list of events either is a run or is refused so. In each world that it answers the
+    /// main theorem holds, and all else that [`World::is_safe`] says.
     pub fn replay(
         alloc: Global,
         config: Config,
@@ -18,6 +21,8 @@ impl World {
     ) -> Result<World, (usize, NotEnabled)>
         ensures config { IfOk result (λ world. world.config ≡ config) }
         ensures turns { IfOk result (λ world. replay config events.now ≡ Ok world.turns) }
+        ensures headline { IfOk result (λ world. RolledBackIsExact world.config world.turns × AcknowledgedIsNeverUndone world.config world.turns) }
+        ensures safe { IfOk result (λ world. IsSafe world.config world.turns) }
         ensures refused { IfErr result (λ first. first.1 ≢ NotEnabled.Memory → replay config events.now ≡ Err first) }
     {
         let Ok(mut world) = World::start(alloc, config) else {
@@ -28,6 +33,7 @@ impl World {
                 return Err((number, why));
             }
         }
+        world.is_safe();
         Ok(world)
     }
 }

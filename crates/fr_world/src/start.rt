@@ -4,8 +4,8 @@ ghost use Rattle.std.specs.Prelude.{◌≡◌, ◌<◌, false, [], IfOk};
 ghost use Rattle.fr_history.specs.Config.{first_generation, first_state, first_cell, first_log, first_storage};
 ghost use Rattle.fr_world.specs.Parts.{server_of, AreCells, AreStorages};
 
-use crate::config::Config;
 use fr_base::{Ballot, Epoch, LogId, Machine, Memory, Tag, Version};
+use fr_config::Config;
 use fr_log::{Log, LogAsk, Push, Seed};
 use fr_register::{Cell, CellValue};
 use fr_state::{CoordState, Generation, encode};

@@ -6,13 +6,35 @@ ghost use Rattle.fr_world.specs.World.{state_of, IsKept};
 
 use crate::nodes::Nodes;
 use fr_ask::Tell;
-use fr_base::{NodeId, Version};
+use fr_base::{Memory, NodeId, Version};
 use fr_event::{Answer, Event, NotEnabled};
 use std::alloc::Global;
 
 impl Nodes {
-    /// Makes the turn that an event is, or says why it cannot happen, which changes nothing.
+    /// Makes the turn that an event is, or says why it cannot happen, which changes nothing. The turns before it are
+    /// entered first, so that what the event needs of them is found without a walk over them.
     pub(crate) fn step(&mut self, alloc: Global, event: &Event) -> Result<Answer, NotEnabled>
+        requires kept { IsKept self.old }
+        ensures turn { Steps (state_of self.old) (state_of self.new) event.now result }
+        ensures refused { Refuses (state_of self.old) event.now result }
+        ensures err { OnErr result (state_of self.new ≡ state_of self.old) }
+        ensures stays { IsKept self.new }
+    {
+        self.catch_up(alloc)?;
+        self.happen(alloc, event)
+    }
+
+    /// Enters the turns that were added, which changes nothing that is seen of a world.
+    fn catch_up(&mut self, alloc: Global) -> Result<(), Memory>
+        requires kept { IsKept self.old }
+        ensures same { state_of self.new ≡ state_of self.old }
+        ensures stays { IsKept self.new }
+    {
+        self.turns.catch_up(alloc)
+    }
+
+    /// Makes the turn that an event is, after the turns before it were entered.
+    fn happen(&mut self, alloc: Global, event: &Event) -> Result<Answer, NotEnabled>
         requires kept { IsKept self.old }
         ensures turn { Steps (state_of self.old) (state_of self.new) event.now result }
         ensures refused { Refuses (state_of self.old) event.now result }

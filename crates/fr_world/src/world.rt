@@ -1,17 +1,27 @@
 //! A world of nodes.
-ghost use Rattle.std.specs.Prelude.{◌≡◌, ℕ, [], IfOk, OnErr};
-ghost use Rattle.fr_follows.specs.Committed.{AcknowledgedIsNeverUndone, IsFollowing, RolledBackIsExact};
+ghost use Rattle.std.specs.Option.{option_map};
+ghost use Rattle.std.specs.Prelude.{◌≡◌, ℕ, [], length, nat_lt, is_some, IfOk, IfSome, OnErr, false};
+ghost use Rattle.fr_follows.specs.Committed.{AcknowledgedIsNeverUndone, RolledBackIsExact};
+ghost use Rattle.fr_follows.specs.Safety.{IsGrownFrom, IsSafe};
 ghost use Rattle.fr_history.specs.Run.{IsRun};
 ghost use Rattle.fr_world.specs.Stepping.{Steps, Refuses};
 ghost use Rattle.fr_history.specs.Nodes as nodes;
 ghost use Rattle.fr_event.specs.Tests as tests;
+ghost use Rattle.fr_last.specs.At.{last_at, proxy_if_there};
+ghost use Rattle.fr_world.specs.Parts.{server_of};
+ghost use Rattle.fr_turns.specs.Turns.{history_of};
 
-use crate::config::Config;
 use crate::nodes::Nodes;
-use fr_ask::{Ask, Tell};
-use fr_base::{Memory, NodeId};
+use fr_ask::{Ask, Last, Tell};
+use fr_base::{Ballot, Epoch, Memory, NodeId, Tag};
+use fr_config::Config;
+use fr_epoch::Recoverer;
 use fr_event::{Answer, Event, NotEnabled};
-use fr_follows::laws::{follow_law, headline_law};
+use fr_follows::laws::safety_law;
+use fr_proxy::Proxy;
+use fr_storage::Storage;
+use fr_turns::Turn;
+use fr_undo::MapStore;
 use std::alloc::Global;
 use std::marker::Model;
 
@@ -47,18 +57,29 @@ impl World {
     /// cannot happen is refused, for the first of the reasons in the order of `NotEnabled`, and changes nothing; so
     /// does want of memory. In the world that it leaves, a storage server that has just rolled back holds exactly
     /// its shard of the map given by the committed batches through its applied version, which is at most the
-    /// recovery version; no acknowledged commit is ever undone; and every storage server follows.
+    /// recovery version, and no acknowledged commit is ever undone. All else that is promised of it is what
+    /// [`World::is_safe`] says; and its committed list begins with that of the world before.
     pub fn step(&mut self, alloc: Global, event: &Event) -> Result<Answer, NotEnabled>
         ensures turn { Steps self.old self.new event.now result }
         ensures refused { Refuses self.old event.now result }
         ensures err { OnErr result (self.new ≡ self.old) }
         ensures run { IsRun self.new.config self.new.turns }
         ensures headline { RolledBackIsExact self.new.config self.new.turns × AcknowledgedIsNeverUndone self.new.config self.new.turns }
-        ensures follows { (tag : ℕ) → IsFollowing self.new.config self.new.turns tag (nodes.storage_at self.new.config self.new.turns tag) }
+        ensures safe { IsSafe self.new.config self.new.turns }
+        ensures grows { IsGrownFrom self.new.config self.old.turns self.new.turns }
     {
-        headline_law();
-        follow_law();
+        safety_law();
         self.nodes.step(alloc, event)
+    }
+
+    /// Says what is promised of every world, and does nothing: the order of versions, that every storage server follows,
+    /// also one that ran ahead, skipped epochs or broke off a hear, that one which has just rolled back holds exactly
+    /// its shard of what is committed, that no acknowledged commit is ever undone, and that what is committed can be
+    /// retrieved while fewer than k logs of each generation are lost.
+    pub fn is_safe(&self)
+        ensures { IsSafe self.now.config self.now.turns }
+    {
+        self.nodes.is_safe()
     }
 
     /// What it started from.
@@ -94,5 +115,43 @@ impl World {
         ensures { result ≡ tests.was_told self.now.turns by to tell.now }
     {
         self.nodes.was_told(by, to, tell)
+    }
+
+    /// The storage server of a tag; None where there is no such shard.
+    pub fn storage(&self, tag: Tag) -> Option<&Storage<MapStore>>
+        ensures there { is_some result ≡ nat_lt tag (length self.now.config.begins) }
+        ensures server { IfSome result (λ s. server_of s.now ≡ nodes.storage_at self.now.config self.now.turns tag) }
+        ensures works { IfSome result (λ s. s.now.failed ≡ false) }
+    {
+        self.nodes.storage(tag)
+    }
+
+    /// The recoverer of a ballot, from its begin on, also where it is gone.
+    pub fn recoverer(&self, ballot: Ballot) -> Option<&Recoverer>
+        ensures { option_map (λ r. r.now) result ≡ nodes.rec_at self.now.config self.now.turns ballot }
+    {
+        self.nodes.recoverer(ballot)
+    }
+
+    /// A proxy as it stands, also where it is gone: an equal one. None where it is not there.
+    pub fn proxy(&self, epoch: Epoch, number: u8) -> Result<Option<Proxy>, Memory>
+        ensures { IfOk result (λ proxy. proxy ≡ proxy_if_there self.now.config self.now.turns epoch number) }
+    {
+        self.nodes.proxy(epoch, number)
+    }
+
+    /// What others see of a node's last state: of one that is gone, the last that it had. None where it is not there.
+    /// The rows of a storage server are copied.
+    pub fn last_of(&self, alloc: Global, node: NodeId) -> Result<Option<Last>, Memory>
+        ensures { IfOk result (λ last. last ≡ last_at self.now.config self.now.turns node) }
+    {
+        self.nodes.last_of(alloc, &node)
+    }
+
+    /// What happened, the oldest first: each event with the asks and the answer that it gave.
+    pub fn turns(&self) -> &[Turn]
+        ensures { history_of result.now ≡ self.now.turns }
+    {
+        self.nodes.turns.as_slice()
     }
 }

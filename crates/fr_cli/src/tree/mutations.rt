@@ -12,7 +12,7 @@ use serde_json::Value;
 use std::alloc::Global;
 
 /// Reads a batch: an array of mutations.
-pub(crate) fn read_batch(alloc: Global, value: Value) -> Result<Mutations, CliFault>
+pub fn read_batch(alloc: Global, value: Value) -> Result<Mutations, CliFault>
     ensures ok { IfOk result (λ batch. batch_of (view value) ≡ Some batch) }
     ensures bad { result ≡ Err CliFault.BadScript → batch_of (view value) ≡ None }
     ensures fault { IfErr result (λ e. (e ≡ CliFault.BadScript) ⊎ (e ≡ CliFault.Memory)) }

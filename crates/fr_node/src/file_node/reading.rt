@@ -1,5 +1,5 @@
 //! Bringing a machine back from its file.
-ghost use Rattle.std.specs.Prelude.{◌≡◌, ◌≢◌, Err, Some, None, OnOk, OnErr, false};
+ghost use Rattle.std.specs.Prelude.{◌≡◌, ◌≢◌, ◌+◌, ◌-◌, ◌^◌, min, Err, Some, None, OnOk, OnErr, false};
 ghost use Rattle.fr_node.specs.Replay.{replayed};
 
 use crate::fault::{ReadFault, node_fault};
@@ -21,6 +21,7 @@ pub(super) fn read_all<M: Recorded, D: Device>(
     ensures broken { (result ≡ Err NodeFault.Broken) → replayed M.replay (Some machine.old) file.old.records ≡ None }
     ensures records { file.new.records ≡ file.old.records }
     ensures works { OnOk result (file.new.is_failed ≡ false) }
+    ensures device { (result ≡ Err NodeFault.Device) → D.failures_of file.new.device ≡ min (D.failures_of file.old.device + 1) (2 ^ 64 - 1) }
     ensures never_full { result ≢ Err NodeFault.Full }
     ensures never_failed { result ≢ Err NodeFault.Failed }
     ensures sound { M.IsSound machine.new }

@@ -7,7 +7,7 @@ ghost use Rattle.fr_world.specs.Stepping.{Steps, Refuses};
 ghost use Rattle.fr_world.specs.World.{state_of, IsKept};
 
 use crate::nodes::Nodes;
-use crate::{history, start};
+use crate::start;
 use fr_ask::Tell;
 use fr_base::{Ballot, NodeId, Version};
 use fr_event::laws::step_law;
@@ -61,7 +61,7 @@ impl Nodes {
         if let Some(why) = self.why_not_up(&by) {
             return Err(why);
         }
-        let told = history::was_told(self.turns.as_slice(), &from, &by, tell);
+        let told = self.turns.was_told(&from, &by, tell);
         if !told || taken.is_some() {
             return Err(NotEnabled::NeverSent);
         }

@@ -14,7 +14,6 @@ ghost use Rattle.fr_register.specs.Cell as cell;
 ghost use Rattle.fr_world.specs.Stepping.{Steps, Refuses};
 ghost use Rattle.fr_world.specs.World.{state_of, stepped_by, IsKept};
 
-use crate::history;
 use crate::nodes::Nodes;
 use fr_ask::{Ask, SeqAsk, Tell};
 use fr_base::{Epoch, LogId, NodeId};
@@ -44,7 +43,7 @@ impl Nodes {
         if let Some(why) = self.why_not_up(&to) {
             return Err(why);
         }
-        let sent = history::was_sent(self.turns.as_slice(), &from, &to, ask);
+        let sent = self.turns.was_sent(&from, &to, ask);
         match ask {
             Ask::Cell(ask) => match to {
                 NodeId::Cell { index } => self.to_cell(alloc, from, index, ask, sent),

@@ -6,7 +6,6 @@ ghost use Rattle.fr_event.specs.declared.event.Event.TheVariants as event;
 ghost use Rattle.fr_world.specs.Stepping.{Steps, Refuses};
 ghost use Rattle.fr_world.specs.World.{state_of, IsKept};
 
-use crate::history;
 use crate::nodes::Nodes;
 use fr_ask::Tell;
 use fr_base::{Epoch, NodeId, Step, Version};
@@ -71,7 +70,7 @@ impl Nodes {
         if let Some(why) = self.why_not_up(&by) {
             return Err(why);
         }
-        let told = history::was_told(self.turns.as_slice(), &from, &by, tell);
+        let told = self.turns.was_told(&from, &by, tell);
         if !told || taken.is_some() {
             return Err(NotEnabled::NeverSent);
         }

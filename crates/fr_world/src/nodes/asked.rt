@@ -16,7 +16,6 @@ use super::logs::{ask_log, keep_log};
 use super::sequencers::ask_sequencer;
 use super::{Nodes, after};
 use crate::start;
-use crate::turn::Turn;
 use fr_ask::{SeqAsk, SeqTell};
 use fr_base::{Epoch, LogId, Memory, NodeId, Version};
 use fr_epoch::Recoverer;
@@ -24,6 +23,7 @@ use fr_epoch::laws::write_law;
 use fr_history::laws::node_laws;
 use fr_log::{Log, LogAsk, LogTell};
 use fr_register::{CellAsk, CellTell};
+use fr_turns::Turn;
 use std::alloc::Global;
 
 impl Nodes {
@@ -43,7 +43,7 @@ impl Nodes {
         ensures stays { IsKept self.new }
     {
         node_laws();
-        self.turns.reserve(1)?;
+        self.turns.reserve()?;
         let kept = ask.copy()?;
         let told = ask_cell(alloc, &mut self.cells, usize::from(index), ask.copy()?)?;
         self.turns.push_reserved(Turn::Cell {
@@ -72,7 +72,7 @@ impl Nodes {
     {
         node_laws();
         self.make_log(alloc, id)?;
-        self.turns.reserve(1)?;
+        self.turns.reserve()?;
         let kept = ask.copy()?;
         let told = ask_log(alloc, &mut self.logs, (id.epoch, id.index), ask.copy()?)?;
         self.turns.push_reserved(Turn::Log {
@@ -101,7 +101,7 @@ impl Nodes {
     }
 
     /// A log that was never asked.
-    fn new_log(&self, alloc: Global, id: LogId) -> Result<Log, Memory>
+    pub(crate) fn new_log(&self, alloc: Global, id: LogId) -> Result<Log, Memory>
         requires kept { IsKept self.now }
         requires there { id.index < nodes.logs_at (state_of self.now).config (state_of self.now).turns id.epoch }
         ensures { IfOk result (λ log. log ≡ nodes.new_log (state_of self.now).config (state_of self.now).turns id.epoch id.index) }
@@ -132,7 +132,7 @@ impl Nodes {
     {
         node_laws();
         let last = self.mark_version(epoch);
-        self.turns.reserve(1)?;
+        self.turns.reserve()?;
         let kept = ask;
         let told = ask_sequencer(alloc, &mut self.sequencers, epoch, last, ask)?;
         let tell = told;
@@ -146,7 +146,7 @@ impl Nodes {
     }
 
     /// The version of the mark of an epoch.
-    fn mark_version(&self, epoch: Epoch) -> Version
+    pub(crate) fn mark_version(&self, epoch: Epoch) -> Version
         requires { IsKept self.now }
         ensures { result ≡ nodes.mark_version (nodes.generation_at (state_of self.now).config (state_of self.now).turns epoch) }
     {

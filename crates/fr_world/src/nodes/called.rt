@@ -10,13 +10,12 @@ ghost use Rattle.fr_history.specs.Nodes as nodes;
 ghost use Rattle.fr_history.specs.Run.{IsTurn, IsUp};
 ghost use Rattle.fr_history.specs.Turn as history;
 ghost use Rattle.fr_world.specs.Parts.{new_proxy, pair_cmp};
-ghost use Rattle.fr_world.specs.Turns.{turn_of};
+ghost use Rattle.fr_turns.specs.Turns.{turn_of};
 ghost use Rattle.fr_world.specs.World.{state_of, with_turn, IsKept};
 
 use super::Nodes;
 use super::proxies::{keep_proxy, submit, tell_proxy};
 use crate::start::first_epoch;
-use crate::turn::Turn;
 use fr_ask::{Ask, Tell};
 use fr_base::{Epoch, Memory, NodeId, Step, Version};
 use fr_epoch::Recoverer;
@@ -24,6 +23,7 @@ use fr_history::laws::node_laws;
 use fr_mutation::Batch;
 use fr_proxy::{Outcome, Proxy, SubmitFault};
 use fr_tags::ShardMap;
+use fr_turns::Turn;
 use std::alloc::Global;
 
 impl Nodes {
@@ -45,7 +45,7 @@ impl Nodes {
     {
         node_laws();
         self.keep_proxy_of(epoch, proxy)?;
-        self.turns.reserve(1)?;
+        self.turns.reserve()?;
         let kept = tell.copy()?;
         let by = again(&from);
         let (outcome, asks) = tell_proxy(alloc, &mut self.proxies, (epoch, proxy), by, tell)?;
@@ -74,7 +74,7 @@ impl Nodes {
     {
         node_laws();
         self.keep_proxy_of(epoch, proxy)?;
-        if self.turns.reserve(1).is_err() {
+        if self.turns.reserve().is_err() {
             return Err(SubmitFault::Memory);
         }
         let kept = batch.copy()?;
@@ -102,7 +102,7 @@ impl Nodes {
     }
 
     /// A proxy of an open epoch, before it was called.
-    fn new_proxy(&self, epoch: Epoch, number: u8) -> Result<Proxy, Memory>
+    pub(crate) fn new_proxy(&self, epoch: Epoch, number: u8) -> Result<Proxy, Memory>
         requires kept { IsKept self.now }
         requires open { nodes.is_open (state_of self.now).config (state_of self.now).turns epoch ≡ true }
         ensures { IfOk result (λ proxy. proxy ≡ new_proxy (state_of self.now).config (state_of self.now).turns epoch number) }

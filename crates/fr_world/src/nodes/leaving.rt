@@ -5,9 +5,9 @@ ghost use Rattle.fr_history.specs.Turn as history;
 ghost use Rattle.fr_world.specs.World.{state_of, with_turn, IsKept};
 
 use super::Nodes;
-use crate::turn::Turn;
 use fr_base::{Memory, NodeId};
 use fr_history::laws::node_laws;
+use fr_turns::Turn;
 
 impl Nodes {
     /// A sequencer, proxy or recoverer crashes, or a log is lost.
@@ -19,7 +19,7 @@ impl Nodes {
         ensures stays { IsKept self.new }
     {
         node_laws();
-        self.turns.reserve(1)?;
+        self.turns.reserve()?;
         self.turns.push_reserved(Turn::Gone { node });
         Ok(())
     }
@@ -33,7 +33,7 @@ impl Nodes {
         ensures stays { IsKept self.new }
     {
         node_laws();
-        self.turns.reserve(1)?;
+        self.turns.reserve()?;
         self.turns.push_reserved(Turn::Crashed { node });
         Ok(())
     }

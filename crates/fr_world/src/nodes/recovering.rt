@@ -9,11 +9,11 @@ ghost use Rattle.fr_world.specs.World.{state_of, with_turn, IsKept};
 
 use super::Nodes;
 use super::recoverers::{keep_recoverer, tell_recoverer};
-use crate::turn::Turn;
 use fr_ask::Tell;
 use fr_base::{Ballot, Memory, NodeId};
 use fr_epoch::Recoverer;
 use fr_history::laws::node_laws;
+use fr_turns::Turn;
 use std::alloc::Global;
 
 impl Nodes {
@@ -26,7 +26,7 @@ impl Nodes {
         ensures stays { IsKept self.new }
     {
         node_laws();
-        self.turns.reserve(1)?;
+        self.turns.reserve()?;
         let map = self.config.map().copy()?;
         let recoverer = Recoverer::begin(alloc, ballot, self.config.coordinators(), map);
         let asks = recoverer.pending(alloc)?;
@@ -51,7 +51,7 @@ impl Nodes {
         ensures stays { IsKept self.new }
     {
         node_laws();
-        self.turns.reserve(1)?;
+        self.turns.reserve()?;
         let kept = tell.copy()?;
         let asks = tell_recoverer(alloc, &mut self.recoverers, ballot, from, tell.copy()?)?;
         self.turns.push_reserved(Turn::Recoverer {

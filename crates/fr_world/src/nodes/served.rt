@@ -9,11 +9,11 @@ ghost use Rattle.fr_world.specs.World.{state_of, with_turn, IsKept};
 
 use super::Nodes;
 use super::storages::{Heard, break_server, tell_server};
-use crate::turn::Turn;
 use fr_ask::Tell;
 use fr_base::{Memory, NodeId, Tag, Version};
 use fr_history::laws::node_laws;
 use fr_storage::StorageFault;
+use fr_turns::Turn;
 use std::alloc::Global;
 
 impl Nodes {
@@ -33,7 +33,7 @@ impl Nodes {
         ensures stays { IsKept self.new }
     {
         node_laws();
-        self.turns.reserve(1)?;
+        self.turns.reserve()?;
         let kept = tell.copy()?;
         let number = usize::from(tag.get());
         let Heard { server, fault } = tell_server(alloc, &self.storages[number], &from, tell)?;
@@ -67,7 +67,7 @@ impl Nodes {
         ensures stays { IsKept self.new }
     {
         node_laws();
-        self.turns.reserve(1)?;
+        self.turns.reserve()?;
         let kept = tell.copy()?;
         let number = usize::from(tag.get());
         match break_server(alloc, &self.storages[number], &from, tell, version)? {

@@ -39,6 +39,7 @@ loop-i-preserved g c =
       works = still_works;
       sound = c.read.ensures.sound;
       same = g.met.M.Recorded.same_read c.loop-i.machine c.read.new.self c.as_slice.result.now reads ∙ c.loop-i.invariant.same;
+      failures = c.in-Ok-Some.ensures.no_failure ∙ c.loop-i.invariant.failures;
       end = end;
       so_far = read_more g.M.Recorded.replay c.args.machine.now rs i c.loop-i.machine c.as_slice.result.now within found c.loop-i.invariant.so_far c.read.new.self reads;
     }

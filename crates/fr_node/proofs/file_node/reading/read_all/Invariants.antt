@@ -8,6 +8,7 @@ invariant-loop-i g l = record {
   works : l.file.is_failed ≡ false;
   sound : g.M.Recorded.IsSound l.machine;
   same : g.M.Recorded.fresh l.machine ≡ g.M.Recorded.fresh l.initial.machine;
+  failures : g.D.Device.failures_of l.file.device ≡ g.D.Device.failures_of l.initial.file.device;
   end : l.i-end ≡ length l.initial.file.records;
   so_far : replayed g.M.Recorded.replay (Some l.initial.machine) (take l.i l.initial.file.records) ≡ Some l.machine;
 }

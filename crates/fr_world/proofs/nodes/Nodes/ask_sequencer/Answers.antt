@@ -2,30 +2,30 @@ use Rattle.std.proofs.Common.{◌≡◌, ap, ◌∙◌, [], ◌∷◌, ◌++◌}
 use Rattle.fr_proxy.specs.Sequencer as seq
 use Rattle.fr_history.specs.Nodes as nodes
 use Rattle.fr_history.specs.Turn as history
-use Rattle.fr_world.specs.Turns.{history_of}
+use Rattle.fr_turns.specs.Turns.{turn_of}
 use Rattle.fr_world.specs.World.{WorldState}
-use Rattle.fr_world.specs.declared.turn.Turn.TheVariants as code
+use Rattle.fr_turns.specs.declared.turn.Turn.TheVariants as code
 use Rattle.fr_world.proofs.Histories.{history_push}
 use Rattle.fr_world.proofs.Asked.{seq_told, seq_world}
 use Rattle.fr_world.proofs.nodes.Nodes.ask_sequencer.Goals as goal
 
 -- the sequencer told it
-told : (c : goal.After-push_reserved) → c.in_ok-told.told ≡ seq.answer_of (nodes.seq_at c.args.self.now.config (history_of c.args.self.now.turns.items) c.args.epoch) c.args.ask
+told : (c : goal.After-push_reserved) → c.in_ok-told.told ≡ seq.answer_of (nodes.seq_at c.args.self.now.config c.args.self.now.turns.turns c.args.epoch) c.args.ask
 told c =
     let n = c.args.self.now in
-    let h = history_of n.turns.items in
+    let h = n.turns.turns in
     seq_told n.config h c.args.epoch c.mark_version-last.result c.args.ask c.in_ok-told.told n.sequencers c.requires.kept.sequencers_are c.requires.turn.0.there c.mark_version-last.ensures c.in_ok-told.ensures.told
 
 -- the turn is entered
-later : (c : goal.After-push_reserved) → history_of c.push_reserved.new.self.items
-    ≡ history.SeqTurn c.args.from c.args.epoch c.args.ask (seq.answer_of (nodes.seq_at c.args.self.now.config (history_of c.args.self.now.turns.items) c.args.epoch) c.args.ask) ∷ history_of c.args.self.now.turns.items
+later : (c : goal.After-push_reserved) → c.push_reserved.new.self.turns
+    ≡ history.SeqTurn c.args.from c.args.epoch c.args.ask (seq.answer_of (nodes.seq_at c.args.self.now.config c.args.self.now.turns.turns c.args.epoch) c.args.ask) ∷ c.args.self.now.turns.turns
 later c =
     let n = c.args.self.now in
-    let h = history_of n.turns.items in
+    let h = n.turns.turns in
     let a = c.args.ask in
     let x = code.Sequencer c.args.from c.args.epoch a c.in_ok-told.told in
-    history_push n.turns.items c.push_reserved.new.self.items x (history.SeqTurn c.args.from c.args.epoch a (seq.answer_of (nodes.seq_at n.config h c.args.epoch) a))
-    (c.push_reserved.ensures.items ∙ ap (λ xs. xs ++ (x ∷ [])) c.in_ok-reserve.ensures.items) (ap (history.SeqTurn c.args.from c.args.epoch a) (told c))
+    history_push n.turns.turns c.push_reserved.new.self.turns x (history.SeqTurn c.args.from c.args.epoch a (seq.answer_of (nodes.seq_at n.config h c.args.epoch) a))
+    (c.push_reserved.ensures ∙ ap (λ xs. turn_of x ∷ xs) c.in_ok-reserve.ensures.turns) (ap (history.SeqTurn c.args.from c.args.epoch a) (told c))
 
 pub returns-clause-told : goal.returns-clause-told
 returns-clause-told c = told c
@@ -36,7 +36,7 @@ returns-clause-world c = ap (λ x. let w : WorldState = record { config = c.args
 pub returns-clause-stays : goal.returns-clause-stays
 returns-clause-stays c =
     let n = c.args.self.now in
-    let h = history_of n.turns.items in
+    let h = n.turns.turns in
     let a = c.args.ask in
-    seq_world c.node_laws.ensures n.config h (history_of c.push_reserved.new.self.items) c.args.from c.args.epoch c.mark_version-last.result a (seq.answer_of (nodes.seq_at n.config h c.args.epoch) a)
+    seq_world c.node_laws.ensures n.config h c.push_reserved.new.self.turns c.args.from c.args.epoch c.mark_version-last.result a (seq.answer_of (nodes.seq_at n.config h c.args.epoch) a)
     n.cells.items n.logs n.sequencers c.ask_sequencer.new.sequencers n.proxies n.recoverers n.storages.items c.requires.kept c.requires.turn c.mark_version-last.ensures c.in_ok-told.ensures.after (later c)

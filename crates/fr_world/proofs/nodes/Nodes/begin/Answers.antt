@@ -2,9 +2,9 @@ use Rattle.std.proofs.Common.{◌≡◌, ap, ◌∙◌, [], ◌∷◌, ◌++◌}
 use Rattle.fr_epoch.specs.Asks.{pending}
 use Rattle.fr_epoch.specs.Recoverer.{new_recoverer}
 use Rattle.fr_history.specs.Turn as history
-use Rattle.fr_world.specs.Turns.{history_of}
+use Rattle.fr_turns.specs.Turns.{turn_of}
 use Rattle.fr_world.specs.World.{WorldState}
-use Rattle.fr_world.specs.declared.turn.Turn.TheVariants as code
+use Rattle.fr_turns.specs.declared.turn.Turn.TheVariants as code
 use Rattle.fr_world.proofs.Histories.{history_push}
 use Rattle.fr_world.proofs.Recovering.{begun_world}
 use Rattle.fr_world.proofs.nodes.Nodes.begin.Goals as goal
@@ -15,13 +15,13 @@ begins c = c.begin-recoverer.ensures ∙ (ap (λ n. new_recoverer c.args.ballot 
     ∙ ap (λ m. new_recoverer c.args.ballot c.args.self.now.config.cells m) (c.in_ok-map.ensures ∙ c.map.ensures.value))
 
 -- the turn is entered
-later : (c : goal.After-push_reserved) → history_of c.push_reserved.new.self.items
-    ≡ history.Begun c.args.ballot (pending (new_recoverer c.args.ballot c.args.self.now.config.cells c.args.self.now.config.begins)) ∷ history_of c.args.self.now.turns.items
+later : (c : goal.After-push_reserved) → c.push_reserved.new.self.turns
+    ≡ history.Begun c.args.ballot (pending (new_recoverer c.args.ballot c.args.self.now.config.cells c.args.self.now.config.begins)) ∷ c.args.self.now.turns.turns
 later c =
     let n = c.args.self.now in
     let x = code.Begun c.args.ballot c.in_ok-asks.asks in
-    history_push n.turns.items c.push_reserved.new.self.items x (history.Begun c.args.ballot (pending (new_recoverer c.args.ballot n.config.cells n.config.begins)))
-    (c.push_reserved.ensures.items ∙ ap (λ xs. xs ++ (x ∷ [])) c.in_ok-reserve.ensures.items)
+    history_push n.turns.turns c.push_reserved.new.self.turns x (history.Begun c.args.ballot (pending (new_recoverer c.args.ballot n.config.cells n.config.begins)))
+    (c.push_reserved.ensures ∙ ap (λ xs. turn_of x ∷ xs) c.in_ok-reserve.ensures.turns)
     (ap (λ asks. history.Begun c.args.ballot asks) (c.in_ok-asks.ensures ∙ ap pending (begins c)))
 
 pub returns-clause-world : goal.returns-clause-world
@@ -30,5 +30,5 @@ returns-clause-world c = ap (λ x. let w : WorldState = record { config = c.args
 pub returns-clause-stays : goal.returns-clause-stays
 returns-clause-stays c =
     let n = c.args.self.now in
-    begun_world c.node_laws.ensures n.config (history_of n.turns.items) (history_of c.push_reserved.new.self.items) c.args.ballot (pending (new_recoverer c.args.ballot n.config.cells n.config.begins)) n.cells.items n.logs n.sequencers n.proxies
+    begun_world c.node_laws.ensures n.config n.turns.turns c.push_reserved.new.self.turns c.args.ballot (pending (new_recoverer c.args.ballot n.config.cells n.config.begins)) n.cells.items n.logs n.sequencers n.proxies
     n.recoverers c.keep_recoverer.new.recoverers c.begin-recoverer.result n.storages.items c.requires.kept c.requires.turn (begins c) c.in_ok-keep_recoverer.ensures.after (later c)

@@ -6,9 +6,9 @@ use Rattle.fr_history.specs.Nodes as nodes
 use Rattle.fr_history.specs.Run.{fault_of}
 use Rattle.fr_history.specs.Turn as history
 use Rattle.fr_world.specs.Parts.{server_of}
-use Rattle.fr_world.specs.Turns.{history_of}
+use Rattle.fr_turns.specs.Turns.{turn_of}
 use Rattle.fr_world.specs.World.{WorldState}
-use Rattle.fr_world.specs.declared.turn.Turn.TheVariants as code
+use Rattle.fr_turns.specs.declared.turn.Turn.TheVariants as code
 use Rattle.fr_world.proofs.Histories.{history_push}
 use Rattle.fr_world.proofs.Served.{server_there, storage_entered, storage_world, may_break_off, break_turn}
 use Rattle.fr_world.proofs.nodes.Nodes.break_storage.Goals as goal
@@ -20,16 +20,16 @@ break_server-requires c =
     let same : c.from-number.result ≡ c.args.tag = c.from-number.ensures ∙ c.get.ensures.value in
     let l = ltb-true c.args.tag (length n.config.begins) c.requires.heard.actor.there in
     c.requires.kept.storages_are.work c.args.tag c.index.result.now
-    (server_there n.config (history_of n.turns.items) n.storages.items c.requires.kept.storages_are c.args.tag c.from-number.result same l c.index.result.now c.index.ensures)
+    (server_there n.config n.turns.turns n.storages.items c.requires.kept.storages_are c.args.tag c.from-number.result same l c.index.result.now c.index.ensures)
 
 -- it is the one of what happened
-old : (c : goal.After-push_reserved) → server_of c.index.result.now ≡ nodes.storage_at c.args.self.now.config (history_of c.args.self.now.turns.items) c.args.tag
+old : (c : goal.After-push_reserved) → server_of c.index.result.now ≡ nodes.storage_at c.args.self.now.config c.args.self.now.turns.turns c.args.tag
 old c =
     let n = c.args.self.now in
     let same : c.from-number.result ≡ c.args.tag = c.from-number.ensures ∙ c.get.ensures.value in
     let l = ltb-true c.args.tag (length n.config.begins) c.requires.heard.actor.there in
     c.requires.kept.storages_are.each c.args.tag c.index.result.now
-    (server_there n.config (history_of n.turns.items) n.storages.items c.requires.kept.storages_are c.args.tag c.from-number.result same l c.index.result.now c.index.ensures)
+    (server_there n.config n.turns.turns n.storages.items c.requires.kept.storages_are c.args.tag c.from-number.result same l c.index.result.now c.index.ensures)
 
 pub returns-in-Some-clause-found : goal.returns-in-Some-clause-found
 returns-in-Some-clause-found c =
@@ -37,21 +37,21 @@ returns-in-Some-clause-found c =
     sym (ap is_some some) ∙ (c.in_ok-server.ensures.found ∙ ap (λ s. may_break s c.args.from c.args.tell.now c.args.version) (old c))
 
 -- it can break off
-can : (c : goal.After-push_reserved) → may_break (nodes.storage_at c.args.self.now.config (history_of c.args.self.now.turns.items) c.args.tag) c.args.from c.args.tell.now c.args.version ≡ true
+can : (c : goal.After-push_reserved) → may_break (nodes.storage_at c.args.self.now.config c.args.self.now.turns.turns c.args.tag) c.args.from c.args.tell.now c.args.version ≡ true
 can c = sym (returns-in-Some-clause-found c)
 
 -- the turn is entered
-later : (c : goal.After-push_reserved) → history_of c.push_reserved.new.self.items
-    ≡ history.StorageHeard c.args.tag c.args.from c.args.tell.now (Some c.args.version) (fault_of (nodes.storage_at c.args.self.now.config (history_of c.args.self.now.turns.items) c.args.tag) c.args.from c.args.tell.now) ∷ history_of c.args.self.now.turns.items
+later : (c : goal.After-push_reserved) → c.push_reserved.new.self.turns
+    ≡ history.StorageHeard c.args.tag c.args.from c.args.tell.now (Some c.args.version) (fault_of (nodes.storage_at c.args.self.now.config c.args.self.now.turns.turns c.args.tag) c.args.from c.args.tell.now) ∷ c.args.self.now.turns.turns
 later c =
     let n = c.args.self.now in
-    let h = history_of n.turns.items in
+    let h = n.turns.turns in
     let s = nodes.storage_at n.config h c.args.tag in
     let fault = fault_of s c.args.from c.args.tell.now in
     let x = code.Storage c.args.tag c.args.from c.in_ok-kept.kept (Some c.args.version) None in
     let entered = storage_entered c.args.tag c.args.from c.args.tell.now c.in_ok-kept.kept (Some c.args.version) fault None c.in_ok-kept.ensures.equal (sym (may_break_off s c.args.from c.args.tell.now c.args.version (can c)).0) in
-    history_push n.turns.items c.push_reserved.new.self.items x (history.StorageHeard c.args.tag c.args.from c.args.tell.now (Some c.args.version) fault)
-    (c.push_reserved.ensures.items ∙ ap (λ xs. xs ++ (x ∷ [])) c.in_ok-reserve.ensures.items) entered
+    history_push n.turns.turns c.push_reserved.new.self.turns x (history.StorageHeard c.args.tag c.args.from c.args.tell.now (Some c.args.version) fault)
+    (c.push_reserved.ensures ∙ ap (λ xs. turn_of x ∷ xs) c.in_ok-reserve.ensures.turns) entered
 
 pub returns-in-Some-clause-world : goal.returns-in-Some-clause-world
 returns-in-Some-clause-world c = λ yes. ap (λ x. let w : WorldState = record { config = c.args.self.now.config; turns = x } in w) (later c)
@@ -59,13 +59,13 @@ returns-in-Some-clause-world c = λ yes. ap (λ x. let w : WorldState = record {
 pub returns-in-Some-clause-stays : goal.returns-in-Some-clause-stays
 returns-in-Some-clause-stays c =
     let n = c.args.self.now in
-    let h = history_of n.turns.items in
+    let h = n.turns.turns in
     let same : c.from-number.result ≡ c.args.tag = c.from-number.ensures ∙ c.get.ensures.value in
     let turn = break_turn n.config h c.args.tag c.args.from c.args.tell.now c.args.version c.requires.heard (can c) in
     let some : c.in_ok-server.field-0 ≡ Some c.in-Some.server = c.in-Some.is in
     let heard = subst (λ o. IfSome o (λ s. server_of s ≡ nodes.storage_hear (Some c.args.version) (server_of c.index.result.now) c.args.from c.args.tell.now)) some c.in_ok-server.ensures.state in
     let works = subst (λ o. IfSome o (λ s. s.failed ≡ false)) some c.in_ok-server.ensures.works in
-    storage_world c.node_laws.ensures n.config h (history_of c.push_reserved.new.self.items) c.args.tag c.from-number.result c.args.from c.args.tell.now (Some c.args.version)
+    storage_world c.node_laws.ensures n.config h c.push_reserved.new.self.turns c.args.tag c.from-number.result c.args.from c.args.tell.now (Some c.args.version)
     (fault_of (nodes.storage_at n.config h c.args.tag) c.args.from c.args.tell.now) n.cells.items n.logs n.sequencers n.proxies n.recoverers n.storages.items
     c.index.result.now c.in-Some.server c.requires.kept turn same (old c) heard works (later c)
 
@@ -75,6 +75,6 @@ returns-in-None-clause-found c =
     let same : c.from-number.result ≡ c.args.tag = c.from-number.ensures ∙ c.get.ensures.value in
     let l = ltb-true c.args.tag (length n.config.begins) c.requires.heard.actor.there in
     let is = c.requires.kept.storages_are.each c.args.tag c.index.result.now
-    (server_there n.config (history_of n.turns.items) n.storages.items c.requires.kept.storages_are c.args.tag c.from-number.result same l c.index.result.now c.index.ensures) in
+    (server_there n.config n.turns.turns n.storages.items c.requires.kept.storages_are c.args.tag c.from-number.result same l c.index.result.now c.index.ensures) in
     let none : c.in_ok-server.field-0 ≡ None = c.in-None.is in
     sym (ap is_some none) ∙ (c.in_ok-server.ensures.found ∙ ap (λ s. may_break s c.args.from c.args.tell.now c.args.version) is)

@@ -1,7 +1,6 @@
 use Rattle.std.proofs.Common.{◌≡◌, ap, sym, ◌∙◌}
 use Rattle.std.specs.Ordering.{nat_cmp}
 use Rattle.std.specs.BTreeMap as tree
-use Rattle.fr_world.specs.Turns.{history_of}
 use Rattle.fr_world.proofs.Asked.{has_room}
 use Rattle.fr_world.proofs.nodes.Nodes.mark_version.Goals as goal
 
@@ -9,5 +8,5 @@ pub mark_version-requires : goal.mark_version-requires
 mark_version-requires c =
     let n = c.args.self.now in
     let e : c.ballot.result ≡ c.args.epoch = c.ballot.ensures in
-    has_room c.node_laws.ensures c.write_law.ensures.made n.config (history_of n.turns.items) c.requires.run c.args.epoch c.in-Some.recoverer.now
+    has_room c.node_laws.ensures c.write_law.ensures.made n.config n.turns.turns c.requires.run c.args.epoch c.in-Some.recoverer.now
     (sym (c.requires.recoverers_are c.args.epoch) ∙ (ap (λ b. tree.get nat_cmp n.recoverers b) (sym e) ∙ sym c.in-Some.ensures.value))

@@ -4,14 +4,13 @@ use Rattle.fr_proxy.specs.Proxy as proxy
 use Rattle.std.specs.Ordering.{nat_cmp}
 use Rattle.std.specs.BTreeMap as tree
 use Rattle.fr_history.specs.Config.{first_epoch}
-use Rattle.fr_world.specs.Turns.{history_of}
 use Rattle.fr_world.proofs.Called.{open_plan, made_proxy}
 use Rattle.fr_world.proofs.nodes.Nodes.new_proxy.Goals as goal
 
 pub first_proxy-requires : goal.first_proxy-requires
 first_proxy-requires c =
     let n = c.args.self.now in
-    let h = history_of n.turns.items in
+    let h = n.turns.turns in
     let other : (c.args.epoch == first_epoch) ≡ false = ap (λ n. c.args.epoch == n) (sym c.first_epoch.ensures) ∙ sym c.if-eq.ensures in
     let ballot : c.ballot.result ≡ c.args.epoch = c.ballot.ensures in
     let at : tree.get nat_cmp n.recoverers c.ballot.result ≡ Some c.in-Some.recoverer.now = sym c.in-Some.ensures.value in
@@ -21,7 +20,7 @@ first_proxy-requires c =
 pub returns : goal.returns
 returns c =
     let n = c.args.self.now in
-    let h = history_of n.turns.items in
+    let h = n.turns.turns in
     let other : (c.args.epoch == first_epoch) ≡ false = ap (λ n. c.args.epoch == n) (sym c.first_epoch.ensures) ∙ sym c.if-eq.ensures in
     let ballot : c.ballot.result ≡ c.args.epoch = c.ballot.ensures in
     let at : tree.get nat_cmp n.recoverers c.ballot.result ≡ Some c.in-Some.recoverer.now = sym c.in-Some.ensures.value in

@@ -3,7 +3,7 @@ use Rattle.fr_base.specs.declared.place.NodeId.TheVariants as node
 use Rattle.fr_proxy.specs.Proxy as proxy
 use Rattle.fr_history.specs.Nodes.{proxy_at}
 use Rattle.fr_history.specs.Turn.{Submitted}
-use Rattle.fr_world.specs.Turns.{turn_of, history_of}
+use Rattle.fr_turns.specs.Turns.{turn_of}
 use Rattle.fr_world.specs.World.{WorldState, state_of, with_turn}
 use Rattle.fr_world.proofs.Histories.{history_push}
 use Rattle.fr_world.proofs.Called.{proxy_is, may_take, up_open, up_same, taken_in, taken_entered, taken_world}
@@ -13,7 +13,7 @@ pub returns-clause-world : goal.returns-clause-world
 returns-clause-world c =
     let n = c.args.self.now in
     let m = c.keep_proxy_of.new.self in
-    let h = history_of m.turns.items in
+    let h = m.turns.turns in
     let e = c.args.epoch in
     let p = c.args.proxy in
     let step = c.args.step in
@@ -26,14 +26,14 @@ returns-clause-world c =
     let open' = up_open m.config h e p up in
     let taken : turn_of c.taken.result ≡ Submitted e p step c.in_ok-kept.kept ((node.Sequencer e, c.in_ok-ask.ask) ∷ []) = c.taken.ensures in
     let entered = taken ∙ taken_entered c.node_laws.ensures m.config h e p step batch c.in_ok-kept.kept c.in_ok-given.given c.in_ok-ask.ask m.proxies kept.proxies_are open' there c.in_ok-kept.ensures c.in_ok-given.ensures c.in_ok-ask.ensures.ask in
-    let later = history_push m.turns.items c.push_reserved.new.self.items c.taken.result (taken_in w e p step batch) (c.push_reserved.ensures.items ∙ ap (λ xs. xs ++ (c.taken.result ∷ [])) c.reserve.ensures.items) entered in
+    let later = history_push m.turns.turns c.push_reserved.new.self.turns c.taken.result (taken_in w e p step batch) (c.push_reserved.ensures ∙ ap (λ xs. turn_of c.taken.result ∷ xs) c.reserve.ensures.turns) entered in
     ap (λ x. let y : WorldState = record { config = m.config; turns = x } in y) later ∙ ap (λ x. with_turn x (taken_in x e p step batch)) same
 
 pub returns-clause-stays : goal.returns-clause-stays
 returns-clause-stays c =
     let n = c.args.self.now in
     let m = c.keep_proxy_of.new.self in
-    let h = history_of m.turns.items in
+    let h = m.turns.turns in
     let e = c.args.epoch in
     let p = c.args.proxy in
     let step = c.args.step in
@@ -46,8 +46,8 @@ returns-clause-stays c =
     let open' = up_open m.config h e p up in
     let taken : turn_of c.taken.result ≡ Submitted e p step c.in_ok-kept.kept ((node.Sequencer e, c.in_ok-ask.ask) ∷ []) = c.taken.ensures in
     let entered = taken ∙ taken_entered c.node_laws.ensures m.config h e p step batch c.in_ok-kept.kept c.in_ok-given.given c.in_ok-ask.ask m.proxies kept.proxies_are open' there c.in_ok-kept.ensures c.in_ok-given.ensures c.in_ok-ask.ensures.ask in
-    let later = history_push m.turns.items c.push_reserved.new.self.items c.taken.result (taken_in w e p step batch) (c.push_reserved.ensures.items ∙ ap (λ xs. xs ++ (c.taken.result ∷ [])) c.reserve.ensures.items) entered in
+    let later = history_push m.turns.turns c.push_reserved.new.self.turns c.taken.result (taken_in w e p step batch) (c.push_reserved.ensures ∙ ap (λ xs. turn_of c.taken.result ∷ xs) c.reserve.ensures.turns) entered in
     let s = proxy_at m.config h e p in
     let none : proxy.submit_fault s ≡ None = proxy_is m.config h m.proxies kept.proxies_are e p open' (λ s. proxy.submit_fault s ≡ None) there c.in_ok-ask.ensures.taken in
-    taken_world c.node_laws.ensures m.config h (history_of c.push_reserved.new.self.items) e p step batch c.in_ok-given.given (proxy.number_ask s (proxy.opened s step batch) ∷ []) m.cells.items m.logs m.sequencers m.proxies c.submit.new.proxies m.recoverers
+    taken_world c.node_laws.ensures m.config h c.push_reserved.new.self.turns e p step batch c.in_ok-given.given (proxy.number_ask s (proxy.opened s step batch) ∷ []) m.cells.items m.logs m.sequencers m.proxies c.submit.new.proxies m.recoverers
     m.storages.items kept (up, (may_take s none, c.requires.step), refl) there c.in_ok-given.ensures c.in_ok-ask.ensures.after later

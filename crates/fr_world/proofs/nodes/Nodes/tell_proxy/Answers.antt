@@ -2,7 +2,7 @@ use Rattle.std.proofs.Common.{◌≡◌, ap, ◌∙◌, [], ◌∷◌, ◌++◌}
 use Rattle.fr_proxy.specs.Proxy as proxy
 use Rattle.fr_history.specs.Nodes.{proxy_at}
 use Rattle.fr_history.specs.Turn.{ProxyHeard}
-use Rattle.fr_world.specs.Turns.{turn_of, history_of}
+use Rattle.fr_turns.specs.Turns.{turn_of}
 use Rattle.fr_world.specs.World.{WorldState, state_of, with_turn}
 use Rattle.fr_world.proofs.Histories.{history_push}
 use Rattle.fr_world.proofs.Called.{heard_in, heard_open, heard_same, heard_says, heard_entered, heard_world}
@@ -12,7 +12,7 @@ pub returns-clause-outcome : goal.returns-clause-outcome
 returns-clause-outcome c =
     let n = c.args.self.now in
     let m = c.keep_proxy_of.new.self in
-    let h = history_of m.turns.items in
+    let h = m.turns.turns in
     let e = c.args.epoch in
     let p = c.args.proxy in
     let from = c.args.from in
@@ -30,7 +30,7 @@ pub returns-clause-world : goal.returns-clause-world
 returns-clause-world c =
     let n = c.args.self.now in
     let m = c.keep_proxy_of.new.self in
-    let h = history_of m.turns.items in
+    let h = m.turns.turns in
     let e = c.args.epoch in
     let p = c.args.proxy in
     let from = c.args.from in
@@ -46,14 +46,14 @@ returns-clause-world c =
     let entered =
     heard ∙ heard_entered m.config h e p c.again-by.result from t c.in_ok-kept.kept c.in_ok-outcome.outcome c.in_ok-outcome.asks.items m.proxies kept.proxies_are open' there named c.in_ok-kept.ensures.equal c.in_ok-outcome.ensures.outcome
     c.in_ok-outcome.ensures.asks in
-    let later = history_push m.turns.items c.push_reserved.new.self.items c.heard.result (heard_in w e p from t) (c.push_reserved.ensures.items ∙ ap (λ xs. xs ++ (c.heard.result ∷ [])) c.in_ok-reserve.ensures.items) entered in
+    let later = history_push m.turns.turns c.push_reserved.new.self.turns c.heard.result (heard_in w e p from t) (c.push_reserved.ensures ∙ ap (λ xs. turn_of c.heard.result ∷ xs) c.in_ok-reserve.ensures.turns) entered in
     ap (λ x. let y : WorldState = record { config = m.config; turns = x } in y) later ∙ ap (λ x. with_turn x (heard_in x e p from t)) same
 
 pub returns-clause-stays : goal.returns-clause-stays
 returns-clause-stays c =
     let n = c.args.self.now in
     let m = c.keep_proxy_of.new.self in
-    let h = history_of m.turns.items in
+    let h = m.turns.turns in
     let e = c.args.epoch in
     let p = c.args.proxy in
     let from = c.args.from in
@@ -69,6 +69,6 @@ returns-clause-stays c =
     let entered =
     heard ∙ heard_entered m.config h e p c.again-by.result from t c.in_ok-kept.kept c.in_ok-outcome.outcome c.in_ok-outcome.asks.items m.proxies kept.proxies_are open' there named c.in_ok-kept.ensures.equal c.in_ok-outcome.ensures.outcome
     c.in_ok-outcome.ensures.asks in
-    let later = history_push m.turns.items c.push_reserved.new.self.items c.heard.result (heard_in w e p from t) (c.push_reserved.ensures.items ∙ ap (λ xs. xs ++ (c.heard.result ∷ [])) c.in_ok-reserve.ensures.items) entered in
-    heard_world c.node_laws.ensures m.config h (history_of c.push_reserved.new.self.items) e p c.again-by.result from t (proxy.outcome_of (proxy_at m.config h e p) from t) (proxy.new_asks (proxy_at m.config h e p) from t) m.cells.items m.logs m.sequencers
+    let later = history_push m.turns.turns c.push_reserved.new.self.turns c.heard.result (heard_in w e p from t) (c.push_reserved.ensures ∙ ap (λ xs. turn_of c.heard.result ∷ xs) c.in_ok-reserve.ensures.turns) entered in
+    heard_world c.node_laws.ensures m.config h c.push_reserved.new.self.turns e p c.again-by.result from t (proxy.outcome_of (proxy_at m.config h e p) from t) (proxy.new_asks (proxy_at m.config h e p) from t) m.cells.items m.logs m.sequencers
     m.proxies c.tell_proxy.new.proxies m.recoverers m.storages.items kept turn there named c.in_ok-outcome.ensures.after later

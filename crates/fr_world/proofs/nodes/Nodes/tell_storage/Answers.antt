@@ -4,9 +4,9 @@ use Rattle.fr_history.specs.Nodes as nodes
 use Rattle.fr_history.specs.Run.{fault_of}
 use Rattle.fr_history.specs.Turn as history
 use Rattle.fr_world.specs.Parts.{server_of}
-use Rattle.fr_world.specs.Turns.{history_of}
+use Rattle.fr_turns.specs.Turns.{turn_of}
 use Rattle.fr_world.specs.World.{WorldState}
-use Rattle.fr_world.specs.declared.turn.Turn.TheVariants as code
+use Rattle.fr_turns.specs.declared.turn.Turn.TheVariants as code
 use Rattle.fr_world.proofs.Histories.{history_push}
 use Rattle.fr_world.proofs.Served.{server_there, storage_entered, storage_world}
 use Rattle.fr_world.proofs.nodes.Nodes.tell_storage.Goals as goal
@@ -18,32 +18,32 @@ tell_server-requires c =
     let same : c.from-number.result ≡ c.args.tag = c.from-number.ensures ∙ c.get.ensures.value in
     let l = ltb-true c.args.tag (length n.config.begins) c.requires.turn.0.actor.there in
     c.requires.kept.storages_are.work c.args.tag c.index.result.now
-    (server_there n.config (history_of n.turns.items) n.storages.items c.requires.kept.storages_are c.args.tag c.from-number.result same l c.index.result.now c.index.ensures)
+    (server_there n.config n.turns.turns n.storages.items c.requires.kept.storages_are c.args.tag c.from-number.result same l c.index.result.now c.index.ensures)
 
 -- it is the one of what happened
-old : (c : goal.After-push_reserved) → server_of c.index.result.now ≡ nodes.storage_at c.args.self.now.config (history_of c.args.self.now.turns.items) c.args.tag
+old : (c : goal.After-push_reserved) → server_of c.index.result.now ≡ nodes.storage_at c.args.self.now.config c.args.self.now.turns.turns c.args.tag
 old c =
     let n = c.args.self.now in
     let same : c.from-number.result ≡ c.args.tag = c.from-number.ensures ∙ c.get.ensures.value in
     let l = ltb-true c.args.tag (length n.config.begins) c.requires.turn.0.actor.there in
     c.requires.kept.storages_are.each c.args.tag c.index.result.now
-    (server_there n.config (history_of n.turns.items) n.storages.items c.requires.kept.storages_are c.args.tag c.from-number.result same l c.index.result.now c.index.ensures)
+    (server_there n.config n.turns.turns n.storages.items c.requires.kept.storages_are c.args.tag c.from-number.result same l c.index.result.now c.index.ensures)
 
 pub returns-clause-fault : goal.returns-clause-fault
 returns-clause-fault c = c.in_ok-server.ensures.fault ∙ ap (λ s. fault_of s c.args.from c.args.tell.now) (old c)
 
 -- the turn is entered
-later : (c : goal.After-push_reserved) → history_of c.push_reserved.new.self.items
-    ≡ history.StorageHeard c.args.tag c.args.from c.args.tell.now None (fault_of (nodes.storage_at c.args.self.now.config (history_of c.args.self.now.turns.items) c.args.tag) c.args.from c.args.tell.now) ∷ history_of c.args.self.now.turns.items
+later : (c : goal.After-push_reserved) → c.push_reserved.new.self.turns
+    ≡ history.StorageHeard c.args.tag c.args.from c.args.tell.now None (fault_of (nodes.storage_at c.args.self.now.config c.args.self.now.turns.turns c.args.tag) c.args.from c.args.tell.now) ∷ c.args.self.now.turns.turns
 later c =
     let n = c.args.self.now in
-    let h = history_of n.turns.items in
+    let h = n.turns.turns in
     let fault = fault_of (nodes.storage_at n.config h c.args.tag) c.args.from c.args.tell.now in
     let x = code.Storage c.args.tag c.args.from c.in_ok-kept.kept None c.in_ok-server.field-0.fault in
     let entered = storage_entered c.args.tag c.args.from c.args.tell.now c.in_ok-kept.kept None fault c.in_ok-server.field-0.fault c.in_ok-kept.ensures.equal
     (c.in_ok-server.ensures.fault ∙ ap (λ s. fault_of s c.args.from c.args.tell.now) (old c)) in
-    history_push n.turns.items c.push_reserved.new.self.items x (history.StorageHeard c.args.tag c.args.from c.args.tell.now None fault)
-    (c.push_reserved.ensures.items ∙ ap (λ xs. xs ++ (x ∷ [])) c.in_ok-reserve.ensures.items) entered
+    history_push n.turns.turns c.push_reserved.new.self.turns x (history.StorageHeard c.args.tag c.args.from c.args.tell.now None fault)
+    (c.push_reserved.ensures ∙ ap (λ xs. turn_of x ∷ xs) c.in_ok-reserve.ensures.turns) entered
 
 pub returns-clause-world : goal.returns-clause-world
 returns-clause-world c = ap (λ x. let w : WorldState = record { config = c.args.self.now.config; turns = x } in w) (later c)
@@ -51,8 +51,8 @@ returns-clause-world c = ap (λ x. let w : WorldState = record { config = c.args
 pub returns-clause-stays : goal.returns-clause-stays
 returns-clause-stays c =
     let n = c.args.self.now in
-    let h = history_of n.turns.items in
+    let h = n.turns.turns in
     let same : c.from-number.result ≡ c.args.tag = c.from-number.ensures ∙ c.get.ensures.value in
-    storage_world c.node_laws.ensures n.config h (history_of c.push_reserved.new.self.items) c.args.tag c.from-number.result c.args.from c.args.tell.now None
+    storage_world c.node_laws.ensures n.config h c.push_reserved.new.self.turns c.args.tag c.from-number.result c.args.from c.args.tell.now None
     (fault_of (nodes.storage_at n.config h c.args.tag) c.args.from c.args.tell.now) n.cells.items n.logs n.sequencers n.proxies n.recoverers n.storages.items
     c.index.result.now c.in_ok-server.field-0.server c.requires.kept c.requires.turn same (old c) c.in_ok-server.ensures.state c.in_ok-server.ensures.works (later c)

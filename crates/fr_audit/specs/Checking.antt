@@ -1,0 +1,18 @@
+-- An entry that an audit comes to, and the one before it.
+use Rattle.std.specs.Prelude.{ℕ, zero, suc, Bool, List, Option, None, Some, Result, Err, if◌then◌else◌}
+use Rattle.std.specs.List.{slice_get}
+use Rattle.fr_history.specs.Config.{Config}
+use Rattle.fr_history.specs.Turn.{Turn}
+use Rattle.fr_journal.specs.Merge.{Placed}
+use Rattle.fr_audit_rule.specs.Audited.{turn_at, with_turn}
+use Rattle.fr_audit_rule.specs.declared.fault.AuditFault.{AuditFault}
+use Rattle.fr_audit_rule.specs.declared.fault.AuditFault.TheVariants.{NotARun}
+
+-- the entry before that of a number
+abbrev pub before_at : List Placed → ℕ → Option Placed
+before_at ps zero = None
+before_at ps (suc n) = slice_get ps n
+
+-- the turns after an entry that has, or has not, the place of the one before
+abbrev pub after_this : Config → List Turn → Bool → ℕ → Placed → Result (List Turn) AuditFault
+after_this c h repeated at p = if repeated then Err (NotARun at) else with_turn h at p (turn_at c h p)

@@ -1,0 +1,8 @@
+//! Audits: whether journals are a run of a world. Where an audit has no fault, what holds of every run holds of what
+//! the journals tell.
+#![tactic(auto)]
+
+mod checking;
+
+pub use checking::audit;
+pub use fr_audit_rule::AuditFault;

@@ -1,0 +1,5 @@
+mod Sayings
+mod Places
+mod Entries
+mod Lasts
+mod Audits

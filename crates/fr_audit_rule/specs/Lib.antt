@@ -1,0 +1,4 @@
+pub mod Entry
+pub mod Audited
+pub mod Run
+pub mod Law

@@ -1,0 +1,67 @@
+//! The names of refusals, as lines have them.
+use fr_event::NotEnabled;
+use fr_log::LogRefusal;
+use fr_storage::StorageFault;
+
+/// Why a storage server did not get what it asked a log for.
+#[derive(Clone, Copy, Debug, PartialEq, Eq)]
+pub(crate) enum Refusal {
+    /// The ask cannot happen.
+    Event(NotEnabled),
+    /// The log refused it.
+    Log(LogRefusal),
+    /// The server refused what the log told.
+    Storage(StorageFault),
+}
+
+impl Refusal {
+    /// Its name.
+    pub(crate) fn name(&self) -> &'static str {
+        match self {
+            Refusal::Event(why) => event_name(*why),
+            Refusal::Log(why) => log_name(*why),
+            Refusal::Storage(fault) => storage_name(*fault),
+        }
+    }
+}
+
+/// The name of why an event cannot happen.
+pub(crate) fn event_name(why: NotEnabled) -> &'static str {
+    match why {
+        NotEnabled::NoSuchNode => "NoSuchNode",
+        NotEnabled::Gone => "Gone",
+        NotEnabled::NeverSent => "NeverSent",
+        NotEnabled::BallotUsed => "BallotUsed",
+        NotEnabled::TwoOpen => "TwoOpen",
+        NotEnabled::Over => "Over",
+        NotEnabled::Memory => "Memory",
+    }
+}
+
+/// The name of why a log did not do as asked.
+fn log_name(why: LogRefusal) -> &'static str {
+    match why {
+        LogRefusal::WrongEpoch => "WrongEpoch",
+        LogRefusal::Unseeded => "Unseeded",
+        LogRefusal::Stopped => "Stopped",
+        LogRefusal::Stale => "Stale",
+        LogRefusal::Gap { .. } => "Gap",
+        LogRefusal::NotMine => "NotMine",
+        LogRefusal::TooEarly { .. } => "TooEarly",
+        LogRefusal::SeedDiffers => "SeedDiffers",
+        LogRefusal::NoMark => "NoMark",
+    }
+}
+
+/// The name of why a storage server did not take what it heard.
+fn storage_name(fault: StorageFault) -> &'static str {
+    match fault {
+        StorageFault::Older => "Older",
+        StorageFault::Stranger => "Stranger",
+        StorageFault::BelowFloor => "BelowFloor",
+        StorageFault::NotMyGeneration => "NotMyGeneration",
+        StorageFault::Hole => "Hole",
+        StorageFault::Store(fault) => fault.name(),
+        StorageFault::BadState => "BadState",
+    }
+}

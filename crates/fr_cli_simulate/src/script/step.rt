@@ -1,0 +1,85 @@
+//! The steps of a script.
+ghost use Rattle.std.specs.Prelude.{◌≡◌, ◌⊎◌, IfErr};
+
+use super::fields::{Fields, LAST_CELL, LAST_LOG};
+use super::{Act, Commit, Pull, Push, Recover};
+use fr_base::{Ballot, Step, Tag};
+use fr_cli::CliFault;
+use fr_cli::tree::{into_one_member, read_batch, take_member};
+use serde_json::Value;
+use std::alloc::Global;
+
+/// The greatest tag.
+const LAST_TAG: u8 = 31;
+
+/// Reads a step: an object of one member, which names it.
+pub(crate) fn read_step(alloc: Global, value: Value) -> Result<Act, CliFault>
+    ensures fault { IfErr result (λ e. (e ≡ CliFault.BadScript) ⊎ (e ≡ CliFault.Memory)) }
+{
+    let (name, fields) = into_one_member(value).ok_or(CliFault::BadScript)?;
+    match name.as_str() {
+        "commit" => Ok(Act::Commit(read_commit(alloc, fields)?)),
+        "push" => Ok(Act::Push(read_push(alloc, &fields)?)),
+        "pull" => Ok(Act::Pull(read_pull(&fields)?)),
+        "mark" => Ok(Act::Mark(read_pull(&fields)?)),
+        "recover" => Ok(Act::Recover(read_recover(alloc, &fields)?)),
+        "lose" => Ok(Act::Lose(Fields::new(&fields, 2).log()?)),
+        _ => Err(CliFault::BadScript),
+    }
+}
+
+/// Reads a commit. Its batch may be beyond the limits of batches.
+fn read_commit(alloc: Global, mut value: Value) -> Result<Commit, CliFault>
+    ensures fault { IfErr result (λ e. (e ≡ CliFault.BadScript) ⊎ (e ≡ CliFault.Memory)) }
+{
+    let batch = take_member(&mut value, 5, "batch").ok_or(CliFault::BadScript)?;
+    let fields = Fields::new(&value, 5);
+    let epoch = fields.epoch()?;
+    let proxy = fields.proxy()?;
+    let step = Step::new(fields.number("step")?).ok_or(CliFault::BadScript)?;
+    let logs = fields.indexes(alloc, "logs", LAST_LOG)?;
+    let batch = read_batch(alloc, batch)?;
+    Ok(Commit {
+        epoch,
+        proxy,
+        step,
+        batch,
+        logs,
+    })
+}
+
+fn read_push(alloc: Global, value: &Value) -> Result<Push, CliFault>
+    ensures fault { IfErr result (λ e. (e ≡ CliFault.BadScript) ⊎ (e ≡ CliFault.Memory)) }
+{
+    let fields = Fields::new(value, 3);
+    Ok(Push {
+        epoch: fields.epoch()?,
+        proxy: fields.proxy()?,
+        logs: fields.indexes(alloc, "logs", LAST_LOG)?,
+    })
+}
+
+/// Reads a storage server, and the log that it asks.
+fn read_pull(value: &Value) -> Result<Pull, CliFault>
+    ensures fault { IfErr result (λ e. (e ≡ CliFault.BadScript) ⊎ (e ≡ CliFault.Memory)) }
+{
+    let fields = Fields::new(value, 3);
+    let storage = Tag::new(fields.index("storage", LAST_TAG)?).ok_or(CliFault::BadScript)?;
+    Ok(Pull {
+        storage,
+        log: fields.log()?,
+    })
+}
+
+fn read_recover(alloc: Global, value: &Value) -> Result<Recover, CliFault>
+    ensures fault { IfErr result (λ e. (e ≡ CliFault.BadScript) ⊎ (e ≡ CliFault.Memory)) }
+{
+    let fields = Fields::new(value, 5);
+    Ok(Recover {
+        ballot: Ballot::new(fields.number("ballot")?).ok_or(CliFault::BadScript)?,
+        read: fields.indexes(alloc, "read", LAST_CELL)?,
+        lock: fields.indexes(alloc, "lock", LAST_LOG)?,
+        write: fields.indexes(alloc, "write", LAST_CELL)?,
+        mark: fields.indexes(alloc, "mark", LAST_LOG)?,
+    })
+}

@@ -1,0 +1,3 @@
+mod Rising
+pub mod Sorting
+pub mod Places

@@ -1,0 +1,5 @@
+pub mod Journal
+pub mod Sort
+pub mod Merge
+pub mod Placed
+pub mod Law

@@ -1,0 +1,89 @@
+//! What a node does, and at which place among the acts of all nodes.
+ghost use Rattle.std.specs.Prelude.{◌≡◌, IfOk};
+
+use fr_ask::{Ask, Tell};
+use fr_base::{Memory, NodeId, Stamp, Step, Version};
+use fr_mutation::Batch;
+use fr_proxy::Outcome;
+
+/// What a node does in one turn.
+#[derive(Debug, Drop, PartialEq, Eq)]
+pub enum Act {
+    /// A cell, a log or a sequencer was asked this by a node, and told it that.
+    Asked {
+        from: NodeId,
+        ask: Ask,
+        tell: Tell,
+    },
+    /// A proxy, a recoverer or a storage server heard this from a node. Of a proxy `outcome` is what it says of its
+    /// batch, of another node it is None. `taken` is the version at which the hear of a storage server broke off.
+    Heard {
+        from: NodeId,
+        tell: Tell,
+        taken: Option<Version>,
+        outcome: Option<Outcome>,
+    },
+    /// A proxy took this batch, and asked for a version that is `step` above the one before.
+    Submitted {
+        step: Step,
+        batch: Batch,
+    },
+    /// A recoverer began.
+    Begun,
+    /// The node crashed: a proxy, a sequencer or a recoverer is gone, another node stands as it was.
+    Crashed,
+    /// A log is lost, for good.
+    Lost,
+}
+
+impl Act {
+    /// An equal act.
+    pub fn copy(&self) -> Result<Self, Memory>
+        ensures { IfOk result (λ act. act ≡ self.now) }
+    {
+        Ok(match self {
+            Act::Asked { from, ask, tell } => Act::Asked {
+                from: *from,
+                ask: ask.copy()?,
+                tell: tell.copy()?,
+            },
+            Act::Heard {
+                from,
+                tell,
+                taken,
+                outcome,
+            } => Act::Heard {
+                from: *from,
+                tell: tell.copy()?,
+                taken: *taken,
+                outcome: *outcome,
+            },
+            Act::Submitted { step, batch } => Act::Submitted {
+                step: *step,
+                batch: batch.copy()?,
+            },
+            Act::Begun => Act::Begun,
+            Act::Crashed => Act::Crashed,
+            Act::Lost => Act::Lost,
+        })
+    }
+}
+
+/// What a node did at a stamp: its place among the acts of all nodes.
+#[derive(Debug, Drop, PartialEq, Eq)]
+pub struct Entry {
+    pub stamp: Stamp,
+    pub act: Act,
+}
+
+impl Entry {
+    /// An equal entry.
+    pub fn copy(&self) -> Result<Self, Memory>
+        ensures { IfOk result (λ entry. entry ≡ self.now) }
+    {
+        Ok(Entry {
+            stamp: self.stamp,
+            act: self.act.copy()?,
+        })
+    }
+}

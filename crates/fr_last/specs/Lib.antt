@@ -1,0 +1,3 @@
+pub mod Phase
+pub mod Last
+pub mod At

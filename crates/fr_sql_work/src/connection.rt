@@ -1,0 +1,168 @@
+//! What a store in SQL asks of its connection: to read its tables, and to make them what they are to become.
+ghost use Rattle.std.specs.Prelude.{◌≡◌, ◌≢◌, OnOk, OnErr, IfOk, IfErr, IsTrue};
+ghost use Rattle.std.specs.FinMap as map;
+ghost use Rattle.sqlite.specs.Held.{state};
+ghost use Rattle.sqlite.specs.State.{Survives};
+ghost use Rattle.fr_mutation.specs.Shard.{part};
+ghost use Rattle.fr_undo.specs.Calls.{IsTrouble};
+ghost use Rattle.fr_sql_rows.specs.Rows.{contents_in, bytes_in, undo_in};
+ghost use Rattle.fr_sql_rows.specs.Connection.{IsAtRest, IsLaidOut, KeepsIfOpen, CommitsNothing};
+ghost use Rattle.fr_sql_work.specs.Calls.{Looks, MeetsAll, Steps, IsDone, MayMake};
+ghost use Rattle.fr_sql_work.specs.Work.{Does, Fits, Adds};
+
+use crate::work::{Work, fill};
+use fr_base::Bytes;
+use fr_mutation::Shard;
+use fr_sql_rows::{Backing, fault_of, kv, meta, read_fault_of};
+use fr_undo::StoreFault;
+use sqlite::{Connection, Error};
+use std::alloc::Global;
+
+/// Whether the connection still works, asked by a statement that is not run.
+fn works<S: Backing>(conn: &mut Connection<S>) -> bool
+    ensures opened { IsTrue result → IsTrue (state S.Store conn.new).is_open }
+    ensures steps { Steps (state S.Store conn.old) (state S.Store conn.new) }
+{
+    match conn.prepare("SELECT 1") {
+        Ok(_) => true,
+        Err(_) => false,
+    }
+}
+
+/// A fault as the trouble of a store whose connection works.
+fn trouble_of(fault: StoreFault) -> StoreFault
+    ensures { IsTrouble MeetsAll result }
+{
+    match fault {
+        StoreFault::Full => StoreFault::Full,
+        StoreFault::Memory => StoreFault::Memory,
+        _ => StoreFault::Device,
+    }
+}
+
+/// The fault of a call, once the connection was asked whether it still works: `Device` where it does not.
+fn settle<S: Backing>(conn: &mut Connection<S>, fault: StoreFault) -> StoreFault
+    ensures trouble { IsTrouble MeetsAll result }
+    ensures opened { result ≢ StoreFault.Device → IsTrue (state S.Store conn.new).is_open }
+    ensures steps { Steps (state S.Store conn.old) (state S.Store conn.new) }
+{
+    if works(conn) {
+        return trouble_of(fault);
+    }
+    StoreFault::Device
+}
+
+/// The value at a key.
+pub fn value<S: Backing>(conn: &mut Connection<S>, key: &Bytes) -> Result<Option<Bytes>, StoreFault>
+    requires rest { IsAtRest (state S.Store conn.old) }
+    requires laid { IsLaidOut (state S.Store conn.old).now }
+    ensures value { IfOk result (λ value. value ≡ map.get (contents_in ((state S.Store conn.old).now.trees 0)) key.now) }
+    ensures looks { Looks (state S.Store conn.old) (state S.Store conn.new) result }
+{
+    match kv::value_at(conn, key) {
+        Ok(value) => Ok(value),
+        Err(error) => Err(settle(conn, read_fault_of(error))),
+    }
+}
+
+/// All keys with their values.
+pub fn all<S: Backing>(
+    alloc: Global,
+    conn: &mut Connection<S>,
+) -> Result<Vec<(Bytes, Bytes)>, StoreFault>
+    requires rest { IsAtRest (state S.Store conn.old) }
+    requires laid { IsLaidOut (state S.Store conn.old).now }
+    ensures rows { IfOk result (λ rows. rows.items ≡ map.entries (contents_in ((state S.Store conn.old).now.trees 0))) }
+    ensures looks { Looks (state S.Store conn.old) (state S.Store conn.new) result }
+{
+    match kv::all(alloc, conn) {
+        Ok(rows) => Ok(rows),
+        Err(error) => Err(settle(conn, read_fault_of(error))),
+    }
+}
+
+/// The keys of a shard with their values, as SQL answers.
+fn shard_rows<S: Backing>(
+    alloc: Global,
+    conn: &mut Connection<S>,
+    shard: &Shard,
+) -> Result<Vec<(Bytes, Bytes)>, Error>
+    requires rest { IsAtRest (state S.Store conn.old) }
+    requires laid { IsLaidOut (state S.Store conn.old).now }
+    ensures rows { IfOk result (λ rows. rows.items ≡ map.entries (part (contents_in ((state S.Store conn.old).now.trees 0)) shard.now)) }
+    ensures open { OnOk result (IsTrue (state S.Store conn.new).is_open) }
+    ensures keeps { KeepsIfOpen (state S.Store conn.old) (state S.Store conn.new) }
+    ensures survives { CommitsNothing (state S.Store conn.old) (state S.Store conn.new) }
+{
+    match &shard.end {
+        Some(end) => kv::between(alloc, conn, &shard.begin, end),
+        None => kv::from(alloc, conn, &shard.begin),
+    }
+}
+
+/// The keys of a shard with their values.
+pub fn of_shard<S: Backing>(
+    alloc: Global,
+    conn: &mut Connection<S>,
+    shard: &Shard,
+) -> Result<Vec<(Bytes, Bytes)>, StoreFault>
+    requires rest { IsAtRest (state S.Store conn.old) }
+    requires laid { IsLaidOut (state S.Store conn.old).now }
+    ensures rows { IfOk result (λ rows. rows.items ≡ map.entries (part (contents_in ((state S.Store conn.old).now.trees 0)) shard.now)) }
+    ensures looks { Looks (state S.Store conn.old) (state S.Store conn.new) result }
+{
+    match shard_rows(alloc, conn, shard) {
+        Ok(rows) => Ok(rows),
+        Err(error) => Err(settle(conn, read_fault_of(error))),
+    }
+}
+
+/// The state bytes.
+pub fn bytes<S: Backing>(conn: &mut Connection<S>) -> Result<Bytes, StoreFault>
+    requires rest { IsAtRest (state S.Store conn.old) }
+    requires laid { IsLaidOut (state S.Store conn.old).now }
+    ensures value { IfOk result (λ bytes. bytes ≡ bytes_in ((state S.Store conn.old).now.trees 4)) }
+    ensures looks { Looks (state S.Store conn.old) (state S.Store conn.new) result }
+{
+    match meta::bytes(conn) {
+        Ok(bytes) => Ok(bytes),
+        Err(error) => Err(settle(conn, read_fault_of(error))),
+    }
+}
+
+/// Makes of the tables what they are to become, in one transaction: all of it, or nothing.
+fn attempt<S: Backing>(conn: &mut Connection<S>, work: &Work, rows: usize) -> Result<usize, Error>
+    requires rest { IsAtRest (state S.Store conn.old) }
+    requires fits { Fits work.now (state S.Store conn.old).now }
+    ensures done { OnOk result (IsDone (Does work.now) (state S.Store conn.old) (state S.Store conn.new)) }
+    ensures rows { IfOk result (λ more. Adds work.now.rows → rows ≡ map.len (undo_in ((state S.Store conn.old).now.trees 2)) → more ≡ map.len (undo_in ((state S.Store conn.new).now.trees 2))) }
+    ensures keeps { OnErr result (KeepsIfOpen (state S.Store conn.old) (state S.Store conn.new)) }
+    ensures survives { Survives (state S.Store conn.old) (state S.Store conn.new) (MayMake (Does work.now) (state S.Store conn.old)) }
+{
+    let mut tx = conn.transaction();
+    let count = fill(&mut tx, work, rows)?;
+    tx.commit()?;
+    Ok(count)
+}
+
+/// Makes of the tables what they are to become: all of it, or nothing, or the connection is shut and a crash
+/// leaves the one or the other. Where no undo rows go it counts them.
+pub fn make<S: Backing>(
+    conn: &mut Connection<S>,
+    work: &Work,
+    rows: usize,
+) -> Result<usize, StoreFault>
+    requires rest { IsAtRest (state S.Store conn.old) }
+    requires fits { Fits work.now (state S.Store conn.old).now }
+    ensures done { OnOk result (IsDone (Does work.now) (state S.Store conn.old) (state S.Store conn.new)) }
+    ensures rows { IfOk result (λ more. Adds work.now.rows → rows ≡ map.len (undo_in ((state S.Store conn.old).now.trees 2)) → more ≡ map.len (undo_in ((state S.Store conn.new).now.trees 2))) }
+    ensures keeps { OnErr result (KeepsIfOpen (state S.Store conn.old) (state S.Store conn.new)) }
+    ensures opened { IfErr result (λ fault. fault ≢ StoreFault.Device → IsTrue (state S.Store conn.new).is_open) }
+    ensures survives { Survives (state S.Store conn.old) (state S.Store conn.new) (MayMake (Does work.now) (state S.Store conn.old)) }
+    ensures trouble { IfErr result (IsTrouble MeetsAll) }
+{
+    match attempt(conn, work, rows) {
+        Ok(count) => Ok(count),
+        Err(error) => Err(settle(conn, fault_of(error))),
+    }
+}

@@ -1,0 +1,5 @@
+pub mod Grown
+pub mod Lists
+pub mod Histories
+pub mod Repeats
+pub mod Founds

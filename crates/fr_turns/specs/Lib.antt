@@ -1,0 +1,5 @@
+pub mod Turns
+pub mod Keys
+pub mod Places
+pub mod Finding
+pub mod Happened
