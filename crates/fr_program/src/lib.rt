@@ -3,8 +3,6 @@
 #![tactic(auto)]
 
 mod program;
-#[cfg(test)]
-mod tests;
 mod words;
 
 use fr_cli::CliFault;

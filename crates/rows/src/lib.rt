@@ -1,4 +1,4 @@
-//! Tests over all crates: worked examples, vectors, refused calls, and seeded runs against slow programs.
+//! Tests of numbers, mutations, the bytes of batches, and the register: worked examples, vectors and refused calls.
 #![tactic(auto)]
 
 #[cfg(test)]
@@ -10,10 +10,4 @@ mod numbers;
 #[cfg(test)]
 mod register;
 #[cfg(test)]
-mod slow_store;
-#[cfg(test)]
-mod store_agrees;
-#[cfg(test)]
 mod two_ballots;
-#[cfg(test)]
-mod undo;

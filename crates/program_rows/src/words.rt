@@ -1,8 +1,8 @@
-use crate::program::{Ending, run_program};
-use crate::words::{Request, read_words};
+//! The words that choose a command, and how a program ends.
 use clap::error::ErrorKind;
 use fr_cli::{ApplyOptions, CliFault, StoreKind};
 use fr_cli_end::EndOptions;
+use fr_program::{Ending, Request, read_words, run_program};
 use std::alloc::{AllocError, Global};
 use std::io;
 use std::io::{Error, ErrorKind as IoErrorKind, Read, Write};

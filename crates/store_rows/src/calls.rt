@@ -1,6 +1,7 @@
-use crate::{MapStore, ShardStore, StoreFault};
+//! Calls of a store in memory, one after the other: what it holds then, and what it refuses.
 use fr_base::{Bytes, Memory, Version};
 use fr_mutation::{AtomicOp, Batch, Mutation, Shard};
+use fr_undo::{MapStore, ShardStore, StoreFault};
 use std::alloc::Global;
 use std::test::Fail;
 

@@ -1,0 +1,5 @@
+//! Tests of the program: which words choose which command, and with which status and text it ends.
+#![tactic(auto)]
+
+#[cfg(test)]
+mod words;

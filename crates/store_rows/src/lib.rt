@@ -1,0 +1,12 @@
+//! Tests of stores: worked examples call by call, a store whose device fails once, and seeded calls at `MapStore`
+//! and at a slow store.
+#![tactic(auto)]
+
+#[cfg(test)]
+mod calls;
+#[cfg(test)]
+mod slow_store;
+#[cfg(test)]
+mod store_agrees;
+#[cfg(test)]
+mod undo;
