@@ -1,8 +1,8 @@
 //! Texts written to a writer.
-ghost use Rattle.std.specs.Prelude.{◌≡◌, ◌++◌, ◌<◌, slice_index, IfErr, OnOk};
+ghost use Rattle.std.specs.Prelude.{◌≡◌, ◌++◌, IfErr, OnOk};
 ghost use Rattle.std.specs.BTreeMap.{IsOrdered};
 ghost use Rattle.std.specs.Io.KnownBytes.{Appends};
-ghost use Rattle.hex.specs.Hex.{lower_digits};
+ghost use Rattle.hex.specs.Hex.{encode_lower};
 ghost use Rattle.fr_base.specs.Bytes.{bytes_cmp};
 ghost use Rattle.fr_cli.specs.Calls.{IsOutputFault, IsWriteFault};
 ghost use Rattle.fr_cli.specs.Lines.{hex_text, row_line, row_lines};
@@ -14,9 +14,6 @@ use fr_base::Bytes;
 use std::alloc::{AllocError, Global};
 use std::collections::BTreeMap;
 use std::io::Write;
-
-/// The lower case digits.
-const DIGITS: [u8; 16] = *b"0123456789abcdef";
 
 /// Writes a text, in as many calls as the writer wants. An interrupted call is made again.
 pub fn put<W: Write>(calls: &mut CallCounts, writer: &mut W, text: &str) -> Result<(), CliFault>
@@ -119,19 +116,23 @@ fn push_hex(line: &mut Vec<u8>, bytes: &[u8]) -> Result<(), AllocError>
         line.push(b'-')?;
         return Ok(());
     }
-    let mut rest = bytes;
-    while let [byte, more @ ..] = rest {
-        line.push(digit(*byte / 16))?;
-        line.push(digit(*byte % 16))?;
-        rest = more;
-    }
-    Ok(())
+    push_digits(line, bytes)
 }
 
-/// The lower case digit of a number below 16.
-fn digit(number: u8) -> u8
-    requires { number < 16 }
-    ensures { result ≡ slice_index lower_digits number }
+/// Adds two lower case digits for each byte.
+fn push_digits(line: &mut Vec<u8>, bytes: &[u8]) -> Result<(), AllocError>
+    ensures { OnOk result (line.new.items ≡ line.old.items ++ encode_lower bytes.now) }
 {
-    DIGITS[number as usize]
+    let at = line.len();
+    let Some(digits) = bytes.len().checked_mul(2) else {
+        return Err(AllocError);
+    };
+    let Some(end) = at.checked_add(digits) else {
+        return Err(AllocError);
+    };
+    line.resize(end, 0)?;
+    match hex::encode_to_slice(bytes, &mut line[at..]) {
+        Ok(()) => Ok(()),
+        Err(_) => Err(AllocError),
+    }
 }
