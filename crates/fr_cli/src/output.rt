@@ -133,6 +133,6 @@ fn push_digits(line: &mut Vec<u8>, bytes: &[u8]) -> Result<(), AllocError>
     line.resize(end, 0)?;
     match hex::encode_to_slice(bytes, &mut line[at..]) {
         Ok(()) => Ok(()),
-        Err(_) => Err(AllocError),
+        Err(_) => unreachable!(),
     }
 }
