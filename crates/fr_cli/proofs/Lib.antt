@@ -3,3 +3,4 @@ pub mod JsonLemmas
 pub mod TokenLemmas
 pub mod HexLemmas
 pub mod PlanLemmas
+pub mod RowLemmas

@@ -9,9 +9,8 @@ ghost use Rattle.fr_cli.specs.Lines.{lines_of};
 use crate::calls::CallCounts;
 use crate::fault::CliFault;
 use crate::input::read_input;
-use crate::operations::run_operations;
+use crate::operations::run_in_memory;
 use crate::script::read_script;
-use fr_undo::MapStore;
 use std::alloc::Global;
 use std::io::{Read, Write};
 
@@ -88,7 +87,7 @@ pub fn apply_counted<R: Read, W: Write>(
     let input = read_input(alloc, calls, reader)?;
     let script = read_script(alloc, input)?;
     match options.store {
-        StoreKind::Map => run_operations(alloc, &mut MapStore::new(alloc), script, calls, writer)?,
+        StoreKind::Map => run_in_memory(alloc, script, calls, writer)?,
     }
     calls.flush(writer)?;
     Ok(0)

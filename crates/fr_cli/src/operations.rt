@@ -2,28 +2,46 @@
 ghost use Rattle.std.specs.Prelude.{◌≡◌, IfOk, IfErr, OnOk, Some, None, MatchResult, string_bytes, option_map};
 ghost use Rattle.std.specs.Io.KnownBytes.{Appends};
 ghost use Rattle.std.specs.FinMap as map;
-ghost use Rattle.fr_cli.specs.Text.{GainsFront};
+ghost use Rattle.fr_undo.specs.State.{fresh};
+ghost use Rattle.fr_cli.specs.Text.{GainsFront, Owes};
 ghost use Rattle.fr_cli.specs.Calls.{IsWriteFault};
 ghost use Rattle.fr_cli.specs.Plan.{plan_lines, plan_outcome};
 ghost use Rattle.fr_cli.specs.Lines.{ok_line, line_of as line_text, row_lines, state_after, name_in, name_of};
 
 use crate::calls::CallCounts;
 use crate::fault::CliFault;
-use crate::output::{put, put_rows};
+use crate::output::{put, put_tree};
 use crate::plan::Planned;
-use fr_undo::{ShardStore, StoreFault};
+use fr_undo::{MapStore, ShardStore, StoreFault};
 use std::alloc::{AllocError, Global};
 use std::io::Write;
 
-/// Runs operations on a store, and writes a line for each and then the rows.
-pub(crate) fn run_operations<S: ShardStore, W: Write>(
+/// Runs operations on an empty store in memory, and writes a line for each and then the rows.
+pub(crate) fn run_in_memory<W: Write>(
+    alloc: Global,
+    operations: Vec<Planned>,
+    calls: &mut CallCounts,
+    writer: &mut W,
+) -> Result<(), CliFault>
+    ensures ok { OnOk result (Appends (W.contents writer.old) (W.contents writer.new) (plan_lines fresh operations.items)) }
+    ensures front { GainsFront (W.contents writer.old) (W.contents writer.new) (plan_lines fresh operations.items) }
+    ensures fault { IfErr result (λ e. IsWriteFault calls.new e) }
+    ensures done { OnOk result (calls.new ≡ calls.old) }
+{
+    let mut store = MapStore::new(alloc);
+    run_operations(alloc, &mut store, operations, calls, writer)?;
+    put_tree(alloc, store.rows(), calls, writer)
+}
+
+/// Runs operations on a store, and writes a line for each. What is left to be written then is the rows.
+fn run_operations<S: ShardStore, W: Write>(
     alloc: Global,
     store: &mut S,
     operations: Vec<Planned>,
     calls: &mut CallCounts,
     writer: &mut W,
 ) -> Result<(), CliFault>
-    ensures ok { OnOk result (Appends (W.contents writer.old) (W.contents writer.new) (plan_lines (S.state store.old) operations.items)) }
+    ensures ok { OnOk result (Owes (W.contents writer.old) (W.contents writer.new) (row_lines (map.entries (S.state store.new).contents)) (plan_lines (S.state store.old) operations.items)) }
     ensures front { GainsFront (W.contents writer.old) (W.contents writer.new) (plan_lines (S.state store.old) operations.items) }
     ensures fault { IfErr result (λ e. IsWriteFault calls.new e) }
     ensures done { OnOk result (calls.new ≡ calls.old) }
@@ -32,7 +50,7 @@ pub(crate) fn run_operations<S: ShardStore, W: Write>(
         let line = line_of(alloc, store, operation)?;
         put(calls, writer, line.as_str())?;
     }
-    put_contents(alloc, store, calls, writer)
+    Ok(())
 }
 
 /// Runs an operation, and gives its line.
@@ -97,22 +115,4 @@ fn ok_line<S: ShardStore>(alloc: Global, store: &S) -> Result<String, AllocError
     let floor = store.floor().get();
     let rows = store.undo_rows();
     format!(in alloc; "ok {applied} floor {floor} undo {rows}\n")
-}
-
-/// Writes the rows of a store, by key.
-fn put_contents<S: ShardStore, W: Write>(
-    alloc: Global,
-    store: &mut S,
-    calls: &mut CallCounts,
-    writer: &mut W,
-) -> Result<(), CliFault>
-    ensures ok { OnOk result (Appends (W.contents writer.old) (W.contents writer.new) (row_lines (map.entries (S.state store.old).contents))) }
-    ensures front { GainsFront (W.contents writer.old) (W.contents writer.new) (row_lines (map.entries (S.state store.old).contents)) }
-    ensures fault { IfErr result (λ e. IsWriteFault calls.new e) }
-    ensures done { OnOk result (calls.new ≡ calls.old) }
-{
-    match store.dump(alloc) {
-        Ok(rows) => put_rows(alloc, rows, calls, writer),
-        Err(_) => Err(CliFault::Memory),
-    }
 }

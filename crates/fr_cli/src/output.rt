@@ -1,6 +1,9 @@
 //! Texts written to a writer.
-ghost use Rattle.std.specs.Prelude.{◌≡◌, IfErr, OnOk};
+ghost use Rattle.std.specs.Prelude.{◌≡◌, ◌++◌, IfErr, OnOk};
+ghost use Rattle.std.specs.BTreeMap.{IsOrdered};
 ghost use Rattle.std.specs.Io.KnownBytes.{Appends};
+ghost use Rattle.hex.specs.Hex.{encode_lower};
+ghost use Rattle.fr_base.specs.Bytes.{bytes_cmp};
 ghost use Rattle.fr_cli.specs.Calls.{IsOutputFault, IsWriteFault};
 ghost use Rattle.fr_cli.specs.Lines.{hex_text, row_line, row_lines};
 ghost use Rattle.fr_cli.specs.Text.{GainsFront};
@@ -8,7 +11,8 @@ ghost use Rattle.fr_cli.specs.Text.{GainsFront};
 use crate::calls::CallCounts;
 use crate::fault::CliFault;
 use fr_base::Bytes;
-use std::alloc::Global;
+use std::alloc::{AllocError, Global};
+use std::collections::BTreeMap;
 use std::io::Write;
 
 /// Writes a text, in as many calls as the writer wants. An interrupted call is made again.
@@ -18,7 +22,17 @@ pub fn put<W: Write>(calls: &mut CallCounts, writer: &mut W, text: &str) -> Resu
     ensures fault { IfErr result (λ e. IsOutputFault calls.new e) }
     ensures done { OnOk result (calls.new ≡ calls.old) }
 {
-    let mut rest = text.as_bytes();
+    put_bytes(calls, writer, text.as_bytes())
+}
+
+/// Writes bytes, in as many calls as the writer wants. An interrupted call is made again.
+fn put_bytes<W: Write>(calls: &mut CallCounts, writer: &mut W, bytes: &[u8]) -> Result<(), CliFault>
+    ensures ok { OnOk result (Appends (W.contents writer.old) (W.contents writer.new) bytes.now) }
+    ensures front { GainsFront (W.contents writer.old) (W.contents writer.new) bytes.now }
+    ensures fault { IfErr result (λ e. IsOutputFault calls.new e) }
+    ensures done { OnOk result (calls.new ≡ calls.old) }
+{
+    let mut rest = bytes;
     while !rest.is_empty() {
         let n = calls.write(writer, rest)?;
         rest = &rest[n..];
@@ -38,15 +52,36 @@ pub fn put_rows<W: Write>(
     ensures fault { IfErr result (λ e. IsWriteFault calls.new e) }
     ensures done { OnOk result (calls.new ≡ calls.old) }
 {
+    let mut line = Vec::new(alloc);
     for (key, value) in rows {
-        put_row(alloc, &key, &value, calls, writer)?;
+        put_row(&mut line, &key, &value, calls, writer)?;
     }
     Ok(())
 }
 
-/// Writes the line of a row.
-fn put_row<W: Write>(
+/// Writes the lines of the rows of a tree, as they stand there.
+pub(crate) fn put_tree<W: Write>(
     alloc: Global,
+    rows: &BTreeMap<Bytes, Bytes>,
+    calls: &mut CallCounts,
+    writer: &mut W,
+) -> Result<(), CliFault>
+    ensures ok { OnOk result (Appends (W.contents writer.old) (W.contents writer.new) (row_lines rows.now.entries)) }
+    ensures front { GainsFront (W.contents writer.old) (W.contents writer.new) (row_lines rows.now.entries) }
+    ensures ordered { IsOrdered bytes_cmp rows.now }
+    ensures fault { IfErr result (λ e. IsWriteFault calls.new e) }
+    ensures done { OnOk result (calls.new ≡ calls.old) }
+{
+    let mut line = Vec::new(alloc);
+    for (key, value) in rows.iter() {
+        put_row(&mut line, key, value, calls, writer)?;
+    }
+    Ok(())
+}
+
+/// Writes the line of a row, which is made in `line`.
+fn put_row<W: Write>(
+    line: &mut Vec<u8>,
     key: &Bytes,
     value: &Bytes,
     calls: &mut CallCounts,
@@ -57,27 +92,47 @@ fn put_row<W: Write>(
     ensures fault { IfErr result (λ e. IsWriteFault calls.new e) }
     ensures done { OnOk result (calls.new ≡ calls.old) }
 {
-    put_hex(alloc, key.as_slice(), calls, writer)?;
-    put(calls, writer, " ")?;
-    put_hex(alloc, value.as_slice(), calls, writer)?;
-    put(calls, writer, "\n")
+    make_line(line, key.as_slice(), value.as_slice())?;
+    put_bytes(calls, writer, line.as_slice())
 }
 
-/// Writes bytes in lower case hex, or `-`.
-fn put_hex<W: Write>(
-    alloc: Global,
-    bytes: &[u8],
-    calls: &mut CallCounts,
-    writer: &mut W,
-) -> Result<(), CliFault>
-    ensures ok { OnOk result (Appends (W.contents writer.old) (W.contents writer.new) (hex_text bytes.now)) }
-    ensures front { GainsFront (W.contents writer.old) (W.contents writer.new) (hex_text bytes.now) }
-    ensures fault { IfErr result (λ e. IsWriteFault calls.new e) }
-    ensures done { OnOk result (calls.new ≡ calls.old) }
+/// Makes the line of a row in place of what `line` has.
+fn make_line(line: &mut Vec<u8>, key: &[u8], value: &[u8]) -> Result<(), AllocError>
+    ensures { OnOk result (line.new.items ≡ row_line (key.now, value.now)) }
+{
+    line.clear();
+    push_hex(line, key)?;
+    line.push(b' ')?;
+    push_hex(line, value)?;
+    line.push(b'\n')?;
+    Ok(())
+}
+
+/// Adds bytes in lower case hex, or `-`.
+fn push_hex(line: &mut Vec<u8>, bytes: &[u8]) -> Result<(), AllocError>
+    ensures { OnOk result (line.new.items ≡ line.old.items ++ hex_text bytes.now) }
 {
     if bytes.is_empty() {
-        return put(calls, writer, "-");
+        line.push(b'-')?;
+        return Ok(());
     }
-    let text = hex::encode(alloc, bytes)?;
-    put(calls, writer, text.as_str())
+    push_digits(line, bytes)
+}
+
+/// Adds two lower case digits for each byte.
+fn push_digits(line: &mut Vec<u8>, bytes: &[u8]) -> Result<(), AllocError>
+    ensures { OnOk result (line.new.items ≡ line.old.items ++ encode_lower bytes.now) }
+{
+    let at = line.len();
+    let Some(digits) = bytes.len().checked_mul(2) else {
+        return Err(AllocError);
+    };
+    let Some(end) = at.checked_add(digits) else {
+        return Err(AllocError);
+    };
+    line.resize(end, 0)?;
+    match hex::encode_to_slice(bytes, &mut line[at..]) {
+        Ok(()) => Ok(()),
+        Err(_) => unreachable!(),
+    }
 }

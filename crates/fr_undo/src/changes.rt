@@ -8,12 +8,11 @@ ghost use Rattle.fr_mutation.specs.Mutation.{is_between, key_of, value_after, va
 ghost use Rattle.fr_mutation.specs.declared.mutation.Mutation.TheVariants.{Clear};
 ghost use Rattle.fr_undo.specs.Changes.{KnowBefore, noted, held_outside, value_written};
 
-use crate::copies::value_copy;
 use crate::ranges::{is_covered, with_range};
 use fr_base::{Bytes, Memory};
 use fr_mutation::{Batch, Mutation};
 use std::alloc::Global;
-use std::collections::BTreeMap;
+use std::collections::btree_map::{BTreeMap, Entry};
 
 /// What becomes of a key.
 #[derive(Debug, Drop)]
@@ -32,10 +31,9 @@ fn held_outside(
 ) -> Result<Option<Bytes>, Memory>
     ensures { IfOk result (λ held. held ≡ held_outside cleared.now (tree.get bytes_cmp contents.now) key.now) }
 {
-    if is_covered(cleared, key) {
-        Ok(None)
-    } else {
-        value_copy(contents, key)
+    match contents.get(key) {
+        Some(value) if !is_covered(cleared, key) => Ok(Some(value.copy()?)),
+        _ => Ok(None),
     }
 }
 
@@ -53,14 +51,15 @@ fn put(
     ensures know { OnOk result (KnowBefore changes.new (held_outside cleared.now (tree.get bytes_cmp contents.now))) }
     ensures values { OnOk result ((q : List ℕ) → value_written changes.new (held_outside cleared.now (tree.get bytes_cmp contents.now)) q ≡ value_after mutation.now q (value_written changes.old (held_outside cleared.now (tree.get bytes_cmp contents.now)) q)) }
 {
-    match changes.get_mut(key) {
-        Some(change) => {
+    match changes.entry(key.copy()?)? {
+        Entry::Occupied(mut entry) => {
+            let change = entry.get_mut();
             change.after = mutation.new_value(alloc, change.after.as_ref())?;
         }
-        None => {
+        Entry::Vacant(entry) => {
             let before = held_outside(contents, cleared, key)?;
             let after = mutation.new_value(alloc, before.as_ref())?;
-            changes.insert(key.copy()?, Change { before, after })?;
+            entry.insert(Change { before, after });
         }
     }
     Ok(())
@@ -149,14 +148,16 @@ fn note_key(changes: &mut BTreeMap<Bytes, Change>, key: &Bytes, value: &Bytes) -
     ensures { OnOk result ((q : List ℕ) → tree.get bytes_cmp changes.new q ≡ cond (is_same key.now q) (Some (noted (Some value.now) (tree.get bytes_cmp changes.old q))) (tree.get bytes_cmp changes.old q)) }
 {
     let before = Some(value.copy()?);
-    match changes.get_mut(key) {
-        Some(change) => change.before = before,
-        None => {
-            let change = Change {
+    match changes.entry(key.copy()?)? {
+        Entry::Occupied(mut entry) => {
+            let change = entry.get_mut();
+            change.before = before;
+        }
+        Entry::Vacant(entry) => {
+            entry.insert(Change {
                 before,
                 after: None,
-            };
-            changes.insert(key.copy()?, change)?;
+            });
         }
     }
     Ok(())

@@ -1,4 +1,5 @@
-use Rattle.std.proofs.Common.{rules, ◌≡◌, inr, None}
+use Rattle.std.proofs.Common.{rules, ◌≡◌, inr, None, refl}
+use Rattle.fr_undo.specs.State.{fresh}
 use Rattle.fr_cli.specs.Plan.{plan_of}
 use Rattle.fr_cli.proofs.PlanLemmas.{bad_found, read_found, front_found, all_found}
 use Rattle.fr_cli.proofs.TextLemmas.{gains_kept, appends_kept}
@@ -9,24 +10,24 @@ returns-in_err-script-clause-bad g c = λ e.
     let none : plan_of c.in_ok-input.input.items ≡ None = search rules in
     bad_found _ _ c.in_ok-input.input.items c.in_ok-input.ensures.all none
 
-pub returns-in_err-run_operations-clause-front : goal.returns-in_err-run_operations-clause-front
-returns-in_err-run_operations-clause-front g c =
-    inr (front_found _ _ c.in_ok-input.input.items c.in_ok-script.script.items c.in_ok-input.ensures.all c.in_ok-script.ensures.ok c.new.result _ _ c.new.ensures c.run_operations.ensures.front)
+pub returns-in_err-run_in_memory-clause-front : goal.returns-in_err-run_in_memory-clause-front
+returns-in_err-run_in_memory-clause-front g c =
+    inr (front_found _ _ c.in_ok-input.input.items c.in_ok-script.script.items c.in_ok-input.ensures.all c.in_ok-script.ensures.ok fresh _ _ refl c.run_in_memory.ensures.front)
 
-pub returns-in_err-run_operations-clause-output : goal.returns-in_err-run_operations-clause-output
-returns-in_err-run_operations-clause-output g c = λ e. read_found _ _ c.in_ok-input.input.items c.in_ok-script.script.items c.in_ok-input.ensures.all c.in_ok-script.ensures.ok
+pub returns-in_err-run_in_memory-clause-output : goal.returns-in_err-run_in_memory-clause-output
+returns-in_err-run_in_memory-clause-output g c = λ e. read_found _ _ c.in_ok-input.input.items c.in_ok-script.script.items c.in_ok-input.ensures.all c.in_ok-script.ensures.ok
 
 pub returns-in_err-flush-clause-front : goal.returns-in_err-flush-clause-front
 returns-in_err-flush-clause-front g c =
-    inr (front_found _ _ c.in_ok-input.input.items c.in_ok-script.script.items c.in_ok-input.ensures.all c.in_ok-script.ensures.ok c.new.result _ _ c.new.ensures (gains_kept _ _ _ _ c.run_operations.ensures.front c.flush.ensures.kept))
+    inr (front_found _ _ c.in_ok-input.input.items c.in_ok-script.script.items c.in_ok-input.ensures.all c.in_ok-script.ensures.ok fresh _ _ refl (gains_kept _ _ _ _ c.run_in_memory.ensures.front c.flush.ensures.kept))
 
 pub returns-in_err-flush-clause-output : goal.returns-in_err-flush-clause-output
 returns-in_err-flush-clause-output g c = λ e. read_found _ _ c.in_ok-input.input.items c.in_ok-script.script.items c.in_ok-input.ensures.all c.in_ok-script.ensures.ok
 
 pub returns-clause-lines : goal.returns-clause-lines
 returns-clause-lines g c =
-    all_found _ _ c.in_ok-input.input.items c.in_ok-script.script.items c.in_ok-input.ensures.all c.in_ok-script.ensures.ok c.new.result _ _ c.new.ensures (appends_kept _ _ _ _ c.in_ok-run_operations.ensures.ok c.flush.ensures.kept)
+    all_found _ _ c.in_ok-input.input.items c.in_ok-script.script.items c.in_ok-input.ensures.all c.in_ok-script.ensures.ok fresh _ _ refl (appends_kept _ _ _ _ c.in_ok-run_in_memory.ensures.ok c.flush.ensures.kept)
 
 pub returns-clause-front : goal.returns-clause-front
 returns-clause-front g c =
-    inr (front_found _ _ c.in_ok-input.input.items c.in_ok-script.script.items c.in_ok-input.ensures.all c.in_ok-script.ensures.ok c.new.result _ _ c.new.ensures (gains_kept _ _ _ _ c.run_operations.ensures.front c.flush.ensures.kept))
+    inr (front_found _ _ c.in_ok-input.input.items c.in_ok-script.script.items c.in_ok-input.ensures.all c.in_ok-script.ensures.ok fresh _ _ refl (gains_kept _ _ _ _ c.run_in_memory.ensures.front c.flush.ensures.kept))

@@ -1,10 +1,10 @@
 use Rattle.std.proofs.Common.{◌≡◌, length}
 use Rattle.fr_cli.specs.Text.{Owes}
-use Rattle.fr_cli.proofs.output.put.Given as goal
+use Rattle.fr_cli.proofs.output.put_bytes.Given as goal
 
 abbrev pub invariant-loop-rest : goal.invariant-loop-rest
 invariant-loop-rest g l = record {
-  owed : Owes (g.W.Write.contents l.fn.writer) (g.W.Write.contents l.writer) l.rest l.text;
+  owed : Owes (g.W.Write.contents l.fn.writer) (g.W.Write.contents l.writer) l.rest l.bytes;
   calls : l.calls ≡ l.fn.calls;
 }
 
