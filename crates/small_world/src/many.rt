@@ -31,15 +31,15 @@ pub(crate) fn run(rt: &HostRuntime, events: u64, keys: u64) -> anyhow::Result<()
     let alloc = rt.alloc();
     let start = Instant::now(rt)?;
     let list = make(alloc, events, keys)?;
-    let made = start.elapsed(rt)?.as_millis();
+    let made = start.elapsed(rt)?.as_micros();
     let count = list.len();
     let again = Instant::now(rt)?;
     let Ok(world) = World::replay(alloc, config(alloc)?, list.as_slice()) else {
         bail!("the list is no run");
     };
-    let replayed = again.elapsed(rt)?.as_millis();
+    let replayed = again.elapsed(rt)?.as_micros();
     let turns = world.turns().len();
-    println!(rt; "{count} events made in {made} ms, {turns} turns replayed in {replayed} ms")?;
+    println!(rt; "{count} events made in {made} us, {turns} turns replayed in {replayed} us")?;
     Ok(())
 }
 
