@@ -1,12 +1,12 @@
 //! Storage servers: hears that break off at each place, and answers that come again, late and too early.
 use crate::deed::Deed::{Begin, Deliver, Hear, HearIn, Look, Mark, Peek, Submit};
 use crate::said::Said::{
-    Committed, Done, Held, Locked, Marked, No, NotDone, Numbered, Peeked, Promise, Refused, Seeded,
-    Stands, Waiting, Written,
+    Done, Held, Locked, Marked, No, NotDone, Numbered, Peeked, Promise, Refused, Seeded, Stands,
+    Waiting, Written,
 };
 use crate::scene::{Row, runs};
 use crate::tables::{
-    AHEAD, CAUGHT_UP, CELL, COMMIT, COPY, FIRST, FIRST_A, FIRST_B, LOCK, LOG_A, LOG_B, PROXY, READ,
+    AHEAD, CAUGHT_UP, CELL, COMMIT, COPY, FIRST_A, FIRST_B, LOCK, LOG_A, LOG_B, PROXY, READ,
     SECOND, SECOND_A, SECOND_B, SEQUENCER, STORAGE, WRITE,
 };
 use fr_log::LogRefusal::{NoMark, WrongEpoch};

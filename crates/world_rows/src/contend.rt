@@ -1,12 +1,12 @@
 //! Two recoverers over three cells, neither of which waits for the other.
 use crate::deed::Deed::{Begin, Deliver, Hear, Lock, Look, Submit};
-use crate::made::Who::{Cell, Log, Sequencer};
+use crate::made::Who::{Cell, Sequencer};
 use crate::said::Said::{
     self, Chosen, Done, Held, Locked, Locking, Lost, No, NotDone, Peeked, Promise, Promised,
     Seeded, Written,
 };
 use crate::scene::{Row, runs};
-use crate::tables::{FIRST, FIRST_A, FIRST_B, LOG_A, LOG_B, SECOND, SECOND_A, SECOND_B};
+use crate::tables::{FIRST, FIRST_A, FIRST_B, LOG_A, SECOND, SECOND_A, SECOND_B};
 use fr_epoch::LostWhy::Outballoted;
 use fr_log::LogRefusal::Stopped;
 use fr_world::NotEnabled::NoSuchNode;

@@ -84,7 +84,7 @@ fn deliver(
     to: Who,
     number: usize,
 ) -> Result<Option<Event>, Fail> {
-    let ask = found::ask(world, node(from)?, node(to)?, number)?;
+    let ask = found::ask(world, &node(from)?, &node(to)?, number)?;
     comes(other, to, ask)
 }
 
@@ -128,7 +128,7 @@ fn hear(
     number: usize,
     taken: Option<Version>,
 ) -> Result<Option<Event>, Fail> {
-    let tell = found::tell(world, node(from)?, node(to)?, number)?;
+    let tell = found::tell(world, &node(from)?, &node(to)?, number)?;
     heard(by, from, tell, taken)
 }
 

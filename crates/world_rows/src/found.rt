@@ -4,26 +4,34 @@ use fr_base::NodeId;
 use fr_world::{Turn, World};
 use std::test::Fail;
 
-/// The ask that a turn of a node gave to another, where it gave one.
-fn ask_in(turn: &Turn, from: NodeId, to: NodeId) -> Option<&Ask> {
-    if !turn.node().is_same(from) {
+/// Where among the asks of a turn of a node stands one to another, where there is one.
+fn place_in(turn: &Turn, from: &NodeId, to: &NodeId) -> Option<usize> {
+    if !turn.node().is_same(*from) {
         return None;
     }
-    for (other, ask) in turn.asks() {
-        if other.is_same(to) {
-            return Some(ask);
+    for (place, sent) in turn.asks().iter().enumerate() {
+        if sent.0.is_same(*to) {
+            return Some(place);
         }
     }
     None
 }
 
+/// The ask at a place among those of a turn.
+fn ask_at(turn: &Turn, place: usize) -> Result<Ask, Fail> {
+    match turn.asks().get(place) {
+        Some(sent) => Ok(sent.1.copy()?),
+        None => Err("no such ask")?,
+    }
+}
+
 /// The ask of this number, from 0, that a node gave to another.
-pub(crate) fn ask(world: &World, from: NodeId, to: NodeId, number: usize) -> Result<Ask, Fail> {
+pub(crate) fn ask(world: &World, from: &NodeId, to: &NodeId, number: usize) -> Result<Ask, Fail> {
     let mut left = number;
     for turn in world.turns() {
-        if let Some(ask) = ask_in(turn, from, to) {
+        if let Some(place) = place_in(turn, from, to) {
             if left == 0 {
-                return Ok(ask.copy()?);
+                return ask_at(turn, place);
             }
             left = left.saturating_sub(1);
         }
@@ -31,26 +39,36 @@ pub(crate) fn ask(world: &World, from: NodeId, to: NodeId, number: usize) -> Res
     Err("no such ask")?
 }
 
-/// What a node told another in a turn, where it did.
-fn tell_in(turn: &Turn, by: NodeId, to: NodeId) -> Result<Option<Tell>, Fail> {
-    if !turn.node().is_same(by) {
-        return Ok(None);
+/// Whether a node told another something in a turn.
+fn has_told(turn: &Turn, by: &NodeId, to: &NodeId) -> bool {
+    if !turn.node().is_same(*by) {
+        return false;
     }
     match turn {
-        Turn::Cell { from, tell, .. } if from.is_same(to) => Ok(Some(Tell::Cell(tell.copy()?))),
-        Turn::Log { from, tell, .. } if from.is_same(to) => Ok(Some(Tell::Log(tell.copy()?))),
-        Turn::Sequencer { from, tell, .. } if from.is_same(to) => Ok(Some(Tell::Seq(*tell))),
-        _ => Ok(None),
+        Turn::Cell { from, .. } => from.is_same(*to),
+        Turn::Log { from, .. } => from.is_same(*to),
+        Turn::Sequencer { from, .. } => from.is_same(*to),
+        _ => false,
+    }
+}
+
+/// What was told in a turn.
+fn told_in(turn: &Turn) -> Result<Tell, Fail> {
+    match turn {
+        Turn::Cell { tell, .. } => Ok(Tell::Cell(tell.copy()?)),
+        Turn::Log { tell, .. } => Ok(Tell::Log(tell.copy()?)),
+        Turn::Sequencer { tell, .. } => Ok(Tell::Seq(*tell)),
+        _ => Err("nothing was told")?,
     }
 }
 
 /// The tell of this number, from 0, that a node gave to another.
-pub(crate) fn tell(world: &World, by: NodeId, to: NodeId, number: usize) -> Result<Tell, Fail> {
+pub(crate) fn tell(world: &World, by: &NodeId, to: &NodeId, number: usize) -> Result<Tell, Fail> {
     let mut left = number;
     for turn in world.turns() {
-        if let Some(tell) = tell_in(turn, by, to)? {
+        if has_told(turn, by, to) {
             if left == 0 {
-                return Ok(tell);
+                return told_in(turn);
             }
             left = left.saturating_sub(1);
         }

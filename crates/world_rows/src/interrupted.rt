@@ -1,15 +1,11 @@
 //! A recoverer crashes in each of its phases, and the one after it takes over what was acknowledged.
 use crate::deed::Deed::{Begin, Crash, Deliver, Hear, Look};
 use crate::said::Said::{
-    Chosen, Copying, Done, Held, Locked, Locking, No, Peeked, Promise, Reading, Seeded, Writing,
-    Written,
+    Chosen, Copying, Done, Locked, Locking, No, Peeked, Promise, Reading, Seeded, Writing, Written,
 };
-use crate::scene::{Row, plays, runs};
-use crate::tables::{
-    CELL, COMMIT, COPY, FIRST, LOCK, LOG_A, LOG_B, READ, SECOND, SECOND_A, SECOND_B,
-};
+use crate::scene::{Row, runs};
+use crate::tables::{CELL, COMMIT, COPY, FIRST, LOCK, LOG_B, READ, SECOND, SECOND_A, SECOND_B};
 use fr_world::NotEnabled::Gone;
-use std::alloc::Global;
 use std::test::Fail;
 
 /// It crashes.

@@ -1,14 +1,13 @@
 //! Asks and tells of a recoverer that come again, and late.
-use crate::deed::Deed::{Begin, Crash, Deliver, Hear, Look, Lose, Submit};
+use crate::deed::Deed::{Deliver, Hear, Look, Submit};
 use crate::made::Who::{Proxy, Sequencer};
 use crate::said::Said::{
-    Cell, Chosen, Copying, Done, Held, Known, Last, Locked, Locking, Log, No, NotDone, Peeked,
-    Promise, Seeded, Writing, Written,
+    Cell, Chosen, Copying, Done, Held, Known, Last, Locked, Locking, Log, No, Peeked, Promise,
+    Seeded, Writing, Written,
 };
 use crate::scene::runs;
 use crate::tables::{CELL, COMMIT, COPY, FIRST, FIRST_A, FIRST_B, LOCK, LOG_A, LOG_B, READ, WRITE};
-use fr_log::LogRefusal::Unseeded;
-use fr_world::NotEnabled::{Gone, NoSuchNode};
+use fr_world::NotEnabled::NoSuchNode;
 use std::test::Fail;
 
 #[test]

@@ -2,9 +2,9 @@
 use crate::deed::Deed::{
     Begin, Crash, Deliver, DeliverAs, Hear, HearIn, Lock, Look, Lose, Overhear, Peek, Submit,
 };
-use crate::made::Who::{Cell, Log, Proxy, Recoverer, Sequencer, Storage};
+use crate::made::Who::{Cell, Log, Recoverer, Sequencer, Storage};
 use crate::said::Said::{
-    Absent, Committed, Done, Ended, Locked, No, NotDone, Numbered, Promise, Reading, Waiting,
+    Absent, Done, Ended, Locked, No, NotDone, Numbered, Promise, Reading, Waiting,
 };
 use crate::scene::{Row, runs};
 use crate::tables::{

@@ -1,9 +1,8 @@
 //! Lists of events.
-use crate::deed::{Deed, event};
-use crate::made::{ballot, config, node, world};
-use crate::said::{Said, answer};
-use crate::scene::{Row, played};
-use crate::tables::{AHEAD, COMMIT, COPY, LOCK, READ, WRITE};
+use crate::deed::event;
+use crate::made::{ballot, config, world};
+use crate::scene::Row;
+use crate::tables::{COMMIT, LOCK, READ};
 use fr_world::{Event, NotEnabled, World};
 use std::alloc::Global;
 use std::test::Fail;

@@ -8,7 +8,7 @@ use fr_storage::StorageFault;
 use fr_world::{Answer, NotEnabled};
 
 /// What comes of a deed, with numbers of it.
-#[derive(Clone, Copy, Debug, PartialEq, Eq)]
+#[derive(Clone, Copy)]
 pub(crate) enum Said {
     /// It happened.
     Done,
@@ -149,5 +149,78 @@ fn first(rows: &Rows) -> u8 {
             [] => 0,
         },
         [] => 0,
+    }
+}
+
+/// Whether this is what was wanted.
+pub(crate) fn is(said: &Said, wanted: &Said) -> bool {
+    is_answer(said, wanted)
+        || is_number(said, wanted)
+        || is_of_log(said, wanted)
+        || is_phase(said, wanted)
+        || is_seen(said, wanted)
+}
+
+fn is_answer(said: &Said, wanted: &Said) -> bool {
+    match (said, wanted) {
+        (Said::Done, Said::Done) => true,
+        (Said::Waiting, Said::Waiting) => true,
+        (Said::Ended, Said::Ended) => true,
+        (Said::No(why), Said::No(other)) => why == other,
+        (Said::Committed(version), Said::Committed(other)) => version == other,
+        (Said::Refused(fault), Said::Refused(other)) => fault == other,
+        _ => false,
+    }
+}
+
+fn is_number(said: &Said, wanted: &Said) -> bool {
+    match (said, wanted) {
+        (Said::Promise(a), Said::Promise(b)) => a == b,
+        (Said::Written(a), Said::Written(b)) => a == b,
+        (Said::Promised(a), Said::Promised(b)) => a == b,
+        (Said::TwoValues, Said::TwoValues) => true,
+        (Said::Numbered(a, p), Said::Numbered(b, q)) => a == b && p == q,
+        (Said::NoNumber(a), Said::NoNumber(b)) => a == b,
+        _ => false,
+    }
+}
+
+fn is_of_log(said: &Said, wanted: &Said) -> bool {
+    match (said, wanted) {
+        (Said::Seeded, Said::Seeded) => true,
+        (Said::Held(a), Said::Held(b)) => a == b,
+        (Said::Locked(a, p), Said::Locked(b, q)) => a == b && p == q,
+        (Said::Peeked(a, n, p, x), Said::Peeked(b, m, q, y)) => {
+            a == b && n == m && p == q && x == y
+        }
+        (Said::Marked(a), Said::Marked(b)) => a == b,
+        (Said::NotDone(a), Said::NotDone(b)) => a == b,
+        _ => false,
+    }
+}
+
+fn is_phase(said: &Said, wanted: &Said) -> bool {
+    match (said, wanted) {
+        (Said::Reading, Said::Reading) => true,
+        (Said::Locking, Said::Locking) => true,
+        (Said::Copying, Said::Copying) => true,
+        (Said::Writing, Said::Writing) => true,
+        (Said::Chosen(a, p), Said::Chosen(b, q)) => a == b && p == q,
+        (Said::Lost(a), Said::Lost(b)) => a == b,
+        _ => false,
+    }
+}
+
+fn is_seen(said: &Said, wanted: &Said) -> bool {
+    match (said, wanted) {
+        (Said::Absent, Said::Absent) => true,
+        (Said::Cell(a, p), Said::Cell(b, q)) => a == b && p == q,
+        (Said::Log(a, p, s), Said::Log(b, q, t)) => a == b && p == q && s == t,
+        (Said::Last(a), Said::Last(b)) => a == b,
+        (Said::Known(a), Said::Known(b)) => a == b,
+        (Said::Stands(a, p, x, s), Said::Stands(b, q, y, t)) => {
+            a == b && p == q && x == y && s == t
+        }
+        _ => false,
     }
 }

@@ -1,8 +1,7 @@
 //! Deeds that are done in a world one after another.
 use crate::deed::{Deed, event};
 use crate::made::{Who, ballot, node, world};
-use crate::said::{Said, answer, last, phase};
-use fr_base::NodeId;
+use crate::said::{Said, answer, is, last, phase};
 use fr_world::{Event, World};
 use std::alloc::Global;
 use std::test::Fail;
@@ -52,7 +51,7 @@ fn does(alloc: Global, world: &mut World, deed: Deed) -> Result<Said, Fail> {
 pub(crate) fn plays(alloc: Global, world: &mut World, rows: &[Row]) -> Result<(), Fail> {
     for (deed, wanted) in rows {
         let said = does(alloc, world, *deed)?;
-        if said != *wanted {
+        if !is(&said, wanted) {
             Err("another answer")?;
         }
     }

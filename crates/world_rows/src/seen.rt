@@ -2,10 +2,8 @@
 use crate::found;
 use crate::made::{ballot, config, epoch, node, tag};
 use crate::scene::played;
-use crate::tables::{CELL, COMMIT, COPY, FIRST, LOCK, LOG_A, LOG_B, PROXY, READ, SEQUENCER, WRITE};
+use crate::tables::{CELL, COMMIT, COPY, FIRST, LOCK, READ, WRITE};
 use fr_ask::Last;
-use fr_base::{Bytes, NodeId};
-use fr_world::World;
 use std::test::Fail;
 
 /// Whether of a recoverer this phase is seen.
@@ -23,10 +21,10 @@ fn what_is_there_and_gone(rt: HostRuntime) -> Result<(), Fail> {
     let cell = node(CELL)?;
     let recoverer = node(FIRST)?;
     assert!(rt; world.is_there(recoverer) && !world.is_gone(recoverer));
-    let ask = found::ask(&world, recoverer, cell, 0)?;
+    let ask = found::ask(&world, &recoverer, &cell, 0)?;
     assert!(rt; world.was_sent(recoverer, cell, &ask));
     assert!(rt; !world.was_sent(cell, recoverer, &ask));
-    let tell = found::tell(&world, cell, recoverer, 0)?;
+    let tell = found::tell(&world, &cell, &recoverer, 0)?;
     assert!(rt; world.was_told(cell, recoverer, &tell));
     assert!(rt; !world.was_told(recoverer, cell, &tell));
     let last = world.last_of(alloc, recoverer)?;
