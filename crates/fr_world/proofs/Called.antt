@@ -25,10 +25,10 @@ use Rattle.fr_history.specs.Run.{IsUp, IsTurn, IsRun}
 use Rattle.fr_history.specs.Laws.{Laws}
 use Rattle.fr_history.proofs.ByTurn.{proxy_by_turn}
 use Rattle.fr_history.proofs.Growth.{opener, open_generation}
-use Rattle.fr_world.specs.Parts.{pair_cmp, Logs, Sequencers, Proxies, Recoverers, Storages, AreProxies, IsWorld, new_proxy}
+use Rattle.fr_nodes.specs.Parts.{pair_cmp, Logs, Sequencers, Proxies, Recoverers, Storages, AreProxies, IsWorld, new_proxy}
 use Rattle.fr_world.specs.World.{WorldState}
-use Rattle.fr_world.proofs.Keys.{pair_cmp-IsAntisymmetric}
-use Rattle.fr_world.proofs.Stands.{logs_next, sequencers_next, proxies_next}
+use Rattle.fr_nodes.proofs.Keys.{pair_cmp-IsAntisymmetric}
+use Rattle.fr_nodes.proofs.Stands.{logs_next, sequencers_next, proxies_next}
 
 -- ---- places of pairs
 

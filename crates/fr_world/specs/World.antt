@@ -7,7 +7,7 @@ use Rattle.fr_event.specs.declared.event.Event.{Event}
 use Rattle.fr_event.specs.declared.not_enabled.NotEnabled.{NotEnabled}
 use Rattle.fr_event.specs.Step.{turn_of, answer_of}
 use Rattle.fr_world.specs.declared.nodes.Nodes.{Nodes}
-use Rattle.fr_world.specs.Parts.{IsWorld}
+use Rattle.fr_nodes.specs.Parts.{IsWorld}
 
 -- what it started from, and its turns, the newest first: by them each of its nodes is known
 pub record WorldState : Type 0 where

@@ -5,7 +5,6 @@
 mod events;
 mod nodes;
 mod replay;
-mod start;
 mod step;
 mod world;
 

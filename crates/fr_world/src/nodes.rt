@@ -1,28 +1,23 @@
 //! The nodes that a world keeps, and what happened: one exact run.
-ghost use Rattle.std.specs.Prelude.{◌≡◌, ◌+◌, ◌<◌, ◌^◌, [], IfOk};
+ghost use Rattle.std.specs.Prelude.{◌≡◌, ◌<◌, [], IfOk};
 ghost use Rattle.fr_history.specs.Nodes as nodes;
 ghost use Rattle.fr_event.specs.Tests as tests;
 ghost use Rattle.fr_world.specs.World.{state_of, IsKept};
 
 mod asked;
 mod called;
-pub(crate) mod cells;
 mod leaving;
-pub(crate) mod logs;
-pub(crate) mod proxies;
 mod readers;
-pub(crate) mod recoverers;
 mod recovering;
-pub(crate) mod sequencers;
 mod served;
-pub(crate) mod storages;
 
-use crate::start;
 use fr_ask::{Ask, Tell};
-use fr_base::{Ballot, Epoch, Memory, NodeId, Version};
+use fr_base::{Ballot, Epoch, Memory, NodeId};
 use fr_config::Config;
 use fr_epoch::Recoverer;
 use fr_log::Log;
+use fr_nodes::opened::logs_in;
+use fr_nodes::start;
 use fr_proxy::{Proxy, Sequencer};
 use fr_register::Cell;
 use fr_state::Generation;
@@ -31,13 +26,6 @@ use fr_turns::Turns;
 use fr_undo::MapStore;
 use std::alloc::Global;
 use std::collections::BTreeMap;
-
-/// What a node told: once to be kept among what happened, and once to be handed out.
-#[derive(Drop)]
-pub(crate) struct Told<T> {
-    pub(crate) kept: T,
-    pub(crate) handed: T,
-}
 
 /// All nodes, and their turns, the oldest first. Logs, sequencers and proxies are made when they are first asked.
 #[derive(Drop)]
@@ -151,26 +139,5 @@ impl Nodes {
         ensures { result ≡ tests.was_told (state_of self.now).turns by to tell.now }
     {
         self.turns.was_told(&by, &to, tell)
-    }
-}
-
-/// How many logs the generation of a recoverer has by now.
-fn logs_in(recoverer: &Recoverer) -> u8
-    ensures { result ≡ nodes.logs_in recoverer.now.plan }
-{
-    match recoverer.generation() {
-        Some(generation) if recoverer.is_copied() => generation.m(),
-        _ => 0,
-    }
-}
-
-/// The version after the one that a generation was seeded to.
-fn after(version: Version) -> Version
-    requires { version + 1 < 2 ^ 62 }
-    ensures { result ≡ version + 1 }
-{
-    match version.after() {
-        Some(version) => version,
-        None => unreachable!(),
     }
 }

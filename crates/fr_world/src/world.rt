@@ -1,6 +1,6 @@
 //! A world of nodes.
 ghost use Rattle.std.specs.Option.{option_map};
-ghost use Rattle.std.specs.Prelude.{◌≡◌, ℕ, [], length, nat_lt, is_some, IfOk, IfSome, OnErr, false};
+ghost use Rattle.std.specs.Prelude.{◌≡◌, [], length, nat_lt, is_some, IfOk, IfSome, OnErr, false};
 ghost use Rattle.fr_follows.specs.Committed.{AcknowledgedIsNeverUndone, RolledBackIsExact};
 ghost use Rattle.fr_follows.specs.Safety.{IsGrownFrom, IsSafe};
 ghost use Rattle.fr_history.specs.Run.{IsRun};
@@ -8,7 +8,7 @@ ghost use Rattle.fr_world.specs.Stepping.{Steps, Refuses};
 ghost use Rattle.fr_history.specs.Nodes as nodes;
 ghost use Rattle.fr_event.specs.Tests as tests;
 ghost use Rattle.fr_last.specs.At.{last_at, proxy_if_there};
-ghost use Rattle.fr_world.specs.Parts.{server_of};
+ghost use Rattle.fr_nodes.specs.Parts.{server_of};
 ghost use Rattle.fr_turns.specs.Turns.{history_of};
 
 use crate::nodes::Nodes;

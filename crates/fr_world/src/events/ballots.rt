@@ -7,11 +7,11 @@ ghost use Rattle.fr_world.specs.Stepping.{Steps, Refuses};
 ghost use Rattle.fr_world.specs.World.{state_of, IsKept};
 
 use crate::nodes::Nodes;
-use crate::start;
 use fr_ask::Tell;
 use fr_base::{Ballot, NodeId, Version};
 use fr_event::laws::step_law;
 use fr_event::{Answer, NotEnabled};
+use fr_nodes::start;
 use std::alloc::Global;
 
 impl Nodes {

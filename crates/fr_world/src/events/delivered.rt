@@ -2,7 +2,6 @@
 ghost use Rattle.std.specs.Prelude.{◌≡◌, ◌≢◌, true, Err, IfErr, IfOk, Ok, OnErr};
 ghost use Rattle.fr_event.specs.Limits.{AskHasLimits};
 ghost use Rattle.fr_event.specs.Step.{if_sent};
-ghost use Rattle.fr_event.specs.Tests as tests;
 ghost use Rattle.fr_event.specs.declared.event.Event.TheVariants as event;
 ghost use Rattle.fr_event.specs.declared.not_enabled.NotEnabled.TheVariants as not_enabled;
 ghost use Rattle.fr_history.specs.Nodes as nodes;
@@ -20,6 +19,7 @@ use fr_base::{Epoch, LogId, NodeId};
 use fr_event::laws::step_law;
 use fr_event::{Answer, NotEnabled};
 use fr_log::LogAsk;
+use fr_nodes::storages::storage_may_ask;
 use fr_register::CellAsk;
 use std::alloc::Global;
 
@@ -51,7 +51,7 @@ impl Nodes {
             },
             Ask::Log(ask) => match to {
                 NodeId::Log { epoch, index } => {
-                    let may = sent || self.storage_may_ask(&from, ask);
+                    let may = sent || storage_may_ask(&self.config, &from, ask);
                     self.to_log(alloc, from, LogId { epoch, index }, ask, may)
                 }
                 _ => Err(NotEnabled::NeverSent),
@@ -60,22 +60,6 @@ impl Nodes {
                 NodeId::Sequencer { epoch } => self.to_sequencer(alloc, from, epoch, *ask, sent),
                 _ => Err(NotEnabled::NeverSent),
             },
-        }
-    }
-
-    /// Whether an ask is one that storage servers may give at any time: for a mark, and for records of the own tag.
-    fn storage_may_ask(&self, from: &NodeId, ask: &LogAsk) -> bool
-        ensures { result ≡ tests.storage_may_ask (state_of self.now).config from.now ask.now }
-    {
-        match (from, ask) {
-            (NodeId::Storage { tag }, LogAsk::Peek { tag: asked, .. }) => {
-                tag.get() == asked.get()
-                    && usize::from(tag.get()) < self.config.map().begins().len()
-            }
-            (NodeId::Storage { tag }, LogAsk::MarkAsked { .. }) => {
-                usize::from(tag.get()) < self.config.map().begins().len()
-            }
-            _ => false,
         }
     }
 

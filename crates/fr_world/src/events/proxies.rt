@@ -1,7 +1,6 @@
 //! Proxies are given batches, and hear.
 ghost use Rattle.std.specs.Prelude.{◌≡◌, OnErr};
 ghost use Rattle.fr_base.specs.declared.place.NodeId.TheVariants as node;
-ghost use Rattle.fr_event.specs.Step.{not_taken};
 ghost use Rattle.fr_event.specs.declared.event.Event.TheVariants as event;
 ghost use Rattle.fr_world.specs.Stepping.{Steps, Refuses};
 ghost use Rattle.fr_world.specs.World.{state_of, IsKept};
@@ -12,7 +11,7 @@ use fr_base::{Epoch, NodeId, Step, Version};
 use fr_event::laws::step_law;
 use fr_event::{Answer, NotEnabled};
 use fr_mutation::Batch;
-use fr_proxy::SubmitFault;
+use fr_nodes::proxies::not_taken;
 use std::alloc::Global;
 
 impl Nodes {
@@ -76,16 +75,5 @@ impl Nodes {
         }
         let outcome = self.tell_proxy(alloc, epoch, proxy, from, tell)?;
         Ok(Answer::Heard(outcome))
-    }
-}
-
-/// Why a batch cannot be given to a proxy that does not take it.
-fn not_taken(fault: SubmitFault) -> NotEnabled
-    ensures { result ≡ not_taken fault }
-{
-    match fault {
-        SubmitFault::TwoOpen => NotEnabled::TwoOpen,
-        SubmitFault::Over => NotEnabled::Over,
-        SubmitFault::Memory => NotEnabled::Memory,
     }
 }

@@ -1,27 +1,26 @@
 //! Cells, logs and sequencers are asked.
-ghost use Rattle.std.specs.Prelude.{◌≡◌, ◌+◌, ◌<◌, ◌^◌, IfOk, IsSome, OnErr, OnOk, Some};
+ghost use Rattle.std.specs.Prelude.{◌≡◌, ◌<◌, IfOk, IsSome, OnErr, OnOk, Some};
 ghost use Rattle.std.specs.BTreeMap as tree;
 ghost use Rattle.fr_register.specs.Cell as cell;
 ghost use Rattle.fr_log.specs.Step as log;
 ghost use Rattle.fr_proxy.specs.Sequencer as seq;
-ghost use Rattle.fr_epoch.specs.Recoverer.{Plan};
 ghost use Rattle.fr_history.specs.Nodes as nodes;
 ghost use Rattle.fr_history.specs.Run.{IsTurn};
 ghost use Rattle.fr_history.specs.Turn as history;
-ghost use Rattle.fr_world.specs.Parts.{pair_cmp};
+ghost use Rattle.fr_nodes.specs.Parts.{pair_cmp};
 ghost use Rattle.fr_world.specs.World.{state_of, with_turn, IsKept};
 
-use super::cells::ask_cell;
-use super::logs::{ask_log, keep_log};
-use super::sequencers::ask_sequencer;
-use super::{Nodes, after};
-use crate::start;
+use super::Nodes;
 use fr_ask::{SeqAsk, SeqTell};
 use fr_base::{Epoch, LogId, Memory, NodeId, Version};
-use fr_epoch::Recoverer;
 use fr_epoch::laws::write_law;
 use fr_history::laws::node_laws;
 use fr_log::{Log, LogAsk, LogTell};
+use fr_nodes::cells::ask_cell;
+use fr_nodes::logs::{ask_log, keep_log};
+use fr_nodes::opened::{mark_version, new_log};
+use fr_nodes::sequencers::ask_sequencer;
+use fr_nodes::start;
 use fr_register::{CellAsk, CellTell};
 use fr_turns::Turn;
 use std::alloc::Global;
@@ -159,28 +158,5 @@ impl Nodes {
             Some(recoverer) => mark_version(recoverer),
             None => start::version_one(),
         }
-    }
-}
-
-/// The version of the mark of the generation that a recoverer is going to open.
-fn mark_version(recoverer: &Recoverer) -> Version
-    requires { (p : Plan) → recoverer.now.plan ≡ Some p → p.generation.seeded_to + 1 < 2 ^ 62 }
-    ensures { result ≡ nodes.mark_version (nodes.generation_in recoverer.now.plan) }
-{
-    match recoverer.generation() {
-        Some(generation) => after(generation.seeded_to()),
-        None => start::version_one(),
-    }
-}
-
-/// A log of the generation that a recoverer is going to open, which was never asked.
-fn new_log(alloc: Global, recoverer: &Recoverer, id: LogId) -> Log
-    requires { id.index < nodes.logs_in recoverer.now.plan }
-    ensures { result ≡ nodes.new_log_in recoverer.now.plan id.epoch id.index }
-{
-    let _within = recoverer.phase();
-    match recoverer.generation() {
-        Some(generation) => Log::new(alloc, id, generation.m(), generation.k()),
-        None => unreachable!(),
     }
 }

@@ -1,6 +1,5 @@
 //! Proxies are told, and given batches.
-ghost use Rattle.std.specs.Prelude.{◌≡◌, ◌≢◌, ◌≤◌, ◌<◌, ◌-◌, ◌∷◌, [], true, None, Some, IfErr, IfOk, IfSome, IsSome, OnErr, OnOk};
-ghost use Rattle.std.specs.Vec.{vec_len, vec_capacity};
+ghost use Rattle.std.specs.Prelude.{◌≡◌, ◌≢◌, ◌≤◌, ◌<◌, ◌-◌, ◌∷◌, [], true, None, Some, IfErr, IfOk, IsSome, OnErr, OnOk};
 ghost use Rattle.std.specs.BTreeMap as tree;
 ghost use Rattle.fr_proxy.specs.Proxy as proxy;
 ghost use Rattle.fr_proxy.specs.Proxy.{new_asks, number_ask, opened, outcome_of, submit_fault};
@@ -9,21 +8,19 @@ ghost use Rattle.fr_base.specs.declared.place.NodeId.TheVariants as node;
 ghost use Rattle.fr_history.specs.Nodes as nodes;
 ghost use Rattle.fr_history.specs.Run.{IsTurn, IsUp};
 ghost use Rattle.fr_history.specs.Turn as history;
-ghost use Rattle.fr_world.specs.Parts.{new_proxy, pair_cmp};
-ghost use Rattle.fr_turns.specs.Turns.{turn_of};
+ghost use Rattle.fr_nodes.specs.Parts.{new_proxy, pair_cmp};
 ghost use Rattle.fr_world.specs.World.{state_of, with_turn, IsKept};
 
 use super::Nodes;
-use super::proxies::{keep_proxy, submit, tell_proxy};
-use crate::start::first_epoch;
-use fr_ask::{Ask, Tell};
+use fr_ask::Tell;
 use fr_base::{Epoch, Memory, NodeId, Step, Version};
-use fr_epoch::Recoverer;
 use fr_history::laws::node_laws;
 use fr_mutation::Batch;
+use fr_nodes::called::{again, heard, room, taken};
+use fr_nodes::opened::first_proxy;
+use fr_nodes::proxies::{keep_proxy, submit, tell_proxy};
+use fr_nodes::start::first_epoch;
 use fr_proxy::{Outcome, Proxy, SubmitFault};
-use fr_tags::ShardMap;
-use fr_turns::Turn;
 use std::alloc::Global;
 
 impl Nodes {
@@ -119,93 +116,5 @@ impl Nodes {
             Some(recoverer) => Ok(first_proxy(recoverer, epoch, number, map)),
             None => unreachable!(),
         }
-    }
-}
-
-/// A node, to be named twice.
-fn again(node: &NodeId) -> NodeId
-    ensures { result ≡ node.now }
-{
-    *node
-}
-
-/// The turn of a proxy that heard a tell.
-fn heard(
-    epoch: Epoch,
-    proxy: u8,
-    from: NodeId,
-    tell: Tell,
-    outcome: &Outcome,
-    asks: Vec<(NodeId, Ask)>,
-) -> Turn
-    ensures { turn_of result ≡ history.ProxyHeard epoch proxy from tell outcome.now asks.items }
-{
-    Turn::Proxy {
-        epoch,
-        proxy,
-        from,
-        tell,
-        outcome: *outcome,
-        asks,
-    }
-}
-
-/// Room for one ask.
-fn room(alloc: Global) -> Result<Vec<(NodeId, Ask)>, Memory>
-    ensures empty { IfOk result (λ asks. asks.items ≡ []) }
-    ensures room { IfOk result (λ asks. vec_len asks < vec_capacity asks) }
-{
-    let mut asks = Vec::new(alloc);
-    asks.reserve(1)?;
-    Ok(asks)
-}
-
-/// The turn of a proxy that took a batch, and asks its sequencer.
-fn taken(
-    epoch: Epoch,
-    proxy: u8,
-    step: Step,
-    batch: Batch,
-    ask: Ask,
-    asks: Vec<(NodeId, Ask)>,
-) -> Turn
-    requires empty { asks.items ≡ [] }
-    requires room { vec_len asks < vec_capacity asks }
-    ensures { turn_of result ≡ history.Submitted epoch proxy step batch ((node.Sequencer epoch, ask) ∷ []) }
-{
-    let mut asks = asks;
-    asks.push_reserved((NodeId::Sequencer { epoch }, ask));
-    Turn::Submitted {
-        epoch,
-        proxy,
-        step,
-        batch,
-        asks,
-    }
-}
-
-/// A proxy of the generation that a recoverer planned, before it was called.
-fn first_proxy(recoverer: &Recoverer, epoch: Epoch, number: u8, map: ShardMap) -> Proxy
-    requires { IsSome recoverer.now.plan }
-    ensures { IfSome recoverer.now.plan (λ p. result ≡ proxy.new_proxy epoch number p.generation.m p.generation.k map (p.generation.first - 1)) }
-{
-    let _sound = recoverer.phase();
-    match recoverer.generation() {
-        Some(generation) => {
-            let known = before(generation.first());
-            Proxy::new(epoch, number, generation.m(), generation.k(), map, known)
-        }
-        None => unreachable!(),
-    }
-}
-
-/// The version before one that is not 0.
-fn before(version: Version) -> Version
-    requires { 1 ≤ version }
-    ensures { result ≡ version - 1 }
-{
-    match version.before() {
-        Some(version) => version,
-        None => unreachable!(),
     }
 }

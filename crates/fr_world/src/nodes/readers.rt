@@ -7,7 +7,7 @@ ghost use Rattle.fr_follows.specs.Safety.{IsSafe};
 ghost use Rattle.fr_history.specs.Nodes as nodes;
 ghost use Rattle.fr_last.specs.At.{last_at, proxy_if_there};
 ghost use Rattle.fr_last.specs.Last as last;
-ghost use Rattle.fr_world.specs.Parts.{server_of};
+ghost use Rattle.fr_nodes.specs.Parts.{server_of};
 ghost use Rattle.fr_world.specs.World.{state_of, IsKept};
 
 use super::Nodes;
@@ -15,7 +15,8 @@ use fr_ask::{Last, Named};
 use fr_base::{Ballot, Epoch, LogId, Memory, NodeId, Tag};
 use fr_epoch::Recoverer;
 use fr_follows::laws::safety_law;
-use fr_last::{last_of_proxy, last_of_recoverer, last_of_storage};
+use fr_last::{last_of_proxy, last_of_recoverer};
+use fr_nodes::storages::last_of_copy;
 use fr_proxy::Proxy;
 use fr_storage::Storage;
 use fr_undo::MapStore;
@@ -145,17 +146,5 @@ impl Nodes {
             Some(server) => Ok(Some(last_of_copy(alloc, server)?)),
             None => Ok(None),
         }
-    }
-}
-
-/// What others see of a server, by a copy of it.
-fn last_of_copy(alloc: Global, server: &Storage<MapStore>) -> Result<Last, Memory>
-    requires { server.now.failed ≡ false }
-    ensures { IfOk result (λ told. told ≡ last.last_of_storage (server_of server.now)) }
-{
-    let mut server = server.copy(alloc)?;
-    match last_of_storage(alloc, &mut server) {
-        Ok(last) => Ok(last),
-        Err(_) => Err(Memory),
     }
 }

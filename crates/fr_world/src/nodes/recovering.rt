@@ -8,11 +8,11 @@ ghost use Rattle.fr_history.specs.Turn as history;
 ghost use Rattle.fr_world.specs.World.{state_of, with_turn, IsKept};
 
 use super::Nodes;
-use super::recoverers::{keep_recoverer, tell_recoverer};
 use fr_ask::Tell;
 use fr_base::{Ballot, Memory, NodeId};
 use fr_epoch::Recoverer;
 use fr_history::laws::node_laws;
+use fr_nodes::recoverers::{keep_recoverer, tell_recoverer};
 use fr_turns::Turn;
 use std::alloc::Global;
 

@@ -8,10 +8,10 @@ ghost use Rattle.fr_history.specs.Turn as history;
 ghost use Rattle.fr_world.specs.World.{state_of, with_turn, IsKept};
 
 use super::Nodes;
-use super::storages::{Heard, break_server, tell_server};
 use fr_ask::Tell;
 use fr_base::{Memory, NodeId, Tag, Version};
 use fr_history::laws::node_laws;
+use fr_nodes::storages::{Heard, break_server, tell_server};
 use fr_storage::StorageFault;
 use fr_turns::Turn;
 use std::alloc::Global;

@@ -1,0 +1,12 @@
+pub mod Histories
+pub mod Lists
+pub mod Starts
+pub mod Keys
+pub mod Stands
+pub mod Kept
+pub mod Quiet
+pub mod Leaving
+pub mod Recovering
+pub mod Served
+pub mod Asked
+pub mod Lasts

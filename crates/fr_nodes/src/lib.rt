@@ -1,0 +1,16 @@
+//! The nodes of a world as it keeps them, by their names: what each ask and each tell makes of them, what they start
+//! as, and what it is that they are those of what happened. A world is made of them in the crate above.
+#![tactic(auto)]
+
+pub mod called;
+pub mod cells;
+pub mod logs;
+pub mod opened;
+pub mod proxies;
+pub mod recoverers;
+pub mod sequencers;
+pub mod start;
+pub mod storages;
+mod told;
+
+pub use told::Told;
