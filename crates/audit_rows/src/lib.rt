@@ -1,0 +1,5 @@
+//! Tests of audits: their scripts, their faults, and journals of whole runs.
+#![tactic(auto)]
+
+#[cfg(test)]
+mod forms;
