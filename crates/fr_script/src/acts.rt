@@ -93,7 +93,7 @@ pub(crate) fn write_act(alloc: Global, act: &Act) -> Result<Value, Memory> {
             .with(names::FROM, write_node(alloc, *from)?)?
             .with(names::TELL, write_tell(alloc, tell)?)?
             .with(names::TAKEN, write_taken(*taken))?
-            .with(names::OUTCOME, write_outcome(alloc, *outcome)?)?
+            .with(names::OUTCOME, write_outcome(alloc, outcome)?)?
             .named(names::HEARD),
         Act::Submitted { step, batch } => object
             .number(names::STEP, step.get())?
@@ -112,14 +112,16 @@ fn write_taken(taken: Option<Version>) -> Value {
     }
 }
 
-fn write_outcome(alloc: Global, outcome: Option<Outcome>) -> Result<Value, Memory> {
+fn write_outcome(alloc: Global, outcome: &Option<Outcome>) -> Result<Value, Memory> {
+    let Some(outcome) = outcome else {
+        return Ok(Value::Null);
+    };
     let object = Object::new(alloc);
     match outcome {
-        Some(Outcome::Waiting) => object.named(names::WAITING),
-        Some(Outcome::Committed { version }) => object
+        Outcome::Waiting => object.named(names::WAITING),
+        Outcome::Committed { version } => object
             .number(names::VERSION, version.get())?
             .named(names::COMMITTED),
-        Some(Outcome::Ended) => object.named(names::ENDED),
-        None => Ok(Value::Null),
+        Outcome::Ended => object.named(names::ENDED),
     }
 }
