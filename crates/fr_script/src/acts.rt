@@ -4,10 +4,11 @@ use crate::fault::ScriptFault;
 use crate::fields::{Fields, bare, variant, version_of};
 use crate::names;
 use crate::nodes::{read_node, write_node};
-use crate::object::Object;
+use crate::object::{Object, bare_named, numbered};
 use crate::sequencers::read_step;
 use crate::values::{read_batch, write_batch};
-use fr_base::{Memory, Version};
+use fr_ask::{Ask, Tell};
+use fr_base::{Memory, NodeId, Version};
 use fr_journal::Act;
 use fr_proxy::Outcome;
 use serde_json::Value;
@@ -16,14 +17,9 @@ use std::alloc::Global;
 pub(crate) fn read_act(alloc: Global, value: Value) -> Result<Act, ScriptFault> {
     let (name, content) = variant(value)?;
     match name.as_str() {
-        names::ASKED => read_asked(alloc, Fields::new(content, 3)),
-        names::HEARD => read_heard(alloc, Fields::new(content, 4)),
-        names::SUBMITTED => {
-            let mut fields = Fields::new(content, 2);
-            let step = read_step(&fields)?;
-            let batch = read_batch(alloc, fields.take(names::BATCH)?)?;
-            Ok(Act::Submitted { step, batch })
-        }
+        names::ASKED => read_asked(alloc, &mut Fields::new(content, 3)),
+        names::HEARD => read_heard(alloc, &mut Fields::new(content, 4)),
+        names::SUBMITTED => read_submitted(alloc, &mut Fields::new(content, 2)),
         names::BEGUN => bare(&content, Act::Begun),
         names::CRASHED => bare(&content, Act::Crashed),
         names::LOST => bare(&content, Act::Lost),
@@ -31,24 +27,30 @@ pub(crate) fn read_act(alloc: Global, value: Value) -> Result<Act, ScriptFault> 
     }
 }
 
-fn read_asked(alloc: Global, mut fields: Fields) -> Result<Act, ScriptFault> {
+fn read_asked(alloc: Global, fields: &mut Fields) -> Result<Act, ScriptFault> {
     let from = read_node(fields.take(names::FROM)?)?;
     let ask = read_ask(alloc, fields.take(names::ASK)?)?;
     let tell = read_tell(alloc, fields.take(names::TELL)?)?;
     Ok(Act::Asked { from, ask, tell })
 }
 
-fn read_heard(alloc: Global, mut fields: Fields) -> Result<Act, ScriptFault> {
+fn read_heard(alloc: Global, fields: &mut Fields) -> Result<Act, ScriptFault> {
     let from = read_node(fields.take(names::FROM)?)?;
-    let tell = read_tell(alloc, fields.take(names::TELL)?)?;
     let taken = read_taken(fields.value(names::TAKEN)?)?;
     let outcome = read_outcome(fields.take(names::OUTCOME)?)?;
+    let tell = read_tell(alloc, fields.take(names::TELL)?)?;
     Ok(Act::Heard {
         from,
         tell,
         taken,
         outcome,
     })
+}
+
+fn read_submitted(alloc: Global, fields: &mut Fields) -> Result<Act, ScriptFault> {
+    let step = read_step(fields)?;
+    let batch = read_batch(alloc, fields.take(names::BATCH)?)?;
+    Ok(Act::Submitted { step, batch })
 }
 
 /// The version at which a hear broke off, or null.
@@ -77,35 +79,37 @@ fn read_outcome(value: Value) -> Result<Option<Outcome>, ScriptFault> {
 }
 
 pub(crate) fn write_act(alloc: Global, act: &Act) -> Result<Value, Memory> {
-    let object = Object::new(alloc);
     match act {
-        Act::Asked { from, ask, tell } => object
-            .with(names::FROM, write_node(alloc, *from)?)?
-            .with(names::ASK, write_ask(alloc, ask)?)?
-            .with(names::TELL, write_tell(alloc, tell)?)?
-            .named(names::ASKED),
+        Act::Asked { from, ask, tell } => write_asked(alloc, from, ask, tell),
         Act::Heard {
             from,
             tell,
             taken,
             outcome,
-        } => object
-            .with(names::FROM, write_node(alloc, *from)?)?
-            .with(names::TELL, write_tell(alloc, tell)?)?
-            .with(names::TAKEN, write_taken(*taken))?
+        } => Object::new(alloc)
+            .with(names::TAKEN, write_taken(taken))?
             .with(names::OUTCOME, write_outcome(alloc, outcome)?)?
+            .with(names::FROM, write_node(alloc, from)?)?
+            .with(names::TELL, write_tell(alloc, tell)?)?
             .named(names::HEARD),
-        Act::Submitted { step, batch } => object
-            .number(names::STEP, step.get())?
+        Act::Submitted { step, batch } => Object::of(alloc, &[(names::STEP, step.get())])?
             .with(names::BATCH, write_batch(alloc, batch)?)?
             .named(names::SUBMITTED),
-        Act::Begun => object.named(names::BEGUN),
-        Act::Crashed => object.named(names::CRASHED),
-        Act::Lost => object.named(names::LOST),
+        Act::Begun => bare_named(alloc, names::BEGUN),
+        Act::Crashed => bare_named(alloc, names::CRASHED),
+        Act::Lost => bare_named(alloc, names::LOST),
     }
 }
 
-fn write_taken(taken: Option<Version>) -> Value {
+fn write_asked(alloc: Global, from: &NodeId, ask: &Ask, tell: &Tell) -> Result<Value, Memory> {
+    Object::new(alloc)
+        .with(names::FROM, write_node(alloc, from)?)?
+        .with(names::ASK, write_ask(alloc, ask)?)?
+        .with(names::TELL, write_tell(alloc, tell)?)?
+        .named(names::ASKED)
+}
+
+fn write_taken(taken: &Option<Version>) -> Value {
     match taken {
         Some(version) => Value::from(version.get()),
         None => Value::Null,
@@ -116,12 +120,13 @@ fn write_outcome(alloc: Global, outcome: &Option<Outcome>) -> Result<Value, Memo
     let Some(outcome) = outcome else {
         return Ok(Value::Null);
     };
-    let object = Object::new(alloc);
     match outcome {
-        Outcome::Waiting => object.named(names::WAITING),
-        Outcome::Committed { version } => object
-            .number(names::VERSION, version.get())?
-            .named(names::COMMITTED),
-        Outcome::Ended => object.named(names::ENDED),
+        Outcome::Waiting => bare_named(alloc, names::WAITING),
+        Outcome::Committed { version } => numbered(
+            alloc,
+            names::COMMITTED,
+            &[(names::VERSION, version.get())],
+        ),
+        Outcome::Ended => bare_named(alloc, names::ENDED),
     }
 }

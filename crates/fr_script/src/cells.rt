@@ -2,8 +2,8 @@
 use crate::fault::ScriptFault;
 use crate::fields::{Fields, bare, variant};
 use crate::names;
-use crate::object::Object;
-use fr_base::Memory;
+use crate::object::{Object, bare_named, numbered};
+use fr_base::{Ballot, Memory};
 use fr_register::{CellAsk, CellTell, CellValue};
 use serde_json::Value;
 use std::alloc::Global;
@@ -16,26 +16,19 @@ pub(crate) fn read_cell_ask(alloc: Global, value: Value) -> Result<CellAsk, Scri
             Ok(CellAsk::Read { ballot })
         }
         names::WRITE => {
-            let fields = Fields::new(content, 2);
-            Ok(CellAsk::Write {
-                ballot: fields.ballot(names::BALLOT)?,
-                value: read_cell_value(alloc, &fields)?,
-            })
+            let (ballot, value) = read_holding(alloc, names::BALLOT, &Fields::new(content, 2))?;
+            Ok(CellAsk::Write { ballot, value })
         }
         _ => Err(ScriptFault::BadScript),
     }
 }
 
 pub(crate) fn write_cell_ask(alloc: Global, ask: &CellAsk) -> Result<Value, Memory> {
-    let object = Object::new(alloc);
     match ask {
-        CellAsk::Read { ballot } => object
-            .number(names::BALLOT, ballot.get())?
-            .named(names::READ),
-        CellAsk::Write { ballot, value } => object
-            .number(names::BALLOT, ballot.get())?
-            .bytes(names::VALUE, value.as_slice())?
-            .named(names::WRITE),
+        CellAsk::Read { ballot } => numbered(alloc, names::READ, &[(names::BALLOT, ballot.get())]),
+        CellAsk::Write { ballot, value } => {
+            holding(alloc, names::WRITE, &[(names::BALLOT, ballot.get())], value)
+        }
     }
 }
 
@@ -43,11 +36,8 @@ pub(crate) fn read_cell_tell(alloc: Global, value: Value) -> Result<CellTell, Sc
     let (name, content) = variant(value)?;
     match name.as_str() {
         names::PROMISE => {
-            let fields = Fields::new(content, 2);
-            Ok(CellTell::Promise {
-                written: fields.ballot(names::WRITTEN)?,
-                value: read_cell_value(alloc, &fields)?,
-            })
+            let (written, value) = read_holding(alloc, names::WRITTEN, &Fields::new(content, 2))?;
+            Ok(CellTell::Promise { written, value })
         }
         names::WRITTEN => {
             let ballot = Fields::new(content, 1).ballot(names::BALLOT)?;
@@ -63,20 +53,49 @@ pub(crate) fn read_cell_tell(alloc: Global, value: Value) -> Result<CellTell, Sc
 }
 
 pub(crate) fn write_cell_tell(alloc: Global, tell: &CellTell) -> Result<Value, Memory> {
-    let object = Object::new(alloc);
     match tell {
-        CellTell::Promise { written, value } => object
-            .number(names::WRITTEN, written.get())?
-            .bytes(names::VALUE, value.as_slice())?
-            .named(names::PROMISE),
-        CellTell::Written { ballot } => object
-            .number(names::BALLOT, ballot.get())?
-            .named(names::WRITTEN),
-        CellTell::Refused { promised } => object
-            .number(names::PROMISED, promised.get())?
-            .named(names::REFUSED),
-        CellTell::TwoValues => object.named(names::TWO_VALUES),
+        CellTell::Promise { written, value } => {
+            holding(
+                alloc,
+                names::PROMISE,
+                &[(names::WRITTEN, written.get())],
+                value,
+            )
+        }
+        CellTell::Written { ballot } => numbered(
+            alloc,
+            names::WRITTEN,
+            &[(names::BALLOT, ballot.get())],
+        ),
+        CellTell::Refused { promised } => numbered(
+            alloc,
+            names::REFUSED,
+            &[(names::PROMISED, promised.get())],
+        ),
+        CellTell::TwoValues => bare_named(alloc, names::TWO_VALUES),
     }
+}
+
+/// The ballot under a name, and the value of a cell.
+fn read_holding(
+    alloc: Global,
+    name: &str,
+    fields: &Fields,
+) -> Result<(Ballot, CellValue), ScriptFault> {
+    let ballot = fields.ballot(name)?;
+    Ok((ballot, read_cell_value(alloc, fields)?))
+}
+
+/// A variant that has these numbers, and the value of a cell.
+pub(crate) fn holding(
+    alloc: Global,
+    name: &str,
+    numbers: &[(&str, u64)],
+    value: &CellValue,
+) -> Result<Value, Memory> {
+    Object::of(alloc, numbers)?
+        .bytes(names::VALUE, value.as_slice())?
+        .named(name)
 }
 
 /// The value of a cell under the name `value`.

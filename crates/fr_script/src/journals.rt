@@ -12,15 +12,12 @@ use serde_json::Value;
 use std::alloc::Global;
 
 /// A journal. One whose stamps do not rise is no script.
-pub(crate) fn read_journal(alloc: Global, value: Value) -> Result<Journal, ScriptFault> {
-    let mut fields = Fields::new(value, 3);
-    let mut journal = Journal::new(alloc, read_node(fields.take(names::NODE)?)?);
-    for item in items(fields.take(names::ENTRIES)?)? {
-        match journal.push(read_entry(alloc, item)?) {
-            Ok(()) => {}
-            Err(JournalFault::NotRising) => return Err(ScriptFault::BadScript),
-            Err(JournalFault::Memory) => return Err(ScriptFault::Memory),
-        }
+pub(crate) fn read_journal(alloc: Global, fields: &mut Fields) -> Result<Journal, ScriptFault> {
+    let node = read_node(fields.take(names::NODE)?)?;
+    let entries = items(fields.take(names::ENTRIES)?)?;
+    let mut journal = Journal::new(alloc, node);
+    for entry in entries {
+        enter(&mut journal, read_entry(alloc, &mut Fields::new(entry, 2))?)?;
     }
     if let Some(last) = read_last(alloc, fields.take(names::LAST)?)? {
         journal.close(last);
@@ -28,32 +25,50 @@ pub(crate) fn read_journal(alloc: Global, value: Value) -> Result<Journal, Scrip
     Ok(journal)
 }
 
-fn read_entry(alloc: Global, value: Value) -> Result<Entry, ScriptFault> {
-    let mut fields = Fields::new(value, 2);
+fn enter(journal: &mut Journal, entry: Entry) -> Result<(), ScriptFault> {
+    match journal.push(entry) {
+        Ok(()) => Ok(()),
+        Err(JournalFault::NotRising) => Err(ScriptFault::BadScript),
+        Err(JournalFault::Memory) => Err(ScriptFault::Memory),
+    }
+}
+
+fn read_entry(alloc: Global, fields: &mut Fields) -> Result<Entry, ScriptFault> {
     let stamp = Stamp::new(fields.number(names::STAMP)?).ok_or(ScriptFault::BadScript)?;
     let act = read_act(alloc, fields.take(names::ACT)?)?;
     Ok(Entry { stamp, act })
 }
 
 pub(crate) fn write_journal(alloc: Global, journal: &Journal) -> Result<Value, Memory> {
-    let mut entries = Vec::with_capacity(alloc, journal.entries().len())?;
-    for entry in journal.entries() {
-        entries.push(write_entry(alloc, entry)?)?;
+    Ok(
+        Object::new(alloc)
+            .with(names::NODE, write_node(alloc, &journal.node())?)?
+            .with(names::ENTRIES, write_entries(alloc, journal.entries())?)?
+            .with(names::LAST, write_last_in(alloc, journal)?)?
+            .value(),
+    )
+}
+
+fn write_last_in(alloc: Global, journal: &Journal) -> Result<Value, Memory> {
+    match journal.last() {
+        Some(last) => write_last(alloc, last),
+        None => Ok(Value::Null),
     }
-    let last = match journal.last() {
-        Some(last) => write_last(alloc, last)?,
-        None => Value::Null,
-    };
-    let object = Object::new(alloc)
-        .with(names::NODE, write_node(alloc, journal.node())?)?
-        .with(names::ENTRIES, Value::Array(entries))?
-        .with(names::LAST, last)?;
-    Ok(object.value())
+}
+
+fn write_entries(alloc: Global, entries: &[Entry]) -> Result<Value, Memory> {
+    let mut items = Vec::with_capacity(alloc, entries.len())?;
+    for entry in entries {
+        items.push(write_entry(alloc, entry)?)?;
+    }
+    Ok(Value::Array(items))
 }
 
 fn write_entry(alloc: Global, entry: &Entry) -> Result<Value, Memory> {
-    let object = Object::new(alloc)
-        .number(names::STAMP, entry.stamp.get())?
-        .with(names::ACT, write_act(alloc, &entry.act)?)?;
-    Ok(object.value())
+    let act = write_act(alloc, &entry.act)?;
+    Ok(
+        Object::of(alloc, &[(names::STAMP, entry.stamp.get())])?
+            .with(names::ACT, act)?
+            .value(),
+    )
 }

@@ -2,7 +2,7 @@
 use crate::fault::ScriptFault;
 use crate::fields::{Fields, bare, variant};
 use crate::names;
-use crate::object::{Object, named};
+use crate::object::{bare_named, named, numbered, with_one};
 use crate::records::{read_peeked, read_push, read_seed, write_peeked, write_push, write_seed};
 use crate::states::{read_state, write_state};
 use fr_base::Memory;
@@ -13,13 +13,13 @@ use std::alloc::Global;
 pub(crate) fn read_log_ask(alloc: Global, value: Value) -> Result<LogAsk, ScriptFault> {
     let (name, content) = variant(value)?;
     match name.as_str() {
-        names::SEED => Ok(LogAsk::Seed(read_seed(alloc, content)?)),
-        names::PUSH => Ok(LogAsk::Push(read_push(alloc, content)?)),
+        names::SEED => Ok(LogAsk::Seed(read_seed(alloc, &mut Fields::new(content, 4))?)),
+        names::PUSH => Ok(LogAsk::Push(read_push(alloc, &mut Fields::new(content, 6))?)),
         names::LOCK => {
             let epoch = Fields::new(content, 1).epoch(names::EPOCH)?;
             Ok(LogAsk::Lock { epoch })
         }
-        names::PEEK => read_peek(content),
+        names::PEEK => read_peek(&Fields::new(content, 4)),
         names::MARK_ASKED => {
             let epoch = Fields::new(content, 1).epoch(names::EPOCH)?;
             Ok(LogAsk::MarkAsked { epoch })
@@ -28,8 +28,7 @@ pub(crate) fn read_log_ask(alloc: Global, value: Value) -> Result<LogAsk, Script
     }
 }
 
-fn read_peek(content: Value) -> Result<LogAsk, ScriptFault> {
-    let fields = Fields::new(content, 4);
+fn read_peek(fields: &Fields) -> Result<LogAsk, ScriptFault> {
     let most = Most::new(fields.index(names::MOST, u8::MAX)?);
     Ok(LogAsk::Peek {
         epoch: fields.epoch(names::EPOCH)?,
@@ -40,25 +39,30 @@ fn read_peek(content: Value) -> Result<LogAsk, ScriptFault> {
 }
 
 pub(crate) fn write_log_ask(alloc: Global, ask: &LogAsk) -> Result<Value, Memory> {
-    let object = Object::new(alloc);
     match ask {
         LogAsk::Seed(seed) => named(alloc, names::SEED, write_seed(alloc, seed)?),
         LogAsk::Push(push) => named(alloc, names::PUSH, write_push(alloc, push)?),
-        LogAsk::Lock { epoch } => object.number(names::EPOCH, epoch.get())?.named(names::LOCK),
+        LogAsk::Lock { epoch } => numbered(alloc, names::LOCK, &[(names::EPOCH, epoch.get())]),
         LogAsk::Peek {
             epoch,
             tag,
             after,
             most,
-        } => object
-            .number(names::EPOCH, epoch.get())?
-            .number(names::TAG, tag.get() as u64)?
-            .number(names::AFTER, after.get())?
-            .number(names::MOST, most.get() as u64)?
-            .named(names::PEEK),
-        LogAsk::MarkAsked { epoch } => object
-            .number(names::EPOCH, epoch.get())?
-            .named(names::MARK_ASKED),
+        } => numbered(
+            alloc,
+            names::PEEK,
+            &[
+                (names::EPOCH, epoch.get()),
+                (names::TAG, tag.get() as u64),
+                (names::AFTER, after.get()),
+                (names::MOST, most.get() as u64),
+            ],
+        ),
+        LogAsk::MarkAsked { epoch } => numbered(
+            alloc,
+            names::MARK_ASKED,
+            &[(names::EPOCH, epoch.get())],
+        ),
     }
 }
 
@@ -70,14 +74,8 @@ pub(crate) fn read_log_tell(alloc: Global, value: Value) -> Result<LogTell, Scri
             let version = Fields::new(content, 1).version(names::VERSION)?;
             Ok(LogTell::Held { version })
         }
-        names::LOCKED => {
-            let fields = Fields::new(content, 2);
-            Ok(LogTell::Locked {
-                durable: fields.version(names::DURABLE)?,
-                known: fields.version(names::KNOWN)?,
-            })
-        }
-        names::PEEKED => Ok(LogTell::Peeked(read_peeked(alloc, content)?)),
+        names::LOCKED => read_locked(&Fields::new(content, 2)),
+        names::PEEKED => Ok(LogTell::Peeked(read_peeked(alloc, &mut Fields::new(content, 5))?)),
         names::MARKED => {
             let state = read_state(alloc, Fields::new(content, 1).take(names::STATE)?)?;
             Ok(LogTell::Marked { state })
@@ -90,24 +88,35 @@ pub(crate) fn read_log_tell(alloc: Global, value: Value) -> Result<LogTell, Scri
     }
 }
 
+fn read_locked(fields: &Fields) -> Result<LogTell, ScriptFault> {
+    Ok(LogTell::Locked {
+        durable: fields.version(names::DURABLE)?,
+        known: fields.version(names::KNOWN)?,
+    })
+}
+
 pub(crate) fn write_log_tell(alloc: Global, tell: &LogTell) -> Result<Value, Memory> {
-    let object = Object::new(alloc);
     match tell {
-        LogTell::Seeded => object.named(names::SEEDED),
-        LogTell::Held { version } => object
-            .number(names::VERSION, version.get())?
-            .named(names::HELD),
-        LogTell::Locked { durable, known } => object
-            .number(names::DURABLE, durable.get())?
-            .number(names::KNOWN, known.get())?
-            .named(names::LOCKED),
+        LogTell::Seeded => bare_named(alloc, names::SEEDED),
+        LogTell::Held { version } => numbered(
+            alloc,
+            names::HELD,
+            &[(names::VERSION, version.get())],
+        ),
+        LogTell::Locked { durable, known } => numbered(
+            alloc,
+            names::LOCKED,
+            &[(names::DURABLE, durable.get()), (names::KNOWN, known.get())],
+        ),
         LogTell::Peeked(peeked) => named(alloc, names::PEEKED, write_peeked(alloc, peeked)?),
-        LogTell::Marked { state } => object
-            .with(names::STATE, write_state(alloc, state)?)?
-            .named(names::MARKED),
-        LogTell::Refused { why } => object
-            .with(names::WHY, write_log_refusal(alloc, *why)?)?
-            .named(names::REFUSED),
+        LogTell::Marked { state } => {
+            let state = write_state(alloc, state)?;
+            with_one(alloc, names::MARKED, names::STATE, state)
+        }
+        LogTell::Refused { why } => {
+            let why = write_log_refusal(alloc, why)?;
+            with_one(alloc, names::REFUSED, names::WHY, why)
+        }
     }
 }
 
@@ -133,21 +142,24 @@ fn read_log_refusal(value: Value) -> Result<LogRefusal, ScriptFault> {
     }
 }
 
-fn write_log_refusal(alloc: Global, why: LogRefusal) -> Result<Value, Memory> {
-    let object = Object::new(alloc);
+fn write_log_refusal(alloc: Global, why: &LogRefusal) -> Result<Value, Memory> {
     match why {
-        LogRefusal::WrongEpoch => object.named(names::WRONG_EPOCH),
-        LogRefusal::Unseeded => object.named(names::UNSEEDED),
-        LogRefusal::Stopped => object.named(names::STOPPED),
-        LogRefusal::Stale => object.named(names::STALE),
-        LogRefusal::Gap { durable } => object
-            .number(names::DURABLE, durable.get())?
-            .named(names::GAP),
-        LogRefusal::NotMine => object.named(names::NOT_MINE),
-        LogRefusal::TooEarly { first } => object
-            .number(names::FIRST, first.get())?
-            .named(names::TOO_EARLY),
-        LogRefusal::SeedDiffers => object.named(names::SEED_DIFFERS),
-        LogRefusal::NoMark => object.named(names::NO_MARK),
+        LogRefusal::WrongEpoch => bare_named(alloc, names::WRONG_EPOCH),
+        LogRefusal::Unseeded => bare_named(alloc, names::UNSEEDED),
+        LogRefusal::Stopped => bare_named(alloc, names::STOPPED),
+        LogRefusal::Stale => bare_named(alloc, names::STALE),
+        LogRefusal::Gap { durable } => numbered(
+            alloc,
+            names::GAP,
+            &[(names::DURABLE, durable.get())],
+        ),
+        LogRefusal::NotMine => bare_named(alloc, names::NOT_MINE),
+        LogRefusal::TooEarly { first } => numbered(
+            alloc,
+            names::TOO_EARLY,
+            &[(names::FIRST, first.get())],
+        ),
+        LogRefusal::SeedDiffers => bare_named(alloc, names::SEED_DIFFERS),
+        LogRefusal::NoMark => bare_named(alloc, names::NO_MARK),
     }
 }

@@ -2,7 +2,7 @@
 use crate::fault::ScriptFault;
 use crate::fields::{Fields, LAST_CELL, LAST_LOG, LAST_PROXY, variant};
 use crate::names;
-use crate::object::Object;
+use crate::object::numbered;
 use fr_base::{Memory, NodeId};
 use serde_json::Value;
 use std::alloc::Global;
@@ -14,24 +14,12 @@ pub(crate) fn read_node(value: Value) -> Result<NodeId, ScriptFault> {
             let index = Fields::new(content, 1).index(names::INDEX, LAST_CELL)?;
             Ok(NodeId::Cell { index })
         }
-        names::LOG => {
-            let fields = Fields::new(content, 2);
-            Ok(NodeId::Log {
-                epoch: fields.epoch(names::EPOCH)?,
-                index: fields.index(names::INDEX, LAST_LOG)?,
-            })
-        }
+        names::LOG => read_log(&Fields::new(content, 2)),
         names::SEQUENCER => {
             let epoch = Fields::new(content, 1).epoch(names::EPOCH)?;
             Ok(NodeId::Sequencer { epoch })
         }
-        names::PROXY => {
-            let fields = Fields::new(content, 2);
-            Ok(NodeId::Proxy {
-                epoch: fields.epoch(names::EPOCH)?,
-                number: fields.index(names::NUMBER, LAST_PROXY)?,
-            })
-        }
+        names::PROXY => read_proxy(&Fields::new(content, 2)),
         names::RECOVERER => {
             let ballot = Fields::new(content, 1).ballot(names::BALLOT)?;
             Ok(NodeId::Recoverer { ballot })
@@ -44,28 +32,47 @@ pub(crate) fn read_node(value: Value) -> Result<NodeId, ScriptFault> {
     }
 }
 
-pub(crate) fn write_node(alloc: Global, node: NodeId) -> Result<Value, Memory> {
-    let object = Object::new(alloc);
+fn read_log(fields: &Fields) -> Result<NodeId, ScriptFault> {
+    Ok(NodeId::Log {
+        epoch: fields.epoch(names::EPOCH)?,
+        index: fields.index(names::INDEX, LAST_LOG)?,
+    })
+}
+
+fn read_proxy(fields: &Fields) -> Result<NodeId, ScriptFault> {
+    Ok(NodeId::Proxy {
+        epoch: fields.epoch(names::EPOCH)?,
+        number: fields.index(names::NUMBER, LAST_PROXY)?,
+    })
+}
+
+pub(crate) fn write_node(alloc: Global, node: &NodeId) -> Result<Value, Memory> {
     match node {
-        NodeId::Cell { index } => object
-            .number(names::INDEX, index as u64)?
-            .named(names::CELL),
-        NodeId::Log { epoch, index } => object
-            .number(names::EPOCH, epoch.get())?
-            .number(names::INDEX, index as u64)?
-            .named(names::LOG),
-        NodeId::Sequencer { epoch } => object
-            .number(names::EPOCH, epoch.get())?
-            .named(names::SEQUENCER),
-        NodeId::Proxy { epoch, number } => object
-            .number(names::EPOCH, epoch.get())?
-            .number(names::NUMBER, number as u64)?
-            .named(names::PROXY),
-        NodeId::Recoverer { ballot } => object
-            .number(names::BALLOT, ballot.get())?
-            .named(names::RECOVERER),
-        NodeId::Storage { tag } => object
-            .number(names::TAG, tag.get() as u64)?
-            .named(names::STORAGE),
+        NodeId::Cell { index } => numbered(alloc, names::CELL, &[(names::INDEX, *index as u64)]),
+        NodeId::Log { epoch, index } => numbered(
+            alloc,
+            names::LOG,
+            &[(names::EPOCH, epoch.get()), (names::INDEX, *index as u64)],
+        ),
+        NodeId::Sequencer { epoch } => numbered(
+            alloc,
+            names::SEQUENCER,
+            &[(names::EPOCH, epoch.get())],
+        ),
+        NodeId::Proxy { epoch, number } => numbered(
+            alloc,
+            names::PROXY,
+            &[(names::EPOCH, epoch.get()), (names::NUMBER, *number as u64)],
+        ),
+        NodeId::Recoverer { ballot } => numbered(
+            alloc,
+            names::RECOVERER,
+            &[(names::BALLOT, ballot.get())],
+        ),
+        NodeId::Storage { tag } => numbered(
+            alloc,
+            names::STORAGE,
+            &[(names::TAG, tag.get() as u64)],
+        ),
     }
 }

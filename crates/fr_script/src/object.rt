@@ -26,9 +26,13 @@ impl Object {
         Ok(Object { alloc, members })
     }
 
-    /// With a number more.
-    pub(crate) fn number(self, name: &str, number: u64) -> Result<Self, Memory> {
-        self.with(name, Value::from(number))
+    /// With these numbers.
+    pub(crate) fn of(alloc: Global, numbers: &[(&str, u64)]) -> Result<Self, Memory> {
+        let mut object = Object::new(alloc);
+        for (name, number) in numbers {
+            object = object.with(name, Value::from(*number))?;
+        }
+        Ok(object)
     }
 
     /// With bytes more, as a text of lower case hex.
@@ -47,6 +51,30 @@ impl Object {
         let alloc = self.alloc;
         named(alloc, name, self.value())
     }
+}
+
+/// A variant that has these numbers alone.
+pub(crate) fn numbered(
+    alloc: Global,
+    name: &str,
+    numbers: &[(&str, u64)],
+) -> Result<Value, Memory> {
+    Object::of(alloc, numbers)?.named(name)
+}
+
+/// A variant that has one member.
+pub(crate) fn with_one(
+    alloc: Global,
+    name: &str,
+    member: &str,
+    value: Value,
+) -> Result<Value, Memory> {
+    Object::new(alloc).with(member, value)?.named(name)
+}
+
+/// A variant without content.
+pub(crate) fn bare_named(alloc: Global, name: &str) -> Result<Value, Memory> {
+    Object::new(alloc).named(name)
 }
 
 /// A variant with its content.

@@ -31,11 +31,11 @@ pub fn read_script(alloc: Global, text: &[u8]) -> Result<(Config, Vec<Journal>),
         Err(_) => return Err(ScriptFault::BadScript),
     };
     let mut fields = Fields::new(script, 2);
-    let config = read_config(alloc, fields.take(names::CONFIG)?)?;
+    let config = read_config(alloc, &mut Fields::new(fields.take(names::CONFIG)?, 5))?;
     let items = items(fields.take(names::JOURNALS)?)?;
     let mut journals = Vec::with_capacity(alloc, items.len())?;
     for item in items {
-        journals.push(read_journal(alloc, item)?)?;
+        journals.push(read_journal(alloc, &mut Fields::new(item, 3))?)?;
     }
     Ok((config, journals))
 }

@@ -2,7 +2,7 @@
 use crate::fault::ScriptFault;
 use crate::fields::{Fields, LAST_PROXY, bare, variant};
 use crate::names;
-use crate::object::Object;
+use crate::object::{bare_named, numbered, with_one};
 use fr_ask::{SeqAsk, SeqRefusal, SeqTell};
 use fr_base::{Memory, Step};
 use serde_json::Value;
@@ -16,11 +16,14 @@ pub(crate) fn read_seq_ask(value: Value) -> Result<SeqAsk, ScriptFault> {
     if name.as_str() != names::NEXT {
         return Err(ScriptFault::BadScript);
     }
-    let fields = Fields::new(content, 3);
+    read_next(&Fields::new(content, 3))
+}
+
+fn read_next(fields: &Fields) -> Result<SeqAsk, ScriptFault> {
     Ok(SeqAsk::Next {
         proxy: fields.index(names::PROXY, LAST_PROXY)?,
-        request: read_request(&fields)?,
-        step: read_step(&fields)?,
+        request: read_request(fields)?,
+        step: read_step(fields)?,
     })
 }
 
@@ -30,24 +33,21 @@ pub(crate) fn write_seq_ask(alloc: Global, ask: &SeqAsk) -> Result<Value, Memory
         request,
         step,
     } = ask;
-    Object::new(alloc)
-        .number(names::PROXY, *proxy as u64)?
-        .number(names::REQUEST, *request)?
-        .number(names::STEP, step.get())?
-        .named(names::NEXT)
+    numbered(
+        alloc,
+        names::NEXT,
+        &[
+            (names::PROXY, *proxy as u64),
+            (names::REQUEST, *request),
+            (names::STEP, step.get()),
+        ],
+    )
 }
 
 pub(crate) fn read_seq_tell(value: Value) -> Result<SeqTell, ScriptFault> {
     let (name, content) = variant(value)?;
     match name.as_str() {
-        names::NUMBERED => {
-            let fields = Fields::new(content, 3);
-            Ok(SeqTell::Numbered {
-                request: read_request(&fields)?,
-                prev: fields.version(names::PREV)?,
-                version: fields.version(names::VERSION)?,
-            })
-        }
+        names::NUMBERED => read_numbered(&Fields::new(content, 3)),
         names::REFUSED => {
             let why = read_seq_refusal(Fields::new(content, 1).take(names::WHY)?)?;
             Ok(SeqTell::Refused { why })
@@ -56,21 +56,33 @@ pub(crate) fn read_seq_tell(value: Value) -> Result<SeqTell, ScriptFault> {
     }
 }
 
+fn read_numbered(fields: &Fields) -> Result<SeqTell, ScriptFault> {
+    Ok(SeqTell::Numbered {
+        request: read_request(fields)?,
+        prev: fields.version(names::PREV)?,
+        version: fields.version(names::VERSION)?,
+    })
+}
+
 pub(crate) fn write_seq_tell(alloc: Global, tell: &SeqTell) -> Result<Value, Memory> {
-    let object = Object::new(alloc);
     match tell {
         SeqTell::Numbered {
             request,
             prev,
             version,
-        } => object
-            .number(names::REQUEST, *request)?
-            .number(names::PREV, prev.get())?
-            .number(names::VERSION, version.get())?
-            .named(names::NUMBERED),
-        SeqTell::Refused { why } => object
-            .with(names::WHY, write_seq_refusal(alloc, *why)?)?
-            .named(names::REFUSED),
+        } => numbered(
+            alloc,
+            names::NUMBERED,
+            &[
+                (names::REQUEST, *request),
+                (names::PREV, prev.get()),
+                (names::VERSION, version.get()),
+            ],
+        ),
+        SeqTell::Refused { why } => {
+            let why = write_seq_refusal(alloc, *why)?;
+            with_one(alloc, names::REFUSED, names::WHY, why)
+        }
     }
 }
 
@@ -84,10 +96,9 @@ fn read_seq_refusal(value: Value) -> Result<SeqRefusal, ScriptFault> {
 }
 
 fn write_seq_refusal(alloc: Global, why: SeqRefusal) -> Result<Value, Memory> {
-    let object = Object::new(alloc);
     match why {
-        SeqRefusal::Spent => object.named(names::SPENT),
-        SeqRefusal::OutOfTurn => object.named(names::OUT_OF_TURN),
+        SeqRefusal::Spent => bare_named(alloc, names::SPENT),
+        SeqRefusal::OutOfTurn => bare_named(alloc, names::OUT_OF_TURN),
     }
 }
 

@@ -10,13 +10,12 @@ use serde_json::Value;
 use std::alloc::Global;
 
 /// A config within its limits.
-pub(crate) fn read_config(alloc: Global, value: Value) -> Result<Config, ScriptFault> {
-    let mut fields = Fields::new(value, 5);
-    let shards = read_shards(alloc, fields.take(names::SHARDS)?)?;
+pub(crate) fn read_config(alloc: Global, fields: &mut Fields) -> Result<Config, ScriptFault> {
     let coordinators = fields.index(names::COORDINATORS, u8::MAX)?;
     let logs = fields.index(names::LOGS, u8::MAX)?;
     let degree = fields.index(names::DEGREE, u8::MAX)?;
     let proxies = fields.index(names::PROXIES, u8::MAX)?;
+    let shards = read_shards(alloc, fields.take(names::SHARDS)?)?;
     match Config::new(coordinators, logs, degree, shards, proxies) {
         Ok(config) => Ok(config),
         Err(ConfigFault::Memory) => Err(ScriptFault::Memory),
@@ -34,16 +33,24 @@ fn read_shards(alloc: Global, value: Value) -> Result<Vec<Bytes>, ScriptFault> {
 }
 
 pub(crate) fn write_config(alloc: Global, config: &Config) -> Result<Value, Memory> {
-    let begins = config.map().begins();
+    let numbers = [
+        (names::COORDINATORS, config.coordinators() as u64),
+        (names::LOGS, config.logs() as u64),
+        (names::DEGREE, config.degree() as u64),
+        (names::PROXIES, config.proxies() as u64),
+    ];
+    let shards = write_shards(alloc, config.map().begins())?;
+    Ok(
+        Object::of(alloc, &numbers)?
+            .with(names::SHARDS, shards)?
+            .value(),
+    )
+}
+
+fn write_shards(alloc: Global, begins: &[Bytes]) -> Result<Value, Memory> {
     let mut shards = Vec::with_capacity(alloc, begins.len())?;
     for begin in begins {
         shards.push(hex_value(alloc, begin.as_slice())?)?;
     }
-    let object = Object::new(alloc)
-        .number(names::COORDINATORS, config.coordinators() as u64)?
-        .number(names::LOGS, config.logs() as u64)?
-        .number(names::DEGREE, config.degree() as u64)?
-        .number(names::PROXIES, config.proxies() as u64)?
-        .with(names::SHARDS, Value::Array(shards))?;
-    Ok(object.value())
+    Ok(Value::Array(shards))
 }

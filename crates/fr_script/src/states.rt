@@ -12,7 +12,7 @@ use std::alloc::Global;
 pub(crate) fn read_state(alloc: Global, value: Value) -> Result<CoordState, ScriptFault> {
     let mut state = None;
     for item in items(value)? {
-        let generation = read_generation(item)?;
+        let generation = read_generation(&Fields::new(item, 5))?;
         state = Some(with_generation(alloc, state, generation)?);
     }
     state.ok_or(ScriptFault::BadScript)
@@ -34,8 +34,7 @@ fn with_generation(
     }
 }
 
-fn read_generation(value: Value) -> Result<Generation, ScriptFault> {
-    let fields = Fields::new(value, 5);
+fn read_generation(fields: &Fields) -> Result<Generation, ScriptFault> {
     let epoch = fields.epoch(names::EPOCH)?;
     let m = fields.index(names::M, u8::MAX)?;
     let k = fields.index(names::K, u8::MAX)?;
@@ -53,11 +52,12 @@ pub(crate) fn write_state(alloc: Global, state: &CoordState) -> Result<Value, Me
 }
 
 fn write_generation(alloc: Global, generation: Generation) -> Result<Value, Memory> {
-    let object = Object::new(alloc)
-        .number(names::EPOCH, generation.epoch().get())?
-        .number(names::M, generation.m() as u64)?
-        .number(names::K, generation.k() as u64)?
-        .number(names::FIRST, generation.first().get())?
-        .number(names::SEEDED_TO, generation.seeded_to().get())?;
-    Ok(object.value())
+    let numbers = [
+        (names::EPOCH, generation.epoch().get()),
+        (names::M, generation.m() as u64),
+        (names::K, generation.k() as u64),
+        (names::FIRST, generation.first().get()),
+        (names::SEEDED_TO, generation.seeded_to().get()),
+    ];
+    Ok(Object::of(alloc, &numbers)?.value())
 }

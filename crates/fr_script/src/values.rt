@@ -4,7 +4,7 @@ use crate::fields::{items, pair};
 use crate::names;
 use crate::object::{Object, hex_value, pair_value};
 use fr_ask::Rows;
-use fr_base::Memory;
+use fr_base::{Bytes, Memory};
 use fr_cli::tree::{read_batch as read_mutations, read_bytes};
 use fr_mutation::{Batch, BatchFault, Mutation};
 use serde_json::Value;
@@ -28,39 +28,62 @@ pub(crate) fn write_batch(alloc: Global, batch: &Batch) -> Result<Value, Memory>
 }
 
 fn write_mutation(alloc: Global, mutation: &Mutation) -> Result<Value, Memory> {
-    let object = Object::new(alloc);
     match mutation {
-        Mutation::Set { key, value } => object
-            .bytes(names::KEY, key.as_slice())?
-            .bytes(names::VALUE, value.as_slice())?
-            .named(names::SET),
-        Mutation::Clear { begin, end } => object
-            .bytes(names::BEGIN, begin.as_slice())?
-            .bytes(names::END, end.as_slice())?
-            .named(names::CLEAR),
-        Mutation::Atomic { op, key, param } => object
-            .bytes(names::KEY, key.as_slice())?
-            .bytes(names::PARAM, param.as_slice())?
-            .named(op.name()),
+        Mutation::Set { key, value } => {
+            two_texts(alloc, names::SET, (names::KEY, key), (names::VALUE, value))
+        }
+        Mutation::Clear { begin, end } => {
+            two_texts(
+                alloc,
+                names::CLEAR,
+                (names::BEGIN, begin),
+                (names::END, end),
+            )
+        }
+        Mutation::Atomic { op, key, param } => {
+            two_texts(alloc, op.name(), (names::KEY, key), (names::PARAM, param))
+        }
     }
+}
+
+/// A variant that has two byte strings.
+fn two_texts(
+    alloc: Global,
+    name: &str,
+    first: (&str, &Bytes),
+    second: (&str, &Bytes),
+) -> Result<Value, Memory> {
+    Object::new(alloc)
+        .bytes(first.0, first.1.as_slice())?
+        .bytes(second.0, second.1.as_slice())?
+        .named(name)
 }
 
 pub(crate) fn read_rows(alloc: Global, value: Value) -> Result<Rows, ScriptFault> {
     let items = items(value)?;
     let mut rows = Vec::with_capacity(alloc, items.len())?;
     for item in items {
-        let (key, value) = pair(item)?;
-        let key = read_bytes(alloc, Some(&key))?;
-        rows.push((key, read_bytes(alloc, Some(&value))?))?;
+        rows.push(read_row(alloc, item)?)?;
     }
     Ok(Rows::from_vec(rows))
+}
+
+fn read_row(alloc: Global, item: Value) -> Result<(Bytes, Bytes), ScriptFault> {
+    let (key, value) = pair(item)?;
+    let key = read_bytes(alloc, Some(&key))?;
+    Ok((key, read_bytes(alloc, Some(&value))?))
 }
 
 pub(crate) fn write_rows(alloc: Global, rows: &Rows) -> Result<Value, Memory> {
     let mut items = Vec::with_capacity(alloc, rows.len())?;
     for (key, value) in rows.as_slice() {
-        let key = hex_value(alloc, key.as_slice())?;
-        items.push(pair_value(alloc, key, hex_value(alloc, value.as_slice())?)?)?;
+        items.push(write_row(alloc, key, value)?)?;
     }
     Ok(Value::Array(items))
+}
+
+fn write_row(alloc: Global, key: &Bytes, value: &Bytes) -> Result<Value, Memory> {
+    let key = hex_value(alloc, key.as_slice())?;
+    let value = hex_value(alloc, value.as_slice())?;
+    pair_value(alloc, key, value)
 }
