@@ -1,5 +1,5 @@
 //! The command `audit`.
-ghost use Rattle.std.specs.Prelude.{◌≡◌, ◌<◌, ◌⊎◌, List, Err, IfOk, IfErr, OnOk};
+ghost use Rattle.std.specs.Prelude.{◌≡◌, ◌≢◌, ◌<◌, ◌⊎◌, List, None, Err, IsOk, IfOk, IfErr, IfSome, OnOk};
 ghost use Rattle.std.specs.Io.KnownBytes.{Appends};
 ghost use Rattle.fr_cli.specs.Calls.{no_calls, HasNoInput, HasNotFailed, IsWriteFault};
 ghost use Rattle.fr_history.specs.Config as history;
@@ -82,16 +82,30 @@ fn put_audit<W: Write>(
     ensures fault { IfErr result (λ e. IsWriteFault calls.new e) }
     ensures done { OnOk result (calls.new ≡ calls.old) }
 {
-    match audit(alloc, config, journals) {
-        Ok(_) => {
+    match fault_of(alloc, config, journals) {
+        None => {
             put(calls, writer, "audit ok\n")?;
             Ok(0)
         }
-        Err(AuditFault::Memory) => Err(CliFault::Memory),
-        Err(fault) => {
+        Some(AuditFault::Memory) => Err(CliFault::Memory),
+        Some(fault) => {
             let text = fault_text(alloc, &fault)?;
             put(calls, writer, text.as_str())?;
             Ok(1)
         }
+    }
+}
+
+/// The fault of some journals, where they are no run.
+fn fault_of(alloc: Global, config: Config, journals: &[Journal]) -> Option<AuditFault>
+    ensures none { result ≡ None → IsOk (audited config journals.now) }
+    ensures some { IfSome result (λ fault. fault ≢ AuditFault.Memory → audited config journals.now ≡ Err fault) }
+{
+    match audit(alloc, config, journals) {
+        Ok(world) => {
+            drop(world);
+            None
+        }
+        Err(fault) => Some(fault),
     }
 }
