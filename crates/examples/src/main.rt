@@ -1,6 +1,7 @@
 //! Runs each script `NAME.json` of the folder as the program does, with the words of `NAME.words` (`apply`
-//! where there is no such file), and compares what it prints with `NAME.out`. It prints a line for each,
-//! and ends with status 1 where one differs or is missing.
+//! where there is no such file), and compares what it prints with `NAME.out`, and the status that it ends with
+//! with that of `NAME.status` (0 where there is no such file). It prints a line for each, and ends with status 1 where
+//! one differs or is missing.
 #![tactic(auto)]
 
 use fr_program::{Ending, run_program};
@@ -23,7 +24,7 @@ fn main(rt: HostRuntime) -> anyhow::Result<ExitCode> {
     Ok(status)
 }
 
-/// The names of the scripts, of their words and of the outputs, in order, each once.
+/// The names of the scripts, of their words, outputs and statuses, in order, each once.
 fn names_of(rt: &HostRuntime, alloc: Global) -> io::Result<Vec<String>> {
     let mut names = Vec::new(alloc);
     for entry in fs::read_dir(rt, ".")? {
@@ -32,7 +33,8 @@ fn names_of(rt: &HostRuntime, alloc: Global) -> io::Result<Vec<String>> {
         let stem = file
             .strip_suffix(".json")
             .or_else(|| file.strip_suffix(".words"))
-            .or_else(|| file.strip_suffix(".out"));
+            .or_else(|| file.strip_suffix(".out"))
+            .or_else(|| file.strip_suffix(".status"));
         if let Some(stem) = stem {
             names.push(String::from_str(alloc, stem)?)?;
         }
@@ -45,6 +47,7 @@ fn names_of(rt: &HostRuntime, alloc: Global) -> io::Result<Vec<String>> {
 /// Whether the script prints what stands beside it.
 fn holds(rt: &HostRuntime, alloc: Global, name: &String) -> io::Result<bool> {
     let words = words_of(rt, alloc, name)?;
+    let status = status_of(rt, alloc, name)?;
     let script = fs::read(rt, format!(in alloc; "{name}.json")?.as_str())?;
     let wanted = fs::read(rt, format!(in alloc; "{name}.out")?.as_str())?;
     let mut printed = Vec::new(alloc);
@@ -54,7 +57,17 @@ fn holds(rt: &HostRuntime, alloc: Global, name: &String) -> io::Result<bool> {
         &mut script.as_slice(),
         &mut printed,
     );
-    Ok(matches!(ending, Ending::Done(0)) && printed.as_slice() == wanted.as_slice())
+    let is_done = matches!(ending, Ending::Done(found) if Some(found) == status);
+    Ok(is_done && printed.as_slice() == wanted.as_slice())
+}
+
+/// The status that a script is to end with; none where its file has no number.
+fn status_of(rt: &HostRuntime, alloc: Global, name: &String) -> io::Result<Option<u8>> {
+    match fs::read_to_string(rt, format!(in alloc; "{name}.status")?.as_str()) {
+        Ok(text) => Ok(text.trim().parse::<u8>().ok()),
+        Err(error) if error.kind() == io::ErrorKind::NotFound => Ok(Some(0)),
+        Err(error) => Err(error),
+    }
 }
 
 /// The program's name, and the words of a script.

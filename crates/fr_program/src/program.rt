@@ -2,6 +2,7 @@
 use crate::words::{Request, read_words};
 use clap::error::{Error, ErrorKind};
 use fr_cli::{CliFault, run_apply};
+use fr_cli_audit::run_audit;
 use fr_cli_end::run_end;
 use fr_cli_simulate::run_simulate;
 use std::alloc::Global;
@@ -71,6 +72,7 @@ fn run<R: Read, W: Write>(
         Request::Apply(options) => run_apply(alloc, options, reader, writer),
         Request::End(options) => run_end(alloc, options, reader, writer),
         Request::Simulate => run_simulate(alloc, reader, writer),
+        Request::Audit => run_audit(alloc, reader, writer),
     }
 }
 

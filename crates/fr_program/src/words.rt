@@ -14,6 +14,8 @@ pub enum Request {
     End(EndOptions),
     /// The steps of a script, taken in a world.
     Simulate,
+    /// The audit of a script's journals.
+    Audit,
 }
 
 /// The kinds of store, as the words name them.
@@ -162,6 +164,51 @@ prints
 Statuses: 0 done, refused steps included; 2 bad script, or bad words; 3 out of memory; 4 input or
 output failed. A bad script prints no line.";
 
+/// What stands below the help of `audit`.
+const AUDIT_HELP: &str = "\
+The script is read from standard input. It says what a world starts from, as that of simulate does,
+and what each node says that it did:
+
+  {\"config\":{..},\"journals\":[{\"node\":NODE,\"entries\":[{\"stamp\":N,\"act\":ACT},..],\"last\":LAST},..]}
+
+A node is {\"cell\":{\"index\":I}}, {\"log\":{\"epoch\":E,\"index\":I}}, {\"sequencer\":{\"epoch\":E}},
+{\"proxy\":{\"epoch\":E,\"number\":P}}, {\"recoverer\":{\"ballot\":B}} or {\"storage\":{\"tag\":T}}. The stamps
+of a journal rise, each below 2^40. An act is one of
+
+  {\"asked\":{\"from\":NODE,\"ask\":ASK,\"tell\":TELL}}   it was asked this, and told that
+  {\"heard\":{\"from\":NODE,\"tell\":TELL,\"taken\":V,\"outcome\":O}}
+      it heard this: V is null, or the version at which a storage server broke off; O what a proxy
+      says of its batch, of any other node null
+  {\"submitted\":{\"step\":D,\"batch\":[..]}}            a proxy took a batch
+  {\"begun\":{}}, {\"crashed\":{}}, {\"lost\":{}}         a recoverer began; it crashed; a log is lost
+
+LAST is where the node stood at last, or null. docs/FORMATS.md has all asks, tells and last states.
+The entries of all journals are taken by their stamps, those of one stamp by their nodes, and counted
+from 0. It prints one line:
+
+  audit ok                the journals are a run: each entry can happen there, tells what the world
+                          tells, and each node ends as its journal says
+  not a run at N          entry N cannot happen there, or has the stamp and the node of the one before
+  tell differs at N       the world tells something else at entry N, or gives another outcome
+  state differs at NODE   the node stands elsewhere at last, its journal was not closed, or there is
+                          no such node: cell I, log E I, sequencer E, proxy E P, recoverer B, storage T
+
+For instance
+
+  {\"config\":{\"coordinators\":1,\"degree\":1,\"logs\":1,\"proxies\":1,\"shards\":[\"\"]},\"journals\":[
+    {\"node\":{\"log\":{\"epoch\":257,\"index\":0}},\"entries\":[{\"stamp\":1,\"act\":{\"asked\":{
+        \"from\":{\"storage\":{\"tag\":0}},
+        \"ask\":{\"log\":{\"peek\":{\"after\":0,\"epoch\":257,\"most\":100,\"tag\":0}}},
+        \"tell\":{\"log\":{\"peeked\":{\"after\":0,\"known\":0,\"records\":[],\"tag\":0,\"upto\":1}}}}}}],
+      \"last\":{\"log\":{\"durable\":1,\"known\":0,\"seeded\":true,\"stopped\":false}}}]}
+
+prints
+
+  audit ok
+
+Statuses: 0 a run; 1 a fault of the journals; 2 bad script, or bad words; 3 out of memory; 4 input
+or output failed. A bad script prints no line.";
+
 /// Reads the words, the first of which is the program's name. An error is a request for help or a
 /// mistake in the words, with the text for the user.
 pub fn read_words(alloc: Global, words: &[String]) -> Result<Request, Error> {
@@ -171,6 +218,9 @@ pub fn read_words(alloc: Global, words: &[String]) -> Result<Request, Error> {
     }
     if matches.subcommand_matches("simulate").is_some() {
         return Ok(Request::Simulate);
+    }
+    if matches.subcommand_matches("audit").is_some() {
+        return Ok(Request::Audit);
     }
     // There is one other command, and one kind of store: other words are refused.
     Ok(Request::Apply(ApplyOptions {
@@ -228,6 +278,9 @@ fn command<'a>(alloc: Global) -> Result<Command<'a>, Error> {
             "Takes steps in a world of coordinators, logs, proxies, recoverers and storage servers",
         )
         .after_help(SIMULATE_HELP);
+    let audit = Command::new(alloc, "audit")
+        .about("Tells whether the journals of all nodes are a run")
+        .after_help(AUDIT_HELP);
     let command = Command::new(alloc, "fdbrec")
         .about("Recovery of FoundationDB's log system, with storage servers that roll back")
         .version(VERSION)
@@ -237,6 +290,7 @@ fn command<'a>(alloc: Global) -> Result<Command<'a>, Error> {
         .subcommand_required(true)
         .subcommand(apply)?
         .subcommand(end)?
-        .subcommand(simulate)?;
+        .subcommand(simulate)?
+        .subcommand(audit)?;
     Ok(command)
 }

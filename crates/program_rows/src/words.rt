@@ -227,6 +227,33 @@ fn a_program_simulates(rt: HostRuntime) -> Result<(), Fail> {
 }
 
 #[test]
+fn a_program_audits(rt: HostRuntime) -> Result<(), Fail> {
+    let words = ["fdbrec", "audit"].as_slice();
+    let script =
+        b"{\"config\":{\"coordinators\":1,\"degree\":1,\"logs\":1,\"proxies\":1,\"shards\":[\"\"]},\"journals\":[]}".as_slice();
+    let (ending, written) = end_of(rt.alloc(), words, script)?;
+    assert_eq!(rt; ending.status(), 0);
+    assert!(rt; written.as_slice() == b"audit ok\n".as_slice());
+    let (ending, written) = end_of(rt.alloc(), words, &script[1..])?;
+    assert_eq!(rt; ending.status(), 2);
+    assert!(rt; matches!(&ending, Ending::Fault(CliFault::BadScript)));
+    assert!(rt; written.is_empty());
+    Ok(())
+}
+
+#[test]
+fn a_faulty_journal_has_status_1(rt: HostRuntime) -> Result<(), Fail> {
+    let words = ["fdbrec", "audit"].as_slice();
+    let script =
+        b"{\"config\":{\"coordinators\":1,\"degree\":1,\"logs\":1,\"proxies\":1,\"shards\":[\"\"]},\"journals\":[{\"entries\":[],\"last\":null,\"node\":{\"cell\":{\"index\":0}}}]}".as_slice();
+    let (ending, written) = end_of(rt.alloc(), words, script)?;
+    assert_eq!(rt; ending.status(), 1);
+    assert!(rt; matches!(&ending, Ending::Done(1)));
+    assert!(rt; written.as_slice() == b"state differs at cell 0\n".as_slice());
+    Ok(())
+}
+
+#[test]
 fn the_help_of_a_simulation(rt: HostRuntime) -> Result<(), Fail> {
     let words = ["fdbrec", "simulate", "--help"].as_slice();
     let (ending, written) = end_of(rt.alloc(), words, b"".as_slice())?;

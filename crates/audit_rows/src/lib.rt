@@ -1,0 +1,19 @@
+//! Tests of audits: the forms of their scripts, read and written, and each fault at each place.
+#![tactic(auto)]
+
+#[cfg(test)]
+mod audits;
+#[cfg(test)]
+mod bad_forms;
+#[cfg(test)]
+mod draws;
+#[cfg(test)]
+mod draws_of_logs;
+#[cfg(test)]
+mod faults;
+#[cfg(test)]
+mod forms;
+#[cfg(test)]
+mod random;
+#[cfg(test)]
+mod scripts;

@@ -1,0 +1,33 @@
+-- The line that an audit prints, and the status that it ends with.
+use Rattle.std.specs.Prelude.{ℕ, List, [], ◌++◌, codes, decimal, Result, Ok, Err}
+use Rattle.fr_base.specs.declared.place.NodeId.{NodeId}
+use Rattle.fr_base.specs.declared.place.NodeId.TheVariants.{Cell, Log, Sequencer, Proxy, Recoverer, Storage}
+use Rattle.fr_history.specs.Turn.{Turn}
+use Rattle.fr_audit_rule.specs.declared.fault.AuditFault.{AuditFault}
+use Rattle.fr_audit_rule.specs.declared.fault.AuditFault.TheVariants.{NotARun, TellDiffers, StateDiffers, Memory}
+
+-- a node: its kind, and its numbers
+abbrev pub node_text : NodeId → List ℕ
+node_text (Cell i) = codes "cell " ++ decimal i
+node_text (Log e i) = codes "log " ++ (decimal e ++ (codes " " ++ decimal i))
+node_text (Sequencer e) = codes "sequencer " ++ decimal e
+node_text (Proxy e p) = codes "proxy " ++ (decimal e ++ (codes " " ++ decimal p))
+node_text (Recoverer b) = codes "recoverer " ++ decimal b
+node_text (Storage t) = codes "storage " ++ decimal t
+
+-- a fault; want of memory prints no line
+abbrev pub fault_line : AuditFault → List ℕ
+fault_line (NotARun at) = codes "not a run at " ++ (decimal at ++ codes "\n")
+fault_line (TellDiffers at) = codes "tell differs at " ++ (decimal at ++ codes "\n")
+fault_line (StateDiffers who) = codes "state differs at " ++ (node_text who ++ codes "\n")
+fault_line Memory = []
+
+-- what an audit answers
+abbrev pub line_of : Result (List Turn) AuditFault → List ℕ
+line_of (Ok h) = codes "audit ok\n"
+line_of (Err fault) = fault_line fault
+
+-- 0 where the journals are a run, and else 1
+abbrev pub status_of : Result (List Turn) AuditFault → ℕ
+status_of (Ok h) = 0
+status_of (Err fault) = 1

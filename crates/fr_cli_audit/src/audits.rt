@@ -1,0 +1,111 @@
+//! The command `audit`.
+ghost use Rattle.std.specs.Prelude.{◌≡◌, ◌≢◌, ◌<◌, ◌⊎◌, List, None, Err, IsOk, IfOk, IfErr, IfSome, OnOk};
+ghost use Rattle.std.specs.Io.KnownBytes.{Appends};
+ghost use Rattle.fr_cli.specs.Calls.{no_calls, HasNoInput, HasNotFailed, IsWriteFault};
+ghost use Rattle.fr_history.specs.Config as history;
+ghost use Rattle.fr_journal.specs.Journal.{JournalState};
+ghost use Rattle.fr_audit_rule.specs.Audited.{audited};
+ghost use Rattle.fr_cli_audit.specs.Lines.{line_of, status_of};
+
+use crate::lines::fault_text;
+use fr_audit::{AuditFault, audit};
+use fr_cli::{CallCounts, CliFault, put, read_input};
+use fr_config::Config;
+use fr_journal::Journal;
+use fr_script::{ScriptFault, read_script};
+use std::alloc::Global;
+use std::io::{Read, Write};
+
+/// Audits the journals of a script, and writes one line: that they are a run of the script's config, or the first
+/// fault.
+///
+/// The status is 0 for a run, and 1 for a fault. A script is read whole before the line is written, so what is no
+/// script writes nothing.
+pub fn run_audit<R: Read, W: Write>(
+    alloc: Global,
+    reader: &mut R,
+    writer: &mut W,
+) -> Result<u8, CliFault>
+    ensures line { IfOk result (λ status. (c : history.Config) × (js : List JournalState) × (status ≡ status_of (audited c js)) × Appends (W.contents writer.old) (W.contents writer.new) (line_of (audited c js))) }
+    ensures unwritten { (result ≡ Err CliFault.BadScript) ⊎ (result ≡ Err CliFault.Input)
+        → writer.new ≡ writer.old }
+{
+    let mut calls = CallCounts::new();
+    audit_counted(alloc, &mut calls, reader, writer)
+}
+
+/// As [`run_audit`], with the calls of the reader and of the writer counted in `calls`, which has none
+/// yet: `Input` is answered only where a read failed or 2^30 of them found no end, `Output` only where
+/// a write or a flush failed.
+pub fn audit_counted<R: Read, W: Write>(
+    alloc: Global,
+    calls: &mut CallCounts,
+    reader: &mut R,
+    writer: &mut W,
+) -> Result<u8, CliFault>
+    requires fresh { calls.old ≡ no_calls }
+    ensures line { IfOk result (λ status. (c : history.Config) × (js : List JournalState) × (status ≡ status_of (audited c js)) × Appends (W.contents writer.old) (W.contents writer.new) (line_of (audited c js))) }
+    ensures unwritten { (result ≡ Err CliFault.BadScript) ⊎ (result ≡ Err CliFault.Input)
+        → writer.new ≡ writer.old }
+    ensures no_input { result ≡ Err CliFault.Input → HasNoInput calls.new }
+    ensures no_output { result ≡ Err CliFault.Output → 0 < calls.new.failed_writes }
+    ensures done { OnOk result (HasNotFailed calls.new) }
+{
+    let input = read_input(alloc, calls, reader)?;
+    let (config, journals) = journals_in(alloc, input.as_slice())?;
+    let status = put_audit(alloc, config, journals.as_slice(), calls, writer)?;
+    calls.flush(writer)?;
+    Ok(status)
+}
+
+/// The config and the journals of a script.
+fn journals_in(alloc: Global, text: &[u8]) -> Result<(Config, Vec<Journal>), CliFault>
+    ensures fault { IfErr result (λ e. (e ≡ CliFault.BadScript) ⊎ (e ≡ CliFault.Memory)) }
+{
+    match read_script(alloc, text) {
+        Ok(script) => Ok(script),
+        Err(ScriptFault::BadScript) => Err(CliFault::BadScript),
+        Err(ScriptFault::Memory) => Err(CliFault::Memory),
+    }
+}
+
+/// Audits journals, and writes the line; gives the status.
+fn put_audit<W: Write>(
+    alloc: Global,
+    config: Config,
+    journals: &[Journal],
+    calls: &mut CallCounts,
+    writer: &mut W,
+) -> Result<u8, CliFault>
+    ensures status { IfOk result (λ status. status ≡ status_of (audited config journals.now)) }
+    ensures line { OnOk result (Appends (W.contents writer.old) (W.contents writer.new) (line_of (audited config journals.now))) }
+    ensures fault { IfErr result (λ e. IsWriteFault calls.new e) }
+    ensures done { OnOk result (calls.new ≡ calls.old) }
+{
+    match fault_of(alloc, config, journals) {
+        None => {
+            put(calls, writer, "audit ok\n")?;
+            Ok(0)
+        }
+        Some(AuditFault::Memory) => Err(CliFault::Memory),
+        Some(fault) => {
+            let text = fault_text(alloc, &fault)?;
+            put(calls, writer, text.as_str())?;
+            Ok(1)
+        }
+    }
+}
+
+/// The fault of some journals, where they are no run.
+fn fault_of(alloc: Global, config: Config, journals: &[Journal]) -> Option<AuditFault>
+    ensures none { result ≡ None → IsOk (audited config journals.now) }
+    ensures some { IfSome result (λ fault. fault ≢ AuditFault.Memory → audited config journals.now ≡ Err fault) }
+{
+    match audit(alloc, config, journals) {
+        Ok(world) => {
+            drop(world);
+            None
+        }
+        Err(fault) => Some(fault),
+    }
+}

@@ -1,0 +1,78 @@
+//! Nodes.
+use crate::fault::ScriptFault;
+use crate::fields::{Fields, LAST_CELL, LAST_LOG, LAST_PROXY, variant};
+use crate::names;
+use crate::object::numbered;
+use fr_base::{Memory, NodeId};
+use serde_json::Value;
+use std::alloc::Global;
+
+pub(crate) fn read_node(value: Value) -> Result<NodeId, ScriptFault> {
+    let (name, content) = variant(value)?;
+    match name.as_str() {
+        names::CELL => {
+            let index = Fields::new(content, 1).index(names::INDEX, LAST_CELL)?;
+            Ok(NodeId::Cell { index })
+        }
+        names::LOG => read_log(&Fields::new(content, 2)),
+        names::SEQUENCER => {
+            let epoch = Fields::new(content, 1).epoch(names::EPOCH)?;
+            Ok(NodeId::Sequencer { epoch })
+        }
+        names::PROXY => read_proxy(&Fields::new(content, 2)),
+        names::RECOVERER => {
+            let ballot = Fields::new(content, 1).ballot(names::BALLOT)?;
+            Ok(NodeId::Recoverer { ballot })
+        }
+        names::STORAGE => {
+            let tag = Fields::new(content, 1).tag(names::TAG)?;
+            Ok(NodeId::Storage { tag })
+        }
+        _ => Err(ScriptFault::BadScript),
+    }
+}
+
+fn read_log(fields: &Fields) -> Result<NodeId, ScriptFault> {
+    Ok(NodeId::Log {
+        epoch: fields.epoch(names::EPOCH)?,
+        index: fields.index(names::INDEX, LAST_LOG)?,
+    })
+}
+
+fn read_proxy(fields: &Fields) -> Result<NodeId, ScriptFault> {
+    Ok(NodeId::Proxy {
+        epoch: fields.epoch(names::EPOCH)?,
+        number: fields.index(names::NUMBER, LAST_PROXY)?,
+    })
+}
+
+pub(crate) fn write_node(alloc: Global, node: &NodeId) -> Result<Value, Memory> {
+    match node {
+        NodeId::Cell { index } => numbered(alloc, names::CELL, &[(names::INDEX, *index as u64)]),
+        NodeId::Log { epoch, index } => numbered(
+            alloc,
+            names::LOG,
+            &[(names::EPOCH, epoch.get()), (names::INDEX, *index as u64)],
+        ),
+        NodeId::Sequencer { epoch } => numbered(
+            alloc,
+            names::SEQUENCER,
+            &[(names::EPOCH, epoch.get())],
+        ),
+        NodeId::Proxy { epoch, number } => numbered(
+            alloc,
+            names::PROXY,
+            &[(names::EPOCH, epoch.get()), (names::NUMBER, *number as u64)],
+        ),
+        NodeId::Recoverer { ballot } => numbered(
+            alloc,
+            names::RECOVERER,
+            &[(names::BALLOT, ballot.get())],
+        ),
+        NodeId::Storage { tag } => numbered(
+            alloc,
+            names::STORAGE,
+            &[(names::TAG, tag.get() as u64)],
+        ),
+    }
+}
