@@ -15,7 +15,9 @@ mod script;
 pub mod tokens;
 pub mod tree;
 
-pub use apply::{ApplyOptions, StoreKind, apply_counted, run_apply};
+pub use apply::{
+    ApplyOptions, StoreKind, apply_counted, apply_counted_on, run_apply, run_apply_on,
+};
 pub use calls::CallCounts;
 pub use fault::CliFault;
 pub use input::{MAX_READS, READ_SIZE, read_input};

@@ -10,7 +10,7 @@ ghost use Rattle.fr_cli.specs.Lines.{ok_line, line_of as line_text, row_lines, s
 
 use crate::calls::CallCounts;
 use crate::fault::CliFault;
-use crate::output::{put, put_tree};
+use crate::output::{put, put_rows, put_tree};
 use crate::plan::Planned;
 use fr_undo::{MapStore, ShardStore, StoreFault};
 use std::alloc::{AllocError, Global};
@@ -31,6 +31,23 @@ pub(crate) fn run_in_memory<W: Write>(
     let mut store = MapStore::new(alloc);
     run_operations(alloc, &mut store, operations, calls, writer)?;
     put_tree(alloc, store.rows(), calls, writer)
+}
+
+/// Runs operations on a store, and writes a line for each and then the rows.
+pub(crate) fn run_on<S: ShardStore, W: Write>(
+    alloc: Global,
+    store: &mut S,
+    operations: Vec<Planned>,
+    calls: &mut CallCounts,
+    writer: &mut W,
+) -> Result<(), CliFault>
+    ensures ok { OnOk result (Appends (W.contents writer.old) (W.contents writer.new) (plan_lines (S.state store.old) operations.items)) }
+    ensures front { GainsFront (W.contents writer.old) (W.contents writer.new) (plan_lines (S.state store.old) operations.items) }
+    ensures fault { IfErr result (λ e. IsWriteFault calls.new e) }
+    ensures done { OnOk result (calls.new ≡ calls.old) }
+{
+    run_operations(alloc, store, operations, calls, writer)?;
+    put_contents(alloc, store, calls, writer)
 }
 
 /// Runs operations on a store, and writes a line for each. What is left to be written then is the rows.
@@ -115,4 +132,22 @@ fn ok_line<S: ShardStore>(alloc: Global, store: &S) -> Result<String, AllocError
     let floor = store.floor().get();
     let rows = store.undo_rows();
     format!(in alloc; "ok {applied} floor {floor} undo {rows}\n")
+}
+
+/// Writes the rows of a store, by key.
+fn put_contents<S: ShardStore, W: Write>(
+    alloc: Global,
+    store: &mut S,
+    calls: &mut CallCounts,
+    writer: &mut W,
+) -> Result<(), CliFault>
+    ensures ok { OnOk result (Appends (W.contents writer.old) (W.contents writer.new) (row_lines (map.entries (S.state store.old).contents))) }
+    ensures front { GainsFront (W.contents writer.old) (W.contents writer.new) (row_lines (map.entries (S.state store.old).contents)) }
+    ensures fault { IfErr result (λ e. IsWriteFault calls.new e) }
+    ensures done { OnOk result (calls.new ≡ calls.old) }
+{
+    match store.dump(alloc) {
+        Ok(rows) => put_rows(alloc, rows, calls, writer),
+        Err(_) => Err(CliFault::Memory),
+    }
 }

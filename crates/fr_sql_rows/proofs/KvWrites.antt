@@ -148,9 +148,9 @@ pub record Loses (c : List ℕ → Bool) (old new : Database) : Type 0 where
   pub undo : new.trees 2 ≡ old.trees 2
   pub meta : new.trees 4 ≡ old.trees 4
 
-loses : (terms : List Term) (params : Row) (old new : Database) (c : List ℕ → Bool) → IsLaidOut old → ((r : Row) → IsKvRow r → list_all (holds (params ∷ r ∷ [])) terms ≡ c (key_of r))
-    → Takes kv_table (plain_query 0 terms (col 1 0 ∷ [])) params old new → Loses c old new
-loses terms params old new c laid test t =
+loses : (terms : List Term) (params : Row) (count : ℕ) (old new : Database) (c : List ℕ → Bool) → IsLaidOut old → ((r : Row) → IsKvRow r → list_all (holds (params ∷ r ∷ [])) terms ≡ c (key_of r))
+    → Takes kv_table (plain_query 0 terms (col 1 0 ∷ [])) params count old new → Loses c old new
+loses terms params count old new c laid test t =
     let db = old.trees in
     let rows = db 0 in
     let found = found_where IsKvRow (λ r. c (key_of r)) terms Null params (overlay db []) test rows laid.kv.shaped in
@@ -170,12 +170,12 @@ loses terms params old new c laid test t =
 
 pub removes : (old new : State) (k : List ℕ) (count : ℕ) → IsLaidOut old.now → Executes remove_text (Blob k ∷ []) old new (Ok count) → Sets k None old.now new.now
 removes old new k count laid h =
-    let l = loses (has_key ∷ []) (Blob k ∷ []) old.now new.now (λ q. is_same q k) laid (λ r shape. where_key (Blob k ∷ []) r k refl shape)
+    let l = loses (has_key ∷ []) (Blob k ∷ []) count old.now new.now (λ q. is_same q k) laid (λ r shape. where_key (Blob k ∷ []) r k refl shape)
     (deletes_kv remove_text (Blob k ∷ []) old new laid.schema remove_plain count _ remove_is h) in
     record { laid = l.laid; values = λ q. l.values q ∙ ap (λ b. cond b None (value_in (old.now.trees 0) q)) (is_same-comm q k); undo = l.undo; meta = l.meta }
 
 pub clears : (old new : State) (begin end : List ℕ) (count : ℕ) → IsLaidOut old.now → Executes clear_text (Blob begin ∷ Blob end ∷ []) old new (Ok count) → Clears begin end old.now new.now
 clears old new begin end count laid h =
-    let l = loses in_range (Blob begin ∷ Blob end ∷ []) old.now new.now (is_between begin end) laid (λ r shape. where_between r begin end shape)
+    let l = loses in_range (Blob begin ∷ Blob end ∷ []) count old.now new.now (is_between begin end) laid (λ r shape. where_between r begin end shape)
     (deletes_kv clear_text (Blob begin ∷ Blob end ∷ []) old new laid.schema clear_plain count _ clear_is h) in
     record { laid = l.laid; values = l.values; undo = l.undo; meta = l.meta }

@@ -15,6 +15,7 @@ use Rattle.sqlite_rules.specs.Calls.{ids_of}
 use Rattle.sqlite.specs.Tree.{has_rowid}
 use Rattle.fr_sql_rows.proofs.TextLemmas.{plain_query}
 use Rattle.fr_sql_rows.proofs.TableLemmas.{id_of, has_some}
+use Rattle.fr_sql_rows.proofs.ListLemmas.{map_length}
 
 pub truth_is : (b : Bool) → is_true (from_truth (Some b)) ≡ b
 truth_is true = refl
@@ -86,3 +87,9 @@ pub shown_ids : (tree : ℕ) (filter : List Term) (db : Trees) (params : Row) (r
 shown_ids tree filter db params rows found e h x =
     let same = plain_permutation tree filter (col 1 0 ∷ []) db params rows _ e h in
     sym (list_any-IsPermutation (λ id. has_rowid id x) (map id_of found) (ids_of rows) (subst (λ ids. IsPermutation ids (ids_of rows)) (ids_same params found) (IsPermutation-map id_of _ _ same)))
+
+-- and it shows as many as were found
+pub shown_length : (tree : ℕ) (filter : List Term) (db : Trees) (params : Row) (rows found : List Row) → matches_as Null db filter (inner tree end) (params ∷ []) ≡ map (λ r. params ∷ r ∷ []) found
+    → IsSureAnswer (plain_query tree filter (col 1 0 ∷ [])) db params rows → length rows ≡ length found
+shown_length tree filter db params rows found e h =
+    length_permutation _ rows (plain_permutation tree filter (col 1 0 ∷ []) db params rows _ e h) ∙ map_length _ (map (λ r. params ∷ r ∷ []) found) ∙ map_length _ found

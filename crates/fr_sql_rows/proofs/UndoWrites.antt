@@ -1,8 +1,9 @@
 -- What a statement that writes makes of the undo rows.
-use Rattle.std.proofs.Common.{◌≡◌, ◌<◌, inl, inr, ℕ, ℤ, pos, filter, List, [], ◌∷◌, Bool, true, false, cond, not, Option, Some, None, Ok, refl, sym, ap, subst, ◌∙◌, arith}
+use Rattle.std.proofs.Common.{◌≡◌, ◌<◌, ◌+◌, length, inl, inr, ℕ, ℤ, pos, filter, List, [], ◌∷◌, Bool, true, false, cond, not, Option, Some, None, Ok, refl, sym, ap, subst, ◌∙◌, arith}
 use Rattle.std.specs.Prelude.{nat_le, nat_lt}
 use Rattle.std.specs.List.{AllByRecursion, list_all}
 use Rattle.std.specs.Ordering.{is_eq, is_le, is_gt, int_cmp}
+use Rattle.std.proofs.lemmas.List.Filters.{length-filter_both}
 use Rattle.std.proofs.lemmas.Bool.Decides.{leb_tells}
 use Rattle.std.proofs.lemmas.Bool.{ltb-true, lt-ltb, leb-true}
 use Rattle.std.proofs.lemmas.Cmp.{eq_by_cmp_equiv}
@@ -28,7 +29,7 @@ use Rattle.fr_sql_rows.specs.Connection.{IsLaidOut, Notes, Retains}
 use Rattle.fr_sql_rows.proofs.StepLemmas.{cast_null, cast_int}
 use Rattle.fr_sql_rows.proofs.TextLemmas.{plain_query, note_text, note_is, note_plain, note_none_text, note_none_is, note_none_plain, is_above, drop_above_text, drop_above_is, drop_above_plain, is_through, drop_through_text, drop_through_is, drop_through_plain}
 use Rattle.fr_sql_rows.proofs.TableLemmas.{HasId, filter_table, left_is, one_put, absent, single_in, put_in, single_put, taken_out}
-use Rattle.fr_sql_rows.proofs.QueryLemmas.{truth_and, found_where, shown_ids}
+use Rattle.fr_sql_rows.proofs.QueryLemmas.{truth_and, found_where, shown_ids, shown_length}
 use Rattle.fr_sql_rows.proofs.WriteLemmas.{undo_table, Puts, Takes, inserts_undo, deletes_undo}
 
 abbrev pub same_place : Place → Place → Bool
@@ -105,9 +106,9 @@ pub keeps_if : {X : Type 0} (b : Bool) (x y : X) → cond (not b) y x ≡ cond b
 keeps_if true x y = refl
 keeps_if false x y = refl
 
-retains : (terms : List Term) (params : Row) (old new : Database) (test : Place → Bool) → IsLaidOut old → ((r : Row) → IsUndoRow r → list_all (holds (params ∷ r ∷ [])) terms ≡ not (test (place_of r)))
-    → Takes undo_table (plain_query 2 terms (col 1 0 ∷ [])) params old new → Retains test old new
-retains terms params old new test laid says t =
+retains : (terms : List Term) (params : Row) (count : ℕ) (old new : Database) (test : Place → Bool) → IsLaidOut old → ((r : Row) → IsUndoRow r → list_all (holds (params ∷ r ∷ [])) terms ≡ not (test (place_of r)))
+    → Takes undo_table (plain_query 2 terms (col 1 0 ∷ [])) params count old new → Retains test old new
+retains terms params count old new test laid says t =
     let db = old.trees in
     let rows = db 2 in
     let c = λ (p : Place). not (test p) in
@@ -125,6 +126,19 @@ retains terms params old new test laid says t =
       rows = λ p. ap (λ rs. before_in rs p) all ∙ taken_out place_of before_of same_place exact_place same_place-comm c rows (ids_of t.rows) laid.undo.table ids same p ∙ keeps_if (test p) (before_in rows p) None;
       meta = meta;
     }
+
+-- so many rows go as are counted
+goes : (terms : List Term) (params : Row) (count : ℕ) (old new : Database) (test : Place → Bool) → IsLaidOut old → ((r : Row) → IsUndoRow r → list_all (holds (params ∷ r ∷ [])) terms ≡ not (test (place_of r)))
+    → Takes undo_table (plain_query 2 terms (col 1 0 ∷ [])) params count old new → count + length (new.trees 2) ≡ length (old.trees 2)
+goes terms params count old new test laid says t =
+    let db = old.trees in
+    let rows = db 2 in
+    let c = λ (r : Row). not (test (place_of r)) in
+    let found = found_where IsUndoRow c terms Null params (overlay db []) says rows laid.undo.shaped in
+    let same = shown_ids 2 terms (overlay db []) params t.rows (filter c rows) found t.answer in
+    let left = t.edits.applies.rows ∙ left_is c rows (ids_of t.rows) laid.undo.table (have_ids rows laid.undo.shaped) same in
+    let gone = t.counted ∙ shown_length 2 terms (overlay db []) params t.rows (filter c rows) found t.answer in
+    (λ i. gone i + length (left i)) ∙ length-filter_both c (λ r. not (c r)) (λ r. refl) rows
 
 not_le : (a b : ℕ) → nat_le a b ≡ false → b < a
 not_le a b e = elim (leb_tells a b) [ inl h ↦ absurd (let clash = sym e ∙ h.0 in cc) | inr h ↦ h.1 ]
@@ -146,7 +160,12 @@ where_above r t (id, version, k, before, is) = rw (is, value_cmp-Int (pos versio
 
 pub drops_above : (old new : State) (t count : ℕ) → IsLaidOut old.now → Executes drop_above_text (Int (pos t) ∷ []) old new (Ok count) → Retains (λ p. nat_le p.0 t) old.now new.now
 drops_above old new t count laid h =
-    retains is_above (Int (pos t) ∷ []) old.now new.now (λ p. nat_le p.0 t) laid (λ r shape. where_above r t shape)
+    retains is_above (Int (pos t) ∷ []) count old.now new.now (λ p. nat_le p.0 t) laid (λ r shape. where_above r t shape)
+    (deletes_undo drop_above_text (Int (pos t) ∷ []) old new laid.schema drop_above_plain count _ drop_above_is h)
+
+pub counts_above : (old new : State) (t count : ℕ) → IsLaidOut old.now → Executes drop_above_text (Int (pos t) ∷ []) old new (Ok count) → count + length (new.now.trees 2) ≡ length (old.now.trees 2)
+counts_above old new t count laid h =
+    goes is_above (Int (pos t) ∷ []) count old.now new.now (λ p. nat_le p.0 t) laid (λ r shape. where_above r t shape)
     (deletes_undo drop_above_text (Int (pos t) ∷ []) old new laid.schema drop_above_plain count _ drop_above_is h)
 
 through_is : (a b : ℕ) → is_le (int_cmp (pos a) (pos b)) ≡ not (nat_lt b a)
@@ -164,5 +183,10 @@ where_through r t (id, version, k, before, is) = rw (is, value_cmp-Int (pos vers
 
 pub drops_through : (old new : State) (f count : ℕ) → IsLaidOut old.now → Executes drop_through_text (Int (pos f) ∷ []) old new (Ok count) → Retains (λ p. nat_lt f p.0) old.now new.now
 drops_through old new f count laid h =
-    retains is_through (Int (pos f) ∷ []) old.now new.now (λ p. nat_lt f p.0) laid (λ r shape. where_through r f shape)
+    retains is_through (Int (pos f) ∷ []) count old.now new.now (λ p. nat_lt f p.0) laid (λ r shape. where_through r f shape)
+    (deletes_undo drop_through_text (Int (pos f) ∷ []) old new laid.schema drop_through_plain count _ drop_through_is h)
+
+pub counts_through : (old new : State) (f count : ℕ) → IsLaidOut old.now → Executes drop_through_text (Int (pos f) ∷ []) old new (Ok count) → count + length (new.now.trees 2) ≡ length (old.now.trees 2)
+counts_through old new f count laid h =
+    goes is_through (Int (pos f) ∷ []) count old.now new.now (λ p. nat_lt f p.0) laid (λ r shape. where_through r f shape)
     (deletes_undo drop_through_text (Int (pos f) ∷ []) old new laid.schema drop_through_plain count _ drop_through_is h)

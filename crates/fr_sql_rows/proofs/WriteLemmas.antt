@@ -1,4 +1,5 @@
 -- What a statement that writes makes of the table.
+use Rattle.std.specs.Prelude.{unwrap_or}
 use Rattle.std.proofs.Common.{◌≡◌, ℕ, ◌/◌, length, List, [], ◌++◌, None, Ok, refl, sym, ap, subst, ◌∙◌}
 use Rattle.sqlite.specs.Order.{Row}
 use Rattle.sqlite.specs.Term.{Term}
@@ -20,6 +21,7 @@ use Rattle.sqlite.proofs.Callers.{IsPlain, command_of, statement_of, runs_as, on
 use Rattle.sqlite_rules.specs.Calls.{ids_of}
 use Rattle.fr_sql_rows.specs.Schema.{schema, kv, undo, meta}
 use Rattle.fr_sql_rows.proofs.StepLemmas.{went, same_value}
+use Rattle.fr_sql_rows.proofs.ListLemmas.{map_length}
 
 abbrev pub kv_table : Table
 kv_table = record kv { tree = 0 }
@@ -45,9 +47,10 @@ pub record Replaces (table : Table) (q : Query) (params : Row) (old new : Databa
   pub answer : IsSureAnswer q (overlay old.trees []) params rows
   pub edits : Edits old new (edit_of old.trees table (ids_of rows) Given 1 rows)
 
--- the rows whose rowids a query shows, taken out
-pub record Takes (table : Table) (q : Query) (params : Row) (old new : Database) : Type 0 where
+-- the rows whose rowids a query shows, taken out and counted
+pub record Takes (table : Table) (q : Query) (params : Row) (count : ℕ) (old new : Database) : Type 0 where
   pub rows : List Row
+  pub counted : count ≡ length rows
   pub answer : IsSureAnswer q (overlay old.trees []) params rows
   pub edits : Edits old new (edit_of old.trees table (ids_of rows) Given 0 [])
 
@@ -146,7 +149,7 @@ module _ (text : List ℕ) (params : Row) (old new : State) (has : old.now.schem
       let all : new.now.trees ≡ written.0 = ap (λ (d : Database). d.trees) now ∙ trees in
       record { rows = given.0; answer = given.1.answer; edits = record { laid = ap (λ (d : Database). d.schema) now; applies = subst (Applies schema Enforced old.now.trees edit) (sym all) applies } }
 
-  pub deletes_kv : (q : Query) → command_of (understood schema text) ≡ Delete 0 (record { lets = []; body = q }) → Executes text params old new (Ok count) → Takes kv_table q params old.now new.now
+  pub deletes_kv : (q : Query) → command_of (understood schema text) ≡ Delete 0 (record { lets = []; body = q }) → Executes text params old new (Ok count) → Takes kv_table q params count old.now new.now
   deletes_kv q is h =
       let command = Delete 0 (record { lets = []; body = q }) in
       let w = runs_as text params old new schema has command is plain count h in
@@ -158,9 +161,14 @@ module _ (text : List ℕ) (params : Row) (old new : State) (has : old.now.schem
       let edit = edit_of old.now.trees kv_table (ids_of given.0) Given 0 [] in
       let applies = one_step schema _ old.now.trees written.0 edit refl written.1 in
       let all : new.now.trees ≡ written.0 = ap (λ (d : Database). d.trees) now ∙ trees in
-      record { rows = given.0; answer = given.1.answer; edits = record { laid = ap (λ (d : Database). d.schema) now; applies = subst (Applies schema Enforced old.now.trees edit) (sym all) applies } }
+      record {
+        rows = given.0;
+        counted = w.counted ∙ ap (λ (p : Tally × Database). unwrap_or p.0.rows 0) (same_value (went (went done.2).2).2) ∙ ap (λ (it : Written). length it.rows) (same_value written.2) ∙ map_length _ (ids_of given.0) ∙ map_length _ given.0;
+        answer = given.1.answer;
+        edits = record { laid = ap (λ (d : Database). d.schema) now; applies = subst (Applies schema Enforced old.now.trees edit) (sym all) applies };
+      }
 
-  pub deletes_undo : (q : Query) → command_of (understood schema text) ≡ Delete 1 (record { lets = []; body = q }) → Executes text params old new (Ok count) → Takes undo_table q params old.now new.now
+  pub deletes_undo : (q : Query) → command_of (understood schema text) ≡ Delete 1 (record { lets = []; body = q }) → Executes text params old new (Ok count) → Takes undo_table q params count old.now new.now
   deletes_undo q is h =
       let command = Delete 1 (record { lets = []; body = q }) in
       let w = runs_as text params old new schema has command is plain count h in
@@ -172,4 +180,9 @@ module _ (text : List ℕ) (params : Row) (old new : State) (has : old.now.schem
       let edit = edit_of old.now.trees undo_table (ids_of given.0) Given 0 [] in
       let applies = one_step schema _ old.now.trees written.0 edit refl written.1 in
       let all : new.now.trees ≡ written.0 = ap (λ (d : Database). d.trees) now ∙ trees in
-      record { rows = given.0; answer = given.1.answer; edits = record { laid = ap (λ (d : Database). d.schema) now; applies = subst (Applies schema Enforced old.now.trees edit) (sym all) applies } }
+      record {
+        rows = given.0;
+        counted = w.counted ∙ ap (λ (p : Tally × Database). unwrap_or p.0.rows 0) (same_value (went (went done.2).2).2) ∙ ap (λ (it : Written). length it.rows) (same_value written.2) ∙ map_length _ (ids_of given.0) ∙ map_length _ given.0;
+        answer = given.1.answer;
+        edits = record { laid = ap (λ (d : Database). d.schema) now; applies = subst (Applies schema Enforced old.now.trees edit) (sym all) applies };
+      }

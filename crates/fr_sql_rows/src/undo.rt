@@ -1,5 +1,5 @@
 //! The undo rows.
-ghost use Rattle.std.specs.Prelude.{map as list_map, ◌≡◌, None, Some, OnOk, IfOk, IsTrue, cond, pos, nat_le, nat_lt};
+ghost use Rattle.std.specs.Prelude.{map as list_map, length, ◌≡◌, ◌+◌, None, Some, OnOk, IfOk, IsTrue, cond, pos, nat_le, nat_lt};
 ghost use Rattle.std.specs.FinMap.{find};
 ghost use Rattle.std.specs.List.Sorted.{IsSorted};
 ghost use Rattle.sqlite.specs.Held.{state};
@@ -56,12 +56,13 @@ pub fn note_none<S: Backing>(
     )
 }
 
-/// Removes the undo rows above a version.
+/// Removes the undo rows above a version, and counts them.
 pub fn drop_above<S: Backing>(tx: &mut Transaction<'_, S>, version: Version) -> Result<usize, Error>
     requires inside { IsInside (state S.Store tx.old.conn.now) }
     requires laid { IsLaidOut (state S.Store tx.old.conn.now).now }
     ensures same_reference { tx.new.conn.ghost_name ≡ tx.old.conn.ghost_name }
     ensures ok { OnOk result (Retains (λ p. nat_le p.0 version) (state S.Store tx.old.conn.now).now (state S.Store tx.new.conn.now).now) }
+    ensures count { IfOk result (λ gone. gone + length ((state S.Store tx.new.conn.now).now.trees 2) ≡ length ((state S.Store tx.old.conn.now).now.trees 2)) }
     ensures inside { OnOk result (IsInside (state S.Store tx.new.conn.now)) }
     ensures stays { Stays (state S.Store tx.old.conn.now) (state S.Store tx.new.conn.now) }
     ensures survives { CommitsNothing (state S.Store tx.old.conn.now) (state S.Store tx.new.conn.now) }
@@ -72,7 +73,7 @@ pub fn drop_above<S: Backing>(tx: &mut Transaction<'_, S>, version: Version) -> 
     )
 }
 
-/// Removes the undo rows through a version.
+/// Removes the undo rows through a version, and counts them.
 pub fn drop_through<S: Backing>(
     tx: &mut Transaction<'_, S>,
     version: Version,
@@ -81,6 +82,7 @@ pub fn drop_through<S: Backing>(
     requires laid { IsLaidOut (state S.Store tx.old.conn.now).now }
     ensures same_reference { tx.new.conn.ghost_name ≡ tx.old.conn.ghost_name }
     ensures ok { OnOk result (Retains (λ p. nat_lt version p.0) (state S.Store tx.old.conn.now).now (state S.Store tx.new.conn.now).now) }
+    ensures count { IfOk result (λ gone. gone + length ((state S.Store tx.new.conn.now).now.trees 2) ≡ length ((state S.Store tx.old.conn.now).now.trees 2)) }
     ensures inside { OnOk result (IsInside (state S.Store tx.new.conn.now)) }
     ensures stays { Stays (state S.Store tx.old.conn.now) (state S.Store tx.new.conn.now) }
     ensures survives { CommitsNothing (state S.Store tx.old.conn.now) (state S.Store tx.new.conn.now) }

@@ -1,5 +1,5 @@
 -- What calls make of the connection, one after the other.
-use Rattle.std.proofs.Common.{◌≡◌, ◌≢◌, inl, inr, ℕ, List, [], true, false, IsTrue, Ok, Err, Result, IfOk, IfErr, sym, ap, subst, ◌∙◌}
+use Rattle.std.proofs.Common.{◌≡◌, ◌≢◌, inl, inr, ℕ, List, [], true, IsTrue, Ok, Err, Result, IfOk, IfErr, sym, ap, subst, ◌∙◌}
 use Rattle.sqlite.specs.Order.{Row}
 use Rattle.sqlite.specs.Tree.{Trees}
 use Rattle.sqlite.specs.Effect.{Database}
@@ -12,7 +12,7 @@ use Rattle.sqlite_trees.specs.declared.store.Store.{Ghosts}
 use Rattle.fr_undo.specs.declared.fault.StoreFault.{StoreFault}
 use Rattle.fr_undo.specs.declared.fault.StoreFault.TheVariants.{Device}
 use Rattle.fr_undo.specs.Calls.{IsTrouble}
-use Rattle.fr_sql_rows.specs.Connection.{IsAtRest, IsInside, Keeps, KeepsIfOpen, CommitsNothing, Stays}
+use Rattle.fr_sql_rows.specs.Connection.{IsAtRest, IsInside, KeepsIfOpen, CommitsNothing, Stays}
 use Rattle.fr_sql_rows.proofs.FaultLemmas.{Left, keeps}
 use Rattle.fr_sql_work.specs.Calls.{Steps, Looks, MeetsAll}
 

@@ -1,8 +1,7 @@
 -- What the statements of one transaction make of the tables, key by key.
-use Rattle.std.proofs.Common.{◌≡◌, ℕ, ◌+◌, Bool, true, false, cond, not, List, [], ◌∷◌, Option, None, Some, IsSome, IfSome, IsTrue, refl, sym, ap, subst, ◌∙◌}
+use Rattle.std.proofs.Common.{◌≡◌, ℕ, ◌+◌, Bool, true, false, cond, List, [], ◌∷◌, Option, None, Some, IsSome, IfSome, IsTrue, refl, sym, ap, subst, ◌∙◌}
 use Rattle.std.specs.Prelude.{is_some, ◌==◌}
 use Rattle.std.specs.Option.{option_or}
-use Rattle.std.specs.Ordering.{is_eq}
 use Rattle.std.specs.Cmp.{unsigned_Decides, eq_by_cmp_equiv}
 use Rattle.std.specs.List.Sorted.{IsStrictlySortedBy}
 use Rattle.std.specs.Map.{lookup, keys_of}
@@ -15,18 +14,18 @@ use Rattle.fr_base.specs.Bytes.{bytes_cmp, is_same, bytes_exact, bytes_total}
 use Rattle.fr_base.proofs.MapLemmas.{one_key, none_below, is_same-comm, get-map_by-all}
 use Rattle.fr_undo.specs.declared.changes.Change.{Change}
 use Rattle.fr_undo.specs.State.{Place, place_cmp}
-use Rattle.fr_undo.specs.Undo.{before_if_changed, same_value}
-use Rattle.fr_undo.specs.Changes.{written_if, row_of, before_of}
+use Rattle.fr_undo.specs.Undo.{before_if_changed}
+use Rattle.fr_undo.specs.Changes.{written_if, before_of}
 use Rattle.fr_undo.proofs.UndoLemmas.{place_total, place_exact, one_version}
 use Rattle.fr_undo.proofs.ChangeLemmas.{row_by, not_at_version}
 use Rattle.fr_undo.proofs.WriteLemmas.{found_rest}
 use Rattle.fr_sql_rows.specs.Rows.{value_in, value_of, key_of, is_at_key, contents_in, before_in, before_of as before_of_row, undo_in, place_of, is_at_place}
 use Rattle.fr_sql_rows.specs.Connection.{Sets, Notes}
 use Rattle.fr_sql_work.specs.declared.work.Work.{Work}
-use Rattle.fr_sql_work.specs.Work.{differs, Writes, WritesOne, NotesOne, Rows, Meta, Does}
+use Rattle.fr_sql_work.specs.Work.{differs, Writes, WritesOne, Rows, Meta, Does}
 -- ---- undo rows, as a map
 
-use Rattle.std.proofs.Common.{map as list_map, filter, slice_get, option_map, ◌||◌}
+use Rattle.std.proofs.Common.{map as list_map, filter, slice_get, option_map}
 use Rattle.std.specs.List.{list_any}
 use Rattle.std.specs.Ordering.{eq_by_cmp}
 

@@ -1,5 +1,5 @@
 -- What a call makes of the connection.
-use Rattle.std.specs.Prelude.{◌≡◌, ◌≢◌, Result, Ok, Err, IfErr, IsTrue}
+use Rattle.std.specs.Prelude.{◌≡◌, ◌≢◌, Result, Err, IfErr, IsTrue}
 use Rattle.sqlite.specs.Tree.{Trees}
 use Rattle.sqlite.specs.Effect.{Database}
 use Rattle.sqlite.specs.State.{State}

@@ -79,13 +79,6 @@ pub record Fits (work : Work) (db : Database) : Type 0 where
   pub know : KnowChanged work.changes (value_in (db.trees 0))
   pub room : HasRoom work.rows db
 
--- none of the undo rows go
-abbrev pub Adds : RowWork → Type 0
-Adds Keep = Unit {0}
-Adds (Note version) = Unit {0}
-Adds (DropAbove version) = ⊥
-Adds (DropThrough version) = ⊥
-
 -- the undo row of a key is added at a version, if its change gives it something else than it held
 pub record NotesOne (version : ℕ) (key : List ℕ) (change : Change) (old new : Database) : Type 0 where
   pub laid : IsLaidOut new

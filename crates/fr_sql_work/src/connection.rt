@@ -1,33 +1,25 @@
 //! What a store in SQL asks of its connection: to read its tables, and to make them what they are to become.
-ghost use Rattle.std.specs.Prelude.{◌≡◌, ◌≢◌, OnOk, OnErr, IfOk, IfErr, IsTrue};
+ghost use Rattle.std.specs.Prelude.{◌≡◌, ◌≢◌, OnOk, OnErr, IfOk, IfErr, IsTrue, None, cond, nat_le};
 ghost use Rattle.std.specs.FinMap as map;
 ghost use Rattle.sqlite.specs.Held.{state};
 ghost use Rattle.sqlite.specs.State.{Survives};
+ghost use Rattle.std.specs.List.Sorted.{IsSorted};
+ghost use Rattle.fr_mutation.specs.Mutation.{is_between};
 ghost use Rattle.fr_mutation.specs.Shard.{part};
+ghost use Rattle.fr_undo.specs.State.{Place, place_cmp};
 ghost use Rattle.fr_undo.specs.Calls.{IsTrouble};
-ghost use Rattle.fr_sql_rows.specs.Rows.{contents_in, bytes_in, undo_in};
+ghost use Rattle.fr_sql_rows.specs.Rows.{contents_in, bytes_in, before_in, undo_in, newest_first};
 ghost use Rattle.fr_sql_rows.specs.Connection.{IsAtRest, IsLaidOut, KeepsIfOpen, CommitsNothing};
 ghost use Rattle.fr_sql_work.specs.Calls.{Looks, MeetsAll, Steps, IsDone, MayMake};
-ghost use Rattle.fr_sql_work.specs.Work.{Does, Fits, Adds};
+ghost use Rattle.fr_sql_work.specs.Work.{Does, Fits};
 
 use crate::work::{Work, fill};
-use fr_base::Bytes;
+use fr_base::{Bytes, Version};
 use fr_mutation::Shard;
-use fr_sql_rows::{Backing, fault_of, kv, meta, read_fault_of};
+use fr_sql_rows::{Backing, fault_of, kv, meta, read_fault_of, undo};
 use fr_undo::StoreFault;
 use sqlite::{Connection, Error};
 use std::alloc::Global;
-
-/// Whether the connection still works, asked by a statement that is not run.
-fn works<S: Backing>(conn: &mut Connection<S>) -> bool
-    ensures opened { IsTrue result → IsTrue (state S.Store conn.new).is_open }
-    ensures steps { Steps (state S.Store conn.old) (state S.Store conn.new) }
-{
-    match conn.prepare("SELECT 1") {
-        Ok(_) => true,
-        Err(_) => false,
-    }
-}
 
 /// A fault as the trouble of a store whose connection works.
 fn trouble_of(fault: StoreFault) -> StoreFault
@@ -40,16 +32,28 @@ fn trouble_of(fault: StoreFault) -> StoreFault
     }
 }
 
+/// Asks the connection whether it still works, by a statement that is not run.
+pub fn probe<S: Backing>(conn: &mut Connection<S>) -> Result<(), StoreFault>
+    ensures opened { OnOk result (IsTrue (state S.Store conn.new).is_open) }
+    ensures steps { Steps (state S.Store conn.old) (state S.Store conn.new) }
+    ensures trouble { IfErr result (IsTrouble MeetsAll) }
+{
+    match conn.prepare("SELECT 1") {
+        Ok(_) => Ok(()),
+        Err(error) => Err(trouble_of(read_fault_of(error))),
+    }
+}
+
 /// The fault of a call, once the connection was asked whether it still works: `Device` where it does not.
 fn settle<S: Backing>(conn: &mut Connection<S>, fault: StoreFault) -> StoreFault
     ensures trouble { IsTrouble MeetsAll result }
     ensures opened { result ≢ StoreFault.Device → IsTrue (state S.Store conn.new).is_open }
     ensures steps { Steps (state S.Store conn.old) (state S.Store conn.new) }
 {
-    if works(conn) {
-        return trouble_of(fault);
+    match probe(conn) {
+        Ok(()) => trouble_of(fault),
+        Err(_) => StoreFault::Device,
     }
-    StoreFault::Device
 }
 
 /// The value at a key.
@@ -117,6 +121,42 @@ pub fn of_shard<S: Backing>(
     }
 }
 
+/// The keys from `begin` up to, but not including, `end`, with their values.
+pub fn between<'x, S: Backing>(
+    alloc: Global,
+    conn: &mut Connection<S>,
+    begin: &'x Bytes,
+    end: &'x Bytes,
+) -> Result<Vec<(Bytes, Bytes)>, StoreFault>
+    requires rest { IsAtRest (state S.Store conn.old) }
+    requires laid { IsLaidOut (state S.Store conn.old).now }
+    ensures rows { IfOk result (λ rows. rows.items ≡ map.entries (map.retain_keys (contents_in ((state S.Store conn.old).now.trees 0)) (is_between begin.now end.now))) }
+    ensures looks { Looks (state S.Store conn.old) (state S.Store conn.new) result }
+{
+    match kv::between(alloc, conn, begin, end) {
+        Ok(rows) => Ok(rows),
+        Err(error) => Err(settle(conn, read_fault_of(error))),
+    }
+}
+
+/// The undo rows above a version, from the newest version down, and each version's by their keys.
+pub fn above<S: Backing>(
+    alloc: Global,
+    conn: &mut Connection<S>,
+    version: Version,
+) -> Result<Vec<((Version, Bytes), Option<Bytes>)>, StoreFault>
+    requires rest { IsAtRest (state S.Store conn.old) }
+    requires laid { IsLaidOut (state S.Store conn.old).now }
+    ensures rows { IfOk result (λ rows. (p : Place) → map.find place_cmp p rows.items ≡ cond (nat_le p.0 version) None (before_in ((state S.Store conn.old).now.trees 2) p)) }
+    ensures order { IfOk result (λ rows. IsSorted newest_first rows.items) }
+    ensures looks { Looks (state S.Store conn.old) (state S.Store conn.new) result }
+{
+    match undo::above(alloc, conn, version) {
+        Ok(rows) => Ok(rows),
+        Err(error) => Err(settle(conn, read_fault_of(error))),
+    }
+}
+
 /// The state bytes.
 pub fn bytes<S: Backing>(conn: &mut Connection<S>) -> Result<Bytes, StoreFault>
     requires rest { IsAtRest (state S.Store conn.old) }
@@ -135,7 +175,7 @@ fn attempt<S: Backing>(conn: &mut Connection<S>, work: &Work, rows: usize) -> Re
     requires rest { IsAtRest (state S.Store conn.old) }
     requires fits { Fits work.now (state S.Store conn.old).now }
     ensures done { OnOk result (IsDone (Does work.now) (state S.Store conn.old) (state S.Store conn.new)) }
-    ensures rows { IfOk result (λ more. Adds work.now.rows → rows ≡ map.len (undo_in ((state S.Store conn.old).now.trees 2)) → more ≡ map.len (undo_in ((state S.Store conn.new).now.trees 2))) }
+    ensures rows { IfOk result (λ more. rows ≡ map.len (undo_in ((state S.Store conn.old).now.trees 2)) → more ≡ map.len (undo_in ((state S.Store conn.new).now.trees 2))) }
     ensures keeps { OnErr result (KeepsIfOpen (state S.Store conn.old) (state S.Store conn.new)) }
     ensures survives { Survives (state S.Store conn.old) (state S.Store conn.new) (MayMake (Does work.now) (state S.Store conn.old)) }
 {
@@ -146,7 +186,7 @@ fn attempt<S: Backing>(conn: &mut Connection<S>, work: &Work, rows: usize) -> Re
 }
 
 /// Makes of the tables what they are to become: all of it, or nothing, or the connection is shut and a crash
-/// leaves the one or the other. Where no undo rows go it counts them.
+/// leaves the one or the other. It is told how many undo rows there are, and answers how many there are then.
 pub fn make<S: Backing>(
     conn: &mut Connection<S>,
     work: &Work,
@@ -155,7 +195,7 @@ pub fn make<S: Backing>(
     requires rest { IsAtRest (state S.Store conn.old) }
     requires fits { Fits work.now (state S.Store conn.old).now }
     ensures done { OnOk result (IsDone (Does work.now) (state S.Store conn.old) (state S.Store conn.new)) }
-    ensures rows { IfOk result (λ more. Adds work.now.rows → rows ≡ map.len (undo_in ((state S.Store conn.old).now.trees 2)) → more ≡ map.len (undo_in ((state S.Store conn.new).now.trees 2))) }
+    ensures rows { IfOk result (λ more. rows ≡ map.len (undo_in ((state S.Store conn.old).now.trees 2)) → more ≡ map.len (undo_in ((state S.Store conn.new).now.trees 2))) }
     ensures keeps { OnErr result (KeepsIfOpen (state S.Store conn.old) (state S.Store conn.new)) }
     ensures opened { IfErr result (λ fault. fault ≢ StoreFault.Device → IsTrue (state S.Store conn.new).is_open) }
     ensures survives { Survives (state S.Store conn.old) (state S.Store conn.new) (MayMake (Does work.now) (state S.Store conn.old)) }

@@ -5,7 +5,7 @@ ghost use Rattle.sqlite.specs.Held.{state};
 ghost use Rattle.fr_undo.specs.Undo.{same_value};
 ghost use Rattle.fr_sql_rows.specs.Rows.{value_in, before_in, undo_in};
 ghost use Rattle.fr_sql_rows.specs.Connection.{IsLaidOut, IsInside, CommitsNothing, Stays, Sets, Notes};
-ghost use Rattle.fr_sql_work.specs.Work.{Writes, WritesOne, Rows, Meta, Does, Fits, HasRoom, Adds, NotesOne, KnowChanged, differs};
+ghost use Rattle.fr_sql_work.specs.Work.{Writes, WritesOne, Rows, Meta, Does, Fits, HasRoom, NotesOne, KnowChanged, differs};
 
 use fr_base::{Bytes, Version};
 use fr_sql_rows::{Backing, kv, meta, undo};
@@ -14,6 +14,7 @@ use sqlite::{Error, ErrorCode, Transaction};
 use std::collections::BTreeMap;
 
 /// What becomes of the undo rows.
+#[derive(Debug, Drop)]
 pub enum RowWork {
     /// They stay.
     Keep,
@@ -26,6 +27,7 @@ pub enum RowWork {
 }
 
 /// What becomes of the row of `meta`.
+#[derive(Debug, Drop)]
 pub enum MetaWork {
     /// It takes the version applied and the floor.
     Versions { applied: Version, floor: Version },
@@ -34,6 +36,7 @@ pub enum MetaWork {
 }
 
 /// What one transaction makes of the tables.
+#[derive(Debug, Drop)]
 pub struct Work {
     /// What the keys take.
     pub changes: BTreeMap<Bytes, Change>,
@@ -199,7 +202,7 @@ fn note_all<S: Backing>(
     Ok(count)
 }
 
-/// Makes of the undo rows what they are to become, and counts those that are added.
+/// Makes of the undo rows what they are to become, and counts those that are there then.
 fn fill_rows<S: Backing>(
     tx: &mut Transaction<'_, S>,
     work: &RowWork,
@@ -211,7 +214,7 @@ fn fill_rows<S: Backing>(
     requires room { HasRoom work.now (state S.Store tx.old.conn.now).now }
     ensures same_reference { tx.new.conn.ghost_name ≡ tx.old.conn.ghost_name }
     ensures ok { OnOk result (Rows changes.now work.now (state S.Store tx.old.conn.now).now (state S.Store tx.new.conn.now).now) }
-    ensures rows { IfOk result (λ more. Adds work.now → rows ≡ map.len (undo_in ((state S.Store tx.old.conn.now).now.trees 2)) → more ≡ map.len (undo_in ((state S.Store tx.new.conn.now).now.trees 2))) }
+    ensures rows { IfOk result (λ more. rows ≡ map.len (undo_in ((state S.Store tx.old.conn.now).now.trees 2)) → more ≡ map.len (undo_in ((state S.Store tx.new.conn.now).now.trees 2))) }
     ensures inside { OnOk result (IsInside (state S.Store tx.new.conn.now)) }
     ensures stays { Stays (state S.Store tx.old.conn.now) (state S.Store tx.new.conn.now) }
     ensures survives { CommitsNothing (state S.Store tx.old.conn.now) (state S.Store tx.new.conn.now) }
@@ -220,12 +223,12 @@ fn fill_rows<S: Backing>(
         RowWork::Keep => Ok(rows),
         RowWork::Note(version) => note_all(tx, *version, changes, rows),
         RowWork::DropAbove(version) => {
-            undo::drop_above(tx, *version)?;
-            Ok(rows)
+            let gone = undo::drop_above(tx, *version)?;
+            Ok(rows.saturating_sub(gone))
         }
         RowWork::DropThrough(version) => {
-            undo::drop_through(tx, *version)?;
-            Ok(rows)
+            let gone = undo::drop_through(tx, *version)?;
+            Ok(rows.saturating_sub(gone))
         }
     }
 }
@@ -246,7 +249,7 @@ fn fill_meta<S: Backing>(tx: &mut Transaction<'_, S>, work: &MetaWork) -> Result
     }
 }
 
-/// Makes of the tables what they are to become, in a transaction, and counts the undo rows, where none go.
+/// Makes of the tables what they are to become, in a transaction, and counts the undo rows that are there then.
 pub(crate) fn fill<S: Backing>(
     tx: &mut Transaction<'_, S>,
     work: &Work,
@@ -256,7 +259,7 @@ pub(crate) fn fill<S: Backing>(
     requires fits { Fits work.now (state S.Store tx.old.conn.now).now }
     ensures same_reference { tx.new.conn.ghost_name ≡ tx.old.conn.ghost_name }
     ensures ok { OnOk result (Does work.now (state S.Store tx.old.conn.now).now (state S.Store tx.new.conn.now).now) }
-    ensures rows { IfOk result (λ more. Adds work.now.rows → rows ≡ map.len (undo_in ((state S.Store tx.old.conn.now).now.trees 2)) → more ≡ map.len (undo_in ((state S.Store tx.new.conn.now).now.trees 2))) }
+    ensures rows { IfOk result (λ more. rows ≡ map.len (undo_in ((state S.Store tx.old.conn.now).now.trees 2)) → more ≡ map.len (undo_in ((state S.Store tx.new.conn.now).now.trees 2))) }
     ensures inside { OnOk result (IsInside (state S.Store tx.new.conn.now)) }
     ensures stays { Stays (state S.Store tx.old.conn.now) (state S.Store tx.new.conn.now) }
     ensures survives { CommitsNothing (state S.Store tx.old.conn.now) (state S.Store tx.new.conn.now) }

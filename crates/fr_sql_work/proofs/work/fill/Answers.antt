@@ -43,8 +43,8 @@ returns-clause-ok g c =
     does_all c.args.work.now a.now b.now d.now e.now c.in_ok-count.ensures.ok c.in_ok-write_all.ensures.ok c.in_ok-fill_meta.ensures.ok
 
 pub returns-clause-rows : goal.returns-clause-rows
-returns-clause-rows g c = λ adds is.
-    c.in_ok-count.ensures.rows adds is
+returns-clause-rows g c = λ is.
+    c.in_ok-count.ensures.rows is
     ∙ ap (λ rows. map.len (undo_in rows)) (sym (c.in_ok-fill_meta.ensures.ok.undo ∙ c.in_ok-write_all.ensures.ok.undo))
 
 pub returns-clause-stays : goal.returns-clause-stays

@@ -1,11 +1,8 @@
-use Rattle.std.proofs.Common.{ℕ, List, Option, None, ap, sym, ◌∙◌}
+use Rattle.std.proofs.Common.{ℕ, List, Option, ap, sym, ◌∙◌}
 use Rattle.std.specs.Prelude.{is_some, ◌==◌}
 use Rattle.std.specs.Option.{option_or}
-use Rattle.std.specs.Map.{lookup}
-use Rattle.std.specs.BTreeMap.{is_at}
 use Rattle.sqlite.specs.Held.{state}
 use Rattle.fr_base.specs.Bytes.{bytes_cmp}
-use Rattle.fr_undo.specs.State.{Place}
 use Rattle.fr_undo.specs.declared.changes.Change.{Change}
 use Rattle.fr_undo.proofs.TreeLemmas.{copied_sorted}
 use Rattle.fr_undo.proofs.ChangeLemmas.{row_by, cond_none}

@@ -1,6 +1,6 @@
 use Rattle.sqlite.specs.Held.{state}
 use Rattle.fr_sql_work.proofs.StepLemmas.{steps_of}
-use Rattle.fr_sql_work.proofs.connection.works.Goals as goal
+use Rattle.fr_sql_work.proofs.connection.probe.Goals as goal
 
 pub returns-clause-steps : goal.returns-clause-steps
 returns-clause-steps g c =

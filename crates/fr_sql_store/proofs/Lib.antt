@@ -1,0 +1,6 @@
+pub mod CallLemmas
+pub mod KnownLemmas
+pub mod LeadLemmas
+pub mod UndoLeads
+pub mod OrderLemmas
+pub mod StoreLemmas

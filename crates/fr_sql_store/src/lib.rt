@@ -1,0 +1,11 @@
+//! A store of a shard in SQL, under the contract of every store: what it keeps stands in three tables, each
+//! call that writes is one transaction, and a crash leaves what was there before a call or what it made.
+#![tactic(auto)]
+
+mod calls;
+mod known;
+mod marks;
+mod plan;
+mod sql_store;
+
+pub use sql_store::SqlStore;

@@ -1,0 +1,54 @@
+//! Scripts of `apply` with their lines, run on the tables of a database and on a map.
+use fr_cli::run_apply_on;
+use fr_sql_store::SqlStore;
+use fr_undo::MapStore;
+use std::test::Fail;
+
+const ROWS: [(&str, &str); 5] = [
+    (
+        "{\"ops\":[{\"advance\":{\"version\":4}},{\"apply\":{\"version\":5,\"batch\":[]}},{\"undo\":{\"to\":4}}]}",
+        "ok 4 floor 0 undo 0\nok 5 floor 0 undo 0\nok 4 floor 0 undo 0\n",
+    ),
+    (
+        "{\"ops\":[{\"apply\":{\"version\":5,\"batch\":[{\"set\":{\"key\":\"61\",\"value\":\"01\"}}]}},{\"apply\":{\"version\":6,\"batch\":[{\"set\":{\"key\":\"61\",\"value\":\"02\"}},{\"clear\":{\"begin\":\"61\",\"end\":\"63\"}},{\"add\":{\"key\":\"61\",\"param\":\"05\"}}]}},{\"undo\":{\"to\":5}}]}",
+        "ok 5 floor 0 undo 1\nok 6 floor 0 undo 2\nok 5 floor 0 undo 1\n61 01\n",
+    ),
+    (
+        "{\"ops\":[{\"apply\":{\"version\":1,\"batch\":[{\"set\":{\"key\":\"61\",\"value\":\"ff\"}},{\"set\":{\"key\":\"62\",\"value\":\"ff\"}}]}},{\"apply\":{\"version\":2,\"batch\":[{\"add\":{\"key\":\"61\",\"param\":\"02\"}},{\"add\":{\"key\":\"62\",\"param\":\"0001\"}},{\"and\":{\"key\":\"63\",\"param\":\"0f\"}},{\"or\":{\"key\":\"64\",\"param\":\"0f\"}},{\"max\":{\"key\":\"61\",\"param\":\"0001\"}},{\"min\":{\"key\":\"62\",\"param\":\"0002\"}}]}}]}",
+        "ok 1 floor 0 undo 2\nok 2 floor 0 undo 6\n61 0001\n62 ff01\n63 0f\n64 0f\n",
+    ),
+    (
+        "{\"ops\":[{\"apply\":{\"version\":1,\"batch\":[{\"clear\":{\"begin\":\"62\",\"end\":\"61\"}}]}},{\"apply\":{\"version\":1,\"batch\":[{\"clear\":{\"begin\":\"61\",\"end\":\"61\"}}]}},{\"apply\":{\"version\":1,\"batch\":[]}}]}",
+        "refused Inverted\nok 1 floor 0 undo 0\nrefused NotAfter\n",
+    ),
+    (
+        "{\"ops\":[{\"apply\":{\"version\":8,\"batch\":[{\"set\":{\"key\":\"61\",\"value\":\"01\"}}]}},{\"apply\":{\"version\":9,\"batch\":[{\"set\":{\"key\":\"61\",\"value\":\"02\"}}]}},{\"forget\":{\"through\":8}},{\"undo\":{\"to\":7}},{\"forget\":{\"through\":10}}]}",
+        "ok 8 floor 0 undo 1\nok 9 floor 0 undo 2\nok 9 floor 8 undo 1\nrefused BelowFloor\nrefused AboveApplied\n61 02\n",
+    ),
+];
+
+#[test]
+fn a_map_prints_these_lines(rt: HostRuntime) -> Result<(), Fail> {
+    for (script, lines) in ROWS {
+        let mut store = MapStore::new(rt.alloc());
+        let mut reader = script.as_bytes();
+        let mut writer = Vec::new(rt.alloc());
+        let answer = run_apply_on(rt.alloc(), &mut store, &mut reader, &mut writer);
+        assert!(rt; answer == Ok(0));
+        assert_eq!(rt; writer.as_slice(), lines.as_bytes());
+    }
+    Ok(())
+}
+
+#[test]
+fn tables_print_these_lines(rt: HostRuntime) -> Result<(), Fail> {
+    for (script, lines) in ROWS {
+        let mut store = SqlStore::in_memory(rt.alloc())?;
+        let mut reader = script.as_bytes();
+        let mut writer = Vec::new(rt.alloc());
+        let answer = run_apply_on(rt.alloc(), &mut store, &mut reader, &mut writer);
+        assert!(rt; answer == Ok(0));
+        assert_eq!(rt; writer.as_slice(), lines.as_bytes());
+    }
+    Ok(())
+}
