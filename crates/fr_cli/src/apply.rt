@@ -150,9 +150,9 @@ pub fn apply_counted_on<S: ShardStore, R: Read, W: Write>(
     ensures no_output { result ≡ Err CliFault.Output → 0 < calls.new.failed_writes }
     ensures done { OnOk result (HasNotFailed calls.new) }
 {
-    let input = read_input(alloc, calls, reader)?;
-    let script = read_script(alloc, input)?;
-    run_on(alloc, store, script, calls, writer)?;
+    let bytes = read_input(alloc, calls, reader)?;
+    let operations = read_script(alloc, bytes)?;
+    run_on(alloc, store, operations, calls, writer)?;
     calls.flush(writer)?;
     Ok(0)
 }
