@@ -1,0 +1,11 @@
+//! Tests of nodes with their journals.
+#![tactic(auto)]
+
+#[cfg(test)]
+mod ended;
+#[cfg(test)]
+mod rows;
+#[cfg(test)]
+mod scene;
+#[cfg(test)]
+mod stamps;
