@@ -1,4 +1,6 @@
 //! Journals drawn at random, within their limits and else of any kind.
+ghost use Rattle.std.specs.Prelude.{◌<◌};
+
 use crate::draws_of_logs::{draw_log_ask, draw_log_tell};
 use fr_ask::{Ask, Last, Rows, SeqAsk, SeqRefusal, SeqTell, Tell};
 use fr_base::{Ballot, Bytes, Epoch, NodeId, Stamp, Step, Tag, Version};
