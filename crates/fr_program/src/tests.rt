@@ -1,7 +1,7 @@
 use crate::program::{Ending, run_program};
-use crate::words::{Request, read_words};
+use crate::words::{Request, StoreKind, read_words};
 use clap::error::ErrorKind;
-use fr_cli::{ApplyOptions, CliFault, StoreKind};
+use fr_cli::CliFault;
 use fr_cli_end::EndOptions;
 use std::alloc::{AllocError, Global};
 use std::io;
@@ -18,18 +18,17 @@ fn words_of(alloc: Global, words: &[&str]) -> Result<Vec<String>, AllocError> {
 
 #[test]
 fn words_choose_a_command(rt: HostRuntime) -> Result<(), Fail> {
-    let wanted = Request::Apply(ApplyOptions {
-        store: StoreKind::Map,
-    });
     let lines = [
-        ["fdbrec", "apply"].as_slice(),
-        ["fdbrec", "apply", "--store", "map"].as_slice(),
-        ["fdbrec", "apply", "--store=map"].as_slice(),
+        (["fdbrec", "apply"].as_slice(), StoreKind::Map),
+        (["fdbrec", "apply", "--store", "map"].as_slice(), StoreKind::Map),
+        (["fdbrec", "apply", "--store=map"].as_slice(), StoreKind::Map),
+        (["fdbrec", "apply", "--store", "sql"].as_slice(), StoreKind::Sql),
+        (["fdbrec", "apply", "--store=sql"].as_slice(), StoreKind::Sql),
     ];
-    for line in lines {
+    for (line, kind) in lines {
         let words = words_of(rt.alloc(), line)?;
         match read_words(rt.alloc(), words.as_slice()) {
-            Ok(request) => assert!(rt; request == wanted),
+            Ok(request) => assert!(rt; request == Request::Apply(kind)),
             Err(error) => assert!(rt; false, "{error}"),
         }
     }
@@ -143,7 +142,7 @@ fn other_words_are_refused(rt: HostRuntime) -> Result<(), Fail> {
             ErrorKind::UnknownArgument,
         ),
         (
-            ["fdbrec", "apply", "--store", "sql"].as_slice(),
+            ["fdbrec", "apply", "--store", "tree"].as_slice(),
             ErrorKind::InvalidValue,
         ),
         (
@@ -186,8 +185,12 @@ fn end_of(alloc: Global, words: &[&str], input: &[u8]) -> Result<(Ending, Vec<u8
 #[test]
 fn a_program_ends_by_its_command(rt: HostRuntime) -> Result<(), Fail> {
     let apply = ["fdbrec", "apply"].as_slice();
+    let tables = ["fdbrec", "apply", "--store", "sql"].as_slice();
     let script = b"{\"ops\":[{\"advance\":{\"version\":4}}]}".as_slice();
     let (ending, written) = end_of(rt.alloc(), apply, script)?;
+    assert_eq!(rt; ending.status(), 0);
+    assert!(rt; written.as_slice() == b"ok 4 floor 0 undo 0\n".as_slice());
+    let (ending, written) = end_of(rt.alloc(), tables, script)?;
     assert_eq!(rt; ending.status(), 0);
     assert!(rt; written.as_slice() == b"ok 4 floor 0 undo 0\n".as_slice());
     let (ending, written) = end_of(rt.alloc(), apply, &script[1..])?;
