@@ -1,7 +1,6 @@
 //! A node with its journal.
 ghost use Rattle.std.specs.Prelude.{◌≡◌, ◌≢◌, ◌⊎◌, ◌↔◌, ◌||◌, ◌≤◌, ◌++◌, ◌∷◌, [], ◌+◌, ◌-◌, ◌^◌, ◌<◌, max, ℕ, Err, None, Some, IfOk, IfSome, IsSome, OnOk, IfErr, OnErr, false};
 ghost use Rattle.fr_base.specs.declared.node.NodeFault.{NodeFault};
-ghost use Rattle.fr_base.specs.Faults.{met_device};
 ghost use Rattle.fr_journal.specs.declared.act.Act.{Act};
 ghost use Rattle.fr_journal.specs.Journal.{IsAbove};
 ghost use Rattle.fr_ask.specs.declared.tell.Tell.{Tell};
@@ -9,13 +8,15 @@ ghost use Rattle.fr_housing.specs.declared.fault.CallFault.{CallFault};
 ghost use Rattle.fr_housing.specs.Replays.{Replays, ends_by_crash, steps};
 ghost use Rattle.fr_housing.specs.Housing.{Asks, Enters, IsSettled, IsTrouble, Leaves, Works, before, found_kept, greatest_stamp, is_gone, last_number, left_kept, next_stamp, refusal_of, with_found};
 
+mod entering;
+mod settling;
+
 use crate::fault::CallFault;
-use crate::housable::{Housable, repeat_law};
+use crate::housable::Housable;
 use crate::kept::Kept;
-use crate::served::{ends_by_crash, found, left, served};
 use fr_ask::{Named, Tell};
-use fr_base::{Machine, Node, NodeFault, NodeId, Reopened, Stamp};
-use fr_journal::{Act, Entry, Journal};
+use fr_base::{Machine, Node, NodeFault, NodeId, Stamp};
+use fr_journal::Journal;
 use std::alloc::Global;
 use std::marker::Model;
 use std::snapshot::Snapshot;
@@ -88,123 +89,6 @@ where
         &self.journal
     }
 
-    /// Opens the node again.
-    fn reopen(&mut self, alloc: Global) -> Result<(), NodeFault>
-        ensures place { self.new.place ≡ self.old.place }
-        ensures first { self.new.first ≡ self.old.first }
-        ensures entries { self.new.entries ≡ self.old.entries }
-        ensures left { OnOk result ((self.new.kept ≡ left_kept self.old.kept) ⊎ (self.new.kept ≡ found_kept self.old.kept)) }
-        ensures works { OnOk result (self.new.is_failed ≡ false) }
-        ensures err { OnErr result (self.new.kept ≡ self.old.kept) }
-        ensures trouble { IfErr result N.CanMeet }
-    {
-        match self.node.reopen(alloc) {
-            Ok(Reopened::Before) => {
-                self.is_failed = false;
-                self.kept = left(self.kept.take());
-                Ok(())
-            }
-            Ok(Reopened::After) => {
-                self.is_failed = false;
-                self.kept = found(self.kept.take());
-                Ok(())
-            }
-            Err(fault) => {
-                self.is_failed = self.is_failed || fault == NodeFault::Device;
-                Err(fault)
-            }
-        }
-    }
-
-    /// Enters the ask that met a fault and was found taken, if there is one: it is served again, which changes nothing.
-    fn enter_found(&mut self, alloc: Global) -> Result<(), NodeFault>
-        requires found { left_kept self.old.kept ≡ self.old.kept }
-        requires works { self.old.is_failed ≡ false }
-        requires there { is_gone self.old ≡ false }
-        ensures place { self.new.place ≡ self.old.place }
-        ensures first { self.new.first ≡ self.old.first }
-        ensures entries { OnOk result (self.new.entries ≡ with_found (steps N.Plain.wrapped N.Plain.unwrapped N.Plain.wrapped_tell N.Plain.told N.Plain.after) (before (steps N.Plain.wrapped N.Plain.unwrapped N.Plain.wrapped_tell N.Plain.told N.Plain.after) self.old) self.old.entries self.old.kept) }
-        ensures there { OnOk result (is_gone self.new ≡ false) }
-        ensures works { OnOk result (Works self.new) }
-        ensures err { OnErr result (self.new.entries ≡ self.old.entries) }
-        ensures trouble { IfErr result (λ fault. (fault ≡ NodeFault.Memory) ⊎ N.CanMeet fault) }
-    {
-        let Some(kept) = self.kept.take() else {
-            return Ok(());
-        };
-        repeat_law::<N::Plain>();
-        match served(alloc, &mut self.node, &mut self.journal, &kept.ask) {
-            Ok(tell) => {
-                let tell = N::Plain::wrap_tell(tell);
-                let ask = N::Plain::wrap(kept.ask);
-                self.journal.push_reserved(Entry {
-                    stamp: kept.stamp,
-                    act: Act::Asked {
-                        from: kept.from,
-                        ask,
-                        tell,
-                    },
-                });
-                Ok(())
-            }
-            Err(fault) => {
-                self.is_failed = fault == NodeFault::Device;
-                self.kept = Some(kept);
-                Err(fault)
-            }
-        }
-    }
-
-    /// Serves an ask and enters it.
-    fn serve_new(
-        &mut self,
-        alloc: Global,
-        stamp: Stamp,
-        from: NodeId,
-        ask: <N::Plain as Machine>::Ask,
-    ) -> Result<Tell, NodeFault>
-        requires works { Works self.old }
-        requires there { is_gone self.old ≡ false }
-        requires above { IsAbove self.old.entries stamp }
-        ensures place { self.new.place ≡ self.old.place }
-        ensures first { self.new.first ≡ self.old.first }
-        ensures told { IfOk result (λ tell. tell ≡ N.Plain.wrapped_tell (N.Plain.told self.old.state ask)) }
-        ensures entered { OnOk result (self.new.entries ≡ self.old.entries ++ record { stamp = stamp; act = Act.Asked from (N.Plain.wrapped ask) (N.Plain.wrapped_tell (N.Plain.told self.old.state ask)) } ∷ []) }
-        ensures state { OnOk result (self.new.state ≡ N.Plain.after self.old.state ask) }
-        ensures works { OnOk result (Works self.new) }
-        ensures err { IfErr result (λ fault. (self.new.entries ≡ self.old.entries) ⊎ ((fault ≡ NodeFault.Memory) × (self.new.entries ≡ self.old.entries ++ record { stamp = stamp; act = Act.Asked from (N.Plain.wrapped ask) (N.Plain.wrapped_tell (N.Plain.told self.old.state ask)) } ∷ []))) }
-        ensures trouble { IfErr result (λ fault. (fault ≡ NodeFault.Memory) ⊎ N.CanMeet fault) }
-    {
-        repeat_law::<N::Plain>();
-        match served(alloc, &mut self.node, &mut self.journal, &ask) {
-            Ok(tell) => {
-                let tell = N::Plain::wrap_tell(tell);
-                let handed = tell.copy();
-                let ask = N::Plain::wrap(ask);
-                self.journal.push_reserved(Entry {
-                    stamp,
-                    act: Act::Asked { from, ask, tell },
-                });
-                match handed {
-                    Ok(tell) => Ok(tell),
-                    Err(_) => Err(NodeFault::Memory),
-                }
-            }
-            Err(fault) => {
-                if fault == NodeFault::Device {
-                    self.is_failed = true;
-                    self.kept = Some(Kept {
-                        stamp,
-                        from,
-                        ask,
-                        found: false,
-                    });
-                }
-                Err(fault)
-            }
-        }
-    }
-
     /// Why no call is taken, where that is so.
     fn refusal(&self, stamp: Stamp) -> Option<CallFault>
         ensures value { result ≡ refusal_of self.now stamp }
@@ -248,103 +132,10 @@ where
         }
     }
 
-    /// Opens a node that stands failed again, and enters the ask that met the fault where it was taken.
-    fn settle(&mut self, alloc: Global) -> Result<(), NodeFault>
-        requires there { is_gone self.old ≡ false }
-        ensures place { self.new.place ≡ self.old.place }
-        ensures first { self.new.first ≡ self.old.first }
-        ensures settled { OnOk result (IsSettled (steps N.Plain.wrapped N.Plain.unwrapped N.Plain.wrapped_tell N.Plain.told N.Plain.after) self.old self.new.entries) }
-        ensures there { OnOk result (is_gone self.new ≡ false) }
-        ensures works { OnOk result (Works self.new) }
-        ensures stands { OnOk result (self.new.state ≡ before (steps N.Plain.wrapped N.Plain.unwrapped N.Plain.wrapped_tell N.Plain.told N.Plain.after) self.new) }
-        ensures err { OnErr result (self.new.entries ≡ self.old.entries) }
-        ensures trouble { IfErr result (λ fault. (fault ≡ NodeFault.Memory) ⊎ N.CanMeet fault) }
-    {
-        if self.is_failed {
-            match self.reopen(alloc) {
-                Ok(()) => {}
-                Err(fault) => return Err(fault),
-            }
-        }
-        match self.enter_found(alloc) {
-            Ok(()) => {
-                let _replays = self.journal();
-                Ok(())
-            }
-            Err(fault) => Err(fault),
-        }
-    }
-
-    /// Opens the node again, and enters the ask that met a fault where it was taken.
-    fn settle_crashed(&mut self, alloc: Global) -> Result<(), NodeFault>
-        requires there { is_gone self.old ≡ false }
-        ensures place { self.new.place ≡ self.old.place }
-        ensures first { self.new.first ≡ self.old.first }
-        ensures settled { OnOk result (IsSettled (steps N.Plain.wrapped N.Plain.unwrapped N.Plain.wrapped_tell N.Plain.told N.Plain.after) self.old self.new.entries) }
-        ensures there { OnOk result (is_gone self.new ≡ false) }
-        ensures works { OnOk result (Works self.new) }
-        ensures stands { OnOk result (self.new.state ≡ before (steps N.Plain.wrapped N.Plain.unwrapped N.Plain.wrapped_tell N.Plain.told N.Plain.after) self.new) }
-        ensures err { OnErr result (self.new.entries ≡ self.old.entries) }
-        ensures trouble { IfErr result (λ fault. (fault ≡ NodeFault.Memory) ⊎ N.CanMeet fault) }
-    {
-        match self.reopen(alloc) {
-            Ok(()) => {}
-            Err(fault) => return Err(fault),
-        }
-        match self.enter_found(alloc) {
-            Ok(()) => {
-                let _replays = self.journal();
-                Ok(())
-            }
-            Err(fault) => Err(fault),
-        }
-    }
-
-    /// Enters that the node crashed and stood up again.
-    fn enter_crashed(&mut self, stamp: Stamp) -> Result<(), NodeFault>
-        requires works { Works self.old }
-        requires there { is_gone self.old ≡ false }
-        requires above { IsAbove self.old.entries stamp }
-        ensures place { self.new.place ≡ self.old.place }
-        ensures first { self.new.first ≡ self.old.first }
-        ensures entered { OnOk result (self.new.entries ≡ self.old.entries ++ record { stamp = stamp; act = Act.Crashed } ∷ []) }
-        ensures works { OnOk result (Works self.new) }
-        ensures err { IfErr result (λ fault. (fault ≡ NodeFault.Memory) × (self.new.entries ≡ self.old.entries)) }
-    {
-        if self.journal.reserve().is_err() {
-            return Err(NodeFault::Memory);
-        }
-        self.is_gone = ends_by_crash(self.journal.node());
-        self.journal.push_reserved(Entry {
-            stamp,
-            act: Act::Crashed,
-        });
-        Ok(())
-    }
-
-    /// Enters that the node is lost.
-    fn enter_lost(&mut self, stamp: Stamp) -> Result<(), NodeFault>
-        requires works { Works self.old }
-        requires there { is_gone self.old ≡ false }
-        requires above { IsAbove self.old.entries stamp }
-        ensures place { self.new.place ≡ self.old.place }
-        ensures first { self.new.first ≡ self.old.first }
-        ensures entered { OnOk result (self.new.entries ≡ self.old.entries ++ record { stamp = stamp; act = Act.Lost } ∷ []) }
-        ensures works { OnOk result (Works self.new) }
-        ensures err { IfErr result (λ fault. (fault ≡ NodeFault.Memory) × (self.new.entries ≡ self.old.entries)) }
-    {
-        if self.journal.reserve().is_err() {
-            return Err(NodeFault::Memory);
-        }
-        self.is_gone = true;
-        self.journal.push_reserved(Entry {
-            stamp,
-            act: Act::Lost,
-        });
-        Ok(())
-    }
-
-    /// Asks the node.
+    /// Asks the node. A node that stands failed is opened again first, and the ask that met the fault is entered where
+    /// the node took it. The entry's stamp is one more than the greater of the caller's and the journal's last, and the
+    /// answer is that stamp and what the node told. A fault of the node enters nothing more; want of memory may be
+    /// answered when the ask was taken and entered.
     pub fn ask(
         &mut self,
         alloc: Global,
@@ -375,7 +166,9 @@ where
         }
     }
 
-    /// Crashes the node, which stands up again.
+    /// Crashes the node, which is opened again, failed or not; a sequencer is gone from then on. As before an ask, the
+    /// ask that met a fault is entered where the node took it, and then the crash, whose stamp is answered. Where the
+    /// node cannot be opened the fault is answered, and no crash is entered.
     pub fn crash(&mut self, alloc: Global, stamp: Stamp) -> Result<Stamp, CallFault>
         ensures place { self.new.place ≡ self.old.place }
         ensures first { self.new.first ≡ self.old.first }
@@ -400,7 +193,8 @@ where
         }
     }
 
-    /// The node is lost.
+    /// The node is lost, for good. A node that stands failed is opened again first, as before an ask. The answer is the
+    /// stamp of the entry; a fault enters no loss.
     pub fn lose(&mut self, alloc: Global, stamp: Stamp) -> Result<Stamp, CallFault>
         ensures place { self.new.place ≡ self.old.place }
         ensures first { self.new.first ≡ self.old.first }
@@ -423,5 +217,34 @@ where
             Ok(()) => Ok(at),
             Err(fault) => Err(CallFault::Node(fault)),
         }
+    }
+
+    /// The journal, closed with the state to which its entries lead. A node that stands failed is opened again, and the
+    /// ask that met the fault is entered where the node took it; where this fails, the fault is answered and the journal
+    /// is dropped.
+    pub fn into_journal(self, alloc: Global) -> Result<Journal, NodeFault>
+    where
+        N: Drop,
+        ensures place { IfOk result (λ journal. journal.node ≡ self.place) }
+        ensures settled { IfOk result (λ journal. IsSettled (steps N.Plain.wrapped N.Plain.unwrapped N.Plain.wrapped_tell N.Plain.told N.Plain.after) self journal.entries) }
+        ensures last { IfOk result (λ journal. journal.last ≡ Some (N.Plain.last_of (state_after (steps N.Plain.wrapped N.Plain.unwrapped N.Plain.wrapped_tell N.Plain.told N.Plain.after) self.first journal.entries))) }
+        ensures trouble { IfErr result (λ fault. (fault ≡ NodeFault.Memory) ⊎ N.CanMeet fault ⊎ ((fault ≡ NodeFault.Failed) × (is_gone self ≡ true))) }
+    {
+        let mut housed = self;
+        if housed.is_gone {
+            if housed.kept.is_some() {
+                return Err(NodeFault::Failed);
+            }
+        } else {
+            match housed.settle(alloc) {
+                Ok(()) => {}
+                Err(fault) => return Err(fault),
+            }
+        }
+        let _replays = housed.journal();
+        let last = housed.node.plain().last(alloc)?;
+        let mut journal = housed.journal;
+        journal.close(last);
+        Ok(journal)
     }
 }

@@ -1,0 +1,166 @@
+//! The thread of a ballot: its recoverer begins when the faults say so, and goes on until it is chosen or lost.
+use crate::fault::RunFault;
+use crate::notes::Notes;
+use crate::sending::{Hearer, send};
+use fr_ask::{Ask, Tell};
+use fr_base::{Ballot, InMemory, Memory, Node, NodeId, Stamp};
+use fr_config::Config;
+use fr_epoch::{Phase, Recoverer};
+use fr_housing::Housed;
+use fr_journal::{Act, Journal};
+use fr_last::last_of_recoverer;
+use fr_log::Log;
+use fr_proxy::Sequencer;
+use fr_register::Cell;
+use fr_station::{Chosen, Directory, Faults, first_stamp};
+use std::alloc::Global;
+use std::sync::Wait;
+
+/// A recoverer and its journal.
+#[derive(Drop)]
+struct Recovery {
+    recoverer: Recoverer,
+    notes: Notes,
+}
+
+impl Hearer for Recovery {
+    fn place(&self) -> NodeId {
+        self.notes.place()
+    }
+
+    fn now(&self) -> Stamp {
+        self.notes.now()
+    }
+
+    fn hear(&mut self, alloc: Global, at: Stamp, from: NodeId, tell: Tell) -> Result<(), RunFault> {
+        self.notes.see(at);
+        let Some(stamp) = self.notes.next()? else {
+            return Ok(());
+        };
+        let heard = tell.copy()?;
+        let _asks = self.recoverer.hear(alloc, from, heard)?;
+        self.notes.enter(
+            stamp,
+            Act::Heard {
+                from,
+                tell,
+                taken: None,
+                outcome: None,
+            },
+        )?;
+        Ok(())
+    }
+}
+
+/// How much of a recovery was published.
+#[derive(Clone, Copy, PartialEq, Eq)]
+enum Shown {
+    Nothing,
+    Logs,
+    Epoch,
+}
+
+/// Begins a recoverer, at the stamp after the first.
+fn begin(alloc: Global, config: &Config, ballot: Ballot) -> Result<Option<Recovery>, RunFault> {
+    let mut notes = Notes::new(alloc, NodeId::Recoverer { ballot }, first_stamp());
+    let Some(stamp) = notes.next()? else {
+        return Ok(None);
+    };
+    let map = config.map().copy()?;
+    let recoverer = Recoverer::begin(alloc, ballot, config.coordinators(), map);
+    notes.enter(stamp, Act::Begun)?;
+    Ok(Some(Recovery { recoverer, notes }))
+}
+
+/// Publishes what a recoverer has come to: its logs once all is copied, its epoch once its state is chosen.
+fn show<R: Wait, C: Node<Plain = Cell> + Drop, L: Node<Plain = Log> + Drop>(
+    rt: &R,
+    alloc: Global,
+    directory: &Directory<C, L>,
+    recovery: &Recovery,
+    shown: Shown,
+) -> Result<Shown, RunFault> {
+    let Some(generation) = recovery.recoverer.generation() else {
+        return Ok(shown);
+    };
+    let stamp = recovery.notes.now();
+    let mut shown = shown;
+    if shown == Shown::Nothing && recovery.recoverer.is_copied() {
+        directory.publish_logs(rt, generation.epoch(), stamp)?;
+        shown = Shown::Logs;
+    }
+    if shown == Shown::Logs && recovery.recoverer.is_chosen() {
+        if let Some(last) = generation.seeded_to().after() {
+            let epoch = generation.epoch();
+            let sequencer = InMemory::new(Sequencer::new(alloc, epoch, last));
+            let housed = Housed::new(alloc, sequencer, NodeId::Sequencer { epoch });
+            directory.publish_epoch(rt, housed, Chosen { generation, stamp })?;
+            shown = Shown::Epoch;
+        }
+    }
+    Ok(shown)
+}
+
+/// One turn: each pending ask is sent once.
+fn turn<R: Wait, C: Node<Plain = Cell> + Drop, L: Node<Plain = Log> + Drop, F: Faults>(
+    rt: &R,
+    alloc: Global,
+    directory: &Directory<C, L>,
+    faults: &F,
+    recovery: &mut Recovery,
+    shown: Shown,
+) -> Result<Shown, RunFault> {
+    let mut shown = shown;
+    let asks = recovery.recoverer.pending(alloc)?;
+    for (to, ask) in asks.iter() {
+        send(rt, alloc, directory, faults, recovery, *to, ask)?;
+        shown = show(rt, alloc, directory, recovery, shown)?;
+    }
+    Ok(shown)
+}
+
+/// Whether nothing is left to do: the recoverer is lost, or chosen with its marks held.
+fn is_done(alloc: Global, recovery: &Recovery) -> Result<bool, Memory> {
+    match recovery.recoverer.phase() {
+        Phase::Lost { .. } => Ok(true),
+        Phase::Chosen { .. } => Ok(recovery.recoverer.pending(alloc)?.is_empty()),
+        _ => Ok(false),
+    }
+}
+
+/// The turns of a ballot, and the journal of its recoverer, if that began.
+pub(crate) fn recover<
+    R: Wait,
+    C: Node<Plain = Cell> + Drop,
+    L: Node<Plain = Log> + Drop,
+    F: Faults,
+>(
+    rt: &R,
+    alloc: Global,
+    config: &Config,
+    directory: &Directory<C, L>,
+    faults: &F,
+    ballot: Ballot,
+    turns: u32,
+) -> Result<Option<Journal>, RunFault> {
+    let mut begun: Option<Recovery> = None;
+    let mut shown = Shown::Nothing;
+    for number in 1..=turns {
+        if begun.is_none() && faults.begins(ballot, number) {
+            begun = begin(alloc, config, ballot)?;
+        }
+        if let Some(recovery) = begun.as_mut() {
+            shown = turn(rt, alloc, directory, faults, recovery, shown)?;
+            if is_done(alloc, recovery)? {
+                break;
+            }
+        }
+    }
+    match begun {
+        Some(Recovery { recoverer, notes }) => {
+            let last = last_of_recoverer(alloc, &recoverer)?;
+            Ok(Some(notes.close(last)))
+        }
+        None => Ok(None),
+    }
+}

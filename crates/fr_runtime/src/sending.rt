@@ -1,0 +1,97 @@
+//! Asks on their way, and what befalls them.
+use crate::fault::RunFault;
+use fr_ask::{Ask, Tell};
+use fr_base::{Memory, Node, NodeId, Stamp};
+use fr_log::Log;
+use fr_register::Cell;
+use fr_station::{Directory, Faults, Verdict};
+use std::alloc::Global;
+use std::sync::Wait;
+
+/// A node that sends asks and hears what it is told.
+pub(crate) trait Hearer {
+    /// The node.
+    fn place(&self) -> NodeId;
+
+    /// The greatest stamp that its thread has seen.
+    fn now(&self) -> Stamp;
+
+    /// Hears what a node told at this stamp.
+    fn hear(&mut self, alloc: Global, at: Stamp, from: NodeId, tell: Tell) -> Result<(), RunFault>;
+}
+
+/// Sends an ask, and has its sender hear what it is told, as the faults say.
+pub(crate) fn send<
+    R: Wait,
+    C: Node<Plain = Cell> + Drop,
+    L: Node<Plain = Log> + Drop,
+    F: Faults,
+    H: Hearer,
+>(
+    rt: &R,
+    alloc: Global,
+    directory: &Directory<C, L>,
+    faults: &F,
+    hearer: &mut H,
+    to: NodeId,
+    ask: &Ask,
+) -> Result<(), RunFault> {
+    match faults.verdict(to, ask) {
+        Verdict::DropAsk => Ok(()),
+        Verdict::DropTell => {
+            let _lost = call(rt, alloc, directory, faults, hearer, to, ask)?;
+            Ok(())
+        }
+        Verdict::Pass => exchange(rt, alloc, directory, faults, hearer, to, ask),
+        Verdict::Twice => {
+            exchange(rt, alloc, directory, faults, hearer, to, ask)?;
+            exchange(rt, alloc, directory, faults, hearer, to, ask)
+        }
+    }
+}
+
+/// Calls a node, and has the caller hear what it is told.
+fn exchange<
+    R: Wait,
+    C: Node<Plain = Cell> + Drop,
+    L: Node<Plain = Log> + Drop,
+    F: Faults,
+    H: Hearer,
+>(
+    rt: &R,
+    alloc: Global,
+    directory: &Directory<C, L>,
+    faults: &F,
+    hearer: &mut H,
+    to: NodeId,
+    ask: &Ask,
+) -> Result<(), RunFault> {
+    match call(rt, alloc, directory, faults, hearer, to, ask)? {
+        Some((at, tell)) => hearer.hear(alloc, at, to, tell),
+        None => Ok(()),
+    }
+}
+
+/// Calls a node: what it told, and the stamp of that. A call that is refused tells nothing.
+fn call<
+    R: Wait,
+    C: Node<Plain = Cell> + Drop,
+    L: Node<Plain = Log> + Drop,
+    F: Faults,
+    H: Hearer,
+>(
+    rt: &R,
+    alloc: Global,
+    directory: &Directory<C, L>,
+    faults: &F,
+    hearer: &H,
+    to: NodeId,
+    ask: &Ask,
+) -> Result<Option<(Stamp, Tell)>, Memory> {
+    let sent = ask.copy()?;
+    let told = directory.call(rt, alloc, hearer.now(), hearer.place(), to, sent);
+    if told.is_some() {
+        faults.answered(to, ask);
+    }
+    Ok(told)
+}

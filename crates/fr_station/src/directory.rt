@@ -1,0 +1,273 @@
+//! All nodes that answer asks, where threads find them.
+ghost use Rattle.std.specs.Prelude.{◌≡◌, ◌<◌, IfSome};
+
+use crate::published::{Chosen, Published};
+use crate::station::Station;
+use fr_ask::{Ask, SeqAsk, Tell};
+use fr_base::{Epoch, InMemory, LogId, Memory, Node, NodeFault, NodeId, Stamp};
+use fr_housing::Housed;
+use fr_journal::Journal;
+use fr_log::{Log, LogAsk};
+use fr_proxy::Sequencer;
+use fr_register::{Cell, CellAsk};
+use fr_state::Generation;
+use std::alloc::Global;
+use std::sync::{Mutex, OnceLock, Wait};
+
+/// The cells, logs and sequencers of a cluster, which its threads share. The logs of all epochs that may come are made
+/// before the threads start, and so are the places of their sequencers; a node of a later epoch is found once its
+/// recoverer has published it, with the stamp from which on it is there.
+#[derive(Drop)]
+pub struct Directory<C: Node<Plain = Cell>, L: Node<Plain = Log>> {
+    cells: Vec<Station<C>>,
+    logs: Vec<Station<L>>,
+    sequencers: Vec<OnceLock<Station<InMemory<Sequencer>>>>,
+    epochs: Vec<Epoch>,
+    each: u8,
+    published: Mutex<Published>,
+}
+
+impl<C: Node<Plain = Cell> + Drop, L: Node<Plain = Log> + Drop> Directory<C, L> {
+    /// A directory of these cells and of the logs of these epochs, `each` of them in an epoch. The first epoch is that
+    /// of the start, with its generation and its sequencer.
+    pub fn new(
+        alloc: Global,
+        cells: Vec<Station<C>>,
+        logs: Vec<Station<L>>,
+        epochs: Vec<Epoch>,
+        first: Generation,
+    ) -> Result<Self, Memory> {
+        let mut sequencers = Vec::with_capacity(alloc, epochs.len())?;
+        for _ in 0..epochs.len() {
+            sequencers.push(OnceLock::new())?;
+        }
+        Ok(Directory {
+            cells,
+            logs,
+            sequencers,
+            epochs,
+            each: first.m(),
+            published: Mutex::new(Published::new(alloc, first)),
+        })
+    }
+
+    /// The place of an epoch among those that may come.
+    fn place_of(&self, epoch: Epoch) -> Option<usize> {
+        self.epochs.iter().position(|other| *other == epoch)
+    }
+
+    /// The cell of a number.
+    pub fn cell(&self, index: u8) -> Option<&Station<C>> {
+        self.cells.get(usize::from(index))
+    }
+
+    /// A log, once it is there, with the stamp from which on it is.
+    pub fn log<R: Wait>(&self, rt: &R, id: LogId) -> Option<(&Station<L>, Stamp)> {
+        let stamp = self.published.lock(rt).seeded_at(id.epoch)?;
+        if id.index >= self.each {
+            return None;
+        }
+        let place = self.place_of(id.epoch)?;
+        let number = place
+            .checked_mul(usize::from(self.each))?
+            .checked_add(usize::from(id.index))?;
+        let log = self.logs.get(number)?;
+        Some((log, stamp))
+    }
+
+    /// The sequencer of an epoch, once it is there, with the stamp from which on it is.
+    pub fn sequencer<R: Wait>(
+        &self,
+        rt: &R,
+        epoch: Epoch,
+    ) -> Option<(&Station<InMemory<Sequencer>>, Stamp)> {
+        let stamp = self.published.lock(rt).chosen_at(epoch)?;
+        let place = self.place_of(epoch)?;
+        let sequencer = self.sequencers.get(place)?.get()?;
+        Some((sequencer, stamp))
+    }
+
+    /// The chosen generations, that of the start first, each with the stamp from which on it is.
+    pub fn epochs<R: Wait>(&self, rt: &R, alloc: Global) -> Result<Vec<Chosen>, Memory> {
+        self.published.lock(rt).epochs(alloc)
+    }
+
+    /// The chosen generation of the greatest epoch.
+    pub fn newest<R: Wait>(&self, rt: &R) -> Chosen {
+        self.published.lock(rt).newest()
+    }
+
+    /// The logs of an epoch are there from this stamp on.
+    pub fn publish_logs<R: Wait>(&self, rt: &R, epoch: Epoch, stamp: Stamp) -> Result<(), Memory> {
+        self.published.lock(rt).seed(epoch, stamp)
+    }
+
+    /// The sequencer of the first epoch.
+    pub fn start<R: Wait>(&self, rt: &R, sequencer: Housed<InMemory<Sequencer>>) {
+        if let Some(lock) = self.sequencers.first() {
+            let _ = lock.set(rt, Station::new(sequencer)).is_ok();
+        }
+    }
+
+    /// The state of a generation is chosen at this stamp: its sequencer is there from then on.
+    pub fn publish_epoch<R: Wait>(
+        &self,
+        rt: &R,
+        sequencer: Housed<InMemory<Sequencer>>,
+        chosen: Chosen,
+    ) -> Result<(), Memory> {
+        if let Some(place) = self.place_of(chosen.generation.epoch()) {
+            if let Some(lock) = self.sequencers.get(place) {
+                let _ = lock.set(rt, Station::new(sequencer)).is_ok();
+            }
+        }
+        self.published.lock(rt).choose(chosen)
+    }
+
+    /// Asks a node for one of this stamp, where the node is there and the ask is one of its kind. The answer's stamp is
+    /// above the caller's and above the one from which on the node is there. A fault of the node is no answer.
+    pub fn call<R: Wait>(
+        &self,
+        rt: &R,
+        alloc: Global,
+        stamp: Stamp,
+        from: NodeId,
+        to: NodeId,
+        ask: Ask,
+    ) -> Option<(Stamp, Tell)>
+        ensures { IfSome result (λ told. stamp < told.0) }
+    {
+        match (to, ask) {
+            (NodeId::Cell { index }, Ask::Cell(ask)) => self.call_cell(
+                rt, alloc, stamp, from, index, ask,
+            ),
+            (NodeId::Log { epoch, index }, Ask::Log(ask)) => {
+                self.call_log(rt, alloc, stamp, from, LogId { epoch, index }, ask)
+            }
+            (NodeId::Sequencer { epoch }, Ask::Seq(ask)) => {
+                self.call_sequencer(rt, alloc, stamp, from, epoch, ask)
+            }
+            _ => None,
+        }
+    }
+
+    fn call_cell<R: Wait>(
+        &self,
+        rt: &R,
+        alloc: Global,
+        stamp: Stamp,
+        from: NodeId,
+        index: u8,
+        ask: CellAsk,
+    ) -> Option<(Stamp, Tell)>
+        ensures { IfSome result (λ told. stamp < told.0) }
+    {
+        let cell = self.cell(index)?;
+        cell.call(rt, alloc, stamp, from, ask).ok()
+    }
+
+    fn call_log<R: Wait>(
+        &self,
+        rt: &R,
+        alloc: Global,
+        stamp: Stamp,
+        from: NodeId,
+        id: LogId,
+        ask: LogAsk,
+    ) -> Option<(Stamp, Tell)>
+        ensures { IfSome result (λ told. stamp < told.0) }
+    {
+        let (log, there) = self.log(rt, id)?;
+        log.call(rt, alloc, stamp.max(there), from, ask).ok()
+    }
+
+    fn call_sequencer<R: Wait>(
+        &self,
+        rt: &R,
+        alloc: Global,
+        stamp: Stamp,
+        from: NodeId,
+        epoch: Epoch,
+        ask: SeqAsk,
+    ) -> Option<(Stamp, Tell)>
+        ensures { IfSome result (λ told. stamp < told.0) }
+    {
+        let (sequencer, there) = self.sequencer(rt, epoch)?;
+        sequencer.call(rt, alloc, stamp.max(there), from, ask).ok()
+    }
+
+    /// Crashes a cell, a log or a sequencer that is there, and answers the stamp of that. Another node is passed over.
+    pub fn crash<R: Wait>(&self, rt: &R, alloc: Global, stamp: Stamp, node: NodeId) -> Option<Stamp>
+        ensures { IfSome result (λ at. stamp < at) }
+    {
+        match node {
+            NodeId::Cell { index } => {
+                let cell = self.cell(index)?;
+                cell.crash(rt, alloc, stamp).ok()
+            }
+            NodeId::Log { epoch, index } => {
+                let (log, there) = self.log(rt, LogId { epoch, index })?;
+                log.crash(rt, alloc, stamp.max(there)).ok()
+            }
+            NodeId::Sequencer { epoch } => {
+                let (sequencer, there) = self.sequencer(rt, epoch)?;
+                sequencer.crash(rt, alloc, stamp.max(there)).ok()
+            }
+            _ => None,
+        }
+    }
+
+    /// The journals of the nodes, each closed with its node's state: the cells', the logs' and the sequencers'. Those of
+    /// later epochs in which nothing was entered are left out.
+    pub fn into_journals(self, alloc: Global) -> Result<Vec<Journal>, NodeFault> {
+        let Directory {
+            cells,
+            logs,
+            sequencers,
+            epochs: _,
+            each,
+            published: _,
+        } = self;
+        let mut journals = Vec::new(alloc);
+        let all = cells.len();
+        close_all(alloc, cells, all, &mut journals)?;
+        close_all(alloc, logs, usize::from(each), &mut journals)?;
+        let mut started = Vec::new(alloc);
+        for sequencer in sequencers {
+            if let Some(station) = sequencer.into_inner() {
+                put(&mut started, station)?;
+            }
+        }
+        close_all(alloc, started, 1, &mut journals)?;
+        Ok(journals)
+    }
+}
+
+/// Puts the closed journals of stations to others: of the first `all` of them each, of the others those with an entry.
+fn close_all<N: Node>(
+    alloc: Global,
+    stations: Vec<Station<N>>,
+    all: usize,
+    journals: &mut Vec<Journal>,
+) -> Result<(), NodeFault>
+where
+    N: Drop,
+    N::Plain: fr_housing::Housable,
+    <N::Plain as fr_base::Machine>::Ask: Drop,
+{
+    let mut number = 0;
+    for station in stations {
+        let journal = station.into_inner().into_journal(alloc)?;
+        if number < all || !journal.entries().is_empty() {
+            put(journals, journal)?;
+        }
+        number += 1;
+    }
+    Ok(())
+}
+
+/// Puts an item behind the others.
+fn put<T: Drop>(all: &mut Vec<T>, item: T) -> Result<(), Memory> {
+    all.push(item)?;
+    Ok(())
+}

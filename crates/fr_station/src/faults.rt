@@ -1,0 +1,65 @@
+//! What befalls asks and nodes while threads run, and when recoverers begin.
+ghost use Rattle.std.specs.Prelude.{◌≡◌};
+
+use fr_ask::Ask;
+use fr_base::{Ballot, NodeId};
+
+/// What befalls an ask on its way.
+#[derive(Clone, Copy, Debug, PartialEq, Eq)]
+pub enum Verdict {
+    /// It comes to its node, and what the node tells is heard.
+    Pass,
+    /// It is lost.
+    DropAsk,
+    /// It comes to its node, and what the node tells is lost.
+    DropTell,
+    /// It comes to its node twice, and each tell is heard.
+    Twice,
+}
+
+/// What befalls asks and nodes, and when recoverers begin. It is asked by the thread whose turn it is, with no lock held.
+pub trait Faults {
+    ghost use Rattle.std.specs.Prelude.{ℕ, Bool};
+
+    /// Whether the recoverer of a ballot may begin at a turn.
+    ghost begun: { Self → ℕ → ℕ → Bool };
+
+    /// What befalls this ask to a node.
+    fn verdict(&self, to: NodeId, ask: &Ask) -> Verdict;
+
+    /// The node told what it was asked.
+    fn answered(&self, to: NodeId, ask: &Ask);
+
+    /// The node that crashes at this turn of the thread of crashes.
+    fn crash(&self, turn: u32) -> Option<NodeId>;
+
+    /// Whether the recoverer of this ballot, if it did not begin before, begins at this turn of its thread.
+    fn begins(&self, ballot: Ballot, turn: u32) -> bool
+        ensures { result ≡ begun self.now ballot turn };
+}
+
+/// No ask is lost and no node crashes. The recoverer of a ballot whose round is r begins at turn 100 (r - 1): that of
+/// round 2, the first after the start's, at turn 100.
+#[derive(Clone, Copy, Debug)]
+pub struct NoFaults;
+
+impl Faults for NoFaults {
+    ghost use Rattle.std.specs.Prelude.{◌≡◌, ◌+◌, ◌*◌, ◌/◌, ◌==◌};
+
+    ghost begun = { λ f ballot turn. turn + 100 == 100 * (ballot / 256) };
+
+    fn verdict(&self, _to: NodeId, _ask: &Ask) -> Verdict {
+        Verdict::Pass
+    }
+
+    fn answered(&self, _to: NodeId, _ask: &Ask) {}
+
+    fn crash(&self, _turn: u32) -> Option<NodeId> {
+        None
+    }
+
+    fn begins(&self, ballot: Ballot, turn: u32) -> bool {
+        let number = ballot.get();
+        u64::from(turn) + 100 == 100 * (number / 256)
+    }
+}

@@ -1,0 +1,12 @@
+//! What threads share: nodes with their journals behind locks, which of them are there, and the faults that they meet.
+#![tactic(auto)]
+
+mod directory;
+mod faults;
+mod published;
+mod station;
+
+pub use directory::Directory;
+pub use faults::{Faults, NoFaults, Verdict};
+pub use published::{Chosen, Published, first_stamp};
+pub use station::{Station, stations};
