@@ -1,14 +1,9 @@
 //! The running cluster.
 ghost use Rattle.std.specs.Prelude.{◌≡◌, IfOk};
 
-use crate::client::{Served, serve};
-use crate::crashes::crash;
 use crate::fault::RunFault;
 use crate::prepare::{directory, first_generation, storages};
-use crate::pull::pull;
 use crate::rack::Rack;
-use crate::recovery::recover;
-use crate::workload::Workload;
 use fr_audit::audit;
 use fr_base::Ballot;
 use fr_config::Config;
@@ -16,6 +11,7 @@ use fr_journal::Journal;
 use fr_proxy::Outcome;
 use fr_station::Faults;
 use fr_storage::Storage;
+use fr_threads::{Served, Workload, crash, pull, recover, serve};
 use fr_world::World;
 use std::alloc::Global;
 use std::sync::Wait;
@@ -64,7 +60,7 @@ impl Cluster {
         let shared = &directory;
         let settings = &config;
         let client = |job: Job<W>| serve(rt, alloc, settings, first, shared, faults, job.number, job.work, turns);
-        let puller = |storage: Storage<K::Store>| pull(rt, alloc, shared, faults, storage, turns);
+        let puller = |storage: Storage<K::Store>| pull(rt, alloc, settings, shared, faults, storage, turns);
         let recoverer = |number: usize| recover(rt, alloc, settings, shared, faults, ballots[number], turns);
         let (served, (pulled, (recovered, ()))) = join(
             rt,
@@ -87,7 +83,7 @@ impl Cluster {
         let mut told = Vec::new(alloc);
         let mut works = Vec::new(alloc);
         for served in served.map_err(|_| RunFault::Memory)? {
-            let Served { work, journals: owned, told: heard } = served?;
+            let Served { work, journals: owned, told: heard, .. } = served?;
             for journal in owned {
                 journals.push(journal).map_err(|_| RunFault::Memory)?;
             }

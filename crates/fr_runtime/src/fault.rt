@@ -2,6 +2,7 @@
 use fr_audit::AuditFault;
 use fr_base::{Memory as NoMemory, NodeFault};
 use fr_storage::StorageFault;
+use fr_threads::TurnFault;
 use fr_undo::StoreFault;
 use thiserror::Error;
 
@@ -38,6 +39,15 @@ impl From<NodeFault> for RunFault {
         match fault {
             NodeFault::Memory => RunFault::Memory,
             _ => RunFault::Rack,
+        }
+    }
+}
+
+impl From<TurnFault> for RunFault {
+    fn from(fault: TurnFault) -> RunFault {
+        match fault {
+            TurnFault::Memory => RunFault::Memory,
+            TurnFault::Store => RunFault::Rack,
         }
     }
 }

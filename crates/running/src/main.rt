@@ -5,7 +5,8 @@ use fr_base::{Ballot, Bytes, Memory, Step};
 use fr_config::Config;
 use fr_mutation::{Batch, Mutation};
 use fr_proxy::Outcome;
-use fr_runtime::{Cluster, PlainRack, RunFault, Workload};
+use fr_runtime::{Cluster, PlainRack};
+use fr_threads::Workload;
 use fr_station::NoFaults;
 use std::alloc::Global;
 

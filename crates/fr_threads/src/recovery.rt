@@ -1,5 +1,8 @@
 //! The thread of a ballot: its recoverer begins when the faults say so, and goes on until it is chosen or lost.
-use crate::fault::RunFault;
+ghost use Rattle.std.specs.Prelude.{◌≡◌, ◌≢◌, ◌≤◌, ℕ, IfOk, IfSome, IsSome, IsTrue, true};
+ghost use Rattle.fr_base.specs.declared.place.NodeId.{NodeId};
+ghost use Rattle.fr_threads.specs.Hears.{OnlyHears, StartsWithBegun};
+use crate::fault::TurnFault;
 use crate::notes::Notes;
 use crate::sending::{Hearer, send};
 use fr_ask::{Ask, Tell};
@@ -24,6 +27,10 @@ struct Recovery {
 }
 
 impl Hearer for Recovery {
+    ghost node = { λ r. r.notes.journal.node };
+
+    ghost entries = { λ r. r.notes.journal.entries };
+
     fn place(&self) -> NodeId {
         self.notes.place()
     }
@@ -32,7 +39,7 @@ impl Hearer for Recovery {
         self.notes.now()
     }
 
-    fn hear(&mut self, alloc: Global, at: Stamp, from: NodeId, tell: Tell) -> Result<(), RunFault> {
+    fn hear(&mut self, alloc: Global, at: Stamp, from: NodeId, tell: Tell) -> Result<(), TurnFault> {
         self.notes.see(at);
         let Some(stamp) = self.notes.next()? else {
             return Ok(());
@@ -47,7 +54,7 @@ impl Hearer for Recovery {
                 taken: None,
                 outcome: None,
             },
-        )?;
+        );
         Ok(())
     }
 }
@@ -61,15 +68,15 @@ enum Shown {
 }
 
 /// Begins a recoverer, at the stamp after the first.
-fn begin(alloc: Global, config: &Config, ballot: Ballot) -> Result<Option<Recovery>, RunFault> {
-    let mut notes = Notes::new(alloc, NodeId::Recoverer { ballot }, first_stamp());
-    let Some(stamp) = notes.next()? else {
-        return Ok(None);
-    };
+fn begin(alloc: Global, config: &Config, ballot: Ballot) -> Result<Recovery, Memory>
+    requires used { ballot ≢ 0 }
+    ensures node { IfOk result (λ begun. begun.notes.journal.node ≡ NodeId.Recoverer ballot) }
+    ensures begun { IfOk result (λ begun. StartsWithBegun begun.notes.journal.entries) }
+{
     let map = config.map().copy()?;
     let recoverer = Recoverer::begin(alloc, ballot, config.coordinators(), map);
-    notes.enter(stamp, Act::Begun)?;
-    Ok(Some(Recovery { recoverer, notes }))
+    let notes = Notes::begun(alloc, NodeId::Recoverer { ballot })?;
+    Ok(Recovery { recoverer, notes })
 }
 
 /// Publishes what a recoverer has come to: its logs once all is copied, its epoch once its state is chosen.
@@ -79,7 +86,7 @@ fn show<R: Wait, C: Node<Plain = Cell> + Drop, L: Node<Plain = Log> + Drop>(
     directory: &Directory<C, L>,
     recovery: &Recovery,
     shown: Shown,
-) -> Result<Shown, RunFault> {
+) -> Result<Shown, TurnFault> {
     let Some(generation) = recovery.recoverer.generation() else {
         return Ok(shown);
     };
@@ -102,14 +109,17 @@ fn show<R: Wait, C: Node<Plain = Cell> + Drop, L: Node<Plain = Log> + Drop>(
 }
 
 /// One turn: each pending ask is sent once.
-fn turn<R: Wait, C: Node<Plain = Cell> + Drop, L: Node<Plain = Log> + Drop, F: Faults>(
+fn recover_once<R: Wait, C: Node<Plain = Cell> + Drop, L: Node<Plain = Log> + Drop, F: Faults>(
     rt: &R,
     alloc: Global,
     directory: &Directory<C, L>,
     faults: &F,
     recovery: &mut Recovery,
     shown: Shown,
-) -> Result<Shown, RunFault> {
+) -> Result<Shown, TurnFault>
+    ensures node { recovery.new.notes.journal.node ≡ recovery.old.notes.journal.node }
+    ensures hears { OnlyHears recovery.old.notes.journal.entries recovery.new.notes.journal.entries }
+{
     let mut shown = shown;
     let asks = recovery.recoverer.pending(alloc)?;
     for (to, ask) in asks.iter() {
@@ -129,7 +139,7 @@ fn is_done(alloc: Global, recovery: &Recovery) -> Result<bool, Memory> {
 }
 
 /// The turns of a ballot, and the journal of its recoverer, if that began.
-pub(crate) fn recover<
+pub fn recover<
     R: Wait,
     C: Node<Plain = Cell> + Drop,
     L: Node<Plain = Log> + Drop,
@@ -142,15 +152,22 @@ pub(crate) fn recover<
     faults: &F,
     ballot: Ballot,
     turns: u32,
-) -> Result<Option<Journal>, RunFault> {
+) -> Result<Option<Journal>, TurnFault>
+    ensures place { IfOk result (λ done. IfSome done (λ journal. journal.node ≡ NodeId.Recoverer ballot)) }
+    ensures begun { IfOk result (λ done. IfSome done (λ journal. StartsWithBegun journal.entries)) }
+    ensures begins { ballot ≢ 0 → (turn : ℕ) → 1 ≤ turn → turn ≤ turns → F.begun faults.now ballot turn ≡ true → IfOk result (λ done. IsSome done) }
+{
+    if ballot.epoch().is_none() {
+        return Ok(None);
+    }
     let mut begun: Option<Recovery> = None;
     let mut shown = Shown::Nothing;
     for number in 1..=turns {
         if begun.is_none() && faults.begins(ballot, number) {
-            begun = begin(alloc, config, ballot)?;
+            begun = Some(begin(alloc, config, ballot)?);
         }
         if let Some(recovery) = begun.as_mut() {
-            shown = turn(rt, alloc, directory, faults, recovery, shown)?;
+            shown = recover_once(rt, alloc, directory, faults, recovery, shown)?;
             if is_done(alloc, recovery)? {
                 break;
             }

@@ -1,14 +1,17 @@
 //! The thread of a storage server: it pulls what its logs hold, and hears of later epochs.
-use crate::fault::RunFault;
+ghost use Rattle.std.specs.Prelude.{◌≡◌, IfOk, false};
+ghost use Rattle.fr_base.specs.declared.place.NodeId.{NodeId};
+ghost use Rattle.fr_threads.specs.Hears.{AreHears, OnlyHears};
+use crate::fault::{TurnFault, fault_of};
 use crate::notes::Notes;
 use crate::sending::{Hearer, send};
 use fr_ask::{Ask, Tell};
-use fr_base::{Epoch, Memory, Node, NodeId, Stamp};
+use fr_base::{Node, NodeId, Stamp};
+use fr_config::Config;
 use fr_journal::{Act, Journal};
 use fr_last::last_of_storage;
 use fr_log::{Log, LogAsk, LogTell};
 use fr_register::Cell;
-use fr_state::{CoordState, Generation};
 use fr_station::{Directory, Faults, first_stamp};
 use fr_storage::{Storage, StorageFault};
 use fr_undo::ShardStore;
@@ -23,6 +26,10 @@ struct Puller<S: ShardStore> {
 }
 
 impl<S: ShardStore> Hearer for Puller<S> {
+    ghost node = { λ p. p.notes.journal.node };
+
+    ghost entries = { λ p. p.notes.journal.entries };
+
     fn place(&self) -> NodeId {
         self.notes.place()
     }
@@ -31,7 +38,7 @@ impl<S: ShardStore> Hearer for Puller<S> {
         self.notes.now()
     }
 
-    fn hear(&mut self, alloc: Global, at: Stamp, from: NodeId, tell: Tell) -> Result<(), RunFault> {
+    fn hear(&mut self, alloc: Global, at: Stamp, from: NodeId, tell: Tell) -> Result<(), TurnFault> {
         self.notes.see(at);
         let Some(stamp) = self.notes.next()? else {
             return Ok(());
@@ -45,7 +52,7 @@ impl<S: ShardStore> Hearer for Puller<S> {
                 taken: None,
                 outcome: None,
             },
-        )?;
+        );
         Ok(())
     }
 }
@@ -56,7 +63,7 @@ fn tell_storage<S: ShardStore>(
     storage: &mut Storage<S>,
     from: NodeId,
     tell: &Tell,
-) -> Result<(), RunFault> {
+) -> Result<(), TurnFault> {
     match (from, tell) {
         (NodeId::Log { epoch, .. }, Tell::Log(LogTell::Peeked(peeked))) => {
             refused(storage.hear_peeked(alloc, epoch, peeked))
@@ -70,28 +77,24 @@ fn tell_storage<S: ShardStore>(
 }
 
 /// A refusal of what was heard is no fault of the store.
-fn refused(heard: Result<(), StorageFault>) -> Result<(), RunFault> {
+fn refused(heard: Result<(), StorageFault>) -> Result<(), TurnFault> {
     match heard {
-        Err(StorageFault::Store(fault)) => Err(RunFault::from(StorageFault::Store(fault))),
+        Err(StorageFault::Store(fault)) => Err(fault_of(fault)),
         _ => Ok(()),
     }
 }
 
-/// The generation of an epoch in a state.
-fn generation_of(state: &CoordState, epoch: Epoch) -> Option<Generation> {
-    state.gens().iter().copied().find(|generation| generation.epoch() == epoch)
-}
-
-/// The log that holds a storage server's tag, of those of the generation that it asks next, whose turn it is.
-fn holder<S: ShardStore>(storage: &Storage<S>, epoch: Epoch, turn: u32) -> Option<NodeId> {
-    let generation = generation_of(storage.state(), epoch)?;
-    let by_turn = (turn % u32::from(generation.k())) as u8;
-    let index = (storage.tag().get() + by_turn) % generation.m();
-    Some(NodeId::Log { epoch, index })
+/// Which of so many logs is asked at a turn, after those of this number.
+fn by_turn(config: &Config, first: u8, turn: u32, count: u8) -> u8
+    requires some { 1 ≤ count }
+{
+    let _within = config.coordinators();
+    let number = u64::from(first) + u64::from(turn % u32::from(count));
+    (number % u64::from(config.logs())) as u8
 }
 
 /// One turn: it pulls from a holder of its tag, and asks a log of the newest epoch for its mark.
-fn turn<
+fn pull_once<
     R: Wait,
     C: Node<Plain = Cell> + Drop,
     L: Node<Plain = Log> + Drop,
@@ -100,25 +103,30 @@ fn turn<
 >(
     rt: &R,
     alloc: Global,
+    config: &Config,
     directory: &Directory<C, L>,
     faults: &F,
     puller: &mut Puller<S>,
     turn: u32,
-) -> Result<(), RunFault> {
+) -> Result<(), TurnFault>
+    ensures node { puller.new.notes.journal.node ≡ puller.old.notes.journal.node }
+    ensures hears { OnlyHears puller.old.notes.journal.entries puller.new.notes.journal.entries }
+{
+    let _within = config.coordinators();
     let (epoch, ask) = puller.storage.next_ask();
-    if let Some(to) = holder(&puller.storage, epoch, turn) {
-        send(rt, alloc, directory, faults, puller, to, &Ask::Log(ask))?;
-    }
-    let newest = directory.newest(rt).generation;
-    let epoch = newest.epoch();
-    let index = (turn % u32::from(newest.m())) as u8;
+    let tag = puller.storage.tag().get();
+    let index = by_turn(config, tag, turn, config.degree());
+    let to = NodeId::Log { epoch, index };
+    send(rt, alloc, directory, faults, puller, to, &Ask::Log(ask))?;
+    let epoch = directory.newest(rt).generation.epoch();
+    let index = by_turn(config, 0, turn, config.logs());
     let to = NodeId::Log { epoch, index };
     let ask = Ask::Log(LogAsk::MarkAsked { epoch });
     send(rt, alloc, directory, faults, puller, to, &ask)
 }
 
 /// The turns of a storage server, and its journal.
-pub(crate) fn pull<
+pub fn pull<
     R: Wait,
     C: Node<Plain = Cell> + Drop,
     L: Node<Plain = Log> + Drop,
@@ -127,21 +135,28 @@ pub(crate) fn pull<
 >(
     rt: &R,
     alloc: Global,
+    config: &Config,
     directory: &Directory<C, L>,
     faults: &F,
     storage: Storage<S>,
     turns: u32,
-) -> Result<Journal, RunFault> {
+) -> Result<Journal, TurnFault>
+    ensures place { IfOk result (λ journal. journal.node ≡ NodeId.Storage storage.tag) }
+    ensures hears { IfOk result (λ journal. AreHears journal.entries) }
+{
     let place = NodeId::Storage { tag: storage.tag() };
     let mut puller = Puller {
         storage,
         notes: Notes::new(alloc, place, first_stamp()),
     };
     for number in 1..=turns {
-        turn(rt, alloc, directory, faults, &mut puller, number)?;
+        pull_once(rt, alloc, config, directory, faults, &mut puller, number)?;
     }
     let Puller { storage, notes } = puller;
     let mut storage = storage;
-    let last = last_of_storage(alloc, &mut storage)?;
-    Ok(notes.close(last))
+    match last_of_storage(alloc, &mut storage) {
+        Ok(last) => Ok(notes.close(last)),
+        Err(StorageFault::Store(fault)) => Err(fault_of(fault)),
+        Err(_) => Err(TurnFault::Store),
+    }
 }

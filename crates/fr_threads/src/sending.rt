@@ -1,5 +1,8 @@
 //! Asks on their way, and what befalls them.
-use crate::fault::RunFault;
+ghost use Rattle.std.specs.Prelude.{◌≡◌};
+ghost use Rattle.fr_threads.specs.Hears.{OnlyHears};
+
+use crate::fault::TurnFault;
 use fr_ask::{Ask, Tell};
 use fr_base::{Memory, Node, NodeId, Stamp};
 use fr_log::Log;
@@ -10,14 +13,27 @@ use std::sync::Wait;
 
 /// A node that sends asks and hears what it is told.
 pub(crate) trait Hearer {
+    ghost use Rattle.std.specs.Prelude.{List};
+    ghost use Rattle.fr_base.specs.declared.place.NodeId.{NodeId};
+    ghost use Rattle.fr_journal.specs.declared.act.Entry.{Entry};
+
     /// The node.
-    fn place(&self) -> NodeId;
+    ghost node: { Self → NodeId };
+
+    /// What it did.
+    ghost entries: { Self → List Entry };
+
+    /// The node.
+    fn place(&self) -> NodeId
+        ensures { result ≡ node self.now };
 
     /// The greatest stamp that its thread has seen.
     fn now(&self) -> Stamp;
 
     /// Hears what a node told at this stamp.
-    fn hear(&mut self, alloc: Global, at: Stamp, from: NodeId, tell: Tell) -> Result<(), RunFault>;
+    fn hear(&mut self, alloc: Global, at: Stamp, from: NodeId, tell: Tell) -> Result<(), TurnFault>
+        ensures node { node self.new ≡ node self.old }
+        ensures hears { OnlyHears (entries self.old) (entries self.new) };
 }
 
 /// Sends an ask, and has its sender hear what it is told, as the faults say.
@@ -35,7 +51,10 @@ pub(crate) fn send<
     hearer: &mut H,
     to: NodeId,
     ask: &Ask,
-) -> Result<(), RunFault> {
+) -> Result<(), TurnFault>
+    ensures node { H.node hearer.new ≡ H.node hearer.old }
+    ensures hears { OnlyHears (H.entries hearer.old) (H.entries hearer.new) }
+{
     match faults.verdict(to, ask) {
         Verdict::DropAsk => Ok(()),
         Verdict::DropTell => {
@@ -65,7 +84,10 @@ fn exchange<
     hearer: &mut H,
     to: NodeId,
     ask: &Ask,
-) -> Result<(), RunFault> {
+) -> Result<(), TurnFault>
+    ensures node { H.node hearer.new ≡ H.node hearer.old }
+    ensures hears { OnlyHears (H.entries hearer.old) (H.entries hearer.new) }
+{
     match call(rt, alloc, directory, faults, hearer, to, ask)? {
         Some((at, tell)) => hearer.hear(alloc, at, to, tell),
         None => Ok(()),

@@ -7,7 +7,7 @@ use std::alloc::Global;
 use std::sync::Wait;
 
 /// Crashes what the faults name, turn by turn.
-pub(crate) fn crash<
+pub fn crash<
     R: Wait,
     C: Node<Plain = Cell> + Drop,
     L: Node<Plain = Log> + Drop,
