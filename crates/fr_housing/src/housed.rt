@@ -1,11 +1,11 @@
 //! A node with its journal.
-ghost use Rattle.std.specs.Prelude.{◌≡◌, ◌≢◌, ◌⊎◌, ◌↔◌, ◌||◌, ◌≤◌, ◌++◌, ◌∷◌, [], ◌+◌, ◌-◌, ◌^◌, ◌<◌, max, ℕ, Err, None, Some, IfOk, IfSome, IsSome, OnOk, IfErr, OnErr, false};
+ghost use Rattle.std.specs.Prelude.{◌≡◌, ◌≢◌, ◌⊎◌, ◌↔◌, ◌||◌, ◌≤◌, ◌++◌, ◌∷◌, [], ◌+◌, ◌-◌, ◌^◌, ◌<◌, max, ℕ, Err, None, Some, IfOk, IfSome, IsSome, OnOk, IfErr, OnErr, false, true};
 ghost use Rattle.fr_base.specs.declared.node.NodeFault.{NodeFault};
 ghost use Rattle.fr_journal.specs.declared.act.Act.{Act};
 ghost use Rattle.fr_journal.specs.Journal.{IsAbove};
 ghost use Rattle.fr_ask.specs.declared.tell.Tell.{Tell};
 ghost use Rattle.fr_housing.specs.declared.fault.CallFault.{CallFault};
-ghost use Rattle.fr_housing.specs.Replays.{Replays, ends_by_crash, steps};
+ghost use Rattle.fr_housing.specs.Replays.{Replays, state_after, steps};
 ghost use Rattle.fr_housing.specs.Housing.{Asks, Enters, IsSettled, IsTrouble, Leaves, Works, before, found_kept, greatest_stamp, is_gone, last_number, left_kept, next_stamp, refusal_of, with_found};
 
 mod entering;

@@ -7,6 +7,8 @@ use Rattle.fr_journal.specs.declared.act.Act.TheVariants.{Asked, Heard, Submitte
 use Rattle.fr_journal.specs.declared.act.Entry.{Entry}
 use Rattle.fr_journal.specs.Journal.{JournalState}
 use Rattle.fr_threads.specs.declared.order.Order.{Order}
+use Rattle.fr_threads.specs.declared.order.UnderWay.{UnderWay}
+use Rattle.fr_threads.specs.declared.order.UnderWay.TheVariants.{Nothing, Open, Said}
 
 -- the batches that were taken, what was said of them, and whether the last one is under way
 pub record Account : Type 0 where
@@ -23,14 +25,20 @@ abbrev pub waiting_if : Bool → List Outcome
 waiting_if true = Waiting ∷ []
 waiting_if false = []
 
--- a batch that is under way is said to be committed, or to have ended
-abbrev pub settled : Account → Outcome → Account
-settled a o = if a.is_open then record { given = a.given; told = a.told ++ o ∷ []; is_open = false } else a
+-- what was said of batches once this is said: of one that is under way, that it is committed, or has ended
+abbrev pub told_after : List Outcome → Bool → Outcome → List Outcome
+told_after told is_open Waiting = told
+told_after told is_open (Committed version) = if is_open then told ++ Committed version ∷ [] else told
+told_after told is_open Ended = if is_open then told ++ Ended ∷ [] else told
+
+-- whether a batch is under way once this is said
+abbrev pub open_after : Bool → Outcome → Bool
+open_after is_open Waiting = is_open
+open_after is_open (Committed version) = false
+open_after is_open Ended = false
 
 abbrev pub with_outcome : Account → Outcome → Account
-with_outcome a Waiting = a
-with_outcome a (Committed version) = settled a (Committed version)
-with_outcome a Ended = settled a Ended
+with_outcome a o = record { given = a.given; told = told_after a.told a.is_open o; is_open = open_after a.is_open o }
 
 abbrev pub with_said : Account → Option Outcome → Account
 with_said a None = a
@@ -74,3 +82,21 @@ left_over (Some o) = o ∷ []
 abbrev pub waiting_for : Option Order → List Outcome
 waiting_for None = []
 waiting_for (Some o) = Waiting ∷ []
+
+-- what a proxy said of a batch that its workload was not told yet, and whether a batch is under way
+
+abbrev pub said : UnderWay → List Outcome
+said Nothing = []
+said Open = []
+said (Said o) = o ∷ []
+
+abbrev pub is_open_in : UnderWay → Bool
+is_open_in Nothing = false
+is_open_in Open = true
+is_open_in (Said o) = false
+
+-- what became of the last batch once its proxy said this
+abbrev pub after_saying : UnderWay → Outcome → UnderWay
+after_saying Open (Committed version) = Said (Committed version)
+after_saying Open Ended = Said Ended
+after_saying u o = u

@@ -1,2 +1,2 @@
 pub mod Account
-pub mod Hears
+pub mod Begins

@@ -4,8 +4,8 @@ ghost use Rattle.fr_threads.specs.Account.{account, all_given, all_outcomes, lef
 
 use crate::door::Door;
 use crate::fault::TurnFault;
-use crate::order::Order;
-use crate::sending::{Hearer, send};
+use crate::order::{Order, UnderWay};
+use crate::sending::send;
 use crate::workload::Workload;
 use fr_base::{Memory, Node};
 use fr_config::Config;
@@ -18,22 +18,23 @@ use fr_station::{Chosen, Directory, Faults, first_stamp};
 use std::alloc::Global;
 use std::sync::Wait;
 
-/// A workload at its proxies: the present one, the journals of the earlier ones, a batch that none has taken yet, and
-/// what the workload was told.
+/// A workload at its proxies: the present one, the journals of the earlier ones and what was told of their batches, and a
+/// batch that none has taken yet.
 #[derive(Drop)]
-struct Client<W> {
+struct Client<W: Workload> {
     work: W,
     number: u8,
     door: Door,
     earlier: Vec<Journal>,
-    kept: Option<Order>,
     told: Vec<Outcome>,
+    kept: Option<Order>,
+    ghost outcomes: { told.items ≡ all_outcomes earlier.items },
 }
 
 /// What a workload's thread hands back: the workload, the journals of its proxies, the batch that none of them took, if
 /// there is one, and what the workload was told.
 #[derive(Drop)]
-pub struct Served<W> {
+pub struct Served<W: Workload> {
     pub work: W,
     pub journals: Vec<Journal>,
     pub kept: Option<Order>,
@@ -41,14 +42,6 @@ pub struct Served<W> {
 }
 
 impl<W: Workload + Drop> Client<W> {
-    /// Says what became of a batch.
-    fn tell(&mut self, outcome: Outcome) -> Result<(), Memory> {
-        self.told.reserve(1)?;
-        self.work.told(outcome)?;
-        self.told.push_reserved(outcome);
-        Ok(())
-    }
-
     /// The next batch: the one that is kept, or a new one.
     fn next(&mut self) -> Result<Option<Order>, Memory> {
         if let Some(order) = self.kept.take() {
@@ -69,7 +62,9 @@ impl<W: Workload + Drop> Client<W> {
         self.earlier.reserve(1)?;
         let next = Door::new(alloc, config, self.number, newest.generation, now)?;
         let before = std::mem::replace(&mut self.door, next);
-        self.earlier.push_reserved(before.close());
+        let (journal, told) = before.close();
+        self.told.extend(told)?;
+        self.earlier.push_reserved(journal);
         Ok(())
     }
 
@@ -112,38 +107,40 @@ impl<W: Workload + Drop> Client<W> {
         directory: &Directory<C, L>,
         faults: &F,
     ) -> Result<bool, TurnFault> {
-        if !self.door.is_open() && !self.hand_out(alloc, config, directory.newest(rt))? {
-            return Ok(false);
-        }
-        if !self.door.is_open() {
-            return Ok(true);
+        if let UnderWay::Nothing = self.door.under_way() {
+            if !self.hand_out(alloc, config, directory.newest(rt))? {
+                return Ok(false);
+            }
         }
         self.send_all(rt, alloc, directory, faults)?;
-        if !self.door.is_open() {
-            if let Some(outcome) = self.door.last_told() {
-                self.tell(outcome)?;
-            }
+        if let Some(outcome) = self.door.take()? {
+            self.work.told(outcome)?;
         }
         Ok(true)
     }
 
     /// What is handed back. A batch that is open or kept is told to be waiting.
     fn end(self) -> Result<Served<W>, Memory> {
-        let mut client = self;
-        if client.door.is_open() || client.kept.is_some() {
-            client.tell(Outcome::Waiting)?;
-        }
-        client.earlier.reserve(1)?;
         let Client {
             work,
             door,
             earlier,
-            kept,
             told,
+            kept,
             ..
-        } = client;
+        } = self;
+        let is_waiting = kept.is_some() || matches!(door.under_way(), UnderWay::Open);
+        let (journal, last) = door.close();
+        let mut work = work;
+        let mut told = told;
+        told.extend(last)?;
+        if is_waiting {
+            told.push(Outcome::Waiting)?;
+            work.told(Outcome::Waiting)?;
+        }
         let mut journals = earlier;
-        journals.push_reserved(door.close());
+        journals.reserve(1)?;
+        journals.push_reserved(journal);
         Ok(Served {
             work,
             journals,

@@ -1,8 +1,8 @@
 //! The journal of a node that one thread owns.
-ghost use Rattle.std.specs.Prelude.{◌≡◌, ◌≤◌, ◌<◌, ◌+◌, ◌^◌, ◌++◌, ◌∷◌, [], Some, IfOk, IfSome, IsSome};
+ghost use Rattle.std.specs.Prelude.{◌≡◌, ◌≤◌, ◌<◌, ◌+◌, ◌^◌, ◌++◌, ◌∷◌, [], Some, true, IfOk, IfSome, IsSome};
 ghost use Rattle.fr_journal.specs.Journal.{IsAbove};
 ghost use Rattle.fr_housing.specs.Housing.{last_number};
-ghost use Rattle.fr_threads.specs.Hears.{StartsWithBegun};
+ghost use Rattle.fr_threads.specs.Begins.{starts_with_begun};
 
 use fr_ask::Last;
 use fr_base::{Memory, NodeId, Stamp};
@@ -34,7 +34,7 @@ impl Notes {
     /// The journal of a recoverer that begins.
     pub(crate) fn begun(alloc: Global, place: NodeId) -> Result<Self, Memory>
         ensures place { IfOk result (λ notes. notes.journal.node ≡ place) }
-        ensures begun { IfOk result (λ notes. StartsWithBegun notes.journal.entries) }
+        ensures begun { IfOk result (λ notes. starts_with_begun notes.journal.entries ≡ true) }
     {
         let mut notes = Notes::new(alloc, place, first_stamp());
         let Some(stamp) = notes.next()? else {

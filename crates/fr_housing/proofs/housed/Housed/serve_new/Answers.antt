@@ -4,7 +4,7 @@ use Rattle.fr_journal.specs.declared.act.Entry.{Entry}
 use Rattle.fr_housing.specs.Replays.{steps, gone_at_end}
 use Rattle.fr_housing.specs.Housing.{Housing, is_gone}
 use Rattle.fr_housing.proofs.Appended.{asked-housed, gone-asked}
-use Rattle.fr_housing.proofs.housed.entering.Housed.serve_new.Goals as goal
+use Rattle.fr_housing.proofs.housed.Housed.serve_new.Goals as goal
 
 pub invariant_of-self : goal.invariant_of-self
 invariant_of-self g c =
