@@ -63,15 +63,8 @@ impl<C: Node<Plain = Cell> + Drop, L: Node<Plain = Log> + Drop> Directory<C, L> 
 
     /// A log, once it is there, with the stamp from which on it is.
     pub fn log<R: Wait>(&self, rt: &R, id: LogId) -> Option<(&Station<L>, Stamp)> {
-        let stamp = self.published.lock(rt).seeded_at(id.epoch)?;
-        if id.index >= self.each {
-            return None;
-        }
-        let place = self.place_of(id.epoch)?;
-        let number = place
-            .checked_mul(usize::from(self.each))?
-            .checked_add(usize::from(id.index))?;
-        let log = self.logs.get(number)?;
+        let stamp = self.seeded_at(rt, id.epoch)?;
+        let log = self.log_at(id)?;
         Some((log, stamp))
     }
 
@@ -81,10 +74,37 @@ impl<C: Node<Plain = Cell> + Drop, L: Node<Plain = Log> + Drop> Directory<C, L> 
         rt: &R,
         epoch: Epoch,
     ) -> Option<(&Station<InMemory<Sequencer>>, Stamp)> {
-        let stamp = self.published.lock(rt).chosen_at(epoch)?;
-        let place = self.place_of(epoch)?;
-        let sequencer = self.sequencers.get(place)?.get()?;
+        let stamp = self.chosen_at(rt, epoch)?;
+        let sequencer = self.sequencer_at(epoch)?;
         Some((sequencer, stamp))
+    }
+
+    /// The stamp from which on the logs of an epoch are there.
+    fn seeded_at<R: Wait>(&self, rt: &R, epoch: Epoch) -> Option<Stamp> {
+        self.published.lock(rt).seeded_at(epoch)
+    }
+
+    /// The stamp from which on the sequencer of an epoch is there.
+    fn chosen_at<R: Wait>(&self, rt: &R, epoch: Epoch) -> Option<Stamp> {
+        self.published.lock(rt).chosen_at(epoch)
+    }
+
+    /// The station of a log of an epoch that may come.
+    fn log_at(&self, id: LogId) -> Option<&Station<L>> {
+        if id.index >= self.each {
+            return None;
+        }
+        let place = self.place_of(id.epoch)?;
+        let number = place
+            .checked_mul(usize::from(self.each))?
+            .checked_add(usize::from(id.index))?;
+        self.logs.get(number)
+    }
+
+    /// The station of the sequencer of an epoch, once it is put there.
+    fn sequencer_at(&self, epoch: Epoch) -> Option<&Station<InMemory<Sequencer>>> {
+        let place = self.place_of(epoch)?;
+        self.sequencers.get(place)?.get()
     }
 
     /// The chosen generations, that of the start first, each with the stamp from which on it is.
@@ -137,17 +157,10 @@ impl<C: Node<Plain = Cell> + Drop, L: Node<Plain = Log> + Drop> Directory<C, L> 
     ) -> Option<(Stamp, Tell)>
         ensures { IfSome result (λ told. stamp < told.0) }
     {
-        match (to, ask) {
-            (NodeId::Cell { index }, Ask::Cell(ask)) => self.call_cell(
-                rt, alloc, stamp, from, index, ask,
-            ),
-            (NodeId::Log { epoch, index }, Ask::Log(ask)) => {
-                self.call_log(rt, alloc, stamp, from, LogId { epoch, index }, ask)
-            }
-            (NodeId::Sequencer { epoch }, Ask::Seq(ask)) => {
-                self.call_sequencer(rt, alloc, stamp, from, epoch, ask)
-            }
-            _ => None,
+        match ask {
+            Ask::Cell(ask) => self.call_cell(rt, alloc, stamp, from, to, ask),
+            Ask::Log(ask) => self.call_log(rt, alloc, stamp, from, to, ask),
+            Ask::Seq(ask) => self.call_sequencer(rt, alloc, stamp, from, to, ask),
         }
     }
 
@@ -157,11 +170,14 @@ impl<C: Node<Plain = Cell> + Drop, L: Node<Plain = Log> + Drop> Directory<C, L> 
         alloc: Global,
         stamp: Stamp,
         from: NodeId,
-        index: u8,
+        to: NodeId,
         ask: CellAsk,
     ) -> Option<(Stamp, Tell)>
         ensures { IfSome result (λ told. stamp < told.0) }
     {
+        let NodeId::Cell { index } = to else {
+            return None;
+        };
         let cell = self.cell(index)?;
         cell.call(rt, alloc, stamp, from, ask).ok()
     }
@@ -172,12 +188,16 @@ impl<C: Node<Plain = Cell> + Drop, L: Node<Plain = Log> + Drop> Directory<C, L> 
         alloc: Global,
         stamp: Stamp,
         from: NodeId,
-        id: LogId,
+        to: NodeId,
         ask: LogAsk,
     ) -> Option<(Stamp, Tell)>
         ensures { IfSome result (λ told. stamp < told.0) }
     {
-        let (log, there) = self.log(rt, id)?;
+        let NodeId::Log { epoch, index } = to else {
+            return None;
+        };
+        let there = self.seeded_at(rt, epoch)?;
+        let log = self.log_at(LogId { epoch, index })?;
         log.call(rt, alloc, stamp.max(there), from, ask).ok()
     }
 
@@ -187,12 +207,16 @@ impl<C: Node<Plain = Cell> + Drop, L: Node<Plain = Log> + Drop> Directory<C, L> 
         alloc: Global,
         stamp: Stamp,
         from: NodeId,
-        epoch: Epoch,
+        to: NodeId,
         ask: SeqAsk,
     ) -> Option<(Stamp, Tell)>
         ensures { IfSome result (λ told. stamp < told.0) }
     {
-        let (sequencer, there) = self.sequencer(rt, epoch)?;
+        let NodeId::Sequencer { epoch } = to else {
+            return None;
+        };
+        let there = self.chosen_at(rt, epoch)?;
+        let sequencer = self.sequencer_at(epoch)?;
         sequencer.call(rt, alloc, stamp.max(there), from, ask).ok()
     }
 
@@ -201,20 +225,45 @@ impl<C: Node<Plain = Cell> + Drop, L: Node<Plain = Log> + Drop> Directory<C, L> 
         ensures { IfSome result (λ at. stamp < at) }
     {
         match node {
-            NodeId::Cell { index } => {
-                let cell = self.cell(index)?;
-                cell.crash(rt, alloc, stamp).ok()
-            }
-            NodeId::Log { epoch, index } => {
-                let (log, there) = self.log(rt, LogId { epoch, index })?;
-                log.crash(rt, alloc, stamp.max(there)).ok()
-            }
-            NodeId::Sequencer { epoch } => {
-                let (sequencer, there) = self.sequencer(rt, epoch)?;
-                sequencer.crash(rt, alloc, stamp.max(there)).ok()
-            }
+            NodeId::Cell { index } => self.crash_cell(rt, alloc, stamp, index),
+            NodeId::Log { epoch, index } => self.crash_log(
+                rt,
+                alloc,
+                stamp,
+                LogId { epoch, index },
+            ),
+            NodeId::Sequencer { epoch } => self.crash_sequencer(rt, alloc, stamp, epoch),
             _ => None,
         }
+    }
+
+    fn crash_cell<R: Wait>(&self, rt: &R, alloc: Global, stamp: Stamp, index: u8) -> Option<Stamp>
+        ensures { IfSome result (λ at. stamp < at) }
+    {
+        let cell = self.cell(index)?;
+        cell.crash(rt, alloc, stamp).ok()
+    }
+
+    fn crash_log<R: Wait>(&self, rt: &R, alloc: Global, stamp: Stamp, id: LogId) -> Option<Stamp>
+        ensures { IfSome result (λ at. stamp < at) }
+    {
+        let there = self.seeded_at(rt, id.epoch)?;
+        let log = self.log_at(id)?;
+        log.crash(rt, alloc, stamp.max(there)).ok()
+    }
+
+    fn crash_sequencer<R: Wait>(
+        &self,
+        rt: &R,
+        alloc: Global,
+        stamp: Stamp,
+        epoch: Epoch,
+    ) -> Option<Stamp>
+        ensures { IfSome result (λ at. stamp < at) }
+    {
+        let there = self.chosen_at(rt, epoch)?;
+        let sequencer = self.sequencer_at(epoch)?;
+        sequencer.crash(rt, alloc, stamp.max(there)).ok()
     }
 
     /// The journals of the nodes, each closed with its node's state: the cells', the logs' and the sequencers'. Those of
@@ -255,13 +304,15 @@ where
     N::Plain: fr_housing::Housable,
     <N::Plain as fr_base::Machine>::Ask: Drop,
 {
-    let mut number = 0;
+    let mut left = all;
     for station in stations {
         let journal = station.into_inner().into_journal(alloc)?;
-        if number < all || !journal.entries().is_empty() {
+        if left > 0 {
+            left -= 1;
+            put(journals, journal)?;
+        } else if !journal.entries().is_empty() {
             put(journals, journal)?;
         }
-        number += 1;
     }
     Ok(())
 }

@@ -86,9 +86,7 @@ impl Published {
     pub fn newest(&self) -> Chosen {
         let mut newest = self.first;
         for chosen in &self.chosen {
-            if newest.generation.epoch() < chosen.generation.epoch() {
-                newest = *chosen;
-            }
+            newest = later(newest, *chosen);
         }
         newest
     }
@@ -101,5 +99,14 @@ impl Published {
             all.push(*chosen)?;
         }
         Ok(all)
+    }
+}
+
+/// The one of two chosen generations that has the greater epoch.
+fn later(one: Chosen, other: Chosen) -> Chosen {
+    if one.generation.epoch() < other.generation.epoch() {
+        other
+    } else {
+        one
     }
 }
