@@ -1,17 +1,19 @@
 //! What a cluster starts with.
-ghost use Rattle.std.specs.Prelude.{◌≡◌};
+ghost use Rattle.std.specs.Prelude.{◌≡◌, ◌++◌, ◌∷◌, ◌<◌, [], false, IfOk, None, OnOk};
+ghost use Rattle.fr_history.specs.Config.{first_generation};
 
 use crate::fault::RunFault;
 use crate::rack::Rack;
-use fr_base::{Ballot, Epoch, InMemory, LogId, Machine, Memory, Node, NodeFault, NodeId, Tag, Version};
+use fr_base::{Ballot, Epoch, InMemory, LogId, Memory, Node, NodeFault, NodeId, Tag, Version};
 use fr_config::Config;
-use fr_housing::{Housable, Housed};
+use fr_housing::Housed;
 use fr_log::{Log, LogAsk, Push, Seed};
 use fr_proxy::Sequencer;
 use fr_register::{Cell, CellAsk, CellValue};
 use fr_state::{CoordState, Generation, encode};
-use fr_station::{Chosen, Directory, Station, first_stamp, stations};
+use fr_station::{Directory, Station, stations};
 use fr_storage::Storage;
+use fr_undo::StoreFault;
 use std::alloc::Global;
 use std::sync::Wait;
 
@@ -19,7 +21,9 @@ use std::sync::Wait;
 const FIRST: u64 = 257;
 
 /// The first epoch.
-fn first_epoch() -> Epoch {
+fn first_epoch() -> Epoch
+    ensures { result ≡ 257 }
+{
     match Epoch::new(FIRST) {
         Some(epoch) => epoch,
         None => unreachable!(),
@@ -27,7 +31,9 @@ fn first_epoch() -> Epoch {
 }
 
 /// Version 1, which is that of the first mark.
-fn version_one() -> Version {
+fn version_one() -> Version
+    ensures { result ≡ 1 }
+{
     match Version::new(1) {
         Some(version) => version,
         None => unreachable!(),
@@ -35,7 +41,9 @@ fn version_one() -> Version {
 }
 
 /// The first generation.
-pub(crate) fn first_generation(config: &Config) -> Generation {
+pub(crate) fn first_generation(config: &Config) -> Generation
+    ensures { result ≡ first_generation config.now }
+{
     let _within = config.coordinators();
     match Generation::new(
         first_epoch(),
@@ -50,7 +58,16 @@ pub(crate) fn first_generation(config: &Config) -> Generation {
 }
 
 /// A cell that holds the first state.
-fn started_cell<N: Node<Plain = Cell> + Drop>(alloc: Global, node: N, state: &CoordState) -> Result<N, NodeFault> {
+fn started_cell<N: Node<Plain = Cell> + Drop>(
+    alloc: Global,
+    node: N,
+    state: &CoordState,
+) -> Result<N, NodeFault>
+    requires works { N.is_failed node ≡ false }
+    requires free { N.held node ≡ None }
+    ensures works { IfOk result (λ started. N.is_failed started ≡ false) }
+    ensures free { IfOk result (λ started. N.held started ≡ None) }
+{
     let mut node = node;
     let Some(value) = CellValue::new(encode(alloc, state)?) else {
         unreachable!();
@@ -61,7 +78,16 @@ fn started_cell<N: Node<Plain = Cell> + Drop>(alloc: Global, node: N, state: &Co
 }
 
 /// A log of the first epoch, seeded with nothing, with the mark at version 1.
-fn started_log<N: Node<Plain = Log> + Drop>(alloc: Global, node: N, state: &CoordState) -> Result<N, NodeFault> {
+fn started_log<N: Node<Plain = Log> + Drop>(
+    alloc: Global,
+    node: N,
+    state: &CoordState,
+) -> Result<N, NodeFault>
+    requires works { N.is_failed node ≡ false }
+    requires free { N.held node ≡ None }
+    ensures works { IfOk result (λ started. N.is_failed started ≡ false) }
+    ensures free { IfOk result (λ started. N.held started ≡ None) }
+{
     let mut node = node;
     let epoch = first_epoch();
     let Some(seed) = Seed::new(epoch, version_one(), Version::ZERO, Vec::new(alloc)) else {
@@ -85,7 +111,7 @@ fn cells<K: Rack>(
     let mut all = Vec::new(alloc);
     for index in 0..config.coordinators() {
         let node = started_cell(alloc, rack.cell(alloc, index)?, state)?;
-        all.push(Housed::new(alloc, node, NodeId::Cell { index })).map_err(|_| RunFault::Memory)?;
+        put(&mut all, Housed::new(alloc, node, NodeId::Cell { index }))?;
     }
     Ok(stations(alloc, all)?)
 }
@@ -115,7 +141,7 @@ fn logs<K: Rack>(
                 epoch: *epoch,
                 index,
             };
-            all.push(Housed::new(alloc, node, place)).map_err(|_| RunFault::Memory)?;
+            put(&mut all, Housed::new(alloc, node, place))?;
         }
     }
     Ok(stations(alloc, all)?)
@@ -160,16 +186,40 @@ pub(crate) fn storages<K: Rack>(
     config: &Config,
     rack: &K,
 ) -> Result<Vec<Storage<K::Store>>, RunFault> {
-    let first = first_generation(config);
+    let state = CoordState::new(alloc, first_generation(config))?;
     let mut all = Vec::new(alloc);
-    for number in 0..config.map().begins().len() {
-        let Some(tag) = Tag::new(number as u8) else {
-            unreachable!();
-        };
-        let state = CoordState::new(alloc, first)?;
-        let store = rack.store(alloc, tag).map_err(|fault| RunFault::from(fr_storage::StorageFault::Store(fault)))?;
-        let storage = Storage::start(alloc, store, tag, state)?;
-        all.push(storage).map_err(|_| RunFault::Memory)?;
+    for number in 0..32u8 {
+        if usize::from(number) < config.map().begins().len() {
+            put(&mut all, storage(alloc, rack, number, &state)?)?;
+        }
     }
     Ok(all)
+}
+
+/// The storage server of a tag, over a store of the rack.
+fn storage<K: Rack>(
+    alloc: Global,
+    rack: &K,
+    number: u8,
+    state: &CoordState,
+) -> Result<Storage<K::Store>, RunFault>
+    requires { number < 32 }
+{
+    let Some(tag) = Tag::new(number) else {
+        unreachable!();
+    };
+    match rack.store(alloc, tag) {
+        Ok(store) => Ok(Storage::start(alloc, store, tag, state.copy()?)?),
+        Err(StoreFault::Memory) => Err(RunFault::Memory),
+        Err(_) => Err(RunFault::Rack),
+    }
+}
+
+/// Puts an item behind the others.
+pub(crate) fn put<T: Drop>(all: &mut Vec<T>, item: T) -> Result<(), Memory>
+    ensures { OnOk result (all.new.items ≡ all.old.items ++ item ∷ []) }
+{
+    all.reserve(1)?;
+    all.push_reserved(item);
+    Ok(())
 }

@@ -1,13 +1,12 @@
 //! Where the nodes and stores of a cluster come from.
 ghost use Rattle.std.specs.Prelude.{◌≡◌, ◌≤◌, ◌<◌, IfOk, false, None};
-ghost use Rattle.fr_log.specs.Log.{fresh_log};
-ghost use Rattle.fr_register.specs.Cell.{fresh_cell};
+ghost use Rattle.fr_log.specs.LogState.{fresh_log};
+ghost use Rattle.fr_register.specs.CellState.{fresh_cell};
 ghost use Rattle.fr_undo.specs.State.{fresh};
 
 use fr_base::{InMemory, LogId, Node, NodeFault, Tag};
 use fr_log::Log;
 use fr_register::Cell;
-use fr_tags::MAX_LOGS;
 use fr_undo::{MapStore, ShardStore, StoreFault};
 use std::alloc::Global;
 
@@ -23,17 +22,25 @@ pub trait Rack {
     type Store: ShardStore + Send + Drop;
 
     /// The cell of this number.
-    fn cell(&self, alloc: Global, index: u8) -> Result<Self::Cell, NodeFault>;
+    fn cell(&self, alloc: Global, index: u8) -> Result<Self::Cell, NodeFault>
+        ensures works { IfOk result (λ node. Self.Cell.is_failed node ≡ false) }
+        ensures free { IfOk result (λ node. Self.Cell.held node ≡ None) }
+        ensures fresh { IfOk result (λ node. Self.Cell.state node ≡ fresh_cell) };
 
     /// A log of a generation of `m` logs, of which `k` hold each tag.
     fn log(&self, alloc: Global, id: LogId, m: u8, k: u8) -> Result<Self::Log, NodeFault>
         requires some { 1 ≤ k }
         requires fits { k ≤ m }
         requires limit { m ≤ 16 }
-        requires place { id.index < m };
+        requires place { id.index < m }
+        ensures works { IfOk result (λ node. Self.Log.is_failed node ≡ false) }
+        ensures free { IfOk result (λ node. Self.Log.held node ≡ None) }
+        ensures fresh { IfOk result (λ node. Self.Log.state node ≡ fresh_log id.epoch id.index m k) };
 
     /// The store of this tag.
-    fn store(&self, alloc: Global, tag: Tag) -> Result<Self::Store, StoreFault>;
+    fn store(&self, alloc: Global, tag: Tag) -> Result<Self::Store, StoreFault>
+        ensures works { IfOk result (λ store. Self.Store.is_failed store ≡ false) }
+        ensures fresh { IfOk result (λ store. Self.Store.state store ≡ fresh) };
 }
 
 /// All in memory, with no device that could fail.

@@ -1,5 +1,7 @@
 -- What became of the batches that proxies took, read from their journals.
-use Rattle.std.specs.Prelude.{Bool, true, false, List, [], ◌∷◌, ◌++◌, Option, Some, None, if◌then◌else◌}
+use Rattle.std.specs.Prelude.{ℕ, ◌==◌, ◌&&◌, Bool, true, false, List, [], ◌∷◌, ◌++◌, Option, Some, None, if◌then◌else◌}
+use Rattle.fr_base.specs.declared.place.NodeId.{NodeId}
+use Rattle.fr_base.specs.declared.place.NodeId.TheVariants.{Cell, Log, Sequencer, Proxy, Recoverer, Storage}
 use Rattle.fr_proxy.specs.declared.outcome.Outcome.{Outcome}
 use Rattle.fr_proxy.specs.declared.outcome.Outcome.TheVariants.{Waiting, Committed, Ended}
 use Rattle.fr_journal.specs.declared.act.Act.{Act}
@@ -100,3 +102,12 @@ abbrev pub after_saying : UnderWay → Outcome → UnderWay
 after_saying Open (Committed version) = Said (Committed version)
 after_saying Open Ended = Said Ended
 after_saying u o = u
+
+-- whether a node is a proxy of this number
+abbrev pub is_proxy : ℕ → NodeId → Bool
+is_proxy number (Proxy epoch other) = number == other
+is_proxy number node = false
+
+abbrev pub are_proxies : ℕ → List JournalState → Bool
+are_proxies number [] = true
+are_proxies number (j ∷ js) = is_proxy number j.node && are_proxies number js

@@ -7,12 +7,13 @@ use std::alloc::Global;
 use std::sync::Wait;
 
 /// Crashes what the faults name, turn by turn.
-pub fn crash<
-    R: Wait,
-    C: Node<Plain = Cell> + Drop,
-    L: Node<Plain = Log> + Drop,
-    F: Faults,
->(rt: &R, alloc: Global, directory: &Directory<C, L>, faults: &F, turns: u32) {
+pub fn crash<R: Wait, C: Node<Plain = Cell> + Drop, L: Node<Plain = Log> + Drop, F: Faults>(
+    rt: &R,
+    alloc: Global,
+    directory: &Directory<C, L>,
+    faults: &F,
+    turns: u32,
+) {
     let mut now = first_stamp();
     for number in 1..=turns {
         if let Some(node) = faults.crash(number) {

@@ -1,5 +1,5 @@
 //! A proxy, what it took and what it said of it.
-ghost use Rattle.std.specs.Prelude.{◌≡◌, ◌++◌, ◌∷◌, [], false, IfOk, IfSome, None, Ok, OnErr, Some};
+ghost use Rattle.std.specs.Prelude.{◌≡◌, ◌++◌, ◌∷◌, [], ◌<◌, false, length, vec_capacity, IfOk, None, OnOk, Some};
 ghost use Rattle.fr_base.specs.declared.place.NodeId.{NodeId};
 ghost use Rattle.fr_threads.specs.declared.order.UnderWay.{UnderWay};
 ghost use Rattle.fr_threads.specs.Account.{account, after_saying, is_open_in, left_over, said};
@@ -7,15 +7,19 @@ ghost use Rattle.fr_threads.specs.Account.{account, after_saying, is_open_in, le
 use crate::fault::TurnFault;
 use crate::notes::Notes;
 use crate::order::{Order, UnderWay};
-use crate::sending::Hearer;
+use crate::sending::{Hearer, send};
 use fr_ask::{Ask, Tell};
-use fr_base::{Epoch, Memory, NodeId, Stamp, Version};
+use fr_base::{Epoch, Memory, Node, NodeId, Stamp, Version};
 use fr_config::Config;
 use fr_journal::{Act, Journal};
 use fr_last::last_of_proxy;
+use fr_log::Log;
 use fr_proxy::{Outcome, Proxy};
+use fr_register::Cell;
 use fr_state::Generation;
+use fr_station::{Directory, Faults};
 use std::alloc::Global;
+use std::sync::Wait;
 
 /// A proxy with its journal, and what its journal comes to: what it said of each batch, and what became of the last.
 #[derive(Drop)]
@@ -98,67 +102,86 @@ impl Door {
         self.proxy.pending(alloc)
     }
 
-    /// Hands a batch to the proxy, where nothing is under way. A batch that it does not take is given back.
-    pub(crate) fn submit(&mut self, order: Order) -> Result<Option<Order>, Memory>
+    /// Hands a batch to the proxy, where nothing is under way and the proxy takes it.
+    pub(crate) fn submit(&mut self, kept: &mut Option<Order>) -> Result<(), Memory>
         requires shut { self.old.under_way ≡ UnderWay.Nothing }
         ensures place { self.new.notes.journal.node ≡ self.old.notes.journal.node }
         ensures told { self.new.told.items ≡ self.old.told.items }
-        ensures given { IfOk result (λ left. (account self.new.notes.journal.entries).given ++ left_over left ≡ (account self.old.notes.journal.entries).given ++ order ∷ []) }
-        ensures kept { IfOk result (λ left. IfSome left (λ o. self.new.under_way ≡ UnderWay.Nothing)) }
-        ensures err { OnErr result (self.new.notes.journal.entries ≡ self.old.notes.journal.entries) }
+        ensures given { (account self.new.notes.journal.entries).given ++ left_over kept.new ≡ (account self.old.notes.journal.entries).given ++ left_over kept.old }
     {
-        let Some(stamp) = self.notes.next()? else {
-            return Ok(Some(order));
+        let (step, taken) = match kept.as_ref() {
+            Some(order) => (order.step, order.batch.copy()?),
+            None => return Ok(()),
         };
-        let taken = order.batch.copy()?;
-        match self.proxy.submit(order.step, taken) {
-            Ok(_) => {
-                let Order { step, batch } = order;
-                self.notes.enter(stamp, Act::Submitted { step, batch });
-                self.under_way = UnderWay::Open;
-                Ok(None)
-            }
-            Err(_) => {
-                self.is_over = true;
-                Ok(Some(order))
-            }
+        let Some(stamp) = self.notes.next()? else {
+            return Ok(());
+        };
+        if self.proxy.submit(step, taken).is_err() {
+            self.is_over = true;
+            return Ok(());
         }
+        if let Some(Order { step, batch }) = kept.take() {
+            self.notes.enter(stamp, Act::Submitted { step, batch });
+            self.under_way = UnderWay::Open;
+        }
+        Ok(())
     }
 
-    /// What the proxy said of a batch that its workload was not told yet: it is told from now on.
-    pub(crate) fn take(&mut self) -> Result<Option<Outcome>, Memory>
-        ensures place { self.new.notes.journal.node ≡ self.old.notes.journal.node }
-        ensures entries { self.new.notes.journal.entries ≡ self.old.notes.journal.entries }
-        ensures some { IfOk result (λ taken. IfSome taken (λ outcome. (self.new.told.items ≡ self.old.told.items ++ outcome ∷ []) × (self.new.under_way ≡ UnderWay.Nothing))) }
-        ensures none { (result ≡ Ok None) → (self.new ≡ self.old) }
-        ensures waits { (result ≡ Ok None) → said self.old.under_way ≡ [] }
-        ensures err { OnErr result (self.new.told.items ≡ self.old.told.items) }
+    /// Makes room for one outcome more of which the workload is told.
+    pub(crate) fn reserve(&mut self) -> Result<(), Memory>
+        ensures room { OnOk result (length self.new.told.items < vec_capacity self.new.told) }
+        ensures place { self.new.notes ≡ self.old.notes }
+        ensures told { self.new.told.items ≡ self.old.told.items }
+        ensures under_way { self.new.under_way ≡ self.old.under_way }
     {
-        match self.under_way {
-            UnderWay::Said(outcome) => {
-                self.told.reserve(1)?;
-                self.told.push_reserved(outcome);
-                self.under_way = UnderWay::Nothing;
-                Ok(Some(outcome))
-            }
-            _ => Ok(None),
-        }
+        self.told.reserve(1)?;
+        Ok(())
     }
 
-    /// The journal, closed with where the proxy stands, and what its workload was told.
-    pub(crate) fn close(self) -> (Journal, Vec<Outcome>)
-        ensures place { result.0.node ≡ self.notes.journal.node }
-        ensures entries { result.0.entries ≡ self.notes.journal.entries }
-        ensures told { result.1 ≡ self.told }
+    /// The workload is told what the proxy said. It takes no memory.
+    pub(crate) fn take(&mut self, outcome: Outcome)
+        requires room { length self.old.told.items < vec_capacity self.old.told }
+        requires said { self.old.under_way ≡ UnderWay.Said outcome }
+        ensures notes { self.new.notes ≡ self.old.notes }
+        ensures told { self.new.told.items ≡ self.old.told.items ++ outcome ∷ [] }
+        ensures under_way { self.new.under_way ≡ UnderWay.Nothing }
     {
-        let Door {
-            proxy,
-            notes,
-            told,
-            ..
-        } = self;
-        (notes.close(last_of_proxy(&proxy)), told)
+        self.told.push_reserved(outcome);
+        self.under_way = UnderWay::Nothing;
     }
+
+    /// The journal, closed with where the proxy stands.
+    pub(crate) fn close(self) -> Journal
+        ensures place { result.node ≡ self.notes.journal.node }
+        ensures entries { result.entries ≡ self.notes.journal.entries }
+    {
+        let Door { proxy, notes, .. } = self;
+        notes.close(last_of_proxy(&proxy))
+    }
+}
+
+/// Sends each pending ask of a proxy once.
+pub(crate) fn send_all<
+    R: Wait,
+    C: Node<Plain = Cell> + Drop,
+    L: Node<Plain = Log> + Drop,
+    F: Faults,
+>(
+    rt: &R,
+    alloc: Global,
+    directory: &Directory<C, L>,
+    faults: &F,
+    door: &mut Door,
+) -> Result<(), TurnFault>
+    ensures place { door.new.notes.journal.node ≡ door.old.notes.journal.node }
+    ensures given { (account door.new.notes.journal.entries).given ≡ (account door.old.notes.journal.entries).given }
+    ensures told { door.new.told.items ≡ door.old.told.items }
+{
+    let asks = door.pending(alloc)?;
+    for (to, ask) in asks.iter() {
+        send(rt, alloc, directory, faults, door, *to, ask)?;
+    }
+    Ok(())
 }
 
 impl Hearer for Door {
@@ -178,7 +201,13 @@ impl Hearer for Door {
         self.notes.now()
     }
 
-    fn hear(&mut self, alloc: Global, at: Stamp, from: NodeId, tell: Tell) -> Result<(), TurnFault> {
+    fn hear(
+        &mut self,
+        alloc: Global,
+        at: Stamp,
+        from: NodeId,
+        tell: Tell,
+    ) -> Result<(), TurnFault> {
         self.notes.see(at);
         let Some(stamp) = self.notes.next()? else {
             return Ok(());

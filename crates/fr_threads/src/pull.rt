@@ -1,6 +1,7 @@
 //! The thread of a storage server: it pulls what its logs hold, and hears of later epochs.
 ghost use Rattle.std.specs.Prelude.{◌≡◌, IfOk, false};
 ghost use Rattle.fr_base.specs.declared.place.NodeId.{NodeId};
+
 use crate::fault::{TurnFault, fault_of};
 use crate::notes::Notes;
 use crate::sending::{Hearer, send};
@@ -41,7 +42,13 @@ impl<S: ShardStore> Hearer for Puller<S> {
         self.notes.now()
     }
 
-    fn hear(&mut self, alloc: Global, at: Stamp, from: NodeId, tell: Tell) -> Result<(), TurnFault> {
+    fn hear(
+        &mut self,
+        alloc: Global,
+        at: Stamp,
+        from: NodeId,
+        tell: Tell,
+    ) -> Result<(), TurnFault> {
         self.notes.see(at);
         let Some(stamp) = self.notes.next()? else {
             return Ok(());

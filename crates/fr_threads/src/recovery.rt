@@ -2,6 +2,7 @@
 ghost use Rattle.std.specs.Prelude.{◌≡◌, ◌≢◌, ◌≤◌, ℕ, IfOk, IfSome, IsSome, IsTrue, true};
 ghost use Rattle.fr_base.specs.declared.place.NodeId.{NodeId};
 ghost use Rattle.fr_threads.specs.Begins.{starts_with_begun};
+
 use crate::fault::TurnFault;
 use crate::notes::Notes;
 use crate::sending::{Hearer, send};
@@ -44,7 +45,13 @@ impl Hearer for Recovery {
         self.notes.now()
     }
 
-    fn hear(&mut self, alloc: Global, at: Stamp, from: NodeId, tell: Tell) -> Result<(), TurnFault> {
+    fn hear(
+        &mut self,
+        alloc: Global,
+        at: Stamp,
+        from: NodeId,
+        tell: Tell,
+    ) -> Result<(), TurnFault> {
         self.notes.see(at);
         let Some(stamp) = self.notes.next()? else {
             return Ok(());
@@ -142,12 +149,7 @@ fn is_done(alloc: Global, recovery: &Recovery) -> Result<bool, Memory> {
 }
 
 /// The turns of a ballot, and the journal of its recoverer, if that began.
-pub fn recover<
-    R: Wait,
-    C: Node<Plain = Cell> + Drop,
-    L: Node<Plain = Log> + Drop,
-    F: Faults,
->(
+pub fn recover<R: Wait, C: Node<Plain = Cell> + Drop, L: Node<Plain = Log> + Drop, F: Faults>(
     rt: &R,
     alloc: Global,
     config: &Config,

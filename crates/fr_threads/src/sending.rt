@@ -101,13 +101,7 @@ fn exchange<
 }
 
 /// Calls a node: what it told, and the stamp of that. A call that is refused tells nothing.
-fn call<
-    R: Wait,
-    C: Node<Plain = Cell> + Drop,
-    L: Node<Plain = Log> + Drop,
-    F: Faults,
-    H: Hearer,
->(
+fn call<R: Wait, C: Node<Plain = Cell> + Drop, L: Node<Plain = Log> + Drop, F: Faults, H: Hearer>(
     rt: &R,
     alloc: Global,
     directory: &Directory<C, L>,

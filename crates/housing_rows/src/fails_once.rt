@@ -74,7 +74,7 @@ impl FailsOnce {
 }
 
 impl Node for FailsOnce {
-    ghost use Rattle.std.specs.Prelude.{◌≡◌, ◌⊎◌, ◌×◌};
+    ghost use Rattle.std.specs.Prelude.{◌≡◌, ◌⊎◌};
     ghost use Rattle.fr_base.specs.declared.node.NodeFault.TheVariants.{Device, Memory};
 
     type Plain = Log;
