@@ -130,9 +130,11 @@ impl<W: Workload + Drop> Client<W> {
         if let UnderWay::Said(outcome) = self.door.under_way() {
             self.door.reserve()?;
             self.told.reserve(1)?;
+            let said = outcome;
+            let taken = outcome;
             self.work.told(outcome)?;
-            self.door.take(outcome);
-            self.told.push_reserved(outcome);
+            self.door.take(taken);
+            self.told.push_reserved(said);
         }
         Ok(())
     }

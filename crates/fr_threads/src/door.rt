@@ -82,7 +82,7 @@ impl Door {
 
     /// The greatest stamp that the thread has seen.
     pub(crate) fn seen(&self) -> Stamp {
-        self.notes.now()
+        self.notes.seen()
     }
 
     /// What became of the batch that it took last.
@@ -179,7 +179,7 @@ pub(crate) fn send_all<
 {
     let asks = door.pending(alloc)?;
     for (to, ask) in asks.iter() {
-        send(rt, alloc, directory, faults, door, *to, ask)?;
+        send(rt, alloc, directory, faults, door, to, ask)?;
     }
     Ok(())
 }
@@ -198,7 +198,7 @@ impl Hearer for Door {
     }
 
     fn now(&self) -> Stamp {
-        self.notes.now()
+        self.notes.seen()
     }
 
     fn hear(
@@ -212,7 +212,10 @@ impl Hearer for Door {
         let Some(stamp) = self.notes.next()? else {
             return Ok(());
         };
-        let (outcome, _asks) = self.proxy.hear(alloc, from, &tell)?;
+        let sender = from;
+        let (outcome, _asks) = self.proxy.hear(alloc, sender, &tell)?;
+        let said = outcome;
+        let is_end = matches!(&said, Outcome::Ended);
         self.notes.enter(
             stamp,
             Act::Heard {
@@ -222,10 +225,9 @@ impl Hearer for Door {
                 outcome: Some(outcome),
             },
         );
-        self.under_way = after_saying(self.under_way, outcome);
-        if let Outcome::Ended = outcome {
-            self.is_over = true;
-        }
+        let before = self.under_way;
+        self.under_way = after_saying(before, said);
+        self.is_over = self.is_over || is_end;
         Ok(())
     }
 }

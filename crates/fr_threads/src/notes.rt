@@ -14,20 +14,20 @@ use std::alloc::Global;
 #[derive(Drop)]
 pub(crate) struct Notes {
     journal: Journal,
-    now: Stamp,
-    ghost within: { last_number journal.entries ≤ now },
+    seen: Stamp,
+    ghost within: { last_number journal.entries ≤ seen },
 }
 
 impl Notes {
     /// An empty journal, of a thread that has seen this stamp.
-    pub(crate) fn new(alloc: Global, place: NodeId, now: Stamp) -> Self
+    pub(crate) fn new(alloc: Global, place: NodeId, seen: Stamp) -> Self
         ensures place { result.journal.node ≡ place }
         ensures entries { result.journal.entries ≡ [] }
-        ensures now { result.now ≡ now }
+        ensures seen { result.seen ≡ seen }
     {
         Notes {
             journal: Journal::new(alloc, place),
-            now,
+            seen,
         }
     }
 
@@ -52,29 +52,29 @@ impl Notes {
     }
 
     /// The greatest stamp that the thread has seen.
-    pub(crate) fn now(&self) -> Stamp
-        ensures { result ≡ self.now.now }
+    pub(crate) fn seen(&self) -> Stamp
+        ensures { result ≡ self.now.seen }
     {
-        self.now
+        self.seen
     }
 
     /// The thread has seen this stamp.
     pub(crate) fn see(&mut self, stamp: Stamp)
         ensures journal { self.new.journal ≡ self.old.journal }
-        ensures seen { stamp ≤ self.new.now }
+        ensures seen { stamp ≤ self.new.seen }
     {
-        self.now = self.now.max(stamp);
+        self.seen = self.seen.max(stamp);
     }
 
     /// The stamp of the next entry, for which there is room from then on. None where the stamps are spent.
     pub(crate) fn next(&mut self) -> Result<Option<Stamp>, Memory>
         ensures place { self.new.journal.node ≡ self.old.journal.node }
         ensures entries { self.new.journal.entries ≡ self.old.journal.entries }
-        ensures there { self.old.now + 1 < 2 ^ 40 → IfOk result IsSome }
+        ensures there { self.old.seen + 1 < 2 ^ 40 → IfOk result IsSome }
         ensures room { IfOk result (λ next. IfSome next (λ stamp. 1 ≤ self.new.journal.room)) }
         ensures above { IfOk result (λ next. IfSome next (λ stamp. IsAbove self.new.journal.entries stamp)) }
     {
-        match Stamp::new(self.now.get() + 1) {
+        match Stamp::new(self.seen.get() + 1) {
             Some(next) => {
                 self.journal.reserve()?;
                 Ok(Some(next))
@@ -91,7 +91,7 @@ impl Notes {
         ensures entries { self.new.journal.entries ≡ self.old.journal.entries ++ record { stamp = stamp; act = act } ∷ [] }
     {
         self.journal.push_reserved(Entry { stamp, act });
-        self.now = stamp;
+        self.seen = stamp;
     }
 
     /// The journal, closed with where the node stands.
@@ -100,7 +100,7 @@ impl Notes {
         ensures entries { result.entries ≡ self.journal.entries }
         ensures last { result.last ≡ Some last }
     {
-        let Notes { journal, now: _ } = self;
+        let Notes { journal, seen: _ } = self;
         let mut journal = journal;
         journal.close(last);
         journal

@@ -42,7 +42,7 @@ impl Hearer for Recovery {
     }
 
     fn now(&self) -> Stamp {
-        self.notes.now()
+        self.notes.seen()
     }
 
     fn hear(
@@ -57,7 +57,8 @@ impl Hearer for Recovery {
             return Ok(());
         };
         let heard = tell.copy()?;
-        let _asks = self.recoverer.hear(alloc, from, heard)?;
+        let sender = from;
+        let _asks = self.recoverer.hear(alloc, sender, heard)?;
         self.notes.enter(
             stamp,
             Act::Heard {
@@ -101,7 +102,7 @@ fn show<R: Wait, C: Node<Plain = Cell> + Drop, L: Node<Plain = Log> + Drop>(
     let Some(generation) = recovery.recoverer.generation() else {
         return Ok(shown);
     };
-    let stamp = recovery.notes.now();
+    let stamp = recovery.notes.seen();
     let mut shown = shown;
     if shown == Shown::Nothing && recovery.recoverer.is_copied() {
         directory.publish_logs(rt, generation.epoch(), stamp)?;
@@ -133,7 +134,7 @@ fn recover_once<R: Wait, C: Node<Plain = Cell> + Drop, L: Node<Plain = Log> + Dr
     let mut shown = shown;
     let asks = recovery.recoverer.pending(alloc)?;
     for (to, ask) in asks.iter() {
-        send(rt, alloc, directory, faults, recovery, *to, ask)?;
+        send(rt, alloc, directory, faults, recovery, to, ask)?;
         shown = show(rt, alloc, directory, recovery, shown)?;
     }
     Ok(shown)

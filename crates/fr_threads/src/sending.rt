@@ -53,14 +53,14 @@ pub(crate) fn send<
     directory: &Directory<C, L>,
     faults: &F,
     hearer: &mut H,
-    to: NodeId,
+    to: &NodeId,
     ask: &Ask,
 ) -> Result<(), TurnFault>
     ensures node { H.node hearer.new ≡ H.node hearer.old }
     ensures given { H.given hearer.new ≡ H.given hearer.old }
     ensures told { H.told hearer.new ≡ H.told hearer.old }
 {
-    match faults.verdict(to, ask) {
+    match faults.verdict(*to, ask) {
         Verdict::DropAsk => Ok(()),
         Verdict::DropTell => {
             let _lost = call(rt, alloc, directory, faults, hearer, to, ask)?;
@@ -87,7 +87,7 @@ fn exchange<
     directory: &Directory<C, L>,
     faults: &F,
     hearer: &mut H,
-    to: NodeId,
+    to: &NodeId,
     ask: &Ask,
 ) -> Result<(), TurnFault>
     ensures node { H.node hearer.new ≡ H.node hearer.old }
@@ -95,7 +95,7 @@ fn exchange<
     ensures told { H.told hearer.new ≡ H.told hearer.old }
 {
     match call(rt, alloc, directory, faults, hearer, to, ask)? {
-        Some((at, tell)) => hearer.hear(alloc, at, to, tell),
+        Some((at, tell)) => hearer.hear(alloc, at, *to, tell),
         None => Ok(()),
     }
 }
@@ -107,13 +107,13 @@ fn call<R: Wait, C: Node<Plain = Cell> + Drop, L: Node<Plain = Log> + Drop, F: F
     directory: &Directory<C, L>,
     faults: &F,
     hearer: &H,
-    to: NodeId,
+    to: &NodeId,
     ask: &Ask,
 ) -> Result<Option<(Stamp, Tell)>, Memory> {
     let sent = ask.copy()?;
-    let told = directory.call(rt, alloc, hearer.now(), hearer.place(), to, sent);
+    let told = directory.call(rt, alloc, hearer.now(), hearer.place(), *to, sent);
     if told.is_some() {
-        faults.answered(to, ask);
+        faults.answered(*to, ask);
     }
     Ok(told)
 }

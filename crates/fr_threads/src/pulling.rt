@@ -1,5 +1,5 @@
 //! The thread of a storage server: it pulls what its logs hold, and hears of later epochs.
-ghost use Rattle.std.specs.Prelude.{◌≡◌, IfOk, false};
+ghost use Rattle.std.specs.Prelude.{◌≡◌, ◌≤◌, IfOk};
 ghost use Rattle.fr_base.specs.declared.place.NodeId.{NodeId};
 
 use crate::fault::{TurnFault, fault_of};
@@ -39,7 +39,7 @@ impl<S: ShardStore> Hearer for Puller<S> {
     }
 
     fn now(&self) -> Stamp {
-        self.notes.now()
+        self.notes.seen()
     }
 
     fn hear(
@@ -53,7 +53,8 @@ impl<S: ShardStore> Hearer for Puller<S> {
         let Some(stamp) = self.notes.next()? else {
             return Ok(());
         };
-        tell_storage(alloc, &mut self.storage, from, &tell)?;
+        let sender = from;
+        tell_storage(alloc, &mut self.storage, &sender, &tell)?;
         self.notes.enter(
             stamp,
             Act::Heard {
@@ -71,12 +72,12 @@ impl<S: ShardStore> Hearer for Puller<S> {
 fn tell_storage<S: ShardStore>(
     alloc: Global,
     storage: &mut Storage<S>,
-    from: NodeId,
+    from: &NodeId,
     tell: &Tell,
 ) -> Result<(), TurnFault> {
     match (from, tell) {
         (NodeId::Log { epoch, .. }, Tell::Log(LogTell::Peeked(peeked))) => {
-            refused(storage.hear_peeked(alloc, epoch, peeked))
+            refused(storage.hear_peeked(alloc, *epoch, peeked))
         }
         (NodeId::Log { .. }, Tell::Log(LogTell::Marked { state })) => {
             let state = state.copy()?;
@@ -126,12 +127,12 @@ fn pull_once<
     let tag = puller.storage.tag().get();
     let index = by_turn(config, tag, turn, config.degree());
     let to = NodeId::Log { epoch, index };
-    send(rt, alloc, directory, faults, puller, to, &Ask::Log(ask))?;
+    send(rt, alloc, directory, faults, puller, &to, &Ask::Log(ask))?;
     let epoch = directory.newest(rt).generation.epoch();
     let index = by_turn(config, 0, turn, config.logs());
     let to = NodeId::Log { epoch, index };
     let ask = Ask::Log(LogAsk::MarkAsked { epoch });
-    send(rt, alloc, directory, faults, puller, to, &ask)
+    send(rt, alloc, directory, faults, puller, &to, &ask)
 }
 
 /// The turns of a storage server, and its journal.
