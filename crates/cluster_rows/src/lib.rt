@@ -5,7 +5,6 @@
 mod defaults;
 #[cfg(test)]
 mod faulty;
-pub mod orders;
 #[cfg(test)]
 mod rolled_back;
 #[cfg(test)]

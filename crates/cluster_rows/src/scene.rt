@@ -1,6 +1,6 @@
 //! Clusters in memory, and what their journals say.
-use crate::orders::Orders;
 use fr_base::{Ballot, Bytes, Epoch, NodeId};
+use fr_cli_cluster::Orders;
 use fr_config::Config;
 use fr_journal::{Entry, Journal};
 use fr_runtime::{Cluster, PlainRack, Report};
