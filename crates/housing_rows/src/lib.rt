@@ -1,11 +1,10 @@
-//! Tests of nodes with their journals, and a log whose device fails once.
+//! Tests of nodes with their journals.
 #![tactic(auto)]
 
 #[cfg(test)]
 mod ended;
 #[cfg(test)]
 mod failed;
-pub mod fails_once;
 #[cfg(test)]
 mod rows;
 #[cfg(test)]

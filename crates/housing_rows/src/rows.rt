@@ -1,6 +1,5 @@
 //! The worked rows of logs, read back from the journals of housed logs.
-use crate::fails_once::FailsOnce;
-use crate::scene::{Asked, Told, are, fresh_log, house, log_after, log_at_seven, put};
+use crate::scene::{Asked, Told, are, house, log_after, put};
 use fr_base::InMemory;
 use fr_log::LogRefusal;
 use std::alloc::Global;
