@@ -87,20 +87,36 @@ impl Recorded {
     fn exchange(
         &mut self,
         alloc: Global,
-        from: NodeId,
-        to: NodeId,
+        from: &NodeId,
+        to: &NodeId,
         ask: Ask,
     ) -> anyhow::Result<()> {
-        let asked = Event::Deliver { from, to, ask };
-        if let Some(tell) = self.happen(alloc, asked)? {
-            let heard = Event::Hear {
-                by: from,
-                from: to,
-                tell,
-                taken: None,
-            };
-            self.happen(alloc, heard)?;
+        let asked = Event::Deliver {
+            from: *from,
+            to: *to,
+            ask,
+        };
+        match self.happen(alloc, asked)? {
+            Some(tell) => self.hear(alloc, from, to, tell),
+            None => Ok(()),
         }
+    }
+
+    /// A node hears what another told it.
+    fn hear(
+        &mut self,
+        alloc: Global,
+        by: &NodeId,
+        from: &NodeId,
+        tell: Tell,
+    ) -> anyhow::Result<()> {
+        let heard = Event::Hear {
+            by: *by,
+            from: *from,
+            tell,
+            taken: None,
+        };
+        self.happen(alloc, heard)?;
         Ok(())
     }
 
@@ -125,7 +141,7 @@ impl Recorded {
         };
         let proxy = self.world.proxy(nodes.epoch, 0)?.context("no proxy")?;
         for (to, ask) in proxy.pending(alloc)? {
-            self.exchange(alloc, by, to, ask)?;
+            self.exchange(alloc, &by, &to, ask)?;
         }
         Ok(())
     }
@@ -135,7 +151,8 @@ impl Recorded {
         let server = self.world.storage(nodes.tag).context("no server")?;
         let (epoch, ask) = server.next_ask();
         let by = NodeId::Storage { tag: nodes.tag };
-        self.exchange(alloc, by, NodeId::Log { epoch, index: 0 }, Ask::Log(ask))
+        let log = NodeId::Log { epoch, index: 0 };
+        self.exchange(alloc, &by, &log, Ask::Log(ask))
     }
 }
 
