@@ -238,9 +238,9 @@ pub(crate) fn are(
     if entries.len() != wanted.len() {
         return Ok(false);
     }
-    let mut stamp = 0;
+    let mut stamp = 0_u64;
     for (entry, (asked, told)) in entries.iter().zip(wanted) {
-        stamp += 1;
+        stamp = stamp.wrapping_add(1);
         if !says(alloc, entry, stamp, number, *asked, *told)? {
             return Ok(false);
         }
