@@ -9,7 +9,7 @@ use crate::prepare::{directory, first_generation, put, storages};
 use crate::rack::Rack;
 use fr_audit::audit;
 use fr_audit_rule::laws::audit_law;
-use fr_base::{Ballot, Node};
+use fr_base::{Ballot, Memory, Node};
 use fr_config::Config;
 use fr_journal::Journal;
 use fr_log::Log;
@@ -20,9 +20,9 @@ use fr_storage::Storage;
 use fr_threads::{Served, TurnFault, Workload, crash, pull, recover, serve};
 use fr_undo::ShardStore;
 use fr_world::World;
-use std::alloc::{AllocError, Global};
+use std::alloc::Global;
 use std::sync::Wait;
-use std::thread::{Threads, join, map_indices, map_vec};
+use std::thread::{Threads, map_vec};
 
 /// What a cluster did: the journals of its nodes, the world that they are a run of, and what each workload was told.
 #[derive(Drop)]
@@ -32,19 +32,21 @@ pub struct Report {
     pub told: Vec<Vec<Outcome>>,
 }
 
-/// A workload and the number of its proxies.
+/// What one thread does.
 #[derive(Drop)]
-struct Job<W> {
-    number: u8,
-    work: W,
+enum Job<W, S: ShardStore> {
+    Serve { number: u8, work: W },
+    Recover { number: usize },
+    Pull { storage: Storage<S> },
+    Crash,
 }
 
-/// What all threads hand back.
+/// What one thread hands back.
 #[derive(Drop)]
-struct Worked<W: Workload> {
-    served: Result<Vec<Result<Served<W>, TurnFault>>, AllocError>,
-    pulled: Result<Vec<Result<Journal, TurnFault>>, AllocError>,
-    recovered: Result<Vec<Result<Option<Journal>, TurnFault>>, AllocError>,
+enum Done<W: Workload> {
+    Served { served: Served<W> },
+    Kept { journal: Journal },
+    Nothing,
 }
 
 /// The journals of owned nodes, what each workload was told, and the workloads.
@@ -84,12 +86,12 @@ impl Cluster {
     {
         let directory = directory(rt, alloc, &config, &rack, ballots)?;
         let stores = storages(alloc, &config, &rack)?;
-        let jobs = jobs(alloc, workloads)?;
-        let worked = work(
-            rt, alloc, &config, &directory, faults, ballots, turns, jobs, stores,
-        );
+        let jobs = jobs(alloc, workloads, ballots, stores)?;
+        let done = work(
+            rt, alloc, &config, &directory, faults, ballots, turns, jobs,
+        )?;
         let journals = directory.into_journals(alloc)?;
-        let gathered = gather(alloc, journals, worked)?;
+        let gathered = gather(alloc, journals, done)?;
         let Gathered {
             journals,
             told,
@@ -100,15 +102,73 @@ impl Cluster {
     }
 }
 
-/// The workloads with their numbers.
-fn jobs<W: Drop>(alloc: Global, workloads: Vec<W>) -> Result<Vec<Job<W>>, RunFault> {
+/// What the threads do: one for each workload, each ballot and each storage server, and one for the crashes.
+fn jobs<W: Drop, S: ShardStore + Drop>(
+    alloc: Global,
+    workloads: Vec<W>,
+    ballots: &[Ballot],
+    stores: Vec<Storage<S>>,
+) -> Result<Vec<Job<W, S>>, RunFault> {
     let mut all = Vec::new(alloc);
     let mut number: u8 = 0;
     for work in workloads {
-        put(&mut all, Job { number, work })?;
+        put(&mut all, Job::Serve { number, work })?;
         number = number.saturating_add(1);
     }
+    for number in 0..ballots.len() {
+        put(&mut all, Job::Recover { number })?;
+    }
+    for storage in stores {
+        put(&mut all, Job::Pull { storage })?;
+    }
+    put(&mut all, Job::Crash)?;
     Ok(all)
+}
+
+/// Does what one thread does.
+fn work_at<
+    C: Node<Plain = Cell> + Drop,
+    L: Node<Plain = Log> + Drop,
+    S: ShardStore + Drop,
+    W: Workload + Drop,
+    F: Faults,
+    R: Wait,
+>(
+    rt: &R,
+    alloc: Global,
+    config: &Config,
+    directory: &Directory<C, L>,
+    faults: &F,
+    ballots: &[Ballot],
+    turns: u32,
+    job: Job<W, S>,
+) -> Result<Done<W>, TurnFault> {
+    match job {
+        Job::Serve { number, work } => {
+            let first = first_generation(config);
+            let served = serve(
+                rt, alloc, config, first, directory, faults, number, work, turns,
+            )?;
+            Ok(Done::Served { served })
+        }
+        Job::Recover { number } => {
+            let Some(ballot) = ballots.get(number) else {
+                return Ok(Done::Nothing);
+            };
+            match recover(rt, alloc, config, directory, faults, *ballot, turns)? {
+                Some(journal) => Ok(Done::Kept { journal }),
+                None => Ok(Done::Nothing),
+            }
+        }
+        Job::Pull { storage } => {
+            let journal = pull(rt, alloc, config, directory, faults, storage, turns)?;
+            Ok(Done::Kept { journal })
+        }
+        Job::Crash => {
+            crash(rt, alloc, directory, faults, turns);
+            Ok(Done::Nothing)
+        }
+    }
 }
 
 /// Runs the threads to their ends.
@@ -127,74 +187,33 @@ fn work<
     faults: &F,
     ballots: &[Ballot],
     turns: u32,
-    jobs: Vec<Job<W>>,
-    stores: Vec<Storage<S>>,
-) -> Worked<W> {
-    let first = first_generation(config);
-    let client = |job: Job<W>| {
-        serve(
-            rt, alloc, config, first, directory, faults, job.number, job.work, turns,
+    jobs: Vec<Job<W, S>>,
+) -> Result<Vec<Result<Done<W>, TurnFault>>, Memory> {
+    let one = |job: Job<W, S>| {
+        work_at(
+            rt, alloc, config, directory, faults, ballots, turns, job,
         )
     };
-    let puller = |storage: Storage<S>| pull(rt, alloc, config, directory, faults, storage, turns);
-    let recoverer = |number: usize| match ballots.get(number) {
-        Some(ballot) => recover(rt, alloc, config, directory, faults, *ballot, turns),
-        None => Ok(None),
-    };
-    let (served, (pulled, recovered)) = join(
-        rt,
-        || map_vec(rt, jobs, &client),
-        || {
-            join(
-                rt,
-                || map_vec(rt, stores, &puller),
-                || {
-                    let (recovered, ()) = join(
-                        rt,
-                        || map_indices(rt, alloc, ballots.len(), &recoverer),
-                        || crash(rt, alloc, directory, faults, turns),
-                    );
-                    recovered
-                },
-            )
-        },
-    );
-    Worked {
-        served,
-        pulled,
-        recovered,
-    }
+    Ok(map_vec(rt, jobs, &one)?)
 }
 
 /// Puts what the threads handed back to the journals of the shared nodes.
 fn gather<W: Workload + Drop>(
     alloc: Global,
     journals: Vec<Journal>,
-    worked: Worked<W>,
+    done: Vec<Result<Done<W>, TurnFault>>,
 ) -> Result<Gathered<W>, RunFault> {
-    let Worked {
-        served,
-        pulled,
-        recovered,
-    } = worked;
-    let (Ok(served), Ok(pulled), Ok(recovered)) = (served, pulled, recovered) else {
-        return Err(RunFault::Memory);
-    };
     let mut all = Gathered {
         journals,
         told: Vec::new(alloc),
         works: Vec::new(alloc),
     };
-    for client in served {
-        add_client(&mut all, client?)?;
-    }
-    for journal in recovered {
-        if let Some(journal) = journal? {
-            put(&mut all.journals, journal)?;
+    for thread in done {
+        match thread? {
+            Done::Served { served } => add_client(&mut all, served)?,
+            Done::Kept { journal } => put(&mut all.journals, journal)?,
+            Done::Nothing => {}
         }
-    }
-    for journal in pulled {
-        put(&mut all.journals, journal?)?;
     }
     Ok(all)
 }

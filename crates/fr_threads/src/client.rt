@@ -1,7 +1,7 @@
 //! The thread of a workload: it hands the workload's batches to the proxy of its number in the newest epoch.
-ghost use Rattle.std.specs.Prelude.{◌≡◌, ◌++◌, true, IfOk};
+ghost use Rattle.std.specs.Prelude.{◌≡◌, ◌++◌, [], true, IfOk, OnOk};
 ghost use Rattle.fr_threads.specs.declared.order.UnderWay.{UnderWay};
-ghost use Rattle.fr_threads.specs.Account.{account, all_given, all_outcomes, are_proxies, is_proxy, left_over, waiting_for, waiting_if};
+ghost use Rattle.fr_threads.specs.Account.{account, all_given, all_outcomes, are_proxies, is_proxy, left_over, said, waiting_for, waiting_if};
 
 use crate::door::{Door, send_all};
 use crate::fault::TurnFault;
@@ -126,17 +126,22 @@ impl<W: Workload + Drop> Client<W> {
     fn settle(&mut self) -> Result<(), Memory>
         ensures first { self.new.first ≡ self.old.first }
         ensures number { self.new.number ≡ self.old.number }
+        ensures settled { OnOk result (said self.new.door.under_way ≡ []) }
     {
-        if let UnderWay::Said(outcome) = self.door.under_way() {
-            self.door.reserve()?;
-            self.told.reserve(1)?;
-            let said = outcome;
-            let taken = outcome;
-            self.work.told(outcome)?;
-            self.door.take(taken);
-            self.told.push_reserved(said);
+        match self.door.under_way() {
+            UnderWay::Said(outcome) => {
+                self.door.reserve()?;
+                self.told.reserve(1)?;
+                let said = outcome;
+                let taken = outcome;
+                self.work.told(outcome)?;
+                self.door.take(taken);
+                self.told.push_reserved(said);
+                Ok(())
+            }
+            UnderWay::Open => Ok(()),
+            UnderWay::Nothing => Ok(()),
         }
-        Ok(())
     }
 
     /// One turn: a batch is handed out where none is open, and each pending ask is sent once. False where there is no
@@ -179,9 +184,10 @@ impl<W: Workload + Drop> Client<W> {
             kept,
             ..
         } = client;
-        let is_open = matches!(door.under_way(), UnderWay::Open);
+        let is_open = door.is_open();
         let (work, told) = tell_waiting(work, told, is_open)?;
-        let (work, told) = tell_waiting(work, told, kept.is_some())?;
+        let is_kept = is_left(&kept);
+        let (work, told) = tell_waiting(work, told, is_kept)?;
         let mut journals = earlier;
         journals.reserve(1)?;
         journals.push_reserved(door.close());
@@ -191,6 +197,16 @@ impl<W: Workload + Drop> Client<W> {
             kept,
             told,
         })
+    }
+}
+
+/// Whether a batch is left over.
+fn is_left(kept: &Option<Order>) -> bool
+    ensures { waiting_if result ≡ waiting_for kept.now }
+{
+    match kept {
+        Some(_) => true,
+        None => false,
     }
 }
 
@@ -240,7 +256,7 @@ pub fn serve<
     ensures places { IfOk result (λ s. are_proxies number s.journals.items ≡ true) }
 {
     let mut client = Client::new(alloc, config, first, number, work)?;
-    for _ in 0..turns {
+    for _turn in 0..turns {
         if !client.turn(rt, alloc, config, directory, faults)? {
             break;
         }

@@ -92,6 +92,17 @@ impl Door {
         self.under_way
     }
 
+    /// Whether the batch that it took last is under way.
+    pub(crate) fn is_open(&self) -> bool
+        ensures { result ≡ is_open_in self.now.under_way }
+    {
+        match self.under_way {
+            UnderWay::Open => true,
+            UnderWay::Nothing => false,
+            UnderWay::Said(_) => false,
+        }
+    }
+
     /// Whether the proxy takes no more.
     pub(crate) fn is_over(&self) -> bool {
         self.is_over
@@ -120,7 +131,8 @@ impl Door {
             self.is_over = true;
             return Ok(());
         }
-        if let Some(Order { step, batch }) = kept.take() {
+        if let Some(order) = kept.take() {
+            let Order { step, batch } = order;
             self.notes.enter(stamp, Act::Submitted { step, batch });
             self.under_way = UnderWay::Open;
         }

@@ -1,5 +1,5 @@
 //! The thread of a ballot: its recoverer begins when the faults say so, and goes on until it is chosen or lost.
-ghost use Rattle.std.specs.Prelude.{◌≡◌, ◌≢◌, ◌≤◌, ℕ, IfOk, IfSome, IsSome, IsTrue, true};
+ghost use Rattle.std.specs.Prelude.{◌≡◌, ◌≢◌, ◌≤◌, ◌<◌, ◌+◌, ℕ, false, IfNone, IfOk, IfSome, IsSome, true};
 ghost use Rattle.fr_base.specs.declared.place.NodeId.{NodeId};
 ghost use Rattle.fr_threads.specs.Begins.{starts_with_begun};
 
@@ -149,6 +149,46 @@ fn is_done(alloc: Global, recovery: &Recovery) -> Result<bool, Memory> {
     }
 }
 
+/// The first of so many turns at which the recoverer of a ballot begins, if there is one.
+fn first_turn<F: Faults>(faults: &F, ballot: Ballot, turns: u32) -> Option<u32>
+    ensures { IfNone result ((before : ℕ) → before < turns → F.begun faults.now ballot (before + 1) ≡ false) }
+{
+    for before in 0..turns {
+        if faults.begins(ballot, before + 1) {
+            return Some(before + 1);
+        }
+    }
+    None
+}
+
+/// The turns of a recoverer that begins at this one, and its journal.
+fn recovered<R: Wait, C: Node<Plain = Cell> + Drop, L: Node<Plain = Log> + Drop, F: Faults>(
+    rt: &R,
+    alloc: Global,
+    config: &Config,
+    directory: &Directory<C, L>,
+    faults: &F,
+    ballot: Ballot,
+    from: u32,
+    turns: u32,
+) -> Result<Journal, TurnFault>
+    requires used { ballot ≢ 0 }
+    ensures place { IfOk result (λ journal. journal.node ≡ NodeId.Recoverer ballot) }
+    ensures begun { IfOk result (λ journal. starts_with_begun journal.entries ≡ true) }
+{
+    let mut recovery = begin(alloc, config, ballot)?;
+    let mut shown = Shown::Nothing;
+    for _turn in from..=turns {
+        shown = recover_once(rt, alloc, directory, faults, &mut recovery, shown)?;
+        if is_done(alloc, &recovery)? {
+            break;
+        }
+    }
+    let Recovery { recoverer, notes } = recovery;
+    let last = last_of_recoverer(alloc, &recoverer)?;
+    Ok(notes.close(last))
+}
+
 /// The turns of a ballot, and the journal of its recoverer, if that began.
 pub fn recover<R: Wait, C: Node<Plain = Cell> + Drop, L: Node<Plain = Log> + Drop, F: Faults>(
     rt: &R,
@@ -166,23 +206,10 @@ pub fn recover<R: Wait, C: Node<Plain = Cell> + Drop, L: Node<Plain = Log> + Dro
     if ballot.epoch().is_none() {
         return Ok(None);
     }
-    let mut begun: Option<Recovery> = None;
-    let mut shown = Shown::Nothing;
-    for number in 1..=turns {
-        if begun.is_none() && faults.begins(ballot, number) {
-            begun = Some(begin(alloc, config, ballot)?);
-        }
-        if let Some(recovery) = begun.as_mut() {
-            shown = recover_once(rt, alloc, directory, faults, recovery, shown)?;
-            if is_done(alloc, recovery)? {
-                break;
-            }
-        }
-    }
-    match begun {
-        Some(Recovery { recoverer, notes }) => {
-            let last = last_of_recoverer(alloc, &recoverer)?;
-            Ok(Some(notes.close(last)))
+    match first_turn(faults, ballot, turns) {
+        Some(from) => {
+            let journal = recovered(rt, alloc, config, directory, faults, ballot, from, turns)?;
+            Ok(Some(journal))
         }
         None => Ok(None),
     }
