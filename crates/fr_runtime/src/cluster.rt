@@ -1,8 +1,6 @@
 //! The running cluster.
-ghost use Rattle.std.specs.Prelude.{◌≡◌, ◌≤◌, vec_len, Err, IfOk};
-ghost use Rattle.fr_audit_rule.specs.Audited.{audited};
+ghost use Rattle.std.specs.Prelude.{◌≡◌, IfOk};
 ghost use Rattle.fr_audit_rule.specs.Run.{IsRunOf};
-ghost use Rattle.fr_runtime.specs.declared.fault.RunFault.{RunFault};
 
 use crate::fault::RunFault;
 use crate::prepare::{directory, first_generation, put, storages};
@@ -87,9 +85,7 @@ impl Cluster {
         let directory = directory(rt, alloc, &config, &rack, ballots)?;
         let stores = storages(alloc, &config, &rack)?;
         let jobs = jobs(alloc, workloads, ballots, stores)?;
-        let done = work(
-            rt, alloc, &config, &directory, faults, ballots, turns, jobs,
-        )?;
+        let done = work(rt, alloc, &config, &directory, faults, ballots, turns, jobs)?;
         let journals = directory.into_journals(alloc)?;
         let gathered = gather(alloc, journals, done)?;
         let Gathered {
@@ -97,7 +93,7 @@ impl Cluster {
             told,
             works,
         } = gathered;
-        let report = report(alloc, config, journals, told)?;
+        let report = audited_report(alloc, config, journals, told)?;
         Ok((report, works))
     }
 }
@@ -190,9 +186,7 @@ fn work<
     jobs: Vec<Job<W, S>>,
 ) -> Result<Vec<Result<Done<W>, TurnFault>>, Memory> {
     let one = |job: Job<W, S>| {
-        work_at(
-            rt, alloc, config, directory, faults, ballots, turns, job,
-        )
+        work_at(rt, alloc, config, directory, faults, ballots, turns, job)
     };
     Ok(map_vec(rt, jobs, &one)?)
 }
@@ -238,7 +232,7 @@ fn add_client<W: Workload + Drop>(
 }
 
 /// What journals come to, which are audited.
-fn report(
+fn audited_report(
     alloc: Global,
     config: Config,
     journals: Vec<Journal>,

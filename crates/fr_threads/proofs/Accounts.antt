@@ -1,11 +1,9 @@
 -- Accounts of journals that are one entry longer, and of several journals.
 use Rattle.std.proofs.Common.{refl, sym, ap, ◌∙◌}
 use Rattle.std.proofs.lemmas.List.{append-nil, append_assoc}
-use Rattle.std.specs.Prelude.{ℕ, Bool, true, false, ◌≡◌, ◌&&◌, ◌++◌, List, [], ◌∷◌, Option, Some, None, if◌then◌else◌}
+use Rattle.std.specs.Prelude.{ℕ, Bool, true, false, ◌≡◌, ◌&&◌, ◌++◌, List, [], ◌∷◌, Some}
 use Rattle.fr_proxy.specs.declared.outcome.Outcome.{Outcome}
 use Rattle.fr_proxy.specs.declared.outcome.Outcome.TheVariants.{Waiting, Committed, Ended}
-use Rattle.fr_journal.specs.declared.act.Act.{Act}
-use Rattle.fr_journal.specs.declared.act.Act.TheVariants.{Asked, Heard, Submitted, Begun, Crashed, Lost}
 use Rattle.fr_journal.specs.declared.act.Entry.{Entry}
 use Rattle.fr_journal.specs.Journal.{JournalState, last_from, last_stamp}
 use Rattle.fr_housing.specs.Housing.{last_number, number_or_zero}
@@ -108,7 +106,7 @@ pub told-ended : (js : List JournalState) (j : JournalState) (all : List Journal
     → most ≡ all_outcomes all ++ end
 told-ended js j all start told more most rest end is_open a o s m n r =
     let one : (all_outcomes js ++ told) ++ waiting_if is_open ≡ all_outcomes (js ++ j ∷ []) =
-        append_assoc (all_outcomes js) told (waiting_if is_open) ∙ (ap (λ l. all_outcomes js ++ l) (sym o) ∙ sym (all-outcomes-append js j)) in
+    append_assoc (all_outcomes js) told (waiting_if is_open) ∙ (ap (λ l. all_outcomes js ++ l) (sym o) ∙ sym (all-outcomes-append js j)) in
     rw (n, m, s, a, r) (ap (λ l. l ++ end) one)
 
 pub places-append : (number : ℕ) (js : List JournalState) (j : JournalState) (all : List JournalState)

@@ -1,11 +1,11 @@
 -- What became of the batches that proxies took, read from their journals.
 use Rattle.std.specs.Prelude.{ℕ, ◌==◌, ◌&&◌, Bool, true, false, List, [], ◌∷◌, ◌++◌, Option, Some, None, if◌then◌else◌}
 use Rattle.fr_base.specs.declared.place.NodeId.{NodeId}
-use Rattle.fr_base.specs.declared.place.NodeId.TheVariants.{Cell, Log, Sequencer, Proxy, Recoverer, Storage}
+use Rattle.fr_base.specs.declared.place.NodeId.TheVariants.{Proxy}
 use Rattle.fr_proxy.specs.declared.outcome.Outcome.{Outcome}
 use Rattle.fr_proxy.specs.declared.outcome.Outcome.TheVariants.{Waiting, Committed, Ended}
 use Rattle.fr_journal.specs.declared.act.Act.{Act}
-use Rattle.fr_journal.specs.declared.act.Act.TheVariants.{Asked, Heard, Submitted, Begun, Crashed, Lost}
+use Rattle.fr_journal.specs.declared.act.Act.TheVariants.{Heard, Submitted}
 use Rattle.fr_journal.specs.declared.act.Entry.{Entry}
 use Rattle.fr_journal.specs.Journal.{JournalState}
 use Rattle.fr_threads.specs.declared.order.Order.{Order}

@@ -1,7 +1,7 @@
 -- How the journal of a recoverer starts.
 use Rattle.std.specs.Prelude.{Bool, true, false, List, [], ◌∷◌}
 use Rattle.fr_journal.specs.declared.act.Act.{Act}
-use Rattle.fr_journal.specs.declared.act.Act.TheVariants.{Asked, Heard, Submitted, Begun, Crashed, Lost}
+use Rattle.fr_journal.specs.declared.act.Act.TheVariants.{Begun}
 use Rattle.fr_journal.specs.declared.act.Entry.{Entry}
 
 abbrev pub is_begun : Act → Bool

@@ -1,5 +1,5 @@
 use Rattle.std.proofs.Common.{ap, refl, ◌∙◌, ◌≡◌, ◌++◌, ◌∷◌, []}
-use Rattle.fr_threads.specs.Account.{account, all_given, all_outcomes, is_proxy, outcomes, said}
+use Rattle.fr_threads.specs.Account.{is_proxy, outcomes, said}
 use Rattle.fr_threads.proofs.Accounts.{given-moved, places-append, told-moved, told-open}
 use Rattle.fr_threads.proofs.client.Client.move_on.Goals as goal
 
