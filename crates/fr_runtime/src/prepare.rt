@@ -124,6 +124,7 @@ fn logs<K: Rack>(
     state: &CoordState,
     epochs: &[Epoch],
 ) -> Result<Vec<Station<K::Log>>, RunFault> {
+    let _within = config.coordinators();
     let mut all = Vec::new(alloc);
     for epoch in epochs {
         for index in 0..config.logs() {
