@@ -1,0 +1,22 @@
+//! What each thread of a cluster does, turn by turn: workloads hand batches to proxies, storage servers pull, recoverers
+//! begin and recover, and nodes crash.
+#![tactic(auto)]
+
+mod client;
+mod crashes;
+mod door;
+mod fault;
+mod notes;
+mod order;
+mod pulling;
+mod recovery;
+mod sending;
+mod workload;
+
+pub use client::{Served, serve};
+pub use crashes::crash;
+pub use fault::TurnFault;
+pub use order::Order;
+pub use pulling::pull;
+pub use recovery::recover;
+pub use workload::Workload;
