@@ -1,6 +1,6 @@
 -- Undo rows in a list, in the order of their places.
-use Rattle.std.proofs.Common.{◌≡◌, ℕ, zero, suc, ◌+◌, ◌<◌, ◌≤◌, Bool, true, false, not, cond, List, [], ◌∷◌, ◌++◌, length, take, drop, Option, None, Some, IsSome, refl, sym, ap, ◌∙◌, subst, arith, append_assoc, length-append}
-use Rattle.std.specs.Prelude.{◌==◌, is_some, nat_le, nat_lt, slice_index_or, unwrap_or}
+use Rattle.std.proofs.Common.{◌≡◌, ℕ, zero, suc, ◌+◌, ◌<◌, ◌≤◌, Bool, true, false, not, cond, List, [], ◌∷◌, ◌++◌, length, take, drop, Option, None, Some, refl, sym, ap, ◌∙◌, arith, append_assoc, length-append}
+use Rattle.std.specs.Prelude.{◌==◌, nat_le, nat_lt, slice_index_or, unwrap_or}
 use Rattle.std.specs.declared.cmp.Ordering.{Ordering}
 use Rattle.std.specs.declared.cmp.Ordering.TheVariants.{Less, Equal, Greater}
 use Rattle.std.specs.Option.{option_or}
@@ -11,14 +11,13 @@ use Rattle.std.specs.BTreeMap.{is_at}
 use Rattle.std.specs.Map.{lookup, keys_of}
 use Rattle.std.specs.List.{filter, AllByRecursion}
 use Rattle.std.specs.List.Sorted.{IsStrictlySortedBy, IsPartitionedBy}
-use Rattle.std.specs.FinMap.{empty, get, len, entries, from_entries, from_sorted, get-from_entries, get-from_sorted, entries-from_sorted, len-entries, same_map}
+use Rattle.std.specs.FinMap.{empty, get, len, from_entries, from_sorted, get-from_entries, get-from_sorted, entries-from_sorted, len-entries, same_map}
 use Rattle.std.proofs.lemmas.Bool.{leb-true, leb-false, ltb-true, ltb-false}
-use Rattle.std.proofs.lemmas.Map.Keys.{sorted_head}
 use Rattle.fr_base.specs.Bytes.{bytes_cmp, bytes_total, bytes_exact, is_same}
 use Rattle.fr_base.proofs.MapLemmas.{none_below, one_key}
 use Rattle.fr_undo.specs.State.{Place, place_cmp, UndoRows}
 use Rattle.fr_undo.specs.declared.changes.Change.{Change}
-use Rattle.fr_undo.specs.Rows.{RowList, row_in, map_of_rows, IsInOrder, rows_to, rows_beyond, AreThrough, with_row, rows_made}
+use Rattle.fr_undo.specs.Rows.{RowList, row_in, map_of_rows, IsInOrder, rows_beyond, AreThrough, with_row, rows_made}
 use Rattle.fr_undo.specs.Changes.{Changes, KnowBefore, written, value_written, row_of, row_made, after_of, before_of, first_row}
 use Rattle.fr_undo.specs.Undo.{least_row, before_if_changed}
 use Rattle.fr_undo.proofs.UndoLemmas.{place_total, place_exact, one_version, same_value-itself}
