@@ -1,25 +1,25 @@
--- Undo rows, from the newest version down and from the oldest up.
-use Rattle.std.proofs.Common.{◌≡◌, ℕ, zero, suc, ◌+◌, ◌<◌, ◌≤◌, Bool, true, false, not, cond, ◌&&◌, List, [], ◌∷◌, length, Option, None, Some, IsSome, IfSome, refl, sym, ap, ◌∙◌, subst, arith}
-use Rattle.std.specs.Prelude.{◌==◌, is_some, nat_le, nat_lt}
+-- Undo rows in the order of their places, and what they make of keys.
+use Rattle.std.proofs.Common.{◌≡◌, ℕ, zero, suc, ◌+◌, ◌<◌, ◌≤◌, Bool, true, false, not, cond, ◌&&◌, List, [], ◌∷◌, Option, None, Some, IsSome, IfSome, refl, sym, ap, ◌∙◌, subst, arith}
+use Rattle.std.specs.Prelude.{◌==◌, is_some, nat_le}
 use Rattle.std.specs.declared.cmp.Ordering.{Ordering}
 use Rattle.std.specs.declared.cmp.Ordering.TheVariants.{Less, Equal, Greater}
 use Rattle.std.specs.Option.{option_or}
 use Rattle.std.specs.Ordering.{is_eq, is_lt, is_le, is_gt, nat_cmp, ordering_then}
-use Rattle.std.specs.Cmp.{unsigned_Decides, nat_cmp_is, ranked, tied_itself}
+use Rattle.std.specs.Cmp.{unsigned_Decides, ranked, tied_itself}
 use Rattle.std.specs.BTreeMap as tree
-use Rattle.std.specs.BTreeMap.{is_at, IsUpperBound, Updates}
+use Rattle.std.specs.BTreeMap.{is_at}
 use Rattle.std.specs.Map.{lookup, keys_of}
 use Rattle.std.specs.List.{filter, AllByRecursion}
 use Rattle.std.specs.List.Sorted.{IsStrictlySortedBy}
 use Rattle.std.proofs.lemmas.Map.Keys.{sorted_head, sorted_tail}
 use Rattle.std.specs.FinMap.{get}
-use Rattle.std.proofs.lemmas.Bool.{leb-true, leb-false, ltb-false}
+use Rattle.std.proofs.lemmas.Bool.{leb-true, leb-false}
 use Rattle.fr_base.specs.Bytes.{bytes_cmp, is_same, bytes_exact}
 use Rattle.fr_base.specs.Map.{map_of}
 use Rattle.fr_base.proofs.MapLemmas.{get-map_of, one_key, is_same-comm}
 use Rattle.fr_undo.specs.State.{Place, place_cmp, UndoRows}
 use Rattle.fr_undo.specs.declared.changes.Change.{Change}
-use Rattle.fr_undo.specs.Trees.{Rows, IsUpTo, IsAbove, PopsAbove}
+use Rattle.fr_undo.specs.Trees.{Rows, IsUpTo}
 use Rattle.fr_undo.specs.Changes.{Changes, KnowBefore, after_of, first_row}
 use Rattle.fr_undo.specs.Undo.{least_row}
 use Rattle.fr_undo.proofs.UndoLemmas.{place_total, is_eq_second}
@@ -27,28 +27,6 @@ use Rattle.fr_undo.proofs.ChangeLemmas.{none_from_is_some}
 
 clash : false ≡ true → ⊥
 clash h = cc
-
--- ---- the greatest place
-
-pub upto_from_not_lt : (p q : Place) → is_lt (place_cmp p q) ≡ false → q.0 ≤ p.0
-upto_from_not_lt p q e =
-    elim (nat_le q.0 p.0) as (λ b. nat_le q.0 p.0 ≡ b → q.0 ≤ p.0) [
-      | true ↦ λ t. leb-true q.0 p.0 t
-      | false ↦ λ t.
-          let less : Less ≡ nat_cmp p.0 q.0 = nat_cmp_is p.0 q.0 Less (leb-false q.0 p.0 t) in
-          absurd (clashed (ap (λ r. is_lt (ordering_then r (bytes_cmp p.1 q.1))) less ∙ e))
-    ] refl
-  where
-    clashed : true ≡ false → ⊥
-    clashed h = cc
-
-pub pops : (rows left : Rows) (t : ℕ) (place : Place) (result : Option (Place × Option (List ℕ))) → t < place.0 → IsSome (tree.get place_cmp rows place)
-    → IfSome result (λ p. IsUpperBound place_cmp rows p.0) → IfSome result (λ p. Updates place_cmp rows left p.0 None) → IfSome result (λ p. PopsAbove rows t p.0 left)
-pops rows left t place None above was greatest updates = tt
-pops rows left t place (Some p) above was greatest updates = record {
-  above = let le : place.0 ≤ p.0.0 = upto_from_not_lt p.0 place (greatest place was) in omega arith;
-  updates = updates.0;
-}
 
 pub above_from_gt : (a b : ℕ) → is_gt (nat_cmp a b) ≡ true → b < a
 above_from_gt a b e = from (nat_cmp a b) refl
@@ -58,26 +36,6 @@ above_from_gt a b e = from (nat_cmp a b) refl
     from Equal t = absurd (clash (sym (ap is_gt t) ∙ e))
     from Greater t = ranked a b Greater (sym t)
 
-pub entries_from_get : {K X : Type 0} (test : K → Bool) (es : List (K × X)) → IsSome (lookup test es) → 0 < length es
-entries_from_get test [] h = absurd (clash h)
-entries_from_get test (e ∷ es) h = omega arith
-
--- ---- what stays
-
-pub none_from_upto : (rows : Rows) (t w : ℕ) (q : List ℕ) → IsUpTo rows t → t < w → tree.get place_cmp rows (w, q) ≡ None
-none_from_upto rows t w q upto lt = from (tree.get place_cmp rows (w, q)) refl
-  where
-    from : (o : Option (Option (List ℕ))) → tree.get place_cmp rows (w, q) ≡ o → o ≡ None
-    from None e = refl
-    from (Some x) e = absurd (let le = upto w q (ap is_some e) in omega arith)
-
-pub upto_left : (rows : Rows) (t : ℕ) → IsUpTo rows t → (p : Place) → tree.get place_cmp rows p ≡ cond (nat_le p.0 t) (tree.get place_cmp rows p) None
-upto_left rows t upto p =
-    elim (nat_le p.0 t) as (λ b. nat_le p.0 t ≡ b → tree.get place_cmp rows p ≡ cond b (tree.get place_cmp rows p) None) [
-      | true ↦ λ e. refl
-      | false ↦ λ e. none_from_upto rows t p.0 p.1 upto (leb-false p.0 t e)
-    ] refl
-
 pub below_from_lt : (a b : ℕ) → is_lt (nat_cmp a b) ≡ true → a < b
 below_from_lt a b e = from (nat_cmp a b) refl
   where
@@ -85,20 +43,6 @@ below_from_lt a b e = from (nat_cmp a b) refl
     from Less t = ranked a b Less (sym t)
     from Equal t = absurd (clash (sym (ap is_lt t) ∙ e))
     from Greater t = absurd (clash (sym (ap is_lt t) ∙ e))
-
--- ---- rows at a new version
-
-pub lower_place : (v : ℕ) (k : List ℕ) (p : Place) → p.0 < v → is_at (place_cmp (v, k)) p ≡ false
-lower_place v k p lt = ap (λ r. is_eq (ordering_then r (bytes_cmp k p.1))) (sym (nat_cmp_is v p.0 Greater lt))
-
-pub dropped_back : (rows more : Rows) (applied version : ℕ) → IsUpTo rows applied → applied < version
-    → ((p : Place) → p.0 < version → tree.get place_cmp more p ≡ tree.get place_cmp rows p)
-    → (p : Place) → cond (nat_le p.0 applied) (tree.get place_cmp more p) None ≡ tree.get place_cmp rows p
-dropped_back rows more applied version upto later below p =
-    elim (nat_le p.0 applied) as (λ b. nat_le p.0 applied ≡ b → cond b (tree.get place_cmp more p) None ≡ tree.get place_cmp rows p) [
-      | true ↦ λ e. let le = leb-true p.0 applied e in below p (omega arith)
-      | false ↦ λ e. sym (none_from_upto rows applied p.0 p.1 upto (leb-false p.0 applied e))
-    ] refl
 
 pub above_from_not_le : (a b : ℕ) → is_le (nat_cmp a b) ≡ false → b < a
 above_from_not_le a b e = from (nat_cmp a b) refl
@@ -108,29 +52,7 @@ above_from_not_le a b e = from (nat_cmp a b) refl
     from Equal t = absurd (clash (sym e ∙ ap is_le t))
     from Greater t = ranked a b Greater (sym t)
 
--- ---- rows from the oldest up
-
-pub from_not_gt : (p q : Place) → is_gt (place_cmp p q) ≡ false → p.0 ≤ q.0
-from_not_gt p q e = from (nat_cmp p.0 q.0) refl
-  where
-    from : (r : Ordering) → nat_cmp p.0 q.0 ≡ r → p.0 ≤ q.0
-    from Less t = let lt : p.0 < q.0 = ranked p.0 q.0 Less (sym t) in omega arith
-    from Equal t = let is : p.0 ≡ q.0 = ranked p.0 q.0 Equal (sym t) in omega arith
-    from Greater t = absurd (greater (sym (ap (λ r. is_gt (ordering_then r (bytes_cmp p.1 q.1))) t) ∙ e))
-      where
-        greater : true ≡ false → ⊥
-        greater h = cc
-
-pub above_left : (rows : Rows) (f : ℕ) → IsAbove rows f → (p : Place) → tree.get place_cmp rows p ≡ cond (nat_lt f p.0) (tree.get place_cmp rows p) None
-above_left rows f above p =
-    elim (nat_lt f p.0) as (λ b. nat_lt f p.0 ≡ b → tree.get place_cmp rows p ≡ cond b (tree.get place_cmp rows p) None) [
-      | true ↦ λ e. refl
-      | false ↦ λ e. none (tree.get place_cmp rows p) refl (ltb-false f p.0 e)
-    ] refl
-  where
-    none : (o : Option (Option (List ℕ))) → tree.get place_cmp rows p ≡ o → p.0 ≤ f → o ≡ None
-    none None is at = refl
-    none (Some x) is at = absurd (let lt = above p.0 p.1 (ap is_some is) in omega arith)
+-- ---- least rows
 
 -- of n versions after t the first that has something
 pub least_by : (ℕ → Option (Option (List ℕ))) → ℕ → ℕ → Option (Option (List ℕ))
@@ -174,7 +96,7 @@ least_by-at f v x at none t (suc n) lt le =
         clashing h = cc
 
 -- a place after another is at its version or later
-from_less : (p q : Place) → place_cmp p q ≡ Less → p.0 ≤ q.0
+pub from_less : (p q : Place) → place_cmp p q ≡ Less → p.0 ≤ q.0
 from_less p q e = from (nat_cmp p.0 q.0) refl
   where
     from : (r : Ordering) → nat_cmp p.0 q.0 ≡ r → p.0 ≤ q.0
@@ -203,7 +125,7 @@ none_earlier p (e ∷ es) h w q lt =
     ∙ none_earlier p es h.1 w q lt
 
 -- no entry is above the version where no look-up finds one
-bounded : (b : ℕ) (es : List (Place × Option (List ℕ))) → ((w : ℕ) (q : List ℕ) → IsSome (lookup (is_at (place_cmp (w, q))) es) → w ≤ b) → AllByRecursion (λ y. y.0 ≤ b) (keys_of es)
+pub bounded : (b : ℕ) (es : List (Place × Option (List ℕ))) → ((w : ℕ) (q : List ℕ) → IsSome (lookup (is_at (place_cmp (w, q))) es) → w ≤ b) → AllByRecursion (λ y. y.0 ≤ b) (keys_of es)
 bounded b [] h = tt
 bounded b (e ∷ es) h = (
   h e.0.0 e.0.1 (ap (λ r. is_some (cond (is_eq r) (Some e.1) (lookup (is_at (place_cmp e.0)) es))) (tied_itself place_total e.0)),
@@ -215,7 +137,7 @@ bounded b (e ∷ es) h = (
     later false o some = some
 
 -- the first row of a key among the rows above t is its row of least version above t
-first_row-least : (above : Place → Bool) (t n : ℕ) (q : List ℕ) → ((p : Place) → above p ≡ not (nat_le p.0 t)) → (es : List (Place × Option (List ℕ))) → IsStrictlySortedBy place_cmp (keys_of es) → AllByRecursion (λ y. y.0 ≤ t + n) (keys_of es)
+pub first_row-least : (above : Place → Bool) (t n : ℕ) (q : List ℕ) → ((p : Place) → above p ≡ not (nat_le p.0 t)) → (es : List (Place × Option (List ℕ))) → IsStrictlySortedBy place_cmp (keys_of es) → AllByRecursion (λ y. y.0 ≤ t + n) (keys_of es)
     → first_row q (filter (λ e. above e.0) es) ≡ least_by (λ w. lookup (is_at (place_cmp (w, q))) es) t n
 first_row-least above t n q is [] sorted le = sym (least_by-none (λ w. None) t n (λ w. refl))
 first_row-least above t n q is (e ∷ es) sorted le =

@@ -26,7 +26,7 @@ both true b p q = q
 both false b p q = p
 
 module _ {K X : Type 0} (R : K → K → Ordering) where
-  find-lookup : (q : K) (es : List (K × X)) → find R q es ≡ lookup (is_at (R q)) es
+  pub find-lookup : (q : K) (es : List (K × X)) → find R q es ≡ lookup (is_at (R q)) es
   find-lookup q [] = refl
   find-lookup q (e ∷ es) = ap (cond (is_at (R q) e.0) (Some e.1)) (find-lookup q es)
 
@@ -34,7 +34,7 @@ module _ {K X : Type 0} (R : K → K → Ordering) where
   below k [] h = tt
   below k (e ∷ es) h = both (is_lt (R k e.0)) (below_all R k es) (subst (λ r. T (is_lt r)) (sym h.0) tt) (below k es h.1)
 
-  sorted : (es : List (K × X)) → IsStrictlySortedBy R (keys_of es) → T (is_sorted R es)
+  pub sorted : (es : List (K × X)) → IsStrictlySortedBy R (keys_of es) → T (is_sorted R es)
   sorted [] s = tt
   sorted (e ∷ es) s = both (below_all R e.0 es) (is_sorted R es) (below e.0 es (sorted_head R e.0 (keys_of es) s)) (sorted es (sorted_tail R e.0 (keys_of es) s))
 

@@ -8,13 +8,13 @@ ghost use Rattle.std.specs.Range.Bound.{bound_map, IsForward};
 ghost use Rattle.std.specs.declared.ops.Bound.TheVariants.{Included};
 ghost use Rattle.fr_base.specs.Map.{map_of};
 ghost use Rattle.fr_mutation.specs.Shard.{part};
-ghost use Rattle.fr_undo.specs.State.{Place, place_cmp};
 ghost use Rattle.fr_base.specs.Bytes.{bytes_cmp};
 
-use fr_base::{Bytes, Memory, Version};
+use crate::rows::Row;
+use fr_base::{Bytes, Memory};
 use fr_mutation::Shard;
 use std::alloc::Global;
-use std::collections::BTreeMap;
+use std::collections::{BTreeMap, VecDeque};
 use std::ops::Bound;
 
 /// A copy of a value, or none.
@@ -110,15 +110,12 @@ pub(crate) fn contents_copy(
 }
 
 /// A copy of all undo rows.
-pub(crate) fn rows_copy(
-    alloc: Global,
-    rows: &BTreeMap<(Version, Bytes), Option<Bytes>>,
-) -> Result<BTreeMap<(Version, Bytes), Option<Bytes>>, Memory>
-    ensures { IfOk result (λ copy. (p : Place) → tree.get place_cmp copy p ≡ tree.get place_cmp rows.now p) }
+pub(crate) fn rows_copy(alloc: Global, rows: &VecDeque<Row>) -> Result<VecDeque<Row>, Memory>
+    ensures { IfOk result (λ copy. copy.items ≡ rows.now.items) }
 {
-    let mut copy = BTreeMap::new(alloc);
-    for (place, before) in rows.iter() {
-        copy.insert((place.0, place.1.copy()?), copy_of(before)?)?;
+    let mut copy = VecDeque::with_capacity(alloc, rows.len())?;
+    for row in rows.iter() {
+        copy.push_back(((row.0.0, row.0.1.copy()?), copy_of(&row.1)?))?;
     }
     Ok(copy)
 }

@@ -1,109 +1,73 @@
 //! A batch applied, with undo rows, all of it or nothing.
-ghost use Rattle.std.specs.Prelude.{◌≡◌, ◌<◌, List, ℕ, OnOk, OnErr, None, cond};
+ghost use Rattle.std.specs.Prelude.{◌≡◌, ◌+◌, ◌<◌, ◌≤◌, ◌++◌, List, [], ℕ, OnOk, OnErr, IsSome, IfSome, length};
 ghost use Rattle.std.specs.Option.{option_or};
 ghost use Rattle.std.specs.BTreeMap as tree;
-ghost use Rattle.std.specs.BTreeMap.{is_at};
+ghost use Rattle.std.specs.VecDeque.{deque_capacity};
 ghost use Rattle.fr_base.specs.Bytes.{bytes_cmp};
 ghost use Rattle.fr_mutation.specs.Mutation.{value_after_all};
-ghost use Rattle.fr_undo.specs.State.{Place, place_cmp};
-ghost use Rattle.fr_undo.specs.Trees.{IsUpTo};
-ghost use Rattle.fr_undo.specs.Undo.{same_value, before_if_changed};
-ghost use Rattle.fr_undo.specs.Changes.{row_made, row_of};
+ghost use Rattle.fr_undo.specs.State.{Place};
+ghost use Rattle.fr_undo.specs.Rows.{IsInOrder, AreThrough, row_in, with_row, rows_made};
+ghost use Rattle.fr_undo.specs.Changes.{row_made, written_if, is_held};
 
 use crate::changes::{Change, changes_of};
-use crate::copies::copy_of;
-use crate::rows::drop_above;
-use crate::write::write;
+use crate::rows::Row;
+use crate::write::{add_all, replace};
 use fr_base::{Bytes, Memory, Version};
 use fr_mutation::Batch;
 use std::alloc::Global;
-use std::collections::BTreeMap;
+use std::collections::{BTreeMap, VecDeque};
 
-/// Whether two values, or nones, are one.
-fn is_same_value(a: &Option<Bytes>, b: &Option<Bytes>) -> bool
-    ensures { result ≡ same_value a.now b.now }
+/// Adds a row, where there is one, to rows that have room for it.
+fn put_row(rows: &mut VecDeque<Row>, place: (Version, Bytes), before: Option<Option<Bytes>>)
+    requires { length rows.old.items < deque_capacity rows.old }
+    ensures rows { rows.new.items ≡ rows.old.items ++ with_row place before [] }
+    ensures room { deque_capacity rows.new ≡ deque_capacity rows.old }
 {
-    match (a, b) {
-        (None, None) => true,
-        (Some(a), Some(b)) => a == b,
-        _ => false,
+    if let Some(before) = before {
+        rows.push_back_reserved((place, before));
     }
 }
 
-/// Adds the row of a key, if its value before differs from the one after.
-fn add_row(
-    rows: &mut BTreeMap<(Version, Bytes), Option<Bytes>>,
-    version: Version,
-    key: &Bytes,
-    before: &Option<Bytes>,
-    after: &Option<Bytes>,
-) -> Result<(), Memory>
-    ensures rows { OnOk result ((p : Place) → tree.get place_cmp rows.new p ≡ option_or (cond (is_at (place_cmp (version, key.now)) p) (before_if_changed before.now after.now) None) (tree.get place_cmp rows.old p)) }
-    ensures below { (p : Place) → p.0 < version → tree.get place_cmp rows.new p ≡ tree.get place_cmp rows.old p }
-{
-    if !is_same_value(before, after) {
-        let before = copy_of(before)?;
-        rows.insert((version, key.copy()?), before)?;
-    }
-    Ok(())
-}
-
-/// Adds a row for each key that a change gives something else than it held before. Want of memory may
-/// leave a front of the rows.
-fn add_rows(
-    rows: &mut BTreeMap<(Version, Bytes), Option<Bytes>>,
-    version: Version,
-    changes: &BTreeMap<Bytes, Change>,
-) -> Result<(), Memory>
-    ensures rows { OnOk result ((p : Place) → tree.get place_cmp rows.new p ≡ option_or (row_of (tree.get bytes_cmp changes.now) version p) (tree.get place_cmp rows.old p)) }
-    ensures below { (p : Place) → p.0 < version → tree.get place_cmp rows.new p ≡ tree.get place_cmp rows.old p }
-{
-    for (key, change) in changes.iter() {
-        add_row(rows, version, key, &change.before, &change.after)?;
-    }
-    Ok(())
-}
-
-/// Works the changes of a batch out, adds their rows and writes them. Want of memory may leave a front of
-/// the rows, and no change.
-fn extend_front(
-    alloc: Global,
+/// Writes the changes of the keys that had a value, and adds the row of each key that is given something
+/// else than it held before. Keys and values are moved into the rows.
+fn settle(
     contents: &mut BTreeMap<Bytes, Bytes>,
-    rows: &mut BTreeMap<(Version, Bytes), Option<Bytes>>,
+    rows: &mut VecDeque<Row>,
     version: Version,
-    batch: &Batch,
-) -> Result<(), Memory>
-    ensures values { OnOk result ((q : List ℕ) → tree.get bytes_cmp contents.new q ≡ value_after_all batch.now q (tree.get bytes_cmp contents.old q)) }
-    ensures rows { OnOk result ((p : Place) → tree.get place_cmp rows.new p ≡ option_or (row_made (tree.get bytes_cmp contents.old) (λ q. value_after_all batch.now q (tree.get bytes_cmp contents.old q)) version p) (tree.get place_cmp rows.old p)) }
-    ensures same_values { OnErr result ((q : List ℕ) → tree.get bytes_cmp contents.new q ≡ tree.get bytes_cmp contents.old q) }
-    ensures below { (p : Place) → p.0 < version → tree.get place_cmp rows.new p ≡ tree.get place_cmp rows.old p }
+    changes: BTreeMap<Bytes, Change>,
+)
+    requires held { (q : List ℕ) → IfSome (tree.get bytes_cmp changes q) (λ change. IsSome change.before → IsSome (tree.get bytes_cmp contents.old q)) }
+    requires room { length rows.old.items + length changes.entries ≤ deque_capacity rows.old }
+    ensures values { (q : List ℕ) → tree.get bytes_cmp contents.new q ≡ written_if is_held (tree.get bytes_cmp changes q) (tree.get bytes_cmp contents.old q) }
+    ensures rows { rows.new.items ≡ rows.old.items ++ rows_made version changes.entries }
 {
-    let changes = changes_of(alloc, contents, batch)?;
-    add_rows(rows, version, &changes)?;
-    write(contents, changes)
+    for (key, change) in changes {
+        let before = replace(contents, &key, change);
+        put_row(rows, (version, key), before);
+    }
 }
 
 /// Applies a batch at a version above all rows: all of it, or nothing where memory is wanting.
 pub(crate) fn extend(
     alloc: Global,
     contents: &mut BTreeMap<Bytes, Bytes>,
-    rows: &mut BTreeMap<(Version, Bytes), Option<Bytes>>,
+    rows: &mut VecDeque<Row>,
     applied: Version,
     version: Version,
     batch: &Batch,
 ) -> Result<(), Memory>
-    requires upto { IsUpTo rows.old applied }
+    requires order { IsInOrder rows.old.items }
+    requires upto { AreThrough rows.old.items applied }
     requires later { applied < version }
     ensures values { OnOk result ((q : List ℕ) → tree.get bytes_cmp contents.new q ≡ value_after_all batch.now q (tree.get bytes_cmp contents.old q)) }
-    ensures rows { OnOk result ((p : Place) → tree.get place_cmp rows.new p ≡ option_or (row_made (tree.get bytes_cmp contents.old) (λ q. value_after_all batch.now q (tree.get bytes_cmp contents.old q)) version p) (tree.get place_cmp rows.old p)) }
+    ensures rows { OnOk result ((p : Place) → row_in rows.new.items p ≡ option_or (row_in rows.old.items p) (row_made (tree.get bytes_cmp contents.old) (λ q. value_after_all batch.now q (tree.get bytes_cmp contents.old q)) version p)) }
+    ensures order { OnOk result (IsInOrder rows.new.items) }
     ensures same_values { OnErr result ((q : List ℕ) → tree.get bytes_cmp contents.new q ≡ tree.get bytes_cmp contents.old q) }
-    ensures same_rows { OnErr result ((p : Place) → tree.get place_cmp rows.new p ≡ tree.get place_cmp rows.old p) }
+    ensures same_rows { OnErr result (rows.new.items ≡ rows.old.items) }
 {
-    match extend_front(alloc, contents, rows, version, batch) {
-        Ok(()) => Ok(()),
-        Err(refused) => {
-            drop_above(rows, applied);
-            Err(refused)
-        }
-    }
+    let changes = changes_of(alloc, contents, batch)?;
+    rows.reserve(changes.len())?;
+    add_all(contents, &changes)?;
+    settle(contents, rows, version, changes);
+    Ok(())
 }

@@ -1,12 +1,11 @@
-//! Undo rows, from the newest version down and from the oldest up.
-ghost use Rattle.std.specs.Prelude.{◌≡◌, ◌+◌, ◌<◌, ℕ, List, None, Some, OnOk, IfOk, IfSome, IfNone, cond, is_some, nat_le, nat_lt};
+//! Undo rows: how many are through a version, and what they make of keys.
+ghost use Rattle.std.specs.Prelude.{◌≡◌, ◌+◌, ◌<◌, ◌≤◌, ℕ, List, length, take, drop, None, Some, OnOk, IfOk, cond};
 ghost use Rattle.std.specs.Option.{option_or};
 ghost use Rattle.std.specs.BTreeMap as tree;
-ghost use Rattle.std.specs.BTreeMap.{IsUnchanged, btree_map_len};
 ghost use Rattle.fr_base.specs.Bytes.{bytes_cmp, is_same};
 ghost use Rattle.fr_base.specs.Map.{map_of};
-ghost use Rattle.fr_undo.specs.State.{Place, place_cmp};
-ghost use Rattle.fr_undo.specs.Trees.{IsUpTo, IsAbove, PopsAbove, PopsThrough};
+ghost use Rattle.fr_undo.specs.Trees.{IsUpTo};
+ghost use Rattle.fr_undo.specs.Rows.{IsInOrder, rows_to, rows_beyond};
 ghost use Rattle.fr_undo.specs.Changes.{KnowBefore, after_of};
 ghost use Rattle.fr_undo.specs.Undo.{least_row};
 
@@ -14,52 +13,56 @@ use crate::changes::Change;
 use crate::copies::{copy_of, value_copy};
 use fr_base::{Bytes, Memory, Version};
 use std::alloc::Global;
-use std::collections::BTreeMap;
+use std::collections::{BTreeMap, VecDeque};
 
-/// Takes the newest row, if it is above `version`.
-fn pop_above(
-    rows: &mut BTreeMap<(Version, Bytes), Option<Bytes>>,
-    version: Version,
-) -> Option<((Version, Bytes), Option<Bytes>)>
-    ensures some { IfSome result (λ row. PopsAbove rows.old version row.0 rows.new) }
-    ensures none { IfNone result (IsUpTo rows.old version) }
-    ensures same { IfNone result (IsUnchanged rows.old rows.new) }
-    ensures len { btree_map_len rows.new + (cond (is_some result) 1 0) ≡ btree_map_len rows.old }
+/// A place, which is a version and a key, and what the key held before that version.
+pub(crate) type Row = ((Version, Bytes), Option<Bytes>);
+
+/// How many rows, in the order of their places, are through a version. They stand before all others.
+pub(crate) fn count_through(rows: &VecDeque<Row>, version: Version) -> usize
+    requires { IsInOrder rows.now.items }
+    ensures bound { result ≤ length rows.now.items }
+    ensures front { take result rows.now.items ≡ rows_to rows.now.items version }
+    ensures back { drop result rows.now.items ≡ rows_beyond rows.now.items version }
 {
-    match rows.last_key_value() {
-        Some((place, _)) if place.0 > version => rows.pop_last(),
-        _ => None,
+    rows.partition_point(|row| row.0.0 <= version)
+}
+
+/// Gives room back where three quarters of it stand empty.
+fn give_back(rows: &mut VecDeque<Row>)
+    ensures { rows.new.items ≡ rows.old.items }
+{
+    let room = rows.capacity();
+    if rows.len() < room / 4 {
+        rows.shrink_to(room / 2);
     }
 }
 
-/// Removes the rows above a version.
-pub(crate) fn drop_above(rows: &mut BTreeMap<(Version, Bytes), Option<Bytes>>, version: Version)
-    ensures { (p : Place) → tree.get place_cmp rows.new p ≡ cond (nat_le p.0 version) (tree.get place_cmp rows.old p) None }
+/// Keeps the first rows, as many as are said, and removes the others.
+pub(crate) fn keep_front(rows: &mut VecDeque<Row>, count: usize)
+    ensures { rows.new.items ≡ take count rows.old.items }
 {
-    while let Some(_) = pop_above(rows, version) {}
+    rows.truncate(count);
+    give_back(rows);
 }
 
-/// Takes the oldest row, if it is at most at `version`.
-fn pop_through(
-    rows: &mut BTreeMap<(Version, Bytes), Option<Bytes>>,
-    version: Version,
-) -> Option<((Version, Bytes), Option<Bytes>)>
-    ensures some { IfSome result (λ row. PopsThrough rows.old version row.0 rows.new) }
-    ensures none { IfNone result (IsAbove rows.old version) }
-    ensures same { IfNone result (IsUnchanged rows.old rows.new) }
-    ensures len { btree_map_len rows.new + (cond (is_some result) 1 0) ≡ btree_map_len rows.old }
+/// Removes the first rows, as many as are said.
+fn drop_front(rows: &mut VecDeque<Row>, count: usize)
+    ensures { rows.new.items ≡ drop count rows.old.items }
 {
-    match rows.first_key_value() {
-        Some((place, _)) if place.0 <= version => rows.pop_first(),
-        _ => None,
+    for _ in 0..count {
+        rows.pop_front();
     }
+    give_back(rows);
 }
 
 /// Removes the rows through a version.
-pub(crate) fn drop_through(rows: &mut BTreeMap<(Version, Bytes), Option<Bytes>>, version: Version)
-    ensures { (p : Place) → tree.get place_cmp rows.new p ≡ cond (nat_lt version p.0) (tree.get place_cmp rows.old p) None }
+pub(crate) fn drop_through(rows: &mut VecDeque<Row>, version: Version)
+    requires { IsInOrder rows.old.items }
+    ensures { rows.new.items ≡ rows_beyond rows.old.items version }
 {
-    while let Some(_) = pop_through(rows, version) {}
+    let count = count_through(rows, version);
+    drop_front(rows, count);
 }
 
 /// The version after one that is below another.
@@ -77,7 +80,7 @@ fn next(version: Version, later: Version) -> Version
 }
 
 /// Keeps what a row of a key held, if no row of the key was kept yet.
-fn restore_one(
+pub(crate) fn restore_one(
     contents: &BTreeMap<Bytes, Bytes>,
     changes: &mut BTreeMap<Bytes, Change>,
     key: &Bytes,

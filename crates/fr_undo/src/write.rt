@@ -2,6 +2,7 @@
 ghost use Rattle.std.specs.Prelude.{◌≡◌, List, ℕ, OnOk, OnErr, IfSome, IsSome, None, Some, false, cond};
 ghost use Rattle.std.specs.BTreeMap as tree;
 ghost use Rattle.fr_base.specs.Bytes.{bytes_cmp, is_same};
+ghost use Rattle.fr_undo.specs.Undo.{same_value, before_if_changed};
 ghost use Rattle.fr_undo.specs.Changes.{written, written_if, KnowBefore, passes, is_new_one, is_added, is_held};
 
 use crate::changes::Change;
@@ -52,12 +53,31 @@ fn remove_new(contents: &mut BTreeMap<Bytes, Bytes>, changes: &BTreeMap<Bytes, C
     }
 }
 
-/// Gives a key that had a value what it takes: a value, or none.
-fn replace(contents: &mut BTreeMap<Bytes, Bytes>, key: &Bytes, change: Change)
-    requires { IsSome change.before → IsSome (tree.get bytes_cmp contents.old key.now) }
-    ensures { (q : List ℕ) → tree.get bytes_cmp contents.new q ≡ cond (is_same key.now q) (written_if is_held (Some change) (tree.get bytes_cmp contents.old q)) (tree.get bytes_cmp contents.old q) }
+/// Whether two values, or nones, are one.
+fn is_same_value(a: &Option<Bytes>, b: &Option<Bytes>) -> bool
+    ensures { result ≡ same_value a.now b.now }
 {
-    match (change.before, change.after) {
+    match (a, b) {
+        (None, None) => true,
+        (Some(a), Some(b)) => a == b,
+        _ => false,
+    }
+}
+
+/// Gives a key that had a value what it takes: a value, or none. Answers what the key held before, where
+/// the change gives it something else.
+pub(crate) fn replace(
+    contents: &mut BTreeMap<Bytes, Bytes>,
+    key: &Bytes,
+    change: Change,
+) -> Option<Option<Bytes>>
+    requires { IsSome change.before → IsSome (tree.get bytes_cmp contents.old key.now) }
+    ensures values { (q : List ℕ) → tree.get bytes_cmp contents.new q ≡ cond (is_same key.now q) (written_if is_held (Some change) (tree.get bytes_cmp contents.old q)) (tree.get bytes_cmp contents.old q) }
+    ensures row { result ≡ before_if_changed change.before change.after }
+{
+    let (before, after) = (change.before, change.after);
+    let is_changed = !is_same_value(&before, &after);
+    match (&before, after) {
         (None, _) => {}
         (Some(_), None) => {
             contents.remove(key);
@@ -68,6 +88,7 @@ fn replace(contents: &mut BTreeMap<Bytes, Bytes>, key: &Bytes, change: Change)
             }
         }
     }
+    if is_changed { Some(before) } else { None }
 }
 
 /// Writes the changes of the keys that had a value.
@@ -80,6 +101,24 @@ fn replace_all(contents: &mut BTreeMap<Bytes, Bytes>, changes: BTreeMap<Bytes, C
     }
 }
 
+/// Adds the keys that have no value and are to take one: all of them, or none where memory is wanting.
+pub(crate) fn add_all(
+    contents: &mut BTreeMap<Bytes, Bytes>,
+    changes: &BTreeMap<Bytes, Change>,
+) -> Result<(), Memory>
+    requires { KnowBefore changes.now (tree.get bytes_cmp contents.old) }
+    ensures ok { OnOk result ((q : List ℕ) → tree.get bytes_cmp contents.new q ≡ written_if is_added (tree.get bytes_cmp changes.now q) (tree.get bytes_cmp contents.old q)) }
+    ensures err { OnErr result ((q : List ℕ) → tree.get bytes_cmp contents.new q ≡ tree.get bytes_cmp contents.old q) }
+{
+    match add_new(contents, changes) {
+        Ok(()) => Ok(()),
+        Err(refused) => {
+            remove_new(contents, changes);
+            Err(refused)
+        }
+    }
+}
+
 /// Writes changes: all of them, or none where memory is wanting.
 pub(crate) fn write(
     contents: &mut BTreeMap<Bytes, Bytes>,
@@ -89,14 +128,7 @@ pub(crate) fn write(
     ensures ok { OnOk result ((q : List ℕ) → tree.get bytes_cmp contents.new q ≡ written (tree.get bytes_cmp changes q) (tree.get bytes_cmp contents.old q)) }
     ensures err { OnErr result ((q : List ℕ) → tree.get bytes_cmp contents.new q ≡ tree.get bytes_cmp contents.old q) }
 {
-    match add_new(contents, &changes) {
-        Ok(()) => {
-            replace_all(contents, changes);
-            Ok(())
-        }
-        Err(refused) => {
-            remove_new(contents, &changes);
-            Err(refused)
-        }
-    }
+    add_all(contents, &changes)?;
+    replace_all(contents, changes);
+    Ok(())
 }

@@ -29,6 +29,6 @@ loop-key-preserved c =
       can = tt;
       ends = tt;
       sorted = copied_sorted bytes_cmp es rest e is inv.sorted;
-      value = λ q. written_step is_held all left c.loop-key.contents c.replace.new.contents e.0 e.1 was gone c.replace.ensures q ∙ inv.value q;
-      held = λ q. held_step is_held all left c.loop-key.contents c.replace.new.contents e.0 e.1 was gone c.replace.ensures q (inv.held q);
+      value = λ q. written_step is_held all left c.loop-key.contents c.replace.new.contents e.0 e.1 was gone c.replace.ensures.values q ∙ inv.value q;
+      held = λ q. held_step is_held all left c.loop-key.contents c.replace.new.contents e.0 e.1 was gone c.replace.ensures.values q (inv.held q);
     }

@@ -1,5 +1,8 @@
 use Rattle.std.proofs.Common.{ap, sym, ◌∙◌, subst}
 use Rattle.std.proofs.lemmas.Map.Keys.{le_from_not_gt}
+use Rattle.std.specs.Prelude.{nat_lt}
+use Rattle.fr_undo.specs.Rows.{IsInOrder}
+use Rattle.fr_undo.proofs.ListRows.{order-filter}
 use Rattle.fr_undo.specs.State.{StoreState, IsStoreState}
 use Rattle.fr_undo.specs.Undo.{forgotten}
 use Rattle.fr_undo.specs.MapStore.{state_of}
@@ -13,18 +16,22 @@ invariant_of-self c =
     let a = c.self.inside in
     let f = c.args.version in
     let above = above_from_gt f a.floor (cc (c.gt-2.ensures, c.if-gt-2.true)) in
-    subst IsStoreState (sym (forgotten_fields a.contents a.rows c.drop_through.new.rows a.applied a.floor f a.bytes above c.drop_through.ensures))
-    (forgotten_sound (state_of a) f c.self.invariant (le_from_not_gt f a.applied (cc (c.gt.ensures, c.if-gt.false))))
+    record {
+      sound =
+          subst IsStoreState (sym (forgotten_fields a.contents a.rows.items c.drop_through.new.rows.items a.applied a.floor f a.bytes above c.drop_through.ensures))
+          (forgotten_sound (state_of a) f c.self.invariant.sound (le_from_not_gt f a.applied (cc (c.gt.ensures, c.if-gt.false))));
+      order = subst IsInOrder (sym c.drop_through.ensures) (order-filter (λ p. nat_lt f p.0) a.rows.items c.self.invariant.order);
+    }
 
 pub returns-then-gt-2-clause-writes : goal.returns-then-gt-2-clause-writes
 returns-then-gt-2-clause-writes c =
     let a = c.self.inside in
     let f = c.args.version in
     let above = above_from_gt f a.floor (cc (c.gt-2.ensures, c.if-gt-2.true)) in
-    let made = forgotten_fields a.contents a.rows c.drop_through.new.rows a.applied a.floor f a.bytes above c.drop_through.ensures in
+    let made = forgotten_fields a.contents a.rows.items c.drop_through.new.rows.items a.applied a.floor f a.bytes above c.drop_through.ensures in
     writes_all _ _ _
     (made ∙ ap (λ (s : StoreState). forgotten s f) c.self.view_is)
-    (subst IsStoreState (sym made) (forgotten_sound (state_of a) f c.self.invariant (le_from_not_gt f a.applied (cc (c.gt.ensures, c.if-gt.false)))))
+    (subst IsStoreState (sym made) (forgotten_sound (state_of a) f c.self.invariant.sound (le_from_not_gt f a.applied (cc (c.gt.ensures, c.if-gt.false)))))
 
 pub returns-else-gt-2-clause-writes : goal.returns-else-gt-2-clause-writes
 returns-else-gt-2-clause-writes c =
@@ -32,6 +39,9 @@ returns-else-gt-2-clause-writes c =
     let f = c.args.version in
     writes_all _ _ _
     (sym c.self.view_is
-    ∙ sym (forgotten_nothing (state_of a) f c.self.invariant (le_from_not_gt f a.floor (cc (c.gt-2.ensures, c.if-gt-2.false))))
+    ∙ sym (forgotten_nothing (state_of a) f c.self.invariant.sound (le_from_not_gt f a.floor (cc (c.gt-2.ensures, c.if-gt-2.false))))
     ∙ ap (λ (s : StoreState). forgotten s f) c.self.view_is)
-    (subst IsStoreState c.self.view_is c.self.invariant)
+    (subst IsStoreState c.self.view_is c.self.invariant.sound)
+
+pub drop_through-requires : goal.drop_through-requires
+drop_through-requires c = c.self.invariant.order
