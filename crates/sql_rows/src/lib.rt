@@ -7,5 +7,3 @@ mod agrees;
 mod apply_rows;
 #[cfg(test)]
 mod calls;
-#[cfg(test)]
-mod slow_store;
