@@ -1,10 +1,12 @@
 //! The program over its words, a reader and a writer.
-use crate::words::{Request, read_words};
+use crate::words::{Request, StoreKind, read_words};
 use clap::error::{Error, ErrorKind};
-use fr_cli::{CliFault, run_apply};
+use fr_cli::{CliFault, run_apply_on};
 use fr_cli_audit::run_audit;
 use fr_cli_end::run_end;
 use fr_cli_simulate::run_simulate;
+use fr_sql_store::SqlStore;
+use fr_undo::MapStore;
 use std::alloc::Global;
 use std::io::{Read, Write};
 
@@ -69,7 +71,13 @@ fn run<R: Read, W: Write>(
     writer: &mut W,
 ) -> Result<u8, CliFault> {
     match request {
-        Request::Apply(options) => run_apply(alloc, options, reader, writer),
+        Request::Apply(StoreKind::Map) => {
+            run_apply_on(alloc, &mut MapStore::new(alloc), reader, writer)
+        }
+        Request::Apply(StoreKind::Sql) => match SqlStore::in_memory(alloc) {
+            Ok(mut store) => run_apply_on(alloc, &mut store, reader, writer),
+            Err(_) => Err(CliFault::Memory),
+        },
         Request::End(options) => run_end(alloc, options, reader, writer),
         Request::Simulate => run_simulate(alloc, reader, writer),
         Request::Audit => run_audit(alloc, reader, writer),

@@ -1,11 +1,9 @@
 //! Tests of stores: worked examples call by call, a store whose device fails once, and seeded calls at `MapStore`
-//! and at a slow store.
+//! and at plain lists.
 #![tactic(auto)]
 
 #[cfg(test)]
 mod calls;
-#[cfg(test)]
-mod slow_store;
 #[cfg(test)]
 mod store_agrees;
 #[cfg(test)]
