@@ -79,7 +79,7 @@ fn the_hear_of_a_mark_breaks_off_before_and_after_the_undo(rt: HostRuntime) -> R
     )
 }
 
-/// A mark again, a peek of the epoch before, and a log that has no mark.
+/// A mark again, a peek of the epoch before, and a log that has no mark; the same asks again, and what they told.
 #[test]
 fn answers_come_again_and_late(rt: HostRuntime) -> Result<(), Fail> {
     let rows = [
@@ -94,6 +94,10 @@ fn answers_come_again_and_late(rt: HostRuntime) -> Result<(), Fail> {
         (Hear(STORAGE, FIRST_B, 0), Done),
         (HearIn(STORAGE, FIRST_B, 0, 2), Done),
         (HearIn(STORAGE, FIRST_B, 0, 3), No(NeverSent)),
+        (Mark(0, 513, 0), Marked(513)),
+        (Hear(STORAGE, FIRST_A, 1), Done),
+        (Peek(0, 0, LOG_A, 257, 0), Peeked(0, 2, 3, 2)),
+        (Hear(STORAGE, LOG_A, 1), Refused(NotMyGeneration)),
         (Look(STORAGE), Stands(513, 2, 2, 1)),
     ];
     runs(

@@ -1,7 +1,7 @@
 //! Lists of events.
 use crate::deed::event;
 use crate::made::{ballot, config, world};
-use crate::scene::Row;
+use crate::scene::{Row, step};
 use crate::tables::{COMMIT, LOCK, READ};
 use fr_world::{Event, NotEnabled, World};
 use std::alloc::Global;
@@ -16,7 +16,7 @@ fn gather(
 ) -> Result<(), Fail> {
     for (deed, _) in rows {
         if let Some(event) = event(alloc, world, *deed)? {
-            world.step(alloc, &event)?;
+            step(alloc, world, &event)?;
             events.push(event.copy()?)?;
         }
     }
@@ -39,9 +39,17 @@ fn begins(number: u64) -> Result<Event, Fail> {
     Ok(Event::Begin { ballot })
 }
 
+/// The world of a list of events with one cell, tried again where memory is wanting.
+fn replay(alloc: Global, events: &[Event]) -> Result<Result<World, (usize, NotEnabled)>, Fail> {
+    match World::replay(alloc, config(alloc, 1)?, events) {
+        Err((_, NotEnabled::Memory)) => Ok(World::replay(alloc, config(alloc, 1)?, events)),
+        given => Ok(given),
+    }
+}
+
 /// Whether a list of events is a run of so many turns.
 fn is_run(alloc: Global, events: &[Event], turns: usize) -> Result<bool, Fail> {
-    match World::replay(alloc, config(alloc, 1)?, events) {
+    match replay(alloc, events)? {
         Ok(world) => {
             world.is_safe();
             Ok(world.config().coordinators() == 1 && world.turns().len() == turns)
@@ -57,7 +65,7 @@ fn is_refused(
     number: usize,
     reason: NotEnabled,
 ) -> Result<bool, Fail> {
-    match World::replay(alloc, config(alloc, 1)?, events) {
+    match replay(alloc, events)? {
         Ok(_) => Ok(false),
         Err((first, why)) => Ok(first == number && why == reason),
     }

@@ -2,7 +2,7 @@
 use crate::deed::{Deed, event};
 use crate::made::{Who, ballot, node, world};
 use crate::said::{Said, answer, is, last, phase};
-use fr_world::{Event, World};
+use fr_world::{Answer, Event, NotEnabled, World};
 use std::alloc::Global;
 use std::test::Fail;
 
@@ -28,9 +28,19 @@ fn look_at(world: &World, number: u64) -> Result<Said, Fail> {
     }
 }
 
-/// What comes of an event.
-fn happens(alloc: Global, world: &mut World, event: &Event) -> Said {
+/// What comes of an event in a world. Where memory is wanting the world stands as it was, and the event is tried again:
+/// `bench/memory` refuses one allocation after the other.
+pub(crate) fn step(alloc: Global, world: &mut World, event: &Event) -> Result<Answer, NotEnabled> {
+    let turns = world.turns().len();
     match world.step(alloc, event) {
+        Err(NotEnabled::Memory) if world.turns().len() == turns => world.step(alloc, event),
+        given => given,
+    }
+}
+
+/// The same, in a word.
+fn happens(alloc: Global, world: &mut World, event: &Event) -> Said {
+    match step(alloc, world, event) {
         Ok(given) => answer(&given),
         Err(why) => Said::No(why),
     }

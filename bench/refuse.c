@@ -1,0 +1,32 @@
+/* A library that refuses one allocation of a program: the one of the number that REFUSE says, counted from 1. At its end
+ * the program says on its third stream how many there were. See bench/memory. */
+#include <stdio.h>
+#include <stdlib.h>
+#include <unistd.h>
+
+extern void *__libc_malloc(size_t size);
+extern void *__libc_realloc(void *place, size_t size);
+
+static long made, refused = -1;
+
+static int refuses(void) {
+    if (refused < 0) {
+        const char *number = getenv("REFUSE");
+        refused = number ? atol(number) : 0;
+    }
+    return ++made == refused;
+}
+
+void *malloc(size_t size) {
+    return refuses() ? NULL : __libc_malloc(size);
+}
+
+void *realloc(void *place, size_t size) {
+    return refuses() ? NULL : __libc_realloc(place, size);
+}
+
+__attribute__((destructor)) static void say(void) {
+    char line[40];
+    int length = snprintf(line, sizeof line, "\nallocations %ld\n", made);
+    if (write(2, line, (size_t)length) != length) _exit(99);
+}
