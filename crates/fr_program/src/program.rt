@@ -1,17 +1,21 @@
 //! The program over its words, a reader and a writer.
 use crate::words::{Request, StoreKind, read_words};
 use clap::error::{Error, ErrorKind};
-use fr_cli::{CliFault, run_apply_on};
+use fr_cli::{ApplyOptions, CliFault, run_apply};
 use fr_cli_audit::run_audit;
 use fr_cli_end::run_end;
 use fr_cli_simulate::run_simulate;
-use fr_sql_store::SqlStore;
-use fr_undo::MapStore;
+use fr_cli_sql::run_apply_sql;
 use std::alloc::Global;
 use std::io::{Read, Write};
 
 /// The status of bad words.
 pub const BAD_WORDS: u8 = 2;
+
+/// What `apply` runs a script on where no other store is named.
+const ON_A_MAP: ApplyOptions = ApplyOptions {
+    store: fr_cli::StoreKind::Map,
+};
 
 /// How the program ends. What is to be said on standard error is left to who has one.
 #[derive(Debug, Drop)]
@@ -71,13 +75,8 @@ fn run<R: Read, W: Write>(
     writer: &mut W,
 ) -> Result<u8, CliFault> {
     match request {
-        Request::Apply(StoreKind::Map) => {
-            run_apply_on(alloc, &mut MapStore::new(alloc), reader, writer)
-        }
-        Request::Apply(StoreKind::Sql) => match SqlStore::in_memory(alloc) {
-            Ok(mut store) => run_apply_on(alloc, &mut store, reader, writer),
-            Err(_) => Err(CliFault::Memory),
-        },
+        Request::Apply(StoreKind::Map) => run_apply(alloc, ON_A_MAP, reader, writer),
+        Request::Apply(StoreKind::Sql) => run_apply_sql(alloc, reader, writer),
         Request::End(options) => run_end(alloc, options, reader, writer),
         Request::Simulate => run_simulate(alloc, reader, writer),
         Request::Audit => run_audit(alloc, reader, writer),

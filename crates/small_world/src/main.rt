@@ -1,8 +1,6 @@
 //! A small world: a proxy takes a batch and has it numbered, and a storage server asks a log for its records.
 #![tactic(auto)]
 
-mod many;
-
 use anyhow::Context;
 use fr_ask::Ask;
 use fr_base::{Bytes, Epoch, NodeId, Step, Tag, Version};
@@ -12,15 +10,6 @@ use fr_world::{Answer, Config, Event, World};
 use std::alloc::Global;
 
 fn main(rt: HostRuntime) -> anyhow::Result<()> {
-    let words: Vec<String> = std::env::args(&rt)?.collect(rt.alloc())?;
-    match words.as_slice() {
-        [_, events, keys] => many::run(&rt, events.parse::<u64>()?, keys.parse::<u64>()?),
-        _ => small(&rt),
-    }
-}
-
-/// A batch is numbered, and a log is asked for its records.
-fn small(rt: &HostRuntime) -> anyhow::Result<()> {
     let alloc = rt.alloc();
     let mut shards = Vec::new(alloc);
     shards.push(Bytes::empty(alloc))?;
@@ -44,7 +33,7 @@ fn small(rt: &HostRuntime) -> anyhow::Result<()> {
         request: 1,
         step,
     });
-    serve(rt, alloc, &mut world, proxy, sequencer, &next)?;
+    serve(&rt, alloc, &mut world, proxy, sequencer, &next)?;
     let storage = NodeId::Storage {
         tag: Tag::new(0).context("no tag")?,
     };
@@ -55,7 +44,7 @@ fn small(rt: &HostRuntime) -> anyhow::Result<()> {
         most: Most::new(100).context("no number")?,
     });
     let log = NodeId::Log { epoch, index: 0 };
-    serve(rt, alloc, &mut world, storage, log, &peek)?;
+    serve(&rt, alloc, &mut world, storage, log, &peek)?;
     Ok(())
 }
 
