@@ -2,10 +2,10 @@
 //! for tests of what keeps the rows of a shard.
 #![tactic(auto)]
 
-mod agree;
+mod alike;
 mod draw;
 mod slow_store;
 
-pub use agree::{agree, agrees, goes_back, looks_alike};
+pub use alike::{agree, agrees, goes_back, looks_alike};
 pub use draw::{Step, drawn, key, version};
 pub use slow_store::SlowStore;
