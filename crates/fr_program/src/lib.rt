@@ -2,6 +2,7 @@
 //! The programs of this repository that call it differ in what the gate runs them on.
 #![tactic(auto)]
 
+mod apply;
 mod program;
 mod words;
 

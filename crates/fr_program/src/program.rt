@@ -1,21 +1,16 @@
 //! The program over its words, a reader and a writer.
-use crate::words::{Request, StoreKind, read_words};
+use crate::apply::apply_to;
+use crate::words::{Request, read_words};
 use clap::error::{Error, ErrorKind};
-use fr_cli::{ApplyOptions, CliFault, run_apply};
+use fr_cli::CliFault;
 use fr_cli_audit::run_audit;
 use fr_cli_end::run_end;
 use fr_cli_simulate::run_simulate;
-use fr_cli_sql::run_apply_sql;
 use std::alloc::Global;
 use std::io::{Read, Write};
 
 /// The status of bad words.
 pub const BAD_WORDS: u8 = 2;
-
-/// What `apply` runs a script on where no other store is named.
-const ON_A_MAP: ApplyOptions = ApplyOptions {
-    store: fr_cli::StoreKind::Map,
-};
 
 /// How the program ends. What is to be said on standard error is left to who has one.
 #[derive(Debug, Drop)]
@@ -75,8 +70,7 @@ fn run<R: Read, W: Write>(
     writer: &mut W,
 ) -> Result<u8, CliFault> {
     match request {
-        Request::Apply(StoreKind::Map) => run_apply(alloc, ON_A_MAP, reader, writer),
-        Request::Apply(StoreKind::Sql) => run_apply_sql(alloc, reader, writer),
+        Request::Apply(kind) => apply_to(kind, alloc, reader, writer),
         Request::End(options) => run_end(alloc, options, reader, writer),
         Request::Simulate => run_simulate(alloc, reader, writer),
         Request::Audit => run_audit(alloc, reader, writer),

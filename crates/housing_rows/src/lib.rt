@@ -4,8 +4,6 @@
 #[cfg(test)]
 mod ended;
 #[cfg(test)]
-mod failed;
-#[cfg(test)]
 mod rows;
 #[cfg(test)]
 mod scene;

@@ -1,0 +1,24 @@
+//! The command `apply` on each kind of store.
+use crate::words::StoreKind;
+use fr_cli::{ApplyOptions, CliFault, run_apply};
+use fr_cli_sql::run_apply_sql;
+use std::alloc::Global;
+use std::io::{Read, Write};
+
+/// Runs the operations of a script on an empty store of a kind.
+pub(crate) fn apply_to<R: Read, W: Write>(
+    kind: StoreKind,
+    alloc: Global,
+    reader: &mut R,
+    writer: &mut W,
+) -> Result<u8, CliFault> {
+    match kind {
+        StoreKind::Map => {
+            let options = ApplyOptions {
+                store: fr_cli::StoreKind::Map,
+            };
+            run_apply(alloc, options, reader, writer)
+        }
+        StoreKind::Sql => run_apply_sql(alloc, reader, writer),
+    }
+}
