@@ -2,6 +2,7 @@
 //! The programs of this repository that call it differ in what the gate runs them on.
 #![tactic(auto)]
 
+mod help;
 mod program;
 mod words;
 
@@ -9,12 +10,14 @@ use fr_cli::CliFault;
 pub use program::{BAD_WORDS, Ending, run_program};
 use std::alloc::Global;
 use std::io;
-use std::io::BufWriter;
+use std::io::{BufWriter, IsTerminal};
 use std::process::ExitCode;
+use std::sync::Wait;
+use std::thread::Threads;
 pub use words::{Request, read_words};
 
-/// Runs the program over its own words, standard input and standard output, and gives its status.
-pub fn run_main(rt: &HostRuntime) -> ExitCode {
+/// Runs the program over its own words, standard input and standard output, with these threads, and gives its status.
+pub fn run_main<H: Threads + Wait + Sync>(rt: &HostRuntime, threads: &H) -> ExitCode {
     let alloc = rt.alloc();
     let words = match own_words(rt, alloc) {
         Ok(words) => words,
@@ -24,7 +27,19 @@ pub fn run_main(rt: &HostRuntime) -> ExitCode {
         return end_by(rt, &Ending::Fault(CliFault::Memory));
     };
     let mut reader = rt.reader();
-    let ending = run_program(alloc, words.as_slice(), &mut reader, &mut writer);
+    let terminal = if rt.stderr().is_terminal() {
+        Some(rt)
+    } else {
+        None
+    };
+    let ending = run_program(
+        threads,
+        terminal,
+        alloc,
+        words.as_slice(),
+        &mut reader,
+        &mut writer,
+    );
     end_by(rt, &ending)
 }
 

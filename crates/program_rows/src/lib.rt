@@ -2,4 +2,8 @@
 #![tactic(auto)]
 
 #[cfg(test)]
+mod cluster;
+#[cfg(test)]
+mod devices;
+#[cfg(test)]
 mod words;

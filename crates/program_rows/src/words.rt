@@ -4,11 +4,11 @@ use fr_cli::{ApplyOptions, CliFault, StoreKind};
 use fr_cli_end::EndOptions;
 use fr_program::{Ending, Request, read_words, run_program};
 use std::alloc::{AllocError, Global};
-use std::io;
-use std::io::{Error, ErrorKind as IoErrorKind, Read, Write};
+use std::sync::Wait;
 use std::test::Fail;
+use std::thread::Threads;
 
-fn words_of(alloc: Global, words: &[&str]) -> Result<Vec<String>, AllocError> {
+pub(crate) fn words_of(alloc: Global, words: &[&str]) -> Result<Vec<String>, AllocError> {
     let mut all = Vec::new(alloc);
     for word in words {
         all.push(String::from_str(alloc, word)?)?;
@@ -175,11 +175,23 @@ fn other_words_are_refused(rt: HostRuntime) -> Result<(), Fail> {
 }
 
 /// The status of a program of these words and this input, and what it wrote.
-fn end_of(alloc: Global, words: &[&str], input: &[u8]) -> Result<(Ending, Vec<u8>), AllocError> {
+pub(crate) fn end_of<H: Threads + Wait + Sync>(
+    rt: &H,
+    alloc: Global,
+    words: &[&str],
+    input: &[u8],
+) -> Result<(Ending, Vec<u8>), AllocError> {
     let words = words_of(alloc, words)?;
     let mut reader = input;
     let mut writer = Vec::new(alloc);
-    let ending = run_program(alloc, words.as_slice(), &mut reader, &mut writer);
+    let ending = run_program(
+        rt,
+        None::<&HostRuntime>,
+        alloc,
+        words.as_slice(),
+        &mut reader,
+        &mut writer,
+    );
     Ok((ending, writer))
 }
 
@@ -187,10 +199,10 @@ fn end_of(alloc: Global, words: &[&str], input: &[u8]) -> Result<(Ending, Vec<u8
 fn a_program_ends_by_its_command(rt: HostRuntime) -> Result<(), Fail> {
     let apply = ["fdbrec", "apply"].as_slice();
     let script = b"{\"ops\":[{\"advance\":{\"version\":4}}]}".as_slice();
-    let (ending, written) = end_of(rt.alloc(), apply, script)?;
+    let (ending, written) = end_of(&rt, rt.alloc(), apply, script)?;
     assert_eq!(rt; ending.status(), 0);
     assert!(rt; written.as_slice() == b"ok 4 floor 0 undo 0\n".as_slice());
-    let (ending, written) = end_of(rt.alloc(), apply, &script[1..])?;
+    let (ending, written) = end_of(&rt, rt.alloc(), apply, &script[1..])?;
     assert_eq!(rt; ending.status(), 2);
     assert!(rt; matches!(&ending, Ending::Fault(CliFault::BadScript)));
     assert!(rt; written.is_empty());
@@ -201,10 +213,10 @@ fn a_program_ends_by_its_command(rt: HostRuntime) -> Result<(), Fail> {
 fn a_program_tells_an_end(rt: HostRuntime) -> Result<(), Fail> {
     let end = ["fdbrec", "end", "--logs", "2", "--degree", "2"].as_slice();
     let script = b"{\"replies\":[[0,5,5],[1,3,2]]}".as_slice();
-    let (ending, written) = end_of(rt.alloc(), end, script)?;
+    let (ending, written) = end_of(&rt, rt.alloc(), end, script)?;
     assert_eq!(rt; ending.status(), 0);
     assert!(rt; written.as_slice() == b"pev 5 rv 5\ninconsistent\n".as_slice());
-    let (ending, written) = end_of(rt.alloc(), end, &script[1..])?;
+    let (ending, written) = end_of(&rt, rt.alloc(), end, &script[1..])?;
     assert_eq!(rt; ending.status(), 2);
     assert!(rt; matches!(&ending, Ending::Fault(CliFault::BadScript)));
     assert!(rt; written.is_empty());
@@ -216,10 +228,10 @@ fn a_program_simulates(rt: HostRuntime) -> Result<(), Fail> {
     let words = ["fdbrec", "simulate"].as_slice();
     let script =
         b"{\"config\":{\"coordinators\":1,\"degree\":1,\"logs\":1,\"proxies\":1,\"shards\":[\"\"]},\"steps\":[]}".as_slice();
-    let (ending, written) = end_of(rt.alloc(), words, script)?;
+    let (ending, written) = end_of(&rt, rt.alloc(), words, script)?;
     assert_eq!(rt; ending.status(), 0);
     assert!(rt; written.as_slice() == b"storage 0 257 0 floor 0 rows 0\n".as_slice());
-    let (ending, written) = end_of(rt.alloc(), words, &script[1..])?;
+    let (ending, written) = end_of(&rt, rt.alloc(), words, &script[1..])?;
     assert_eq!(rt; ending.status(), 2);
     assert!(rt; matches!(&ending, Ending::Fault(CliFault::BadScript)));
     assert!(rt; written.is_empty());
@@ -231,10 +243,10 @@ fn a_program_audits(rt: HostRuntime) -> Result<(), Fail> {
     let words = ["fdbrec", "audit"].as_slice();
     let script =
         b"{\"config\":{\"coordinators\":1,\"degree\":1,\"logs\":1,\"proxies\":1,\"shards\":[\"\"]},\"journals\":[]}".as_slice();
-    let (ending, written) = end_of(rt.alloc(), words, script)?;
+    let (ending, written) = end_of(&rt, rt.alloc(), words, script)?;
     assert_eq!(rt; ending.status(), 0);
     assert!(rt; written.as_slice() == b"audit ok\n".as_slice());
-    let (ending, written) = end_of(rt.alloc(), words, &script[1..])?;
+    let (ending, written) = end_of(&rt, rt.alloc(), words, &script[1..])?;
     assert_eq!(rt; ending.status(), 2);
     assert!(rt; matches!(&ending, Ending::Fault(CliFault::BadScript)));
     assert!(rt; written.is_empty());
@@ -246,7 +258,7 @@ fn a_faulty_journal_has_status_1(rt: HostRuntime) -> Result<(), Fail> {
     let words = ["fdbrec", "audit"].as_slice();
     let script =
         b"{\"config\":{\"coordinators\":1,\"degree\":1,\"logs\":1,\"proxies\":1,\"shards\":[\"\"]},\"journals\":[{\"entries\":[],\"last\":null,\"node\":{\"cell\":{\"index\":0}}}]}".as_slice();
-    let (ending, written) = end_of(rt.alloc(), words, script)?;
+    let (ending, written) = end_of(&rt, rt.alloc(), words, script)?;
     assert_eq!(rt; ending.status(), 1);
     assert!(rt; matches!(&ending, Ending::Done(1)));
     assert!(rt; written.as_slice() == b"state differs at cell 0\n".as_slice());
@@ -256,7 +268,7 @@ fn a_faulty_journal_has_status_1(rt: HostRuntime) -> Result<(), Fail> {
 #[test]
 fn the_help_of_a_simulation(rt: HostRuntime) -> Result<(), Fail> {
     let words = ["fdbrec", "simulate", "--help"].as_slice();
-    let (ending, written) = end_of(rt.alloc(), words, b"".as_slice())?;
+    let (ending, written) = end_of(&rt, rt.alloc(), words, b"".as_slice())?;
     assert_eq!(rt; ending.status(), 0);
     for name in [
         "commit",
@@ -281,7 +293,7 @@ fn the_help_of_a_simulation(rt: HostRuntime) -> Result<(), Fail> {
 #[test]
 fn a_degree_above_the_logs_ends_a_program(rt: HostRuntime) -> Result<(), Fail> {
     let words = ["fdbrec", "end", "--logs", "2", "--degree", "3"].as_slice();
-    let (ending, written) = end_of(rt.alloc(), words, b"{\"replies\":[]}".as_slice())?;
+    let (ending, written) = end_of(&rt, rt.alloc(), words, b"{\"replies\":[]}".as_slice())?;
     assert_eq!(rt; ending.status(), 2);
     assert!(rt; matches!(&ending, Ending::BadWords(_)));
     assert!(rt; written.is_empty());
@@ -291,7 +303,7 @@ fn a_degree_above_the_logs_ends_a_program(rt: HostRuntime) -> Result<(), Fail> {
 #[test]
 fn the_help_of_an_end(rt: HostRuntime) -> Result<(), Fail> {
     let words = ["fdbrec", "end", "--help"].as_slice();
-    let (ending, written) = end_of(rt.alloc(), words, b"".as_slice())?;
+    let (ending, written) = end_of(&rt, rt.alloc(), words, b"".as_slice())?;
     assert_eq!(rt; ending.status(), 0);
     for name in [
         "--logs",
@@ -315,11 +327,12 @@ fn the_help_of_an_end(rt: HostRuntime) -> Result<(), Fail> {
 
 #[test]
 fn a_program_ends_by_its_words(rt: HostRuntime) -> Result<(), Fail> {
-    let (ending, written) = end_of(rt.alloc(), ["fdbrec", "run"].as_slice(), b"".as_slice())?;
+    let (ending, written) = end_of(&rt, rt.alloc(), ["fdbrec", "run"].as_slice(), b"".as_slice())?;
     assert_eq!(rt; ending.status(), 2);
     assert!(rt; matches!(&ending, Ending::BadWords(_)));
     assert!(rt; written.is_empty());
     let (ending, written) = end_of(
+        &rt,
         rt.alloc(),
         ["fdbrec", "--version"].as_slice(),
         b"".as_slice(),
@@ -327,6 +340,7 @@ fn a_program_ends_by_its_words(rt: HostRuntime) -> Result<(), Fail> {
     assert_eq!(rt; ending.status(), 0);
     assert!(rt; written.starts_with(b"fdbrec 0.1.0 (rattle-kit-".as_slice()));
     let (ending, written) = end_of(
+        &rt,
         rt.alloc(),
         ["fdbrec", "apply", "--help"].as_slice(),
         b"".as_slice(),
@@ -350,50 +364,5 @@ fn a_program_ends_by_its_words(rt: HostRuntime) -> Result<(), Fail> {
             "{name}"
         );
     }
-    Ok(())
-}
-
-/// A pipe whose other end is closed.
-#[derive(Drop)]
-struct Closed;
-
-impl Read for Closed {
-    fn read(&mut self, _buf: &mut [u8]) -> io::Result<usize> {
-        Err(Error::from(IoErrorKind::BrokenPipe))
-    }
-}
-
-impl Write for Closed {
-    fn write(&mut self, _buf: &[u8]) -> io::Result<usize> {
-        Err(Error::from(IoErrorKind::BrokenPipe))
-    }
-
-    fn flush(&mut self) -> io::Result<()> {
-        Ok(())
-    }
-}
-
-#[test]
-fn a_program_ends_by_its_devices(rt: HostRuntime) -> Result<(), Fail> {
-    let lines = [
-        ["fdbrec", "apply"].as_slice(),
-        ["fdbrec", "--help"].as_slice(),
-        ["fdbrec", "--version"].as_slice(),
-    ];
-    for line in lines {
-        let words = words_of(rt.alloc(), line)?;
-        let mut reader = b"{\"ops\":[{\"advance\":{\"version\":4}}]}".as_slice();
-        let ending = run_program(rt.alloc(), words.as_slice(), &mut reader, &mut Closed);
-        assert_eq!(rt; ending.status(), 4);
-        assert!(rt; matches!(&ending, Ending::Fault(CliFault::Output)));
-    }
-    let words = words_of(rt.alloc(), ["fdbrec", "apply"].as_slice())?;
-    let ending = run_program(
-        rt.alloc(),
-        words.as_slice(),
-        &mut Closed,
-        &mut Vec::new(rt.alloc()),
-    );
-    assert!(rt; matches!(&ending, Ending::Fault(CliFault::Input)));
     Ok(())
 }
