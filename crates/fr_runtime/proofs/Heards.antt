@@ -142,7 +142,7 @@ all-told-other (d ∷ ds) others = ap (λ (l : List (Vec Outcome)). l ++ all_tol
 
 -- threads that did their jobs
 
-mod _ {W T : Type 0} (given : W → List Order) (heard : W → List Outcome) (begun : ℕ → ℕ → Bool) (turns : ℕ) where
+module _ {W T : Type 0} (given : W → List Order) (heard : W → List Outcome) (begun : ℕ → ℕ → Bool) (turns : ℕ) where
   pulled : (ts : List T) (ds : List (Done W)) → AllDid given heard begun turns (pull_jobs ts ++ Crash ∷ []) ds → AllOther ds
   pulled [] [] did = absurd (cc)
   pulled [] (d ∷ []) did = (did.0, tt)
@@ -196,7 +196,7 @@ mod _ {W T : Type 0} (given : W → List Order) (heard : W → List Outcome) (be
       let o = recovered bs ts ds did in
       let js = pre ++ all_journals ds in
       subst (λ (vs : List W). AreHeard given heard js n [] vs (all_told ds)) (sym (all-works-other ds o))
-        (subst (λ (us : List (Vec Outcome)). AreHeard given heard js n [] [] us) (sym (all-told-other ds o)) tt)
+      (subst (λ (us : List (Vec Outcome)). AreHeard given heard js n [] [] us) (sym (all-told-other ds o)) tt)
   run-heard (w ∷ ws) n bs ts [] pre none did = absurd (cc)
   run-heard (w ∷ ws) n bs ts (Kept journal ∷ ds) pre none did = let no : false ≡ true = did.0 in absurd (cc)
   run-heard (w ∷ ws) n bs ts (Nothing ∷ ds) pre none did = let no : false ≡ true = did.0 in absurd (cc)
@@ -204,14 +204,14 @@ mod _ {W T : Type 0} (given : W → List Order) (heard : W → List Outcome) (be
       let rest = all_journals ds in
       let later : of_number n rest ≡ [] = served-none ws (n + 1) bs ts ds n (omega arith) did.1 in
       let own : of_number n (pre ++ (js.items ++ rest)) ≡ js.items =
-        of-append n pre (js.items ++ rest)
-        ∙ (ap (λ (l : List JournalState). l ++ of_number n (js.items ++ rest)) (none n (omega arith))
-        ∙ (of-append n js.items rest
-        ∙ (ap (λ (l : List JournalState). of_number n js.items ++ l) later
-        ∙ (append-nil (of_number n js.items) ∙ of-own n js.items did.0.1.1.1)))) in
+      of-append n pre (js.items ++ rest)
+      ∙ (ap (λ (l : List JournalState). l ++ of_number n (js.items ++ rest)) (none n (omega arith))
+      ∙ (of-append n js.items rest
+      ∙ (ap (λ (l : List JournalState). of_number n js.items ++ l) later
+      ∙ (append-nil (of_number n js.items) ∙ of-own n js.items did.0.1.1.1)))) in
       let past : (m : ℕ) → n + 1 ≤ m → of_number m (pre ++ js.items) ≡ [] =
-        λ m low. of-append m pre js.items
-          ∙ (ap (λ (l : List JournalState). l ++ of_number m js.items) (none m (omega (arith, low))) ∙ none-apart n m js.items (above m n low) did.0.1.1.1) in (
+      λ m low. of-append m pre js.items
+      ∙ (ap (λ (l : List JournalState). l ++ of_number m js.items) (none m (omega (arith, low))) ∙ none-apart n m js.items (above m n low) did.0.1.1.1) in (
         (
           kept,
           (
@@ -223,7 +223,7 @@ mod _ {W T : Type 0} (given : W → List Order) (heard : W → List Outcome) (be
           ),
         ),
         subst (λ (l : List JournalState). AreHeard given heard l (n + 1) ws (all_works ds) (all_told ds)) (append_assoc pre js.items rest)
-          (run-heard ws (n + 1) bs ts ds (pre ++ js.items) past did.1),
+            (run-heard ws (n + 1) bs ts ds (pre ++ js.items) past did.1),
       )
 
   -- what a run hands back, where its other journals are of nodes that answer asks
@@ -234,9 +234,9 @@ mod _ {W T : Type 0} (given : W → List Order) (heard : W → List Outcome) (be
       → AreHeard given heard js 0 ws vs us
   heard-run ws bs ts ds shared js vs us all j v u did =
       subst (λ (l : List JournalState). AreHeard given heard l 0 ws vs us) (sym j)
-        (subst (λ (l : List W). AreHeard given heard (shared ++ all_journals ds) 0 ws l us) (sym v)
-          (subst (λ (l : List (Vec Outcome)). AreHeard given heard (shared ++ all_journals ds) 0 ws (all_works ds) l) (sym u)
-            (run-heard ws 0 bs ts ds shared (λ m low. none-other m shared (none-answering shared all)) did)))
+      (subst (λ (l : List W). AreHeard given heard (shared ++ all_journals ds) 0 ws l us) (sym v)
+      (subst (λ (l : List (Vec Outcome)). AreHeard given heard (shared ++ all_journals ds) 0 ws (all_works ds) l) (sym u)
+      (run-heard ws 0 bs ts ds shared (λ m low. none-other m shared (none-answering shared all)) did)))
 
   pub begun-run : (ws : List W) (bs : List ℕ) (ts : List T) (ds : List (Done W)) (shared js : List JournalState)
       → js ≡ shared ++ all_journals ds
