@@ -4,6 +4,8 @@
 #[cfg(test)]
 mod ended;
 #[cfg(test)]
+mod failed;
+#[cfg(test)]
 mod rows;
 #[cfg(test)]
 mod scene;
