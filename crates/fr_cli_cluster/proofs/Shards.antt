@@ -22,7 +22,7 @@ one_fits zero n less e = absurd (omega (arith, less))
 one_fits (suc k) n less e = elim (cases_lt n k) [
   | inl lower ↦ one_fits k n lower (and_parts (fits k) (all_fit k) e).1
   | inr upper ↦ let same : n ≡ k = omega (arith, less, upper) in rw same (and_parts (fits k) (all_fit k) e).0
-  ]
+]
 
 none_of : (o : Option ShardFault) → not (is_some o) ≡ true → o ≡ None
 none_of None e = refl

@@ -12,8 +12,8 @@ use Rattle.fr_cli_audit.specs.Lines.{fault_line}
 -- a text of JSON on a line
 pub record IsScriptLine (text : List ℕ) : Type 0 where
   pub script : List ℕ
-  pub data : Data
-  pub written : IsInOrder script data
+  pub value : Data
+  pub written : IsInOrder script value
   pub line : text ≡ script ++ codes "\n"
 
 -- what is printed of a run: one line, or a script where the journals are asked for

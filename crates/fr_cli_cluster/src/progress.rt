@@ -49,7 +49,9 @@ impl<'a, E: Eprint> Progress<'a, E> {
         let all = self.all;
         let known = self.known.load(Ordering::SeqCst);
         let epoch = self.epoch.load(Ordering::SeqCst);
-        let _ = eprint!(self.to; "\rturn {turn} of {all}, epoch {epoch}, committed through {known} ");
+        let _ = eprint!(self.to;
+            "\rturn {turn} of {all}, epoch {epoch}, committed through {known} "
+        );
     }
 
     /// Ends the line.

@@ -168,35 +168,40 @@ fn cluster_command<'a>(alloc: Global) -> Result<Command<'a>, Error> {
             "coordinators",
             "How many coordinators there are, 1, 3, 5, 7 or 9",
             "3",
-            1, 9,
+            1,
+            9,
         ))?
         .arg(few(
             alloc,
             "logs",
             "How many logs a generation has, 1 to 16",
             "4",
-            1, 16,
+            1,
+            16,
         ))?
         .arg(few(
             alloc,
             "degree",
             "On how many of them each tag stands, 1 to all",
             "2",
-            1, 16,
+            1,
+            16,
         ))?
         .arg(few(
             alloc,
             "storages",
             "How many storage servers there are, 1 to 32",
             "2",
-            1, 32,
+            1,
+            32,
         ))?
         .arg(few(
             alloc,
             "proxies",
             "How many proxies a generation has, 1 to 16",
             "2",
-            1, 16,
+            1,
+            16,
         ))?
         .arg(many(
             alloc,
@@ -210,7 +215,8 @@ fn cluster_command<'a>(alloc: Global) -> Result<Command<'a>, Error> {
             "recoveries",
             "How many recoveries begin, 0 to 100",
             "1",
-            0, 100,
+            0,
+            100,
         ))?
         .arg(many(
             alloc,
@@ -242,13 +248,7 @@ fn few<'a>(
 }
 
 /// A word with a number from `least` to 1,000,000, and what it is where it is not there.
-fn many<'a>(
-    alloc: Global,
-    name: &'a str,
-    help: &'a str,
-    default: &'a str,
-    least: u32,
-) -> Arg<'a> {
+fn many<'a>(alloc: Global, name: &'a str, help: &'a str, default: &'a str, least: u32) -> Arg<'a> {
     Arg::new(alloc, name)
         .long(name)
         .help(help)

@@ -327,7 +327,12 @@ fn the_help_of_an_end(rt: HostRuntime) -> Result<(), Fail> {
 
 #[test]
 fn a_program_ends_by_its_words(rt: HostRuntime) -> Result<(), Fail> {
-    let (ending, written) = end_of(&rt, rt.alloc(), ["fdbrec", "run"].as_slice(), b"".as_slice())?;
+    let (ending, written) = end_of(
+        &rt,
+        rt.alloc(),
+        ["fdbrec", "run"].as_slice(),
+        b"".as_slice(),
+    )?;
     assert_eq!(rt; ending.status(), 2);
     assert!(rt; matches!(&ending, Ending::BadWords(_)));
     assert!(rt; written.is_empty());
