@@ -177,7 +177,7 @@ module _ {W T : Type 0} (given : W → List Order) (heard : W → List Outcome) 
   served-none (w ∷ ws) n bs ts [] m low did = absurd (cc)
   served-none (w ∷ ws) n bs ts (Served v js kept told ∷ ds) m low did =
       of-append m js.items (all_journals ds)
-      ∙ (ap (λ (l : List JournalState). l ++ of_number m (all_journals ds)) (none-apart n m js.items (below m n low) did.0.1.1.1)
+      ∙ (ap (λ (l : List JournalState). l ++ of_number m (all_journals ds)) (none-apart n m js.items (below m n low) did.0.3)
       ∙ served-none ws (n + 1) bs ts ds m (omega (arith, low)) did.1)
   served-none (w ∷ ws) n bs ts (Kept journal ∷ ds) m low did = let wrong : false ≡ true = did.0 in absurd (cc)
   served-none (w ∷ ws) n bs ts (Nothing ∷ ds) m low did = let wrong : false ≡ true = did.0 in absurd (cc)
@@ -203,19 +203,15 @@ module _ {W T : Type 0} (given : W → List Order) (heard : W → List Outcome) 
       ∙ (ap (λ (l : List JournalState). l ++ of_number n (js.items ++ rest)) (none n (omega arith))
       ∙ (of-append n js.items rest
       ∙ (ap (λ (l : List JournalState). of_number n js.items ++ l) later
-      ∙ (append-nil (of_number n js.items) ∙ of-own n js.items did.0.1.1.1)))) in
+      ∙ (append-nil (of_number n js.items) ∙ of-own n js.items did.0.3)))) in
       let past : (m : ℕ) → n + 1 ≤ m → of_number m (pre ++ js.items) ≡ [] =
       λ m low. of-append m pre js.items
-      ∙ (ap (λ (l : List JournalState). l ++ of_number m js.items) (none m (omega (arith, low))) ∙ none-apart n m js.items (above m n low) did.0.1.1.1) in (
+      ∙ (ap (λ (l : List JournalState). l ++ of_number m js.items) (none m (omega (arith, low))) ∙ none-apart n m js.items (above m n low) did.0.3) in (
         (
           kept,
-          (
-            did.0.0 ∙ ap (λ (l : List JournalState). given w ++ (all_given l ++ left_over kept)) (sym own),
-            (
-              did.0.1.0 ∙ ap (λ (l : List JournalState). all_outcomes l ++ waiting_for kept) (sym own),
-              did.0.1.1.0,
-            ),
-          ),
+          did.0.0 ∙ ap (λ (l : List JournalState). given w ++ (all_given l ++ left_over kept)) (sym own),
+          did.0.1 ∙ ap (λ (l : List JournalState). all_outcomes l ++ waiting_for kept) (sym own),
+          did.0.2,
         ),
         subst (λ (l : List JournalState). AreHeard given heard l (n + 1) ws (all_works ds) (all_told ds)) (append_assoc pre js.items rest)
             (run-heard ws (n + 1) bs ts ds (pre ++ js.items) past did.1),
@@ -252,6 +248,6 @@ pub oks-append : {X F : Type 0} (xs : List X) (x : X) → oks {X = X} {F = F} (x
 oks-append [] x = refl
 oks-append {F = F} (y ∷ ys) x = ap (λ (l : List (Result _ F)). Ok y ∷ l) (oks-append ys x)
 
-pub oks-length : {X F : Type 0} (xs : List X) → length (oks {X = X} {F = F} xs) ≡ length xs
-oks-length [] = refl
-oks-length {F = F} (x ∷ xs) = ap suc (oks-length {F = F} xs)
+pub oks-length : (F : Type 0) {X : Type 0} (xs : List X) → length (oks {X = X} {F = F} xs) ≡ length xs
+oks-length F [] = refl
+oks-length F (x ∷ xs) = ap suc (oks-length F xs)

@@ -206,9 +206,9 @@ fn run_jobs<
     ensures len { IfOk result (λ done. length done.items ≡ length jobs.items) }
     ensures did { IfOk result (λ done. (i : ℕ) (j : _) (d : _) → i < length jobs.items → IfOk (slice_index_or done.items i d) (Did W.given W.heard (F.begun faults.now) turns (slice_index_or jobs.items i j))) }
 {
-    let one = |job: Job<W, Storage<S>>| {
-        work_at(rt, alloc, config, directory, faults, turns, job)
-    };
+    let one = move |job: Job<W, Storage<S>>| -> Result<Done<W>, TurnFault>
+        ensures { IfOk result (λ done. Did W.given W.heard (F.begun faults.entry.now) turns job done) }
+    { work_at(rt, alloc, config, directory, faults, turns, job) };
     Ok(map_vec(rt, jobs, &one)?)
 }
 

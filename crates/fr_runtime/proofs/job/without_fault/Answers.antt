@@ -21,7 +21,7 @@ loop-thread-preserved g c =
     record {
       can = tt;
       ends = tt;
-      all = ap (λ (l : _). oks l ++ rest) c.in_ok-put.ensures
+      all = ap (λ (l : _). oks l ++ rest) c.in_ok-put-in-Ok.ensures
           ∙ (ap (λ (l : _). l ++ rest) (oks-append all c.in-Ok.done)
           ∙ (append_assoc (oks all) (Ok c.in-Ok.done ∷ []) rest
           ∙ (ap (λ (l : _). oks all ++ l) (sym next) ∙ c.loop-thread.invariant.all)));
