@@ -21,10 +21,10 @@ put-all f zs total xs none nothing inv =
     sym (append-nil zs) ∙ (ap (λ (l : List _). zs ++ l) (sym nothing) ∙ (ap (λ (l : List _). zs ++ f l) (sym none) ∙ inv))
 
 -- the number of the next
-pub serve-step : {W T : Type 0} (n m : ℕ) (w : W) (ws : List W) → m ≡ n + 1 → serve_jobs {W} {T} n (w ∷ ws) ≡ (Serve n w ∷ []) ++ serve_jobs m ws
-serve-step {W} {T} n m w ws next = ap (λ (k : ℕ). Serve n w ∷ serve_jobs {W} {T} k ws) (sym next)
+pub serve-step : {W T : Type 0} (n m : ℕ) (w : W) (ws : List W) → m ≡ n + 1 → serve_jobs {W = W} {T = T} n (w ∷ ws) ≡ (Serve n w ∷ []) ++ serve_jobs m ws
+serve-step {W} {T} n m w ws next = ap (λ (k : ℕ). Serve n w ∷ serve_jobs {W = W} {T = T} k ws) (sym next)
 
-recover-append : {W T : Type 0} (xs : List ℕ) (b : ℕ) → recover_jobs {W} {T} (xs ++ b ∷ []) ≡ recover_jobs xs ++ Recover b ∷ []
+recover-append : {W T : Type 0} (xs : List ℕ) (b : ℕ) → recover_jobs {W = W} {T = T} (xs ++ b ∷ []) ≡ recover_jobs xs ++ Recover b ∷ []
 recover-append [] b = refl
 recover-append {W} {T} (x ∷ xs) b = ap (λ (l : List (Job W T)). Recover x ∷ l) (recover-append xs b)
 

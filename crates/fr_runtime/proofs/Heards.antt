@@ -2,7 +2,7 @@
 use Rattle.std.proofs.Common.{arith, refl, sym, ap, subst, ◌∙◌}
 use Rattle.std.proofs.lemmas.Bool.Decides.{nat_tests}
 use Rattle.std.proofs.lemmas.List.{append-nil, append_assoc}
-use Rattle.std.specs.Prelude.{◌≡◌, ◌≢◌, ◌≤◌, ◌<◌, ◌+◌, ◌==◌, ◌&&◌, ◌||◌, ◌++◌, ◌∷◌, ℕ, suc, Bool, true, false, List, [], Option, Result, Ok, length, slice_index_or, if◌then◌else◌}
+use Rattle.std.specs.Prelude.{◌≡◌, ◌≢◌, ◌≤◌, ◌<◌, ◌+◌, ◌==◌, ◌&&◌, ◌||◌, ◌++◌, ◌∷◌, ℕ, suc, Bool, true, false, List, [], Option, Result, Ok, IfOk, length, slice_index_or, if◌then◌else◌}
 use Rattle.std.specs.Global.{Vec}
 use Rattle.fr_base.specs.declared.place.NodeId.{NodeId}
 use Rattle.fr_base.specs.declared.place.NodeId.TheVariants.{Cell, Log, Sequencer, Proxy, Recoverer, Storage}
@@ -17,7 +17,7 @@ use Rattle.fr_runtime.specs.declared.job.Done.TheVariants.{Served, Kept, Nothing
 use Rattle.fr_runtime.specs.declared.job.Job.{Job}
 use Rattle.fr_runtime.specs.declared.job.Job.TheVariants.{Serve, Recover, Pull, Crash}
 use Rattle.fr_runtime.specs.Heard.{AllBegin, AreHeard, Begins, IsHeard, has_begun, is_recoverer, of_number}
-use Rattle.fr_runtime.specs.Job.{AllDid, DidOrFailed, IsOther, all_journals, all_told, all_works, journals_of, no_proxies, oks, pull_jobs, recover_jobs, serve_jobs, told_of, works_of}
+use Rattle.fr_runtime.specs.Job.{AllDid, Did, IsOther, all_journals, all_told, all_works, journals_of, no_proxies, oks, pull_jobs, recover_jobs, serve_jobs, told_of, works_of}
 
 and-left : (a b : Bool) → (a && b) ≡ true → a ≡ true
 and-left true b both = refl
@@ -27,11 +27,6 @@ and-right : (a b : Bool) → (a && b) ≡ true → b ≡ true
 and-right true b both = both
 and-right false true both = refl
 and-right false false both = both
-
-or-left : (a b : Bool) → a ≡ true → (a || b) ≡ true
-or-left true b one = refl
-or-left false true one = refl
-or-left false false one = one
 
 or-right : (a b : Bool) → b ≡ true → (a || b) ≡ true
 or-right true b other = refl
@@ -69,8 +64,8 @@ none-apart m n (j ∷ js) differ own =
     ∙ none-apart m n js differ (and-right (is_proxy m j.node) (are_proxies m js) own)
 
 none-other : (n : ℕ) (js : List JournalState) → no_proxies js → of_number n js ≡ []
-none-other n [] no = refl
-none-other n (j ∷ js) no = ap (λ (s : Bool). if s then j ∷ of_number n js else of_number n js) (no.0 n) ∙ none-other n js no.1
+none-other n [] free = refl
+none-other n (j ∷ js) free = ap (λ (s : Bool). if s then j ∷ of_number n js else of_number n js) (free.0 n) ∙ none-other n js free.1
 
 no-answering : (n : ℕ) (node : NodeId) → answers node ≡ true → is_proxy n node ≡ false
 no-answering n (Proxy epoch k) here = absurd (cc)
@@ -87,13 +82,13 @@ none-answering (j ∷ js) all = ((λ n. no-answering n j.node (and-left (answers
 
 -- whether a recoverer has begun, of two lists
 
+either-begun : (a x y : Bool) → (a || x) ≡ true → (x ≡ true → y ≡ true) → (a || y) ≡ true
+either-begun true x y has on = refl
+either-begun false x y has on = on has
+
 begun-left : (b : ℕ) (xs ys : List JournalState) → has_begun b xs ≡ true → has_begun b (xs ++ ys) ≡ true
 begun-left b [] ys has = absurd (cc)
-begun-left b (j ∷ xs) ys has = go (is_recoverer b j.node && starts_with_begun j.entries) refl
-  where
-    go : (s : Bool) → (is_recoverer b j.node && starts_with_begun j.entries) ≡ s → has_begun b ((j ∷ xs) ++ ys) ≡ true
-    go true is = or-left (is_recoverer b j.node && starts_with_begun j.entries) (has_begun b (xs ++ ys)) is
-    go false is = or-right (is_recoverer b j.node && starts_with_begun j.entries) (has_begun b (xs ++ ys)) (begun-left b xs ys (sym (ap (λ (s : Bool). s || has_begun b xs) is) ∙ has))
+begun-left b (j ∷ xs) ys has = either-begun (is_recoverer b j.node && starts_with_begun j.entries) (has_begun b xs) (has_begun b (xs ++ ys)) has (λ rest. begun-left b xs ys rest)
 
 begun-right : (b : ℕ) (xs ys : List JournalState) → has_begun b ys ≡ true → has_begun b (xs ++ ys) ≡ true
 begun-right b [] ys has = has
@@ -146,7 +141,7 @@ module _ {W T : Type 0} (given : W → List Order) (heard : W → List Outcome) 
   pulled : (ts : List T) (ds : List (Done W)) → AllDid given heard begun turns (pull_jobs ts ++ Crash ∷ []) ds → AllOther ds
   pulled [] [] did = absurd (cc)
   pulled [] (d ∷ []) did = (did.0, tt)
-  pulled [] (d ∷ (e ∷ es)) did = let no : false ≡ true = did.1 in absurd (cc)
+  pulled [] (d ∷ (e ∷ es)) did = let wrong : false ≡ true = did.1 in absurd (cc)
   pulled (t ∷ ts) [] did = absurd (cc)
   pulled (t ∷ ts) (d ∷ ds) did = (did.0, pulled ts ds did.1)
 
@@ -182,10 +177,10 @@ module _ {W T : Type 0} (given : W → List Order) (heard : W → List Outcome) 
   served-none (w ∷ ws) n bs ts [] m low did = absurd (cc)
   served-none (w ∷ ws) n bs ts (Served v js kept told ∷ ds) m low did =
       of-append m js.items (all_journals ds)
-      ∙ (ap (λ (l : List JournalState). l ++ of_number m (all_journals ds)) (none-apart n m js.items (below m n low) did.0.1.1.1)
+      ∙ (ap (λ (l : List JournalState). l ++ of_number m (all_journals ds)) (none-apart n m js.items (below m n low) did.0.3)
       ∙ served-none ws (n + 1) bs ts ds m (omega (arith, low)) did.1)
-  served-none (w ∷ ws) n bs ts (Kept journal ∷ ds) m low did = let no : false ≡ true = did.0 in absurd (cc)
-  served-none (w ∷ ws) n bs ts (Nothing ∷ ds) m low did = let no : false ≡ true = did.0 in absurd (cc)
+  served-none (w ∷ ws) n bs ts (Kept journal ∷ ds) m low did = let wrong : false ≡ true = did.0 in absurd (cc)
+  served-none (w ∷ ws) n bs ts (Nothing ∷ ds) m low did = let wrong : false ≡ true = did.0 in absurd (cc)
 
   -- each workload is heard by the proxies of its number, where those before are of other nodes and of lesser numbers
   run-heard : (ws : List W) (n : ℕ) (bs : List ℕ) (ts : List T) (ds : List (Done W)) (pre : List JournalState)
@@ -198,8 +193,8 @@ module _ {W T : Type 0} (given : W → List Order) (heard : W → List Outcome) 
       subst (λ (vs : List W). AreHeard given heard js n [] vs (all_told ds)) (sym (all-works-other ds o))
       (subst (λ (us : List (Vec Outcome)). AreHeard given heard js n [] [] us) (sym (all-told-other ds o)) tt)
   run-heard (w ∷ ws) n bs ts [] pre none did = absurd (cc)
-  run-heard (w ∷ ws) n bs ts (Kept journal ∷ ds) pre none did = let no : false ≡ true = did.0 in absurd (cc)
-  run-heard (w ∷ ws) n bs ts (Nothing ∷ ds) pre none did = let no : false ≡ true = did.0 in absurd (cc)
+  run-heard (w ∷ ws) n bs ts (Kept journal ∷ ds) pre none did = let wrong : false ≡ true = did.0 in absurd (cc)
+  run-heard (w ∷ ws) n bs ts (Nothing ∷ ds) pre none did = let wrong : false ≡ true = did.0 in absurd (cc)
   run-heard (w ∷ ws) n bs ts (Served v js kept told ∷ ds) pre none did =
       let rest = all_journals ds in
       let later : of_number n rest ≡ [] = served-none ws (n + 1) bs ts ds n (omega arith) did.1 in
@@ -208,19 +203,15 @@ module _ {W T : Type 0} (given : W → List Order) (heard : W → List Outcome) 
       ∙ (ap (λ (l : List JournalState). l ++ of_number n (js.items ++ rest)) (none n (omega arith))
       ∙ (of-append n js.items rest
       ∙ (ap (λ (l : List JournalState). of_number n js.items ++ l) later
-      ∙ (append-nil (of_number n js.items) ∙ of-own n js.items did.0.1.1.1)))) in
+      ∙ (append-nil (of_number n js.items) ∙ of-own n js.items did.0.3)))) in
       let past : (m : ℕ) → n + 1 ≤ m → of_number m (pre ++ js.items) ≡ [] =
       λ m low. of-append m pre js.items
-      ∙ (ap (λ (l : List JournalState). l ++ of_number m js.items) (none m (omega (arith, low))) ∙ none-apart n m js.items (above m n low) did.0.1.1.1) in (
+      ∙ (ap (λ (l : List JournalState). l ++ of_number m js.items) (none m (omega (arith, low))) ∙ none-apart n m js.items (above m n low) did.0.3) in (
         (
           kept,
-          (
-            did.0.0 ∙ ap (λ (l : List JournalState). given w ++ (all_given l ++ left_over kept)) (sym own),
-            (
-              did.0.1.0 ∙ ap (λ (l : List JournalState). all_outcomes l ++ waiting_for kept) (sym own),
-              did.0.1.1.0,
-            ),
-          ),
+          did.0.0 ∙ ap (λ (l : List JournalState). given w ++ (all_given l ++ left_over kept)) (sym own),
+          did.0.1 ∙ ap (λ (l : List JournalState). all_outcomes l ++ waiting_for kept) (sym own),
+          did.0.2,
         ),
         subst (λ (l : List JournalState). AreHeard given heard l (n + 1) ws (all_works ds) (all_told ds)) (append_assoc pre js.items rest)
             (run-heard ws (n + 1) bs ts ds (pre ++ js.items) past did.1),
@@ -246,17 +237,17 @@ module _ {W T : Type 0} (given : W → List Order) (heard : W → List Outcome) 
 
   -- each did its job, where the results of all threads say so and none is a fault
   pub all-did : {F : Type 0} (js : List (Job W T)) (ds : List (Done W)) → length ds ≡ length js
-      → ((i : ℕ) (j : Job W T) (r : Result (Done W) F) → i < length js → DidOrFailed given heard begun turns (slice_index_or js i j) (slice_index_or (oks ds) i r))
+      → ((i : ℕ) (j : Job W T) (r : Result (Done W) F) → i < length js → IfOk (slice_index_or (oks ds) i r) (Did given heard begun turns (slice_index_or js i j)))
       → AllDid given heard begun turns js ds
   all-did [] [] len all = tt
   all-did [] (d ∷ ds) len all = absurd (omega (arith, len))
   all-did (j ∷ js) [] len all = absurd (omega (arith, len))
   all-did (j ∷ js) (d ∷ ds) len all = (all 0 j (Ok d) (omega arith), all-did js ds (omega (arith, len)) (λ i k r low. all (suc i) k r (omega (arith, low))))
 
-pub oks-append : {X F : Type 0} (xs : List X) (x : X) → oks {X} {F} (xs ++ x ∷ []) ≡ oks xs ++ Ok x ∷ []
+pub oks-append : {X F : Type 0} (xs : List X) (x : X) → oks {X = X} {F = F} (xs ++ x ∷ []) ≡ oks xs ++ Ok x ∷ []
 oks-append [] x = refl
 oks-append {F = F} (y ∷ ys) x = ap (λ (l : List (Result _ F)). Ok y ∷ l) (oks-append ys x)
 
-pub oks-length : {X F : Type 0} (xs : List X) → length (oks {X} {F} xs) ≡ length xs
-oks-length [] = refl
-oks-length {F = F} (x ∷ xs) = ap suc (oks-length {F = F} xs)
+pub oks-length : (F : Type 0) {X : Type 0} (xs : List X) → length (oks {X = X} {F = F} xs) ≡ length xs
+oks-length F [] = refl
+oks-length F (x ∷ xs) = ap suc (oks-length F xs)

@@ -85,11 +85,6 @@ Did given heard begun turns (Recover ballot) done = IsOther done × Begins begun
 Did given heard begun turns (Pull storage) done = IsOther done
 Did given heard begun turns Crash done = IsOther done
 
--- where it has no fault
-abbrev pub DidOrFailed : {W T F : Type 0} → (W → List Order) → (W → List Outcome) → (ℕ → ℕ → Bool) → ℕ → Job W T → Result (Done W) F → Type 0
-DidOrFailed given heard begun turns job (Ok done) = Did given heard begun turns job done
-DidOrFailed given heard begun turns job (Err fault) = Unit {0}
-
 -- each thread did its job
 abbrev pub AllDid : {W T : Type 0} → (W → List Order) → (W → List Outcome) → (ℕ → ℕ → Bool) → ℕ → List (Job W T) → List (Done W) → Type 0
 AllDid given heard begun turns [] [] = Unit {0}

@@ -28,10 +28,12 @@ impl<W: Drop> Gathered<W> {
         ensures told { IfOk result (λ all. all.told.items ≡ all_told done.items) }
         ensures works { IfOk result (λ all. all.works.items ≡ all_works done.items) }
     {
+        let told = Vec::new(alloc);
+        let works = Vec::new(alloc);
         let mut all = Gathered {
             journals,
-            told: Vec::new(alloc),
-            works: Vec::new(alloc),
+            told,
+            works,
         };
         for thread in done {
             all.add(thread)?;

@@ -1,7 +1,7 @@
 //! What the threads of a cluster do.
 ghost use Rattle.std.specs.Prelude.{◌≡◌, ◌++◌, ◌∷◌, [], ◌<◌, ℕ, IfOk, OnOk, length, slice_index_or};
 ghost use Rattle.fr_runtime.specs.declared.job.Job.TheVariants as job_of;
-ghost use Rattle.fr_runtime.specs.Job.{AllDid, Did, DidOrFailed, DidServe, oks, pull_jobs, recover_jobs, serve_jobs};
+ghost use Rattle.fr_runtime.specs.Job.{AllDid, Did, DidServe, oks, pull_jobs, recover_jobs, serve_jobs};
 
 use crate::fault::RunFault;
 use crate::prepare::{first_generation, put};
@@ -204,11 +204,11 @@ fn run_jobs<
     jobs: Vec<Job<W, Storage<S>>>,
 ) -> Result<Vec<Result<Done<W>, TurnFault>>, Memory>
     ensures len { IfOk result (λ done. length done.items ≡ length jobs.items) }
-    ensures did { IfOk result (λ done. (i : ℕ) (j : _) (d : _) → i < length jobs.items → DidOrFailed W.given W.heard (F.begun faults.now) turns (slice_index_or jobs.items i j) (slice_index_or done.items i d)) }
+    ensures did { IfOk result (λ done. (i : ℕ) (j : _) (d : _) → i < length jobs.items → IfOk (slice_index_or done.items i d) (Did W.given W.heard (F.begun faults.now) turns (slice_index_or jobs.items i j))) }
 {
-    let one = |job: Job<W, Storage<S>>| {
-        work_at(rt, alloc, config, directory, faults, turns, job)
-    };
+    let one = move |job: Job<W, Storage<S>>| -> Result<Done<W>, TurnFault>
+        ensures { IfOk result (λ done. Did W.given W.heard (F.begun faults.entry.now) turns job done) }
+    { work_at(rt, alloc, config, directory, faults, turns, job) };
     Ok(map_vec(rt, jobs, &one)?)
 }
 
@@ -221,7 +221,10 @@ fn without_fault<W: Drop>(
 {
     let mut all = Vec::new(alloc);
     for thread in threads {
-        put(&mut all, thread?)?;
+        match thread {
+            Ok(done) => put(&mut all, done)?,
+            Err(fault) => return Err(RunFault::from(fault)),
+        }
     }
     Ok(all)
 }

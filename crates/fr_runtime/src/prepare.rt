@@ -117,6 +117,28 @@ fn cells<K: Rack>(
     Ok(all)
 }
 
+/// A log of an epoch that may come: one of the start is seeded and marked, the others are fresh.
+fn log_station<K: Rack>(
+    alloc: Global,
+    config: &Config,
+    rack: &K,
+    state: &CoordState,
+    id: LogId,
+) -> Result<Station<K::Log>, RunFault>
+    requires place { id.index < config.now.m }
+{
+    let _within = config.coordinators();
+    let LogId { epoch, index } = id;
+    let fresh = rack.log(alloc, id, config.logs(), config.degree())?;
+    let place = NodeId::Log { epoch, index };
+    if epoch == first_epoch() {
+        let node = started_log(alloc, fresh, state)?;
+        Ok(Station::new(Housed::new(alloc, node, place)))
+    } else {
+        Ok(Station::new(Housed::new(alloc, fresh, place)))
+    }
+}
+
 /// The logs of the start, and the fresh ones of all epochs that may come.
 fn logs<K: Rack>(
     alloc: Global,
@@ -125,7 +147,6 @@ fn logs<K: Rack>(
     state: &CoordState,
     epochs: &[Epoch],
 ) -> Result<Vec<Station<K::Log>>, RunFault> {
-    let _within = config.coordinators();
     let mut all = Vec::new(alloc);
     for epoch in epochs {
         for index in 0..config.logs() {
@@ -133,17 +154,7 @@ fn logs<K: Rack>(
                 epoch: *epoch,
                 index,
             };
-            let fresh = rack.log(alloc, id, config.logs(), config.degree())?;
-            let node = if *epoch == first_epoch() {
-                started_log(alloc, fresh, state)?
-            } else {
-                fresh
-            };
-            let place = NodeId::Log {
-                epoch: *epoch,
-                index,
-            };
-            put(&mut all, Station::new(Housed::new(alloc, node, place)))?;
+            put(&mut all, log_station(alloc, config, rack, state, id)?)?;
         }
     }
     Ok(all)

@@ -1,4 +1,5 @@
-use Rattle.std.proofs.Common.{refl, ap, ◌≡◌, ◌++◌, ◌∷◌, []}
+use Rattle.std.proofs.Common.{refl, ap, ◌≡◌, ◌++◌, ◌∷◌, [], arith}
+use Rattle.std.proofs.lemmas.Grind.{common_steps}
 use Rattle.std.specs.Vec.Iter.{into_iter_items}
 use Rattle.fr_runtime.specs.declared.job.Job.TheVariants.{Pull}
 use Rattle.fr_runtime.specs.Job.{pull_jobs}
@@ -20,4 +21,6 @@ loop-storage-preserved g c = record {
 }
 
 pub returns : goal.returns
-returns g c = put-all pull_jobs c.loop-storage.all.items _ _ c.in-None.ensures.steps.0 refl c.loop-storage.invariant.jobs
+returns g c =
+    let ended : into_iter_items c.loop-storage.storage-iterator ≡ [] = grind (arith, common_steps) in
+    put-all pull_jobs c.loop-storage.all.items _ _ ended refl c.loop-storage.invariant.jobs

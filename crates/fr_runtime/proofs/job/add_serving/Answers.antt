@@ -1,4 +1,5 @@
 use Rattle.std.proofs.Common.{arith, refl, sym, ap, ◌∙◌, ◌≡◌, ◌++◌, ◌∷◌, [], ◌+◌}
+use Rattle.std.proofs.lemmas.Grind.{common_steps}
 use Rattle.std.specs.Vec.Iter.{into_iter_items}
 use Rattle.fr_runtime.specs.declared.job.Job.TheVariants.{Serve}
 use Rattle.fr_runtime.specs.Job.{serve_jobs}
@@ -28,4 +29,6 @@ loop-work-preserved g c =
     }
 
 pub returns : goal.returns
-returns g c = put-all (serve_jobs c.loop-work.number) c.loop-work.all.items _ _ c.in-None.ensures.steps.0 refl c.loop-work.invariant.jobs
+returns g c =
+    let ended : into_iter_items c.loop-work.work-iterator ≡ [] = grind (arith, common_steps) in
+    put-all (serve_jobs c.loop-work.number) c.loop-work.all.items _ _ ended refl c.loop-work.invariant.jobs

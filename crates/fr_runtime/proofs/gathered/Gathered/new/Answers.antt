@@ -1,4 +1,5 @@
-use Rattle.std.proofs.Common.{refl, ap, ◌≡◌, ◌++◌}
+use Rattle.std.proofs.Common.{refl, ap, ◌∙◌, ◌≡◌, ◌++◌, arith, []}
+use Rattle.std.proofs.lemmas.Grind.{common_steps}
 use Rattle.std.specs.Vec.Iter.{into_iter_items}
 use Rattle.fr_runtime.specs.Job.{all_journals, all_told, all_works, journals_of, told_of, works_of}
 use Rattle.fr_runtime.proofs.Gathers.{put-all, put-more}
@@ -11,8 +12,8 @@ loop-thread-init g c =
       can = tt;
       ends = tt;
       journals = ap (λ (l : _). c.args.journals.items ++ all_journals l) items;
-      told = ap all_told items;
-      works = ap all_works items;
+      told = ap (λ (l : _). l ++ all_told (into_iter_items c.into_iter-thread-iterator.result)) c.new-told.ensures.items ∙ ap all_told items;
+      works = ap (λ (l : _). l ++ all_works (into_iter_items c.into_iter-thread-iterator.result)) c.new-works.ensures.items ∙ ap all_works items;
     }
 
 pub loop-thread-preserved : goal.loop-thread-preserved
@@ -31,10 +32,16 @@ loop-thread-preserved g c =
     }
 
 pub returns-clause-journals : goal.returns-clause-journals
-returns-clause-journals g c = put-all all_journals c.loop-thread.all.journals.items _ _ c.in-None.ensures.steps.0 refl c.loop-thread.invariant.journals
+returns-clause-journals g c =
+    let ended : into_iter_items c.loop-thread.thread-iterator ≡ [] = grind (arith, common_steps) in
+    put-all all_journals c.loop-thread.all.journals.items _ _ ended refl c.loop-thread.invariant.journals
 
 pub returns-clause-told : goal.returns-clause-told
-returns-clause-told g c = put-all all_told c.loop-thread.all.told.items _ _ c.in-None.ensures.steps.0 refl c.loop-thread.invariant.told
+returns-clause-told g c =
+    let ended : into_iter_items c.loop-thread.thread-iterator ≡ [] = grind (arith, common_steps) in
+    put-all all_told c.loop-thread.all.told.items _ _ ended refl c.loop-thread.invariant.told
 
 pub returns-clause-works : goal.returns-clause-works
-returns-clause-works g c = put-all all_works c.loop-thread.all.works.items _ _ c.in-None.ensures.steps.0 refl c.loop-thread.invariant.works
+returns-clause-works g c =
+    let ended : into_iter_items c.loop-thread.thread-iterator ≡ [] = grind (arith, common_steps) in
+    put-all all_works c.loop-thread.all.works.items _ _ ended refl c.loop-thread.invariant.works
