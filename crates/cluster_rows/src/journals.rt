@@ -44,7 +44,7 @@ fn the_greatest_cluster_is_a_run(rt: HostRuntime) -> Result<(), Fail> {
         proxies: 16,
         batches: 3,
         recoveries: 2,
-        turns: 250,
+        turns: 120,
         journal: false,
     };
     let (status, text) = printed(&rt, rt.alloc(), words)?;
@@ -56,7 +56,7 @@ fn the_greatest_cluster_is_a_run(rt: HostRuntime) -> Result<(), Fail> {
 #[test]
 fn what_is_printed_is_read_back_and_is_a_run(rt: HostRuntime) -> Result<(), Fail> {
     let words = ClusterWords {
-        turns: 300,
+        turns: 150,
         journal: true,
         ..DEFAULTS
     };

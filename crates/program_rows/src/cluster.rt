@@ -107,7 +107,7 @@ fn a_program_runs_a_cluster(rt: HostRuntime) -> Result<(), Fail> {
 
 #[test]
 fn a_program_audits_what_a_cluster_prints(rt: HostRuntime) -> Result<(), Fail> {
-    let words = ["fdbrec", "cluster", "--turns=300", "--journal"].as_slice();
+    let words = ["fdbrec", "cluster", "--turns=150", "--journal"].as_slice();
     let (ending, script) = end_of(&rt, rt.alloc(), words, b"".as_slice())?;
     assert_eq!(rt; ending.status(), 0);
     assert!(rt; script.starts_with(b"{\"config\":".as_slice()));
