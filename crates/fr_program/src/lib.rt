@@ -2,6 +2,7 @@
 //! The programs of this repository that call it differ in what the gate runs them on.
 #![tactic(auto)]
 
+mod apply;
 mod program;
 mod words;
 
@@ -11,7 +12,7 @@ use std::alloc::Global;
 use std::io;
 use std::io::BufWriter;
 use std::process::ExitCode;
-pub use words::{Request, read_words};
+pub use words::{Request, StoreKind, read_words};
 
 /// Runs the program over its own words, standard input and standard output, and gives its status.
 pub fn run_main(rt: &HostRuntime) -> ExitCode {

@@ -1,7 +1,8 @@
 //! The program over its words, a reader and a writer.
+use crate::apply::apply_to;
 use crate::words::{Request, read_words};
 use clap::error::{Error, ErrorKind};
-use fr_cli::{CliFault, run_apply};
+use fr_cli::CliFault;
 use fr_cli_audit::run_audit;
 use fr_cli_end::run_end;
 use fr_cli_simulate::run_simulate;
@@ -69,7 +70,7 @@ fn run<R: Read, W: Write>(
     writer: &mut W,
 ) -> Result<u8, CliFault> {
     match request {
-        Request::Apply(options) => run_apply(alloc, options, reader, writer),
+        Request::Apply(kind) => apply_to(kind, alloc, reader, writer),
         Request::End(options) => run_end(alloc, options, reader, writer),
         Request::Simulate => run_simulate(alloc, reader, writer),
         Request::Audit => run_audit(alloc, reader, writer),

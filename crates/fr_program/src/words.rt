@@ -1,15 +1,23 @@
 //! The words of the command line.
 use clap::error::{Error, ErrorKind};
 use clap::{Arg, ArgAction, ArgMatches, Command, value_parser};
-use fr_cli::{ApplyOptions, StoreKind};
 use fr_cli_end::EndOptions;
 use std::alloc::Global;
+
+/// What a store keeps its rows in.
+#[derive(Clone, Copy, Debug, PartialEq, Eq)]
+pub enum StoreKind {
+    /// A map in memory.
+    Map,
+    /// The tables of a database in memory.
+    Sql,
+}
 
 /// What the words ask for.
 #[derive(Clone, Copy, Debug, PartialEq, Eq)]
 pub enum Request {
     /// The operations of a script, run on an empty store.
-    Apply(ApplyOptions),
+    Apply(StoreKind),
     /// The end of an epoch, from the replies of a script.
     End(EndOptions),
     /// The steps of a script, taken in a world.
@@ -19,7 +27,7 @@ pub enum Request {
 }
 
 /// The kinds of store, as the words name them.
-static STORES: [&str; 1] = ["map"];
+static STORES: [&str; 2] = ["map", "sql"];
 
 /// The program's version, and the line of the kit that it is proved with.
 const VERSION: &str = "0.1.0 (rattle-kit-13b logic dac8208d650f15bf)";
@@ -51,6 +59,8 @@ It prints a line for each operation, and then the rows of the store:
                         NotAfter (a version not above the one applied), BelowFloor,
                         AboveApplied
   KEY VALUE             a row, - for no bytes
+
+With --store sql the rows are kept in the tables of a database in memory. It prints the same.
 
 For instance
 
@@ -222,10 +232,19 @@ pub fn read_words(alloc: Global, words: &[String]) -> Result<Request, Error> {
     if matches.subcommand_matches("audit").is_some() {
         return Ok(Request::Audit);
     }
-    // There is one other command, and one kind of store: other words are refused.
-    Ok(Request::Apply(ApplyOptions {
-        store: StoreKind::Map,
-    }))
+    // There is one other command: other words are refused.
+    match matches.subcommand_matches("apply") {
+        Some(apply) => Ok(Request::Apply(read_store(apply))),
+        None => Ok(Request::Apply(StoreKind::Map)),
+    }
+}
+
+/// Reads the kind of store, which is a map where none is named. Other names are refused.
+fn read_store(matches: &ArgMatches<'_>) -> StoreKind {
+    match matches.get_str("store") {
+        Some("sql") => StoreKind::Sql,
+        _ => StoreKind::Map,
+    }
 }
 
 /// Reads the options of `end`. Each of its numbers is there and within its limits, so what is left to be

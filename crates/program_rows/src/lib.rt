@@ -1,5 +1,8 @@
-//! Tests of the program: which words choose which command, and with which status and text it ends.
+//! Tests of the program: which words choose which command, with which status and text it ends, and what scripts of
+//! `apply` print on each kind of store.
 #![tactic(auto)]
 
+#[cfg(test)]
+mod apply_rows;
 #[cfg(test)]
 mod words;

@@ -1,8 +1,8 @@
 //! The words that choose a command, and how a program ends.
 use clap::error::ErrorKind;
-use fr_cli::{ApplyOptions, CliFault, StoreKind};
+use fr_cli::CliFault;
 use fr_cli_end::EndOptions;
-use fr_program::{Ending, Request, read_words, run_program};
+use fr_program::{Ending, Request, StoreKind, read_words, run_program};
 use std::alloc::{AllocError, Global};
 use std::io;
 use std::io::{Error, ErrorKind as IoErrorKind, Read, Write};
@@ -18,18 +18,23 @@ fn words_of(alloc: Global, words: &[&str]) -> Result<Vec<String>, AllocError> {
 
 #[test]
 fn words_choose_a_command(rt: HostRuntime) -> Result<(), Fail> {
-    let wanted = Request::Apply(ApplyOptions {
-        store: StoreKind::Map,
-    });
     let lines = [
-        ["fdbrec", "apply"].as_slice(),
-        ["fdbrec", "apply", "--store", "map"].as_slice(),
-        ["fdbrec", "apply", "--store=map"].as_slice(),
+        (["fdbrec", "apply"].as_slice(), StoreKind::Map),
+        (
+            ["fdbrec", "apply", "--store", "map"].as_slice(),
+            StoreKind::Map,
+        ),
+        (["fdbrec", "apply", "--store=map"].as_slice(), StoreKind::Map),
+        (
+            ["fdbrec", "apply", "--store", "sql"].as_slice(),
+            StoreKind::Sql,
+        ),
+        (["fdbrec", "apply", "--store=sql"].as_slice(), StoreKind::Sql),
     ];
-    for line in lines {
+    for (line, kind) in lines {
         let words = words_of(rt.alloc(), line)?;
         match read_words(rt.alloc(), words.as_slice()) {
-            Ok(request) => assert!(rt; request == wanted),
+            Ok(request) => assert!(rt; request == Request::Apply(kind)),
             Err(error) => assert!(rt; false, "{error}"),
         }
     }
@@ -143,7 +148,7 @@ fn other_words_are_refused(rt: HostRuntime) -> Result<(), Fail> {
             ErrorKind::UnknownArgument,
         ),
         (
-            ["fdbrec", "apply", "--store", "sql"].as_slice(),
+            ["fdbrec", "apply", "--store", "tree"].as_slice(),
             ErrorKind::InvalidValue,
         ),
         (

@@ -1,7 +1,6 @@
-//! Scripts of `apply` with their lines, run on the tables of a database and on a map.
-use fr_cli::run_apply_on;
-use fr_sql_store::SqlStore;
-use fr_undo::MapStore;
+//! Scripts of `apply` with their lines, which are the same on a map and on the tables of a database.
+use fr_program::run_program;
+use std::alloc::Global;
 use std::test::Fail;
 
 const ROWS: [(&str, &str); 5] = [
@@ -27,28 +26,33 @@ const ROWS: [(&str, &str); 5] = [
     ),
 ];
 
+/// Whether the program, of these words, prints what each script is to print.
+fn prints_all(alloc: Global, words: &[&str]) -> Result<bool, Fail> {
+    for (script, lines) in ROWS {
+        let mut given = Vec::new(alloc);
+        for word in words {
+            given.push(String::from_str(alloc, word)?)?;
+        }
+        let mut reader = script.as_bytes();
+        let mut writer = Vec::new(alloc);
+        let ending = run_program(alloc, given.as_slice(), &mut reader, &mut writer);
+        if ending.status() != 0 || writer.as_slice() != lines.as_bytes() {
+            return Ok(false);
+        }
+    }
+    Ok(true)
+}
+
 #[test]
 fn a_map_prints_these_lines(rt: HostRuntime) -> Result<(), Fail> {
-    for (script, lines) in ROWS {
-        let mut store = MapStore::new(rt.alloc());
-        let mut reader = script.as_bytes();
-        let mut writer = Vec::new(rt.alloc());
-        let answer = run_apply_on(rt.alloc(), &mut store, &mut reader, &mut writer);
-        assert!(rt; answer == Ok(0));
-        assert_eq!(rt; writer.as_slice(), lines.as_bytes());
-    }
+    let words = ["fdbrec", "apply", "--store", "map"];
+    assert!(rt; prints_all(rt.alloc(), words.as_slice())?);
     Ok(())
 }
 
 #[test]
 fn tables_print_these_lines(rt: HostRuntime) -> Result<(), Fail> {
-    for (script, lines) in ROWS {
-        let mut store = SqlStore::in_memory(rt.alloc())?;
-        let mut reader = script.as_bytes();
-        let mut writer = Vec::new(rt.alloc());
-        let answer = run_apply_on(rt.alloc(), &mut store, &mut reader, &mut writer);
-        assert!(rt; answer == Ok(0));
-        assert_eq!(rt; writer.as_slice(), lines.as_bytes());
-    }
+    let words = ["fdbrec", "apply", "--store", "sql"];
+    assert!(rt; prints_all(rt.alloc(), words.as_slice())?);
     Ok(())
 }
