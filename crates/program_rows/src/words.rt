@@ -24,12 +24,18 @@ fn words_choose_a_command(rt: HostRuntime) -> Result<(), Fail> {
             ["fdbrec", "apply", "--store", "map"].as_slice(),
             StoreKind::Map,
         ),
-        (["fdbrec", "apply", "--store=map"].as_slice(), StoreKind::Map),
+        (
+            ["fdbrec", "apply", "--store=map"].as_slice(),
+            StoreKind::Map,
+        ),
         (
             ["fdbrec", "apply", "--store", "sql"].as_slice(),
             StoreKind::Sql,
         ),
-        (["fdbrec", "apply", "--store=sql"].as_slice(), StoreKind::Sql),
+        (
+            ["fdbrec", "apply", "--store=sql"].as_slice(),
+            StoreKind::Sql,
+        ),
     ];
     for (line, kind) in lines {
         let words = words_of(rt.alloc(), line)?;

@@ -24,18 +24,30 @@ fn agree_below(
     Ok(())
 }
 
-#[test]
-fn agrees_with_the_slow_store(rt: HostRuntime) -> Result<(), Fail> {
-    let alloc = rt.alloc();
-    for seed in 0..3u64 {
-        let mut rng = Pcg32::new(seed, 54);
-        let mut store = MapStore::new(alloc);
-        let mut slow = SlowStore::new(alloc);
-        for part in 0..10u32 {
-            let same = agrees(alloc, &mut rng, 20, &mut store, &mut slow)?;
-            assert!(rt; same, "in part {part} of {seed}");
-            agree_below(&rt, alloc, &store, &slow)?;
-        }
+/// The same 200 calls of a seed give the same in both.
+fn agrees_with(rt: &impl Abort, alloc: Global, seed: u64) -> Result<(), Fail> {
+    let mut rng = Pcg32::new(seed, 54);
+    let mut store = MapStore::new(alloc);
+    let mut slow = SlowStore::new(alloc);
+    for part in 0..10u32 {
+        let same = agrees(alloc, &mut rng, 20, &mut store, &mut slow)?;
+        assert!(rt; same, "in part {part} of {seed}");
+        agree_below(rt, alloc, &store, &slow)?;
     }
     Ok(())
+}
+
+#[test]
+fn agrees_with_the_slow_store(rt: HostRuntime) -> Result<(), Fail> {
+    agrees_with(&rt, rt.alloc(), 0)
+}
+
+#[test]
+fn agrees_with_it_by_a_second_seed(rt: HostRuntime) -> Result<(), Fail> {
+    agrees_with(&rt, rt.alloc(), 1)
+}
+
+#[test]
+fn agrees_with_it_by_a_third_seed(rt: HostRuntime) -> Result<(), Fail> {
+    agrees_with(&rt, rt.alloc(), 2)
 }
