@@ -8,19 +8,19 @@ use Rattle.sqlite.specs.Schema.{Schema}
 use Rattle.sqlite.specs.Does.{Tally, lacks_sequence}
 use Rattle.sqlite.specs.Effect.{Database}
 use Rattle.sqlite.specs.Listing.{understood}
-use Rattle.sqlite.specs.State.{State, Writes, Executes}
+use Rattle.sqlite.specs.State.{State, Writes, ExecutesInside}
 use Rattle.sqlite.proofs.Callers.{IsPlain, command_of, statement_of, runs_as}
 use Rattle.sqlite_catalog.specs.Change.{created, next_tree, KeepsRows}
-use Rattle.fr_sql_rows.specs.Connection.{IsAtRest, Creates}
+use Rattle.fr_sql_rows.specs.Connection.{Creates}
 use Rattle.fr_sql_rows.proofs.StepLemmas.{went, same_value}
 
 pub creates : (text : List ℕ) (table : Table) (before : Schema) (old new : State) (r : Result ℕ Error)
     → (command_of (understood before text) ≡ CreateTable) × (statement_of text (understood before text) ≡ text) × IsPlain (understood before text)
-    → table_defined_by text ≡ Ok table → lacks_sequence (created before table) ≡ false → IsAtRest old → old.now.schema ≡ before
-    → Executes text [] old new r → OnOk r (Creates before table old new)
-creates text table before old new (Err e) reads defined plain rest has h = tt
-creates text table before old new (Ok count) reads defined counted rest has h =
-    let w = subst (λ t. Writes old new None CreateTable t [] count) reads.1 (runs_as text [] old new before has CreateTable reads.0 reads.2 count h) in
+    → table_defined_by text ≡ Ok table → lacks_sequence (created before table) ≡ false → old.now.schema ≡ before
+    → ExecutesInside 0 text [] old new r → OnOk r (Creates before table old.now new.now)
+creates text table before old new (Err e) reads defined plain has h = tt
+creates text table before old new (Ok count) reads defined counted has h =
+    let w = subst (λ t. Writes old new None CreateTable t [] count) reads.1 (runs_as text [] old new before has CreateTable reads.0 reads.2 count h.0) in
     let all = went w.changed in
     let first = went all.1 in
     let made = first.1 in
@@ -33,5 +33,4 @@ creates text table before old new (Ok count) reads defined counted rest has h =
       schema = ap (λ (d : Database). d.schema) now ∙ is;
       empty = ap (λ (d : Database). d.trees (next_tree before)) now ∙ subst (λ s. first.0.trees (next_tree s) ≡ []) has made.empty;
       others = subst (λ (d : Database). KeepsRows before.tables old.now.trees d.trees) (sym now) (subst (λ s. KeepsRows s.tables old.now.trees first.0.trees) has made.others);
-      rest = record { is_open = w.shown.is_open; autocommit = w.shown.mode ∙ rest.autocommit; settled = sym (rw rest.autocommit at w.shown.committed_is) };
     }

@@ -3,19 +3,20 @@ use Rattle.std.proofs.Common.{slice_get, Some, None, ◌≡◌, ℕ, pos, List, 
 use Rattle.sqlite.specs.declared.types.Value.TheVariants.{Null, Int, Blob}
 use Rattle.sqlite.specs.declared.error.Error.{Error}
 use Rattle.sqlite.specs.Order.{Row, column, bytes}
+use Rattle.sqlite.specs.Effect.{Database}
 use Rattle.sqlite.specs.Term.{Term, lit, col}
 use Rattle.sqlite.specs.Query.{IsSureAnswer}
 use Rattle.sqlite.specs.Edit.{edit_of, edited}
 use Rattle.sqlite.specs.Rowids.TheVariants.{Given, Chosen}
 use Rattle.sqlite.specs.Tree.{Trees}
 use Rattle.sqlite.specs.Program.{overlay}
-use Rattle.sqlite.specs.State.{State, Executes, Shown}
-use Rattle.sqlite.proofs.Callers.{runs_as, reads_as}
+use Rattle.sqlite.specs.State.{State, Executes, ExecutesInside, Shown}
+use Rattle.sqlite.proofs.Callers.{reads_as}
 use Rattle.sqlite_rules.specs.Calls.{ids_of}
 use Rattle.sqlite_value.proofs.OrderLemmas.{value_cmp-Int}
 use Rattle.fr_sql_rows.specs.Schema.{schema}
 use Rattle.fr_sql_rows.specs.Rows.{bytes_in, AreKvRows, AreUndoRows, meta_row}
-use Rattle.fr_sql_rows.specs.Connection.{IsAtRest, IsLaidOut, IsBegun, BeginsMeta, Versions, HoldsBytes}
+use Rattle.fr_sql_rows.specs.Connection.{IsLaidOut, IsBegun, BeginsMeta, Versions, HoldsBytes}
 use Rattle.fr_sql_rows.proofs.StepLemmas.{cast_null, cast_int}
 use Rattle.fr_sql_rows.proofs.TextLemmas.{plain_query, begin_text, begin_is, begin_plain, versions_text, versions_is, versions_plain, bytes_text, bytes_is, bytes_plain, state_text, state_is, state_plain, state_unlisted}
 use Rattle.fr_sql_rows.proofs.QueryLemmas.{plain_answer}
@@ -74,17 +75,15 @@ begun_with : (db : Trees) (rows : List Row) → db 4 ≡ [] → rows ≡ meta_ro
     → edited db (edit_of db meta_table [] Chosen 0 rows) ≡ meta_row 0 0 [] ∷ []
 begun_with db rows is given = rw (is, given, cast_null, cast_int (pos 1), cast_int (pos 0)) refl
 
-pub begins_meta : (old new : State) (r : Result ℕ Error) → IsAtRest old → old.now.schema ≡ schema → old.now.trees 4 ≡ [] → Executes begin_text [] old new r → OnOk r (BeginsMeta old new)
-begins_meta old new (Err e) rest has empty h = tt
-begins_meta old new (Ok count) rest has empty h =
-    let w = runs_as begin_text [] old new schema has _ begin_is begin_plain count h in
-    let e = (inserts_meta begin_text [] old new has begin_plain count (lit (Int (pos 1)) ∷ lit Null ∷ lit (Int (pos 0)) ∷ lit (Int (pos 0)) ∷ lit (Blob []) ∷ []) begin_is h).edits in
+pub begins_meta : (old new : State) (r : Result ℕ Error) → old.now.schema ≡ schema → old.now.trees 4 ≡ [] → ExecutesInside 0 begin_text [] old new r → OnOk r (BeginsMeta old.now new.now)
+begins_meta old new (Err e) has empty h = tt
+begins_meta old new (Ok count) has empty h =
+    let e = (inserts_meta begin_text [] old new has begin_plain count (lit (Int (pos 1)) ∷ lit Null ∷ lit (Int (pos 0)) ∷ lit (Int (pos 0)) ∷ lit (Blob []) ∷ []) begin_is h.0).edits in
     record {
       schema = e.laid ∙ sym has;
       kv = e.applies.tables.0 (λ e. absurd (omega (arith, e)));
       undo = e.applies.tables.1.0 (λ e. absurd (omega (arith, e)));
       meta = e.applies.rows ∙ begun_with old.now.trees _ empty refl;
-      rest = record { is_open = w.shown.is_open; autocommit = w.shown.mode ∙ rest.autocommit; settled = sym (rw rest.autocommit at w.shown.committed_is) };
     }
 
 -- the query of the state shows it
@@ -111,5 +110,5 @@ no_undo : (rows : List Row) → rows ≡ [] → AreUndoRows rows
 no_undo rows is = subst AreUndoRows (sym is) (record { shaped = tt; single = λ p. omega arith; table = tt })
 
 -- the tables just made are those of a store
-pub laid_out : (s : State) → IsBegun s → IsLaidOut s.now
-laid_out s b = record { schema = b.schema; kv = no_kv _ b.kv; undo = no_undo _ b.undo; meta = (0, 0, [], b.meta) }
+pub laid_out : (db : Database) → IsBegun db → IsLaidOut db
+laid_out db b = record { schema = b.schema; kv = no_kv _ b.kv; undo = no_undo _ b.undo; meta = (0, 0, [], b.meta) }

@@ -26,7 +26,7 @@ use Rattle.fr_base.specs.Bytes.{bytes_cmp}
 use Rattle.fr_undo.specs.State.{Place, place_cmp}
 use Rattle.fr_sql_rows.specs.Schema.{schema}
 use Rattle.fr_sql_rows.specs.Connection.{IsLaidOut}
-use Rattle.fr_sql_rows.specs.Rows.{IsUndoRow, as_value, place_of, before_of, before_in, shown_row, newest_first}
+use Rattle.fr_sql_rows.specs.Rows.{IsUndoRow, place_of, before_of, before_in, shown_row, newest_first}
 use Rattle.fr_sql_rows.proofs.TextLemmas.{sorted_query, up, down, is_above, above_text, above_is, above_plain, above_unlisted}
 use Rattle.fr_sql_rows.proofs.ListLemmas.{map_length}
 use Rattle.fr_sql_rows.proofs.TableLemmas.{retained, single_in}
@@ -111,7 +111,7 @@ outs_are params (r ∷ rs) = ap (λ os. (column r 1 ∷ column r 2 ∷ [], colum
 
 outs_shaped : (found : List Row) → AllByRecursion IsUndoRow found → AllByRecursion IsOut (outs_of found)
 outs_shaped [] all = tt
-outs_shaped (r ∷ rs) all = ((all.0.1, all.0.2, as_value all.0.3, ap (λ r. (column r 1 ∷ column r 2 ∷ [], column r 1 ∷ column r 2 ∷ column r 3 ∷ [])) all.0.4), outs_shaped rs all.1)
+outs_shaped (r ∷ rs) all = ((all.0.1, all.0.2, column all.0.3 0, ap (λ r. (column r 1 ∷ column r 2 ∷ [], column r 1 ∷ column r 2 ∷ column r 3 ∷ [])) all.0.4), outs_shaped rs all.1)
 
 outs_pairs : (found : List Row) → map out_of (outs_of found) ≡ map row_of found
 outs_pairs [] = refl

@@ -51,7 +51,7 @@ blob_of_value (Some b) = refl
 AreUndoRows-put : (rest : List Row) (id : ℤ) (version : ℕ) (k : List ℕ) (before : Option (List ℕ)) → AreUndoRows rest → is_taken rest (undo_row id version k before) ≡ false → filter (is_at_place (version, k)) rest ≡ []
     → AreUndoRows (put_row (undo_row id version k before) rest)
 AreUndoRows-put rest id version k before all fresh none = record {
-  shaped = all-put_row IsUndoRow (undo_row id version k before) rest (id, version, k, before, refl) all.shaped;
+  shaped = all-put_row IsUndoRow (undo_row id version k before) rest (id, version, k, as_value before ∷ [], refl) all.shaped;
   single = single_put place_of before_of same_place exact_place same_place-comm rest (undo_row id version k before) fresh none all.single;
   table = IsTable-put_row (undo_row id version k before) rest all.table;
 }

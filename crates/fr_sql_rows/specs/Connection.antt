@@ -90,24 +90,21 @@ pub record HoldsBytes (bytes : List ℕ) (old new : Database) : Type 0 where
   pub meta : (a f : ℕ) (before : List ℕ) → old.trees 4 ≡ meta_row a f before ∷ [] → new.trees 4 ≡ meta_row a f bytes ∷ []
 
 -- a table is made, empty, and the rows of those before it stay
-pub record Creates (before : Schema) (table : Table) (old new : State) : Type 0 where
-  pub schema : new.now.schema ≡ created before table
-  pub empty : new.now.trees (next_tree before) ≡ []
-  pub others : KeepsRows before.tables old.now.trees new.now.trees
-  pub rest : IsAtRest new
+pub record Creates (before : Schema) (table : Table) (old new : Database) : Type 0 where
+  pub schema : new.schema ≡ created before table
+  pub empty : new.trees (next_tree before) ≡ []
+  pub others : KeepsRows before.tables old.trees new.trees
 
 -- the one row of meta is put in
-pub record BeginsMeta (old new : State) : Type 0 where
-  pub schema : new.now.schema ≡ old.now.schema
-  pub kv : new.now.trees 0 ≡ old.now.trees 0
-  pub undo : new.now.trees 2 ≡ old.now.trees 2
-  pub meta : new.now.trees 4 ≡ meta_row 0 0 [] ∷ []
-  pub rest : IsAtRest new
+pub record BeginsMeta (old new : Database) : Type 0 where
+  pub schema : new.schema ≡ old.schema
+  pub kv : new.trees 0 ≡ old.trees 0
+  pub undo : new.trees 2 ≡ old.trees 2
+  pub meta : new.trees 4 ≡ meta_row 0 0 [] ∷ []
 
 -- the tables are those of a store with nothing applied
-pub record IsBegun (s : State) : Type 0 where
-  pub schema : s.now.schema ≡ schema
-  pub kv : s.now.trees 0 ≡ []
-  pub undo : s.now.trees 2 ≡ []
-  pub meta : s.now.trees 4 ≡ meta_row 0 0 [] ∷ []
-  pub rest : IsAtRest s
+pub record IsBegun (db : Database) : Type 0 where
+  pub schema : db.schema ≡ schema
+  pub kv : db.trees 0 ≡ []
+  pub undo : db.trees 2 ≡ []
+  pub meta : db.trees 4 ≡ meta_row 0 0 [] ∷ []

@@ -67,8 +67,9 @@ is_at_place p row = is_eq (place_cmp (place_of row) p)
 abbrev pub undo_row : ℤ → ℕ → List ℕ → Option (List ℕ) → Row
 undo_row id version k before = Int id ∷ Int (pos version) ∷ Blob k ∷ as_value before ∷ []
 
+-- what a row found in a file is: one that ends with its key says, as SQL does, that the key held none
 abbrev pub IsUndoRow : Row → Type 0
-IsUndoRow row = (id : ℤ) × (version : ℕ) × (k : List ℕ) × (before : Option (List ℕ)) × (row ≡ undo_row id version k before)
+IsUndoRow row = (id : ℤ) × (version : ℕ) × (k : List ℕ) × (before : Row) × (row ≡ Int id ∷ Int (pos version) ∷ Blob k ∷ before)
 
 -- what the undo row at a place says, if there is one
 abbrev pub before_in : List Row → Place → Option (Option (List ℕ))

@@ -9,7 +9,7 @@ pub mod meta;
 pub mod schema;
 pub mod undo;
 
-pub use backing::Backing;
+pub use backing::{Backing, FaithfulDisk};
 pub use fault::{fault_of, read_fault_of};
 
 #[cfg(test)]

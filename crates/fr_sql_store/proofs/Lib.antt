@@ -4,3 +4,4 @@ pub mod LeadLemmas
 pub mod UndoLeads
 pub mod OrderLemmas
 pub mod StoreLemmas
+pub mod FileLemmas

@@ -14,7 +14,7 @@ use Rattle.fr_undo.proofs.StateLemmas.{fresh_sound}
 use Rattle.fr_undo.specs.State.{place_cmp, StoreState, IsStoreState, fresh}
 use Rattle.fr_undo.specs.Calls.{IsTrouble, is_device, met_device, LeftAsIs, Reads, Writes}
 use Rattle.fr_sql_rows.specs.Rows.{undo_in}
-use Rattle.fr_sql_rows.specs.Connection.{IsLaidOut, IsBegun, Keeps, KeepsIfOpen}
+use Rattle.fr_sql_rows.specs.Connection.{IsAtRest, IsLaidOut, IsBegun, Keeps, KeepsIfOpen}
 use Rattle.fr_sql_work.specs.Calls.{Looks, MeetsAll}
 use Rattle.fr_sql_store.specs.Tables.{state_in, unknown, shown, Stands, IsStore, Seen, state_of, MayLeave, IsStoreOf}
 use Rattle.fr_sql_store.specs.Calls.{Makes}
@@ -52,18 +52,18 @@ stands_still old new applied floor rows s k = record {
 }
 
 -- the tables just made are those of an empty store
-pub begun_state : (s : State) → IsBegun s → state_in s.now.trees ≡ fresh
+pub begun_state : (db : Database) → IsBegun db → state_in db.trees ≡ fresh
 unfolding map_by
-begun_state s b = rw (b.kv, b.undo, b.meta) refl
+begun_state db b = rw (b.kv, b.undo, b.meta) refl
 
-pub begun_store : (s : State) → IsBegun s → IsLaidOut s.now → IsStore s 0 0 0 false
+pub begun_store : (s : State) → IsAtRest s → IsBegun s.now → IsLaidOut s.now → IsStore s 0 0 0 false
 unfolding map_by
-begun_store s b laid =
-    let is = begun_state s b in
+begun_store s rest b laid =
+    let is = begun_state s.now b in
     record {
-      works = λ e. b.rest.is_open;
+      works = λ e. rest.is_open;
       stands = λ live. record {
-        rest = b.rest;
+        rest = rest;
         laid = laid;
         applied_is = ap (λ (x : StoreState). x.applied) is;
         floor_is = ap (λ (x : StoreState). x.floor) is;

@@ -1,3 +1,4 @@
 pub mod Known
 pub mod Tables
 pub mod Calls
+pub mod Files

@@ -4,6 +4,8 @@ ghost use Rattle.fr_undo.specs.State.{fresh};
 ghost use Rattle.fr_undo.specs.Calls.{IsTrouble, is_device, met_device};
 ghost use Rattle.fr_sql_work.specs.Calls.{MeetsAll};
 
+mod files;
+
 use crate::calls;
 use crate::marks::Marks;
 use fr_base::{Bytes, Version};

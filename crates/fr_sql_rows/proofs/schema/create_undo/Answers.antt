@@ -3,9 +3,13 @@ use Rattle.sqlite.specs.Held.{state}
 use Rattle.fr_sql_rows.specs.Schema.{undo_text, undo, kv_schema}
 use Rattle.fr_sql_rows.proofs.TextLemmas.{undo_is, create_undo_is}
 use Rattle.fr_sql_rows.proofs.CreateLemmas.{creates}
+use Rattle.fr_sql_rows.proofs.FaultLemmas.{inside}
 use Rattle.fr_sql_rows.proofs.schema.create_undo.Goals as goal
 
-pub returns : goal.returns
-returns g c =
-    creates undo_text undo kv_schema (state g.S.Store c.args.conn.now) (state g.S.Store c.execute.new.self) c.execute.result create_undo_is undo_is refl c.requires.rest c.requires.schema
-    (c.execute.ensures.runs (g.met.S.Backing.clean c.execute.new.self.store))
+pub returns-clause-ok : goal.returns-clause-ok
+returns-clause-ok g c =
+    creates undo_text undo kv_schema (state g.S.Store c.args.tx.now.conn.now) (state g.S.Store c.execute.new.self.conn.now) c.execute.result create_undo_is undo_is refl c.requires.schema
+    (c.execute.ensures.runs (g.met.S.Backing.clean c.execute.new.self.conn.now.store) c.requires.inside.begun)
+
+pub returns-clause-inside : goal.returns-clause-inside
+returns-clause-inside g c = inside (state g.S.Store c.args.tx.now.conn.now) _ _ _ c.execute.result (c.execute.ensures.runs (g.met.S.Backing.clean c.execute.new.self.conn.now.store) c.requires.inside.begun)

@@ -1,0 +1,142 @@
+//! Stores that are closed and opened again, and files that hold none.
+use crate::worked::{are_same, at, bytes, clearing, held, no_files, setting};
+use fr_sql_store::SqlStore;
+use fr_undo::{ShardStore, StoreFault};
+use sqlite::{Connection, Error, Files, Options};
+use sqlite_disk::Memory as MemoryDisk;
+use std::alloc::Global;
+use std::test::Fail;
+
+#[test]
+fn sql_store_opens_again(rt: HostRuntime) -> Result<(), Fail> {
+    let alloc = rt.alloc();
+    let mut store = SqlStore::create(alloc, no_files(alloc))?;
+    store.apply(alloc, at(5)?, &setting(alloc, b"a", b"\x01")?)?;
+    store.apply(alloc, at(6)?, &clearing(alloc, b"a", b"b")?)?;
+    let files = store.close()?;
+    let mut store = SqlStore::open(alloc, files)?;
+    assert_eq!(rt; store.applied().get(), 6);
+    assert_eq!(rt; store.floor().get(), 0);
+    assert_eq!(rt; store.undo_rows(), 2);
+    assert!(rt; store.dump(alloc)?.is_empty());
+    store.undo_to(alloc, at(5)?)?;
+    let rows = store.dump(alloc)?;
+    assert_eq!(rt; rows.len(), 1);
+    assert!(rt; rows[0].0.as_slice() == b"a".as_slice() && rows[0].1.as_slice() == b"\x01".as_slice());
+    Ok(())
+}
+
+#[test]
+fn what_was_kept_is_found(rt: HostRuntime) -> Result<(), Fail> {
+    let alloc = rt.alloc();
+    let mut store = SqlStore::create(alloc, no_files(alloc))?;
+    store.apply(alloc, at(3)?, &setting(alloc, b"a", b"")?)?;
+    store.apply(alloc, at(4)?, &setting(alloc, b"b", b"\x02")?)?;
+    store.forget_through(alloc, at(3)?)?;
+    store.advance(at(7)?)?;
+    store.set_state(alloc, bytes(alloc, b"state")?)?;
+    let before = held(alloc, &mut store)?;
+    let mut again = SqlStore::open(alloc, store.close()?)?;
+    let after = held(alloc, &mut again)?;
+    assert!(rt; are_same(&before, &after), "{before:?} {after:?}");
+    let mut third = SqlStore::open(alloc, again.into_files())?;
+    let last = held(alloc, &mut third)?;
+    assert!(rt; are_same(&before, &last), "{before:?} {last:?}");
+    Ok(())
+}
+
+/// The files of a database in which these statements were run.
+fn files_of(alloc: Global, statements: &[&str]) -> Result<Files<MemoryDisk>, Error> {
+    let mut conn = match Connection::open_files(alloc, no_files(alloc), Options::new(1)) {
+        Ok(conn) => conn,
+        Err((error, _)) => return Err(error),
+    };
+    for statement in statements {
+        conn.execute(statement, &[])?;
+    }
+    match conn.close_files() {
+        Ok(files) => Ok(files),
+        Err((error, _)) => Err(error),
+    }
+}
+
+const KV: &str = "CREATE TABLE kv (k BLOB PRIMARY KEY NOT NULL, v BLOB NOT NULL) STRICT";
+const UNDO: &str = "CREATE TABLE undo (ver INTEGER NOT NULL, k BLOB NOT NULL, before BLOB, PRIMARY KEY (ver, k)) STRICT";
+const META: &str = "CREATE TABLE meta (id INTEGER PRIMARY KEY CHECK (id = 1), applied INTEGER NOT NULL, floor INTEGER NOT NULL, state BLOB NOT NULL) STRICT";
+
+#[test]
+fn what_is_no_store_is_refused(rt: HostRuntime) -> Result<(), Fail> {
+    let alloc = rt.alloc();
+    for statements in [
+        [].as_slice(),
+        [KV].as_slice(),
+        [KV, UNDO].as_slice(),
+        [KV, UNDO, META].as_slice(),
+        [UNDO, KV, META, "INSERT INTO meta VALUES (1, 0, 0, x'')"].as_slice(),
+        [KV, UNDO, META, "INSERT INTO meta VALUES (1, 4, 5, x'')"].as_slice(),
+        [KV, UNDO, META, "INSERT INTO meta VALUES (1, 4, -5, x'')"].as_slice(),
+        [
+            KV,
+            UNDO,
+            META,
+            "INSERT INTO meta VALUES (1, 4, 3, x'')",
+            "INSERT INTO undo VALUES (3, x'61', NULL)",
+        ]
+        .as_slice(),
+        [
+            KV,
+            UNDO,
+            META,
+            "INSERT INTO meta VALUES (1, 4, 3, x'')",
+            "INSERT INTO undo VALUES (5, x'61', NULL)",
+        ]
+        .as_slice(),
+        [
+            KV,
+            UNDO,
+            META,
+            "INSERT INTO meta VALUES (1, 4, 3, x'')",
+            "CREATE TABLE more (id INTEGER)",
+        ]
+        .as_slice(),
+    ] {
+        let found = SqlStore::open(alloc, files_of(alloc, statements)?);
+        assert!(rt; matches!(&found, Err(StoreFault::Device)), "{statements:?}");
+    }
+    Ok(())
+}
+
+#[test]
+fn what_another_wrote_is_found(rt: HostRuntime) -> Result<(), Fail> {
+    let alloc = rt.alloc();
+    let files = files_of(
+        alloc,
+        [
+            KV,
+            UNDO,
+            META,
+            "INSERT INTO kv VALUES (x'61', x'01')",
+            "INSERT INTO meta VALUES (1, 4, 3, x'05')",
+            "INSERT INTO undo VALUES (4, x'61', NULL)",
+        ]
+        .as_slice(),
+    )?;
+    let mut store = SqlStore::open(alloc, files)?;
+    assert_eq!(rt; store.applied().get(), 4);
+    assert_eq!(rt; store.floor().get(), 3);
+    assert_eq!(rt; store.undo_rows(), 1);
+    store.undo_to(alloc, at(3)?)?;
+    assert!(rt; store.dump(alloc)?.is_empty());
+    Ok(())
+}
+
+#[test]
+fn a_store_is_made_in_empty_files_alone(rt: HostRuntime) -> Result<(), Fail> {
+    let alloc = rt.alloc();
+    let store = SqlStore::create(alloc, no_files(alloc))?;
+    let again = SqlStore::create(alloc, store.close()?);
+    assert!(rt; matches!(&again, Err(StoreFault::Device)));
+    let other = SqlStore::create(alloc, files_of(alloc, [KV].as_slice())?);
+    assert!(rt; matches!(&other, Err(StoreFault::Device)));
+    Ok(())
+}
