@@ -1,5 +1,5 @@
 //! Stores that are closed and opened again, and files that hold none.
-use crate::worked::{are_same, at, bytes, clearing, held, no_files, setting};
+use crate::worked::{are_same, at, bytes, clearing, no_files, setting, shown};
 use fr_sql_store::SqlStore;
 use fr_undo::{ShardStore, StoreFault};
 use sqlite::{Connection, Error, Files, Options};
@@ -35,12 +35,12 @@ fn what_was_kept_is_found(rt: HostRuntime) -> Result<(), Fail> {
     store.forget_through(alloc, at(3)?)?;
     store.advance(at(7)?)?;
     store.set_state(alloc, bytes(alloc, b"state")?)?;
-    let before = held(alloc, &mut store)?;
+    let before = shown(alloc, &mut store)?;
     let mut again = SqlStore::open(alloc, store.close()?)?;
-    let after = held(alloc, &mut again)?;
+    let after = shown(alloc, &mut again)?;
     assert!(rt; are_same(&before, &after), "{before:?} {after:?}");
     let mut third = SqlStore::open(alloc, again.into_files())?;
-    let last = held(alloc, &mut third)?;
+    let last = shown(alloc, &mut third)?;
     assert!(rt; are_same(&before, &last), "{before:?} {last:?}");
     Ok(())
 }
@@ -64,45 +64,50 @@ const KV: &str = "CREATE TABLE kv (k BLOB PRIMARY KEY NOT NULL, v BLOB NOT NULL)
 const UNDO: &str = "CREATE TABLE undo (ver INTEGER NOT NULL, k BLOB NOT NULL, before BLOB, PRIMARY KEY (ver, k)) STRICT";
 const META: &str = "CREATE TABLE meta (id INTEGER PRIMARY KEY CHECK (id = 1), applied INTEGER NOT NULL, floor INTEGER NOT NULL, state BLOB NOT NULL) STRICT";
 
+/// Whether files in which these statements were run are refused as the device's fault.
+fn is_refused(alloc: Global, statements: &[&str]) -> Result<bool, Fail> {
+    let found = SqlStore::open(alloc, files_of(alloc, statements)?);
+    Ok(matches!(&found, Err(StoreFault::Device)))
+}
+
 #[test]
-fn what_is_no_store_is_refused(rt: HostRuntime) -> Result<(), Fail> {
+fn a_torn_store_is_not_made_anew(rt: HostRuntime) -> Result<(), Fail> {
     let alloc = rt.alloc();
-    for statements in [
-        [].as_slice(),
-        [KV].as_slice(),
-        [KV, UNDO].as_slice(),
-        [KV, UNDO, META].as_slice(),
-        [UNDO, KV, META, "INSERT INTO meta VALUES (1, 0, 0, x'')"].as_slice(),
-        [KV, UNDO, META, "INSERT INTO meta VALUES (1, 4, 5, x'')"].as_slice(),
-        [KV, UNDO, META, "INSERT INTO meta VALUES (1, 4, -5, x'')"].as_slice(),
-        [
-            KV,
-            UNDO,
-            META,
-            "INSERT INTO meta VALUES (1, 4, 3, x'')",
-            "INSERT INTO undo VALUES (3, x'61', NULL)",
-        ]
-        .as_slice(),
-        [
-            KV,
-            UNDO,
-            META,
-            "INSERT INTO meta VALUES (1, 4, 3, x'')",
-            "INSERT INTO undo VALUES (5, x'61', NULL)",
-        ]
-        .as_slice(),
-        [
-            KV,
-            UNDO,
-            META,
-            "INSERT INTO meta VALUES (1, 4, 3, x'')",
-            "CREATE TABLE more (id INTEGER)",
-        ]
-        .as_slice(),
-    ] {
-        let found = SqlStore::open(alloc, files_of(alloc, statements)?);
-        assert!(rt; matches!(&found, Err(StoreFault::Device)), "{statements:?}");
-    }
+    assert!(rt; is_refused(alloc, [].as_slice())?);
+    assert!(rt; is_refused(alloc, [KV].as_slice())?);
+    assert!(rt; is_refused(alloc, [KV, UNDO].as_slice())?);
+    assert!(rt; is_refused(alloc, [KV, UNDO, META].as_slice())?);
+    Ok(())
+}
+
+#[test]
+fn other_tables_are_refused(rt: HostRuntime) -> Result<(), Fail> {
+    let alloc = rt.alloc();
+    let meta = "INSERT INTO meta VALUES (1, 0, 0, x'')";
+    assert!(rt; is_refused(alloc, [UNDO, KV, META, meta].as_slice())?);
+    let more = "CREATE TABLE more (id INTEGER)";
+    assert!(rt; is_refused(alloc, [KV, UNDO, META, meta, more].as_slice())?);
+    Ok(())
+}
+
+#[test]
+fn versions_out_of_order_are_refused(rt: HostRuntime) -> Result<(), Fail> {
+    let alloc = rt.alloc();
+    let above = "INSERT INTO meta VALUES (1, 4, 5, x'')";
+    assert!(rt; is_refused(alloc, [KV, UNDO, META, above].as_slice())?);
+    let below = "INSERT INTO meta VALUES (1, 4, -5, x'')";
+    assert!(rt; is_refused(alloc, [KV, UNDO, META, below].as_slice())?);
+    Ok(())
+}
+
+#[test]
+fn undo_rows_out_of_place_are_refused(rt: HostRuntime) -> Result<(), Fail> {
+    let alloc = rt.alloc();
+    let meta = "INSERT INTO meta VALUES (1, 4, 3, x'')";
+    let early = "INSERT INTO undo VALUES (3, x'61', NULL)";
+    assert!(rt; is_refused(alloc, [KV, UNDO, META, meta, early].as_slice())?);
+    let late = "INSERT INTO undo VALUES (5, x'61', NULL)";
+    assert!(rt; is_refused(alloc, [KV, UNDO, META, meta, late].as_slice())?);
     Ok(())
 }
 

@@ -1,6 +1,6 @@
 //! A disk that stops at some call, a crash, and what is then found: what was there before the call of the store that
 //! met the stop, or what it was to make.
-use crate::worked::{CALLS, Held, are_same, call, held, no_files};
+use crate::worked::{CALLS, Held, are_same, call, no_files, shown};
 use fr_sql_store::SqlStore;
 use fr_undo::{MapStore, ShardStore, StoreFault};
 use sqlite::{FileStore, Files};
@@ -39,12 +39,12 @@ enum End {
 }
 
 /// What is found where a call met a stop, once the machine has crashed.
-fn found(alloc: Global, store: SqlStore<FileStore<Fuse<MemoryDisk>>>) -> Result<Held, Fail> {
+fn left_behind(alloc: Global, store: SqlStore<FileStore<Fuse<MemoryDisk>>>) -> Result<Held, Fail> {
     let mut files = store.into_files();
     files.log.crash();
     files.db.crash();
     let mut again = SqlStore::open(alloc, files)?;
-    held(alloc, &mut again)
+    shown(alloc, &mut again)
 }
 
 /// The calls of a run, up to the one that meets the stop, beside a store in a map.
@@ -54,13 +54,13 @@ fn run(
 ) -> Result<End, Fail> {
     let mut model = MapStore::new(alloc);
     for number in 0..CALLS {
-        let before = held(alloc, &mut model)?;
+        let before = shown(alloc, &mut model)?;
         let wanted = call(alloc, number, &mut model)?;
         let answer = call(alloc, number, &mut store)?;
         if answer == Err(StoreFault::Device) {
             let refused = call(alloc, number, &mut store)? == Err(StoreFault::Failed);
-            let after = held(alloc, &mut model)?;
-            let found = found(alloc, store)?;
+            let after = shown(alloc, &mut model)?;
+            let found = left_behind(alloc, store)?;
             let known = are_same(&found, &before) || are_same(&found, &after);
             return Ok(if refused && known { End::Stopped } else { End::Wrong });
         }
@@ -68,8 +68,8 @@ fn run(
             return Ok(End::Wrong);
         }
     }
-    let left = held(alloc, &mut model)?;
-    let kept = held(alloc, &mut store)?;
+    let left = shown(alloc, &mut model)?;
+    let kept = shown(alloc, &mut store)?;
     Ok(if are_same(&left, &kept) { End::Done } else { End::Wrong })
 }
 

@@ -54,7 +54,7 @@ pub struct Held {
 }
 
 /// What a store holds.
-pub fn held<S: ShardStore>(alloc: Global, store: &mut S) -> Result<Held, Fail> {
+pub fn shown<S: ShardStore>(alloc: Global, store: &mut S) -> Result<Held, Fail> {
     let mut rows = Vec::new(alloc);
     for (key, value) in store.dump(alloc)?.iter() {
         rows.push((copied(alloc, key)?, copied(alloc, value)?))?;
