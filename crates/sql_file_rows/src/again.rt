@@ -22,7 +22,9 @@ fn sql_store_opens_again(rt: HostRuntime) -> Result<(), Fail> {
     store.undo_to(alloc, at(5)?)?;
     let rows = store.dump(alloc)?;
     assert_eq!(rt; rows.len(), 1);
-    assert!(rt; rows[0].0.as_slice() == b"a".as_slice() && rows[0].1.as_slice() == b"\x01".as_slice());
+    assert!(rt;
+        rows[0].0.as_slice() == b"a".as_slice() && rows[0].1.as_slice() == b"\x01".as_slice()
+    );
     Ok(())
 }
 
@@ -61,8 +63,12 @@ fn files_of(alloc: Global, statements: &[&str]) -> Result<Files<MemoryDisk>, Err
 }
 
 const KV: &str = "CREATE TABLE kv (k BLOB PRIMARY KEY NOT NULL, v BLOB NOT NULL) STRICT";
-const UNDO: &str = "CREATE TABLE undo (ver INTEGER NOT NULL, k BLOB NOT NULL, before BLOB, PRIMARY KEY (ver, k)) STRICT";
-const META: &str = "CREATE TABLE meta (id INTEGER PRIMARY KEY CHECK (id = 1), applied INTEGER NOT NULL, floor INTEGER NOT NULL, state BLOB NOT NULL) STRICT";
+
+const UNDO: &str =
+    "CREATE TABLE undo (ver INTEGER NOT NULL, k BLOB NOT NULL, before BLOB, PRIMARY KEY (ver, k)) STRICT";
+
+const META: &str =
+    "CREATE TABLE meta (id INTEGER PRIMARY KEY CHECK (id = 1), applied INTEGER NOT NULL, floor INTEGER NOT NULL, state BLOB NOT NULL) STRICT";
 
 /// Whether files in which these statements were run are refused as the device's fault.
 fn is_refused(alloc: Global, statements: &[&str]) -> Result<bool, Fail> {

@@ -48,10 +48,7 @@ fn left_behind(alloc: Global, store: SqlStore<FileStore<Fuse<MemoryDisk>>>) -> R
 }
 
 /// The calls of a run, up to the one that meets the stop, beside a store in a map.
-fn run(
-    alloc: Global,
-    mut store: SqlStore<FileStore<Fuse<MemoryDisk>>>,
-) -> Result<End, Fail> {
+fn run(alloc: Global, mut store: SqlStore<FileStore<Fuse<MemoryDisk>>>) -> Result<End, Fail> {
     let mut model = MapStore::new(alloc);
     for number in 0..CALLS {
         let before = shown(alloc, &mut model)?;
@@ -62,7 +59,11 @@ fn run(
             let after = shown(alloc, &mut model)?;
             let found = left_behind(alloc, store)?;
             let known = are_same(&found, &before) || are_same(&found, &after);
-            return Ok(if refused && known { End::Stopped } else { End::Wrong });
+            return Ok(if refused && known {
+                End::Stopped
+            } else {
+                End::Wrong
+            });
         }
         if answer != wanted {
             return Ok(End::Wrong);
@@ -70,14 +71,22 @@ fn run(
     }
     let left = shown(alloc, &mut model)?;
     let kept = shown(alloc, &mut store)?;
-    Ok(if are_same(&left, &kept) { End::Done } else { End::Wrong })
+    Ok(if are_same(&left, &kept) {
+        End::Done
+    } else {
+        End::Wrong
+    })
 }
 
 /// Whether each run ends well whose log or database stops at one of these calls, until one meets no stop.
 fn all_end_well(alloc: Global, of_log: bool, most: u64) -> Result<bool, Fail> {
     let mut stopped = false;
     for calls in 0..most {
-        let (log_calls, db_calls) = if of_log { (calls, u64::MAX) } else { (u64::MAX, calls) };
+        let (log_calls, db_calls) = if of_log {
+            (calls, u64::MAX)
+        } else {
+            (u64::MAX, calls)
+        };
         let Some(store) = fused(alloc, log_calls, db_calls)? else {
             continue;
         };

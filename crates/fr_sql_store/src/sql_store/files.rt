@@ -15,7 +15,7 @@ use fr_base::Version;
 use fr_sql_open::{Found, find, has_no_table, open_again};
 use fr_sql_rows::{FaithfulDisk, fault_of, schema};
 use fr_undo::{ShardStore, StoreFault};
-use sqlite::{Connection, FileStore, Files, Options};
+use sqlite::{Connection, Error, FileStore, Files, Options};
 use std::alloc::Global;
 
 /// What the salts of a log are drawn from.
@@ -75,6 +75,17 @@ fn found<D: FaithfulDisk + Drop>(
     Ok((conn, found))
 }
 
+/// The fault of a close, where the connection worked until then.
+fn close_fault(error: Error) -> StoreFault
+    ensures { IsTrouble MeetsAll result }
+{
+    match fault_of(error) {
+        StoreFault::Full => StoreFault::Full,
+        StoreFault::Memory => StoreFault::Memory,
+        _ => StoreFault::Device,
+    }
+}
+
 /// Gives the files of a connection back, which then hold what was committed last.
 fn closed<D: FaithfulDisk + Drop>(
     conn: Connection<FileStore<D>>,
@@ -84,7 +95,7 @@ fn closed<D: FaithfulDisk + Drop>(
 {
     match conn.close_files() {
         Ok(files) => Ok(files),
-        Err((error, _)) => Err(fault_of(error)),
+        Err((error, _)) => Err(close_fault(error)),
     }
 }
 
@@ -95,7 +106,6 @@ impl<D: FaithfulDisk + Drop> SqlStore<FileStore<D>> {
     /// # Errors
     ///
     /// `Device`: the files failed, or hold something. `Full`: they have no room. `Memory`: a growth was refused.
-    #[tactic(auto, using(crate::proofs::StoreLemmas::begun_store, crate::proofs::StoreLemmas::begun_state))]
     pub fn create(alloc: Global, files: Files<D>) -> Result<Self, StoreFault>
         ensures empty { IfOk result (λ store. ⟦<SqlStore<FileStore<D>> as ShardStore>⟧.state store ≡ fresh) }
         ensures works { IfOk result (λ store. ⟦<SqlStore<FileStore<D>> as ShardStore>⟧.is_failed store ≡ false) }
@@ -120,7 +130,6 @@ impl<D: FaithfulDisk + Drop> SqlStore<FileStore<D>> {
     /// # Errors
     ///
     /// `Device`: the files failed, or hold no store. `Full`: they have no room. `Memory`: a growth was refused.
-    #[tactic(auto, using(crate::proofs::FileLemmas::found_store))]
     pub fn open(alloc: Global, files: Files<D>) -> Result<Self, StoreFault>
         ensures found { IfOk result (λ store. (x : StoreState) → HoldStore D.Disk files x → ⟦<SqlStore<FileStore<D>> as ShardStore>⟧.state store ≡ x) }
         ensures works { IfOk result (λ store. ⟦<SqlStore<FileStore<D>> as ShardStore>⟧.is_failed store ≡ false) }
