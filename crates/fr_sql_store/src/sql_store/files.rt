@@ -87,9 +87,7 @@ fn close_fault(error: Error) -> StoreFault
 }
 
 /// Gives the files of a connection back, which then hold what was committed last.
-fn closed<D: FaithfulDisk + Drop>(
-    conn: Connection<FileStore<D>>,
-) -> Result<Files<D>, StoreFault>
+fn closed<D: FaithfulDisk + Drop>(conn: Connection<FileStore<D>>) -> Result<Files<D>, StoreFault>
     ensures holds { IfOk result (λ files. ∥ HoldStore D.Disk files (state_in (file_state conn).committed.trees) ∥₁) }
     ensures trouble { IfErr result (IsTrouble MeetsAll) }
 {
