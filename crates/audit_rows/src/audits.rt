@@ -32,11 +32,20 @@ pub fn whole_and(alloc: Global, journal: &str) -> Result<String, Fail> {
     Ok(script_of(alloc, CONFIG, journals.as_str())?)
 }
 
+/// Runs the audit of a script.
+fn run(alloc: Global, script: &[u8], written: &mut Vec<u8>) -> Result<u8, Fail> {
+    let mut reader = script;
+    Ok(run_audit(alloc, &mut reader, written)?)
+}
+
+fn line_of(alloc: Global, status: u8, written: &[u8]) -> Result<String, Fail> {
+    let line = std::str::from_utf8(written).unwrap_or("no text");
+    Ok(format!(in alloc; "{status} {line}")?)
+}
+
 /// The status and the line of the audit of a script.
 pub fn audit_of(alloc: Global, script: &str) -> Result<String, Fail> {
-    let mut reader = script.as_bytes();
     let mut written = Vec::new(alloc);
-    let status = run_audit(alloc, &mut reader, &mut written)?;
-    let line = std::str::from_utf8(written.as_slice()).unwrap_or("no text");
-    Ok(format!(in alloc; "{status} {line}")?)
+    let status = run(alloc, script.as_bytes(), &mut written)?;
+    line_of(alloc, status, written.as_slice())
 }

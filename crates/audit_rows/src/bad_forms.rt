@@ -1,7 +1,6 @@
 //! What is no script.
-use crate::scripts::{
-    ASK, CONFIG, NODE, TELL, script_of, script_of_act, script_of_ask, script_with,
-};
+use crate::scripts::Place::{self, Act, Ask, Config, Entries, Journal, Last, Node, Tell, Whole};
+use crate::scripts::script_in;
 use fr_script::{ScriptFault, read_script};
 use std::alloc::Global;
 use std::process::Abort;
@@ -116,76 +115,44 @@ const ENTRIES: [&str; 5] = [
     r#"{"act":{"begun":{}},"stamp":0},null"#,
 ];
 
-fn is_bad(rt: &impl Abort, alloc: Global, text: &str) {
-    let is_bad = matches!(
-        read_script(alloc, text.as_bytes()),
-        Err(ScriptFault::BadScript)
-    );
-    assert!(rt; is_bad, "{text}");
+const JOURNALS: [&str; 2] = ["{}", r#"{"entries":[],"last":null}"#];
+
+fn is_bad(alloc: Global, text: &[u8]) -> bool {
+    match read_script(alloc, text) {
+        Err(ScriptFault::BadScript) => true,
+        _ => false,
+    }
+}
+
+fn is_bad_in(alloc: Global, place: Place, form: &str) -> Result<bool, Fail> {
+    let script = script_in(alloc, place, form)?;
+    Ok(is_bad(alloc, script.as_bytes()))
+}
+
+fn are_bad(rt: &impl Abort, alloc: Global, place: Place, forms: &[&str]) -> Result<(), Fail> {
+    for form in forms {
+        assert!(rt; is_bad_in(alloc, place, form)?, "{form}");
+    }
+    Ok(())
 }
 
 #[test]
 fn other_texts_are_bad(rt: HostRuntime) -> Result<(), Fail> {
-    for text in TEXTS {
-        is_bad(&rt, rt.alloc(), text);
-    }
-    for config in CONFIGS {
-        is_bad(&rt, rt.alloc(), script_of(rt.alloc(), config, "")?.as_str());
-    }
-    for journal in ["{}", r#"{"entries":[],"last":null}"#] {
-        is_bad(
-            &rt,
-            rt.alloc(),
-            script_of(rt.alloc(), CONFIG, journal)?.as_str(),
-        );
-    }
-    Ok(())
+    are_bad(&rt, rt.alloc(), Whole, &TEXTS)?;
+    are_bad(&rt, rt.alloc(), Config, &CONFIGS)?;
+    are_bad(&rt, rt.alloc(), Journal, &JOURNALS)
 }
 
 #[test]
 fn other_asks_and_tells_are_bad(rt: HostRuntime) -> Result<(), Fail> {
-    for ask in ASKS {
-        is_bad(
-            &rt,
-            rt.alloc(),
-            script_of_ask(rt.alloc(), ask, TELL)?.as_str(),
-        );
-    }
-    for tell in TELLS {
-        is_bad(
-            &rt,
-            rt.alloc(),
-            script_of_ask(rt.alloc(), ASK, tell)?.as_str(),
-        );
-    }
-    Ok(())
+    are_bad(&rt, rt.alloc(), Ask, &ASKS)?;
+    are_bad(&rt, rt.alloc(), Tell, &TELLS)
 }
 
 #[test]
 fn other_acts_nodes_and_last_states_are_bad(rt: HostRuntime) -> Result<(), Fail> {
-    for act in ACTS {
-        is_bad(&rt, rt.alloc(), script_of_act(rt.alloc(), act)?.as_str());
-    }
-    for node in NODES {
-        is_bad(
-            &rt,
-            rt.alloc(),
-            script_with(rt.alloc(), node, "", "null")?.as_str(),
-        );
-    }
-    for last in LASTS {
-        is_bad(
-            &rt,
-            rt.alloc(),
-            script_with(rt.alloc(), NODE, "", last)?.as_str(),
-        );
-    }
-    for entries in ENTRIES {
-        is_bad(
-            &rt,
-            rt.alloc(),
-            script_with(rt.alloc(), NODE, entries, "null")?.as_str(),
-        );
-    }
-    Ok(())
+    are_bad(&rt, rt.alloc(), Act, &ACTS)?;
+    are_bad(&rt, rt.alloc(), Node, &NODES)?;
+    are_bad(&rt, rt.alloc(), Last, &LASTS)?;
+    are_bad(&rt, rt.alloc(), Entries, &ENTRIES)
 }

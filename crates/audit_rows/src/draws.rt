@@ -72,19 +72,30 @@ impl Draws {
     }
 
     fn mutation(&mut self) -> Result<Mutation, Fail> {
+        match self.number(8) {
+            0 => self.set(),
+            1 => self.clear(),
+            _ => self.atomic(),
+        }
+    }
+
+    fn set(&mut self) -> Result<Mutation, Fail> {
         let key = self.bytes()?;
         let value = self.bytes()?;
-        let kind = self.number(8) as usize;
-        if kind < 6 {
-            let op = AtomicOp::ALL[kind];
-            let param = value;
-            return Ok(Mutation::Atomic { op, key, param });
-        }
-        if kind == 6 {
-            return Ok(Mutation::Set { key, value });
-        }
+        Ok(Mutation::Set { key, value })
+    }
+
+    fn clear(&mut self) -> Result<Mutation, Fail> {
+        let end = self.bytes()?;
         let begin = Bytes::empty(self.alloc);
-        Ok(Mutation::Clear { begin, end: value })
+        Ok(Mutation::Clear { begin, end })
+    }
+
+    fn atomic(&mut self) -> Result<Mutation, Fail> {
+        let op = AtomicOp::ALL[self.number(6) as usize];
+        let key = self.bytes()?;
+        let param = self.bytes()?;
+        Ok(Mutation::Atomic { op, key, param })
     }
 
     fn node(&mut self) -> Result<NodeId, Fail> {
@@ -114,20 +125,34 @@ impl Draws {
     }
 
     fn ask(&mut self) -> Result<Ask, Fail> {
+        match self.number(4) {
+            0 => self.read(),
+            1 => self.write(),
+            2 => self.next(),
+            _ => Ok(Ask::Log(draw_log_ask(self)?)),
+        }
+    }
+
+    fn read(&mut self) -> Result<Ask, Fail> {
         let ballot = self.ballot()?;
-        Ok(match self.number(4) {
-            0 => Ask::Cell(CellAsk::Read { ballot }),
-            1 => Ask::Cell(CellAsk::Write {
-                ballot,
-                value: self.cell_value()?,
-            }),
-            2 => Ask::Seq(SeqAsk::Next {
-                proxy: self.number(16) as u8,
-                request: 1 + self.number(100) as u64,
-                step: self.step()?,
-            }),
-            _ => Ask::Log(draw_log_ask(self)?),
-        })
+        Ok(Ask::Cell(CellAsk::Read { ballot }))
+    }
+
+    fn write(&mut self) -> Result<Ask, Fail> {
+        let ballot = self.ballot()?;
+        let value = self.cell_value()?;
+        Ok(Ask::Cell(CellAsk::Write { ballot, value }))
+    }
+
+    fn next(&mut self) -> Result<Ask, Fail> {
+        let proxy = self.number(16) as u8;
+        let request = 1 + self.number(100) as u64;
+        let step = self.step()?;
+        Ok(Ask::Seq(SeqAsk::Next {
+            proxy,
+            request,
+            step,
+        }))
     }
 
     fn step(&mut self) -> Result<Step, Fail> {
@@ -135,24 +160,26 @@ impl Draws {
     }
 
     fn tell(&mut self) -> Result<Tell, Fail> {
-        Ok(match self.number(4) {
-            0 => Tell::Cell(self.cell_tell()?),
-            1 => Tell::Seq(self.seq_tell()?),
-            _ => Tell::Log(draw_log_tell(self)?),
-        })
+        match self.number(4) {
+            0 => Ok(Tell::Cell(self.cell_tell()?)),
+            1 => Ok(Tell::Seq(self.seq_tell()?)),
+            _ => Ok(Tell::Log(draw_log_tell(self)?)),
+        }
     }
 
     fn cell_tell(&mut self) -> Result<CellTell, Fail> {
         let ballot = self.ballot()?;
-        Ok(match self.number(4) {
-            0 => CellTell::Promise {
-                written: ballot,
-                value: self.cell_value()?,
-            },
-            1 => CellTell::Written { ballot },
-            2 => CellTell::Refused { promised: ballot },
-            _ => CellTell::TwoValues,
-        })
+        match self.number(4) {
+            0 => self.promise(ballot),
+            1 => Ok(CellTell::Written { ballot }),
+            2 => Ok(CellTell::Refused { promised: ballot }),
+            _ => Ok(CellTell::TwoValues),
+        }
+    }
+
+    fn promise(&mut self, written: Ballot) -> Result<CellTell, Fail> {
+        let value = self.cell_value()?;
+        Ok(CellTell::Promise { written, value })
     }
 
     fn seq_tell(&mut self) -> Result<SeqTell, Fail> {
@@ -183,83 +210,148 @@ impl Draws {
     }
 
     fn act(&mut self) -> Result<Act, Fail> {
+        match self.number(8) {
+            0 => Ok(Act::Begun),
+            1 => Ok(Act::Crashed),
+            2 => Ok(Act::Lost),
+            3 => self.submitted(),
+            4 | 5 => self.heard(),
+            _ => self.asked(),
+        }
+    }
+
+    fn submitted(&mut self) -> Result<Act, Fail> {
+        let step = self.step()?;
+        let batch = self.batch()?;
+        Ok(Act::Submitted { step, batch })
+    }
+
+    fn taken(&mut self) -> Result<Option<Version>, Fail> {
+        if self.flag() {
+            Ok(Some(self.version()?))
+        } else {
+            Ok(None)
+        }
+    }
+
+    fn heard(&mut self) -> Result<Act, Fail> {
         let from = self.node()?;
-        Ok(match self.number(8) {
-            0 => Act::Begun,
-            1 => Act::Crashed,
-            2 => Act::Lost,
-            3 => Act::Submitted {
-                step: self.step()?,
-                batch: self.batch()?,
-            },
-            4 | 5 => Act::Heard {
-                from,
-                tell: self.tell()?,
-                taken: if self.flag() {
-                    Some(self.version()?)
-                } else {
-                    None
-                },
-                outcome: self.outcome()?,
-            },
-            _ => Act::Asked {
-                from,
-                ask: self.ask()?,
-                tell: self.tell()?,
-            },
+        let taken = self.taken()?;
+        let outcome = self.outcome()?;
+        let tell = self.tell()?;
+        Ok(Act::Heard {
+            from,
+            tell,
+            taken,
+            outcome,
         })
     }
 
+    fn asked(&mut self) -> Result<Act, Fail> {
+        let from = self.node()?;
+        let ask = self.ask()?;
+        let tell = self.tell()?;
+        Ok(Act::Asked { from, ask, tell })
+    }
+
     fn last(&mut self) -> Result<Last, Fail> {
-        Ok(match self.number(6) {
-            0 => Last::Cell {
-                promised: self.ballot()?,
-                written: self.ballot()?,
-                value: self.cell_value()?,
-            },
-            1 => Last::Log {
-                seeded: self.flag(),
-                durable: self.version()?,
-                known: self.version()?,
-                stopped: self.flag(),
-            },
-            2 => Last::Sequencer {
-                last: self.version()?,
-            },
-            3 => Last::Proxy {
-                known: self.version()?,
-            },
-            4 => Last::Recoverer {
-                phase: Bytes::from_slice(self.alloc, "a \"phase\" \u{e9}\n".as_bytes())?,
-            },
-            _ => Last::Storage {
-                epoch: self.epoch()?,
-                version: self.version()?,
-                floor: self.version()?,
-                rows: self.rows()?,
-            },
+        match self.number(6) {
+            0 => self.last_of_cell(),
+            1 => self.last_of_log(),
+            2 => self.last_of_sequencer(),
+            3 => self.last_of_proxy(),
+            4 => self.last_of_recoverer(),
+            _ => self.last_of_storage(),
+        }
+    }
+
+    fn last_of_cell(&mut self) -> Result<Last, Fail> {
+        let promised = self.ballot()?;
+        let written = self.ballot()?;
+        let value = self.cell_value()?;
+        Ok(Last::Cell {
+            promised,
+            written,
+            value,
         })
+    }
+
+    fn last_of_log(&mut self) -> Result<Last, Fail> {
+        let seeded = self.flag();
+        let stopped = self.flag();
+        let durable = self.version()?;
+        let known = self.version()?;
+        Ok(Last::Log {
+            seeded,
+            durable,
+            known,
+            stopped,
+        })
+    }
+
+    fn last_of_sequencer(&mut self) -> Result<Last, Fail> {
+        let last = self.version()?;
+        Ok(Last::Sequencer { last })
+    }
+
+    fn last_of_proxy(&mut self) -> Result<Last, Fail> {
+        let known = self.version()?;
+        Ok(Last::Proxy { known })
+    }
+
+    fn last_of_recoverer(&mut self) -> Result<Last, Fail> {
+        let phase = Bytes::from_slice(self.alloc, "a \"phase\" \u{e9}\n".as_bytes())?;
+        Ok(Last::Recoverer { phase })
+    }
+
+    fn last_of_storage(&mut self) -> Result<Last, Fail> {
+        let epoch = self.epoch()?;
+        let version = self.version()?;
+        let floor = self.version()?;
+        let rows = self.rows()?;
+        Ok(Last::Storage {
+            epoch,
+            version,
+            floor,
+            rows,
+        })
+    }
+
+    fn row(&mut self) -> Result<(Bytes, Bytes), Fail> {
+        let key = self.bytes()?;
+        let value = self.bytes()?;
+        Ok((key, value))
     }
 
     fn rows(&mut self) -> Result<Rows, Fail> {
         let mut rows = Vec::new(self.alloc);
         for _ in 0..self.number(3) {
-            rows.push((self.bytes()?, self.bytes()?))?;
+            rows.push(self.row()?)?;
         }
         Ok(Rows::from_vec(rows))
     }
 
-    /// A journal of up to eight entries.
-    pub fn journal(&mut self) -> Result<Journal, Fail> {
-        let mut journal = Journal::new(self.alloc, self.node()?);
+    fn entry(&mut self, stamp: u64) -> Result<Entry, Fail> {
+        let stamp = Stamp::new(stamp).ok_or("stamp")?;
+        let act = self.act()?;
+        Ok(Entry { stamp, act })
+    }
+
+    /// Enters up to eight acts.
+    fn fill(&mut self, journal: &mut Journal) -> Result<(), Fail> {
         let mut stamp = self.number(1_000) as u64;
         for _ in 0..self.number(9) {
             stamp = stamp.saturating_add(1 + self.number(1_000) as u64);
-            journal.push(Entry {
-                stamp: Stamp::new(stamp).ok_or("stamp")?,
-                act: self.act()?,
-            })?;
+            journal.push(self.entry(stamp)?)?;
         }
+        Ok(())
+    }
+
+    /// A journal of up to eight entries.
+    pub fn journal(&mut self) -> Result<Journal, Fail> {
+        let node = self.node()?;
+        let mut journal = Journal::new(self.alloc, node);
+        self.fill(&mut journal)?;
         if self.flag() {
             journal.close(self.last()?);
         }

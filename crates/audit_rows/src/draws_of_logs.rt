@@ -1,5 +1,6 @@
 //! What logs are asked and tell, drawn at random.
 use crate::draws::Draws;
+use fr_base::{Epoch, Version};
 use fr_log::{LogAsk, LogRefusal, LogTell, Most, Peeked, PeekedRecord, Push, Seed, SeedRecord};
 use fr_state::{CoordState, Generation};
 use fr_tags::Body;
@@ -7,48 +8,74 @@ use std::test::Fail;
 
 pub fn draw_log_ask(draws: &mut Draws) -> Result<LogAsk, Fail> {
     let epoch = draws.epoch()?;
-    Ok(match draws.number(6) {
-        0 => LogAsk::Seed(draw_seed(draws)?),
-        1 => LogAsk::Push(draw_push(draws)?),
-        2 => LogAsk::Push(draw_mark(draws)?),
-        3 => LogAsk::Lock { epoch },
-        4 => LogAsk::MarkAsked { epoch },
-        _ => LogAsk::Peek {
-            epoch,
-            tag: draws.tag()?,
-            after: draws.version()?,
-            most: Most::new(1 + draws.number(100) as u8).ok_or("most")?,
-        },
+    match draws.number(6) {
+        0 => Ok(LogAsk::Seed(draw_seed(draws)?)),
+        1 => Ok(LogAsk::Push(draw_push(draws)?)),
+        2 => Ok(LogAsk::Push(draw_mark(draws)?)),
+        3 => Ok(LogAsk::Lock { epoch }),
+        4 => Ok(LogAsk::MarkAsked { epoch }),
+        _ => draw_peek(draws, epoch),
+    }
+}
+
+fn draw_peek(draws: &mut Draws, epoch: Epoch) -> Result<LogAsk, Fail> {
+    let tag = draws.tag()?;
+    let after = draws.version()?;
+    let most = Most::new(1 + draws.number(100) as u8).ok_or("most")?;
+    Ok(LogAsk::Peek {
+        epoch,
+        tag,
+        after,
+        most,
     })
+}
+
+fn draw_seed_record(draws: &mut Draws, version: Version) -> Result<SeedRecord, Fail> {
+    let tag = draws.tag()?;
+    let batch = draws.batch()?;
+    Ok(SeedRecord {
+        version,
+        tag,
+        batch,
+    })
+}
+
+fn draw_seed_records(draws: &mut Draws, version: Version) -> Result<Vec<SeedRecord>, Fail> {
+    let mut records = Vec::new(draws.alloc);
+    if draws.flag() {
+        records.push(draw_seed_record(draws, version)?)?;
+    }
+    Ok(records)
 }
 
 /// A seed of one record, or of none.
 fn draw_seed(draws: &mut Draws) -> Result<Seed, Fail> {
     let version = draws.small()?.after().ok_or("version")?;
-    let mut records = Vec::new(draws.alloc);
-    if draws.flag() {
-        records.push(SeedRecord {
-            version,
-            tag: draws.tag()?,
-            batch: draws.batch()?,
-        })?;
-    }
     let epoch = draws.epoch()?;
+    let records = draw_seed_records(draws, version)?;
     Ok(Seed::new(epoch, version, version, records).ok_or("seed")?)
+}
+
+fn draw_body(draws: &mut Draws) -> Result<Body, Fail> {
+    let tag = draws.tag()?;
+    let batch = draws.batch()?;
+    Ok(Body { tag, batch })
+}
+
+fn draw_bodies(draws: &mut Draws) -> Result<Vec<Body>, Fail> {
+    let mut bodies = Vec::new(draws.alloc);
+    if draws.flag() {
+        bodies.push(draw_body(draws)?)?;
+    }
+    Ok(bodies)
 }
 
 /// A push of one body, or of none.
 fn draw_push(draws: &mut Draws) -> Result<Push, Fail> {
     let known = draws.small()?;
-    let mut bodies = Vec::new(draws.alloc);
-    if draws.flag() {
-        bodies.push(Body {
-            tag: draws.tag()?,
-            batch: draws.batch()?,
-        })?;
-    }
     let version = known.after().ok_or("version")?;
     let epoch = draws.epoch()?;
+    let bodies = draw_bodies(draws)?;
     Ok(Push::new(epoch, known, version, known, bodies).ok_or("push")?)
 }
 
@@ -59,53 +86,80 @@ fn draw_mark(draws: &mut Draws) -> Result<Push, Fail> {
     Ok(Push::mark(draws.alloc, epoch, known, known, state).ok_or("mark")?)
 }
 
-/// A state of two generations.
+fn generation(epoch: Epoch, m: u8, k: u8, version: Version) -> Result<Generation, Fail> {
+    Ok(Generation::new(epoch, m, k, version, version).ok_or("generation")?)
+}
+
+/// A state of two generations, or of one.
 fn draw_state(draws: &mut Draws) -> Result<CoordState, Fail> {
     let version = draws.small()?.after().ok_or("version")?;
     let epoch = draws.epoch()?;
-    let first = Generation::new(epoch, 16, 3, version, version).ok_or("generation")?;
-    let mut state = CoordState::new(draws.alloc, first)?;
     let later = draws.epoch()?;
+    let first = generation(epoch, 16, 3, version)?;
+    let next = generation(later, 1, 1, version)?;
+    let mut state = CoordState::new(draws.alloc, first)?;
     if later > epoch {
-        let next = Generation::new(later, 1, 1, version, version).ok_or("generation")?;
         state.extend(next)?;
     }
     Ok(state)
 }
 
 pub fn draw_log_tell(draws: &mut Draws) -> Result<LogTell, Fail> {
+    match draws.number(8) {
+        0 => Ok(LogTell::Seeded),
+        1 => draw_held(draws),
+        2 => draw_locked(draws),
+        3 | 4 => Ok(LogTell::Peeked(draw_peeked(draws)?)),
+        5 => draw_marked(draws),
+        _ => draw_refused(draws),
+    }
+}
+
+fn draw_held(draws: &mut Draws) -> Result<LogTell, Fail> {
     let version = draws.version()?;
-    Ok(match draws.number(8) {
-        0 => LogTell::Seeded,
-        1 => LogTell::Held { version },
-        2 => LogTell::Locked {
-            durable: version,
-            known: draws.version()?,
-        },
-        3 | 4 => LogTell::Peeked(draw_peeked(draws)?),
-        5 => LogTell::Marked {
-            state: draw_state(draws)?,
-        },
-        _ => LogTell::Refused {
-            why: draw_refusal(draws)?,
-        },
-    })
+    Ok(LogTell::Held { version })
+}
+
+fn draw_locked(draws: &mut Draws) -> Result<LogTell, Fail> {
+    let durable = draws.version()?;
+    let known = draws.version()?;
+    Ok(LogTell::Locked { durable, known })
+}
+
+fn draw_marked(draws: &mut Draws) -> Result<LogTell, Fail> {
+    let state = draw_state(draws)?;
+    Ok(LogTell::Marked { state })
+}
+
+fn draw_refused(draws: &mut Draws) -> Result<LogTell, Fail> {
+    let why = draw_refusal(draws)?;
+    Ok(LogTell::Refused { why })
+}
+
+fn draw_peeked_record(draws: &mut Draws, version: Version) -> Result<PeekedRecord, Fail> {
+    let batch = draws.batch()?;
+    Ok(PeekedRecord { version, batch })
+}
+
+/// Records of so many versions, one after another from the one after this on.
+fn draw_records(draws: &mut Draws, after: Version, many: u32) -> Result<Vec<PeekedRecord>, Fail> {
+    let mut upto = after;
+    let mut records = Vec::new(draws.alloc);
+    for _ in 0..many {
+        upto = upto.after().ok_or("version")?;
+        records.push(draw_peeked_record(draws, upto)?)?;
+    }
+    Ok(records)
 }
 
 /// What was peeked: up to three records.
 fn draw_peeked(draws: &mut Draws) -> Result<Peeked, Fail> {
-    let after = draws.small()?;
-    let mut upto = after;
-    let mut records = Vec::new(draws.alloc);
-    for _ in 0..draws.number(4) {
-        upto = upto.after().ok_or("version")?;
-        records.push(PeekedRecord {
-            version: upto,
-            batch: draws.batch()?,
-        })?;
-    }
     let tag = draws.tag()?;
     let known = draws.version()?;
+    let after = draws.small()?;
+    let many = draws.number(4);
+    let upto = Version::new(after.get().saturating_add(u64::from(many))).ok_or("version")?;
+    let records = draw_records(draws, after, many)?;
     Ok(Peeked::new(tag, after, records, upto, known).ok_or("peeked")?)
 }
 

@@ -201,118 +201,133 @@ fn is_line(rt: &impl Abort, alloc: Global, script: &str, line: &str) -> Result<(
     Ok(())
 }
 
-#[test]
-fn each_fault_is_named(rt: HostRuntime) -> Result<(), Fail> {
-    let script = whole(rt.alloc())?;
-    for (old, new, line) in CHANGES {
-        let changed = script.replacen(rt.alloc(), old, new, 1)?;
-        is_line(&rt, rt.alloc(), changed.as_str(), line)?;
+/// A text of a script, the one in its place, and the line.
+type Change = (&'static str, &'static str, &'static str);
+
+fn changed(alloc: Global, script: &str, old: &str, new: &str) -> Result<String, Fail> {
+    Ok(script.replacen(alloc, old, new, 1)?)
+}
+
+fn is_named(
+    rt: &impl Abort,
+    alloc: Global,
+    script: &str,
+    (old, new, line): Change,
+) -> Result<(), Fail> {
+    let changed = changed(alloc, script, old, new)?;
+    is_line(rt, alloc, changed.as_str(), line)
+}
+
+fn are_named(rt: &impl Abort, alloc: Global, changes: &[Change]) -> Result<(), Fail> {
+    let script = whole(alloc)?;
+    for change in changes {
+        is_named(rt, alloc, script.as_str(), *change)?;
     }
     Ok(())
 }
 
 #[test]
+fn each_fault_is_named(rt: HostRuntime) -> Result<(), Fail> {
+    are_named(&rt, rt.alloc(), &CHANGES)
+}
+
+/// The script of the whole run with one text changed.
+fn whole_with(alloc: Global, old: &str, new: &str) -> Result<String, Fail> {
+    let script = whole(alloc)?;
+    changed(alloc, script.as_str(), old, new)
+}
+
+fn is_first_named(
+    rt: &impl Abort,
+    alloc: Global,
+    (old, new): (&str, &str),
+    change: Change,
+) -> Result<(), Fail> {
+    let script = whole_with(alloc, old, new)?;
+    is_named(rt, alloc, script.as_str(), change)
+}
+
+#[test]
 fn the_first_of_two_faults_is_named(rt: HostRuntime) -> Result<(), Fail> {
-    let script = whole(rt.alloc())?;
-    for (old, new, other, another, line) in TWO_CHANGES {
-        let changed = script.replacen(rt.alloc(), old, new, 1)?;
-        let changed = changed.replacen(rt.alloc(), other, another, 1)?;
-        is_line(&rt, rt.alloc(), changed.as_str(), line)?;
+    for (old, new, other, another, line) in TWO_CHANGES.iter() {
+        is_first_named(&rt, rt.alloc(), (old, new), (other, another, line))?;
     }
     Ok(())
 }
 
 #[test]
 fn equal_stamps_go_by_nodes(rt: HostRuntime) -> Result<(), Fail> {
-    let script = whole(rt.alloc())?;
-    for (old, new, line) in STAMPS {
-        let changed = script.replacen(rt.alloc(), old, new, 1)?;
-        is_line(&rt, rt.alloc(), changed.as_str(), line)?;
-    }
-    Ok(())
+    are_named(&rt, rt.alloc(), &STAMPS)
+}
+
+/// Asserts of the script of the whole run and one journal more which line its audit prints.
+fn is_line_with(rt: &impl Abort, alloc: Global, journal: &str, line: &str) -> Result<(), Fail> {
+    let script = whole_and(alloc, journal)?;
+    is_line(rt, alloc, script.as_str(), line)
 }
 
 #[test]
 fn nodes_that_are_not_there_differ(rt: HostRuntime) -> Result<(), Fail> {
-    for (journal, line) in STRANGERS {
-        is_line(
-            &rt,
-            rt.alloc(),
-            whole_and(rt.alloc(), journal)?.as_str(),
-            line,
-        )?;
+    for (journal, line) in STRANGERS.iter() {
+        is_line_with(&rt, rt.alloc(), journal, line)?;
     }
     Ok(())
 }
 
 #[test]
 fn acts_of_the_wrong_kind_are_no_run(rt: HostRuntime) -> Result<(), Fail> {
-    for journal in WRONG_KINDS {
-        let line = "1 not a run at 5\n";
-        is_line(
-            &rt,
-            rt.alloc(),
-            whole_and(rt.alloc(), journal)?.as_str(),
-            line,
-        )?;
+    for journal in WRONG_KINDS.iter() {
+        is_line_with(&rt, rt.alloc(), journal, "1 not a run at 5\n")?;
     }
     Ok(())
+}
+
+/// A crash at a stamp, and the line.
+const PLACES: [(u8, &str); 3] = [
+    (1, "1 not a run at 1\n"),
+    (2, "0 audit ok\n"),
+    (9, "0 audit ok\n"),
+];
+
+fn crash_at(alloc: Global, stamp: u8) -> Result<String, Fail> {
+    Ok(format!(in alloc;
+        r#"{{"entries":[{{"act":{{"crashed":{{}}}},"stamp":{stamp}}}],"last":{{"log":{{"durable":1,"known":0,"seeded":true,"stopped":false}}}},"node":{{"log":{{"epoch":257,"index":0}}}}}}"#
+    )?)
+}
+
+fn is_line_with_crash(rt: &impl Abort, alloc: Global, stamp: u8, line: &str) -> Result<(), Fail> {
+    let journal = crash_at(alloc, stamp)?;
+    is_line_with(rt, alloc, journal.as_str(), line)
 }
 
 /// Two journals of one node are taken together, but no two entries have one stamp and one node.
 #[test]
 fn places_are_taken_once(rt: HostRuntime) -> Result<(), Fail> {
-    for (stamp, line) in [
-        (1, "1 not a run at 1\n"),
-        (2, "0 audit ok\n"),
-        (9, "0 audit ok\n"),
-    ] {
-        let journal = format!(in rt.alloc();
-            r#"{{"entries":[{{"act":{{"crashed":{{}}}},"stamp":{stamp}}}],"last":{{"log":{{"durable":1,"known":0,"seeded":true,"stopped":false}}}},"node":{{"log":{{"epoch":257,"index":0}}}}}}"#
-        )?;
-        is_line(
-            &rt,
-            rt.alloc(),
-            whole_and(rt.alloc(), journal.as_str())?.as_str(),
-            line,
-        )?;
+    for (stamp, line) in PLACES.iter() {
+        is_line_with_crash(&rt, rt.alloc(), *stamp, line)?;
     }
     Ok(())
+}
+
+/// The only journal of a script, or none, and the line.
+const ALONE: [(&str, &str); 5] = [
+    ("", "0 audit ok\n"),
+    (LOG, "0 audit ok\n"),
+    (STORAGE, "1 not a run at 0\n"),
+    (SEQUENCER, "1 not a run at 0\n"),
+    (PROXY, "1 not a run at 1\n"),
+];
+
+fn is_line_alone(rt: &impl Abort, alloc: Global, journals: &str, line: &str) -> Result<(), Fail> {
+    let script = script_of(alloc, CONFIG, journals)?;
+    is_line(rt, alloc, script.as_str(), line)
 }
 
 /// A node that did nothing, or whose acts no other one rests on, need not have a journal.
 #[test]
 fn journals_may_be_missing(rt: HostRuntime) -> Result<(), Fail> {
-    let alloc = rt.alloc();
-    is_line(
-        &rt,
-        rt.alloc(),
-        script_of(alloc, CONFIG, "")?.as_str(),
-        "0 audit ok\n",
-    )?;
-    is_line(
-        &rt,
-        rt.alloc(),
-        script_of(alloc, CONFIG, LOG)?.as_str(),
-        "0 audit ok\n",
-    )?;
-    is_line(
-        &rt,
-        rt.alloc(),
-        script_of(alloc, CONFIG, STORAGE)?.as_str(),
-        "1 not a run at 0\n",
-    )?;
-    is_line(
-        &rt,
-        rt.alloc(),
-        script_of(alloc, CONFIG, SEQUENCER)?.as_str(),
-        "1 not a run at 0\n",
-    )?;
-    is_line(
-        &rt,
-        rt.alloc(),
-        script_of(alloc, CONFIG, PROXY)?.as_str(),
-        "1 not a run at 1\n",
-    )?;
+    for (journals, line) in ALONE.iter() {
+        is_line_alone(&rt, rt.alloc(), journals, line)?;
+    }
     Ok(())
 }

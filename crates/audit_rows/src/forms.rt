@@ -1,7 +1,6 @@
 //! Each form of a script is written as it was read.
-use crate::scripts::{
-    ASK, CONFIG, NODE, TELL, script_of, script_of_act, script_of_ask, script_with,
-};
+use crate::scripts::Place::{self, Act, Ask, Config, Last, Node, Tell};
+use crate::scripts::{CONFIG, script_in};
 use fr_script::{read_script, write_script};
 use std::alloc::Global;
 use std::process::Abort;
@@ -92,71 +91,52 @@ const CONFIGS: [&str; 3] = [
     r#"{"coordinators":3,"degree":1,"logs":2,"proxies":2,"shards":["","00"]}"#,
 ];
 
-fn is_kept(rt: &impl Abort, alloc: Global, text: &str) -> Result<(), Fail> {
-    let (config, journals) = read_script(alloc, text.as_bytes())?;
+/// Whether a script is written so once it was read.
+fn is_written(alloc: Global, script: &[u8], wanted: &[u8]) -> Result<bool, Fail> {
+    let (config, journals) = read_script(alloc, script)?;
     let written = write_script(alloc, &config, journals.as_slice())?;
-    assert_eq!(rt; written.as_slice(), text.as_bytes(), "{text}");
+    Ok(written.as_slice() == wanted)
+}
+
+fn is_kept_in(alloc: Global, place: Place, form: &str) -> Result<bool, Fail> {
+    let script = script_in(alloc, place, form)?;
+    is_written(alloc, script.as_bytes(), script.as_bytes())
+}
+
+fn are_kept(rt: &impl Abort, alloc: Global, place: Place, forms: &[&str]) -> Result<(), Fail> {
+    for form in forms {
+        assert!(rt; is_kept_in(alloc, place, form)?, "{form}");
+    }
     Ok(())
 }
 
 #[test]
 fn asks_and_tells_are_written_as_read(rt: HostRuntime) -> Result<(), Fail> {
-    for ask in ASKS {
-        is_kept(
-            &rt,
-            rt.alloc(),
-            script_of_ask(rt.alloc(), ask, TELL)?.as_str(),
-        )?;
-    }
-    for tell in TELLS {
-        is_kept(
-            &rt,
-            rt.alloc(),
-            script_of_ask(rt.alloc(), ASK, tell)?.as_str(),
-        )?;
-    }
-    Ok(())
+    are_kept(&rt, rt.alloc(), Ask, &ASKS)?;
+    are_kept(&rt, rt.alloc(), Tell, &TELLS)
 }
 
 #[test]
 fn acts_nodes_and_last_states_are_written_as_read(rt: HostRuntime) -> Result<(), Fail> {
-    for act in ACTS {
-        is_kept(&rt, rt.alloc(), script_of_act(rt.alloc(), act)?.as_str())?;
-    }
-    for node in NODES {
-        is_kept(
-            &rt,
-            rt.alloc(),
-            script_with(rt.alloc(), node, "", "null")?.as_str(),
-        )?;
-    }
-    for last in LASTS {
-        is_kept(
-            &rt,
-            rt.alloc(),
-            script_with(rt.alloc(), NODE, "", last)?.as_str(),
-        )?;
-    }
-    Ok(())
+    are_kept(&rt, rt.alloc(), Act, &ACTS)?;
+    are_kept(&rt, rt.alloc(), Node, &NODES)?;
+    are_kept(&rt, rt.alloc(), Last, &LASTS)
 }
 
 #[test]
 fn configs_are_written_as_read(rt: HostRuntime) -> Result<(), Fail> {
-    for config in CONFIGS {
-        is_kept(&rt, rt.alloc(), script_of(rt.alloc(), config, "")?.as_str())?;
-    }
-    Ok(())
+    are_kept(&rt, rt.alloc(), Config, &CONFIGS)
 }
+
+/// The script of one node without entries, spelled in another way.
+const SPELLED: &str =
+    r#" { "journals" : [ { "node":{"cell":{"index":7,"index":0}}, "last":null, "entries":[] } ],
+        "config":{"shards":[""],"proxies":1,"logs":1,"degree":1,"co\u006frdinators":1} } "#;
 
 /// Members stand in any order, the last of two of one name counts, and blanks are passed over.
 #[test]
 fn other_spellings_are_read(rt: HostRuntime) -> Result<(), Fail> {
-    let text =
-        r#" { "journals" : [ { "node":{"cell":{"index":7,"index":0}}, "last":null, "entries":[] } ],
-        "config":{"shards":[""],"proxies":1,"logs":1,"degree":1,"co\u006frdinators":1} } "#;
-    let wanted = script_with(rt.alloc(), NODE, "", "null")?;
-    let (config, journals) = read_script(rt.alloc(), text.as_bytes())?;
-    let written = write_script(rt.alloc(), &config, journals.as_slice())?;
-    assert_eq!(rt; written.as_slice(), wanted.as_bytes());
+    let wanted = script_in(rt.alloc(), Last, "null")?;
+    assert!(rt; is_written(rt.alloc(), SPELLED.as_bytes(), wanted.as_bytes())?);
     Ok(())
 }

@@ -7,6 +7,8 @@
 use fr_program::{Ending, run_program};
 use std::alloc::{AllocError, Global};
 use std::process::ExitCode;
+use std::sync::Wait;
+use std::thread::Threads;
 use std::{fs, io};
 
 fn main(rt: HostRuntime) -> anyhow::Result<ExitCode> {
@@ -14,7 +16,7 @@ fn main(rt: HostRuntime) -> anyhow::Result<ExitCode> {
     let names = names_of(&rt, alloc)?;
     let mut status = ExitCode::SUCCESS;
     for name in &names {
-        if holds(&rt, alloc, name)? {
+        if holds(&rt, &rt, alloc, name)? {
             println!(rt; "{name} holds")?;
         } else {
             println!(rt; "{name} differs")?;
@@ -45,13 +47,20 @@ fn names_of(rt: &HostRuntime, alloc: Global) -> io::Result<Vec<String>> {
 }
 
 /// Whether the script prints what stands beside it.
-fn holds(rt: &HostRuntime, alloc: Global, name: &String) -> io::Result<bool> {
+fn holds<H: Threads + Wait + Sync>(
+    rt: &HostRuntime,
+    threads: &H,
+    alloc: Global,
+    name: &String,
+) -> io::Result<bool> {
     let words = words_of(rt, alloc, name)?;
     let status = status_of(rt, alloc, name)?;
     let script = fs::read(rt, format!(in alloc; "{name}.json")?.as_str())?;
     let wanted = fs::read(rt, format!(in alloc; "{name}.out")?.as_str())?;
     let mut printed = Vec::new(alloc);
     let ending = run_program(
+        threads,
+        None::<&HostRuntime>,
         alloc,
         words.as_slice(),
         &mut script.as_slice(),

@@ -5,5 +5,5 @@ use fr_program::run_main;
 use std::process::ExitCode;
 
 fn main(rt: HostRuntime) -> ExitCode {
-    run_main(&rt)
+    run_main(&rt, &rt)
 }

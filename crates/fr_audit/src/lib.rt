@@ -6,3 +6,5 @@ mod checking;
 
 pub use checking::audit;
 pub use fr_audit_rule::AuditFault;
+/// The world that an audit answers.
+pub use fr_world::World;

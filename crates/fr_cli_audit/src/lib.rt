@@ -5,3 +5,4 @@ mod audits;
 mod lines;
 
 pub use audits::{audit_counted, run_audit};
+pub use lines::fault_text;

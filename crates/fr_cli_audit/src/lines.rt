@@ -7,7 +7,7 @@ use fr_base::NodeId;
 use std::alloc::{AllocError, Global};
 
 /// The line of a fault; nothing for want of memory.
-pub(crate) fn fault_text(alloc: Global, fault: &AuditFault) -> Result<String, AllocError>
+pub fn fault_text(alloc: Global, fault: &AuditFault) -> Result<String, AllocError>
     ensures { IfOk result (λ text. string_bytes text ≡ lines.fault_line fault.now) }
 {
     match fault {

@@ -1,12 +1,15 @@
 //! The command `apply` of `fdbrec` on a store whose rows stand in the tables of a database in memory.
 #![tactic(auto)]
 
+mod memory_file;
+
 ghost use Rattle.std.specs.Prelude.{◌≡◌, ◌⊎◌, List, Err, IfOk, OnOk, Some, None};
 ghost use Rattle.std.specs.Io.KnownBytes.{Appends};
 ghost use Rattle.fr_cli.specs.declared.script.Operation.{Operation};
 ghost use Rattle.fr_cli.specs.Text.{HasRead, GainsFront};
 ghost use Rattle.fr_cli.specs.Lines.{lines_of};
 
+use crate::memory_file::blank_files;
 use fr_cli::{CliFault, run_apply_on};
 use fr_sql_store::SqlStore;
 use std::alloc::Global;
@@ -36,7 +39,10 @@ pub fn run_apply_sql<R: Read, W: Write>(
     ensures output { result ≡ Err CliFault.Output → (script : List Operation)
         × HasRead (R.remaining reader.old) (R.remaining reader.new) (Some script) }
 {
-    match SqlStore::in_memory(alloc) {
+    let Ok(files) = blank_files(alloc) else {
+        return Err(CliFault::Memory);
+    };
+    match SqlStore::create(alloc, files) {
         Ok(mut store) => run_apply_on(alloc, &mut store, reader, writer),
         Err(_) => Err(CliFault::Memory),
     }

@@ -3,19 +3,24 @@
 #![tactic(auto)]
 
 mod apply;
+mod help;
 mod program;
 mod words;
 
 use fr_cli::CliFault;
+pub use fr_cli_cluster::{ClusterOptions, ClusterWords, DEFAULTS};
+pub use fr_cli_end::EndOptions;
 pub use program::{BAD_WORDS, Ending, run_program};
 use std::alloc::Global;
 use std::io;
-use std::io::BufWriter;
+use std::io::{BufWriter, IsTerminal};
 use std::process::ExitCode;
+use std::sync::Wait;
+use std::thread::Threads;
 pub use words::{Request, StoreKind, read_words};
 
-/// Runs the program over its own words, standard input and standard output, and gives its status.
-pub fn run_main(rt: &HostRuntime) -> ExitCode {
+/// Runs the program over its own words, standard input and standard output, with these threads, and gives its status.
+pub fn run_main<H: Threads + Wait + Sync>(rt: &HostRuntime, threads: &H) -> ExitCode {
     let alloc = rt.alloc();
     let words = match own_words(rt, alloc) {
         Ok(words) => words,
@@ -25,7 +30,19 @@ pub fn run_main(rt: &HostRuntime) -> ExitCode {
         return end_by(rt, &Ending::Fault(CliFault::Memory));
     };
     let mut reader = rt.reader();
-    let ending = run_program(alloc, words.as_slice(), &mut reader, &mut writer);
+    let terminal = if rt.stderr().is_terminal() {
+        Some(rt)
+    } else {
+        None
+    };
+    let ending = run_program(
+        threads,
+        terminal,
+        alloc,
+        words.as_slice(),
+        &mut reader,
+        &mut writer,
+    );
     end_by(rt, &ending)
 }
 

@@ -2,12 +2,15 @@
 use crate::apply::apply_to;
 use crate::words::{Request, read_words};
 use clap::error::{Error, ErrorKind};
-use fr_cli::CliFault;
+use fr_cli::{CallCounts, CliFault};
 use fr_cli_audit::run_audit;
+use fr_cli_cluster::{ClusterOptions, Progress, cluster_counted, run_cluster};
 use fr_cli_end::run_end;
 use fr_cli_simulate::run_simulate;
 use std::alloc::Global;
-use std::io::{Read, Write};
+use std::io::{Eprint, Read, Write};
+use std::sync::Wait;
+use std::thread::Threads;
 
 /// The status of bad words.
 pub const BAD_WORDS: u8 = 2;
@@ -34,8 +37,11 @@ impl Ending {
     }
 }
 
-/// Does what the words ask for, the first of which is the program's name.
-pub fn run_program<R: Read, W: Write>(
+/// Does what the words ask for, the first of which is the program's name. Where there is a terminal, a cluster that runs
+/// says there how far it has come.
+pub fn run_program<H: Threads + Wait + Sync, E: Eprint + Sync, R: Read, W: Write>(
+    rt: &H,
+    terminal: Option<&E>,
     alloc: Global,
     words: &[String],
     reader: &mut R,
@@ -43,7 +49,7 @@ pub fn run_program<R: Read, W: Write>(
 ) -> Ending {
     let error = match read_words(alloc, words) {
         Ok(request) => {
-            return match run(alloc, request, reader, writer) {
+            return match run(rt, terminal, alloc, request, reader, writer) {
                 Ok(status) => Ending::Done(status),
                 Err(fault) => Ending::Fault(fault),
             };
@@ -63,7 +69,9 @@ pub fn run_program<R: Read, W: Write>(
 }
 
 /// Runs a command.
-fn run<R: Read, W: Write>(
+fn run<H: Threads + Wait + Sync, E: Eprint + Sync, R: Read, W: Write>(
+    rt: &H,
+    terminal: Option<&E>,
     alloc: Global,
     request: Request,
     reader: &mut R,
@@ -74,7 +82,26 @@ fn run<R: Read, W: Write>(
         Request::End(options) => run_end(alloc, options, reader, writer),
         Request::Simulate => run_simulate(alloc, reader, writer),
         Request::Audit => run_audit(alloc, reader, writer),
+        Request::Cluster(options) => match terminal {
+            Some(terminal) => run_shown(rt, terminal, alloc, options, writer),
+            None => run_cluster(rt, alloc, options, writer),
+        },
     }
+}
+
+/// Runs a cluster, and says on a terminal how far it has come.
+fn run_shown<H: Threads + Wait + Sync, E: Eprint + Sync, W: Write>(
+    rt: &H,
+    terminal: &E,
+    alloc: Global,
+    options: ClusterOptions,
+    writer: &mut W,
+) -> Result<u8, CliFault> {
+    let progress = Progress::new(terminal, options);
+    let mut calls = CallCounts::new();
+    let ended = cluster_counted(rt, alloc, options, &progress, &mut calls, writer);
+    progress.end();
+    ended
 }
 
 /// Shows help or the version.

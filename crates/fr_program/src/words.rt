@@ -1,6 +1,8 @@
 //! The words of the command line.
+use crate::help::{APPLY_HELP, AUDIT_HELP, CLUSTER_HELP, END_HELP, SIMULATE_HELP};
 use clap::error::{Error, ErrorKind};
 use clap::{Arg, ArgAction, ArgMatches, Command, value_parser};
+use fr_cli_cluster::{ClusterOptions, ClusterWords, DEFAULTS};
 use fr_cli_end::EndOptions;
 use std::alloc::Global;
 
@@ -24,6 +26,8 @@ pub enum Request {
     Simulate,
     /// The audit of a script's journals.
     Audit,
+    /// A cluster in threads, and the audit of its journals.
+    Cluster(ClusterOptions),
 }
 
 /// The kinds of store, as the words name them.
@@ -31,193 +35,6 @@ static STORES: [&str; 2] = ["map", "sql"];
 
 /// The program's version, and the line of the kit that it is proved with.
 const VERSION: &str = "0.1.0 (rattle-kit-13b logic dac8208d650f15bf)";
-
-/// What stands below the help of `apply`.
-const APPLY_HELP: &str = "\
-The script is read from standard input. Keys, values and parameters are lower case hex, two
-digits a byte; versions are numbers below 2^62. It is an object {\"ops\":[..]} of operations:
-
-  {\"apply\":{\"version\":V,\"batch\":[..]}}   applies mutations at version V
-  {\"undo\":{\"to\":V}}                      undoes all versions above V
-  {\"forget\":{\"through\":V}}               forgets how to undo below V
-  {\"advance\":{\"version\":V}}              moves the version applied to V, and nothing else
-
-A batch is a list of mutations:
-
-  {\"set\":{\"key\":K,\"value\":X}}         the key takes the value
-  {\"clear\":{\"begin\":K,\"end\":K}}       the keys from begin up to, but without, end go
-  {\"add\":{\"key\":K,\"param\":X}}         the key takes the sum of its value and X; so for
-                                        and, or, xor, max and min
-
-It prints a line for each operation, and then the rows of the store:
-
-  ok A floor F undo U   done: the version applied, the floor (no undo goes below it) and the
-                        number of undo rows (values kept so that they can be put back)
-  refused NAME          not done, and nothing changed: a batch by the first limit it breaks
-                        (TooMany: 1,000 mutations, KeyTooLong: 10,000 bytes, ValueTooLong:
-                        100,000 bytes, Inverted: a clear that ends before it begins); then
-                        NotAfter (a version not above the one applied), BelowFloor,
-                        AboveApplied
-  KEY VALUE             a row, - for no bytes
-
-With --store sql the rows are kept in the tables of a database in memory. It prints the same.
-
-For instance
-
-  {\"ops\":[
-    {\"apply\":{\"version\":5,\"batch\":[{\"set\":{\"key\":\"61\",\"value\":\"01\"}}]}},
-    {\"apply\":{\"version\":6,\"batch\":[
-      {\"set\":{\"key\":\"61\",\"value\":\"02\"}},
-      {\"clear\":{\"begin\":\"61\",\"end\":\"63\"}},
-      {\"add\":{\"key\":\"61\",\"param\":\"05\"}}]}},
-    {\"undo\":{\"to\":5}}]}
-
-prints
-
-  ok 5 floor 0 undo 1
-  ok 6 floor 0 undo 2
-  ok 5 floor 0 undo 1
-  61 01
-
-Statuses: 0 done, refused operations included; 2 bad script, or bad words; 3 out of memory;
-4 input or output failed. A bad script prints no line.";
-
-/// What stands below the help of `end`.
-const END_HELP: &str = "\
-The script is read from standard input. It is an object of what the locked logs of a generation
-replied, in the order in which the replies came:
-
-  {\"replies\":[[I,DURABLE,KNOWN],..]}
-
-I is the number of the log, 0 to 255 (the generation has those below M), DURABLE the greatest
-version that it holds, KNOWN the greatest that it knows to be committed: numbers below 2^62.
-
-It prints a line for each reply:
-
-  none                  the replies do not cover yet: only those of more than M - K logs have
-                        a log of each tag among them
-  pev P rv R            the end of the epoch: all through P is known to be committed, and the
-                        next epoch takes over all through R
-  inconsistent          P would be above R: a log knows a version to be committed that
-                        another one does not hold
-  refused NAME          not counted: Stranger (the generation has no such log) or Differs
-                        (this log replied otherwise before)
-
-For instance, with --logs 4 --degree 2,
-
-  {\"replies\":[[0,12,8],[1,10,9],[2,11,7]]}
-
-prints
-
-  none
-  none
-  pev 9 rv 10
-
-Statuses: 0 done, refused replies included; 2 bad script, or bad words, a K above M among them;
-3 out of memory; 4 input or output failed. A bad script prints no line.";
-
-/// What stands below the help of `simulate`.
-const SIMULATE_HELP: &str = "\
-The script is read from standard input. It says what a world starts from, and steps:
-
-  {\"config\":{\"coordinators\":3,\"degree\":2,\"logs\":2,\"proxies\":1,\"shards\":[\"\"]},\"steps\":[..]}
-
-There are 1, 3, 5, 7 or 9 coordinators, 1 to 16 logs, each tag on degree of them, 1 to 16 proxies,
-and a storage server for each shard, of the keys from where it begins, in lower case hex, on. The
-first epoch is 257, its first version 1. A step is one of
-
-  {\"commit\":{\"epoch\":E,\"proxy\":P,\"step\":D,\"batch\":[..],\"logs\":[I,..]}}
-      a proxy takes a batch, has it numbered D above the last version, and pushes it to these logs;
-      mutations are those of apply
-  {\"push\":{\"epoch\":E,\"proxy\":P,\"logs\":[I,..]}}
-      it pushes the batch that it has open again
-  {\"pull\":{\"storage\":S,\"epoch\":E,\"log\":I}}
-      a storage server applies what a log has for it
-  {\"mark\":{\"storage\":S,\"epoch\":E,\"log\":I}}
-      it hears of the epoch, and takes back what did not survive
-  {\"recover\":{\"ballot\":B,\"read\":[C,..],\"lock\":[I,..],\"write\":[C,..],\"mark\":[I,..]}}
-      the recoverer of a ballot begins or goes on: it reads these cells, locks these logs, copies
-      and seeds, writes to these cells, and gives these logs the mark
-  {\"lose\":{\"epoch\":E,\"log\":I}}
-      a log is lost for good
-
-It prints a line for each step, and then where each storage server stands, with its rows:
-
-  commit E P V OUTCOME      the batch has version V: committed, ended or waiting; so for push
-  commit E P ended          the batch was given no version
-  pull S E V                the server stands at version V of epoch E; so for mark
-  recover B PHASE           reading, locking, copying, writing, chosen pev P rv R (through P all is
-                            known to be committed, through R the epoch takes over) or lost WHY
-  lose E I                  the log is lost
-  .. refused NAME           not done, and nothing changed
-  storage S E V floor F rows N
-  KEY VALUE                 a row, - for no bytes
-
-For instance
-
-  {\"config\":{\"coordinators\":3,\"degree\":2,\"logs\":2,\"proxies\":1,\"shards\":[\"\"]},\"steps\":[
-    {\"commit\":{\"epoch\":257,\"proxy\":0,\"step\":1,\"batch\":[
-      {\"set\":{\"key\":\"61\",\"value\":\"01\"}}],\"logs\":[0,1]}},
-    {\"recover\":{\"ballot\":513,\"read\":[0,1],\"lock\":[1],\"write\":[0,1],\"mark\":[0,1]}},
-    {\"mark\":{\"storage\":0,\"epoch\":513,\"log\":0}},
-    {\"pull\":{\"storage\":0,\"epoch\":513,\"log\":0}}]}
-
-prints
-
-  commit 257 0 2 committed
-  recover 513 chosen pev 0 rv 2
-  mark 0 513 0
-  pull 0 513 3
-  storage 0 513 3 floor 0 rows 1
-  61 01
-
-Statuses: 0 done, refused steps included; 2 bad script, or bad words; 3 out of memory; 4 input or
-output failed. A bad script prints no line.";
-
-/// What stands below the help of `audit`.
-const AUDIT_HELP: &str = "\
-The script is read from standard input. It says what a world starts from, as that of simulate does,
-and what each node says that it did:
-
-  {\"config\":{..},\"journals\":[{\"node\":NODE,\"entries\":[{\"stamp\":N,\"act\":ACT},..],\"last\":LAST},..]}
-
-A node is {\"cell\":{\"index\":I}}, {\"log\":{\"epoch\":E,\"index\":I}}, {\"sequencer\":{\"epoch\":E}},
-{\"proxy\":{\"epoch\":E,\"number\":P}}, {\"recoverer\":{\"ballot\":B}} or {\"storage\":{\"tag\":T}}. The stamps
-of a journal rise, each below 2^40. An act is one of
-
-  {\"asked\":{\"from\":NODE,\"ask\":ASK,\"tell\":TELL}}   it was asked this, and told that
-  {\"heard\":{\"from\":NODE,\"tell\":TELL,\"taken\":V,\"outcome\":O}}
-      it heard this: V is null, or the version at which a storage server broke off; O what a proxy
-      says of its batch, of any other node null
-  {\"submitted\":{\"step\":D,\"batch\":[..]}}            a proxy took a batch
-  {\"begun\":{}}, {\"crashed\":{}}, {\"lost\":{}}         a recoverer began; it crashed; a log is lost
-
-LAST is where the node stood at last, or null. docs/FORMATS.md has all asks, tells and last states.
-The entries of all journals are taken by their stamps, those of one stamp by their nodes, and counted
-from 0. It prints one line:
-
-  audit ok                the journals are a run: each entry can happen there, tells what the world
-                          tells, and each node ends as its journal says
-  not a run at N          entry N cannot happen there, or has the stamp and the node of the one before
-  tell differs at N       the world tells something else at entry N, or gives another outcome
-  state differs at NODE   the node stands elsewhere at last, its journal was not closed, or there is
-                          no such node: cell I, log E I, sequencer E, proxy E P, recoverer B, storage T
-
-For instance
-
-  {\"config\":{\"coordinators\":1,\"degree\":1,\"logs\":1,\"proxies\":1,\"shards\":[\"\"]},\"journals\":[
-    {\"node\":{\"log\":{\"epoch\":257,\"index\":0}},\"entries\":[{\"stamp\":1,\"act\":{\"asked\":{
-        \"from\":{\"storage\":{\"tag\":0}},
-        \"ask\":{\"log\":{\"peek\":{\"after\":0,\"epoch\":257,\"most\":100,\"tag\":0}}},
-        \"tell\":{\"log\":{\"peeked\":{\"after\":0,\"known\":0,\"records\":[],\"tag\":0,\"upto\":1}}}}}}],
-      \"last\":{\"log\":{\"durable\":1,\"known\":0,\"seeded\":true,\"stopped\":false}}}]}
-
-prints
-
-  audit ok
-
-Statuses: 0 a run; 1 a fault of the journals; 2 bad script, or bad words; 3 out of memory; 4 input
-or output failed. A bad script prints no line.";
 
 /// Reads the words, the first of which is the program's name. An error is a request for help or a
 /// mistake in the words, with the text for the user.
@@ -231,6 +48,9 @@ pub fn read_words(alloc: Global, words: &[String]) -> Result<Request, Error> {
     }
     if matches.subcommand_matches("audit").is_some() {
         return Ok(Request::Audit);
+    }
+    if let Some(cluster) = matches.subcommand_matches("cluster") {
+        return read_cluster(alloc, cluster);
     }
     // There is one other command: other words are refused.
     match matches.subcommand_matches("apply") {
@@ -259,6 +79,41 @@ fn read_end(alloc: Global, matches: &ArgMatches<'_>) -> Result<Request, Error> {
             Err(command(alloc)?.error(ErrorKind::ValueValidation, message)?)
         }
     }
+}
+
+/// Reads the options of `cluster`. Each of its numbers is within its limits, so what is left to be refused is an even
+/// number of coordinators, and a degree above the number of logs.
+fn read_cluster(alloc: Global, matches: &ArgMatches<'_>) -> Result<Request, Error> {
+    let words = ClusterWords {
+        coordinators: byte(matches, "coordinators", DEFAULTS.coordinators),
+        logs: byte(matches, "logs", DEFAULTS.logs),
+        degree: byte(matches, "degree", DEFAULTS.degree),
+        storages: byte(matches, "storages", DEFAULTS.storages),
+        proxies: byte(matches, "proxies", DEFAULTS.proxies),
+        batches: number(matches, "batches", DEFAULTS.batches),
+        recoveries: byte(matches, "recoveries", DEFAULTS.recoveries),
+        turns: number(matches, "turns", DEFAULTS.turns),
+        journal: matches.get_flag("journal"),
+    };
+    if let Some(options) = ClusterOptions::new(words) {
+        return Ok(Request::Cluster(options));
+    }
+    let message = if words.coordinators % 2 == 0 {
+        "the value of '--coordinators <N>' is even"
+    } else {
+        "the value of '--degree <K>' is above that of '--logs <M>'"
+    };
+    Err(command(alloc)?.error(ErrorKind::ValueValidation, message)?)
+}
+
+/// The number of a word, below 256, or what it is where the word is not there.
+fn byte(matches: &ArgMatches<'_>, name: &str, default: u8) -> u8 {
+    matches.get_one::<u8>(name).unwrap_or(default)
+}
+
+/// The number of a word, or what it is where the word is not there.
+fn number(matches: &ArgMatches<'_>, name: &str, default: u32) -> u32 {
+    matches.get_one::<u32>(name).unwrap_or(default)
 }
 
 fn command<'a>(alloc: Global) -> Result<Command<'a>, Error> {
@@ -300,16 +155,122 @@ fn command<'a>(alloc: Global) -> Result<Command<'a>, Error> {
     let audit = Command::new(alloc, "audit")
         .about("Tells whether the journals of all nodes are a run")
         .after_help(AUDIT_HELP);
+    let cluster = cluster_command(alloc)?;
     let command = Command::new(alloc, "fdbrec")
         .about("Recovery of FoundationDB's log system, with storage servers that roll back")
         .version(VERSION)
         .after_help(
-            "Each command reads a script from standard input: 'fdbrec apply --help' shows one.",
+            "All commands but cluster read a script from standard input: 'fdbrec apply --help' shows one.",
         )
         .subcommand_required(true)
         .subcommand(apply)?
         .subcommand(end)?
         .subcommand(simulate)?
-        .subcommand(audit)?;
+        .subcommand(audit)?
+        .subcommand(cluster)?;
     Ok(command)
+}
+
+/// The command `cluster` with its words.
+fn cluster_command<'a>(alloc: Global) -> Result<Command<'a>, Error> {
+    let journal = Arg::new(alloc, "journal")
+        .long("journal")
+        .help("Prints the script of the audit in place of 'audit ok'")
+        .action(ArgAction::SetTrue);
+    let cluster = Command::new(alloc, "cluster")
+        .about("Runs a cluster in threads, and audits what its nodes did")
+        .after_help(CLUSTER_HELP)
+        .arg(few(
+            alloc,
+            "coordinators",
+            "How many coordinators there are, 1, 3, 5, 7 or 9",
+            "3",
+            1,
+            9,
+        ))?
+        .arg(few(
+            alloc,
+            "logs",
+            "How many logs a generation has, 1 to 16",
+            "4",
+            1,
+            16,
+        ))?
+        .arg(few(
+            alloc,
+            "degree",
+            "On how many of them each tag stands, 1 to all",
+            "2",
+            1,
+            16,
+        ))?
+        .arg(few(
+            alloc,
+            "storages",
+            "How many storage servers there are, 1 to 32",
+            "2",
+            1,
+            32,
+        ))?
+        .arg(few(
+            alloc,
+            "proxies",
+            "How many proxies a generation has, 1 to 16",
+            "2",
+            1,
+            16,
+        ))?
+        .arg(many(
+            alloc,
+            "batches",
+            "How many batches a workload hands out, 0 to 1,000,000",
+            "20",
+            0,
+        ))?
+        .arg(few(
+            alloc,
+            "recoveries",
+            "How many recoveries begin, 0 to 100",
+            "1",
+            0,
+            100,
+        ))?
+        .arg(many(
+            alloc,
+            "turns",
+            "After how many turns a thread ends, 1 to 1,000,000",
+            "10000",
+            1,
+        ))?
+        .arg(journal)?;
+    Ok(cluster)
+}
+
+/// A word with a number from `least` to `most`, and what it is where it is not there.
+fn few<'a>(
+    alloc: Global,
+    name: &'a str,
+    help: &'a str,
+    default: &'a str,
+    least: u8,
+    most: u8,
+) -> Arg<'a> {
+    Arg::new(alloc, name)
+        .long(name)
+        .help(help)
+        .value_name("N")
+        .value_parser(value_parser!(u8).range(i64::from(least)..=i64::from(most)))
+        .default_value(default)
+        .action(ArgAction::Set)
+}
+
+/// A word with a number from `least` to 1,000,000, and what it is where it is not there.
+fn many<'a>(alloc: Global, name: &'a str, help: &'a str, default: &'a str, least: u32) -> Arg<'a> {
+    Arg::new(alloc, name)
+        .long(name)
+        .help(help)
+        .value_name("N")
+        .value_parser(value_parser!(u32).range(i64::from(least)..=1_000_000))
+        .default_value(default)
+        .action(ArgAction::Set)
 }

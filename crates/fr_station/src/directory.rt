@@ -1,18 +1,20 @@
 //! All nodes that answer asks, where threads find them.
-ghost use Rattle.std.specs.Prelude.{◌≡◌, ◌<◌, IfSome};
+ghost use Rattle.std.specs.Prelude.{◌≡◌, ◌<◌, IfOk, IfSome, OnOk, true};
+ghost use Rattle.fr_station.specs.Answering.{all_answer, answers};
 
 use crate::published::{Chosen, Published};
+use crate::seat::Seat;
 use crate::station::Station;
 use fr_ask::{Ask, SeqAsk, Tell};
-use fr_base::{Epoch, InMemory, LogId, Memory, Node, NodeFault, NodeId, Stamp};
-use fr_housing::Housed;
+use fr_base::{Epoch, InMemory, LogId, Machine, Memory, Node, NodeFault, NodeId, Stamp};
+use fr_housing::{Housable, Housed};
 use fr_journal::Journal;
 use fr_log::{Log, LogAsk};
 use fr_proxy::Sequencer;
 use fr_register::{Cell, CellAsk};
 use fr_state::Generation;
 use std::alloc::Global;
-use std::sync::{Mutex, OnceLock, Wait};
+use std::sync::{Mutex, Wait};
 
 /// The cells, logs and sequencers of a cluster, which its threads share. The logs of all epochs that may come are made
 /// before the threads start, and so are the places of their sequencers; a node of a later epoch is found once its
@@ -21,7 +23,7 @@ use std::sync::{Mutex, OnceLock, Wait};
 pub struct Directory<C: Node<Plain = Cell>, L: Node<Plain = Log>> {
     cells: Vec<Station<C>>,
     logs: Vec<Station<L>>,
-    sequencers: Vec<OnceLock<Station<InMemory<Sequencer>>>>,
+    sequencers: Vec<Seat<InMemory<Sequencer>>>,
     epochs: Vec<Epoch>,
     each: u8,
     published: Mutex<Published>,
@@ -39,7 +41,7 @@ impl<C: Node<Plain = Cell> + Drop, L: Node<Plain = Log> + Drop> Directory<C, L> 
     ) -> Result<Self, Memory> {
         let mut sequencers = Vec::with_capacity(alloc, epochs.len())?;
         for _ in 0..epochs.len() {
-            sequencers.push(OnceLock::new())?;
+            sequencers.push(Seat::new())?;
         }
         Ok(Directory {
             cells,
@@ -68,12 +70,12 @@ impl<C: Node<Plain = Cell> + Drop, L: Node<Plain = Log> + Drop> Directory<C, L> 
         Some((log, stamp))
     }
 
-    /// The sequencer of an epoch, once it is there, with the stamp from which on it is.
+    /// The place of the sequencer of an epoch, once that is there, with the stamp from which on it is.
     pub fn sequencer<R: Wait>(
         &self,
         rt: &R,
         epoch: Epoch,
-    ) -> Option<(&Station<InMemory<Sequencer>>, Stamp)> {
+    ) -> Option<(&Seat<InMemory<Sequencer>>, Stamp)> {
         let stamp = self.chosen_at(rt, epoch)?;
         let sequencer = self.sequencer_at(epoch)?;
         Some((sequencer, stamp))
@@ -101,10 +103,10 @@ impl<C: Node<Plain = Cell> + Drop, L: Node<Plain = Log> + Drop> Directory<C, L> 
         self.logs.get(number)
     }
 
-    /// The station of the sequencer of an epoch, once it is put there.
-    fn sequencer_at(&self, epoch: Epoch) -> Option<&Station<InMemory<Sequencer>>> {
+    /// The place of the sequencer of an epoch that may come.
+    fn sequencer_at(&self, epoch: Epoch) -> Option<&Seat<InMemory<Sequencer>>> {
         let place = self.place_of(epoch)?;
-        self.sequencers.get(place)?.get()
+        self.sequencers.get(place)
     }
 
     /// The chosen generations, that of the start first, each with the stamp from which on it is.
@@ -123,9 +125,11 @@ impl<C: Node<Plain = Cell> + Drop, L: Node<Plain = Log> + Drop> Directory<C, L> 
     }
 
     /// The sequencer of the first epoch.
-    pub fn start<R: Wait>(&self, rt: &R, sequencer: Housed<InMemory<Sequencer>>) {
-        if let Some(lock) = self.sequencers.first() {
-            let _ = lock.set(rt, Station::new(sequencer)).is_ok();
+    pub fn start<R: Wait>(&self, rt: &R, sequencer: Housed<InMemory<Sequencer>>)
+        requires place { answers sequencer.place ≡ true }
+    {
+        if let Some(seat) = self.sequencers.first() {
+            seat.put(rt, sequencer);
         }
     }
 
@@ -135,11 +139,11 @@ impl<C: Node<Plain = Cell> + Drop, L: Node<Plain = Log> + Drop> Directory<C, L> 
         rt: &R,
         sequencer: Housed<InMemory<Sequencer>>,
         chosen: Chosen,
-    ) -> Result<(), Memory> {
-        if let Some(place) = self.place_of(chosen.generation.epoch()) {
-            if let Some(lock) = self.sequencers.get(place) {
-                let _ = lock.set(rt, Station::new(sequencer)).is_ok();
-            }
+    ) -> Result<(), Memory>
+        requires place { answers sequencer.place ≡ true }
+    {
+        if let Some(seat) = self.sequencer_at(chosen.generation.epoch()) {
+            seat.put(rt, sequencer);
         }
         self.published.lock(rt).choose(chosen)
     }
@@ -217,7 +221,7 @@ impl<C: Node<Plain = Cell> + Drop, L: Node<Plain = Log> + Drop> Directory<C, L> 
         };
         let there = self.chosen_at(rt, epoch)?;
         let sequencer = self.sequencer_at(epoch)?;
-        sequencer.call(rt, alloc, stamp.max(there), from, ask).ok()
+        sequencer.call(rt, alloc, stamp.max(there), from, ask)
     }
 
     /// Crashes a cell, a log or a sequencer that is there, and answers the stamp of that. Another node is passed over.
@@ -263,12 +267,14 @@ impl<C: Node<Plain = Cell> + Drop, L: Node<Plain = Log> + Drop> Directory<C, L> 
     {
         let there = self.chosen_at(rt, epoch)?;
         let sequencer = self.sequencer_at(epoch)?;
-        sequencer.crash(rt, alloc, stamp.max(there)).ok()
+        sequencer.crash(rt, alloc, stamp.max(there))
     }
 
     /// The journals of the nodes, each closed with its node's state: the cells', the logs' and the sequencers'. Those of
     /// later epochs in which nothing was entered are left out.
-    pub fn into_journals(self, alloc: Global) -> Result<Vec<Journal>, NodeFault> {
+    pub fn into_journals(self, alloc: Global) -> Result<Vec<Journal>, NodeFault>
+        ensures answers { IfOk result (λ journals. all_answer journals.items ≡ true) }
+    {
         let Directory {
             cells,
             logs,
@@ -281,15 +287,26 @@ impl<C: Node<Plain = Cell> + Drop, L: Node<Plain = Log> + Drop> Directory<C, L> 
         let all = cells.len();
         close_all(alloc, cells, all, &mut journals)?;
         close_all(alloc, logs, usize::from(each), &mut journals)?;
-        let mut started = Vec::new(alloc);
-        for sequencer in sequencers {
-            if let Some(station) = sequencer.into_inner() {
-                put(&mut started, station)?;
-            }
-        }
+        let started = seated(alloc, sequencers)?;
         close_all(alloc, started, 1, &mut journals)?;
         Ok(journals)
     }
+}
+
+/// Stations of the nodes that came to these seats, in their order.
+fn seated<N: Node>(alloc: Global, seats: Vec<Seat<N>>) -> Result<Vec<Station<N>>, Memory>
+where
+    N: Drop,
+    N::Plain: Housable,
+    <N::Plain as Machine>::Ask: Drop,
+{
+    let mut all = Vec::new(alloc);
+    for seat in seats {
+        if let Some(housed) = seat.into_inner() {
+            all.push(Station::new(housed))?;
+        }
+    }
+    Ok(all)
 }
 
 /// Puts the closed journals of stations to others: of the first `all` of them each, of the others those with an entry.
@@ -301,8 +318,10 @@ fn close_all<N: Node>(
 ) -> Result<(), NodeFault>
 where
     N: Drop,
-    N::Plain: fr_housing::Housable,
-    <N::Plain as fr_base::Machine>::Ask: Drop,
+    N::Plain: Housable,
+    <N::Plain as Machine>::Ask: Drop,
+    requires before { all_answer journals.old.items ≡ true }
+    ensures answers { OnOk result (all_answer journals.new.items ≡ true) }
 {
     let mut left = all;
     for station in stations {
@@ -317,8 +336,13 @@ where
     Ok(())
 }
 
-/// Puts an item behind the others.
-fn put<T: Drop>(all: &mut Vec<T>, item: T) -> Result<(), Memory> {
-    all.push(item)?;
+/// Puts a journal of a node that answers asks behind others.
+fn put(journals: &mut Vec<Journal>, journal: Journal) -> Result<(), Memory>
+    requires before { all_answer journals.old.items ≡ true }
+    requires place { answers journal.node ≡ true }
+    ensures answers { OnOk result (all_answer journals.new.items ≡ true) }
+{
+    journals.reserve(1)?;
+    journals.push_reserved(journal);
     Ok(())
 }

@@ -1,20 +1,22 @@
 //! A node with its journal, which threads share.
-ghost use Rattle.std.specs.Prelude.{◌≡◌, ◌<◌, IfOk};
+ghost use Rattle.std.specs.Prelude.{◌≡◌, ◌<◌, IfOk, true};
+ghost use Rattle.fr_station.specs.Answering.{answers};
 
+use crate::answering::Answering;
 use fr_ask::Tell;
-use fr_base::{Machine, Memory, Node, NodeId, Stamp};
+use fr_base::{Machine, Node, NodeId, Stamp};
 use fr_housing::{CallFault, Housable, Housed};
 use std::alloc::Global;
 use std::sync::{Mutex, Wait};
 
-/// A node with its journal behind a lock. Whenever the lock is free the journal replays to the node: that is what is
-/// true of every [`Housed`].
+/// A cell, a log or a sequencer with its journal behind a lock. Whenever the lock is free the journal replays to the
+/// node: that is what is true of every [`Housed`].
 #[derive(Drop)]
 pub struct Station<N: Node>
 where
     N::Plain: Housable,
 {
-    lock: Mutex<Housed<N>>,
+    lock: Mutex<Answering<N>>,
 }
 
 impl<N: Node> Station<N>
@@ -23,9 +25,11 @@ where
     <N::Plain as Machine>::Ask: Drop,
 {
     /// A station of this node.
-    pub fn new(housed: Housed<N>) -> Self {
+    pub fn new(housed: Housed<N>) -> Self
+        requires place { answers housed.place ≡ true }
+    {
         Station {
-            lock: Mutex::new(housed),
+            lock: Mutex::new(Answering::new(housed)),
         }
     }
 
@@ -55,22 +59,10 @@ where
     }
 
     /// The node with its journal.
-    pub fn into_inner(self) -> Housed<N> {
+    pub fn into_inner(self) -> Housed<N>
+        ensures place { answers result.place ≡ true }
+    {
         let Station { lock } = self;
-        lock.into_inner()
+        lock.into_inner().into_housed()
     }
-}
-
-/// A station of each node, in their order.
-pub fn stations<N: Node>(alloc: Global, nodes: Vec<Housed<N>>) -> Result<Vec<Station<N>>, Memory>
-where
-    N: Drop,
-    N::Plain: Housable,
-    <N::Plain as Machine>::Ask: Drop,
-{
-    let mut all = Vec::with_capacity(alloc, nodes.len())?;
-    for node in nodes {
-        all.push(Station::new(node))?;
-    }
-    Ok(all)
 }

@@ -2,7 +2,11 @@
 #![tactic(auto)]
 
 #[cfg(test)]
+mod asks;
+#[cfg(test)]
 mod ended;
+#[cfg(test)]
+mod failed;
 #[cfg(test)]
 mod rows;
 #[cfg(test)]

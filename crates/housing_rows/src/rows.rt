@@ -1,7 +1,10 @@
 //! The worked rows of logs, read back from the journals of housed logs.
-use crate::scene::{Asked, Told, are, house, log_after, put};
+use crate::asks::{Asked, Told};
+use crate::scene::{SEVEN, Said, asks, housed_after, says};
 use fr_base::InMemory;
-use fr_log::LogRefusal;
+use fr_housing::Housed;
+use fr_journal::{Entry, Journal};
+use fr_log::{Log, LogRefusal};
 use std::alloc::Global;
 use std::test::Fail;
 
@@ -30,6 +33,63 @@ const LATER: [(Asked, Told); 4] = [
     (Asked::Batch(10, 11), Told::Refused(LogRefusal::NoMark)),
 ];
 
+/// Asks a housed log of an epoch one after the other; whether each is entered.
+fn puts(
+    alloc: Global,
+    housed: &mut Housed<InMemory<Log>>,
+    number: u64,
+    wanted: &[(Asked, Told)],
+) -> Result<bool, Fail> {
+    for (asked, _) in wanted {
+        if let Said::No(_) = asks(alloc, housed, number, 0, *asked)? {
+            return Ok(false);
+        }
+    }
+    Ok(true)
+}
+
+/// Whether entries are these asks and tells, with stamps from 1 on.
+fn are(
+    alloc: Global,
+    entries: &[Entry],
+    number: u64,
+    wanted: &[(Asked, Told)],
+) -> Result<bool, Fail> {
+    let mut stamp = 0_u64;
+    for (entry, (asked, told)) in entries.iter().zip(wanted) {
+        stamp = stamp.wrapping_add(1);
+        if !says(alloc, entry, number, stamp, *asked, *told)? {
+            return Ok(false);
+        }
+    }
+    Ok(entries.len() == wanted.len())
+}
+
+/// Whether the copy of a journal is of the same node, and has these asks and tells.
+fn copies(
+    alloc: Global,
+    journal: &Journal,
+    number: u64,
+    wanted: &[(Asked, Told)],
+) -> Result<bool, Fail> {
+    let copy = journal.copy()?;
+    let is_of_node = copy.node() == journal.node();
+    Ok(is_of_node && are(alloc, copy.entries(), number, wanted)?)
+}
+
+/// Whether a housed log of an epoch enters these asks and tells, and the copy of its journal has them too.
+fn enters(
+    alloc: Global,
+    housed: &mut Housed<InMemory<Log>>,
+    number: u64,
+    wanted: &[(Asked, Told)],
+) -> Result<bool, Fail> {
+    let is_put = puts(alloc, housed, number, wanted)?;
+    let journal = housed.journal();
+    let is_entered = is_put && are(alloc, journal.entries(), number, wanted)?;
+    Ok(is_entered && copies(alloc, journal, number, wanted)?)
+}
+
 /// Whether a log of an epoch, after these asks, is housed with these asks and tells in its journal.
 fn is_entered(
     alloc: Global,
@@ -37,18 +97,13 @@ fn is_entered(
     before: &[Asked],
     wanted: &[(Asked, Told)],
 ) -> Result<bool, Fail> {
-    let node = InMemory::new(log_after(alloc, number, before)?);
-    let mut housed = house(alloc, node, number)?;
-    for (asked, _) in wanted {
-        put(alloc, &mut housed, number, &[*asked])?;
-    }
-    are(alloc, housed.journal().entries(), number, wanted)
+    let mut housed = housed_after(alloc, number, before)?;
+    enters(alloc, &mut housed, number, wanted)
 }
 
 #[test]
 fn a_chain_of_pushes_is_entered(rt: HostRuntime) -> Result<(), Fail> {
-    let before = [Asked::Seed(1, 0), Asked::Mark(0), Asked::Push(1, 7)];
-    assert!(rt; is_entered(rt.alloc(), 257, &before, &CHAIN)?);
+    assert!(rt; is_entered(rt.alloc(), 257, &SEVEN, &CHAIN)?);
     Ok(())
 }
 

@@ -1,249 +1,260 @@
-//! Logs, their asks and tells, and what a journal says of them.
+//! Housed logs, what is done with them as plain data, and what comes of it.
 ghost use Rattle.std.specs.Prelude.{◌≡◌, None, false};
 
+use crate::asks::{Asked, Told, ask_of, epoch, proxy, stamp, told_of};
 use fr_ask::{Ask, Tell};
-use fr_base::{Bytes, Epoch, LogId, Machine, Node, NodeId, Stamp, Tag, Version};
+use fr_base::{Epoch, InMemory, LogId, Machine, Node, NodeId, Stamp};
 use fr_housing::{CallFault, Housed};
 use fr_journal::{Act, Entry};
-use fr_log::{Log, LogAsk, LogRefusal, LogTell, Most, Push, Seed};
-use fr_mutation::{Batch, Mutation};
-use fr_state::{CoordState, Generation};
-use fr_tags::Body;
+use fr_log::Log;
 use std::alloc::Global;
+use std::process::Abort;
 use std::test::Fail;
 
-/// An ask of log 0 of an epoch of 4 logs, of which 2 hold each tag.
+/// What is done with a housed log.
 #[derive(Clone, Copy)]
-pub(crate) enum Asked {
-    /// First and seeded_to, with no records.
-    Seed(u64, u64),
-    /// The version before, and the version, with no bodies.
-    Push(u64, u64),
-    /// A push with a body of tag 0.
-    Batch(u64, u64),
-    /// The mark after this version.
-    Mark(u64),
-    Lock,
-    /// A tag, and the version above which.
-    Peek(u8, u64),
-    MarkAsked,
+pub(crate) enum Deed {
+    /// It is asked this, for a caller of this stamp.
+    Ask(u64, Asked),
+    /// It crashes, for a caller of this stamp.
+    Crash(u64),
+    /// It is lost, for a caller of this stamp.
+    Lose(u64),
+    /// How many entries its journal has.
+    Count,
+    /// Whether the entry at a place, with a stamp, is that it was asked this and told that.
+    Says(usize, u64, Asked, Told),
+    /// Whether the entry at this place is a crash.
+    HasCrashed(usize),
+    /// Whether the entry at this place is the loss.
+    HasLost(usize),
 }
 
-/// What it tells.
-#[derive(Clone, Copy)]
-pub(crate) enum Told {
-    Held(u64),
-    /// Durable and known.
-    Locked(u64, u64),
-    Gap(u64),
-    TooEarly(u64),
-    Refused(LogRefusal),
+/// What comes of it.
+#[derive(Clone, Copy, PartialEq, Eq)]
+pub(crate) enum Said {
+    /// It is entered with this stamp.
+    At(u64),
+    No(CallFault),
+    Many(usize),
+    Is(bool),
 }
 
-pub(crate) fn at(number: u64) -> Result<Version, Fail> {
-    Ok(Version::new(number).ok_or("a version")?)
-}
+/// A deed, and what comes of it.
+pub(crate) type Row = (Deed, Said);
 
-pub(crate) fn stamp(number: u64) -> Result<Stamp, Fail> {
-    Ok(Stamp::new(number).ok_or("a stamp")?)
-}
-
-pub(crate) fn epoch(number: u64) -> Result<Epoch, Fail> {
-    Ok(Epoch::new(number).ok_or("an epoch")?)
-}
-
-/// The proxy that asks.
-pub(crate) fn proxy() -> Result<NodeId, Fail> {
-    Ok(NodeId::Proxy {
-        epoch: epoch(257)?,
-        number: 0,
-    })
-}
+/// What a log takes to stand at version 7.
+pub(crate) const SEVEN: [Asked; 3] = [Asked::Seed(1, 0), Asked::Mark(0), Asked::Push(1, 7)];
 
 /// Log 0 of an epoch, which has nothing.
-pub(crate) fn fresh_log(alloc: Global, number: u64) -> Result<Log, Fail> {
-    let id = LogId {
-        epoch: epoch(number)?,
-        index: 0,
-    };
-    Ok(Log::new(alloc, id, 4, 2))
+fn fresh_log(alloc: Global, number: u64) -> Result<Log, Fail> {
+    let epoch = epoch(number)?;
+    Ok(Log::new(alloc, LogId { epoch, index: 0 }, 4, 2))
+}
+
+fn step(alloc: Global, log: &mut Log, number: u64, asked: Asked) -> Result<(), Fail> {
+    let ask = ask_of(alloc, number, asked)?;
+    let _told = log.step(alloc, ask)?;
+    Ok(())
+}
+
+fn steps(alloc: Global, log: &mut Log, number: u64, asks: &[Asked]) -> Result<(), Fail> {
+    for asked in asks {
+        step(alloc, log, number, *asked)?;
+    }
+    Ok(())
 }
 
 /// Log 0 of an epoch, after these asks.
-pub(crate) fn log_after(alloc: Global, number: u64, asks: &[Asked]) -> Result<Log, Fail> {
+fn log_after(alloc: Global, number: u64, asks: &[Asked]) -> Result<Log, Fail> {
     let mut log = fresh_log(alloc, number)?;
-    for asked in asks {
-        let _ = log.step(alloc, ask_of(alloc, number, *asked)?)?;
-    }
+    steps(alloc, &mut log, number, asks)?;
     Ok(log)
 }
 
-/// Log (257, 0), which stands at version 7.
-pub(crate) fn log_at_seven(alloc: Global) -> Result<Log, Fail> {
-    log_after(
-        alloc,
-        257,
-        &[Asked::Seed(1, 0), Asked::Mark(0), Asked::Push(1, 7)],
-    )
-}
-
 /// A node of log 0 of this epoch, with an empty journal.
-pub(crate) fn house<N: Node<Plain = Log> + Drop>(
-    alloc: Global,
-    node: N,
-    number: u64,
-) -> Result<Housed<N>, Fail>
+pub(crate) fn house<N: Node<Plain = Log> + Drop>(alloc: Global, node: N, epoch: Epoch) -> Housed<N>
     requires works { N.is_failed node ≡ false }
     requires free { N.held node ≡ None }
 {
-    let place = NodeId::Log {
-        epoch: epoch(number)?,
-        index: 0,
-    };
-    Ok(Housed::new(alloc, node, place))
+    Housed::new(alloc, node, NodeId::Log { epoch, index: 0 })
 }
 
-/// The batch that sets the key 61.
-fn batch(alloc: Global) -> Result<Batch, Fail> {
-    let mut mutations = Vec::new(alloc);
-    mutations.push(Mutation::Set {
-        key: Bytes::from_slice(alloc, &[0x61])?,
-        value: Bytes::from_slice(alloc, &[1])?,
-    })?;
-    Ok(Batch::new(mutations)?)
-}
-
-/// The coordinated state of the start.
-fn start(alloc: Global) -> Result<CoordState, Fail> {
-    let first = Generation::new(epoch(257)?, 4, 2, at(1)?, at(0)?);
-    Ok(CoordState::new(alloc, first.ok_or("the start")?)?)
-}
-
-fn tag(number: u8) -> Result<Tag, Fail> {
-    Ok(Tag::new(number).ok_or("a tag")?)
-}
-
-fn push(number: u64, prev: u64, version: u64, bodies: Vec<Body>) -> Result<LogAsk, Fail> {
-    let push = Push::new(epoch(number)?, at(prev)?, at(version)?, at(0)?, bodies);
-    Ok(LogAsk::Push(push.ok_or("a push")?))
-}
-
-fn one_body(alloc: Global) -> Result<Vec<Body>, Fail> {
-    let mut bodies = Vec::new(alloc);
-    bodies.push(Body {
-        tag: tag(0)?,
-        batch: batch(alloc)?,
-    })?;
-    Ok(bodies)
-}
-
-/// An ask to a log of this epoch.
-pub(crate) fn ask_of(alloc: Global, number: u64, asked: Asked) -> Result<LogAsk, Fail> {
+/// Log 0 of an epoch, after these asks, with an empty journal.
+pub(crate) fn housed_after(
+    alloc: Global,
+    number: u64,
+    asks: &[Asked],
+) -> Result<Housed<InMemory<Log>>, Fail> {
     let epoch = epoch(number)?;
-    match asked {
-        Asked::Seed(first, seeded_to) => {
-            let seed = Seed::new(epoch, at(first)?, at(seeded_to)?, Vec::new(alloc));
-            Ok(LogAsk::Seed(seed.ok_or("a seed")?))
-        }
-        Asked::Push(prev, version) => push(number, prev, version, Vec::new(alloc)),
-        Asked::Batch(prev, version) => push(number, prev, version, one_body(alloc)?),
-        Asked::Mark(prev) => {
-            let mark = Push::mark(alloc, epoch, at(prev)?, at(0)?, start(alloc)?);
-            Ok(LogAsk::Push(mark.ok_or("a mark")?))
-        }
-        Asked::Lock => Ok(LogAsk::Lock { epoch }),
-        Asked::Peek(number, after) => Ok(LogAsk::Peek {
-            epoch,
-            tag: tag(number)?,
-            after: at(after)?,
-            most: Most::new(100).ok_or("most")?,
-        }),
-        Asked::MarkAsked => Ok(LogAsk::MarkAsked { epoch }),
+    let log = log_after(alloc, number, asks)?;
+    Ok(house(alloc, InMemory::new(log), epoch))
+}
+
+/// What came of a crash or of a loss.
+pub(crate) fn entered(answer: Result<Stamp, CallFault>) -> Said {
+    match answer {
+        Ok(stamp) => Said::At(stamp.get()),
+        Err(fault) => Said::No(fault),
     }
 }
 
-fn tell_of(told: Told) -> Result<LogTell, Fail> {
-    Ok(match told {
-        Told::Held(version) => LogTell::Held {
-            version: at(version)?,
-        },
-        Told::Locked(durable, known) => LogTell::Locked {
-            durable: at(durable)?,
-            known: at(known)?,
-        },
-        Told::Gap(durable) => LogTell::Refused {
-            why: LogRefusal::Gap {
-                durable: at(durable)?,
-            },
-        },
-        Told::TooEarly(first) => LogTell::Refused {
-            why: LogRefusal::TooEarly { first: at(first)? },
-        },
-        Told::Refused(why) => LogTell::Refused { why },
-    })
+/// What came of an ask.
+pub(crate) fn served(answer: Result<(Stamp, Tell), CallFault>) -> Said {
+    match answer {
+        Ok((stamp, _tell)) => Said::At(stamp.get()),
+        Err(fault) => Said::No(fault),
+    }
 }
 
 /// Asks a housed log of an epoch, for a caller of this stamp.
-pub(crate) fn call<N: Node<Plain = Log> + Drop>(
+pub(crate) fn asks<N: Node<Plain = Log> + Drop>(
     alloc: Global,
     housed: &mut Housed<N>,
     number: u64,
     caller: u64,
     asked: Asked,
-) -> Result<Result<(Stamp, Tell), CallFault>, Fail> {
+) -> Result<Said, Fail> {
+    let caller = stamp(caller)?;
+    let from = proxy()?;
     let ask = ask_of(alloc, number, asked)?;
-    Ok(housed.ask(alloc, stamp(caller)?, proxy()?, ask))
+    Ok(served(housed.ask(alloc, caller, from, ask)))
 }
 
-/// Asks a housed log of an epoch, one ask after the other.
-pub(crate) fn put<N: Node<Plain = Log> + Drop>(
+fn crashes<N: Node<Plain = Log> + Drop>(
     alloc: Global,
     housed: &mut Housed<N>,
-    number: u64,
-    asks: &[Asked],
-) -> Result<(), Fail> {
-    for asked in asks {
-        let _ = call(alloc, housed, number, 0, *asked)??;
+    caller: u64,
+) -> Result<Said, Fail> {
+    let caller = stamp(caller)?;
+    Ok(entered(housed.crash(alloc, caller)))
+}
+
+fn loses<N: Node<Plain = Log> + Drop>(
+    alloc: Global,
+    housed: &mut Housed<N>,
+    caller: u64,
+) -> Result<Said, Fail> {
+    let caller = stamp(caller)?;
+    Ok(entered(housed.lose(alloc, caller)))
+}
+
+fn is_ask(alloc: Global, ask: &Ask, number: u64, asked: Asked) -> Result<bool, Fail> {
+    match ask {
+        Ask::Log(ask) => Ok(*ask == ask_of(alloc, number, asked)?),
+        _ => Ok(false),
     }
-    Ok(())
+}
+
+/// Whether an act is that a log of an epoch was asked this and told that.
+fn is_asked(alloc: Global, act: &Act, number: u64, asked: Asked, told: Told) -> Result<bool, Fail> {
+    match act {
+        Act::Asked { from, ask, tell } => {
+            let is_from = *from == proxy()?;
+            let is_ask = is_ask(alloc, ask, number, asked)?;
+            Ok(is_from && is_ask && told_of(tell) == told)
+        }
+        _ => Ok(false),
+    }
 }
 
 /// Whether an entry, at a stamp, is that a log of an epoch was asked this and told that.
 pub(crate) fn says(
     alloc: Global,
     entry: &Entry,
-    at: u64,
     number: u64,
+    at: u64,
     asked: Asked,
     told: Told,
 ) -> Result<bool, Fail> {
-    let wanted = Entry {
-        stamp: stamp(at)?,
-        act: Act::Asked {
-            from: proxy()?,
-            ask: Ask::Log(ask_of(alloc, number, asked)?),
-            tell: Tell::Log(tell_of(told)?),
-        },
-    };
-    Ok(*entry == wanted)
+    let is_so = is_asked(alloc, &entry.act, number, asked, told)?;
+    Ok(is_so && entry.stamp.get() == at)
 }
 
-/// Whether entries are these asks and tells, with stamps from 1 on.
-pub(crate) fn are(
+/// The same of the entry at a place, if there is one.
+fn says_at(
     alloc: Global,
     entries: &[Entry],
+    place: usize,
     number: u64,
-    wanted: &[(Asked, Told)],
-) -> Result<bool, Fail> {
-    if entries.len() != wanted.len() {
-        return Ok(false);
+    at: u64,
+    asked: Asked,
+    told: Told,
+) -> Result<Said, Fail> {
+    match entries.get(place) {
+        Some(entry) => Ok(Said::Is(says(alloc, entry, number, at, asked, told)?)),
+        None => Ok(Said::Is(false)),
     }
-    let mut stamp = 0_u64;
-    for (entry, (asked, told)) in entries.iter().zip(wanted) {
-        stamp = stamp.wrapping_add(1);
-        if !says(alloc, entry, stamp, number, *asked, *told)? {
-            return Ok(false);
+}
+
+fn is_crash(entry: Option<&Entry>) -> bool {
+    match entry {
+        Some(entry) => matches!(&entry.act, Act::Crashed),
+        None => false,
+    }
+}
+
+fn is_loss(entry: Option<&Entry>) -> bool {
+    match entry {
+        Some(entry) => matches!(&entry.act, Act::Lost),
+        None => false,
+    }
+}
+
+/// What comes of a deed with a housed log of an epoch.
+fn does<N: Node<Plain = Log> + Drop>(
+    alloc: Global,
+    housed: &mut Housed<N>,
+    number: u64,
+    deed: Deed,
+) -> Result<Said, Fail> {
+    match deed {
+        Deed::Ask(caller, asked) => asks(alloc, housed, number, caller, asked),
+        Deed::Crash(caller) => crashes(alloc, housed, caller),
+        Deed::Lose(caller) => loses(alloc, housed, caller),
+        other => sees(alloc, housed.journal().entries(), number, other),
+    }
+}
+
+/// What is seen in a journal.
+fn sees(alloc: Global, entries: &[Entry], number: u64, deed: Deed) -> Result<Said, Fail> {
+    match deed {
+        Deed::Says(place, at, asked, told) => {
+            says_at(alloc, entries, place, number, at, asked, told)
+        }
+        Deed::HasCrashed(place) => Ok(Said::Is(is_crash(entries.get(place)))),
+        Deed::HasLost(place) => Ok(Said::Is(is_loss(entries.get(place)))),
+        _ => Ok(Said::Many(entries.len())),
+    }
+}
+
+/// The first row whose deed gives something else, if there is one.
+pub(crate) fn first_other<N: Node<Plain = Log> + Drop>(
+    alloc: Global,
+    housed: &mut Housed<N>,
+    number: u64,
+    rows: &[Row],
+) -> Result<Option<usize>, Fail> {
+    for (place, (deed, wanted)) in rows.iter().enumerate() {
+        if does(alloc, housed, number, *deed)? != *wanted {
+            return Ok(Some(place));
         }
     }
-    Ok(true)
+    Ok(None)
+}
+
+/// Asserts of each deed with a housed log (257, 0), which stands at version 7, what stands beside it.
+pub(crate) fn runs(rt: &impl Abort, alloc: Global, rows: &[Row]) -> Result<(), Fail> {
+    let mut housed = housed_after(alloc, 257, &SEVEN)?;
+    plays(rt, alloc, &mut housed, rows)
+}
+
+fn plays(
+    rt: &impl Abort,
+    alloc: Global,
+    housed: &mut Housed<InMemory<Log>>,
+    rows: &[Row],
+) -> Result<(), Fail> {
+    assert_eq!(rt; first_other(alloc, housed, 257, rows)?, None);
+    Ok(())
 }

@@ -1,7 +1,9 @@
 //! Scripts of `apply` with their lines, which are the same on a map and on the tables of a database.
-use fr_program::run_program;
-use std::alloc::Global;
+use crate::ended::run;
+use std::alloc::{AllocError, Global};
+use std::sync::Wait;
 use std::test::Fail;
+use std::thread::Threads;
 
 const ROWS: [(&str, &str); 5] = [
     (
@@ -26,17 +28,16 @@ const ROWS: [(&str, &str); 5] = [
     ),
 ];
 
-/// Whether the program, of these words, prints what each script is to print.
-fn prints_all(alloc: Global, words: &[&str]) -> Result<bool, Fail> {
+/// Whether the program of a line prints what each script is to print.
+fn prints_all<H: Threads + Wait + Sync>(
+    rt: &H,
+    alloc: Global,
+    line: &str,
+) -> Result<bool, AllocError> {
     for (script, lines) in ROWS {
-        let mut given = Vec::new(alloc);
-        for word in words {
-            given.push(String::from_str(alloc, word)?)?;
-        }
-        let mut reader = script.as_bytes();
-        let mut writer = Vec::new(alloc);
-        let ending = run_program(alloc, given.as_slice(), &mut reader, &mut writer);
-        if ending.status() != 0 || writer.as_slice() != lines.as_bytes() {
+        let mut written = Vec::new(alloc);
+        let ending = run(rt, alloc, line, script.as_bytes(), &mut written)?;
+        if ending.status() != 0 || written.as_slice() != lines.as_bytes() {
             return Ok(false);
         }
     }
@@ -45,14 +46,12 @@ fn prints_all(alloc: Global, words: &[&str]) -> Result<bool, Fail> {
 
 #[test]
 fn a_map_prints_these_lines(rt: HostRuntime) -> Result<(), Fail> {
-    let words = ["fdbrec", "apply", "--store", "map"];
-    assert!(rt; prints_all(rt.alloc(), words.as_slice())?);
+    assert!(rt; prints_all(&rt, rt.alloc(), "fdbrec apply --store map")?);
     Ok(())
 }
 
 #[test]
 fn tables_print_these_lines(rt: HostRuntime) -> Result<(), Fail> {
-    let words = ["fdbrec", "apply", "--store", "sql"];
-    assert!(rt; prints_all(rt.alloc(), words.as_slice())?);
+    assert!(rt; prints_all(&rt, rt.alloc(), "fdbrec apply --store sql")?);
     Ok(())
 }

@@ -5,4 +5,10 @@
 #[cfg(test)]
 mod apply_rows;
 #[cfg(test)]
+mod cluster;
+#[cfg(test)]
+mod devices;
+#[cfg(test)]
+mod ended;
+#[cfg(test)]
 mod words;

@@ -1,61 +1,82 @@
 //! Scripts of `end`: what each prints, and what is none. Each is also read by way of the tree of its JSON,
 //! with a first member `replies` that the one behind it replaces.
+use crate::examples::twice;
 use fr_cli::CliFault;
 use fr_cli_end::{EndOptions, run_end};
 use std::alloc::{AllocError, Global};
+use std::process::Abort;
 use std::test::Fail;
 
-/// What `end` answers of an input, and what it writes, for a generation of so many logs on so many of
-/// which each tag stands.
-fn run(
+/// Whether `end` answers an input so, and writes this.
+fn ends(
     alloc: Global,
-    logs: u8,
-    degree: u8,
+    options: EndOptions,
     input: &[u8],
-) -> Result<(Result<u8, CliFault>, Vec<u8>), Fail> {
-    let options = EndOptions::new(logs, degree).ok_or("options")?;
+    wanted: Result<u8, CliFault>,
+    lines: &[u8],
+) -> bool {
     let mut reader = input;
     let mut writer = Vec::new(alloc);
     let found = run_end(alloc, options, &mut reader, &mut writer);
-    Ok((found, writer))
+    found == wanted && writer.as_slice() == lines
 }
 
-/// The input with another `replies` in front of its first member.
-fn twice(alloc: Global, input: &[u8]) -> Result<Vec<u8>, AllocError> {
-    let mut all = Vec::new(alloc);
-    if let [first, rest @ ..] = input {
-        all.push(*first)?;
-        all.extend_from_slice(b"\"replies\":0,".as_slice())?;
-        all.extend_from_slice(rest)?;
+/// The same for a generation of so many logs on so many of which each tag stands.
+fn answers(
+    alloc: Global,
+    (logs, degree): (u8, u8),
+    input: &[u8],
+    wanted: Result<u8, CliFault>,
+    lines: &[u8],
+) -> bool {
+    match EndOptions::new(logs, degree) {
+        Some(options) => ends(alloc, options, input, wanted, lines),
+        None => false,
     }
-    Ok(all)
+}
+
+/// The same, read either way.
+fn both_answer(
+    alloc: Global,
+    sizes: (u8, u8),
+    input: &[u8],
+    wanted: Result<u8, CliFault>,
+    lines: &[u8],
+) -> Result<bool, AllocError> {
+    let other = twice(alloc, input, b"\"replies\":0,".as_slice())?;
+    let is_straight = answers(alloc, sizes, input, wanted, lines);
+    Ok(is_straight && answers(alloc, sizes, other.as_slice(), wanted, lines))
 }
 
 /// Whether a script prints these lines, read either way.
-fn prints(alloc: Global, logs: u8, degree: u8, script: &str, lines: &str) -> Result<bool, Fail> {
-    let (found, written) = run(alloc, logs, degree, script.as_bytes())?;
-    let other = twice(alloc, script.as_bytes())?;
-    let (by_tree, other_written) = run(alloc, logs, degree, other.as_slice())?;
-    Ok(
-        found == Ok(0)
-            && by_tree == Ok(0)
-            && written.as_slice() == lines.as_bytes()
-            && other_written.as_slice() == lines.as_bytes(),
-    )
+fn prints(
+    alloc: Global,
+    logs: u8,
+    degree: u8,
+    script: &str,
+    lines: &str,
+) -> Result<bool, AllocError> {
+    let (input, lines) = (script.as_bytes(), lines.as_bytes());
+    both_answer(alloc, (logs, degree), input, Ok(0), lines)
 }
 
 /// Whether a script of these replies is none, read either way, and prints nothing.
-fn is_bad(alloc: Global, replies: &str) -> Result<bool, Fail> {
+fn is_bad(alloc: Global, replies: &str) -> Result<bool, AllocError> {
     let script = format!(in alloc; "{{\"replies\":{replies}}}")?;
-    let (found, written) = run(alloc, 4, 2, script.as_bytes())?;
-    let other = twice(alloc, script.as_bytes())?;
-    let (by_tree, other_written) = run(alloc, 4, 2, other.as_slice())?;
-    Ok(
-        found == Err(CliFault::BadScript)
-            && by_tree == Err(CliFault::BadScript)
-            && written.is_empty()
-            && other_written.is_empty(),
+    both_answer(
+        alloc,
+        (4, 2),
+        script.as_bytes(),
+        Err(CliFault::BadScript),
+        &[],
     )
+}
+
+fn are_bad(rt: &impl Abort, alloc: Global, lists: &[&str]) -> Result<(), Fail> {
+    for replies in lists {
+        assert!(rt; is_bad(alloc, replies)?, "{replies}");
+    }
+    Ok(())
 }
 
 #[test]
@@ -102,15 +123,16 @@ fn strangers_of_sixteen_logs(rt: HostRuntime) -> Result<(), Fail> {
     Ok(())
 }
 
+const LAYOUTS: [&str; 4] = [
+    "{ \"replies\" :\t[ [ 0 , 7,\n3 ] ] } \r\n",
+    r#"{"repl\u0069es":[[0,7,3]]}"#,
+    r#"{"replies":[[0,9,9]],"replies":[[0,7,3]]}"#,
+    r#"{"replies":"no","replies":[[0,7,3]]}"#,
+];
+
 #[test]
 fn any_layout_of_replies(rt: HostRuntime) -> Result<(), Fail> {
-    let scripts = [
-        "{ \"replies\" :\t[ [ 0 , 7,\n3 ] ] } \r\n",
-        r#"{"repl\u0069es":[[0,7,3]]}"#,
-        r#"{"replies":[[0,9,9]],"replies":[[0,7,3]]}"#,
-        r#"{"replies":"no","replies":[[0,7,3]]}"#,
-    ];
-    for script in scripts {
+    for script in LAYOUTS.iter() {
         assert!(rt;
             prints(rt.alloc(), 1, 1, script, "pev 3 rv 7\n")?,
             "{script}"
@@ -119,95 +141,117 @@ fn any_layout_of_replies(rt: HostRuntime) -> Result<(), Fail> {
     Ok(())
 }
 
+const NO_REPLIES: [&str; 14] = [
+    "{}",
+    "null",
+    "0",
+    "[0]",
+    "[[]]",
+    "[[0]]",
+    "[[0,1]]",
+    "[[0,1,1,1]]",
+    "[[[0,1,1]]]",
+    "[[0,1,1],[0,1]]",
+    "[[0,1,1]] x",
+    "[[0,1,1],]",
+    "[{\"log\":0,\"durable\":1,\"known\":1}]",
+    "[[0,1,1]],\"more\":1",
+];
+
 #[test]
 fn no_replies(rt: HostRuntime) -> Result<(), Fail> {
-    let lists = [
-        "{}",
-        "null",
-        "0",
-        "[0]",
-        "[[]]",
-        "[[0]]",
-        "[[0,1]]",
-        "[[0,1,1,1]]",
-        "[[[0,1,1]]]",
-        "[[0,1,1],[0,1]]",
-        "[[0,1,1]] x",
-        "[[0,1,1],]",
-        "[{\"log\":0,\"durable\":1,\"known\":1}]",
-        "[[0,1,1]],\"more\":1",
-    ];
-    for replies in lists {
-        assert!(rt; is_bad(rt.alloc(), replies)?, "{replies}");
-    }
-    Ok(())
+    are_bad(&rt, rt.alloc(), &NO_REPLIES)
+}
+
+const NO_NUMBERS: [&str; 11] = [
+    "-0", "-1", "1.0", "1e0", "01", "\"1\"", "null", "true", "[1]", "", "1 1",
+];
+
+const TOO_GREAT: [&str; 5] = [
+    "[[256,1,1]]",
+    "[[18446744073709551616,1,1]]",
+    "[[0,4611686018427387904,1]]",
+    "[[0,1,4611686018427387904]]",
+    "[[0,1,18446744073709551616]]",
+];
+
+fn is_no_log(alloc: Global, text: &str) -> Result<bool, AllocError> {
+    let replies = format!(in alloc; "[[{text},1,1]]")?;
+    is_bad(alloc, replies.as_str())
+}
+
+fn is_nothing_durable(alloc: Global, text: &str) -> Result<bool, AllocError> {
+    let replies = format!(in alloc; "[[0,{text},1]]")?;
+    is_bad(alloc, replies.as_str())
+}
+
+fn is_nothing_known(alloc: Global, text: &str) -> Result<bool, AllocError> {
+    let replies = format!(in alloc; "[[0,1,{text}]]")?;
+    is_bad(alloc, replies.as_str())
 }
 
 /// A number is written in digits alone, and a log is at most 255, a version below 2^62.
 #[test]
 fn numbers_that_are_none(rt: HostRuntime) -> Result<(), Fail> {
-    let texts = [
-        "-0", "-1", "1.0", "1e0", "01", "\"1\"", "null", "true", "[1]", "", "1 1",
-    ];
-    for text in texts {
-        let first = format!(in rt.alloc(); "[[{text},1,1]]")?;
-        assert!(rt; is_bad(rt.alloc(), first.as_str())?, "{first}");
-        let second = format!(in rt.alloc(); "[[0,{text},1]]")?;
-        assert!(rt; is_bad(rt.alloc(), second.as_str())?, "{second}");
-        let third = format!(in rt.alloc(); "[[0,1,{text}]]")?;
-        assert!(rt; is_bad(rt.alloc(), third.as_str())?, "{third}");
+    for text in NO_NUMBERS.iter() {
+        assert!(rt; is_no_log(rt.alloc(), text)?, "{text}");
+        assert!(rt; is_nothing_durable(rt.alloc(), text)?, "{text}");
+        assert!(rt; is_nothing_known(rt.alloc(), text)?, "{text}");
     }
-    for replies in [
-        "[[256,1,1]]",
-        "[[18446744073709551616,1,1]]",
-        "[[0,4611686018427387904,1]]",
-        "[[0,1,4611686018427387904]]",
-        "[[0,1,18446744073709551616]]",
-    ] {
-        assert!(rt; is_bad(rt.alloc(), replies)?, "{replies}");
-    }
-    Ok(())
+    are_bad(&rt, rt.alloc(), &TOO_GREAT)
+}
+
+const NO_SCRIPTS: [&str; 7] = [
+    "",
+    "{",
+    "{}",
+    "[]",
+    r#"{"reply":[]}"#,
+    r#"{"ops":[]}"#,
+    r#"{"replies":[]} 1"#,
+];
+
+fn is_no_script(alloc: Global, input: &[u8]) -> bool {
+    answers(alloc, (1, 1), input, Err(CliFault::BadScript), &[])
 }
 
 #[test]
-fn what_is_no_script_of_replies(rt: HostRuntime) -> Result<(), Fail> {
-    let inputs = [
-        "",
-        "{",
-        "{}",
-        "[]",
-        r#"{"reply":[]}"#,
-        r#"{"ops":[]}"#,
-        r#"{"replies":[]} 1"#,
-    ];
-    for input in inputs {
-        let (found, written) = run(rt.alloc(), 1, 1, input.as_bytes())?;
-        assert_eq!(rt; found, Err(CliFault::BadScript), "{input}");
-        assert!(rt; written.is_empty());
+fn what_is_no_script_of_replies(rt: HostRuntime) {
+    for input in NO_SCRIPTS.iter() {
+        assert!(rt; is_no_script(rt.alloc(), input.as_bytes()), "{input}");
     }
-    let (found, _) = run(rt.alloc(), 1, 1, b"{\"replies\":[]}\xff".as_slice())?;
-    assert_eq!(rt; found, Err(CliFault::BadScript));
-    Ok(())
+    assert!(rt; is_no_script(rt.alloc(), b"{\"replies\":[]}\xff".as_slice()));
+}
+
+const SIZES: [(u8, u8); 4] = [(1, 1), (4, 2), (16, 1), (16, 16)];
+
+const NO_SIZES: [(u8, u8); 8] = [
+    (0, 0),
+    (1, 0),
+    (0, 1),
+    (2, 3),
+    (16, 17),
+    (17, 1),
+    (17, 17),
+    (255, 255),
+];
+
+fn has_sizes(logs: u8, degree: u8) -> bool {
+    match EndOptions::new(logs, degree) {
+        Some(options) => options.logs() == logs && options.degree() == degree,
+        None => false,
+    }
 }
 
 #[test]
-fn options_within_their_limits(rt: HostRuntime) -> Result<(), Fail> {
-    for (logs, degree) in [(1, 1), (4, 2), (16, 1), (16, 16)] {
-        let options = EndOptions::new(logs, degree).ok_or("options")?;
-        assert_eq!(rt; options.logs(), logs);
-        assert_eq!(rt; options.degree(), degree);
+fn options_within_their_limits(rt: HostRuntime) {
+    for (logs, degree) in SIZES.iter() {
+        assert!(rt; has_sizes(*logs, *degree), "{logs} {degree}");
     }
-    for (logs, degree) in [
-        (0, 0),
-        (1, 0),
-        (0, 1),
-        (2, 3),
-        (16, 17),
-        (17, 1),
-        (17, 17),
-        (255, 255),
-    ] {
-        assert!(rt; EndOptions::new(logs, degree).is_none(), "{logs} {degree}");
+    for (logs, degree) in NO_SIZES.iter() {
+        assert!(rt;
+            EndOptions::new(*logs, *degree).is_none(),
+            "{logs} {degree}"
+        );
     }
-    Ok(())
 }

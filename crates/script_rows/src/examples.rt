@@ -1,6 +1,7 @@
 //! Scripts with what they print, and how one is run.
 use fr_cli::{ApplyOptions, CliFault, StoreKind, run_apply};
-use std::alloc::Global;
+use std::alloc::{AllocError, Global};
+use std::io::{Read, Write};
 
 pub const OPTIONS: ApplyOptions = ApplyOptions {
     store: StoreKind::Map,
@@ -79,10 +80,45 @@ pub const NOTHING: Example = Example {
     lines: "",
 };
 
+/// Runs `apply`.
+pub fn apply<R: Read, W: Write>(
+    alloc: Global,
+    reader: &mut R,
+    writer: &mut W,
+) -> Result<u8, CliFault> {
+    run_apply(alloc, OPTIONS, reader, writer)
+}
+
 /// What `apply` answers of an input, and what it writes.
 pub fn run(alloc: Global, input: &[u8]) -> (Result<u8, CliFault>, Vec<u8>) {
     let mut reader = input;
     let mut writer = Vec::new(alloc);
-    let found = run_apply(alloc, OPTIONS, &mut reader, &mut writer);
+    let found = apply(alloc, &mut reader, &mut writer);
     (found, writer)
+}
+
+/// Whether `apply` answers an input so, and writes this.
+pub fn answers(alloc: Global, input: &[u8], wanted: Result<u8, CliFault>, lines: &[u8]) -> bool {
+    let (found, written) = run(alloc, input);
+    found == wanted && written.as_slice() == lines
+}
+
+/// Whether a script prints these lines.
+pub fn prints(alloc: Global, script: &str, lines: &str) -> bool {
+    answers(alloc, script.as_bytes(), Ok(0), lines.as_bytes())
+}
+
+fn splice(all: &mut Vec<u8>, first: u8, middle: &[u8], rest: &[u8]) -> Result<(), AllocError> {
+    all.push(first)?;
+    all.extend_from_slice(middle)?;
+    all.extend_from_slice(rest)
+}
+
+/// The input with another member in front of its first one.
+pub fn twice(alloc: Global, input: &[u8], member: &[u8]) -> Result<Vec<u8>, AllocError> {
+    let mut all = Vec::new(alloc);
+    if let [first, rest @ ..] = input {
+        splice(&mut all, *first, member, rest)?;
+    }
+    Ok(all)
 }

@@ -1,7 +1,11 @@
 //! Storage servers follow the generations.
-use crate::scene::{advanced, at, epoch, holds, peeked, peeked_of, setting, stands, state, tag};
-use fr_base::Bytes;
-use fr_log::{LogAsk, Most};
+use crate::scene::Deed::{Dump, Hear, Look};
+use crate::scene::Heard::{Marked, Peeked, Records};
+use crate::scene::Said::{Done, No, One, Stands, Two};
+use crate::scene::{Row, at, plays, runs, started, state, tag};
+use fr_base::{Bytes, Tag};
+use fr_log::LogAsk;
+use fr_storage::StorageFault::{BelowFloor, Hole, NotMyGeneration, Older, Stranger};
 use fr_storage::{Storage, StorageFault};
 use fr_undo::{MapStore, ShardStore};
 use std::alloc::Global;
@@ -14,184 +18,200 @@ const TWO: [u8; 54] = [
     0, 0, 2, 1, 4, 2, 0, 0, 0, 0, 0, 0, 0, 10, 0, 0, 0, 0, 0, 0, 0, 10,
 ];
 
-/// A server of 513 at version 9.
-fn at_nine(rt: &impl Abort, alloc: Global) -> Result<Storage<MapStore>, Fail> {
-    let mut storage = advanced(alloc, 6)?;
-    stands(rt, &storage, 257, 6, 0)?;
-    storage.hear_marked(alloc, state(alloc, &[(513, 10, 10)])?)?;
-    stands(rt, &storage, 513, 6, 0)?;
-    let old = peeked(alloc, 6, &[7, 8, 9, 10], 12, 0)?;
-    storage.hear_peeked(alloc, epoch(257)?, &old)?;
-    Ok(storage)
+/// A server of 257 to version 6, with nothing applied.
+const SIX: [Row; 1] = [(Hear(Peeked(257, 0, &[], 6, 0)), Done)];
+
+/// From there to 513 at version 11, as in the worked example.
+const ELEVEN: [Row; 8] = [
+    (Look, Stands(257, 6, 0)),
+    (Hear(Marked(&[(513, 10, 10)])), Done),
+    (Look, Stands(513, 6, 0)),
+    (Hear(Peeked(257, 6, &[7, 8, 9, 10], 12, 0)), Done),
+    (Look, Stands(513, 9, 0)),
+    (Dump, One(0x61, 9)),
+    (Hear(Peeked(513, 9, &[10], 11, 0)), Done),
+    (Look, Stands(513, 11, 0)),
+];
+
+/// Asserts what a server of 513 at 11 answers to a state, or to what the logs of an epoch have, and that it stays there.
+fn answers(rt: &impl Abort, alloc: Global, row: Row) -> Result<(), Fail> {
+    let rows = [row, (Look, Stands(513, 11, 0))];
+    runs(rt, alloc, &[&SIX, &ELEVEN, &rows])
 }
 
-/// A server of 513 at version 11, as the worked example brings it there.
-fn at_eleven(rt: &impl Abort, alloc: Global) -> Result<Storage<MapStore>, Fail> {
-    let mut storage = at_nine(rt, alloc)?;
-    stands(rt, &storage, 513, 9, 0)?;
-    holds(rt, alloc, &mut storage, &[(0x61, 9)])?;
-    storage.hear_peeked(alloc, epoch(513)?, &peeked(alloc, 9, &[10], 11, 0)?)?;
-    stands(rt, &storage, 513, 11, 0)?;
-    Ok(storage)
-}
-
-/// Asserts why a server of 513 at 11 refuses what the logs of an epoch have after a version.
-fn refuses_peeked(
-    rt: &impl Abort,
-    alloc: Global,
-    of: u64,
-    after: u64,
-    fault: StorageFault,
-) -> Result<(), Fail> {
-    let mut storage = at_eleven(rt, alloc)?;
-    let answer = peeked(alloc, after, &[], 13, 0)?;
-    let refused = storage.hear_peeked(alloc, epoch(of)?, &answer);
-    assert_eq!(rt; refused, Err(fault));
-    stands(rt, &storage, 513, 11, 0)
-}
-
-/// Asserts what a server of 513 at 11 answers to a state.
-fn answers_state(
-    rt: &impl Abort,
-    alloc: Global,
-    later: &[(u64, u64, u64)],
-    wanted: Result<(), StorageFault>,
-) -> Result<(), Fail> {
-    let mut storage = at_eleven(rt, alloc)?;
-    let answer = storage.hear_marked(alloc, state(alloc, later)?);
-    assert_eq!(rt; answer, wanted);
-    stands(rt, &storage, 513, 11, 0)
-}
+const ANSWERS: [Row; 5] = [
+    (Hear(Peeked(257, 9, &[], 13, 0)), No(NotMyGeneration)),
+    (Hear(Peeked(513, 12, &[], 13, 0)), No(Hole)),
+    (Hear(Marked(&[])), No(Older)),
+    (Hear(Marked(&[(769, 10, 10)])), No(Stranger)),
+    (Hear(Marked(&[(513, 10, 10)])), Done),
+];
 
 #[test]
 fn a_storage_follows_the_generations(rt: HostRuntime) -> Result<(), Fail> {
-    let alloc = rt.alloc();
-    refuses_peeked(&rt, alloc, 257, 9, StorageFault::NotMyGeneration)?;
-    refuses_peeked(&rt, alloc, 513, 12, StorageFault::Hole)?;
-    answers_state(&rt, alloc, &[], Err(StorageFault::Older))?;
-    answers_state(&rt, alloc, &[(769, 10, 10)], Err(StorageFault::Stranger))?;
-    answers_state(&rt, alloc, &[(513, 10, 10)], Ok(()))
+    for row in ANSWERS {
+        answers(&rt, rt.alloc(), row)?;
+    }
+    Ok(())
 }
 
-/// A server of 513 at version 11 with a floor.
-fn with_floor(rt: &impl Abort, alloc: Global, floor: u64) -> Result<Storage<MapStore>, Fail> {
-    let mut storage = at_eleven(rt, alloc)?;
-    let known = peeked(alloc, 11, &[], 11, floor)?;
-    storage.hear_peeked(alloc, epoch(513)?, &known)?;
-    stands(rt, &storage, 513, 11, floor)?;
-    Ok(storage)
-}
+const BOUNDED: [Row; 4] = [
+    (Hear(Peeked(513, 11, &[], 11, 9)), Done),
+    (Look, Stands(513, 11, 9)),
+    (Hear(Marked(&[(513, 10, 10), (769, 10, 10)])), Done),
+    (Look, Stands(769, 10, 9)),
+];
 
 #[test]
 fn a_floor_bounds_the_rollback(rt: HostRuntime) -> Result<(), Fail> {
-    let alloc = rt.alloc();
-    let later = [(513, 10, 10), (769, 10, 10)];
-    let mut storage = with_floor(&rt, alloc, 9)?;
-    storage.hear_marked(alloc, state(alloc, &later)?)?;
-    stands(&rt, &storage, 769, 10, 9)
+    runs(&rt, rt.alloc(), &[&SIX, &ELEVEN, &BOUNDED])
 }
+
+const BELOW: [Row; 4] = [
+    (Hear(Peeked(513, 11, &[], 11, 11)), Done),
+    (Look, Stands(513, 11, 11)),
+    (
+        Hear(Marked(&[(513, 10, 10), (769, 10, 10)])),
+        No(BelowFloor),
+    ),
+    (Look, Stands(513, 11, 11)),
+];
 
 #[test]
 fn nothing_is_undone_below_the_floor(rt: HostRuntime) -> Result<(), Fail> {
-    let alloc = rt.alloc();
-    let later = [(513, 10, 10), (769, 10, 10)];
-    let mut storage = with_floor(&rt, alloc, 11)?;
-    let below = storage.hear_marked(alloc, state(alloc, &later)?);
-    assert_eq!(rt; below, Err(StorageFault::BelowFloor));
-    stands(&rt, &storage, 513, 11, 11)
+    runs(&rt, rt.alloc(), &[&SIX, &ELEVEN, &BELOW])
+}
+
+/// A store keeps these state bytes.
+fn keeps(alloc: Global, store: &mut MapStore, content: &[u8]) -> Result<(), Fail> {
+    let content = Bytes::from_slice(alloc, content)?;
+    Ok(store.set_state(alloc, content)?)
+}
+
+/// A store at version 11 with the bytes of the two generations.
+fn two(alloc: Global, store: &mut MapStore) -> Result<(), Fail> {
+    keeps(alloc, store, &TWO)?;
+    Ok(store.advance(at(11)?)?)
+}
+
+/// Asserts that a server stands at 513 and 11, with that state.
+fn is_two(rt: &impl Abort, alloc: Global, storage: &mut Storage<MapStore>) -> Result<(), Fail> {
+    let wanted = state(alloc, &[(513, 10, 10)])?;
+    assert!(rt; *storage.state() == wanted);
+    plays(rt, alloc, storage, &[(Look, Stands(513, 11, 0))])
+}
+
+fn keeps_two(rt: &impl Abort, alloc: Global, store: &mut MapStore) -> Result<(), Fail> {
+    assert!(rt; store.state_bytes(alloc)?.as_slice() == TWO.as_slice());
+    Ok(())
+}
+
+/// Asserts that a store is adopted, and given back with the same bytes.
+fn adopts(rt: &impl Abort, alloc: Global, store: MapStore, tag: Tag) -> Result<(), Fail> {
+    let mut storage = Storage::adopt(alloc, store, tag)?;
+    is_two(rt, alloc, &mut storage)?;
+    keeps_two(rt, alloc, &mut storage.into_store())
 }
 
 #[test]
 fn storage_adopts(rt: HostRuntime) -> Result<(), Fail> {
-    let alloc = rt.alloc();
-    let mut store = MapStore::new(alloc);
-    store.set_state(alloc, Bytes::from_slice(alloc, &TWO)?)?;
-    store.advance(at(11)?)?;
-    let storage = Storage::adopt(alloc, store, tag(0)?)?;
-    stands(&rt, &storage, 513, 11, 0)?;
-    assert!(rt; *storage.state() == state(alloc, &[(513, 10, 10)])?);
-    let mut store = storage.into_store();
-    assert_eq!(rt; store.state_bytes(alloc)?.as_slice(), TWO.as_slice());
-    Ok(())
+    let tag = tag(0)?;
+    let mut store = MapStore::new(rt.alloc());
+    two(rt.alloc(), &mut store)?;
+    adopts(&rt, rt.alloc(), store, tag)
 }
 
 #[test]
 fn what_spells_no_state_is_not_adopted(rt: HostRuntime) -> Result<(), Fail> {
-    let alloc = rt.alloc();
-    let mut store = MapStore::new(alloc);
-    store.set_state(alloc, Bytes::from_slice(alloc, &[0])?)?;
-    let fault = Storage::adopt(alloc, store, tag(0)?).err();
-    assert_eq!(rt; fault, Some(StorageFault::BadState));
+    let tag = tag(0)?;
+    let mut store = MapStore::new(rt.alloc());
+    keeps(rt.alloc(), &mut store, &[0])?;
+    let fault = Storage::adopt(rt.alloc(), store, tag).err();
+    assert!(rt; fault == Some(StorageFault::BadState));
     Ok(())
 }
 
-/// Asserts what a server asks next.
-fn asks(rt: &impl Abort, storage: &Storage<MapStore>, number: u64, after: u64) -> Result<(), Fail> {
-    let wanted = LogAsk::Peek {
-        epoch: epoch(number)?,
-        tag: tag(0)?,
-        after: at(after)?,
-        most: Most::new(100).ok_or("most")?,
-    };
+/// Whether an ask is the peek of tag 0 of an epoch after a version, for at most 100 records.
+fn is_peek(ask: &LogAsk, number: u64, version: u64) -> bool {
+    match ask {
+        LogAsk::Peek {
+            epoch,
+            tag,
+            after,
+            most,
+        } => {
+            epoch.get() == number && tag.get() == 0 && after.get() == version && most.get() == 100
+        }
+        _ => false,
+    }
+}
+
+/// Asserts that this is what a server asks next, of the logs of that epoch.
+fn asks(rt: &impl Abort, storage: &Storage<MapStore>, number: u64, after: u64) {
     let (of, ask) = storage.next_ask();
-    assert!(rt; of == epoch(number)? && ask == wanted);
+    assert!(rt; of.get() == number && is_peek(&ask, number, after));
+}
+
+/// Asserts what a server of 257 at 6, which 513 ends, asks before it heard that its source has nothing more, and then.
+fn asks_on(rt: &impl Abort, alloc: Global, storage: &mut Storage<MapStore>) -> Result<(), Fail> {
+    asks(rt, storage, 257, 6);
+    let nothing = (Hear(Peeked(257, 6, &[], 9, 0)), Done);
+    plays(rt, alloc, storage, &[nothing])?;
+    asks(rt, storage, 513, 9);
     Ok(())
+}
+
+/// Asserts that the server asks on, and that a copy from before stays where it is.
+fn copies(rt: &impl Abort, alloc: Global, storage: &mut Storage<MapStore>) -> Result<(), Fail> {
+    let mut copy = storage.copy(alloc)?;
+    asks_on(rt, alloc, storage)?;
+    assert!(rt; copy.tag().get() == 0);
+    plays(rt, alloc, &mut copy, &[(Look, Stands(513, 6, 0))])
 }
 
 #[test]
 fn a_storage_asks_for_the_next_version(rt: HostRuntime) -> Result<(), Fail> {
-    let alloc = rt.alloc();
-    let mut storage = advanced(alloc, 6)?;
-    storage.hear_marked(alloc, state(alloc, &[(513, 10, 10)])?)?;
-    asks(&rt, &storage, 257, 6)?;
-    let copy = storage.copy(alloc)?;
-    storage.hear_peeked(alloc, epoch(257)?, &peeked(alloc, 6, &[], 9, 0)?)?;
-    asks(&rt, &storage, 513, 9)?;
-    stands(&rt, &copy, 513, 6, 0)?;
-    assert_eq!(rt; copy.tag(), tag(0)?);
-    Ok(())
+    let mut storage = started(rt.alloc())?;
+    let marked = (Hear(Marked(&[(513, 10, 10)])), Done);
+    plays(&rt, rt.alloc(), &mut storage, &[SIX[0], marked])?;
+    copies(&rt, rt.alloc(), &mut storage)
 }
+
+const SKIPS: [Row; 5] = [
+    (Hear(Peeked(257, 6, &[9, 12, 18], 20, 0)), Done),
+    (Dump, One(0x61, 18)),
+    (Hear(Marked(&[(513, 10, 10), (769, 10, 15)])), Done),
+    (Look, Stands(769, 10, 0)),
+    (Dump, One(0x61, 9)),
+];
 
 #[test]
 fn a_storage_skips_two_epochs(rt: HostRuntime) -> Result<(), Fail> {
-    let alloc = rt.alloc();
-    let mut storage = advanced(alloc, 6)?;
-    storage.hear_peeked(alloc, epoch(257)?, &peeked(alloc, 6, &[9, 12, 18], 20, 0)?)?;
-    holds(&rt, alloc, &mut storage, &[(0x61, 18)])?;
-    storage.hear_marked(alloc, state(alloc, &[(513, 10, 10), (769, 10, 15)])?)?;
-    stands(&rt, &storage, 769, 10, 0)?;
-    holds(&rt, alloc, &mut storage, &[(0x61, 9)])
+    runs(&rt, rt.alloc(), &[&SIX, &SKIPS])
 }
 
-/// A server of 257 that ran ahead to 4: 61 was set to 1 at 2 and to 2 at 3, and 62 to 3 at 4.
-fn ahead(alloc: Global) -> Result<Storage<MapStore>, Fail> {
-    let mut storage = advanced(alloc, 1)?;
-    let mut records = Vec::new(alloc);
-    records.push(setting(alloc, 2, 0x61, 1)?)?;
-    records.push(setting(alloc, 3, 0x61, 2)?)?;
-    records.push(setting(alloc, 4, 0x62, 3)?)?;
-    storage.hear_peeked(alloc, epoch(257)?, &peeked_of(1, records, 4, 1)?)?;
-    Ok(storage)
-}
+/// A server of 257 runs ahead to 4: 61 is set to 1 at 2 and to 2 at 3, and 62 to 3 at 4. It then hears that 513 took
+/// over through 2.
+const ROLLED_BACK: [Row; 6] = [
+    (Hear(Peeked(257, 0, &[], 1, 0)), Done),
+    (
+        Hear(Records(257, 1, &[(2, 0x61, 1), (3, 0x61, 2), (4, 0x62, 3)], 4, 1)),
+        Done,
+    ),
+    (Look, Stands(257, 4, 1)),
+    (Dump, Two((0x61, 2), (0x62, 3))),
+    (Hear(Marked(&[(513, 2, 2)])), Done),
+    (Look, Stands(513, 2, 1)),
+];
 
-/// The same server once it heard that 513 took over through 2.
-fn rolled_back(rt: &impl Abort, alloc: Global) -> Result<Storage<MapStore>, Fail> {
-    let mut storage = ahead(alloc)?;
-    stands(rt, &storage, 257, 4, 1)?;
-    holds(rt, alloc, &mut storage, &[(0x61, 2), (0x62, 3)])?;
-    storage.hear_marked(alloc, state(alloc, &[(513, 2, 2)])?)?;
-    stands(rt, &storage, 513, 2, 1)?;
-    Ok(storage)
-}
+const TAKEN_BACK: [Row; 4] = [
+    (Dump, One(0x61, 1)),
+    (Hear(Records(513, 2, &[(4, 0x63, 4)], 4, 3)), Done),
+    (Look, Stands(513, 4, 3)),
+    (Dump, Two((0x61, 1), (0x63, 4))),
+];
 
 #[test]
 fn what_did_not_survive_is_taken_back(rt: HostRuntime) -> Result<(), Fail> {
-    let alloc = rt.alloc();
-    let mut storage = rolled_back(&rt, alloc)?;
-    holds(&rt, alloc, &mut storage, &[(0x61, 1)])?;
-    let mut records = Vec::new(alloc);
-    records.push(setting(alloc, 4, 0x63, 4)?)?;
-    storage.hear_peeked(alloc, epoch(513)?, &peeked_of(2, records, 4, 3)?)?;
-    stands(&rt, &storage, 513, 4, 3)?;
-    holds(&rt, alloc, &mut storage, &[(0x61, 1), (0x63, 4)])
+    runs(&rt, rt.alloc(), &[&ROLLED_BACK, &TAKEN_BACK])
 }

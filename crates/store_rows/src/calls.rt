@@ -1,88 +1,70 @@
 //! Calls of a store in memory, one after the other: what it holds then, and what it refuses.
-use fr_base::{Bytes, Memory, Version};
-use fr_mutation::{AtomicOp, Batch, Mutation, Shard};
-use fr_undo::{MapStore, ShardStore, StoreFault};
+use crate::scene::Call::{
+    Advance, Applied, Apply, Below, Floor, Forget, Get, HasState, Holds, Reopen, SetState, Undo,
+    UndoRows,
+};
+use crate::scene::Change::{self, Add, Clear, Set};
+use crate::scene::Said::{Count, Done, Is, No, Value};
+use crate::scene::{Row, plays};
+use fr_undo::MapStore;
+use fr_undo::StoreFault::{AboveApplied, BelowFloor, NotAfter};
 use std::alloc::Global;
+use std::process::Abort;
 use std::test::Fail;
 
-fn bytes(alloc: Global, content: &[u8]) -> Result<Bytes, Memory> {
-    Bytes::from_slice(alloc, content)
-}
+const ONE: [Change; 1] = [Set(b'a', 1)];
 
-fn set(alloc: Global, key: &[u8], value: &[u8]) -> Result<Mutation, Memory> {
-    Ok(Mutation::Set {
-        key: bytes(alloc, key)?,
-        value: bytes(alloc, value)?,
-    })
-}
+const TWO: [Change; 1] = [Set(b'a', 2)];
 
-/// A batch that sets one key.
-fn setting(alloc: Global, key: &[u8], value: &[u8]) -> Result<Batch, Fail> {
-    let mut mutations = Vec::new(alloc);
-    mutations.push(set(alloc, key, value)?)?;
-    Ok(Batch::new(mutations)?)
-}
+const SECOND: [Change; 3] = [Set(b'a', 2), Clear(b'a', b'c'), Add(b'a', 5)];
 
-fn at(number: u64) -> Result<Version, Fail> {
-    Ok(Version::new(number).ok_or("no version")?)
-}
+const UNDONE: [Row; 10] = [
+    (Apply(5, &ONE), Done),
+    (UndoRows, Count(1)),
+    (Apply(6, &SECOND), Done),
+    (Applied, Count(6)),
+    (UndoRows, Count(2)),
+    (Get(b'a'), Value(5)),
+    (Apply(6, &SECOND), No(NotAfter)),
+    (Undo(5), Done),
+    (UndoRows, Count(1)),
+    (Get(b'a'), Value(1)),
+];
 
 #[test]
 fn undo_gives_the_earlier_value(rt: HostRuntime) -> Result<(), Fail> {
-    let alloc = rt.alloc();
-    let mut store = MapStore::new(alloc);
-    store.apply(alloc, at(5)?, &setting(alloc, b"a", b"\x01")?)?;
-    assert_eq!(rt; store.undo_rows(), 1);
-    let mut second = Vec::new(alloc);
-    second.push(set(alloc, b"a", b"\x02")?)?;
-    second.push(Mutation::Clear {
-        begin: bytes(alloc, b"a")?,
-        end: bytes(alloc, b"c")?,
-    })?;
-    second.push(Mutation::Atomic {
-        op: AtomicOp::Add,
-        key: bytes(alloc, b"a")?,
-        param: bytes(alloc, b"\x05")?,
-    })?;
-    let second = Batch::new(second)?;
-    store.apply(alloc, at(6)?, &second)?;
-    assert_eq!(rt; store.applied().get(), 6);
-    assert_eq!(rt; store.undo_rows(), 2);
-    let key = bytes(alloc, b"a")?;
-    let now = store.get(alloc, &key)?.ok_or("no value")?;
-    assert_eq!(rt; now.as_slice(), b"\x05".as_slice());
-    let again = store.apply(alloc, at(6)?, &second);
-    assert!(rt; again == Err(StoreFault::NotAfter));
-    store.undo_to(alloc, at(5)?)?;
-    assert_eq!(rt; store.undo_rows(), 1);
-    let then = store.get(alloc, &key)?.ok_or("no value")?;
-    assert_eq!(rt; then.as_slice(), b"\x01".as_slice());
-    Ok(())
+    let mut store = MapStore::new(rt.alloc());
+    plays(&rt, rt.alloc(), &mut store, &UNDONE)
+}
+
+const FORGOTTEN: [Row; 9] = [
+    (Advance(4), Done),
+    (Apply(8, &ONE), Done),
+    (Apply(9, &TWO), Done),
+    (Forget(8), Done),
+    (Floor, Count(8)),
+    (UndoRows, Count(1)),
+    (Undo(7), No(BelowFloor)),
+    (Forget(10), No(AboveApplied)),
+    (SetState(b"state"), Done),
+];
+
+/// Of a copy.
+const COPIED: [Row; 4] = [
+    (Reopen, Done),
+    (HasState(b"state"), Is(true)),
+    (Holds(&[(b'a', 2)]), Is(true)),
+    (Below(Some(b'a')), Count(0)),
+];
+
+fn is_copied(rt: &impl Abort, alloc: Global, store: &MapStore) -> Result<(), Fail> {
+    let mut copy = store.copy(alloc)?;
+    plays(rt, alloc, &mut copy, &COPIED)
 }
 
 #[test]
 fn what_is_forgotten_cannot_be_undone(rt: HostRuntime) -> Result<(), Fail> {
-    let alloc = rt.alloc();
-    let mut store = MapStore::new(alloc);
-    store.advance(at(4)?)?;
-    store.apply(alloc, at(8)?, &setting(alloc, b"a", b"\x01")?)?;
-    store.apply(alloc, at(9)?, &setting(alloc, b"a", b"\x02")?)?;
-    store.forget_through(alloc, at(8)?)?;
-    assert_eq!(rt; store.floor().get(), 8);
-    assert_eq!(rt; store.undo_rows(), 1);
-    assert!(rt; store.undo_to(alloc, at(7)?) == Err(StoreFault::BelowFloor));
-    assert!(rt; store.forget_through(alloc, at(10)?) == Err(StoreFault::AboveApplied));
-    store.set_state(alloc, bytes(alloc, b"state")?)?;
-    let mut copy = store.copy(alloc)?;
-    copy.reopen(alloc)?;
-    assert_eq!(rt; copy.state_bytes(alloc)?.as_slice(), b"state".as_slice());
-    let rows = copy.dump(alloc)?;
-    assert_eq!(rt; rows.len(), 1);
-    assert_eq!(rt; rows[0].1.as_slice(), b"\x02".as_slice());
-    let shard = Shard {
-        begin: bytes(alloc, b"")?,
-        end: Some(bytes(alloc, b"a")?),
-    };
-    assert_eq!(rt; copy.range(alloc, &shard)?.len(), 0);
-    Ok(())
+    let mut store = MapStore::new(rt.alloc());
+    plays(&rt, rt.alloc(), &mut store, &FORGOTTEN)?;
+    is_copied(&rt, rt.alloc(), &store)
 }

@@ -5,6 +5,8 @@
 #[cfg(test)]
 mod calls;
 #[cfg(test)]
+mod scene;
+#[cfg(test)]
 mod store_agrees;
 #[cfg(test)]
 mod undo;

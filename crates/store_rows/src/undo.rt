@@ -1,215 +1,174 @@
 //! Batches applied and undone, call by call, on a store in memory and on one whose device fails once.
+use crate::scene::Call::{
+    self, Advance, Applied, Apply, Below, Floor, Forget, Get, HasState, Holds, IsFailed, Reopen,
+    SetState, Undo, UndoRows,
+};
+use crate::scene::Change::{self, Add, Clear, Set};
+use crate::scene::Said::{self, Absent, Count, Done, Is, No, Value};
+use crate::scene::{Row, answer, byte_of, bytes, plays};
 use fails_once::FailsOnce;
-use fr_base::{Bytes, Memory, Version};
-use fr_mutation::{AtomicOp, Batch, Mutation, Shard};
+use fr_undo::StoreFault::{Device, Failed};
 use fr_undo::{MapStore, ShardStore, StoreFault};
 use std::alloc::Global;
 use std::process::Abort;
 use std::test::Fail;
 
-fn bytes(alloc: Global, content: &[u8]) -> Result<Bytes, Memory> {
-    Bytes::from_slice(alloc, content)
-}
+/// The batch that sets `b` and `d`, at version 4.
+const FIRST: Row = (Apply(4, &[Set(b'b', 7), Set(b'd', 7)]), Done);
 
-fn at(number: u64) -> Result<Version, Fail> {
-    Ok(Version::new(number).ok_or("no version")?)
-}
+/// Batches that set `a` to their version, clear from `b` to `c`, and add 1 to `d`.
+const FIVE: [Change; 3] = [Set(b'a', 5), Clear(b'b', b'c'), Add(b'd', 1)];
 
-/// A batch that sets `a` to a byte, clears from `b` to `c`, and adds 1 to `d`.
-fn batch(alloc: Global, byte: u8) -> Result<Batch, Fail> {
-    let mut mutations = Vec::new(alloc);
-    mutations.push(Mutation::Set {
-        key: bytes(alloc, b"a")?,
-        value: bytes(alloc, [byte].as_slice())?,
-    })?;
-    mutations.push(Mutation::Clear {
-        begin: bytes(alloc, b"b")?,
-        end: bytes(alloc, b"c")?,
-    })?;
-    mutations.push(Mutation::Atomic {
-        op: AtomicOp::Add,
-        key: bytes(alloc, b"d")?,
-        param: bytes(alloc, b"\x01")?,
-    })?;
-    Ok(Batch::new(mutations)?)
-}
+const SEVEN: [Change; 3] = [Set(b'a', 7), Clear(b'b', b'c'), Add(b'd', 1)];
 
-/// A store with `b` and `d` at version 4.
-fn fill<S: ShardStore>(alloc: Global, store: &mut S) -> Result<(), Fail> {
-    let mut mutations = Vec::new(alloc);
-    for key in [b"b".as_slice(), b"d".as_slice()] {
-        mutations.push(Mutation::Set {
-            key: bytes(alloc, key)?,
-            value: bytes(alloc, b"\x07")?,
-        })?;
-    }
-    store.apply(alloc, at(4)?, &Batch::new(mutations)?)?;
-    Ok(())
-}
-
-/// Whether the rows are those of these keys and one byte values.
-fn holds(rows: &[(Bytes, Bytes)], wanted: &[(&[u8], u8)]) -> bool {
-    rows.len() == wanted.len()
-        && rows.iter().zip(wanted).all(|(row, (key, value))| {
-            row.0.as_slice() == *key && row.1.as_slice() == [*value].as_slice()
-        })
-}
-
-const FILLED: [(&[u8], u8); 2] = [(b"b", 7), (b"d", 7)];
+const NINE: [Change; 3] = [Set(b'a', 9), Clear(b'b', b'c'), Add(b'd', 1)];
 
 /// Three batches applied and undone at once, and then one at a time: each undo gives what was there.
-fn undoes<S: ShardStore>(rt: &impl Abort, alloc: Global, store: &mut S) -> Result<(), Fail> {
-    fill(alloc, store)?;
-    let before = store.applied();
-    for version in [5, 7, 9] {
-        store.apply(alloc, at(version)?, &batch(alloc, version as u8)?)?;
-    }
-    assert_eq!(rt; store.undo_rows(), 2 + 3 + 2 + 2);
-    assert!(rt;
-        holds(
-            store.dump(alloc)?.as_slice(),
-            [(b"a".as_slice(), 9), (b"d".as_slice(), 10)].as_slice()
-        )
-    );
-    store.undo_to(alloc, at(7)?)?;
-    assert!(rt;
-        holds(
-            store.dump(alloc)?.as_slice(),
-            [(b"a".as_slice(), 7), (b"d".as_slice(), 9)].as_slice()
-        )
-    );
-    assert_eq!(rt; store.undo_rows(), 2 + 3 + 2);
-    store.undo_to(alloc, before)?;
-    assert!(rt; holds(store.dump(alloc)?.as_slice(), FILLED.as_slice()));
-    assert_eq!(rt; store.undo_rows(), 2);
-    assert!(rt; store.applied() == before);
+const UNDOES: [Row; 14] = [
+    FIRST,
+    (Applied, Count(4)),
+    (Apply(5, &FIVE), Done),
+    (Apply(7, &SEVEN), Done),
+    (Apply(9, &NINE), Done),
+    (UndoRows, Count(2 + 3 + 2 + 2)),
+    (Holds(&[(b'a', 9), (b'd', 10)]), Is(true)),
+    (Undo(7), Done),
+    (Holds(&[(b'a', 7), (b'd', 9)]), Is(true)),
+    (UndoRows, Count(2 + 3 + 2)),
+    (Undo(4), Done),
+    (Holds(&[(b'b', 7), (b'd', 7)]), Is(true)),
+    (UndoRows, Count(2)),
+    (Applied, Count(4)),
+];
+
+/// The value that a store lends of a key.
+fn lent(alloc: Global, store: &MapStore, key: &[u8]) -> Result<Said, Fail> {
+    let key = bytes(alloc, key)?;
+    Ok(match store.value_at(&key) {
+        Some(value) => byte_of(value.as_slice()),
+        None => Absent,
+    })
+}
+
+/// Asserts what a store lends once all is undone.
+fn lends(rt: &impl Abort, alloc: Global, store: &MapStore) -> Result<(), Fail> {
+    assert!(rt; lent(alloc, store, b"d")? == Value(7));
+    assert!(rt; lent(alloc, store, b"a")? == Absent);
+    assert!(rt; store.rows().len() == 2);
+    assert!(rt; store.bytes().as_slice().is_empty());
     Ok(())
 }
 
 #[test]
 fn calls_compose(rt: HostRuntime) -> Result<(), Fail> {
-    let alloc = rt.alloc();
-    let mut store = MapStore::new(alloc);
-    undoes(&rt, alloc, &mut store)?;
-    let key = bytes(alloc, b"d")?;
-    let value = store.value_at(&key).ok_or("no value")?;
-    assert_eq!(rt; value.as_slice(), b"\x07".as_slice());
-    assert!(rt; store.value_at(&bytes(alloc, b"a")?).is_none());
-    assert_eq!(rt; store.rows().len(), 2);
-    assert_eq!(rt; store.bytes().as_slice(), b"".as_slice());
-    undoes(&rt, alloc, &mut FailsOnce::new(alloc, 100, false))
+    let mut store = MapStore::new(rt.alloc());
+    plays(&rt, rt.alloc(), &mut store, &UNDOES)?;
+    lends(&rt, rt.alloc(), &store)?;
+    let mut store = FailsOnce::new(rt.alloc(), 100, false);
+    plays(&rt, rt.alloc(), &mut store, &UNDOES)
 }
 
-/// Each call of a store, in turn, up to the first that fails: a batch at version 5, and the others at the
-/// versions 6 and 4.
-fn each_call(
+const EACH_BATCH: [Change; 3] = [Set(b'a', 1), Clear(b'b', b'c'), Add(b'd', 1)];
+
+/// Each call of a store.
+const EACH: [Call; 10] = [
+    Apply(5, &EACH_BATCH),
+    Advance(6),
+    SetState(b"state"),
+    Get(b'a'),
+    Below(None),
+    Holds(&[]),
+    HasState(b""),
+    Undo(5),
+    Forget(4),
+    Reopen,
+];
+
+/// Why a store refuses the first of these calls that it refuses.
+fn refused(
     alloc: Global,
     store: &mut FailsOnce,
-    batch: &Batch,
-    [four, five, six]: [Version; 3],
-) -> Result<(), StoreFault> {
-    let key = bytes(alloc, b"a")?;
-    let shard = Shard {
-        begin: bytes(alloc, b"")?,
-        end: None,
-    };
-    store.apply(alloc, five, batch)?;
-    store.advance(six)?;
-    store.set_state(alloc, bytes(alloc, b"state")?)?;
-    let _value = store.get(alloc, &key)?;
-    let _rows = store.range(alloc, &shard)?;
-    let _all = store.dump(alloc)?;
-    let _bytes = store.state_bytes(alloc)?;
-    store.undo_to(alloc, five)?;
-    store.forget_through(alloc, four)?;
-    store.reopen(alloc)
+    calls: &[Call],
+) -> Result<Option<StoreFault>, Fail> {
+    for call in calls {
+        if let No(fault) = answer(alloc, store, *call)? {
+            return Ok(Some(fault));
+        }
+    }
+    Ok(None)
 }
 
-/// The version applied, the floor and the bytes' length once the call after so many others failed.
-#[derive(Clone, Copy)]
-struct Left {
+/// The version applied, the floor and the bytes' length.
+type Place = (u64, u64, usize);
+
+/// The same once the call after so many others failed and had done nothing, or all.
+type Left = (u32, Place, Place);
+
+const LEFT: [Left; 10] = [
+    (0, (4, 0, 0), (5, 0, 0)),
+    (1, (5, 0, 0), (6, 0, 0)),
+    (2, (6, 0, 0), (6, 0, 5)),
+    (3, (6, 0, 5), (6, 0, 5)),
+    (4, (6, 0, 5), (6, 0, 5)),
+    (5, (6, 0, 5), (6, 0, 5)),
+    (6, (6, 0, 5), (6, 0, 5)),
+    (7, (6, 0, 5), (5, 0, 5)),
+    (8, (5, 0, 5), (5, 4, 5)),
+    (9, (5, 4, 5), (5, 4, 5)),
+];
+
+fn place(alloc: Global, store: &mut FailsOnce) -> Result<Place, Fail> {
+    let len = store.state_bytes(alloc)?.len();
+    Ok((store.applied().get(), store.floor().get(), len))
+}
+
+/// Of a store whose device failed.
+const REOPENED: [Row; 5] = [
+    (IsFailed, Is(true)),
+    (Holds(&[]), No(Failed)),
+    (Undo(0), No(Failed)),
+    (Reopen, Done),
+    (IsFailed, Is(false)),
+];
+
+/// Asserts that the device of a store fails in one of the calls, and where it stands once it is opened again.
+fn breaks_off(
+    rt: &impl Abort,
+    alloc: Global,
+    store: &mut FailsOnce,
+    wanted: Place,
+) -> Result<(), Fail> {
+    plays(rt, alloc, store, &[FIRST])?;
+    assert!(rt; refused(alloc, store, &EACH)? == Some(Device));
+    plays(rt, alloc, store, &REOPENED)?;
+    assert!(rt; place(alloc, store)? == wanted);
+    Ok(())
+}
+
+/// The same where the device fails in the call after so many others.
+fn stands(
+    rt: &impl Abort,
+    alloc: Global,
     calls: u32,
-    before: (u64, u64, usize),
-    after: (u64, u64, usize),
+    is_done: bool,
+    wanted: Place,
+) -> Result<(), Fail> {
+    let mut store = FailsOnce::new(alloc, calls.wrapping_add(1), is_done);
+    breaks_off(rt, alloc, &mut store, wanted)
+}
+
+/// Of a store whose device would fail in the call after all.
+fn goes_through(rt: &impl Abort, alloc: Global, store: &mut FailsOnce) -> Result<(), Fail> {
+    plays(rt, alloc, store, &[FIRST])?;
+    assert!(rt; refused(alloc, store, &EACH)?.is_none());
+    plays(rt, alloc, store, &[(IsFailed, Is(false))])
 }
 
 #[test]
 fn a_failed_call_stands_before_or_after(rt: HostRuntime) -> Result<(), Fail> {
-    let alloc = rt.alloc();
-    let cases = [
-        Left {
-            calls: 0,
-            before: (4, 0, 0),
-            after: (5, 0, 0),
-        },
-        Left {
-            calls: 1,
-            before: (5, 0, 0),
-            after: (6, 0, 0),
-        },
-        Left {
-            calls: 2,
-            before: (6, 0, 0),
-            after: (6, 0, 5),
-        },
-        Left {
-            calls: 3,
-            before: (6, 0, 5),
-            after: (6, 0, 5),
-        },
-        Left {
-            calls: 4,
-            before: (6, 0, 5),
-            after: (6, 0, 5),
-        },
-        Left {
-            calls: 5,
-            before: (6, 0, 5),
-            after: (6, 0, 5),
-        },
-        Left {
-            calls: 6,
-            before: (6, 0, 5),
-            after: (6, 0, 5),
-        },
-        Left {
-            calls: 7,
-            before: (6, 0, 5),
-            after: (5, 0, 5),
-        },
-        Left {
-            calls: 8,
-            before: (5, 0, 5),
-            after: (5, 4, 5),
-        },
-        Left {
-            calls: 9,
-            before: (5, 4, 5),
-            after: (5, 4, 5),
-        },
-    ];
-    let (batch, versions) = (batch(alloc, 1)?, [at(4)?, at(5)?, at(6)?]);
-    for case in cases {
-        for (is_done, wanted) in [(false, case.before), (true, case.after)] {
-            let mut store = FailsOnce::new(alloc, case.calls.wrapping_add(1), is_done);
-            fill(alloc, &mut store)?;
-            assert!(rt; each_call(alloc, &mut store, &batch, versions) == Err(StoreFault::Device));
-            assert!(rt; store.is_failed());
-            assert!(rt; store.dump(alloc) == Err(StoreFault::Failed));
-            assert!(rt; store.undo_to(alloc, at(0)?) == Err(StoreFault::Failed));
-            store.reopen(alloc)?;
-            assert!(rt; !store.is_failed());
-            let found = (
-                store.applied().get(),
-                store.floor().get(),
-                store.state_bytes(alloc)?.len(),
-            );
-            assert_eq!(rt; found, wanted, "{} {is_done}", case.calls);
-        }
+    for (calls, before, after) in LEFT {
+        stands(&rt, rt.alloc(), calls, false, before)?;
+        stands(&rt, rt.alloc(), calls, true, after)?;
     }
-    let mut store = FailsOnce::new(alloc, 11, true);
-    fill(alloc, &mut store)?;
-    each_call(alloc, &mut store, &batch, versions)?;
-    assert!(rt; !store.is_failed());
-    Ok(())
+    goes_through(&rt, rt.alloc(), &mut FailsOnce::new(rt.alloc(), 11, true))
 }

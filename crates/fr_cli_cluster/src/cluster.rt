@@ -1,0 +1,121 @@
+//! The command `cluster`.
+ghost use Rattle.std.specs.Prelude.{◌≡◌, ◌<◌, ℕ, List, Err, IfErr, IfOk, OnOk};
+ghost use Rattle.std.specs.Io.KnownBytes.{Appends};
+ghost use Rattle.fr_cli.specs.Calls.{no_calls, HasNotFailed, IsWriteFault};
+ghost use Rattle.fr_audit_rule.specs.Run.{IsRunOf};
+ghost use Rattle.fr_cli_audit.specs.Lines.{fault_line};
+ghost use Rattle.fr_cli_cluster.specs.Options.{IsWithin};
+ghost use Rattle.fr_cli_cluster.specs.Report.{IsReport};
+ghost use Rattle.fr_cli_cluster.specs.Setting.{config_of};
+
+use crate::options::{ClusterOptions, ClusterWords};
+use crate::report::{put_fault, put_run};
+use crate::setting::{ballots, config, works};
+use fr_audit_rule::AuditFault;
+use fr_base::Memory;
+use fr_cli::{CallCounts, CliFault};
+use fr_runtime::{Cluster, PlainRack, Report, RunFault};
+use fr_station::{Faults, NoFaults};
+use std::alloc::Global;
+use std::io::Write;
+use std::sync::Wait;
+use std::thread::Threads;
+
+/// Runs a cluster in memory, each workload, storage server and ballot in a thread of its own, and then audits the
+/// journals of all nodes. It writes `audit ok`, or the script of the audit, where they are a run, with status 0; else
+/// the line of the audit's fault, with status 1.
+///
+/// No ask is lost and no node crashes; the recoverer of ballot i, counted from 1, begins at turn 100 i of its thread.
+/// Want of memory, of a thread or of a node is `Memory`, and then nothing is written.
+pub fn run_cluster<R: Threads + Wait + Sync, W: Write>(
+    rt: &R,
+    alloc: Global,
+    options: ClusterOptions,
+    writer: &mut W,
+) -> Result<u8, CliFault>
+    ensures report { IfOk result (λ status. (text : List ℕ) × IsReport (config_of options) options.journal status text × Appends (W.contents writer.old) (W.contents writer.new) text) }
+    ensures unwritten { result ≡ Err CliFault.Memory → writer.new ≡ writer.old }
+{
+    let mut calls = CallCounts::new();
+    cluster_counted(rt, alloc, options, &NoFaults, &mut calls, writer)
+}
+
+/// As [`run_cluster`], where asks are lost or repeated, nodes crash and recoverers begin as the faults say, with the
+/// calls of the writer counted in `calls`, which has none yet: `Output` is answered only where a write or a flush
+/// failed, and what is answered else is `Memory`.
+pub fn cluster_counted<R: Threads + Wait + Sync, F: Faults + Sync, W: Write>(
+    rt: &R,
+    alloc: Global,
+    options: ClusterOptions,
+    faults: &F,
+    calls: &mut CallCounts,
+    writer: &mut W,
+) -> Result<u8, CliFault>
+    requires fresh { calls.old ≡ no_calls }
+    ensures report { IfOk result (λ status. (text : List ℕ) × IsReport (config_of options) options.journal status text × Appends (W.contents writer.old) (W.contents writer.new) text) }
+    ensures unwritten { result ≡ Err CliFault.Memory → writer.new ≡ writer.old }
+    ensures fault { IfErr result (λ e. IsWriteFault calls.new e) }
+    ensures done { OnOk result (HasNotFailed calls.new) }
+{
+    let words = options.words();
+    let Ok(ran) = run(rt, alloc, &words, faults) else {
+        return Err(CliFault::Memory);
+    };
+    let status = put_report(alloc, &words, ran, calls, writer)?;
+    calls.flush(writer)?;
+    Ok(status)
+}
+
+/// What came of a cluster: its report, or the fault of its audit.
+fn run<R: Threads + Wait + Sync, F: Faults + Sync>(
+    rt: &R,
+    alloc: Global,
+    words: &ClusterWords,
+    faults: &F,
+) -> Result<Result<Report, AuditFault>, Memory>
+    requires within { IsWithin words.now }
+    ensures { IfOk result (λ ran. IfOk ran (λ report. IsRunOf (config_of words.now) report.journals.items report.world.turns)) }
+{
+    let config = config(alloc, words)?;
+    let ballots = ballots(alloc, words.recoveries)?;
+    let works = works(alloc, words)?;
+    match Cluster::run(
+        rt,
+        alloc,
+        config,
+        ballots.as_slice(),
+        words.turns,
+        PlainRack,
+        works,
+        faults,
+    ) {
+        Ok((report, _)) => Ok(Ok(report)),
+        Err(RunFault::Audit(AuditFault::Memory)) => Err(Memory),
+        Err(RunFault::Audit(fault)) => Ok(Err(fault)),
+        Err(RunFault::Memory) => Err(Memory),
+        Err(RunFault::Thread) => Err(Memory),
+        Err(RunFault::Rack) => Err(Memory),
+    }
+}
+
+/// Writes what came of a cluster, and gives the status.
+fn put_report<W: Write>(
+    alloc: Global,
+    words: &ClusterWords,
+    ran: Result<Report, AuditFault>,
+    calls: &mut CallCounts,
+    writer: &mut W,
+) -> Result<u8, CliFault>
+    requires run { IfOk ran (λ report. IsRunOf (config_of words.now) report.journals.items report.world.turns) }
+    ensures taken { OnOk ran (IfOk result (λ status. status ≡ 0)) }
+    ensures refused { IfErr ran (λ fault. IfOk result (λ status. (status ≡ 1) × Appends (W.contents writer.old) (W.contents writer.new) (fault_line fault))) }
+    ensures report { IfOk result (λ status. (text : List ℕ) × IsReport (config_of words.now) words.now.journal status text × Appends (W.contents writer.old) (W.contents writer.new) text) }
+    ensures unwritten { result ≡ Err CliFault.Memory → writer.new ≡ writer.old }
+    ensures fault { IfErr result (λ e. IsWriteFault calls.new e) }
+    ensures done { OnOk result (calls.new ≡ calls.old) }
+{
+    match ran {
+        Ok(report) => put_run(alloc, words.journal, &report, calls, writer),
+        Err(fault) => put_fault(alloc, &fault, calls, writer),
+    }
+}

@@ -1,0 +1,13 @@
+//! The command `cluster` of `fdbrec` as a function over a writer: a cluster that runs in threads, and the audit of what
+//! its nodes did.
+#![tactic(auto)]
+
+mod cluster;
+mod options;
+mod progress;
+mod report;
+mod setting;
+
+pub use cluster::{cluster_counted, run_cluster};
+pub use options::{ClusterOptions, ClusterWords, DEFAULTS};
+pub use progress::Progress;

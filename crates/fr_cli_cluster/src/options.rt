@@ -1,0 +1,112 @@
+//! The options of `cluster`.
+ghost use Rattle.std.specs.Prelude.{◌≡◌, ◌↔◌, IsSome, IfSome, IsTrue};
+ghost use Rattle.fr_cli_cluster.specs.Options.{HasClients, HasNodes, HasTime, IsWithin};
+
+use std::marker::Model;
+
+/// What the words of `cluster` say: its numbers, and whether its journals are printed.
+#[derive(Clone, Copy, Debug, PartialEq, Eq)]
+pub struct ClusterWords {
+    /// How many coordinators there are: 1, 3, 5, 7 or 9.
+    pub coordinators: u8,
+    /// How many logs a generation has, 1 to 16.
+    pub logs: u8,
+    /// On how many of them each tag stands, 1 to all.
+    pub degree: u8,
+    /// How many storage servers there are, each with a shard, 1 to 32.
+    pub storages: u8,
+    /// How many proxies a generation has, each with a workload, 1 to 16.
+    pub proxies: u8,
+    /// How many batches a workload hands out, at most 1,000,000.
+    pub batches: u32,
+    /// How many recoveries begin, at most 100.
+    pub recoveries: u8,
+    /// After how many turns each thread ends, 1 to 1,000,000.
+    pub turns: u32,
+    /// Whether the script of the audit is printed where it finds a run.
+    pub journal: bool,
+}
+
+/// What is run where the words say nothing.
+pub const DEFAULTS: ClusterWords = ClusterWords {
+    coordinators: 3,
+    logs: 4,
+    degree: 2,
+    storages: 2,
+    proxies: 2,
+    batches: 20,
+    recoveries: 1,
+    turns: 10_000,
+    journal: false,
+};
+
+/// Words whose numbers are those of a cluster. Contracts see them as the words.
+#[derive(Clone, Copy, Debug, PartialEq, Eq)]
+pub struct ClusterOptions {
+    words: ClusterWords,
+}
+
+impl Model for ClusterOptions {
+    ghost use Rattle.fr_cli_cluster.specs.declared.options.ClusterWords.{ClusterWords};
+    ghost use Rattle.fr_cli_cluster.specs.Options.{IsWithin};
+
+    ghost Value = { ClusterWords };
+
+    ghost view = { λ o. o.words };
+
+    ghost invariant = { λ o. IsWithin o.words };
+
+    ghost inverse = { λ words. record { words = words } };
+}
+
+impl ClusterOptions {
+    /// The options that words are, where their numbers are those of a cluster.
+    pub fn new(words: ClusterWords) -> Option<Self>
+        ensures within { IsSome result ↔ IsWithin words }
+        ensures value { IfSome result (λ o. o ≡ words) }
+    {
+        if has_nodes(&words) && has_clients(&words) && has_time(&words) {
+            Some(ClusterOptions { words })
+        } else {
+            None
+        }
+    }
+
+    /// The words.
+    pub fn words(self) -> ClusterWords
+        ensures value { result ≡ self }
+        ensures within { IsWithin self }
+    {
+        self.words
+    }
+}
+
+/// Whether there are so many coordinators, logs and holders of a tag.
+fn has_nodes(words: &ClusterWords) -> bool
+    ensures { IsTrue result ↔ HasNodes words.now }
+{
+    let coordinators = words.coordinators;
+    let degree = words.degree;
+    coordinators % 2 == 1
+        && coordinators <= 9
+        && 1 <= degree
+        && degree <= words.logs
+        && words.logs <= 16
+}
+
+/// Whether there are so many storage servers and proxies.
+fn has_clients(words: &ClusterWords) -> bool
+    ensures { IsTrue result ↔ HasClients words.now }
+{
+    1 <= words.storages && words.storages <= 32 && 1 <= words.proxies && words.proxies <= 16
+}
+
+/// Whether so many batches, recoveries and turns are not too many.
+fn has_time(words: &ClusterWords) -> bool
+    ensures { IsTrue result ↔ HasTime words.now }
+{
+    words.batches <= 1_000_000
+        && words.recoveries <= 100
+        && 1 <= words.turns
+        && words.turns <= 1_000_000
+}

@@ -1,0 +1,100 @@
+//! A line that says how far a cluster has come.
+ghost use Rattle.std.specs.Prelude.{◌≡◌};
+
+use crate::options::ClusterOptions;
+use fr_ask::Ask;
+use fr_base::{Ballot, NodeId};
+use fr_log::LogAsk;
+use fr_station::{Faults, NoFaults, Verdict};
+use std::io::Eprint;
+use std::sync::atomic::{AtomicU64, Ordering};
+
+/// After how many turns of storage servers the line is written again.
+const TURNS_A_LINE: u64 = 512;
+
+/// No faults, and a line that is written over and over while asks are sent: the turns of the storage servers, the
+/// greatest version that a proxy said to be committed, and the greatest epoch whose logs are asked.
+#[derive(Drop)]
+pub struct Progress<'a, E> {
+    to: &'a E,
+    all: u64,
+    turns: AtomicU64,
+    known: AtomicU64,
+    epoch: AtomicU64,
+}
+
+impl<'a, E: Eprint> Progress<'a, E> {
+    /// Nothing is written yet.
+    pub fn new(to: &'a E, options: ClusterOptions) -> Self {
+        let words = options.words();
+        Progress {
+            to,
+            all: u64::from(words.storages) * u64::from(words.turns),
+            turns: AtomicU64::new(0),
+            known: AtomicU64::new(0),
+            epoch: AtomicU64::new(0),
+        }
+    }
+
+    /// A storage server took a turn.
+    fn count_turn(&self) {
+        let turn = self.turns.fetch_add(1, Ordering::SeqCst);
+        if turn % TURNS_A_LINE == 0 {
+            self.show(turn);
+        }
+    }
+
+    /// Writes the line. That it cannot be written stops nothing.
+    fn show(&self, turn: u64) {
+        let all = self.all;
+        let known = self.known.load(Ordering::SeqCst);
+        let epoch = self.epoch.load(Ordering::SeqCst);
+        let _ = eprint!(self.to;
+            "\rturn {turn} of {all}, epoch {epoch}, committed through {known} "
+        );
+    }
+
+    /// Ends the line.
+    pub fn end(&self) {
+        let turns = self.turns.load(Ordering::SeqCst);
+        self.show(turns);
+        let _ = eprintln!(self.to; "");
+    }
+}
+
+/// Raises a number that is only shown.
+fn raise(number: &AtomicU64, to: u64) {
+    if number.load(Ordering::SeqCst) < to {
+        number.store(to, Ordering::SeqCst);
+    }
+}
+
+impl<E: Eprint> Faults for Progress<'_, E> {
+    ghost use Rattle.std.specs.Prelude.{◌+◌, ◌*◌, ◌/◌, ◌==◌};
+
+    ghost begun = { λ p ballot turn. turn + 100 == 100 * (ballot / 256) };
+
+    fn verdict(&self, to: NodeId, ask: &Ask) -> Verdict {
+        if let NodeId::Log { epoch, .. } = to {
+            raise(&self.epoch, epoch.get());
+        }
+        match ask {
+            Ask::Log(LogAsk::Push(push)) => raise(&self.known, push.known().get()),
+            Ask::Log(LogAsk::MarkAsked { .. }) => self.count_turn(),
+            _ => {}
+        }
+        NoFaults.verdict(to, ask)
+    }
+
+    fn answered(&self, to: NodeId, ask: &Ask) {
+        NoFaults.answered(to, ask);
+    }
+
+    fn crash(&self, turn: u32) -> Option<NodeId> {
+        NoFaults.crash(turn)
+    }
+
+    fn begins(&self, ballot: Ballot, turn: u32) -> bool {
+        NoFaults.begins(ballot, turn)
+    }
+}

@@ -1,0 +1,67 @@
+//! What a cluster starts from, its ballots and its workloads.
+ghost use Rattle.std.specs.Prelude.{◌≡◌, ◌≤◌, ◌<◌, ◌∷◌, [], length, IfOk, IfErr};
+ghost use Rattle.fr_cli_cluster.specs.Options.{IsWithin};
+ghost use Rattle.fr_cli_cluster.specs.Setting.{begins_of, config_of};
+
+use crate::options::ClusterWords;
+use fr_base::{Ballot, Bytes, Memory};
+use fr_config::Config;
+use fr_runtime::Orders;
+use std::alloc::Global;
+
+/// What the nodes of a cluster start from.
+pub(crate) fn config(alloc: Global, words: &ClusterWords) -> Result<Config, Memory>
+    requires within { IsWithin words.now }
+    ensures { IfOk result (λ config. config ≡ config_of words.now) }
+{
+    let begins = begins(alloc, words.storages)?;
+    match Config::new(
+        words.coordinators,
+        words.logs,
+        words.degree,
+        begins,
+        words.proxies,
+    ) {
+        Ok(config) => Ok(config),
+        Err(_) => unreachable!(),
+    }
+}
+
+/// Where the shards begin: the first at the empty key, shard i at the byte 8 i.
+fn begins(alloc: Global, storages: u8) -> Result<Vec<Bytes>, Memory>
+    requires some { 1 ≤ storages }
+    requires few { storages ≤ 32 }
+    ensures { IfOk result (λ begins. begins.items ≡ begins_of storages) }
+{
+    let mut begins = Vec::new(alloc);
+    begins.push(Bytes::empty(alloc))?;
+    for before in 0..storages - 1 {
+        begins.push(Bytes::from_slice(alloc, &[(before + 1) * 8])?)?;
+    }
+    Ok(begins)
+}
+
+/// The ballots: that of recovery i, counted from 1, has the round i + 1 and the recoverer number 1.
+pub(crate) fn ballots(alloc: Global, recoveries: u8) -> Result<Vec<Ballot>, Memory>
+    ensures { IfOk result (λ ballots. length ballots.items ≡ recoveries) }
+{
+    let mut all = Vec::new(alloc);
+    for number in 0..recoveries {
+        match Ballot::new((u64::from(number) + 2) * 256 + 1) {
+            Some(ballot) => all.push(ballot)?,
+            None => unreachable!(),
+        }
+    }
+    Ok(all)
+}
+
+/// A workload for each proxy.
+pub(crate) fn works(alloc: Global, words: &ClusterWords) -> Result<Vec<Orders>, Memory>
+    ensures { IfOk result (λ works. length works.items ≡ words.now.proxies) }
+{
+    let mut all = Vec::new(alloc);
+    for number in 0..words.proxies {
+        all.push(Orders::new(alloc, number, words.storages, words.batches))?;
+    }
+    Ok(all)
+}

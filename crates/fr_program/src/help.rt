@@ -1,0 +1,213 @@
+//! What stands below the help of each command.
+
+/// What stands below the help of `apply`.
+pub(crate) const APPLY_HELP: &str = "\
+The script is read from standard input. Keys, values and parameters are lower case hex, two
+digits a byte; versions are numbers below 2^62. It is an object {\"ops\":[..]} of operations:
+
+  {\"apply\":{\"version\":V,\"batch\":[..]}}   applies mutations at version V
+  {\"undo\":{\"to\":V}}                      undoes all versions above V
+  {\"forget\":{\"through\":V}}               forgets how to undo below V
+  {\"advance\":{\"version\":V}}              moves the version applied to V, and nothing else
+
+A batch is a list of mutations:
+
+  {\"set\":{\"key\":K,\"value\":X}}         the key takes the value
+  {\"clear\":{\"begin\":K,\"end\":K}}       the keys from begin up to, but without, end go
+  {\"add\":{\"key\":K,\"param\":X}}         the key takes the sum of its value and X; so for
+                                        and, or, xor, max and min
+
+It prints a line for each operation, and then the rows of the store:
+
+  ok A floor F undo U   done: the version applied, the floor (no undo goes below it) and the
+                        number of undo rows (values kept so that they can be put back)
+  refused NAME          not done, and nothing changed: a batch by the first limit it breaks
+                        (TooMany: 1,000 mutations, KeyTooLong: 10,000 bytes, ValueTooLong:
+                        100,000 bytes, Inverted: a clear that ends before it begins); then
+                        NotAfter (a version not above the one applied), BelowFloor,
+                        AboveApplied
+  KEY VALUE             a row, - for no bytes
+
+With --store sql the rows are kept in the tables of a database in memory. It prints the same.
+
+For instance
+
+  {\"ops\":[
+    {\"apply\":{\"version\":5,\"batch\":[{\"set\":{\"key\":\"61\",\"value\":\"01\"}}]}},
+    {\"apply\":{\"version\":6,\"batch\":[
+      {\"set\":{\"key\":\"61\",\"value\":\"02\"}},
+      {\"clear\":{\"begin\":\"61\",\"end\":\"63\"}},
+      {\"add\":{\"key\":\"61\",\"param\":\"05\"}}]}},
+    {\"undo\":{\"to\":5}}]}
+
+prints
+
+  ok 5 floor 0 undo 1
+  ok 6 floor 0 undo 2
+  ok 5 floor 0 undo 1
+  61 01
+
+Statuses: 0 done, refused operations included; 2 bad script, or bad words; 3 out of memory;
+4 input or output failed. A bad script prints no line.";
+
+/// What stands below the help of `end`.
+pub(crate) const END_HELP: &str = "\
+The script is read from standard input. It is an object of what the locked logs of a generation
+replied, in the order in which the replies came:
+
+  {\"replies\":[[I,DURABLE,KNOWN],..]}
+
+I is the number of the log, 0 to 255 (the generation has those below M), DURABLE the greatest
+version that it holds, KNOWN the greatest that it knows to be committed: numbers below 2^62.
+
+It prints a line for each reply:
+
+  none                  the replies do not cover yet: only those of more than M - K logs have
+                        a log of each tag among them
+  pev P rv R            the end of the epoch: all through P is known to be committed, and the
+                        next epoch takes over all through R
+  inconsistent          P would be above R: a log knows a version to be committed that
+                        another one does not hold
+  refused NAME          not counted: Stranger (the generation has no such log) or Differs
+                        (this log replied otherwise before)
+
+For instance, with --logs 4 --degree 2,
+
+  {\"replies\":[[0,12,8],[1,10,9],[2,11,7]]}
+
+prints
+
+  none
+  none
+  pev 9 rv 10
+
+Statuses: 0 done, refused replies included; 2 bad script, or bad words, a K above M among them;
+3 out of memory; 4 input or output failed. A bad script prints no line.";
+
+/// What stands below the help of `simulate`.
+pub(crate) const SIMULATE_HELP: &str = "\
+The script is read from standard input. It says what a world starts from, and steps:
+
+  {\"config\":{\"coordinators\":3,\"degree\":2,\"logs\":2,\"proxies\":1,\"shards\":[\"\"]},\"steps\":[..]}
+
+There are 1, 3, 5, 7 or 9 coordinators, 1 to 16 logs, each tag on degree of them, 1 to 16 proxies,
+and a storage server for each shard, of the keys from where it begins, in lower case hex, on. The
+first epoch is 257, its first version 1. A step is one of
+
+  {\"commit\":{\"epoch\":E,\"proxy\":P,\"step\":D,\"batch\":[..],\"logs\":[I,..]}}
+      a proxy takes a batch, has it numbered D above the last version, and pushes it to these logs;
+      mutations are those of apply
+  {\"push\":{\"epoch\":E,\"proxy\":P,\"logs\":[I,..]}}
+      it pushes the batch that it has open again
+  {\"pull\":{\"storage\":S,\"epoch\":E,\"log\":I}}
+      a storage server applies what a log has for it
+  {\"mark\":{\"storage\":S,\"epoch\":E,\"log\":I}}
+      it hears of the epoch, and takes back what did not survive
+  {\"recover\":{\"ballot\":B,\"read\":[C,..],\"lock\":[I,..],\"write\":[C,..],\"mark\":[I,..]}}
+      the recoverer of a ballot begins or goes on: it reads these cells, locks these logs, copies
+      and seeds, writes to these cells, and gives these logs the mark
+  {\"lose\":{\"epoch\":E,\"log\":I}}
+      a log is lost for good
+
+It prints a line for each step, and then where each storage server stands, with its rows:
+
+  commit E P V OUTCOME      the batch has version V: committed, ended or waiting; so for push
+  commit E P ended          the batch was given no version
+  pull S E V                the server stands at version V of epoch E; so for mark
+  recover B PHASE           reading, locking, copying, writing, chosen pev P rv R (through P all is
+                            known to be committed, through R the epoch takes over) or lost WHY
+  lose E I                  the log is lost
+  .. refused NAME           not done, and nothing changed
+  storage S E V floor F rows N
+  KEY VALUE                 a row, - for no bytes
+
+For instance
+
+  {\"config\":{\"coordinators\":3,\"degree\":2,\"logs\":2,\"proxies\":1,\"shards\":[\"\"]},\"steps\":[
+    {\"commit\":{\"epoch\":257,\"proxy\":0,\"step\":1,\"batch\":[
+      {\"set\":{\"key\":\"61\",\"value\":\"01\"}}],\"logs\":[0,1]}},
+    {\"recover\":{\"ballot\":513,\"read\":[0,1],\"lock\":[1],\"write\":[0,1],\"mark\":[0,1]}},
+    {\"mark\":{\"storage\":0,\"epoch\":513,\"log\":0}},
+    {\"pull\":{\"storage\":0,\"epoch\":513,\"log\":0}}]}
+
+prints
+
+  commit 257 0 2 committed
+  recover 513 chosen pev 0 rv 2
+  mark 0 513 0
+  pull 0 513 3
+  storage 0 513 3 floor 0 rows 1
+  61 01
+
+Statuses: 0 done, refused steps included; 2 bad script, or bad words; 3 out of memory; 4 input or
+output failed. A bad script prints no line.";
+
+/// What stands below the help of `audit`.
+pub(crate) const AUDIT_HELP: &str = "\
+The script is read from standard input. It says what a world starts from, as that of simulate does,
+and what each node says that it did:
+
+  {\"config\":{..},\"journals\":[{\"node\":NODE,\"entries\":[{\"stamp\":N,\"act\":ACT},..],\"last\":LAST},..]}
+
+A node is {\"cell\":{\"index\":I}}, {\"log\":{\"epoch\":E,\"index\":I}}, {\"sequencer\":{\"epoch\":E}},
+{\"proxy\":{\"epoch\":E,\"number\":P}}, {\"recoverer\":{\"ballot\":B}} or {\"storage\":{\"tag\":T}}. The stamps
+of a journal rise, each below 2^40. An act is one of
+
+  {\"asked\":{\"from\":NODE,\"ask\":ASK,\"tell\":TELL}}   it was asked this, and told that
+  {\"heard\":{\"from\":NODE,\"tell\":TELL,\"taken\":V,\"outcome\":O}}
+      it heard this: V is null, or the version at which a storage server broke off; O what a proxy
+      says of its batch, of any other node null
+  {\"submitted\":{\"step\":D,\"batch\":[..]}}            a proxy took a batch
+  {\"begun\":{}}, {\"crashed\":{}}, {\"lost\":{}}         a recoverer began; it crashed; a log is lost
+
+LAST is where the node stood at last, or null. docs/FORMATS.md has all asks, tells and last states.
+The entries of all journals are taken by their stamps, those of one stamp by their nodes, and counted
+from 0. It prints one line:
+
+  audit ok                the journals are a run: each entry can happen there, tells what the world
+                          tells, and each node ends as its journal says
+  not a run at N          entry N cannot happen there, or has the stamp and the node of the one before
+  tell differs at N       the world tells something else at entry N, or gives another outcome
+  state differs at NODE   the node stands elsewhere at last, its journal was not closed, or there is
+                          no such node: cell I, log E I, sequencer E, proxy E P, recoverer B, storage T
+
+For instance
+
+  {\"config\":{\"coordinators\":1,\"degree\":1,\"logs\":1,\"proxies\":1,\"shards\":[\"\"]},\"journals\":[
+    {\"node\":{\"log\":{\"epoch\":257,\"index\":0}},\"entries\":[{\"stamp\":1,\"act\":{\"asked\":{
+        \"from\":{\"storage\":{\"tag\":0}},
+        \"ask\":{\"log\":{\"peek\":{\"after\":0,\"epoch\":257,\"most\":100,\"tag\":0}}},
+        \"tell\":{\"log\":{\"peeked\":{\"after\":0,\"known\":0,\"records\":[],\"tag\":0,\"upto\":1}}}}}}],
+      \"last\":{\"log\":{\"durable\":1,\"known\":0,\"seeded\":true,\"stopped\":false}}}]}
+
+prints
+
+  audit ok
+
+Statuses: 0 a run; 1 a fault of the journals; 2 bad script, or bad words; 3 out of memory; 4 input
+or output failed. A bad script prints no line.";
+
+/// What stands below the help of `cluster`.
+pub(crate) const CLUSTER_HELP: &str = "\
+Coordinators, logs, a sequencer and proxies run in memory, with a workload for each proxy, storage
+servers that pull, and recoverers. Each workload, storage server and recoverer has a thread, and takes
+turns in it: in a turn a workload hands out a batch, where it has none open, and its proxy sends each
+ask whose tell it wants once; a storage server asks one log for its records and one for the mark of
+the newest epoch; a recoverer sends each ask whose tell it wants once. Recovery I, counted from 1,
+begins at turn 100 I of its thread. No ask is lost and no node crashes. Batch J of workload W sets one
+key, of two bytes, 8 (J mod the number of storage servers) and W, to J, as four bytes.
+
+Each node keeps a journal of what it did. Once all threads are at their end the journals are audited,
+as by the command audit, and one line is printed:
+
+  audit ok                the journals are a run: all that is proved of runs holds of this one
+
+or the line of a fault, as audit prints it. With --journal the script of that audit is printed in
+place of audit ok, on one line: fdbrec audit reads it, and bench/timeline draws it.
+
+Where the words say nothing, 3 coordinators, 4 logs, each tag on 2 of them, 2 storage servers and 2
+proxies run, each workload has 20 batches, and one recovery begins. Which thread comes when, and with
+it what the journals say, differs from run to run.
+
+Statuses: 0 a run; 1 a fault of the journals; 2 bad words; 3 out of memory, or no thread or node could
+be made; 4 output failed. It reads no input.";

@@ -1,0 +1,5 @@
+mod Captures
+mod Gathers
+mod Heards
+mod Starts
+mod Took

@@ -1,0 +1,118 @@
+//! The running cluster.
+ghost use Rattle.std.specs.Prelude.{◌≡◌, IfOk};
+ghost use Rattle.fr_audit_rule.specs.Run.{IsRunOf};
+ghost use Rattle.fr_runtime.specs.Handed.{IsHanded};
+ghost use Rattle.fr_runtime.specs.Heard.{AllBegin, AreHeard};
+
+use crate::fault::RunFault;
+use crate::gathered::Gathered;
+use crate::handed::unlike;
+use crate::job::run_threads;
+use crate::prepare::{directory, storages};
+use crate::rack::Rack;
+use fr_audit::{AuditFault, World, audit};
+use fr_audit_rule::laws::audit_law;
+use fr_base::Ballot;
+use fr_config::Config;
+use fr_journal::Journal;
+use fr_journal::laws::merge_law;
+use fr_proxy::Outcome;
+use fr_station::Faults;
+use fr_threads::Workload;
+use std::alloc::Global;
+use std::sync::Wait;
+use std::thread::Threads;
+
+/// What a cluster did: the journals of its nodes, the world that they are a run of, and what each workload was told.
+#[derive(Drop)]
+pub struct Report {
+    pub journals: Vec<Journal>,
+    pub world: World,
+    pub told: Vec<Vec<Outcome>>,
+}
+
+/// A cluster: cells, logs, sequencers, proxies, recoverers and storage servers, in threads.
+#[derive(Clone, Copy, Debug)]
+pub struct Cluster;
+
+impl Cluster {
+    /// Runs a cluster of a config, with one workload for each proxy of a generation, and a recoverer for each ballot, that
+    /// begins when the faults say so. Each workload, each storage server and each ballot has a thread, and the crashes have
+    /// one; each ends after so many turns. Then the journals of all nodes are audited: what is answered is a run, in which
+    /// everything holds that is proved of runs. Where it is refused, rack and workloads are dropped.
+    ///
+    /// Each node that is there at the start has its journal among them, entries or none, and so has each other that took
+    /// a turn; no node has two. A node of the start without one is `StateDiffers`: so it is with a proxy whose workload
+    /// is wanting.
+    ///
+    /// By the journals, what a workload gave is what the proxies of its number took, in order, and at most one batch more;
+    /// and it was told of each in turn what such a proxy said: committed at a version, ended, or else that it is waiting.
+    /// Each ballot but 0 for which the faults let a recoverer begin at one of the turns has its recoverer's journal, which
+    /// starts with that it began.
+    pub fn run<
+        K: Rack + Drop,
+        W: Workload + Send + Drop,
+        F: Faults + Sync,
+        R: Threads + Wait + Sync,
+    >(
+        rt: &R,
+        alloc: Global,
+        config: Config,
+        ballots: &[Ballot],
+        turns: u32,
+        rack: K,
+        workloads: Vec<W>,
+        faults: &F,
+    ) -> Result<(Report, Vec<W>), RunFault>
+        ensures run { IfOk result (λ done. IsRunOf config done.0.journals.items done.0.world.turns) }
+        ensures config { IfOk result (λ done. done.0.world.config ≡ config) }
+        ensures handed { IfOk result (λ done. IsHanded config done.0.journals.items done.0.world.turns) }
+        ensures heard { IfOk result (λ done. AreHeard W.given W.heard done.0.journals.items 0 workloads.items done.1.items done.0.told.items) }
+        ensures begun { IfOk result (λ done. AllBegin (F.begun faults.now) turns done.0.journals.items ballots.now) }
+    {
+        let directory = directory(rt, alloc, &config, &rack, ballots)?;
+        let stores = storages(alloc, &config, &rack)?;
+        let done = run_threads(
+            rt, alloc, &config, &directory, faults, ballots, turns, workloads, stores,
+        )?;
+        let journals = directory.into_journals(alloc)?;
+        let all = Gathered::new(alloc, journals, done)?;
+        let Gathered {
+            journals,
+            told,
+            works,
+        } = all;
+        let report = audited_report(alloc, config, journals, told)?;
+        Ok((report, works))
+    }
+}
+
+/// What journals come to, which are audited. A node of the start that has no journal, or a node that has two, is found
+/// first.
+fn audited_report(
+    alloc: Global,
+    config: Config,
+    journals: Vec<Journal>,
+    told: Vec<Vec<Outcome>>,
+) -> Result<Report, RunFault>
+    ensures run { IfOk result (λ report. IsRunOf config report.journals.items report.world.turns) }
+    ensures config { IfOk result (λ report. report.world.config ≡ config) }
+    ensures handed { IfOk result (λ report. IsHanded config report.journals.items report.world.turns) }
+    ensures journals { IfOk result (λ report. report.journals ≡ journals) }
+    ensures told { IfOk result (λ report. report.told ≡ told) }
+{
+    audit_law();
+    merge_law();
+    let all = journals.as_slice();
+    if let Some(node) = unlike(&config, all) {
+        return Err(RunFault::Audit(AuditFault::StateDiffers { node }));
+    }
+    match audit(alloc, config, all) {
+        Ok(world) => Ok(Report {
+            journals,
+            world,
+            told,
+        }),
+        Err(fault) => Err(RunFault::Audit(fault)),
+    }
+}

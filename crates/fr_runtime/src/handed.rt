@@ -1,0 +1,106 @@
+//! Whose journals are handed back.
+ghost use Rattle.std.specs.Prelude.{◌≡◌, ◌<◌, ℕ, false, true, length, IfNone, IfSome};
+ghost use Rattle.fr_base.specs.declared.place.NodeId.TheVariants as node;
+ghost use Rattle.fr_runtime.specs.Handed.{HasStart, are_of_one_each, has_journal};
+
+use crate::prepare::first_epoch;
+use fr_base::{NodeId, Tag};
+use fr_config::Config;
+use fr_journal::Journal;
+
+/// The first node of the start that has no journal among these, or the first node that has two.
+pub(crate) fn unlike(config: &Config, journals: &[Journal]) -> Option<NodeId>
+    ensures start { IfNone result (HasStart config.now journals.now) }
+    ensures each { IfNone result (are_of_one_each journals.now ≡ true) }
+{
+    let epoch = first_epoch();
+    if let Some(index) = cell_without(config, journals) {
+        return Some(NodeId::Cell { index });
+    }
+    if let Some(index) = log_without(config, journals) {
+        return Some(NodeId::Log { epoch, index });
+    }
+    if !has_journal(journals, NodeId::Sequencer { epoch }) {
+        return Some(NodeId::Sequencer { epoch });
+    }
+    if let Some(number) = proxy_without(config, journals) {
+        return Some(NodeId::Proxy { epoch, number });
+    }
+    if let Some(tag) = storage_without(config, journals) {
+        return Some(NodeId::Storage { tag });
+    }
+    twice(journals)
+}
+
+/// Whether one of these is the journal of a node.
+fn has_journal(journals: &[Journal], who: NodeId) -> bool
+    ensures { result ≡ has_journal who journals.now }
+{
+    journals.iter().any(|journal| journal.node().is_same(who))
+}
+
+/// The first coordinator that has no journal.
+fn cell_without(config: &Config, journals: &[Journal]) -> Option<u8>
+    ensures { IfNone result ((i : ℕ) → i < config.now.cells → has_journal (node.Cell i) journals.now ≡ true) }
+{
+    for index in 0..config.coordinators() {
+        if !has_journal(journals, NodeId::Cell { index }) {
+            return Some(index);
+        }
+    }
+    None
+}
+
+/// The first log of the start that has no journal.
+fn log_without(config: &Config, journals: &[Journal]) -> Option<u8>
+    ensures { IfNone result ((i : ℕ) → i < config.now.m → has_journal (node.Log 257 i) journals.now ≡ true) }
+{
+    let epoch = first_epoch();
+    for index in 0..config.logs() {
+        if !has_journal(journals, NodeId::Log { epoch, index }) {
+            return Some(index);
+        }
+    }
+    None
+}
+
+/// The first proxy of the start that has no journal.
+fn proxy_without(config: &Config, journals: &[Journal]) -> Option<u8>
+    ensures { IfNone result ((p : ℕ) → p < config.now.proxies → has_journal (node.Proxy 257 p) journals.now ≡ true) }
+{
+    let epoch = first_epoch();
+    for number in 0..config.proxies() {
+        if !has_journal(journals, NodeId::Proxy { epoch, number }) {
+            return Some(number);
+        }
+    }
+    None
+}
+
+/// The first storage server that has no journal.
+fn storage_without(config: &Config, journals: &[Journal]) -> Option<Tag>
+    ensures { IfNone result ((t : ℕ) → t < length config.now.begins → has_journal (node.Storage t) journals.now ≡ true) }
+{
+    for number in 0..config.map().begins().len() {
+        let Some(tag) = Tag::new(number as u8) else {
+            unreachable!();
+        };
+        if !has_journal(journals, NodeId::Storage { tag }) {
+            return Some(tag);
+        }
+    }
+    None
+}
+
+/// The first node that has two journals.
+fn twice(journals: &[Journal]) -> Option<NodeId>
+    ensures none { IfNone result (are_of_one_each journals.now ≡ true) }
+    ensures some { IfSome result (λ who. are_of_one_each journals.now ≡ false) }
+{
+    for at in 0..journals.len() {
+        if has_journal(&journals[at + 1..], journals[at].node()) {
+            return Some(journals[at].node());
+        }
+    }
+    None
+}

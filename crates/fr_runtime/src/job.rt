@@ -1,0 +1,258 @@
+//! What the threads of a cluster do.
+ghost use Rattle.std.specs.Prelude.{◌≡◌, ◌++◌, ◌∷◌, [], ◌<◌, ℕ, IfOk, OnOk, length, slice_index_or};
+ghost use Rattle.fr_runtime.specs.declared.job.Job.TheVariants as job_of;
+ghost use Rattle.fr_runtime.specs.Job.{AllDid, Did, DidServe, oks, pull_jobs, recover_jobs, serve_jobs};
+
+use crate::fault::RunFault;
+use crate::prepare::{first_generation, put};
+use fr_base::{Ballot, Memory, Node};
+use fr_config::Config;
+use fr_journal::Journal;
+use fr_log::Log;
+use fr_proxy::Outcome;
+use fr_register::Cell;
+use fr_station::{Directory, Faults};
+use fr_storage::Storage;
+use fr_threads::{Order, Served, TurnFault, Workload, crash, pull, recover, serve};
+use fr_undo::ShardStore;
+use std::alloc::Global;
+use std::sync::Wait;
+use std::thread::{Threads, map_vec};
+
+/// What one thread does.
+#[derive(Drop)]
+pub(crate) enum Job<W, T> {
+    /// It hands the batches of a workload to the proxies of a number.
+    Serve { number: usize, work: W },
+    /// It has the recoverer of a ballot begin and recover.
+    Recover { ballot: Ballot },
+    /// It has a storage server pull.
+    Pull { storage: T },
+    /// It crashes nodes.
+    Crash,
+}
+
+/// What one thread hands back.
+#[derive(Drop)]
+pub(crate) enum Done<W> {
+    /// A workload, the journals of its proxies, the batch that none of them took, and what the workload was told.
+    Served {
+        work: W,
+        journals: Vec<Journal>,
+        kept: Option<Order>,
+        told: Vec<Outcome>,
+    },
+    /// The journal of another node.
+    Kept {
+        journal: Journal,
+    },
+    /// Nothing.
+    Nothing,
+}
+
+/// What the threads do: one for each workload, each ballot and each storage server, and one for the crashes.
+fn jobs<W: Drop, T: Drop>(
+    alloc: Global,
+    workloads: Vec<W>,
+    ballots: &[Ballot],
+    stores: Vec<T>,
+) -> Result<Vec<Job<W, T>>, Memory>
+    ensures { IfOk result (λ all. all.items ≡ serve_jobs 0 workloads.items ++ (recover_jobs ballots.now ++ (pull_jobs stores.items ++ job_of.Crash ∷ []))) }
+{
+    let mut all = Vec::new(alloc);
+    add_serving(&mut all, workloads)?;
+    add_recovering(&mut all, ballots)?;
+    add_pulling(&mut all, stores)?;
+    put(&mut all, Job::Crash)?;
+    Ok(all)
+}
+
+/// Adds a job for each workload, with its number.
+fn add_serving<W: Drop, T: Drop>(all: &mut Vec<Job<W, T>>, workloads: Vec<W>) -> Result<(), Memory>
+    ensures { OnOk result (all.new.items ≡ all.old.items ++ serve_jobs 0 workloads.items) }
+{
+    let mut number: usize = 0;
+    for work in workloads {
+        put(all, Job::Serve { number, work })?;
+        number += 1;
+    }
+    Ok(())
+}
+
+/// Adds a job for each ballot.
+fn add_recovering<W: Drop, T: Drop>(
+    all: &mut Vec<Job<W, T>>,
+    ballots: &[Ballot],
+) -> Result<(), Memory>
+    ensures { OnOk result (all.new.items ≡ all.old.items ++ recover_jobs ballots.now) }
+{
+    for ballot in ballots {
+        put(all, Job::Recover { ballot: *ballot })?;
+    }
+    Ok(())
+}
+
+/// Adds a job for each storage server.
+fn add_pulling<W: Drop, T: Drop>(all: &mut Vec<Job<W, T>>, stores: Vec<T>) -> Result<(), Memory>
+    ensures { OnOk result (all.new.items ≡ all.old.items ++ pull_jobs stores.items) }
+{
+    for storage in stores {
+        put(all, Job::Pull { storage })?;
+    }
+    Ok(())
+}
+
+/// The turns of a workload. One whose number is beyond those of proxies is handed back as it came.
+fn serve_at<
+    C: Node<Plain = Cell> + Drop,
+    L: Node<Plain = Log> + Drop,
+    W: Workload + Drop,
+    F: Faults,
+    R: Wait,
+>(
+    rt: &R,
+    alloc: Global,
+    config: &Config,
+    directory: &Directory<C, L>,
+    faults: &F,
+    turns: u32,
+    number: usize,
+    work: W,
+) -> Result<Done<W>, TurnFault>
+    ensures { IfOk result (λ done. DidServe W.given W.heard number work done) }
+{
+    let Ok(proxy) = u8::try_from(number) else {
+        return Ok(Done::Served {
+            work,
+            journals: Vec::new(alloc),
+            kept: None,
+            told: Vec::new(alloc),
+        });
+    };
+    let first = first_generation(config);
+    let Served {
+        work,
+        journals,
+        kept,
+        told,
+    } = serve(
+        rt, alloc, config, first, directory, faults, proxy, work, turns,
+    )?;
+    Ok(Done::Served {
+        work,
+        journals,
+        kept,
+        told,
+    })
+}
+
+/// Does what one thread does.
+fn work_at<
+    C: Node<Plain = Cell> + Drop,
+    L: Node<Plain = Log> + Drop,
+    S: ShardStore + Drop,
+    W: Workload + Drop,
+    F: Faults,
+    R: Wait,
+>(
+    rt: &R,
+    alloc: Global,
+    config: &Config,
+    directory: &Directory<C, L>,
+    faults: &F,
+    turns: u32,
+    job: Job<W, Storage<S>>,
+) -> Result<Done<W>, TurnFault>
+    ensures { IfOk result (λ done. Did W.given W.heard (F.begun faults.now) turns job done) }
+{
+    match job {
+        Job::Serve { number, work } => serve_at(
+            rt, alloc, config, directory, faults, turns, number, work,
+        ),
+        Job::Recover { ballot } => {
+            match recover(rt, alloc, config, directory, faults, ballot, turns)? {
+                Some(journal) => Ok(Done::Kept { journal }),
+                None => Ok(Done::Nothing),
+            }
+        }
+        Job::Pull { storage } => {
+            let journal = pull(rt, alloc, config, directory, faults, storage, turns)?;
+            Ok(Done::Kept { journal })
+        }
+        Job::Crash => {
+            crash(rt, alloc, directory, faults, turns);
+            Ok(Done::Nothing)
+        }
+    }
+}
+
+/// Runs the threads to their ends: what each hands back, in their order.
+fn run_jobs<
+    C: Node<Plain = Cell> + Send + Drop,
+    L: Node<Plain = Log> + Send + Drop,
+    S: ShardStore + Send + Drop,
+    W: Workload + Send + Drop,
+    F: Faults + Sync,
+    R: Threads + Wait + Sync,
+>(
+    rt: &R,
+    alloc: Global,
+    config: &Config,
+    directory: &Directory<C, L>,
+    faults: &F,
+    turns: u32,
+    jobs: Vec<Job<W, Storage<S>>>,
+) -> Result<Vec<Result<Done<W>, TurnFault>>, Memory>
+    ensures len { IfOk result (λ done. length done.items ≡ length jobs.items) }
+    ensures did { IfOk result (λ done. (i : ℕ) (j : _) (d : _) → i < length jobs.items → IfOk (slice_index_or done.items i d) (Did W.given W.heard (F.begun faults.now) turns (slice_index_or jobs.items i j))) }
+{
+    let one = move |job: Job<W, Storage<S>>| -> Result<Done<W>, TurnFault>
+        ensures { IfOk result (λ done. Did W.given W.heard (F.begun faults.entry.now) turns job done) }
+    { work_at(rt, alloc, config, directory, faults, turns, job) };
+    Ok(map_vec(rt, jobs, &one)?)
+}
+
+/// What threads handed back, where none has a fault.
+fn without_fault<W: Drop>(
+    alloc: Global,
+    threads: Vec<Result<Done<W>, TurnFault>>,
+) -> Result<Vec<Done<W>>, RunFault>
+    ensures { IfOk result (λ all. threads.items ≡ oks all.items) }
+{
+    let mut all = Vec::new(alloc);
+    for thread in threads {
+        match thread {
+            Ok(done) => put(&mut all, done)?,
+            Err(fault) => return Err(RunFault::from(fault)),
+        }
+    }
+    Ok(all)
+}
+
+/// Runs a thread for each workload, each ballot and each storage server, and one for the crashes, to their ends. What
+/// they hand back stands in that order.
+pub(crate) fn run_threads<
+    C: Node<Plain = Cell> + Send + Drop,
+    L: Node<Plain = Log> + Send + Drop,
+    S: ShardStore + Send + Drop,
+    W: Workload + Send + Drop,
+    F: Faults + Sync,
+    R: Threads + Wait + Sync,
+>(
+    rt: &R,
+    alloc: Global,
+    config: &Config,
+    directory: &Directory<C, L>,
+    faults: &F,
+    ballots: &[Ballot],
+    turns: u32,
+    workloads: Vec<W>,
+    stores: Vec<Storage<S>>,
+) -> Result<Vec<Done<W>>, RunFault>
+    ensures { IfOk result (λ done. AllDid W.given W.heard (F.begun faults.now) turns (serve_jobs 0 workloads.items ++ (recover_jobs ballots.now ++ (pull_jobs stores.items ++ job_of.Crash ∷ []))) done.items) }
+{
+    let jobs = jobs(alloc, workloads, ballots, stores)?;
+    let threads = run_jobs(rt, alloc, config, directory, faults, turns, jobs)?;
+    let done = without_fault(alloc, threads)?;
+    Ok(done)
+}

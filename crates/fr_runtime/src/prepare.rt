@@ -1,0 +1,238 @@
+//! What a cluster starts with.
+ghost use Rattle.std.specs.Prelude.{◌≡◌, ◌++◌, ◌∷◌, ◌<◌, [], false, IfOk, None, OnOk};
+ghost use Rattle.fr_history.specs.Config.{first_generation};
+
+use crate::fault::RunFault;
+use crate::rack::Rack;
+use fr_base::{Ballot, Epoch, InMemory, LogId, Memory, Node, NodeFault, NodeId, Tag, Version};
+use fr_config::Config;
+use fr_housing::Housed;
+use fr_log::{Log, LogAsk, Push, Seed};
+use fr_proxy::Sequencer;
+use fr_register::{Cell, CellAsk, CellValue};
+use fr_state::{CoordState, Generation, encode};
+use fr_station::{Directory, Station};
+use fr_storage::Storage;
+use fr_undo::StoreFault;
+use std::alloc::Global;
+use std::sync::Wait;
+
+/// The number of the epoch that a cluster starts in: round 1, recoverer 1.
+const FIRST: u64 = 257;
+
+/// The first epoch.
+pub(crate) fn first_epoch() -> Epoch
+    ensures { result ≡ 257 }
+{
+    match Epoch::new(FIRST) {
+        Some(epoch) => epoch,
+        None => unreachable!(),
+    }
+}
+
+/// Version 1, which is that of the first mark.
+fn version_one() -> Version
+    ensures { result ≡ 1 }
+{
+    match Version::new(1) {
+        Some(version) => version,
+        None => unreachable!(),
+    }
+}
+
+/// The first generation.
+pub(crate) fn first_generation(config: &Config) -> Generation
+    ensures { result ≡ first_generation config.now }
+{
+    let _within = config.coordinators();
+    match Generation::new(
+        first_epoch(),
+        config.logs(),
+        config.degree(),
+        version_one(),
+        Version::ZERO,
+    ) {
+        Some(generation) => generation,
+        None => unreachable!(),
+    }
+}
+
+/// A cell that holds the first state.
+fn started_cell<N: Node<Plain = Cell> + Drop>(
+    alloc: Global,
+    node: N,
+    state: &CoordState,
+) -> Result<N, NodeFault>
+    requires works { N.is_failed node ≡ false }
+    requires free { N.held node ≡ None }
+    ensures works { IfOk result (λ started. N.is_failed started ≡ false) }
+    ensures free { IfOk result (λ started. N.held started ≡ None) }
+{
+    let mut node = node;
+    let Some(value) = CellValue::new(encode(alloc, state)?) else {
+        unreachable!();
+    };
+    let ballot = first_epoch().ballot();
+    let _ = node.serve(alloc, CellAsk::Write { ballot, value })?;
+    Ok(node)
+}
+
+/// A log of the first epoch, seeded with nothing, with the mark at version 1.
+fn started_log<N: Node<Plain = Log> + Drop>(
+    alloc: Global,
+    node: N,
+    state: &CoordState,
+) -> Result<N, NodeFault>
+    requires works { N.is_failed node ≡ false }
+    requires free { N.held node ≡ None }
+    ensures works { IfOk result (λ started. N.is_failed started ≡ false) }
+    ensures free { IfOk result (λ started. N.held started ≡ None) }
+{
+    let mut node = node;
+    let epoch = first_epoch();
+    let Some(seed) = Seed::new(epoch, version_one(), Version::ZERO, Vec::new(alloc)) else {
+        unreachable!();
+    };
+    let _ = node.serve(alloc, LogAsk::Seed(seed))?;
+    let Some(mark) = Push::mark(alloc, epoch, Version::ZERO, Version::ZERO, state.copy()?) else {
+        unreachable!();
+    };
+    let _ = node.serve(alloc, LogAsk::Push(mark))?;
+    Ok(node)
+}
+
+/// The cells of the start.
+fn cells<K: Rack>(
+    alloc: Global,
+    config: &Config,
+    rack: &K,
+    state: &CoordState,
+) -> Result<Vec<Station<K::Cell>>, RunFault> {
+    let mut all = Vec::new(alloc);
+    for index in 0..config.coordinators() {
+        let node = started_cell(alloc, rack.cell(alloc, index)?, state)?;
+        let place = NodeId::Cell { index };
+        put(&mut all, Station::new(Housed::new(alloc, node, place)))?;
+    }
+    Ok(all)
+}
+
+/// A log of an epoch that may come: one of the start is seeded and marked, the others are fresh.
+fn log_station<K: Rack>(
+    alloc: Global,
+    config: &Config,
+    rack: &K,
+    state: &CoordState,
+    id: LogId,
+) -> Result<Station<K::Log>, RunFault>
+    requires place { id.index < config.now.m }
+{
+    let _within = config.coordinators();
+    let LogId { epoch, index } = id;
+    let fresh = rack.log(alloc, id, config.logs(), config.degree())?;
+    let place = NodeId::Log { epoch, index };
+    if epoch == first_epoch() {
+        let node = started_log(alloc, fresh, state)?;
+        Ok(Station::new(Housed::new(alloc, node, place)))
+    } else {
+        Ok(Station::new(Housed::new(alloc, fresh, place)))
+    }
+}
+
+/// The logs of the start, and the fresh ones of all epochs that may come.
+fn logs<K: Rack>(
+    alloc: Global,
+    config: &Config,
+    rack: &K,
+    state: &CoordState,
+    epochs: &[Epoch],
+) -> Result<Vec<Station<K::Log>>, RunFault> {
+    let mut all = Vec::new(alloc);
+    for epoch in epochs {
+        for index in 0..config.logs() {
+            let id = LogId {
+                epoch: *epoch,
+                index,
+            };
+            put(&mut all, log_station(alloc, config, rack, state, id)?)?;
+        }
+    }
+    Ok(all)
+}
+
+/// The epochs that may come: the first, and one of each ballot.
+fn epochs(alloc: Global, ballots: &[Ballot]) -> Result<Vec<Epoch>, Memory> {
+    let mut all = Vec::new(alloc);
+    all.push(first_epoch())?;
+    for ballot in ballots {
+        if let Some(epoch) = ballot.epoch() {
+            all.push(epoch)?;
+        }
+    }
+    Ok(all)
+}
+
+/// All nodes that answer asks.
+pub(crate) fn directory<K: Rack, R: Wait>(
+    rt: &R,
+    alloc: Global,
+    config: &Config,
+    rack: &K,
+    ballots: &[Ballot],
+) -> Result<Directory<K::Cell, K::Log>, RunFault> {
+    let first = first_generation(config);
+    let state = CoordState::new(alloc, first)?;
+    let epochs = epochs(alloc, ballots)?;
+    let cells = cells(alloc, config, rack, &state)?;
+    let logs = logs(alloc, config, rack, &state, epochs.as_slice())?;
+    let directory = Directory::new(alloc, cells, logs, epochs, first)?;
+    let epoch = first_epoch();
+    let sequencer = InMemory::new(Sequencer::new(alloc, epoch, version_one()));
+    let housed = Housed::new(alloc, sequencer, NodeId::Sequencer { epoch });
+    directory.start(rt, housed);
+    Ok(directory)
+}
+
+/// The storage servers, in the order of their tags.
+pub(crate) fn storages<K: Rack>(
+    alloc: Global,
+    config: &Config,
+    rack: &K,
+) -> Result<Vec<Storage<K::Store>>, RunFault> {
+    let state = CoordState::new(alloc, first_generation(config))?;
+    let mut all = Vec::new(alloc);
+    for number in 0..32u8 {
+        if usize::from(number) < config.map().begins().len() {
+            put(&mut all, storage(alloc, rack, number, &state)?)?;
+        }
+    }
+    Ok(all)
+}
+
+/// The storage server of a tag, over a store of the rack.
+fn storage<K: Rack>(
+    alloc: Global,
+    rack: &K,
+    number: u8,
+    state: &CoordState,
+) -> Result<Storage<K::Store>, RunFault>
+    requires { number < 32 }
+{
+    let Some(tag) = Tag::new(number) else {
+        unreachable!();
+    };
+    match rack.store(alloc, tag) {
+        Ok(store) => Ok(Storage::start(alloc, store, tag, state.copy()?)?),
+        Err(StoreFault::Memory) => Err(RunFault::Memory),
+        Err(_) => Err(RunFault::Rack),
+    }
+}
+
+/// Puts an item behind the others.
+pub(crate) fn put<T: Drop>(all: &mut Vec<T>, item: T) -> Result<(), Memory>
+    ensures { OnOk result (all.new.items ≡ all.old.items ++ item ∷ []) }
+{
+    all.reserve(1)?;
+    all.push_reserved(item);
+    Ok(())
+}

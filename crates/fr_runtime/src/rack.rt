@@ -1,0 +1,68 @@
+//! Where the nodes and stores of a cluster come from.
+ghost use Rattle.std.specs.Prelude.{◌≡◌, ◌≤◌, ◌<◌, IfOk, false, None};
+ghost use Rattle.fr_log.specs.LogState.{fresh_log};
+ghost use Rattle.fr_register.specs.CellState.{fresh_cell};
+ghost use Rattle.fr_undo.specs.State.{fresh};
+
+use fr_base::{InMemory, LogId, Node, NodeFault, Tag};
+use fr_log::Log;
+use fr_register::Cell;
+use fr_undo::{MapStore, ShardStore, StoreFault};
+use std::alloc::Global;
+
+/// Where the nodes and stores of a cluster come from, each fresh.
+pub trait Rack {
+    /// A coordinator's cell.
+    type Cell: Node<Plain = Cell> + Send + Drop;
+
+    /// A log.
+    type Log: Node<Plain = Log> + Send + Drop;
+
+    /// The store of a storage server.
+    type Store: ShardStore + Send + Drop;
+
+    /// The cell of this number.
+    fn cell(&self, alloc: Global, index: u8) -> Result<Self::Cell, NodeFault>
+        ensures works { IfOk result (λ node. Self.Cell.is_failed node ≡ false) }
+        ensures free { IfOk result (λ node. Self.Cell.held node ≡ None) }
+        ensures fresh { IfOk result (λ node. Self.Cell.state node ≡ fresh_cell) };
+
+    /// A log of a generation of `m` logs, of which `k` hold each tag.
+    fn log(&self, alloc: Global, id: LogId, m: u8, k: u8) -> Result<Self::Log, NodeFault>
+        requires some { 1 ≤ k }
+        requires fits { k ≤ m }
+        requires limit { m ≤ 16 }
+        requires place { id.index < m }
+        ensures works { IfOk result (λ node. Self.Log.is_failed node ≡ false) }
+        ensures free { IfOk result (λ node. Self.Log.held node ≡ None) }
+        ensures fresh { IfOk result (λ node. Self.Log.state node ≡ fresh_log id.epoch id.index m k) };
+
+    /// The store of this tag.
+    fn store(&self, alloc: Global, tag: Tag) -> Result<Self::Store, StoreFault>
+        ensures works { IfOk result (λ store. Self.Store.is_failed store ≡ false) }
+        ensures fresh { IfOk result (λ store. Self.Store.state store ≡ fresh) };
+}
+
+/// All in memory, with no device that could fail.
+#[derive(Clone, Copy, Debug)]
+pub struct PlainRack;
+
+impl Rack for PlainRack {
+    type Cell = InMemory<Cell>;
+
+    type Log = InMemory<Log>;
+
+    type Store = MapStore;
+
+    fn cell(&self, alloc: Global, _index: u8) -> Result<InMemory<Cell>, NodeFault> {
+        Ok(InMemory::new(Cell::new(alloc)))
+    }
+
+    fn log(&self, alloc: Global, id: LogId, m: u8, k: u8) -> Result<InMemory<Log>, NodeFault> {
+        Ok(InMemory::new(Log::new(alloc, id, m, k)))
+    }
+
+    fn store(&self, alloc: Global, _tag: Tag) -> Result<MapStore, StoreFault> {
+        Ok(MapStore::new(alloc))
+    }
+}

@@ -1,0 +1,2 @@
+mod Journals
+pub mod Sent
