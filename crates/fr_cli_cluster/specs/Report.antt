@@ -7,6 +7,7 @@ use Rattle.fr_history.specs.Turn.{Turn}
 use Rattle.fr_journal.specs.Journal.{JournalState}
 use Rattle.fr_audit_rule.specs.Run.{IsRunOf}
 use Rattle.fr_audit_rule.specs.declared.fault.AuditFault.{AuditFault}
+use Rattle.fr_runtime.specs.Handed.{IsHanded}
 use Rattle.fr_cli_audit.specs.Lines.{fault_line}
 
 -- a text of JSON on a line
@@ -21,11 +22,12 @@ abbrev pub IsRunText : Bool → List ℕ → Type 0
 IsRunText false text = text ≡ codes "audit ok\n"
 IsRunText true text = IsScriptLine text
 
--- the journals of the nodes are a run of the config, and the status is 0
+-- the journals are a run of the config, each node that is there at the start or took a turn has its own among them, and the status is 0
 pub record IsRunReport (c : Config) (journal : Bool) (status : ℕ) (text : List ℕ) : Type 0 where
   pub journals : List JournalState
   pub turns : List Turn
   pub run : IsRunOf c journals turns
+  pub handed : IsHanded c journals turns
   pub status_is : status ≡ 0
   pub text_is : IsRunText journal text
 

@@ -3,6 +3,7 @@ ghost use Rattle.std.specs.Prelude.{◌≡◌, ◌<◌, ℕ, List, Err, IfErr, I
 ghost use Rattle.std.specs.Io.KnownBytes.{Appends};
 ghost use Rattle.fr_cli.specs.Calls.{no_calls, HasNotFailed, IsWriteFault};
 ghost use Rattle.fr_audit_rule.specs.Run.{IsRunOf};
+ghost use Rattle.fr_runtime.specs.Handed.{IsHanded};
 ghost use Rattle.fr_cli_audit.specs.Lines.{fault_line};
 ghost use Rattle.fr_cli_cluster.specs.Options.{IsWithin};
 ghost use Rattle.fr_cli_cluster.specs.Report.{IsReport};
@@ -23,7 +24,7 @@ use std::thread::Threads;
 
 /// Runs a cluster in memory, each workload, storage server and ballot in a thread of its own, and then audits the
 /// journals of all nodes. It writes `audit ok`, or the script of the audit, where they are a run, with status 0; else
-/// the line of the audit's fault, with status 1.
+/// the line of the audit's fault, with status 1. Each node of the config has its journal among those of a run.
 ///
 /// No ask is lost and no node crashes; the recoverer of ballot i, counted from 1, begins at turn 100 i of its thread.
 /// Want of memory, of a thread or of a node is `Memory`, and then nothing is written.
@@ -74,7 +75,8 @@ fn run<R: Threads + Wait + Sync, F: Faults + Sync>(
     faults: &F,
 ) -> Result<Result<Report, AuditFault>, Memory>
     requires within { IsWithin words.now }
-    ensures { IfOk result (λ ran. IfOk ran (λ report. IsRunOf (config_of words.now) report.journals.items report.world.turns)) }
+    ensures run { IfOk result (λ ran. IfOk ran (λ report. IsRunOf (config_of words.now) report.journals.items report.world.turns)) }
+    ensures handed { IfOk result (λ ran. IfOk ran (λ report. IsHanded (config_of words.now) report.journals.items report.world.turns)) }
 {
     let config = config(alloc, words)?;
     let ballots = ballots(alloc, words.recoveries)?;
@@ -107,6 +109,7 @@ fn put_report<W: Write>(
     writer: &mut W,
 ) -> Result<u8, CliFault>
     requires run { IfOk ran (λ report. IsRunOf (config_of words.now) report.journals.items report.world.turns) }
+    requires handed { IfOk ran (λ report. IsHanded (config_of words.now) report.journals.items report.world.turns) }
     ensures taken { OnOk ran (IfOk result (λ status. status ≡ 0)) }
     ensures refused { IfErr ran (λ fault. IfOk result (λ status. (status ≡ 1) × Appends (W.contents writer.old) (W.contents writer.new) (fault_line fault))) }
     ensures report { IfOk result (λ status. (text : List ℕ) × IsReport (config_of words.now) words.now.journal status text × Appends (W.contents writer.old) (W.contents writer.new) text) }
