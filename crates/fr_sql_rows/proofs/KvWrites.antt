@@ -25,9 +25,9 @@ use Rattle.fr_base.specs.Bytes.{bytes_cmp, is_same, bytes_exact, bytes_total}
 use Rattle.fr_base.proofs.MapLemmas.{one_key, is_same-comm}
 use Rattle.fr_mutation.specs.Mutation.{is_between}
 use Rattle.fr_sql_rows.specs.Rows.{kv_row, IsKvRow, AreKvRows, AreUndoRows, key_of, value_of, is_at_key, value_in}
-use Rattle.fr_sql_rows.specs.Connection.{IsLaidOut, Sets, Clears}
+use Rattle.fr_sql_rows.specs.Connection.{IsLaidOut, Sets}
 use Rattle.fr_sql_rows.proofs.StepLemmas.{cast_null, cast_int}
-use Rattle.fr_sql_rows.proofs.TextLemmas.{plain_query, has_key, in_range, put_text, put_is, put_plain, change_text, change_is, change_plain, remove_text, remove_is, remove_plain, clear_text, clear_is, clear_plain}
+use Rattle.fr_sql_rows.proofs.TextLemmas.{plain_query, has_key, in_range, put_text, put_is, put_plain, change_text, change_is, change_plain, remove_text, remove_is, remove_plain}
 use Rattle.fr_sql_rows.proofs.TableLemmas.{HasId, id_of, has_some, filter_table, left_is, one_put, absent, single_in, none_left, rest_left, put_in, single_put, taken_out}
 use Rattle.fr_sql_rows.proofs.QueryLemmas.{truth_and, truth_both, found_where, plain_answer, shown_ids}
 use Rattle.fr_sql_rows.proofs.WriteLemmas.{kv_table, Takes, inserts_kv, updates_kv, deletes_kv}
@@ -173,9 +173,3 @@ removes old new k count laid h =
     let l = loses (has_key ∷ []) (Blob k ∷ []) count old.now new.now (λ q. is_same q k) laid (λ r shape. where_key (Blob k ∷ []) r k refl shape)
     (deletes_kv remove_text (Blob k ∷ []) old new laid.schema remove_plain count _ remove_is h) in
     record { laid = l.laid; values = λ q. l.values q ∙ ap (λ b. cond b None (value_in (old.now.trees 0) q)) (is_same-comm q k); undo = l.undo; meta = l.meta }
-
-pub clears : (old new : State) (begin end : List ℕ) (count : ℕ) → IsLaidOut old.now → Executes clear_text (Blob begin ∷ Blob end ∷ []) old new (Ok count) → Clears begin end old.now new.now
-clears old new begin end count laid h =
-    let l = loses in_range (Blob begin ∷ Blob end ∷ []) count old.now new.now (is_between begin end) laid (λ r shape. where_between r begin end shape)
-    (deletes_kv clear_text (Blob begin ∷ Blob end ∷ []) old new laid.schema clear_plain count _ clear_is h) in
-    record { laid = l.laid; values = l.values; undo = l.undo; meta = l.meta }

@@ -94,17 +94,6 @@ remove_is = refl
 abbrev pub in_range : List Term
 in_range = op2 (Compare Ge Binary) (col 1 1) (col 0 0) ∷ op2 (Compare Lt Binary) (col 1 1) (col 0 1) ∷ []
 
-abbrev pub clear_text : List ℕ
-clear_text = codes "DELETE FROM kv WHERE k >= ?1 AND k < ?2"
-
-pub clear_plain : IsPlain (understood schema clear_text)
-unfolding understood everything
-clear_plain = (refl, refl)
-
-pub clear_is : command_of (understood schema clear_text) ≡ Delete 0 (record { lets = []; body = plain_query 0 in_range (col 1 0 ∷ []) })
-unfolding understood everything
-clear_is = refl
-
 abbrev pub versions_text : List ℕ
 versions_text = codes "UPDATE meta SET applied = ?1, floor = ?2"
 

@@ -7,7 +7,6 @@ use Rattle.sqlite_catalog.specs.Change.{created, next_tree, KeepsRows}
 use Rattle.sqlite.specs.Effect.{Database}
 use Rattle.sqlite.specs.State.{State, Survives}
 use Rattle.fr_base.specs.Bytes.{is_same}
-use Rattle.fr_mutation.specs.Mutation.{is_between}
 use Rattle.fr_undo.specs.State.{Place, place_cmp}
 use Rattle.fr_sql_rows.specs.Schema.{schema}
 use Rattle.fr_sql_rows.specs.Rows.{AreKvRows, AreUndoRows, meta_row, value_in, before_in}
@@ -51,13 +50,6 @@ Stays old new = IsTrue new.is_open → new.committed ≡ old.committed
 pub record Sets (key : List ℕ) (value : Option (List ℕ)) (old new : Database) : Type 0 where
   pub laid : IsLaidOut new
   pub values : (q : List ℕ) → value_in (new.trees 0) q ≡ cond (is_same key q) value (value_in (old.trees 0) q)
-  pub undo : new.trees 2 ≡ old.trees 2
-  pub meta : new.trees 4 ≡ old.trees 4
-
--- the keys from `begin` up to `end` lose their values
-pub record Clears (begin end : List ℕ) (old new : Database) : Type 0 where
-  pub laid : IsLaidOut new
-  pub values : (q : List ℕ) → value_in (new.trees 0) q ≡ cond (is_between begin end q) None (value_in (old.trees 0) q)
   pub undo : new.trees 2 ≡ old.trees 2
   pub meta : new.trees 4 ≡ old.trees 4
 

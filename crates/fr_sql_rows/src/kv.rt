@@ -6,7 +6,7 @@ ghost use Rattle.sqlite.specs.Held.{state};
 ghost use Rattle.fr_base.specs.Bytes.{bytes_cmp};
 ghost use Rattle.fr_mutation.specs.Mutation.{is_between};
 ghost use Rattle.fr_sql_rows.specs.Rows.{value_in, contents_in, pair_of};
-ghost use Rattle.fr_sql_rows.specs.Connection.{IsAtRest, IsLaidOut, IsInside, KeepsIfOpen, CommitsNothing, Stays, Sets, Clears};
+ghost use Rattle.fr_sql_rows.specs.Connection.{IsAtRest, IsLaidOut, IsInside, KeepsIfOpen, CommitsNothing, Stays, Sets};
 
 use crate::backing::Backing;
 use fr_base::Bytes;
@@ -178,24 +178,4 @@ pub fn remove<S: Backing>(tx: &mut Transaction<'_, S>, key: &Bytes) -> Result<us
     ensures survives { CommitsNothing (state S.Store tx.old.conn.now) (state S.Store tx.new.conn.now) }
 {
     tx.execute("DELETE FROM kv WHERE k = ?1", params![key.as_slice()])
-}
-
-/// Takes the values of the keys from `begin` up to, but not including, `end`.
-pub fn clear<'x, S: Backing>(
-    tx: &mut Transaction<'_, S>,
-    begin: &'x Bytes,
-    end: &'x Bytes,
-) -> Result<usize, Error>
-    requires inside { IsInside (state S.Store tx.old.conn.now) }
-    requires laid { IsLaidOut (state S.Store tx.old.conn.now).now }
-    ensures same_reference { tx.new.conn.ghost_name ≡ tx.old.conn.ghost_name }
-    ensures ok { OnOk result (Clears begin.now end.now (state S.Store tx.old.conn.now).now (state S.Store tx.new.conn.now).now) }
-    ensures inside { OnOk result (IsInside (state S.Store tx.new.conn.now)) }
-    ensures stays { Stays (state S.Store tx.old.conn.now) (state S.Store tx.new.conn.now) }
-    ensures survives { CommitsNothing (state S.Store tx.old.conn.now) (state S.Store tx.new.conn.now) }
-{
-    tx.execute(
-        "DELETE FROM kv WHERE k >= ?1 AND k < ?2",
-        params![begin.as_slice(), end.as_slice()],
-    )
 }

@@ -11,6 +11,3 @@ pub mod undo;
 
 pub use backing::{Backing, FaithfulDisk};
 pub use fault::{fault_of, read_fault_of};
-
-#[cfg(test)]
-mod tests;
