@@ -52,7 +52,7 @@ found_state g files first second last holds again kept x held = ap (λ (d : Data
 pub holds_store : {D : Type 0} (g : Ghosts D) (files : Files D) (db : Trees) → ∥ HoldsDatabase (image_of g files) db ∥₁ → ∥ HoldStore g files (state_in db) ∥₁
 holds_store g files db h = ∥∥₁_map h (λ held. (db, held, refl))
 
-both_true : (a b : Bool) → IsTrue a → IsTrue b → IsTrue (a && b)
+pub both_true : (a b : Bool) → IsTrue a → IsTrue b → IsTrue (a && b)
 both_true true true p q = refl
 both_true true false p q = q
 both_true false b p q = p

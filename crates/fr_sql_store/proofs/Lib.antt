@@ -5,3 +5,4 @@ pub mod UndoLeads
 pub mod OrderLemmas
 pub mod StoreLemmas
 pub mod FileLemmas
+mod ShutLemmas

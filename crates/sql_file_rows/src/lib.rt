@@ -5,6 +5,10 @@
 #[cfg(test)]
 mod again;
 #[cfg(test)]
+mod faults;
+#[cfg(test)]
+mod gap;
+#[cfg(test)]
 mod scene;
 #[cfg(test)]
 mod stops;
