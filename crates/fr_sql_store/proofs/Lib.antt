@@ -6,3 +6,4 @@ pub mod OrderLemmas
 pub mod StoreLemmas
 pub mod FileLemmas
 mod ShutLemmas
+mod LinkLemmas

@@ -5,8 +5,8 @@ ghost use Rattle.fr_undo.specs.State.{StoreState, IsStoreState, fresh};
 ghost use Rattle.fr_undo.specs.Calls.{IsTrouble, LeavesNoMore, LeftAsIs};
 ghost use Rattle.fr_sql_work.specs.Calls.{MeetsAll};
 ghost use Rattle.fr_sql_store.specs.Files.{HoldStore};
-ghost use Rattle.fr_sql_store.specs.Shut.{FilesLeave};
-ghost use Rattle.fr_sql_store.specs.Linked.{IsShut, state_of, is_failed, MayLeave};
+ghost use Rattle.fr_sql_store.specs.Shut.{StoreLeaves, FilesLeave};
+ghost use Rattle.fr_sql_store.specs.Linked.{IsShut, IsReopened, is_failed, MayLeave};
 
 use crate::shut::{Kept, apart, found_over, store_over};
 use crate::sql_store::SqlStore;
@@ -38,21 +38,30 @@ impl<D: FaithfulDisk + Drop> Drop for SqlFileStore<D> {
     }
 }
 
+/// The files of a store that is taken out of its connection.
+fn parted<D: FaithfulDisk + Drop>(store: FileStore<D>) -> Result<Kept<D>, (StoreFault, Link<D>)>
+    ensures leaves { IfOk result (λ kept. LeavesNoMore (StoreLeaves D.Disk store) (FilesLeave D.Disk (bytes_of kept.size) kept.files)) }
+    ensures still { IfErr result (λ e. LeavesNoMore (StoreLeaves D.Disk store) (MayLeave e.1)) }
+    ensures shut { IfErr result (λ e. IsShut e.1) }
+    ensures trouble { IfErr result (λ e. IsTrouble MeetsAll e.0) }
+{
+    match apart(store) {
+        Ok(kept) => Ok(kept),
+        Err((fault, store)) => Err((fault, Link::Store(store))),
+    }
+}
+
 /// The files of a store whose connection does not work.
 fn kept<D: FaithfulDisk + Drop>(link: Link<D>) -> Result<Kept<D>, (StoreFault, Link<D>)>
-    ensures leaves { IfOk result (λ kept. (x : StoreState) → FilesLeave D.Disk (bytes_of kept.size) kept.files x → MayLeave link x) }
+    ensures leaves { IfOk result (λ kept. LeavesNoMore (MayLeave link) (FilesLeave D.Disk (bytes_of kept.size) kept.files)) }
     ensures still { IfErr result (λ e. LeavesNoMore (MayLeave link) (MayLeave e.1)) }
     ensures shut { IfErr result (λ e. IsShut e.1) }
     ensures trouble { IfErr result (λ e. IsTrouble MeetsAll e.0) }
 {
-    let store = match link {
-        Link::Open(store) => store.into_store(),
-        Link::Store(store) => store,
-        Link::Files(kept) => return Ok(kept),
-    };
-    match apart(store) {
-        Ok(kept) => Ok(kept),
-        Err((fault, store)) => Err((fault, Link::Store(store))),
+    match link {
+        Link::Open(store) => parted(store.into_store()),
+        Link::Store(store) => parted(store),
+        Link::Files(kept) => Ok(kept),
     }
 }
 
@@ -69,7 +78,10 @@ fn again<D: FaithfulDisk + Drop>(
     ensures shut { IfErr result (λ e. IsShut e.1) }
     ensures trouble { IfErr result (λ e. IsTrouble MeetsAll e.0) }
 {
-    let kept = kept(link)?;
+    let kept = match kept(link) {
+        Ok(kept) => kept,
+        Err((fault, link)) => return Err((fault, link)),
+    };
     let store = match store_over(alloc, kept) {
         Ok(store) => store,
         Err((fault, kept)) => return Err((fault, Link::Files(kept))),
@@ -80,22 +92,46 @@ fn again<D: FaithfulDisk + Drop>(
     }
 }
 
-/// The store after its files were opened again, and what became of that.
-fn reopened<D: FaithfulDisk + Drop>(
-    link: Link<D>,
+/// A store that failed after its files were opened again, and what became of that.
+fn opened_again<D: FaithfulDisk + Drop>(
     alloc: Global,
+    link: Link<D>,
 ) -> (Link<D>, Result<(), StoreFault>)
-    ensures found { OnOk result.1 (MayLeave link (state_of result.0)) }
-    ensures works { OnOk result.1 (is_failed result.0 ≡ false) }
-    ensures shut { OnErr result.1 (is_failed result.0 ≡ true) }
-    ensures leaves { LeavesNoMore (MayLeave link) (MayLeave result.0) }
-    ensures sound { IsStoreState (state_of result.0) }
-    ensures left_as_is { LeftAsIs (is_failed result.0) (state_of result.0) (MayLeave result.0) }
-    ensures trouble { IfErr result.1 (IsTrouble MeetsAll) }
+    requires failed { is_failed link ≡ true }
+    ensures reopened { IsReopened link result.0 result.1 }
 {
     match again(alloc, link) {
         Ok(store) => (Link::Open(store), Ok(())),
         Err((fault, link)) => (link, Err(fault)),
+    }
+}
+
+/// A store whose connection may work after all, and if it does not after its files were opened again.
+fn asked<D: FaithfulDisk + Drop>(
+    alloc: Global,
+    mut store: SqlStore<FileStore<D>>,
+) -> (Link<D>, Result<(), StoreFault>)
+    ensures reopened { IsReopened (Link.Open store) result.0 result.1 }
+{
+    let was_failed = store.is_failed();
+    let answer = store.reopen(alloc);
+    if was_failed && matches!(answer, Err(StoreFault::Device)) {
+        return opened_again(alloc, Link::Open(store));
+    }
+    (Link::Open(store), answer)
+}
+
+/// A store that is opened again, and what became of that.
+fn reopened<D: FaithfulDisk + Drop>(
+    link: Link<D>,
+    alloc: Global,
+) -> (Link<D>, Result<(), StoreFault>)
+    ensures reopened { IsReopened link result.0 result.1 }
+{
+    match link {
+        Link::Open(store) => asked(alloc, store),
+        Link::Store(store) => opened_again(alloc, Link::Store(store)),
+        Link::Files(kept) => opened_again(alloc, Link::Files(kept)),
     }
 }
 
@@ -280,15 +316,6 @@ impl<D: FaithfulDisk + Drop> ShardStore for SqlFileStore<D> {
     }
 
     fn reopen(&mut self, alloc: Global) -> Result<(), StoreFault> {
-        if let Link::Open(store) = &mut self.link {
-            if !store.is_failed() {
-                return Ok(());
-            }
-            match store.reopen(alloc) {
-                Err(StoreFault::Device) => {}
-                answer => return answer,
-            }
-        }
         replace_with(&mut self.link, alloc, reopened)
     }
 }
