@@ -10,15 +10,16 @@ ghost use Rattle.fr_sql_store.specs.Linked.{IsShut, IsReopened, is_failed, MayLe
 
 use crate::shut::{Kept, apart, found_over, store_over};
 use crate::sql_store::SqlStore;
+use core::mem::replace_with;
 use fr_base::{Bytes, Version};
 use fr_mutation::{Batch, Shard};
 use fr_sql_rows::FaithfulDisk;
 use fr_undo::{ShardStore, StoreFault};
 use sqlite::{FileStore, Files};
 use std::alloc::Global;
-use core::mem::replace_with;
 
-/// A store while its connection works, and what is kept of it once the connection is shut.
+/// A store while its connection works, and what is kept of it once that is shut: the store of the database where it
+/// could not be taken apart or given a connection, else its files.
 #[derive(Drop)]
 enum Link<D: FaithfulDisk + Drop> {
     Open(SqlStore<FileStore<D>>),
@@ -27,7 +28,12 @@ enum Link<D: FaithfulDisk + Drop> {
 }
 
 /// A store in the tables of a database in two files: the database and its log. Each call that writes is one
-/// transaction. A fault may shut the connection: `reopen` then takes it apart and opens its files again.
+/// transaction.
+///
+/// A fault may shut the connection. `reopen` then takes it apart, opens its files again and finds the state before the
+/// call that met the fault, or the one that it was to make. It answers `Device`, and may be asked again, while the files
+/// fail; it answers so for good where a sync failed, or where the tables were made by other texts than a store's own.
+/// [`SqlFileStore::into_files`] gives the files back then too.
 pub struct SqlFileStore<D: FaithfulDisk + Drop> {
     link: Link<D>,
 }
