@@ -11,13 +11,13 @@ use Rattle.sqlite_trees.specs.declared.store.Store as store
 use Rattle.sqlite.specs.Files.{HoldsDatabase, image_of}
 use Rattle.sqlite_disk.specs.declared.Disk.{Ghosts}
 use Rattle.sqlite_disk.specs.declared.Files.{Files}
-use Rattle.fr_undo.specs.State.{StoreState, IsStoreState}
-use Rattle.fr_sql_rows.specs.Rows.{undo_in, before_in}
+use Rattle.fr_undo.specs.State.{StoreState}
+use Rattle.fr_sql_rows.specs.Rows.{undo_in}
 use Rattle.fr_sql_rows.specs.Connection.{IsAtRest}
 use Rattle.fr_sql_work.proofs.WorkLemmas.{get_undo}
 use Rattle.fr_sql_work.proofs.CountLemmas.{undo_len}
 use Rattle.fr_sql_open.specs.Found.{IsFound}
-use Rattle.fr_sql_store.specs.Tables.{state_in, applied_in, floor_in, Stands, IsStore, shown, Seen, state_of, IsStoreOf}
+use Rattle.fr_sql_store.specs.Tables.{state_in, applied_in, floor_in, IsStore, shown, Seen, state_of, IsStoreOf}
 use Rattle.fr_sql_store.specs.Files.{HoldStore}
 
 -- tables that were found stand

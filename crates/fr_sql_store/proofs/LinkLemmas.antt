@@ -1,12 +1,12 @@
 -- A store in files, of what its connection answers.
-use Rattle.std.proofs.Common.{◌≡◌, ◌||◌, Bool, true, false, true≢false, Result, Ok, Err, IfOk, IfErr, OnOk, OnErr, refl, sym, ap, subst, ◌∙◌}
+use Rattle.std.proofs.Common.{◌≡◌, ◌||◌, Bool, true, false, true≢false, Result, Ok, Err, IfOk, IfErr, refl, sym, ap, subst, ◌∙◌}
 use Rattle.sqlite.specs.Files.{over_files}
 use Rattle.sqlite_disk.specs.declared.Disk.{Ghosts}
 use Rattle.sqlite_store.specs.declared.store.FileStore.{FileStore}
 use Rattle.fr_undo.specs.declared.fault.StoreFault.{StoreFault}
 use Rattle.fr_undo.specs.declared.fault.StoreFault.TheVariants.{Failed}
 use Rattle.fr_undo.specs.State.{StoreState, IsStoreState, fresh}
-use Rattle.fr_undo.specs.Calls.{IsTrouble, met_device, is_device, StaysUnlessFailed, LeavesNoMore, LeftAsIs, Reads, Writes}
+use Rattle.fr_undo.specs.Calls.{IsTrouble, is_device, LeavesNoMore, LeftAsIs, Reads, Writes}
 use Rattle.fr_undo.proofs.StateLemmas.{fresh_sound}
 use Rattle.fr_sql_work.specs.Calls.{MeetsAll}
 use Rattle.fr_sql_store.specs.Tables.{Seen}

@@ -1,5 +1,5 @@
 -- Files that are taken out of a store, and opened again.
-use Rattle.std.proofs.Common.{◌≡◌, ◌⊎◌, inl, inr, ℕ, List, Bool, true, false, ◌&&◌, None, Option, IsTrue, refl, sym, ap, subst, ◌∙◌}
+use Rattle.std.proofs.Common.{◌≡◌, ◌⊎◌, inl, inr, ℕ, List, Option, IsTrue, sym, ap, subst, ◌∙◌}
 use Rattle.std.proofs.Math.Logic.{∥∥₁_elim, ∥∥₁_map}
 use Rattle.sqlite_disk.specs.declared.Disk.{Ghosts}
 use Rattle.sqlite_disk.specs.declared.Files.{Files}
@@ -7,7 +7,6 @@ use Rattle.sqlite_pages.specs.PageMap.{PageMap}
 use Rattle.sqlite_pool.specs.declared.pool.Pool.{Pool}
 use Rattle.sqlite_pool.specs.Pool as pool
 use Rattle.sqlite_pool.specs.Stored.{Recovers, IsReadable, RecoversAs, trimmed, stored_size}
-use Rattle.sqlite_pool.proofs.StateLemmas.{clean_is}
 use Rattle.sqlite_store.specs.declared.catalog.Wanted.{Wanted}
 use Rattle.sqlite_store.specs.declared.saved.Saved.{Saved}
 use Rattle.sqlite_store.specs.declared.store.FileStore.{FileStore}
@@ -23,12 +22,11 @@ use Rattle.fr_sql_rows.specs.Backing.{files_are_clean}
 use Rattle.fr_sql_rows.specs.Connection.{IsAtRest}
 use Rattle.fr_sql_open.proofs.OpenLemmas.{whole_open}
 use Rattle.fr_sql_store.proofs.StoreLemmas.{Lawful}
-use Rattle.sqlite_store.specs.Listing.{file_trees, MayRecover}
+use Rattle.sqlite_store.specs.Listing.{file_trees}
 use Rattle.sqlite_store.specs.Saved.{schema_for}
 use Rattle.sqlite_store.specs.Unopened as unopened
 use Rattle.sqlite_wal.specs.Files.{outcomes, seen_image}
 use Rattle.sqlite_wal.specs.Recovery.{Image}
-use Rattle.sqlite_wal.specs.Recovery as raw
 use Rattle.sqlite_wal.specs.State.{State}
 use Rattle.sqlite_wal.proofs.RecoveryLemmas.{recovers_once}
 use Rattle.fr_undo.specs.State.{StoreState}
