@@ -11,7 +11,7 @@ ghost use Rattle.fr_cli.specs.Lines.{lines_of};
 
 use crate::memory_file::blank_files;
 use fr_cli::{CliFault, run_apply_on};
-use fr_sql_store::SqlStore;
+use fr_sql_store::SqlFileStore;
 use std::alloc::Global;
 use std::io::{Read, Write};
 
@@ -42,7 +42,7 @@ pub fn run_apply_sql<R: Read, W: Write>(
     let Ok(files) = blank_files(alloc) else {
         return Err(CliFault::Memory);
     };
-    match SqlStore::create(alloc, files) {
+    match SqlFileStore::create(alloc, files) {
         Ok(mut store) => run_apply_on(alloc, &mut store, reader, writer),
         Err(_) => Err(CliFault::Memory),
     }

@@ -6,7 +6,7 @@ ghost use Rattle.sqlite.specs.declared.types.Value.TheVariants.{Int};
 ghost use Rattle.sqlite.specs.Order.{column};
 ghost use Rattle.sqlite.specs.Held.{state};
 ghost use Rattle.fr_undo.specs.Calls.{IsTrouble};
-ghost use Rattle.fr_sql_rows.specs.Connection.{IsAtRest, Keeps};
+ghost use Rattle.fr_sql_rows.specs.Connection.{IsAtRest, Keeps, CommitsNothing};
 ghost use Rattle.fr_sql_open.specs.Found.{AnyTrouble, IsHeld, ObeysStore, ShowsVersions, versions_of, version_of, IsBetween, HasMeta, HasUndo, IsFound};
 
 use crate::schema_test::is_store;
@@ -67,6 +67,7 @@ fn show_meta<S: Backing>(conn: &mut Connection<S>) -> Result<Vec<Row>, Error>
     requires obeys { ObeysStore (state S.Store conn.old).now }
     ensures shown { IfOk result (λ rows. IsPermutation (map versions_of ((state S.Store conn.old).now.trees 4)) rows.items) }
     ensures same { OnOk result (Keeps (state S.Store conn.old) (state S.Store conn.new)) }
+    ensures survives { CommitsNothing (state S.Store conn.old) (state S.Store conn.new) }
 {
     conn.query_all("SELECT applied, floor FROM meta", &[])
 }
@@ -77,6 +78,7 @@ fn versions<S: Backing>(conn: &mut Connection<S>) -> Result<Option<(Version, Ver
     requires obeys { ObeysStore (state S.Store conn.old).now }
     ensures meta { IfOk result (λ found. IfSome found (λ pair. HasMeta pair.0 pair.1 (state S.Store conn.old).now)) }
     ensures same { OnOk result (Keeps (state S.Store conn.old) (state S.Store conn.new)) }
+    ensures survives { CommitsNothing (state S.Store conn.old) (state S.Store conn.new) }
 {
     let rows = show_meta(conn)?;
     match only(rows.as_slice()) {
@@ -122,6 +124,7 @@ fn show_undo<S: Backing>(conn: &mut Connection<S>) -> Result<Vec<Row>, Error>
     requires obeys { ObeysStore (state S.Store conn.old).now }
     ensures shown { IfOk result (λ rows. IsPermutation (map version_of ((state S.Store conn.old).now.trees 2)) rows.items) }
     ensures same { OnOk result (Keeps (state S.Store conn.old) (state S.Store conn.new)) }
+    ensures survives { CommitsNothing (state S.Store conn.old) (state S.Store conn.new) }
 {
     conn.query_all("SELECT ver FROM undo", &[])
 }
@@ -136,6 +139,7 @@ fn undo_rows<S: Backing>(
     requires obeys { ObeysStore (state S.Store conn.old).now }
     ensures undo { IfOk result (λ found. IfSome found (λ rows. HasUndo floor applied rows (state S.Store conn.old).now)) }
     ensures same { OnOk result (Keeps (state S.Store conn.old) (state S.Store conn.new)) }
+    ensures survives { CommitsNothing (state S.Store conn.old) (state S.Store conn.new) }
 {
     let rows = show_undo(conn)?;
     count_between(rows.as_slice(), applied, floor)
@@ -147,6 +151,7 @@ fn read<S: Backing>(conn: &mut Connection<S>) -> Result<Option<Found>, Error>
     requires obeys { ObeysStore (state S.Store conn.old).now }
     ensures found { IfOk result (λ read. IfSome read (λ found. IsFound found.applied found.floor found.rows (state S.Store conn.old).now)) }
     ensures same { OnOk result (Keeps (state S.Store conn.old) (state S.Store conn.new)) }
+    ensures survives { CommitsNothing (state S.Store conn.old) (state S.Store conn.new) }
 {
     let Some((applied, floor)) = versions(conn)? else {
         return Ok(None);
@@ -168,6 +173,7 @@ pub fn find<S: Backing>(conn: &mut Connection<S>) -> Result<Found, StoreFault>
     requires held { IsHeld (state S.Store conn.old).now }
     ensures found { IfOk result (λ found. IsFound found.applied found.floor found.rows (state S.Store conn.new).now) }
     ensures same { OnOk result (Keeps (state S.Store conn.old) (state S.Store conn.new)) }
+    ensures survives { CommitsNothing (state S.Store conn.old) (state S.Store conn.new) }
     ensures trouble { IfErr result (IsTrouble AnyTrouble) }
 {
     if !is_store(conn.schema()) {

@@ -8,4 +8,4 @@ mod open;
 mod schema_test;
 
 pub use found::{Found, find};
-pub use open::{has_no_table, open_again};
+pub use open::{has_no_table, open_again, open_over};

@@ -1,5 +1,6 @@
 //! A connection that is opened again over its own store, so that what its store keeps is known of its tables.
 ghost use Rattle.std.specs.Prelude.{◌≡◌, IfOk, IfErr, IfSome, IsTrue};
+ghost use Rattle.sqlite.specs.Tree.{Trees};
 ghost use Rattle.sqlite.specs.Held.{state};
 ghost use Rattle.sqlite.specs.Steps.{IsFresh};
 ghost use Rattle.fr_undo.specs.Calls.{IsTrouble};
@@ -26,17 +27,22 @@ fn unbroken<S: Backing + Drop>(conn: Connection<S>) -> Option<S>
     Some(store)
 }
 
-/// A connection over a store whose trees obey the schema that they list.
-fn over<S: Backing + Drop>(alloc: Global, store: S) -> Result<Connection<S>, StoreFault>
+/// A connection over a store whose trees obey the schema that they list. A refusal gives the store back, and a crash
+/// leaves nothing of it that it did not leave before.
+pub fn open_over<S: Backing + Drop>(
+    alloc: Global,
+    store: S,
+) -> Result<Connection<S>, (StoreFault, S)>
     requires fresh { IsFresh (S.Store.view store) }
     ensures rest { IfOk result (λ again. IsAtRest (state S.Store again)) }
     ensures held { IfOk result (λ again. IsHeld (state S.Store again).now) }
     ensures trees { IfOk result (λ again. (state S.Store again).now.trees ≡ (S.Store.view store).trees) }
-    ensures trouble { IfErr result (IsTrouble AnyTrouble) }
+    ensures trouble { IfErr result (λ e. IsTrouble AnyTrouble e.0) }
+    ensures leaves { IfErr result (λ e. (db : Trees) → S.Store.recovers e.1 db → S.Store.recovers store db) }
 {
     match Connection::over(alloc, store) {
         Ok(again) => Ok(again),
-        Err((error, _)) => Err(fault_of(error)),
+        Err((error, left)) => Err((fault_of(error), left)),
     }
 }
 
@@ -52,7 +58,10 @@ pub fn open_again<S: Backing + Drop>(
     ensures trouble { IfErr result (IsTrouble AnyTrouble) }
 {
     match unbroken(conn) {
-        Some(store) => over(alloc, store),
+        Some(store) => match open_over(alloc, store) {
+            Ok(again) => Ok(again),
+            Err((fault, _)) => Err(fault),
+        },
         None => Err(StoreFault::Device),
     }
 }

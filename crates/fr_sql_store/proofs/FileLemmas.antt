@@ -11,13 +11,13 @@ use Rattle.sqlite_trees.specs.declared.store.Store as store
 use Rattle.sqlite.specs.Files.{HoldsDatabase, image_of}
 use Rattle.sqlite_disk.specs.declared.Disk.{Ghosts}
 use Rattle.sqlite_disk.specs.declared.Files.{Files}
-use Rattle.fr_undo.specs.State.{StoreState, IsStoreState}
-use Rattle.fr_sql_rows.specs.Rows.{undo_in, before_in}
+use Rattle.fr_undo.specs.State.{StoreState}
+use Rattle.fr_sql_rows.specs.Rows.{undo_in}
 use Rattle.fr_sql_rows.specs.Connection.{IsAtRest}
 use Rattle.fr_sql_work.proofs.WorkLemmas.{get_undo}
 use Rattle.fr_sql_work.proofs.CountLemmas.{undo_len}
 use Rattle.fr_sql_open.specs.Found.{IsFound}
-use Rattle.fr_sql_store.specs.Tables.{state_in, applied_in, floor_in, Stands, IsStore, shown, Seen, state_of, IsStoreOf}
+use Rattle.fr_sql_store.specs.Tables.{state_in, applied_in, floor_in, IsStore, shown, Seen, state_of, IsStoreOf}
 use Rattle.fr_sql_store.specs.Files.{HoldStore}
 
 -- tables that were found stand
@@ -52,7 +52,7 @@ found_state g files first second last holds again kept x held = ap (λ (d : Data
 pub holds_store : {D : Type 0} (g : Ghosts D) (files : Files D) (db : Trees) → ∥ HoldsDatabase (image_of g files) db ∥₁ → ∥ HoldStore g files (state_in db) ∥₁
 holds_store g files db h = ∥∥₁_map h (λ held. (db, held, refl))
 
-both_true : (a b : Bool) → IsTrue a → IsTrue b → IsTrue (a && b)
+pub both_true : (a b : Bool) → IsTrue a → IsTrue b → IsTrue (a && b)
 both_true true true p q = refl
 both_true true false p q = q
 both_true false b p q = p

@@ -5,3 +5,5 @@ pub mod UndoLeads
 pub mod OrderLemmas
 pub mod StoreLemmas
 pub mod FileLemmas
+mod ShutLemmas
+mod LinkLemmas

@@ -5,7 +5,11 @@
 mod calls;
 mod known;
 mod marks;
+mod own;
 mod plan;
+mod shut;
+mod sql_file_store;
 mod sql_store;
 
+pub use sql_file_store::SqlFileStore;
 pub use sql_store::SqlStore;

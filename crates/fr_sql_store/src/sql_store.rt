@@ -17,8 +17,8 @@ use sqlite::{Connection, MemStore};
 use std::alloc::Global;
 use std::marker::Model;
 
-/// A store whose keys, undo rows, versions and state bytes stand in the tables of a database: in memory, or
-/// in files. Each call that writes is one transaction.
+/// A store whose keys, undo rows, versions and state bytes stand in the tables of a database: in memory, or in files
+/// below a [`SqlFileStore`](crate::SqlFileStore). Each call that writes is one transaction.
 pub struct SqlStore<S: Backing> {
     conn: Connection<S>,
     alloc: Global,

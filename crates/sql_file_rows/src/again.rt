@@ -1,6 +1,6 @@
 //! Stores that are closed and opened again, and files that hold none.
 use crate::scene::{Call, Held, Shown, found, kept, no_files};
-use fr_sql_store::SqlStore;
+use fr_sql_store::SqlFileStore;
 use fr_undo::StoreFault;
 use std::alloc::Global;
 use std::test::Fail;
@@ -34,7 +34,7 @@ fn sql_store_opens_again(rt: HostRuntime) -> Result<(), Fail> {
 
 /// Whether a store is refused that is to be made in the files of another one.
 fn is_refused(alloc: Global) -> Result<bool, StoreFault> {
-    let made = SqlStore::create(alloc, kept(alloc, [].as_slice())?);
+    let made = SqlFileStore::create(alloc, kept(alloc, [].as_slice())?);
     Ok(matches!(&made, Err(StoreFault::Device)))
 }
 

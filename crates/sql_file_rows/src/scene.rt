@@ -2,9 +2,9 @@
 use fr_base::{Bytes, Memory, Version};
 use fr_mutation::{Batch, Mutation};
 use fr_sql_rows::FaithfulDisk;
-use fr_sql_store::SqlStore;
+use fr_sql_store::SqlFileStore;
 use fr_undo::{ShardStore, StoreFault};
-use sqlite::{FileStore, Files};
+use sqlite::Files;
 use sqlite_disk::Memory as MemoryDisk;
 use std::alloc::Global;
 
@@ -110,7 +110,7 @@ fn byte_in(key: &[u8], value: &[u8]) -> Held {
 }
 
 /// What a store shows.
-fn look<S: ShardStore>(alloc: Global, store: &mut S) -> Result<Shown, StoreFault> {
+pub(crate) fn look<S: ShardStore>(alloc: Global, store: &mut S) -> Result<Shown, StoreFault> {
     let held = match store.dump(alloc) {
         Ok(rows) => held_in(rows.as_slice()),
         Err(fault) => return Err(fault),
@@ -144,7 +144,7 @@ pub(crate) fn no_files(alloc: Global) -> Files<MemoryDisk> {
 /// The files of a store that is closed after calls.
 fn closed<D: FaithfulDisk + Drop>(
     alloc: Global,
-    mut store: SqlStore<FileStore<D>>,
+    mut store: SqlFileStore<D>,
     calls: &[Call],
 ) -> Result<Files<D>, StoreFault> {
     match make_all(alloc, &mut store, calls) {
@@ -155,7 +155,7 @@ fn closed<D: FaithfulDisk + Drop>(
 
 /// The files of a store that is made in empty files and closed after calls.
 pub(crate) fn kept(alloc: Global, calls: &[Call]) -> Result<Files<MemoryDisk>, StoreFault> {
-    match SqlStore::create(alloc, no_files(alloc)) {
+    match SqlFileStore::create(alloc, no_files(alloc)) {
         Ok(store) => closed(alloc, store, calls),
         Err(fault) => Err(fault),
     }
@@ -167,7 +167,7 @@ pub(crate) fn found<D: FaithfulDisk + Drop>(
     files: Files<D>,
     calls: &[Call],
 ) -> Result<Shown, StoreFault> {
-    match SqlStore::open(alloc, files) {
+    match SqlFileStore::open(alloc, files) {
         Ok(mut store) => shown_after(alloc, &mut store, calls),
         Err(fault) => Err(fault),
     }

@@ -2,9 +2,9 @@
 //! the stop, or what it was to make.
 use crate::scene::{Call, Held, Shown, found, kept, make};
 use fr_sql_rows::FaithfulDisk;
-use fr_sql_store::SqlStore;
+use fr_sql_store::SqlFileStore;
 use fr_undo::{ShardStore, StoreFault};
-use sqlite::{FileStore, Files};
+use sqlite::Files;
 use sqlite_disk::{Crash, Fuse, Memory as MemoryDisk};
 use std::alloc::Global;
 use std::process::Abort;
@@ -70,7 +70,7 @@ fn crashed<D: Crash>(mut files: Files<D>) -> Files<D> {
 }
 
 /// How the calls end on a store.
-fn end_of<D: FaithfulDisk + Crash + Drop>(alloc: Global, mut store: SqlStore<FileStore<D>>) -> End {
+fn end_of<D: FaithfulDisk + Crash + Drop>(alloc: Global, mut store: SqlFileStore<D>) -> End {
     let answered = answered(alloc, &mut store);
     let further = make(alloc, &mut store, Call::Forget(8));
     let files = crashed(store.into_files());
@@ -86,7 +86,7 @@ fn end_on<D: FaithfulDisk + Crash + Drop>(
     alloc: Global,
     files: Files<D>,
 ) -> Result<End, StoreFault> {
-    match SqlStore::open(alloc, files) {
+    match SqlFileStore::open(alloc, files) {
         Ok(store) => Ok(end_of(alloc, store)),
         Err(fault) => Err(fault),
     }

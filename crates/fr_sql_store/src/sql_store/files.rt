@@ -1,15 +1,17 @@
 //! A store in the tables of a database in two files: the database and its log.
 ghost use Rattle.std.specs.Prelude.{◌≡◌, ◌≢◌, ◌↔◌, false, Err, IfOk, IfErr, IsTrue};
 ghost use Rattle.sqlite.specs.Files.{file_state, IsOpened, Finds};
-ghost use Rattle.fr_undo.specs.State.{StoreState, fresh};
-ghost use Rattle.fr_undo.specs.Calls.{IsTrouble};
+ghost use Rattle.fr_undo.specs.State.{StoreState, IsStoreState, fresh};
+ghost use Rattle.fr_undo.specs.Calls.{IsTrouble, LeftAsIs};
 ghost use Rattle.fr_sql_rows.specs.Connection.{IsAtRest, IsBegun, IsLaidOut};
 ghost use Rattle.fr_sql_work.specs.Calls.{MeetsAll};
 ghost use Rattle.fr_sql_open.specs.Found.{IsFound};
 ghost use Rattle.fr_sql_store.specs.Tables.{state_in};
 ghost use Rattle.fr_sql_store.specs.Files.{HoldStore};
+ghost use Rattle.fr_sql_store.specs.Shut.{StoreLeaves};
 
 use crate::marks::Marks;
+use crate::own::SEED;
 use crate::sql_store::SqlStore;
 use fr_base::Version;
 use fr_sql_open::{Found, find, has_no_table, open_again};
@@ -17,9 +19,6 @@ use fr_sql_rows::{FaithfulDisk, fault_of, schema};
 use fr_undo::{ShardStore, StoreFault};
 use sqlite::{Connection, Error, FileStore, Files, Options};
 use std::alloc::Global;
-
-/// What the salts of a log are drawn from.
-const SEED: u64 = 1;
 
 /// Opens a connection over files. Files that no sync may be asked of again are the device's fault.
 fn opened<D: FaithfulDisk + Drop>(
@@ -104,7 +103,7 @@ impl<D: FaithfulDisk + Drop> SqlStore<FileStore<D>> {
     /// # Errors
     ///
     /// `Device`: the files failed, or hold something. `Full`: they have no room. `Memory`: a growth was refused.
-    pub fn create(alloc: Global, files: Files<D>) -> Result<Self, StoreFault>
+    pub(crate) fn create(alloc: Global, files: Files<D>) -> Result<Self, StoreFault>
         ensures empty { IfOk result (λ store. ⟦<SqlStore<FileStore<D>> as ShardStore>⟧.state store ≡ fresh) }
         ensures works { IfOk result (λ store. ⟦<SqlStore<FileStore<D>> as ShardStore>⟧.is_failed store ≡ false) }
         ensures trouble { IfErr result (IsTrouble MeetsAll) }
@@ -128,22 +127,13 @@ impl<D: FaithfulDisk + Drop> SqlStore<FileStore<D>> {
     /// # Errors
     ///
     /// `Device`: the files failed, or hold no store. `Full`: they have no room. `Memory`: a growth was refused.
-    pub fn open(alloc: Global, files: Files<D>) -> Result<Self, StoreFault>
+    pub(crate) fn open(alloc: Global, files: Files<D>) -> Result<Self, StoreFault>
         ensures found { IfOk result (λ store. (x : StoreState) → HoldStore D.Disk files x → ⟦<SqlStore<FileStore<D>> as ShardStore>⟧.state store ≡ x) }
         ensures works { IfOk result (λ store. ⟦<SqlStore<FileStore<D>> as ShardStore>⟧.is_failed store ≡ false) }
         ensures trouble { IfErr result (IsTrouble MeetsAll) }
     {
         let (conn, found) = found(alloc, files)?;
-        Ok(SqlStore {
-            conn,
-            alloc,
-            marks: Marks {
-                applied: found.applied,
-                floor: found.floor,
-                rows: found.rows,
-            },
-            is_failed: false,
-        })
+        Ok(SqlStore::over(alloc, conn, found))
     }
 
     /// Gives the files back, which then hold what the store did. What refuses drops the files.
@@ -152,7 +142,7 @@ impl<D: FaithfulDisk + Drop> SqlStore<FileStore<D>> {
     ///
     /// `Failed`: the device failed in an earlier call. `Device`: it failed in this one. `Full`: it has no room.
     /// `Memory`: a growth was refused.
-    pub fn close(self) -> Result<Files<D>, StoreFault>
+    pub(crate) fn close(self) -> Result<Files<D>, StoreFault>
         ensures holds { IfOk result (λ files. ∥ HoldStore D.Disk files (⟦<SqlStore<FileStore<D>> as ShardStore>⟧.state self) ∥₁) }
         ensures failed { (result ≡ Err StoreFault.Failed) ↔ IsTrue (⟦<SqlStore<FileStore<D>> as ShardStore>⟧.is_failed self) }
         ensures trouble { IfErr result (λ fault. fault ≢ StoreFault.Failed → IsTrouble MeetsAll fault) }
@@ -169,14 +159,38 @@ impl<D: FaithfulDisk + Drop> SqlStore<FileStore<D>> {
         closed(conn)
     }
 
-    /// Gives the files back as they are, with nothing more read or written, also those of a store that failed.
-    pub fn into_files(self) -> Files<D> {
+    /// A store over the tables that were found in files.
+    pub(crate) fn over(alloc: Global, conn: Connection<FileStore<D>>, found: Found) -> Self
+        requires rest { IsAtRest (file_state conn) }
+        requires found { IsFound found.applied found.floor found.rows (file_state conn).now }
+        ensures state { ⟦<SqlStore<FileStore<D>> as ShardStore>⟧.state result ≡ state_in (file_state conn).now.trees }
+        ensures works { ⟦<SqlStore<FileStore<D>> as ShardStore>⟧.is_failed result ≡ false }
+        ensures sound { IsStoreState (⟦<SqlStore<FileStore<D>> as ShardStore>⟧.state result) }
+        ensures left_as_is { LeftAsIs false (⟦<SqlStore<FileStore<D>> as ShardStore>⟧.state result) (⟦<SqlStore<FileStore<D>> as ShardStore>⟧.MayLeave result) }
+    {
+        SqlStore {
+            conn,
+            alloc,
+            marks: Marks {
+                applied: found.applied,
+                floor: found.floor,
+                rows: found.rows,
+            },
+            is_failed: false,
+        }
+    }
+
+    /// Takes the connection apart, with nothing read or written, also that of a store that failed. A crash leaves
+    /// nothing of what stays that it did not leave of the store.
+    pub(crate) fn into_store(self) -> FileStore<D>
+        ensures { (x : StoreState) → StoreLeaves D.Disk result x → ⟦<SqlStore<FileStore<D>> as ShardStore>⟧.MayLeave self x }
+    {
         let SqlStore {
             conn,
             alloc: _,
             marks: _,
             is_failed: _,
         } = self;
-        conn.into_store().close()
+        conn.into_store()
     }
 }

@@ -3,6 +3,8 @@ use Rattle.std.specs.List.Sorted.{IsPermutation}
 use Rattle.sqlite.specs.Held.{state}
 use Rattle.sqlite.specs.State.{Shown}
 use Rattle.fr_sql_open.specs.Found.{versions_of}
+use Rattle.fr_sql_rows.specs.Schema.{schema}
+use Rattle.fr_sql_rows.proofs.FaultLemmas.{survives_query}
 use Rattle.fr_sql_open.proofs.TextLemmas.{versions_text, versions_plain}
 use Rattle.fr_sql_open.proofs.ShownLemmas.{shown_ok, kept_ok, shows_versions}
 use Rattle.fr_sql_open.proofs.found.show_meta.Goals as goal
@@ -18,3 +20,6 @@ pub returns-clause-same : goal.returns-clause-same
 returns-clause-same g c =
     kept_ok (λ v. v.items) versions_text (state g.S.Store c.args.conn.now) (state g.S.Store c.query_all.new.self) c.query_all.result c.requires.rest c.requires.obeys versions_plain
     (c.query_all.ensures.ok (g.met.S.Backing.clean c.query_all.new.self.store))
+
+pub returns-clause-survives : goal.returns-clause-survives
+returns-clause-survives g c = survives_query _ _ versions_text _ schema c.requires.obeys.schema versions_plain c.query_all.ensures.survives

@@ -1,6 +1,6 @@
 use Rattle.sqlite.specs.Held.{state}
 use Rattle.fr_sql_open.proofs.OpenLemmas.{opens_rest, held_over}
-use Rattle.fr_sql_open.proofs.open.over.Goals as goal
+use Rattle.fr_sql_open.proofs.open.open_over.Goals as goal
 
 pub returns-in-Ok-clause-rest : goal.returns-in-Ok-clause-rest
 returns-in-Ok-clause-rest g c = opens_rest _ (c.in-Ok.ensures.opens (g.met.S.Backing.clean c.in-Ok.again.store)).0
