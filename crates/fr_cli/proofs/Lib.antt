@@ -4,3 +4,4 @@ pub mod TokenLemmas
 pub mod HexLemmas
 pub mod PlanLemmas
 pub mod RowLemmas
+pub mod CommandLemmas

@@ -74,11 +74,11 @@ same_lines s (o ∷ os) = rw (same_outcome s o) (ap (λ rest. line_of (outcome_o
 
 -- ---- a whole run
 
-pub bad_found : (old new : Option (List ℕ)) (input : List ℕ) → IsInput old new input → plan_of input ≡ None → HasRead old new None
+pub bad_found : (old new : Option (List ℕ)) (input : List ℕ) → IsInput old new input → plan_of input ≡ None → HasRead script_of old new None
 bad_found old new input whole none = record { input = input; whole = whole; meant = no_script input none }
 
 module _ (old new : Option (List ℕ)) (input : List ℕ) (ps : List Planned) (whole : IsInput old new input) (meant : plan_of input ≡ Some ps) where
-  pub read_found : (script : List Operation) × HasRead old new (Some script)
+  pub read_found : (script : List Operation) × HasRead script_of old new (Some script)
   read_found =
       let found = script_found input ps meant in
       (found.0, record { input = input; whole = whole; meant = found.1 })
@@ -86,12 +86,12 @@ module _ (old new : Option (List ℕ)) (input : List ℕ) (ps : List Planned) (w
   lines_found : (s : StoreState) (script : List Operation) → map plan script ≡ ps → plan_lines s ps ≡ lines_from s script
   lines_found s script e = ap (plan_lines s) (sym e) ∙ same_lines s script
 
-  pub front_found : (s : StoreState) (was now : Option (List ℕ)) → s ≡ fresh → GainsFront was now (plan_lines s ps) → (script : List Operation) × HasRead old new (Some script) × GainsFront was now (lines_of script)
+  pub front_found : (s : StoreState) (was now : Option (List ℕ)) → s ≡ fresh → GainsFront was now (plan_lines s ps) → (script : List Operation) × HasRead script_of old new (Some script) × GainsFront was now (lines_of script)
   front_found s was now empty gains =
       let found = script_found input ps meant in
       (found.0, record { input = input; whole = whole; meant = found.1 }, subst (GainsFront was now) (lines_found s found.0 found.2 ∙ ap (λ x. lines_from x found.0) empty) gains)
 
-  pub all_found : (s : StoreState) (was now : Option (List ℕ)) → s ≡ fresh → Appends was now (plan_lines s ps) → (script : List Operation) × HasRead old new (Some script) × Appends was now (lines_of script)
+  pub all_found : (s : StoreState) (was now : Option (List ℕ)) → s ≡ fresh → Appends was now (plan_lines s ps) → (script : List Operation) × HasRead script_of old new (Some script) × Appends was now (lines_of script)
   all_found s was now empty gains =
       let found = script_found input ps meant in
       (found.0, record { input = input; whole = whole; meant = found.1 }, subst (Appends was now) (lines_found s found.0 found.2 ∙ ap (λ x. lines_from x found.0) empty) gains)

@@ -1,7 +1,7 @@
 -- How a command called its reader and its writer.
-use Rattle.std.specs.Prelude.{◌≡◌, ◌<◌, ◌≤◌, ◌⊎◌, ℕ}
+use Rattle.std.specs.Prelude.{◌≡◌, ◌<◌, ◌≤◌, ◌⊎◌, ℕ, Result, Err, OnOk}
 use Rattle.fr_cli.specs.declared.fault.CliFault.{CliFault}
-use Rattle.fr_cli.specs.declared.fault.CliFault.TheVariants.{Memory, Output}
+use Rattle.fr_cli.specs.declared.fault.CliFault.TheVariants.{Memory, Input, Output}
 
 -- how often the reader was called, and how many calls of the reader and of the writer failed
 pub record Counts : Type 0 where
@@ -29,3 +29,9 @@ pub record HasNotFailed (calls : Counts) : Type 0 where
 -- a call of the reader failed, or 2^30 of them did not come to the end of the input
 abbrev pub HasNoInput : Counts → Type 0
 HasNoInput calls = (0 < calls.failed_reads) ⊎ (1073741824 ≤ calls.reads)
+
+-- `Input` and `Output` are answered only where a call failed, and what is Ok only where none did
+pub record HasCause {A : Type 0} (calls : Counts) (result : Result A CliFault) : Type 0 where
+  pub input : result ≡ Err Input → HasNoInput calls
+  pub output : result ≡ Err Output → 0 < calls.failed_writes
+  pub done : OnOk result (HasNotFailed calls)

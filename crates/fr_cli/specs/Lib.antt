@@ -6,3 +6,4 @@ pub mod Tokens
 pub mod Hex
 pub mod Plan
 pub mod Calls
+pub mod Command

@@ -1,8 +1,6 @@
 -- What was read of an input, and what is still to be written of a text.
 use Rattle.std.specs.Prelude.{◌≡◌, ◌≤◌, ◌*◌, ℕ, List, ◌++◌, length, Option, Some, None, ⊤}
 use Rattle.std.specs.Io.KnownBytes.{Consumes, IsAtEnd}
-use Rattle.fr_cli.specs.declared.script.Operation.{Operation}
-use Rattle.fr_cli.specs.Script.{script_of}
 
 -- these bytes were read, and no more are left: at most 2^30 reads of 8,192 bytes
 pub record IsInput (old new : Option (List ℕ)) (input : List ℕ) : Type 0 where
@@ -10,11 +8,11 @@ pub record IsInput (old new : Option (List ℕ)) (input : List ℕ) : Type 0 whe
   pub end : IsAtEnd new
   pub few : length input ≤ 1073741824 * 8192
 
--- the input was read whole, and is this script, or none
-pub record HasRead (old new : Option (List ℕ)) (script : Option (List Operation)) : Type 0 where
+-- the input was read whole, and means this script, or none
+pub record HasRead {S : Type 0} (means : List ℕ → Option S) (old new : Option (List ℕ)) (script : Option S) : Type 0 where
   pub input : List ℕ
   pub whole : IsInput old new input
-  pub meant : script_of input ≡ script
+  pub meant : means input ≡ script
 
 -- what the writer holds now and the rest are together what it held first and all of the text
 abbrev pub Owes : Option (List ℕ) → Option (List ℕ) → List ℕ → List ℕ → Type 0

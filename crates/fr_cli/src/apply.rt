@@ -1,10 +1,9 @@
 //! The command `apply`.
-ghost use Rattle.std.specs.Prelude.{◌≡◌, ◌<◌, ◌⊎◌, List, ℕ, Err, IfOk, OnOk, Some, None};
-ghost use Rattle.std.specs.Io.KnownBytes.{Appends};
+ghost use Rattle.std.specs.Prelude.{◌≡◌};
 ghost use Rattle.fr_undo.specs.State.{fresh};
-ghost use Rattle.fr_cli.specs.declared.script.Operation.{Operation};
-ghost use Rattle.fr_cli.specs.Calls.{no_calls, HasNoInput, HasNotFailed};
-ghost use Rattle.fr_cli.specs.Text.{HasRead, GainsFront};
+ghost use Rattle.fr_cli.specs.Calls.{no_calls, HasCause};
+ghost use Rattle.fr_cli.specs.Command.{Prints};
+ghost use Rattle.fr_cli.specs.Script.{script_of};
 ghost use Rattle.fr_cli.specs.Lines.{lines_of};
 
 use crate::calls::CallCounts;
@@ -40,19 +39,8 @@ pub fn run_apply<R: Read, W: Write>(
     reader: &mut R,
     writer: &mut W,
 ) -> Result<u8, CliFault>
-    ensures status { IfOk result (λ status. status ≡ 0) }
-    ensures lines { OnOk result ((script : List Operation)
-        × HasRead (R.remaining reader.old) (R.remaining reader.new) (Some script)
-        × Appends (W.contents writer.old) (W.contents writer.new) (lines_of script)) }
-    ensures front { (writer.new ≡ writer.old) ⊎ ((script : List Operation)
-        × HasRead (R.remaining reader.old) (R.remaining reader.new) (Some script)
-        × GainsFront (W.contents writer.old) (W.contents writer.new) (lines_of script)) }
-    ensures bad { result ≡ Err CliFault.BadScript
-        → HasRead (R.remaining reader.old) (R.remaining reader.new) None }
-    ensures unwritten { (result ≡ Err CliFault.BadScript) ⊎ (result ≡ Err CliFault.Input)
-        → writer.new ≡ writer.old }
-    ensures output { result ≡ Err CliFault.Output → (script : List Operation)
-        × HasRead (R.remaining reader.old) (R.remaining reader.new) (Some script) }
+    ensures prints { Prints script_of lines_of (R.remaining reader.old) (R.remaining reader.new)
+        W.contents writer.old writer.new result }
 {
     let mut calls = CallCounts::new();
     apply_counted(alloc, options, &mut calls, reader, writer)
@@ -67,19 +55,8 @@ pub fn run_apply_on<S: ShardStore, R: Read, W: Write>(
     writer: &mut W,
 ) -> Result<u8, CliFault>
     requires empty { S.state store.old ≡ fresh }
-    ensures status { IfOk result (λ status. status ≡ 0) }
-    ensures lines { OnOk result ((script : List Operation)
-        × HasRead (R.remaining reader.old) (R.remaining reader.new) (Some script)
-        × Appends (W.contents writer.old) (W.contents writer.new) (lines_of script)) }
-    ensures front { (writer.new ≡ writer.old) ⊎ ((script : List Operation)
-        × HasRead (R.remaining reader.old) (R.remaining reader.new) (Some script)
-        × GainsFront (W.contents writer.old) (W.contents writer.new) (lines_of script)) }
-    ensures bad { result ≡ Err CliFault.BadScript
-        → HasRead (R.remaining reader.old) (R.remaining reader.new) None }
-    ensures unwritten { (result ≡ Err CliFault.BadScript) ⊎ (result ≡ Err CliFault.Input)
-        → writer.new ≡ writer.old }
-    ensures output { result ≡ Err CliFault.Output → (script : List Operation)
-        × HasRead (R.remaining reader.old) (R.remaining reader.new) (Some script) }
+    ensures prints { Prints script_of lines_of (R.remaining reader.old) (R.remaining reader.new)
+        W.contents writer.old writer.new result }
 {
     let mut calls = CallCounts::new();
     apply_counted_on(alloc, store, &mut calls, reader, writer)
@@ -96,22 +73,9 @@ pub fn apply_counted<R: Read, W: Write>(
     writer: &mut W,
 ) -> Result<u8, CliFault>
     requires fresh { calls.old ≡ no_calls }
-    ensures status { IfOk result (λ status. status ≡ 0) }
-    ensures lines { OnOk result ((script : List Operation)
-        × HasRead (R.remaining reader.old) (R.remaining reader.new) (Some script)
-        × Appends (W.contents writer.old) (W.contents writer.new) (lines_of script)) }
-    ensures front { (writer.new ≡ writer.old) ⊎ ((script : List Operation)
-        × HasRead (R.remaining reader.old) (R.remaining reader.new) (Some script)
-        × GainsFront (W.contents writer.old) (W.contents writer.new) (lines_of script)) }
-    ensures bad { result ≡ Err CliFault.BadScript
-        → HasRead (R.remaining reader.old) (R.remaining reader.new) None }
-    ensures unwritten { (result ≡ Err CliFault.BadScript) ⊎ (result ≡ Err CliFault.Input)
-        → writer.new ≡ writer.old }
-    ensures output { result ≡ Err CliFault.Output → (script : List Operation)
-        × HasRead (R.remaining reader.old) (R.remaining reader.new) (Some script) }
-    ensures no_input { result ≡ Err CliFault.Input → HasNoInput calls.new }
-    ensures no_output { result ≡ Err CliFault.Output → 0 < calls.new.failed_writes }
-    ensures done { OnOk result (HasNotFailed calls.new) }
+    ensures prints { Prints script_of lines_of (R.remaining reader.old) (R.remaining reader.new)
+        W.contents writer.old writer.new result }
+    ensures cause { HasCause calls.new result }
 {
     let input = read_input(alloc, calls, reader)?;
     let script = read_script(alloc, input)?;
@@ -133,22 +97,9 @@ pub fn apply_counted_on<S: ShardStore, R: Read, W: Write>(
 ) -> Result<u8, CliFault>
     requires empty { S.state store.old ≡ fresh }
     requires fresh { calls.old ≡ no_calls }
-    ensures status { IfOk result (λ status. status ≡ 0) }
-    ensures lines { OnOk result ((script : List Operation)
-        × HasRead (R.remaining reader.old) (R.remaining reader.new) (Some script)
-        × Appends (W.contents writer.old) (W.contents writer.new) (lines_of script)) }
-    ensures front { (writer.new ≡ writer.old) ⊎ ((script : List Operation)
-        × HasRead (R.remaining reader.old) (R.remaining reader.new) (Some script)
-        × GainsFront (W.contents writer.old) (W.contents writer.new) (lines_of script)) }
-    ensures bad { result ≡ Err CliFault.BadScript
-        → HasRead (R.remaining reader.old) (R.remaining reader.new) None }
-    ensures unwritten { (result ≡ Err CliFault.BadScript) ⊎ (result ≡ Err CliFault.Input)
-        → writer.new ≡ writer.old }
-    ensures output { result ≡ Err CliFault.Output → (script : List Operation)
-        × HasRead (R.remaining reader.old) (R.remaining reader.new) (Some script) }
-    ensures no_input { result ≡ Err CliFault.Input → HasNoInput calls.new }
-    ensures no_output { result ≡ Err CliFault.Output → 0 < calls.new.failed_writes }
-    ensures done { OnOk result (HasNotFailed calls.new) }
+    ensures prints { Prints script_of lines_of (R.remaining reader.old) (R.remaining reader.new)
+        W.contents writer.old writer.new result }
+    ensures cause { HasCause calls.new result }
 {
     let bytes = read_input(alloc, calls, reader)?;
     let operations = read_script(alloc, bytes)?;

@@ -1,4 +1,3 @@
 pub mod Options
 pub mod Script
-pub mod Text
 pub mod Lines

@@ -1,11 +1,9 @@
 //! The command `end`.
-ghost use Rattle.std.specs.Prelude.{◌≡◌, ◌<◌, ◌⊎◌, List, Err, IfOk, OnOk, Some, None};
-ghost use Rattle.std.specs.Io.KnownBytes.{Appends};
-ghost use Rattle.fr_cli.specs.Calls.{no_calls, HasNoInput, HasNotFailed};
-ghost use Rattle.fr_cli.specs.Text.{GainsFront};
-ghost use Rattle.fr_epoch.specs.declared.reply.Reply.{Reply};
+ghost use Rattle.std.specs.Prelude.{◌≡◌};
+ghost use Rattle.fr_cli.specs.Calls.{no_calls, HasCause};
+ghost use Rattle.fr_cli.specs.Command.{Prints};
+ghost use Rattle.fr_cli_end.specs.Script.{replies_of};
 ghost use Rattle.fr_cli_end.specs.Lines.{lines_of};
-ghost use Rattle.fr_cli_end.specs.Text.{HasReadReplies};
 
 use crate::lines::put_lines;
 use crate::options::EndOptions;
@@ -25,19 +23,8 @@ pub fn run_end<R: Read, W: Write>(
     reader: &mut R,
     writer: &mut W,
 ) -> Result<u8, CliFault>
-    ensures status { IfOk result (λ status. status ≡ 0) }
-    ensures lines { OnOk result ((replies : List Reply)
-        × HasReadReplies (R.remaining reader.old) (R.remaining reader.new) (Some replies)
-        × Appends (W.contents writer.old) (W.contents writer.new) (lines_of options.logs options.degree replies)) }
-    ensures front { (writer.new ≡ writer.old) ⊎ ((replies : List Reply)
-        × HasReadReplies (R.remaining reader.old) (R.remaining reader.new) (Some replies)
-        × GainsFront (W.contents writer.old) (W.contents writer.new) (lines_of options.logs options.degree replies)) }
-    ensures bad { result ≡ Err CliFault.BadScript
-        → HasReadReplies (R.remaining reader.old) (R.remaining reader.new) None }
-    ensures unwritten { (result ≡ Err CliFault.BadScript) ⊎ (result ≡ Err CliFault.Input)
-        → writer.new ≡ writer.old }
-    ensures output { result ≡ Err CliFault.Output → (replies : List Reply)
-        × HasReadReplies (R.remaining reader.old) (R.remaining reader.new) (Some replies) }
+    ensures prints { Prints replies_of (lines_of options.logs options.degree) (R.remaining reader.old) (R.remaining reader.new)
+        W.contents writer.old writer.new result }
 {
     let mut calls = CallCounts::new();
     end_counted(alloc, options, &mut calls, reader, writer)
@@ -54,22 +41,9 @@ pub fn end_counted<R: Read, W: Write>(
     writer: &mut W,
 ) -> Result<u8, CliFault>
     requires fresh { calls.old ≡ no_calls }
-    ensures status { IfOk result (λ status. status ≡ 0) }
-    ensures lines { OnOk result ((replies : List Reply)
-        × HasReadReplies (R.remaining reader.old) (R.remaining reader.new) (Some replies)
-        × Appends (W.contents writer.old) (W.contents writer.new) (lines_of options.logs options.degree replies)) }
-    ensures front { (writer.new ≡ writer.old) ⊎ ((replies : List Reply)
-        × HasReadReplies (R.remaining reader.old) (R.remaining reader.new) (Some replies)
-        × GainsFront (W.contents writer.old) (W.contents writer.new) (lines_of options.logs options.degree replies)) }
-    ensures bad { result ≡ Err CliFault.BadScript
-        → HasReadReplies (R.remaining reader.old) (R.remaining reader.new) None }
-    ensures unwritten { (result ≡ Err CliFault.BadScript) ⊎ (result ≡ Err CliFault.Input)
-        → writer.new ≡ writer.old }
-    ensures output { result ≡ Err CliFault.Output → (replies : List Reply)
-        × HasReadReplies (R.remaining reader.old) (R.remaining reader.new) (Some replies) }
-    ensures no_input { result ≡ Err CliFault.Input → HasNoInput calls.new }
-    ensures no_output { result ≡ Err CliFault.Output → 0 < calls.new.failed_writes }
-    ensures done { OnOk result (HasNotFailed calls.new) }
+    ensures prints { Prints replies_of (lines_of options.logs options.degree) (R.remaining reader.old) (R.remaining reader.new)
+        W.contents writer.old writer.new result }
+    ensures cause { HasCause calls.new result }
 {
     let input = read_input(alloc, calls, reader)?;
     let replies = read_script(alloc, input)?;

@@ -3,10 +3,8 @@
 
 mod memory_file;
 
-ghost use Rattle.std.specs.Prelude.{◌≡◌, ◌⊎◌, List, Err, IfOk, OnOk, Some, None};
-ghost use Rattle.std.specs.Io.KnownBytes.{Appends};
-ghost use Rattle.fr_cli.specs.declared.script.Operation.{Operation};
-ghost use Rattle.fr_cli.specs.Text.{HasRead, GainsFront};
+ghost use Rattle.fr_cli.specs.Command.{Prints};
+ghost use Rattle.fr_cli.specs.Script.{script_of};
 ghost use Rattle.fr_cli.specs.Lines.{lines_of};
 
 use crate::memory_file::blank_files;
@@ -25,19 +23,8 @@ pub fn run_apply_sql<R: Read, W: Write>(
     reader: &mut R,
     writer: &mut W,
 ) -> Result<u8, CliFault>
-    ensures status { IfOk result (λ status. status ≡ 0) }
-    ensures lines { OnOk result ((script : List Operation)
-        × HasRead (R.remaining reader.old) (R.remaining reader.new) (Some script)
-        × Appends (W.contents writer.old) (W.contents writer.new) (lines_of script)) }
-    ensures front { (writer.new ≡ writer.old) ⊎ ((script : List Operation)
-        × HasRead (R.remaining reader.old) (R.remaining reader.new) (Some script)
-        × GainsFront (W.contents writer.old) (W.contents writer.new) (lines_of script)) }
-    ensures bad { result ≡ Err CliFault.BadScript
-        → HasRead (R.remaining reader.old) (R.remaining reader.new) None }
-    ensures unwritten { (result ≡ Err CliFault.BadScript) ⊎ (result ≡ Err CliFault.Input)
-        → writer.new ≡ writer.old }
-    ensures output { result ≡ Err CliFault.Output → (script : List Operation)
-        × HasRead (R.remaining reader.old) (R.remaining reader.new) (Some script) }
+    ensures prints { Prints script_of lines_of (R.remaining reader.old) (R.remaining reader.new)
+        W.contents writer.old writer.new result }
 {
     let Ok(files) = blank_files(alloc) else {
         return Err(CliFault::Memory);

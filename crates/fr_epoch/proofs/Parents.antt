@@ -1,42 +1,15 @@
 -- What is read as a state has generations within their limits.
-use Rattle.std.proofs.Common.{◌≡◌, ℕ, ◌*◌, Bool, true, false, cond, nat_lt, List, [], ◌∷◌, length, Some, Result, Ok, Err, refl, subst}
+use Rattle.std.proofs.Common.{◌≡◌, ℕ, ◌*◌, Bool, true, false, cond, nat_lt, List, length, Some, Result, Ok, Err, refl, subst}
 use Rattle.std.specs.Prelude.{All}
 use Rattle.std.specs.List.{list_all}
-use Rattle.std.proofs.lemmas.Bool.{and_parts, ltb-true, leb-true}
-use Rattle.std.proofs.lemmas.List.Elements.{All-nil, All-cons}
+use Rattle.std.proofs.lemmas.Bool.{and_parts}
 use Rattle.fr_state.specs.declared.fault.DecodeFault.{DecodeFault}
 use Rattle.fr_state.specs.declared.fault.DecodeFault.TheVariants.{Short, BadForm, Trailing}
 use Rattle.fr_state.specs.Generations.{LogGeneration, CoordinatedState, IsGeneration, last_of}
 use Rattle.fr_state.specs.Order.{is_ordered}
 use Rattle.fr_state.specs.Reading.{header_at, generations_at, is_within, is_list, state_at, reading, ◌>>=◌}
 use Rattle.fr_state.specs.Laws.{LastIsWithin}
-
-within : (g : LogGeneration) → is_within g ≡ true → IsGeneration g
-unfolding is_within
-within g e =
-    let a = and_parts _ _ e in
-    let b = and_parts _ _ a.0 in
-    let epoch = and_parts _ _ b.0 in
-    let k = and_parts _ _ b.1 in
-    let logs = and_parts _ _ k.0 in
-    let v = and_parts _ _ a.1 in
-    let w = and_parts _ _ v.0 in
-    let first = and_parts _ _ w.0 in
-    record {
-      epoch_low = leb-true _ _ epoch.0;
-      epoch_high = ltb-true _ _ epoch.1;
-      k_low = leb-true _ _ logs.0;
-      k_high = leb-true _ _ logs.1;
-      m_high = leb-true _ _ k.1;
-      first_low = leb-true _ _ first.0;
-      first_high = ltb-true _ _ first.1;
-      seeded_to_low = leb-true _ _ w.1;
-      seeded_to_high = ltb-true _ _ v.1;
-    }
-
-all_within : (gens : List LogGeneration) → list_all is_within gens ≡ true → All IsGeneration gens
-all_within [] e = All-nil IsGeneration
-all_within (g ∷ gens) e = let a = and_parts (is_within g) (list_all is_within gens) e in All-cons IsGeneration g gens (within g a.0) (all_within gens a.1)
+use Rattle.fr_state.proofs.StateLemmas.{All-within}
 
 bind_ok : {A B : Type 0} (r : Result A DecodeFault) (f : A → Result B DecodeFault) (y : B) → (r >>= f) ≡ Ok y → (x : A) × (f x ≡ Ok y)
 bind_ok (Ok x) f y e = (x, e)
@@ -57,7 +30,7 @@ read_within bytes s e =
     let made : CoordinatedState = record { gens = generations_at n rest } in
     let parts = state_parts (nat_lt (length rest) (26 * n)) (is_list (generations_at n rest)) (nat_lt (26 * n) (length rest)) made s b.1 in
     let listed = and_parts (list_all is_within (generations_at n rest)) (is_ordered (generations_at n rest)) parts.0 in
-    subst (λ (t : CoordinatedState). All IsGeneration t.gens) parts.1 (all_within (generations_at n rest) listed.0)
+    subst (λ (t : CoordinatedState). All IsGeneration t.gens) parts.1 (All-within (generations_at n rest) listed.0)
 
 -- and so is the last one
 pub read_last : LastIsWithin → (bytes : List ℕ) (s : CoordinatedState) (g : LogGeneration) → reading bytes ≡ Ok s → last_of s.gens ≡ Some g → IsGeneration g

@@ -1,33 +1,27 @@
-use Rattle.std.proofs.Common.{rules, ◌≡◌, inr, None, refl}
+use Rattle.std.proofs.Common.{rules, ◌≡◌, None, refl}
 use Rattle.fr_undo.specs.State.{fresh}
 use Rattle.fr_cli.specs.Plan.{plan_of}
-use Rattle.fr_cli.proofs.PlanLemmas.{bad_found, read_found, front_found, all_found}
+use Rattle.fr_cli.proofs.PlanLemmas.{bad_found, front_found, all_found}
 use Rattle.fr_cli.proofs.TextLemmas.{gains_kept, appends_kept}
+use Rattle.fr_cli.proofs.CommandLemmas.{unread, misread, cut_off, printed}
 use Rattle.fr_cli.proofs.apply.apply_counted.Goals as goal
 
-pub returns-in_err-script-clause-bad : goal.returns-in_err-script-clause-bad
-returns-in_err-script-clause-bad g c = λ e.
+pub returns-in_err-input-clause-prints : goal.returns-in_err-input-clause-prints
+returns-in_err-input-clause-prints g c = unread _ _ _ _ _ _ _ c.from_residual.ensures.0 (search rules)
+
+pub returns-in_err-script-clause-prints : goal.returns-in_err-script-clause-prints
+returns-in_err-script-clause-prints g c = misread _ _ _ _ _ _ _ c.from_residual-in_err-script.ensures.0 (search rules) (λ e.
     let none : plan_of c.in_ok-input.input.items ≡ None = search rules in
-    bad_found _ _ c.in_ok-input.input.items c.in_ok-input.ensures.all none
+    bad_found _ _ c.in_ok-input.input.items c.in_ok-input.ensures.all none)
 
-pub returns-in_err-run_in_memory-clause-front : goal.returns-in_err-run_in_memory-clause-front
-returns-in_err-run_in_memory-clause-front g c =
-    inr (front_found _ _ c.in_ok-input.input.items c.in_ok-script.script.items c.in_ok-input.ensures.all c.in_ok-script.ensures.ok fresh _ _ refl c.run_in_memory.ensures.front)
+pub returns-in_err-run_in_memory-clause-prints : goal.returns-in_err-run_in_memory-clause-prints
+returns-in_err-run_in_memory-clause-prints g c = cut_off _ _ _ _ _ _ _ _ c.from_residual-in_err-run_in_memory.ensures.0 (search rules)
+    (front_found _ _ c.in_ok-input.input.items c.in_ok-script.script.items c.in_ok-input.ensures.all c.in_ok-script.ensures.ok fresh _ _ refl c.run_in_memory.ensures.front)
 
-pub returns-in_err-run_in_memory-clause-output : goal.returns-in_err-run_in_memory-clause-output
-returns-in_err-run_in_memory-clause-output g c = λ e. read_found _ _ c.in_ok-input.input.items c.in_ok-script.script.items c.in_ok-input.ensures.all c.in_ok-script.ensures.ok
+pub returns-in_err-flush-clause-prints : goal.returns-in_err-flush-clause-prints
+returns-in_err-flush-clause-prints g c = cut_off _ _ _ _ _ _ _ _ c.from_residual-in_err-flush.ensures.0 (search rules)
+    (front_found _ _ c.in_ok-input.input.items c.in_ok-script.script.items c.in_ok-input.ensures.all c.in_ok-script.ensures.ok fresh _ _ refl (gains_kept _ _ _ _ c.run_in_memory.ensures.front c.flush.ensures.kept))
 
-pub returns-in_err-flush-clause-front : goal.returns-in_err-flush-clause-front
-returns-in_err-flush-clause-front g c =
-    inr (front_found _ _ c.in_ok-input.input.items c.in_ok-script.script.items c.in_ok-input.ensures.all c.in_ok-script.ensures.ok fresh _ _ refl (gains_kept _ _ _ _ c.run_in_memory.ensures.front c.flush.ensures.kept))
-
-pub returns-in_err-flush-clause-output : goal.returns-in_err-flush-clause-output
-returns-in_err-flush-clause-output g c = λ e. read_found _ _ c.in_ok-input.input.items c.in_ok-script.script.items c.in_ok-input.ensures.all c.in_ok-script.ensures.ok
-
-pub returns-clause-lines : goal.returns-clause-lines
-returns-clause-lines g c =
-    all_found _ _ c.in_ok-input.input.items c.in_ok-script.script.items c.in_ok-input.ensures.all c.in_ok-script.ensures.ok fresh _ _ refl (appends_kept _ _ _ _ c.in_ok-run_in_memory.ensures.ok c.flush.ensures.kept)
-
-pub returns-clause-front : goal.returns-clause-front
-returns-clause-front g c =
-    inr (front_found _ _ c.in_ok-input.input.items c.in_ok-script.script.items c.in_ok-input.ensures.all c.in_ok-script.ensures.ok fresh _ _ refl (gains_kept _ _ _ _ c.run_in_memory.ensures.front c.flush.ensures.kept))
+pub returns-clause-prints : goal.returns-clause-prints
+returns-clause-prints g c = printed _ _ _ _ _ _ _
+    (all_found _ _ c.in_ok-input.input.items c.in_ok-script.script.items c.in_ok-input.ensures.all c.in_ok-script.ensures.ok fresh _ _ refl (appends_kept _ _ _ _ c.in_ok-run_in_memory.ensures.ok c.flush.ensures.kept))
