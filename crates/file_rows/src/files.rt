@@ -1,142 +1,120 @@
 //! The bytes of record files, room, and files that are none.
-use fr_device::{Device, FaultyDevice, MemoryDevice};
-use fr_record::{RecordFault, Records};
+use crate::scene::Call::{Append, Get, Group, Reopen};
+use crate::scene::{ROOM, Row, fails_once, left_by, opened, put};
+use fr_device::{Device, MemoryDevice};
+use fr_record::RecordFault::{self, Broken, Failed, Full};
+use fr_record::Records;
 use std::alloc::Global;
+use std::process::Abort;
 use std::test::Fail;
 
-const ROOM: usize = 64;
+/// Asserts what comes of the calls of a file with this room, and the bytes that it has then.
+fn has_bytes(
+    rt: &impl Abort,
+    alloc: Global,
+    room: usize,
+    rows: &[Row],
+    wanted: &[u8],
+) -> Result<(), Fail> {
+    let device = left_by(rt, alloc, room, rows)?;
+    assert!(rt; device.bytes() == wanted);
+    Ok(())
+}
+
+const ONE: [Row; 3] = [
+    (Append(&[0x61, 0x62]), Ok(None), 1),
+    (Get(0), Ok(Some(&[0x61, 0x62])), 1),
+    (Get(1), Ok(None), 1),
+];
+
+#[test]
+fn one_record_in_bytes(rt: HostRuntime) -> Result<(), Fail> {
+    let alloc = rt.alloc();
+    has_bytes(&rt, alloc, ROOM, &ONE, &[1, 0, 0, 0, 2, 0x61, 0x62, 0])?;
+    has_bytes(&rt, alloc, ROOM, &[], &[0])
+}
+
+const TWO: [Row; 3] = [
+    (Group(&[]), Ok(None), 0),
+    (Group(&[&[1], &[2, 3]]), Ok(None), 2),
+    (Get(1), Ok(Some(&[2, 3])), 2),
+];
+
+const TWO_BYTES: [u8; 14] = [1, 0, 0, 0, 1, 1, 1, 0, 0, 0, 2, 2, 3, 0];
+
+#[test]
+fn a_group_in_bytes(rt: HostRuntime) -> Result<(), Fail> {
+    let alloc = rt.alloc();
+    has_bytes(&rt, alloc, ROOM, &TWO, &TWO_BYTES)?;
+    let device = left_by(&rt, alloc, ROOM, &TWO)?;
+    opened(&rt, alloc, device, &[(Get(1), Ok(Some(&[2, 3])), 2)])?;
+    Ok(())
+}
 
 /// A device that holds these bytes, all of them synced.
 fn holding(alloc: Global, bytes: &[u8]) -> Result<MemoryDevice, Fail> {
     let mut device = MemoryDevice::new(alloc, ROOM)?;
     if !bytes.is_empty() {
-        device.write_at(0, bytes)?;
+        put(&mut device, 0, bytes)?;
         device.sync()?;
     }
     Ok(device)
 }
 
-#[test]
-fn one_record_in_bytes(rt: HostRuntime) -> Result<(), Fail> {
-    let alloc = rt.alloc();
-    let mut file = Records::format(alloc, MemoryDevice::new(alloc, ROOM)?)?;
-    file.append(alloc, &[0x61, 0x62])?;
-    assert_eq!(rt; file.len(), 1);
-    let found = file.get(alloc, 0)?.ok_or("no record")?;
-    assert_eq!(rt; found.as_slice(), [0x61, 0x62].as_slice());
-    assert_eq!(rt; file.get(alloc, 1)?.is_none(), true);
-    assert_eq!(rt; file.is_failed(), false);
-    let device = file.into_device();
-    assert_eq!(rt; device.bytes(), [1, 0, 0, 0, 2, 0x61, 0x62, 0].as_slice());
-    let none = Records::format(alloc, MemoryDevice::new(alloc, ROOM)?)?;
-    assert_eq!(rt; none.into_device().bytes(), [0].as_slice());
-    Ok(())
+/// Why these bytes are no file.
+fn fault_of(alloc: Global, bytes: &[u8]) -> Result<Option<RecordFault>, Fail> {
+    Ok(Records::open(alloc, holding(alloc, bytes)?).err())
 }
 
-#[test]
-fn a_group_in_bytes(rt: HostRuntime) -> Result<(), Fail> {
-    let alloc = rt.alloc();
-    let mut file = Records::format(alloc, MemoryDevice::new(alloc, ROOM)?)?;
-    let mut group = Vec::new(alloc);
-    file.append_group(alloc, &group)?;
-    assert_eq!(rt; file.len(), 0);
-    group.push(Vec::from_slice(alloc, &[1])?)?;
-    group.push(Vec::from_slice(alloc, &[2, 3])?)?;
-    file.append_group(alloc, &group)?;
-    assert_eq!(rt; file.len(), 2);
-    let found = file.get(alloc, 1)?.ok_or("no record")?;
-    assert_eq!(rt; found.as_slice(), [2, 3].as_slice());
-    let device = file.into_device();
-    assert_eq!(rt;
-        device.bytes(),
-        [1, 0, 0, 0, 1, 1, 1, 0, 0, 0, 2, 2, 3, 0].as_slice()
-    );
-    let file = Records::open(alloc, device)?;
-    assert_eq!(rt; file.len(), 2);
+const NO_FILES: [&[u8]; 3] = [&[], &[1], &[1, 0, 0, 0, 2, 0x61]];
+
+const EMPTY: [Row; 1] = [(Get(0), Ok(None), 0)];
+
+/// A file whose only byte is a torn gate has no records, and that gate is closed.
+fn is_closed(rt: &impl Abort, alloc: Global) -> Result<(), Fail> {
+    let device = opened(rt, alloc, holding(alloc, &[7])?, &EMPTY)?;
+    assert!(rt; device.bytes() == [0].as_slice());
     Ok(())
 }
 
 #[test]
 fn no_file(rt: HostRuntime) -> Result<(), Fail> {
     let alloc = rt.alloc();
-    let broken = Some(RecordFault::Broken);
-    assert_eq!(rt; Records::open(alloc, holding(alloc, &[])?).err(), broken);
-    assert_eq!(rt; Records::open(alloc, holding(alloc, &[1])?).err(), broken);
-    assert_eq!(rt;
-        Records::open(alloc, holding(alloc, &[1, 0, 0, 0, 2, 0x61])?).err(),
-        broken
-    );
-    let file = Records::open(alloc, holding(alloc, &[7])?)?;
-    assert_eq!(rt; file.len(), 0);
-    assert_eq!(rt; file.into_device().bytes(), [0].as_slice());
-    Ok(())
+    for bytes in NO_FILES {
+        assert!(rt; fault_of(alloc, bytes)? == Some(Broken));
+    }
+    is_closed(&rt, alloc)
 }
+
+/// Why no file is made in this room.
+fn fault_in(alloc: Global, room: usize) -> Result<Option<RecordFault>, Fail> {
+    Ok(Records::format(alloc, MemoryDevice::new(alloc, room)?).err())
+}
+
+const NO_ROOM: [Row; 2] = [
+    (Append(&[0x61, 0x62]), Err(Full), 0),
+    (Group(&[&[0x61, 0x62]]), Err(Full), 0),
+];
 
 #[test]
 fn room_for_one(rt: HostRuntime) -> Result<(), Fail> {
     let alloc = rt.alloc();
-    let none = Records::format(alloc, MemoryDevice::new(alloc, 0)?);
-    assert_eq!(rt; none.err(), Some(RecordFault::Full));
-    let mut file = Records::format(alloc, MemoryDevice::new(alloc, 7)?)?;
-    assert_eq!(rt;
-        file.append(alloc, &[0x61, 0x62]).err(),
-        Some(RecordFault::Full)
-    );
-    assert_eq!(rt; file.len(), 0);
-    let mut group = Vec::new(alloc);
-    group.push(Vec::from_slice(alloc, &[0x61, 0x62])?)?;
-    assert_eq!(rt;
-        file.append_group(alloc, &group).err(),
-        Some(RecordFault::Full)
-    );
-    assert_eq!(rt; file.into_device().bytes(), [0].as_slice());
-    let mut file = Records::format(alloc, MemoryDevice::new(alloc, 8)?)?;
-    file.append(alloc, &[0x61, 0x62])?;
-    assert_eq!(rt; file.len(), 1);
+    assert!(rt; fault_in(alloc, 0)? == Some(Full));
+    has_bytes(&rt, alloc, 7, &NO_ROOM, &[0])?;
+    left_by(&rt, alloc, 8, &[(Append(&[0x61, 0x62]), Ok(None), 1)])?;
     Ok(())
 }
 
-#[test]
-fn a_device_that_fails(rt: HostRuntime) -> Result<(), Fail> {
-    let alloc = rt.alloc();
-    let mut device = FaultyDevice::once(MemoryDevice::new(alloc, ROOM)?, 2);
-    device.write_at(0, &[7])?;
-    assert_eq!(rt; device.sync().is_err(), true);
-    assert_eq!(rt; device.calls(), 2);
-    assert_eq!(rt; device.failures(), 1);
-    device.sync()?;
-    assert_eq!(rt; device.len()?, 1);
-    assert_eq!(rt; device.capacity(), ROOM);
-    let mut device = FaultyDevice::from(device.into_inner(), 1);
-    let mut byte = [0];
-    assert_eq!(rt; device.read_at(0, &mut byte).is_err(), true);
-    assert_eq!(rt; device.len().is_err(), true);
-    assert_eq!(rt; device.failures(), 2);
-    let mut inner = device.into_inner();
-    inner.read_at(0, &mut byte)?;
-    assert_eq!(rt; byte, [7]);
-    Ok(())
-}
+/// Of a file whose last sync failed in the first of these calls.
+const FAILED: [Row; 5] = [
+    (Append(&[0x61]), Err(RecordFault::Device), 0),
+    (Append(&[0x61]), Err(Failed), 0),
+    (Get(0), Err(Failed), 0),
+    (Reopen, Ok(None), 1),
+    (Append(&[0x62]), Ok(None), 2),
+];
 
 #[test]
 fn a_failed_file_is_opened_again(rt: HostRuntime) -> Result<(), Fail> {
-    let alloc = rt.alloc();
-    let device = FaultyDevice::once(MemoryDevice::new(alloc, ROOM)?, 6);
-    let mut file = Records::format(alloc, device)?;
-    assert_eq!(rt;
-        file.append(alloc, &[0x61]).err(),
-        Some(RecordFault::Device)
-    );
-    assert_eq!(rt; file.is_failed(), true);
-    assert_eq!(rt;
-        file.append(alloc, &[0x61]).err(),
-        Some(RecordFault::Failed)
-    );
-    assert_eq!(rt; file.get(alloc, 0).err(), Some(RecordFault::Failed));
-    assert_eq!(rt; file.len(), 0);
-    file.reopen(alloc)?;
-    assert_eq!(rt; file.len(), 1);
-    file.append(alloc, &[0x62])?;
-    assert_eq!(rt; file.len(), 2);
-    Ok(())
+    fails_once(&rt, rt.alloc(), 6, &FAILED)
 }

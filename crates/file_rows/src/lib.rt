@@ -6,4 +6,8 @@ mod cells;
 #[cfg(test)]
 mod crash;
 #[cfg(test)]
+mod devices;
+#[cfg(test)]
 mod files;
+#[cfg(test)]
+mod scene;

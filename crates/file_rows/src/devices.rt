@@ -1,0 +1,76 @@
+//! A device that fails when it is told to.
+ghost use Rattle.std.specs.Prelude.{◌≤◌, length};
+
+use crate::scene::{ROOM, put};
+use fr_device::{Device, FaultyDevice, MemoryDevice};
+use std::alloc::Global;
+use std::process::Abort;
+use std::test::Fail;
+
+fn syncs<D: Device>(device: &mut D) -> bool {
+    device.sync().is_ok()
+}
+
+fn len<D: Device>(device: &mut D) -> Option<usize> {
+    device.len().ok()
+}
+
+fn first_byte<D: Device>(device: &mut D) -> Option<u8>
+    requires { 1 ≤ length (D.disk device.old).content }
+{
+    let mut byte = [0];
+    match device.read_at(0, &mut byte) {
+        Ok(()) => Some(byte[0]),
+        Err(_) => None,
+    }
+}
+
+/// Whether the second call fails, and no other; `capacity` and `failures` are no calls.
+fn fails_once(device: &mut FaultyDevice<MemoryDevice>) -> bool {
+    put(device, 0, &[7]).is_ok()
+        && !syncs(device)
+        && device.calls() == 2
+        && device.failures() == 1
+        && syncs(device)
+        && len(device) == Some(1)
+        && device.capacity() == ROOM
+}
+
+/// The device in memory below one that failed once.
+fn written(rt: &impl Abort, alloc: Global) -> Result<MemoryDevice, Fail> {
+    let mut device = FaultyDevice::once(MemoryDevice::new(alloc, ROOM)?, 2);
+    assert!(rt; fails_once(&mut device));
+    Ok(device.into_inner())
+}
+
+/// Whether each call fails.
+fn fails(device: &mut FaultyDevice<MemoryDevice>) -> bool
+    requires { 1 ≤ length device.old.device.bytes }
+{
+    first_byte(device).is_none() && len(device).is_none() && device.failures() == 2
+}
+
+/// The device in memory below one that failed in each call.
+fn unread(rt: &impl Abort, inner: MemoryDevice) -> MemoryDevice
+    requires { 1 ≤ length inner.bytes }
+{
+    let mut device = FaultyDevice::from(inner, 1);
+    assert!(rt; fails(&mut device));
+    device.into_inner()
+}
+
+/// Whether the device in memory has this byte, and gives it once the device above it failed in each call.
+fn keeps(rt: &impl Abort, inner: MemoryDevice, byte: u8) -> bool {
+    if inner.bytes().is_empty() {
+        return false;
+    }
+    let mut inner = unread(rt, inner);
+    !inner.bytes().is_empty() && first_byte(&mut inner) == Some(byte)
+}
+
+#[test]
+fn a_device_that_fails(rt: HostRuntime) -> Result<(), Fail> {
+    let inner = written(&rt, rt.alloc())?;
+    assert!(rt; keeps(&rt, inner, 7));
+    Ok(())
+}
