@@ -1,120 +1,204 @@
-use crate::made::{at, commits, epoch, push, shards, take, waits};
-use fr_ask::{Ask, Named, Tell};
+//! Proxies with the sequencer that numbers their batches.
+use crate::made::{at, epoch, proxy, sequencer, there};
+use crate::scene::Deed::{self, Hold, Look, Submit};
+use crate::scene::Said::{self, Commits, Knows, Next, Pushes, Waits};
+use crate::scene::{BOTH, does, hears};
+use fr_ask::{Ask, Named, SeqAsk, Tell};
 use fr_base::{Machine, NodeId};
 use fr_proxy::{Proxy, Sequencer};
 use std::alloc::Global;
 use std::process::Abort;
 use std::test::Fail;
 
-/// A proxy of epoch 257 with two logs, one for each tag, and a batch at this step.
-fn taking(alloc: Global, number: u8, size: u64) -> Result<Proxy, Fail> {
-    let mut proxy = Proxy::new(epoch(257)?, number, 2, 1, shards(alloc)?, at(0)?);
-    take(alloc, &mut proxy, size)?;
-    Ok(proxy)
+/// What is done, and what comes of it.
+#[derive(Clone, Copy)]
+enum Link {
+    /// The sequencer gives the batch of a proxy a version, with the one before it, and the proxy pushes it to both
+    /// logs, with the version that it knows.
+    Give((u64, u64), u64),
+    /// The sequencer gives the batch a version, and the proxy does not hear it.
+    Lose,
+    /// This is done with the proxy alone.
+    Do(Deed, Said),
 }
 
-/// What a sequencer tells to the ask that a proxy has pending.
-fn number(alloc: Global, sequencer: &mut Sequencer, proxy: &Proxy) -> Result<Tell, Fail> {
-    let asks = proxy.pending(alloc)?;
-    match asks.as_slice() {
-        [(_, Ask::Seq(ask))] => Ok(Sequencer::wrap_tell(sequencer.step(alloc, *ask)?)),
-        _ => Err("no ask of a sequencer")?,
+/// To which proxy it is done, by its number, and what.
+type Row = (u8, Link);
+
+/// What shows a rule: the rule, the epoch, what its proxies know and the last version of its sequencer at first, and
+/// what is done. Proxies 0 and 1 have two logs, one for each tag.
+type Scene = (&'static str, (u64, u64, u64), &'static [Row]);
+
+const INTERLEAVED: [Row; 9] = [
+    (0, Link::Do(Submit(1), Next(0, 1, 1))),
+    (1, Link::Do(Submit(5), Next(1, 1, 5))),
+    (1, Link::Give((1, 6), 0)),
+    (0, Link::Give((6, 7), 0)),
+    (0, Link::Do(Hold(257, 1, 6), Waits)),
+    (0, Link::Do(Hold(257, 0, 7), Waits)),
+    (0, Link::Do(Hold(257, 1, 7), Commits(7))),
+    (1, Link::Do(Hold(257, 0, 6), Waits)),
+    (1, Link::Do(Hold(257, 1, 6), Commits(6))),
+];
+
+const LOST: [Row; 9] = [
+    (0, Link::Do(Submit(1), Next(0, 1, 1))),
+    (0, Link::Lose),
+    (1, Link::Do(Submit(1), Next(1, 1, 1))),
+    (1, Link::Lose),
+    (0, Link::Give((1, 2), 0)),
+    (0, Link::Do(Hold(257, 0, 2), Waits)),
+    (0, Link::Do(Hold(257, 1, 2), Commits(2))),
+    (0, Link::Do(Submit(2), Next(0, 2, 2))),
+    (0, Link::Give((3, 5), 2)),
+];
+
+const BEGUN: [Row; 7] = [
+    (0, Link::Do(Submit(1), Next(0, 1, 1))),
+    (0, Link::Give((13, 14), 9)),
+    (0, Link::Do(Look, Knows(9))),
+    (0, Link::Do(Hold(513, 0, 14), Waits)),
+    (0, Link::Do(Hold(513, 1, 14), Commits(14))),
+    (0, Link::Do(Submit(1), Next(0, 2, 1))),
+    (0, Link::Give((14, 15), 14)),
+];
+
+const BEFORE: [Row; 6] = [
+    (0, Link::Do(Submit(1), Next(0, 1, 1))),
+    (0, Link::Give((13, 14), 9)),
+    (0, Link::Do(Hold(257, 0, 14), Waits)),
+    (0, Link::Do(Hold(257, 1, 14), Waits)),
+    (0, Link::Do(Hold(513, 0, 14), Waits)),
+    (0, Link::Do(Hold(513, 1, 14), Commits(14))),
+];
+
+/// The epoch 513 begins with version 10, and its mark is at 13.
+const SCENES: [Scene; 4] = [
+    (
+        "proxies interleave at one sequencer",
+        (257, 0, 1),
+        &INTERLEAVED,
+    ),
+    ("a lost number is told again", (257, 0, 1), &LOST),
+    (
+        "a generation begins with what is known before it",
+        (513, 9, 13),
+        &BEGUN,
+    ),
+    (
+        "logs of the generation before count nothing",
+        (513, 9, 13),
+        &BEFORE,
+    ),
+];
+
+/// What a proxy has asked of its sequencer alone.
+fn asked(asks: &[(NodeId, Ask)]) -> Option<SeqAsk> {
+    match asks {
+        [(_, Ask::Seq(ask))] => Some(*ask),
+        _ => None,
     }
 }
 
-/// Asserts that a proxy's batch is given this place by the sequencer.
-fn is_given(
-    rt: &impl Abort,
-    alloc: Global,
-    sequencer: &mut Sequencer,
-    proxy: &mut Proxy,
-    place: (u64, u64),
-    known: u64,
-) -> Result<(), Fail> {
-    let tell = number(alloc, sequencer, proxy)?;
-    pushes(rt, alloc, proxy, &tell, place, known)
+fn pending(alloc: Global, proxy: &Proxy) -> Result<SeqAsk, Fail> {
+    let asks = proxy.pending(alloc)?;
+    there(asked(asks.as_slice()), "no ask of a sequencer")
 }
 
-/// Asserts that a proxy pushes at a tell: the first push has this place, and what is known.
-fn pushes(
-    rt: &impl Abort,
+/// What a sequencer tells to the ask that a proxy has pending.
+fn number(alloc: Global, given: &mut Sequencer, proxy: &Proxy) -> Result<Tell, Fail> {
+    let ask = pending(alloc, proxy)?;
+    Ok(Sequencer::wrap_tell(given.step(alloc, ask)?))
+}
+
+fn gives(
     alloc: Global,
+    given: &mut Sequencer,
     proxy: &mut Proxy,
-    tell: &Tell,
     place: (u64, u64),
     known: u64,
+) -> Result<bool, Fail> {
+    let from = sequencer(given.epoch().get())?;
+    let tell = number(alloc, given, proxy)?;
+    hears(alloc, proxy, from, &tell, Pushes(place, known, &BOTH))
+}
+
+fn loses(alloc: Global, given: &mut Sequencer, proxy: &Proxy) -> Result<bool, Fail> {
+    let _lost = number(alloc, given, proxy)?;
+    Ok(true)
+}
+
+/// Whether this comes of what is done to a proxy.
+fn links(
+    alloc: Global,
+    given: &mut Sequencer,
+    proxy: &mut Proxy,
+    link: Link,
+) -> Result<bool, Fail> {
+    match link {
+        Link::Give(place, known) => gives(alloc, given, proxy, place, known),
+        Link::Lose => loses(alloc, given, proxy),
+        Link::Do(deed, said) => does(alloc, proxy, (deed, said)),
+    }
+}
+
+/// The same, to proxy 0 or 1.
+fn links_one(
+    alloc: Global,
+    given: &mut Sequencer,
+    proxies: &mut (Proxy, Proxy),
+    (index, link): Row,
+) -> Result<bool, Fail> {
+    match index {
+        0 => links(alloc, given, &mut proxies.0, link),
+        _ => links(alloc, given, &mut proxies.1, link),
+    }
+}
+
+/// Asserts that of what is done, in turn, comes what stands beside it.
+fn plays(
+    rt: &impl Abort,
+    alloc: Global,
+    given: &mut Sequencer,
+    proxies: &mut (Proxy, Proxy),
+    (name, rows): (&str, &[Row]),
 ) -> Result<(), Fail> {
-    let epoch = proxy.epoch();
-    let (_, asks) = proxy.hear(alloc, NodeId::Sequencer { epoch }, tell)?;
-    let want = push(alloc, epoch.get(), place, known, &[(0, 0x61, 0x6d)])?;
-    assert_eq!(rt; asks.len(), 2);
-    assert_eq!(rt; asks[0].0, NodeId::Log { epoch, index: 0 });
-    assert!(rt; asks[0].1 == want);
+    for (number, row) in rows.iter().enumerate() {
+        assert!(rt;
+            links_one(alloc, given, proxies, *row)?,
+            "{name}: in row {number}"
+        );
+    }
     Ok(())
 }
 
-/// Asserts that a proxy's batch is committed once both of its logs told to hold this version.
-fn is_committed(
+fn proxies(alloc: Global, number: u64, known: u64) -> Result<(Proxy, Proxy), Fail> {
+    let zero = proxy(alloc, (number, 0, 2, 1, known))?;
+    let one = proxy(alloc, (number, 1, 2, 1, known))?;
+    Ok((zero, one))
+}
+
+fn new_sequencer(alloc: Global, number: u64, last: u64) -> Result<Sequencer, Fail> {
+    let epoch = epoch(number)?;
+    let last = at(last)?;
+    Ok(Sequencer::new(alloc, epoch, last))
+}
+
+/// Asserts that a rule is shown.
+fn shows(
     rt: &impl Abort,
     alloc: Global,
-    proxy: &mut Proxy,
-    version: u64,
+    (name, (number, known, last), rows): Scene,
 ) -> Result<(), Fail> {
-    let number = proxy.epoch().get();
-    waits(rt, alloc, proxy, (number, 0), version)?;
-    commits(rt, alloc, proxy, (number, 1), version)
+    let mut given = new_sequencer(alloc, number, last)?;
+    let mut proxies = proxies(alloc, number, known)?;
+    plays(rt, alloc, &mut given, &mut proxies, (name, rows))
 }
 
 #[test]
-fn proxies_interleave_at_one_sequencer(rt: HostRuntime) -> Result<(), Fail> {
-    let alloc = rt.alloc();
-    let mut sequencer = Sequencer::new(alloc, epoch(257)?, at(1)?);
-    let mut zero = taking(alloc, 0, 1)?;
-    let mut one = taking(alloc, 1, 5)?;
-    is_given(&rt, alloc, &mut sequencer, &mut one, (1, 6), 0)?;
-    is_given(&rt, alloc, &mut sequencer, &mut zero, (6, 7), 0)?;
-    waits(&rt, alloc, &mut zero, (257, 1), 6)?;
-    is_committed(&rt, alloc, &mut zero, 7)?;
-    is_committed(&rt, alloc, &mut one, 6)
-}
-
-#[test]
-fn a_lost_number_is_told_again(rt: HostRuntime) -> Result<(), Fail> {
-    let alloc = rt.alloc();
-    let mut sequencer = Sequencer::new(alloc, epoch(257)?, at(1)?);
-    let mut zero = taking(alloc, 0, 1)?;
-    number(alloc, &mut sequencer, &zero)?;
-    number(alloc, &mut sequencer, &taking(alloc, 1, 1)?)?;
-    is_given(&rt, alloc, &mut sequencer, &mut zero, (1, 2), 0)?;
-    is_committed(&rt, alloc, &mut zero, 2)?;
-    take(alloc, &mut zero, 2)?;
-    is_given(&rt, alloc, &mut sequencer, &mut zero, (3, 5), 2)
-}
-
-/// A proxy of epoch 513, whose first version is 10, with a batch, and the sequencer after its mark at 13.
-fn later(alloc: Global) -> Result<(Sequencer, Proxy), Fail> {
-    let mut proxy = Proxy::new(epoch(513)?, 0, 2, 1, shards(alloc)?, at(9)?);
-    take(alloc, &mut proxy, 1)?;
-    Ok((Sequencer::new(alloc, epoch(513)?, at(13)?), proxy))
-}
-
-#[test]
-fn a_generation_begins_with_what_is_known_before_it(rt: HostRuntime) -> Result<(), Fail> {
-    let alloc = rt.alloc();
-    let (mut sequencer, mut proxy) = later(alloc)?;
-    is_given(&rt, alloc, &mut sequencer, &mut proxy, (13, 14), 9)?;
-    assert_eq!(rt; proxy.known(), at(9)?);
-    is_committed(&rt, alloc, &mut proxy, 14)?;
-    take(alloc, &mut proxy, 1)?;
-    is_given(&rt, alloc, &mut sequencer, &mut proxy, (14, 15), 14)
-}
-
-#[test]
-fn logs_of_the_generation_before_count_nothing(rt: HostRuntime) -> Result<(), Fail> {
-    let alloc = rt.alloc();
-    let (mut sequencer, mut proxy) = later(alloc)?;
-    is_given(&rt, alloc, &mut sequencer, &mut proxy, (13, 14), 9)?;
-    waits(&rt, alloc, &mut proxy, (257, 0), 14)?;
-    waits(&rt, alloc, &mut proxy, (257, 1), 14)?;
-    is_committed(&rt, alloc, &mut proxy, 14)
+fn the_batches_of_a_generation_form_one_chain(rt: HostRuntime) -> Result<(), Fail> {
+    for scene in SCENES {
+        shows(&rt, rt.alloc(), scene)?;
+    }
+    Ok(())
 }

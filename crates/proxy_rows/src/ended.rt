@@ -1,101 +1,86 @@
-use crate::made::{
-    at, commits, epoch, is_numbered, log, placed, proxy, stops, take, taken, takes_none, told,
-    waits,
-};
-use fr_ask::{SeqRefusal, SeqTell, Tell};
-use fr_base::NodeId;
-use fr_proxy::{Outcome, Proxy, SubmitFault};
-use std::alloc::Global;
-use std::process::Abort;
+//! When batches end, and what a proxy heeds then.
+use crate::made::ONE_EACH;
+use crate::scene::Deed::{Hold, Look, Number, Pending, Spend, SpendAsLog, Stop, Submit};
+use crate::scene::Said::{Asks, Commits, Ends, Knows, Next, Nothing, Over, Waits};
+use crate::scene::{PLACED, Row, Scene, TAKEN, shows};
 use std::test::Fail;
 
-/// Asserts that a proxy takes no batch, has no ask, and heeds neither a number nor a log.
-fn is_over(rt: &impl Abort, alloc: Global, proxy: &mut Proxy) -> Result<(), Fail> {
-    takes_none(rt, alloc, proxy, SubmitFault::Over)?;
-    assert!(rt; proxy.pending(alloc)?.is_empty());
-    is_numbered(rt, alloc, proxy, (1, 1, 2), 0)?;
-    waits(rt, alloc, proxy, (257, 0), 2)?;
-    waits(rt, alloc, proxy, (257, 1), 2)?;
-    stops(rt, alloc, proxy, (257, 1), Outcome::Waiting)
-}
+/// A proxy takes no batch, has no ask, and heeds neither a number nor a log.
+const IS_OVER: [Row; 6] = [
+    (Submit(1), Over),
+    (Pending, Nothing),
+    (Number(257, (1, 1, 2)), Waits),
+    (Hold(257, 0, 2), Waits),
+    (Hold(257, 1, 2), Waits),
+    (Stop(257, 1), Waits),
+];
+
+const NUMBERED: [Row; 6] = [
+    (Hold(257, 0, 2), Waits),
+    (Hold(257, 1, 2), Commits(2)),
+    (Submit(1), Next(0, 2, 1)),
+    (Number(257, (2, 2, 3)), Asks(2)),
+    (Stop(257, 1), Ends),
+    (Look, Knows(2)),
+];
+
+const HELD_BY_ONE: [Row; 3] = [
+    (Hold(257, 0, 2), Waits),
+    (Stop(257, 1), Ends),
+    (Look, Knows(0)),
+];
+
+const WITHOUT_NUMBER: [Row; 1] = [(Stop(257, 1), Ends)];
+
+const SPENT: [Row; 3] = [
+    (Spend(513), Waits),
+    (SpendAsLog(257, 0), Waits),
+    (Spend(257), Ends),
+];
+
+const OTHER_LOGS: [Row; 4] = [
+    (Stop(513, 0), Waits),
+    (Stop(257, 2), Waits),
+    (Hold(257, 0, 2), Waits),
+    (Hold(257, 1, 2), Commits(2)),
+];
+
+const NO_BATCH: [Row; 3] = [
+    (Stop(257, 0), Waits),
+    (Submit(1), Next(0, 1, 1)),
+    (Number(257, (1, 1, 2)), Asks(2)),
+];
+
+const SCENES: [Scene; 6] = [
+    (
+        "a stopped log ends a numbered batch",
+        ONE_EACH,
+        &[&PLACED, &NUMBERED, &IS_OVER],
+    ),
+    (
+        "a stopped log ends a batch that one log holds",
+        ONE_EACH,
+        &[&PLACED, &HELD_BY_ONE, &IS_OVER],
+    ),
+    (
+        "a stopped log ends a batch without a number",
+        ONE_EACH,
+        &[&TAKEN, &WITHOUT_NUMBER, &IS_OVER],
+    ),
+    (
+        "spent versions end a batch",
+        ONE_EACH,
+        &[&TAKEN, &SPENT, &IS_OVER],
+    ),
+    ("other logs end nothing", ONE_EACH, &[&PLACED, &OTHER_LOGS]),
+    (
+        "a stopped log ends nothing where no batch is",
+        ONE_EACH,
+        &[&NO_BATCH],
+    ),
+];
 
 #[test]
-fn a_stopped_log_ends_a_numbered_batch(rt: HostRuntime) -> Result<(), Fail> {
-    let alloc = rt.alloc();
-    let mut proxy = placed(&rt, alloc)?;
-    waits(&rt, alloc, &mut proxy, (257, 0), 2)?;
-    commits(&rt, alloc, &mut proxy, (257, 1), 2)?;
-    take(alloc, &mut proxy, 1)?;
-    is_numbered(&rt, alloc, &mut proxy, (2, 2, 3), 2)?;
-    stops(&rt, alloc, &mut proxy, (257, 1), Outcome::Ended)?;
-    assert_eq!(rt; proxy.known(), at(2)?);
-    is_over(&rt, alloc, &mut proxy)
-}
-
-#[test]
-fn a_stopped_log_ends_a_batch_that_one_log_holds(rt: HostRuntime) -> Result<(), Fail> {
-    let alloc = rt.alloc();
-    let mut proxy = placed(&rt, alloc)?;
-    waits(&rt, alloc, &mut proxy, (257, 0), 2)?;
-    stops(&rt, alloc, &mut proxy, (257, 1), Outcome::Ended)?;
-    assert_eq!(rt; proxy.known(), at(0)?);
-    is_over(&rt, alloc, &mut proxy)
-}
-
-#[test]
-fn a_stopped_log_ends_a_batch_without_a_number(rt: HostRuntime) -> Result<(), Fail> {
-    let alloc = rt.alloc();
-    let mut proxy = taken(alloc)?;
-    stops(&rt, alloc, &mut proxy, (257, 1), Outcome::Ended)?;
-    is_over(&rt, alloc, &mut proxy)
-}
-
-/// Asserts what a proxy says when a node tells that versions are spent.
-fn spends(
-    rt: &impl Abort,
-    alloc: Global,
-    proxy: &mut Proxy,
-    from: NodeId,
-    wanted: Outcome,
-) -> Result<(), Fail> {
-    let tell = Tell::Seq(SeqTell::Refused {
-        why: SeqRefusal::Spent,
-    });
-    assert_eq!(rt; told(rt, alloc, proxy, from, &tell)?, wanted);
-    Ok(())
-}
-
-fn sequencer(number: u64) -> Result<NodeId, Fail> {
-    Ok(NodeId::Sequencer {
-        epoch: epoch(number)?,
-    })
-}
-
-#[test]
-fn spent_versions_end_a_batch(rt: HostRuntime) -> Result<(), Fail> {
-    let alloc = rt.alloc();
-    let mut proxy = taken(alloc)?;
-    spends(&rt, alloc, &mut proxy, sequencer(513)?, Outcome::Waiting)?;
-    spends(&rt, alloc, &mut proxy, log(257, 0)?, Outcome::Waiting)?;
-    spends(&rt, alloc, &mut proxy, sequencer(257)?, Outcome::Ended)?;
-    is_over(&rt, alloc, &mut proxy)
-}
-
-#[test]
-fn other_logs_end_nothing(rt: HostRuntime) -> Result<(), Fail> {
-    let alloc = rt.alloc();
-    let mut proxy = placed(&rt, alloc)?;
-    stops(&rt, alloc, &mut proxy, (513, 0), Outcome::Waiting)?;
-    stops(&rt, alloc, &mut proxy, (257, 2), Outcome::Waiting)?;
-    waits(&rt, alloc, &mut proxy, (257, 0), 2)?;
-    commits(&rt, alloc, &mut proxy, (257, 1), 2)
-}
-
-#[test]
-fn a_stopped_log_ends_nothing_where_no_batch_is(rt: HostRuntime) -> Result<(), Fail> {
-    let alloc = rt.alloc();
-    let mut proxy = proxy(alloc)?;
-    stops(&rt, alloc, &mut proxy, (257, 0), Outcome::Waiting)?;
-    take(alloc, &mut proxy, 1)?;
-    is_numbered(&rt, alloc, &mut proxy, (1, 1, 2), 2)
+fn a_batch_ends_with_its_generation(rt: HostRuntime) -> Result<(), Fail> {
+    shows(&rt, rt.alloc(), &SCENES)
 }

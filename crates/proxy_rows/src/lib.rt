@@ -10,6 +10,10 @@ mod commit;
 #[cfg(test)]
 mod ended;
 #[cfg(test)]
+mod last;
+#[cfg(test)]
 mod made;
 #[cfg(test)]
 mod named;
+#[cfg(test)]
+mod scene;

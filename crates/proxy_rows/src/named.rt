@@ -1,217 +1,250 @@
-use crate::made::{at, epoch, held, numbered, proxy, push, step, take};
-use fr_ask::{Ask, Last, Named, Rows, SeqAsk, SeqTell, Tell};
-use fr_base::{Ballot, Bytes, LogId, Machine};
+//! Asks and tells of every node, under one type each: copied, and told apart.
+use crate::made::{ONE_EACH, ballot, epoch, held, numbered, proxy, push, step, submit};
+use fr_ask::{Ask, Named, SeqAsk, Tell};
+use fr_base::{Ballot, Memory, Step};
 use fr_log::{Log, LogAsk, LogTell};
-use fr_proxy::Sequencer;
+use fr_proxy::{Sequencer, SubmitFault};
 use fr_register::{Cell, CellAsk, CellTell, CellValue};
 use std::alloc::Global;
 use std::test::Fail;
 
-fn value(alloc: Global, byte: u8) -> Result<CellValue, Fail> {
-    let mut bytes = Vec::new(alloc);
-    bytes.push(byte)?;
-    Ok(CellValue::new(bytes).ok_or("a value")?)
+pub(crate) fn value(alloc: Global, byte: u8) -> Result<CellValue, Fail> {
+    Ok(CellValue::new(Vec::from_slice(alloc, &[byte])?).ok_or("a value")?)
 }
 
-fn ballot(number: u64) -> Result<Ballot, Fail> {
-    Ok(Ballot::new(number).ok_or("a ballot")?)
+/// An ask of a table.
+#[derive(Clone, Copy)]
+enum Asked {
+    /// A cell is asked to write this value of one byte, at ballot 513.
+    Write(u8),
+    /// A cell is read at ballot 513.
+    Read,
+    /// A log is pushed a body of tag 0, that clears the keys from 61 to this one.
+    Push(u8),
+    /// A log is locked.
+    Lock,
+    /// What a proxy asks that takes its first batch, at step 1.
+    Submit,
+    /// A sequencer is asked by proxy 1 for the number of request 2, at this step.
+    Next(u64),
 }
 
-fn write(alloc: Global, byte: u8) -> Result<Ask, Fail> {
-    Ok(Cell::wrap(CellAsk::Write {
-        ballot: ballot(513)?,
-        value: value(alloc, byte)?,
-    }))
+pub(crate) fn write(alloc: Global, byte: u8) -> Result<CellAsk, Fail> {
+    let ballot = ballot(513)?;
+    let value = value(alloc, byte)?;
+    Ok(CellAsk::Write { ballot, value })
+}
+
+fn read_at(ballot: Ballot) -> CellAsk {
+    CellAsk::Read { ballot }
+}
+
+pub(crate) fn read(number: u64) -> Result<CellAsk, Fail> {
+    Ok(read_at(ballot(number)?))
+}
+
+fn lock() -> Result<LogAsk, Fail> {
+    let epoch = epoch(257)?;
+    Ok(LogAsk::Lock { epoch })
+}
+
+fn submitted(alloc: Global) -> Result<Ask, Fail> {
+    let mut proxy = proxy(alloc, ONE_EACH)?;
+    taken(submit(alloc, &mut proxy, 1, (0x61, 0x7a))?)
+}
+
+fn taken(answer: Result<Ask, SubmitFault>) -> Result<Ask, Fail> {
+    match answer {
+        Ok(ask) => Ok(ask),
+        Err(_) => Err("no ask")?,
+    }
+}
+
+fn next_at(proxy: u8, request: u64, step: Step) -> SeqAsk {
+    SeqAsk::Next {
+        proxy,
+        request,
+        step,
+    }
+}
+
+pub(crate) fn next(proxy: u8, request: u64, size: u64) -> Result<SeqAsk, Fail> {
+    Ok(next_at(proxy, request, step(size)?))
+}
+
+fn ask_of(alloc: Global, asked: Asked) -> Result<Ask, Fail> {
+    match asked {
+        Asked::Write(byte) => Ok(Cell::wrap(write(alloc, byte)?)),
+        Asked::Read => Ok(Cell::wrap(read(513)?)),
+        Asked::Push(end) => push(alloc, (0, 0x61, end)),
+        Asked::Lock => Ok(Log::wrap(lock()?)),
+        Asked::Submit => submitted(alloc),
+        Asked::Next(size) => Ok(Sequencer::wrap(next(1, 2, size)?)),
+    }
+}
+
+/// No two of these are the same, and each is the same as itself and its copy.
+const ASKS: [Asked; 9] = [
+    Asked::Write(7),
+    Asked::Write(8),
+    Asked::Read,
+    Asked::Push(0x6d),
+    Asked::Push(0x6e),
+    Asked::Lock,
+    Asked::Submit,
+    Asked::Next(3),
+    Asked::Next(4),
+];
+
+fn copy_of_ask(ask: &Ask) -> Result<Ask, Memory> {
+    ask.copy()
+}
+
+fn copied_ask(alloc: Global, asked: Asked) -> Result<Ask, Fail> {
+    let ask = ask_of(alloc, asked)?;
+    Ok(copy_of_ask(&ask)?)
+}
+
+/// Whether asks are the same, also by what says that they differ.
+fn are_same_asks(one: &Ask, other: &Ask) -> bool {
+    *one == *other && !(*one != *other)
+}
+
+/// Whether the copy of an ask is the same as another.
+fn is_same_ask(alloc: Global, one: Asked, other: Asked) -> Result<bool, Fail> {
+    let one = copied_ask(alloc, one)?;
+    let other = ask_of(alloc, other)?;
+    Ok(are_same_asks(&one, &other))
 }
 
 #[test]
-fn an_ask_of_a_cell_is_copied_as_itself(rt: HostRuntime) -> Result<(), Fail> {
-    let alloc = rt.alloc();
-    let ask = write(alloc, 7)?;
-    assert!(rt; ask.copy()? == write(alloc, 7)?);
-    assert!(rt; ask.copy()? != write(alloc, 8)?);
+fn asks_are_copied_and_told_apart(rt: HostRuntime) -> Result<(), Fail> {
+    for (i, one) in ASKS.iter().enumerate() {
+        for (j, other) in ASKS.iter().enumerate() {
+            let is_same = is_same_ask(rt.alloc(), *one, *other)?;
+            assert!(rt; is_same == (i == j), "asks {i} and {j}");
+        }
+    }
     Ok(())
+}
+
+/// A tell of a table.
+#[derive(Clone, Copy)]
+enum Told {
+    /// A cell promises, and has this value of one byte written at ballot 257.
+    Promise(u8),
+    /// A cell was asked to write two values at one ballot.
+    TwoValues,
+    /// A log holds this version.
+    Held(u64),
+    /// A log is seeded.
+    Seeded,
+    /// A sequencer gives request 1, after version 1, this one.
+    Numbered(u64),
+}
+
+fn promised(written: Ballot, value: CellValue) -> CellTell {
+    CellTell::Promise { written, value }
+}
+
+fn promise(alloc: Global, byte: u8) -> Result<CellTell, Fail> {
+    let written = ballot(257)?;
+    Ok(promised(written, value(alloc, byte)?))
+}
+
+fn tell_of(alloc: Global, told: Told) -> Result<Tell, Fail> {
+    match told {
+        Told::Promise(byte) => Ok(Cell::wrap_tell(promise(alloc, byte)?)),
+        Told::TwoValues => Ok(Cell::wrap_tell(CellTell::TwoValues)),
+        Told::Held(version) => held(version),
+        Told::Seeded => Ok(Log::wrap_tell(LogTell::Seeded)),
+        Told::Numbered(version) => numbered((1, 1, version)),
+    }
+}
+
+/// No two of these are the same, and each is the same as itself and its copy.
+const TELLS: [Told; 8] = [
+    Told::Promise(7),
+    Told::Promise(8),
+    Told::TwoValues,
+    Told::Held(2),
+    Told::Held(3),
+    Told::Seeded,
+    Told::Numbered(2),
+    Told::Numbered(3),
+];
+
+fn copy_of_tell(tell: &Tell) -> Result<Tell, Memory> {
+    tell.copy()
+}
+
+fn copied_tell(alloc: Global, told: Told) -> Result<Tell, Fail> {
+    let tell = tell_of(alloc, told)?;
+    Ok(copy_of_tell(&tell)?)
+}
+
+/// Whether tells are the same, also by what says that they differ.
+fn are_same_tells(one: &Tell, other: &Tell) -> bool {
+    *one == *other && !(*one != *other)
+}
+
+/// Whether the copy of a tell is the same as another.
+fn is_same_tell(alloc: Global, one: Told, other: Told) -> Result<bool, Fail> {
+    let one = copied_tell(alloc, one)?;
+    let other = tell_of(alloc, other)?;
+    Ok(are_same_tells(&one, &other))
 }
 
 #[test]
-fn an_ask_of_a_log_is_copied_as_itself(rt: HostRuntime) -> Result<(), Fail> {
-    let alloc = rt.alloc();
-    let ask = push(alloc, 257, (1, 2), 0, &[(0, 0x61, 0x6d)])?;
-    assert!(rt; ask.copy()? == ask);
-    assert!(rt; ask != push(alloc, 257, (1, 2), 0, &[(0, 0x61, 0x6e)])?);
+fn tells_are_copied_and_told_apart(rt: HostRuntime) -> Result<(), Fail> {
+    for (i, one) in TELLS.iter().enumerate() {
+        for (j, other) in TELLS.iter().enumerate() {
+            let is_same = is_same_tell(rt.alloc(), *one, *other)?;
+            assert!(rt; is_same == (i == j), "tells {i} and {j}");
+        }
+    }
     Ok(())
 }
 
-#[test]
-fn an_ask_of_a_sequencer_is_copied_as_itself(rt: HostRuntime) -> Result<(), Fail> {
-    let alloc = rt.alloc();
-    let ask = take(alloc, &mut proxy(alloc)?, 1)?;
-    assert!(rt; ask.copy()? == ask);
-    assert!(rt; ask != write(alloc, 7)?);
-    Ok(())
+fn is_wrapped_next(wrapped: SeqAsk, ask: SeqAsk) -> bool {
+    Sequencer::wrap(wrapped) == Ask::Seq(ask)
 }
 
-fn promise(alloc: Global, byte: u8) -> Result<Tell, Fail> {
-    Ok(Cell::wrap_tell(CellTell::Promise {
-        written: ballot(257)?,
-        value: value(alloc, byte)?,
-    }))
+fn copy_of_next(ask: &SeqAsk) -> Result<SeqAsk, Memory> {
+    ask.copy()
 }
 
-#[test]
-fn a_tell_of_a_cell_is_copied_as_itself(rt: HostRuntime) -> Result<(), Fail> {
-    let alloc = rt.alloc();
-    let tell = promise(alloc, 7)?;
-    assert!(rt; tell.copy()? == tell);
-    assert!(rt; tell != promise(alloc, 8)?);
-    assert!(rt; tell != held(2)?);
-    Ok(())
+fn wraps_next(ask: SeqAsk) -> Result<bool, Fail> {
+    let copy = copy_of_next(&ask)?;
+    Ok(is_wrapped_next(copy, ask))
 }
 
-#[test]
-fn tells_of_logs_and_sequencers_are_copied_as_themselves(rt: HostRuntime) -> Result<(), Fail> {
-    let log = held(2)?;
-    let seq = numbered((1, 1, 2))?;
-    assert!(rt; log.copy()? == log);
-    assert!(rt; seq.copy()? == seq);
-    assert!(rt; log != held(3)?);
-    assert!(rt; seq != log);
-    Ok(())
+fn is_wrapped_lock(wrapped: LogAsk, lock: LogAsk) -> bool {
+    Log::wrap(wrapped) == Ask::Log(lock)
+}
+
+fn copy_of_lock(lock: &LogAsk) -> Result<LogAsk, Memory> {
+    lock.copy()
+}
+
+fn wraps_lock(lock: LogAsk) -> Result<bool, Fail> {
+    let copy = copy_of_lock(&lock)?;
+    Ok(is_wrapped_lock(copy, lock))
+}
+
+fn wraps_seeded() -> bool {
+    Log::wrap_tell(LogTell::Seeded) == Tell::Log(LogTell::Seeded)
+}
+
+fn wraps_two_values() -> bool {
+    Cell::wrap_tell(CellTell::TwoValues) == Tell::Cell(CellTell::TwoValues)
 }
 
 #[test]
 fn machines_wrap_their_own(rt: HostRuntime) -> Result<(), Fail> {
-    let alloc = rt.alloc();
-    let ask = SeqAsk::Next {
-        proxy: 1,
-        request: 2,
-        step: step(3)?,
-    };
-    assert!(rt; Sequencer::wrap(ask.copy()?) == Ask::Seq(ask));
-    let lock = LogAsk::Lock { epoch: epoch(257)? };
-    assert!(rt; Log::wrap(lock.copy()?) == Ask::Log(lock));
-    assert!(rt; Log::wrap_tell(LogTell::Seeded) == Tell::Log(LogTell::Seeded));
-    assert!(rt; Cell::wrap_tell(CellTell::TwoValues) == Tell::Cell(CellTell::TwoValues));
-    assert!(rt;
-        Cell::wrap(CellAsk::Read {
-            ballot: ballot(513)?
-        }) != write(alloc, 7)?
-    );
-    Ok(())
-}
-
-#[test]
-fn a_cell_stood_at_last(rt: HostRuntime) -> Result<(), Fail> {
-    let alloc = rt.alloc();
-    let mut cell = Cell::new(alloc);
-    cell.step(
-        alloc,
-        CellAsk::Write {
-            ballot: ballot(513)?,
-            value: value(alloc, 7)?,
-        },
-    )?;
-    cell.step(
-        alloc,
-        CellAsk::Read {
-            ballot: ballot(514)?,
-        },
-    )?;
-    let last = Last::Cell {
-        promised: ballot(514)?,
-        written: ballot(513)?,
-        value: value(alloc, 7)?,
-    };
-    assert!(rt; cell.last(alloc)? == last);
-    Ok(())
-}
-
-#[test]
-fn a_sequencer_stood_at_last(rt: HostRuntime) -> Result<(), Fail> {
-    let alloc = rt.alloc();
-    let mut sequencer = Sequencer::new(alloc, epoch(257)?, at(1)?);
-    let ask = SeqAsk::Next {
-        proxy: 0,
-        request: 1,
-        step: step(4)?,
-    };
-    let tell = SeqTell::Numbered {
-        request: 1,
-        prev: at(1)?,
-        version: at(5)?,
-    };
-    assert_eq!(rt; sequencer.step(alloc, ask)?.copy()?, tell);
-    assert!(rt; Named::last(&sequencer, alloc)? == Last::Sequencer { last: at(5)? });
-    Ok(())
-}
-
-#[test]
-fn a_log_stood_at_last(rt: HostRuntime) -> Result<(), Fail> {
-    let alloc = rt.alloc();
-    let id = LogId {
-        epoch: epoch(257)?,
-        index: 0,
-    };
-    let log = Log::new(alloc, id, 2, 1);
-    let last = Last::Log {
-        seeded: false,
-        durable: at(0)?,
-        known: at(0)?,
-        stopped: false,
-    };
-    assert!(rt; log.last(alloc)? == last);
-    assert!(rt; last.copy()? == last);
-    Ok(())
-}
-
-fn rows(alloc: Global, key: u8, value: u8) -> Result<Rows, Fail> {
-    let mut pairs = Vec::new(alloc);
-    let key = Bytes::from_slice(alloc, &[key])?;
-    pairs.push((key, Bytes::from_slice(alloc, &[value])?))?;
-    Ok(Rows::from_vec(pairs))
-}
-
-/// A storage server at version 11 of 513, floor 9, with one row of key 61.
-fn stood(alloc: Global, value: u8) -> Result<Last, Fail> {
-    Ok(Last::Storage {
-        epoch: epoch(513)?,
-        version: at(11)?,
-        floor: at(9)?,
-        rows: rows(alloc, 0x61, value)?,
-    })
-}
-
-#[test]
-fn a_storage_server_stood_at_last(rt: HostRuntime) -> Result<(), Fail> {
-    let alloc = rt.alloc();
-    let last = stood(alloc, 1)?;
-    assert!(rt; last.copy()? == last);
-    assert!(rt; last != stood(alloc, 2)?);
-    Ok(())
-}
-
-#[test]
-fn rows_are_read_and_copied(rt: HostRuntime) -> Result<(), Fail> {
-    let alloc = rt.alloc();
-    let one = rows(alloc, 0x61, 1)?;
-    assert!(rt; one.copy()? == one);
-    assert!(rt; one != rows(alloc, 0x62, 1)?);
-    assert_eq!(rt; one.len(), 1);
-    assert_eq!(rt; one.as_slice().len(), 1);
-    assert_eq!(rt; one.into_vec().len(), 1);
-    Ok(())
-}
-
-#[test]
-fn a_proxy_and_a_recoverer_stood_at_last(rt: HostRuntime) -> Result<(), Fail> {
-    let alloc = rt.alloc();
-    let known = Last::Proxy { known: at(2)? };
-    assert!(rt; known.copy()? == Last::Proxy { known: at(2)? });
-    assert!(rt; known.copy()? != Last::Proxy { known: at(3)? });
-    let phase = Last::Recoverer {
-        phase: Bytes::from_slice(alloc, b"reading")?,
-    };
-    assert!(rt; phase.copy()? == phase);
-    assert!(rt; phase.copy()? != known);
+    assert!(rt; wraps_next(next(1, 2, 3)?)?);
+    assert!(rt; wraps_lock(lock()?)?);
+    assert!(rt; wraps_seeded());
+    assert!(rt; wraps_two_values());
     Ok(())
 }
