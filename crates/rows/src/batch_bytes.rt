@@ -1,5 +1,10 @@
 //! Worked rows of the bytes of batches.
-use fr_mutation::{AtomicOp, DecodeFault, Mutation, decode, encode};
+use crate::batch_bytes::Read::{Atomic, Clear, Empty, Set};
+use fr_mutation::AtomicOp::{self, Add, And, Max, Min, Or, Xor};
+use fr_mutation::DecodeFault::{self, Inverted, OverLimit, Short, UnknownKind};
+use fr_mutation::{Batch, Mutation, decode, encode};
+use std::alloc::Global;
+use std::process::Abort;
 use std::test::*;
 
 /// No mutation.
@@ -13,147 +18,192 @@ const SET: [u8; 12] = [
 /// Clear `a` up to `c`.
 const CLEAR: [u8; 10] = [0x01, 0x00, 0x01, 0x02, 0x00, 0x01, 0x61, 0x00, 0x01, 0x63];
 
-/// The operation of a kind's byte from 03 to 08.
-fn operation(kind: u8) -> AtomicOp {
-    match kind {
-        3 => AtomicOp::Add,
-        4 => AtomicOp::And,
-        5 => AtomicOp::Or,
-        6 => AtomicOp::Xor,
-        7 => AtomicOp::Max,
-        _ => AtomicOp::Min,
+/// What is read: no mutation, or this one alone.
+#[derive(Clone, Copy)]
+enum Read {
+    Empty,
+    Set(&'static [u8], &'static [u8]),
+    Clear(&'static [u8], &'static [u8]),
+    Atomic(AtomicOp, &'static [u8], &'static [u8]),
+}
+
+/// Whether there is no mutation, or this one alone.
+fn is_read(mutations: &[Mutation], wanted: Read) -> bool {
+    match (mutations, wanted) {
+        ([], Empty) => true,
+        ([mutation], wanted) => is_mutation(mutation, wanted),
+        _ => false,
     }
+}
+
+fn is_mutation(mutation: &Mutation, wanted: Read) -> bool {
+    match (mutation, wanted) {
+        (Mutation::Set { key, value }, Set(one, other)) => {
+            key.as_slice() == one && value.as_slice() == other
+        }
+        (Mutation::Clear { begin, end }, Clear(one, other)) => {
+            begin.as_slice() == one && end.as_slice() == other
+        }
+        (Mutation::Atomic { op, key, param }, Atomic(wanted, one, other)) => {
+            *op == wanted && key.as_slice() == one && param.as_slice() == other
+        }
+        _ => false,
+    }
+}
+
+/// Whether this is read of the bytes, all of them.
+fn reads(alloc: Global, bytes: &[u8], wanted: Read) -> bool {
+    match decode(alloc, bytes) {
+        Ok((batch, used)) => used == bytes.len() && is_read(batch.mutations(), wanted),
+        Err(_) => false,
+    }
+}
+
+/// The mutations of one key, which differ in their kind's byte alone.
+const KINDS: [(u8, Read); 7] = [
+    (1, Set(b"a", b"\x01")),
+    (3, Atomic(Add, b"a", b"\x01")),
+    (4, Atomic(And, b"a", b"\x01")),
+    (5, Atomic(Or, b"a", b"\x01")),
+    (6, Atomic(Xor, b"a", b"\x01")),
+    (7, Atomic(Max, b"a", b"\x01")),
+    (8, Atomic(Min, b"a", b"\x01")),
+];
+
+/// Whether this is read of a mutation of this kind.
+fn reads_kind(alloc: Global, kind: u8, wanted: Read) -> bool {
+    let mut bytes = SET;
+    bytes[3] = kind;
+    reads(alloc, &bytes, wanted)
 }
 
 #[test]
-fn worked_batches(rt: HostRuntime) -> Result<(), Fail> {
-    let (batch, used) = decode(rt.alloc(), &EMPTY)?;
-    assert!(rt; batch.mutations().is_empty());
-    assert_eq!(rt; used, 3);
-
-    // The mutations of one key differ in their kind's byte alone.
-    for kind in [1, 3, 4, 5, 6, 7, 8] {
-        let mut bytes = SET;
-        bytes[3] = kind;
-        let (batch, used) = decode(rt.alloc(), &bytes)?;
-        let (key, operand) = match (kind, batch.mutations()) {
-            (1, [Mutation::Set { key, value }]) => (key, value),
-            (_, [Mutation::Atomic { op, key, param }]) if *op == operation(kind) => (key, param),
-            _ => return Err("another mutation".into()),
-        };
-        assert_eq!(rt; key.as_slice(), b"a".as_slice());
-        assert_eq!(rt; operand.as_slice(), b"\x01".as_slice());
-        assert_eq!(rt; used, 12);
+fn worked_batches(rt: HostRuntime) {
+    assert!(rt; reads(rt.alloc(), &EMPTY, Empty));
+    assert!(rt; reads(rt.alloc(), &CLEAR, Clear(b"a", b"c")));
+    for (kind, wanted) in KINDS {
+        assert!(rt; reads_kind(rt.alloc(), kind, wanted), "{kind}");
     }
-
-    let (batch, used) = decode(rt.alloc(), &CLEAR)?;
-    let [Mutation::Clear { begin, end }] = batch.mutations() else {
-        return Err("not one clear".into());
-    };
-    assert_eq!(rt; begin.as_slice(), b"a".as_slice());
-    assert_eq!(rt; end.as_slice(), b"c".as_slice());
-    assert_eq!(rt; used, 10);
-    Ok(())
 }
+
+/// Bytes, and why they are refused.
+type Refused = (&'static [u8], DecodeFault);
+
+/// Asserts that each of these bytes are refused so.
+fn are_refused(rt: &impl Abort, alloc: Global, rows: &[Refused]) {
+    for (bytes, wanted) in rows {
+        assert!(rt; decode(alloc, bytes).err() == Some(*wanted), "{bytes:?}");
+    }
+}
+
+const REFUSED: [Refused; 6] = [
+    (&[0x01, 0x00], Short),
+    (&[0x02, 0x00, 0x00], UnknownKind),
+    (&[0x01, 0x00, 0x01, 0x09], UnknownKind),
+    (&[0x01, 0x03, 0xe9], OverLimit),
+    (&[0x01, 0x00, 0x01, 0x02, 0x27, 0x11], OverLimit),
+    (
+        &[0x01, 0x00, 0x01, 0x02, 0x00, 0x01, 0x62, 0x00, 0x01, 0x61],
+        Inverted,
+    ),
+];
 
 #[test]
 fn refused_bytes(rt: HostRuntime) {
-    let rows: [(&[u8], DecodeFault); 6] = [
-        (&[0x01, 0x00], DecodeFault::Short),
-        (&[0x02, 0x00, 0x00], DecodeFault::UnknownKind),
-        (&[0x01, 0x00, 0x01, 0x09], DecodeFault::UnknownKind),
-        (&[0x01, 0x03, 0xe9], DecodeFault::OverLimit),
-        (
-            &[0x01, 0x00, 0x01, 0x02, 0x27, 0x11],
-            DecodeFault::OverLimit,
-        ),
-        (
-            &[0x01, 0x00, 0x01, 0x02, 0x00, 0x01, 0x62, 0x00, 0x01, 0x61],
-            DecodeFault::Inverted,
-        ),
-    ];
-    for (bytes, want) in rows {
-        let Err(fault) = decode(rt.alloc(), bytes) else {
-            panic!(rt; "read: {bytes:?}");
-        };
-        assert_eq!(rt; fault, want, "{bytes:?}");
-    }
+    are_refused(&rt, rt.alloc(), &REFUSED);
 }
 
 /// Bytes with two faults: the one that is met first from the left is answered.
+const TWO_FAULTS: [Refused; 8] = [
+    // Another format, and no number of mutations.
+    (&[0x02], UnknownKind),
+    // Another format, and 1,001 mutations.
+    (&[0x02, 0x03, 0xe9], UnknownKind),
+    // 1,001 mutations, and the first of no kind.
+    (&[0x01, 0x03, 0xe9, 0x09], OverLimit),
+    // A mutation of no kind, and a length of 10,001.
+    (&[0x01, 0x00, 0x01, 0x09, 0x27, 0x11], UnknownKind),
+    // A key of 10,001 bytes that are not there.
+    (&[0x01, 0x00, 0x01, 0x01, 0x27, 0x11], OverLimit),
+    // A clear whose end is below its begin, as far as it is there, and is cut off.
+    (
+        &[0x01, 0x00, 0x01, 0x02, 0x00, 0x01, 0x62, 0x00, 0x02, 0x61],
+        Short,
+    ),
+    // A clear that begins after its end, and no second mutation.
+    (
+        &[0x01, 0x00, 0x02, 0x02, 0x00, 0x01, 0x62, 0x00, 0x01, 0x61],
+        Inverted,
+    ),
+    // A clear whose second length is 10,001, before the two ends could be compared.
+    (
+        &[0x01, 0x00, 0x01, 0x02, 0x00, 0x01, 0x62, 0x27, 0x11, 0x61],
+        OverLimit,
+    ),
+];
+
 #[test]
 fn the_first_fault_from_the_left(rt: HostRuntime) {
-    let rows: [(&[u8], DecodeFault); 8] = [
-        // Another format, and no number of mutations.
-        (&[0x02], DecodeFault::UnknownKind),
-        // Another format, and 1,001 mutations.
-        (&[0x02, 0x03, 0xe9], DecodeFault::UnknownKind),
-        // 1,001 mutations, and the first of no kind.
-        (&[0x01, 0x03, 0xe9, 0x09], DecodeFault::OverLimit),
-        // A mutation of no kind, and a length of 10,001.
-        (
-            &[0x01, 0x00, 0x01, 0x09, 0x27, 0x11],
-            DecodeFault::UnknownKind,
-        ),
-        // A key of 10,001 bytes that are not there.
-        (
-            &[0x01, 0x00, 0x01, 0x01, 0x27, 0x11],
-            DecodeFault::OverLimit,
-        ),
-        // A clear whose end is below its begin, as far as it is there, and is cut off.
-        (
-            &[0x01, 0x00, 0x01, 0x02, 0x00, 0x01, 0x62, 0x00, 0x02, 0x61],
-            DecodeFault::Short,
-        ),
-        // A clear that begins after its end, and no second mutation.
-        (
-            &[0x01, 0x00, 0x02, 0x02, 0x00, 0x01, 0x62, 0x00, 0x01, 0x61],
-            DecodeFault::Inverted,
-        ),
-        // A clear whose second length is 10,001, before the two ends could be compared.
-        (
-            &[0x01, 0x00, 0x01, 0x02, 0x00, 0x01, 0x62, 0x27, 0x11, 0x61],
-            DecodeFault::OverLimit,
-        ),
-    ];
-    for (bytes, want) in rows {
-        let Err(fault) = decode(rt.alloc(), bytes) else {
-            panic!(rt; "read: {bytes:?}");
-        };
-        assert_eq!(rt; fault, want, "{bytes:?}");
-    }
-    assert_eq!(rt; DecodeFault::UnknownKind.name(), "UnknownKind");
+    are_refused(&rt, rt.alloc(), &TWO_FAULTS);
 }
 
-/// Each front of a row is short. With one byte changed it is another batch, whose bytes are those that
-/// were read, or it is refused.
+fn is_called(fault: DecodeFault, name: &str) -> bool {
+    fault.name() == name
+}
+
 #[test]
-fn cut_and_changed_bytes(rt: HostRuntime) -> Result<(), Fail> {
-    let rows: [&[u8]; 3] = [&EMPTY, &SET, &CLEAR];
-    for row in rows {
-        for len in 0..row.len() {
-            let front = decode(rt.alloc(), &row[..len]);
-            assert!(rt;
-                matches!(front, Err(DecodeFault::Short)),
-                "{len} of {row:?}"
-            );
-        }
-        let mut bytes = Vec::from_slice(rt.alloc(), row)?;
-        for at in 0..row.len() {
-            for byte in 0..=255 {
-                bytes[at] = byte;
-                match decode(rt.alloc(), &bytes) {
-                    Ok((batch, used)) => {
-                        let again = encode(rt.alloc(), &batch)?;
-                        assert_eq!(rt; again.as_slice(), &bytes[..used]);
-                    }
-                    Err(fault) => {
-                        assert!(rt; fault != DecodeFault::Memory && byte != row[at]);
-                    }
-                }
-            }
-            bytes[at] = row[at];
+fn a_fault_has_a_name(rt: HostRuntime) {
+    assert!(rt; is_called(UnknownKind, "UnknownKind"));
+}
+
+/// Asserts that each front of a row is short.
+fn is_short_in_front(rt: &impl Abort, alloc: Global, row: &[u8]) {
+    for len in 0..row.len() {
+        assert!(rt;
+            decode(alloc, &row[..len]).err() == Some(Short),
+            "{len} of {row:?}"
+        );
+    }
+}
+
+/// Whether these are the bytes of a batch.
+fn are_bytes_of(alloc: Global, batch: &Batch, bytes: &[u8]) -> bool {
+    match encode(alloc, batch) {
+        Ok(again) => again.as_slice() == bytes,
+        Err(_) => false,
+    }
+}
+
+/// Whether bytes are a batch, whose bytes are those that were read, or are other ones and refused.
+fn is_batch(alloc: Global, bytes: &[u8], are_others: bool) -> bool {
+    match decode(alloc, bytes) {
+        Ok((batch, used)) => are_bytes_of(alloc, &batch, &bytes[..used]),
+        Err(fault) => fault != DecodeFault::Memory && are_others,
+    }
+}
+
+/// Asserts that a row, also with any one byte changed, is such a batch.
+fn is_batch_when_changed<const N: usize>(rt: &impl Abort, alloc: Global, row: [u8; N]) {
+    for at in 0..N {
+        for byte in 0..=255 {
+            let mut bytes = row;
+            bytes[at] = byte;
+            assert!(rt; is_batch(alloc, &bytes, byte != row[at]), "{byte} at {at}");
         }
     }
-    Ok(())
+}
+
+#[test]
+fn cut_bytes(rt: HostRuntime) {
+    let rows: [&[u8]; 3] = [&EMPTY, &SET, &CLEAR];
+    for row in rows {
+        is_short_in_front(&rt, rt.alloc(), row);
+    }
+}
+
+#[test]
+fn changed_bytes(rt: HostRuntime) {
+    is_batch_when_changed(&rt, rt.alloc(), EMPTY);
+    is_batch_when_changed(&rt, rt.alloc(), SET);
+    is_batch_when_changed(&rt, rt.alloc(), CLEAR);
 }

@@ -1,236 +1,386 @@
 //! Worked cases of the rules of mutations, on a map that a reader can follow by hand.
+ghost use Rattle.std.specs.Prelude.{IfOk};
+ghost use Rattle.fr_mutation.specs.Shard.{EndsFit};
+
+use crate::mutation::Change::{Atomic, Clear, Set};
+use crate::mutation::Text::{Many, Of};
 use fr_base::{Bytes, Memory};
+use fr_mutation::AtomicOp::{self, Add, And, Max, Min, Or, Xor};
 use fr_mutation::{
-    AtomicOp, Batch, BatchFault, MAX_KEY, MAX_MUTATIONS, MAX_VALUE, Mutation, Shard, apply, clip,
+    Batch, BatchFault, MAX_KEY, MAX_MUTATIONS, MAX_VALUE, Mutation, Shard, apply, clip,
 };
 use std::alloc::Global;
 use std::collections::BTreeMap;
+use std::process::Abort;
 use std::test::Fail;
 
-/// A mutation with the key and the value or parameter that it is given.
+/// A key, a value or a parameter.
 #[derive(Clone, Copy)]
-enum Kind {
-    Set,
-    Atomic(AtomicOp),
+enum Text {
+    /// These bytes.
+    Of(&'static [u8]),
+    /// One byte, so many times.
+    Many(u8, usize),
 }
 
-fn keyed(alloc: Global, kind: Kind, key: &[u8], param: &[u8]) -> Result<Mutation, Memory> {
-    let key = Bytes::from_slice(alloc, key)?;
-    let param = Bytes::from_slice(alloc, param)?;
-    Ok(match kind {
-        Kind::Set => Mutation::Set { key, value: param },
-        Kind::Atomic(op) => Mutation::Atomic { op, key, param },
-    })
+/// A mutation of a table.
+#[derive(Clone, Copy)]
+enum Change {
+    Set(Text, Text),
+    /// From a key up to another one.
+    Clear(Text, Text),
+    Atomic(AtomicOp, Text, Text),
 }
 
-fn clear(alloc: Global, begin: &[u8], end: &[u8]) -> Result<Mutation, Memory> {
-    let begin = Bytes::from_slice(alloc, begin)?;
-    let end = Bytes::from_slice(alloc, end)?;
+fn many(alloc: Global, byte: u8, len: usize) -> Result<Bytes, Memory> {
+    let mut bytes = Vec::new(alloc);
+    bytes.resize(len, byte)?;
+    Ok(Bytes::from_vec(bytes))
+}
+
+fn bytes(alloc: Global, text: Text) -> Result<Bytes, Memory> {
+    match text {
+        Of(bytes) => Bytes::from_slice(alloc, bytes),
+        Many(byte, len) => many(alloc, byte, len),
+    }
+}
+
+fn set(alloc: Global, key: Text, value: Text) -> Result<Mutation, Memory> {
+    let key = bytes(alloc, key)?;
+    let value = bytes(alloc, value)?;
+    Ok(Mutation::Set { key, value })
+}
+
+fn clear(alloc: Global, begin: Text, end: Text) -> Result<Mutation, Memory> {
+    let begin = bytes(alloc, begin)?;
+    let end = bytes(alloc, end)?;
     Ok(Mutation::Clear { begin, end })
 }
 
-fn batch(alloc: Global, keyed_by: &[(Kind, &[u8], &[u8])]) -> Result<Batch, Fail> {
-    let mut mutations = Vec::new(alloc);
-    for (kind, key, param) in keyed_by {
-        mutations.push(keyed(alloc, *kind, key, param)?)?;
+fn atomic(alloc: Global, op: AtomicOp, key: Text, param: Text) -> Result<Mutation, Memory> {
+    let key = bytes(alloc, key)?;
+    let param = bytes(alloc, param)?;
+    Ok(Mutation::Atomic { op, key, param })
+}
+
+fn mutation(alloc: Global, change: Change) -> Result<Mutation, Memory> {
+    match change {
+        Set(key, value) => set(alloc, key, value),
+        Clear(begin, end) => clear(alloc, begin, end),
+        Atomic(op, key, param) => atomic(alloc, op, key, param),
     }
+}
+
+fn push(alloc: Global, mutations: &mut Vec<Mutation>, changes: &[Change]) -> Result<(), Memory> {
+    for change in changes {
+        mutations.push(mutation(alloc, *change)?)?;
+    }
+    Ok(())
+}
+
+fn batch(alloc: Global, changes: &[Change]) -> Result<Batch, Fail> {
+    let mut mutations = Vec::new(alloc);
+    push(alloc, &mut mutations, changes)?;
     Ok(Batch::new(mutations)?)
+}
+
+/// The rows of a map, by their keys.
+type Rows = BTreeMap<Bytes, Bytes>;
+
+/// A batch of these mutations acts on the rows.
+fn acts(alloc: Global, rows: &mut Rows, changes: &[Change]) -> Result<(), Fail> {
+    let batch = batch(alloc, changes)?;
+    Ok(apply(alloc, rows, &batch)?)
+}
+
+/// The copy of a batch of these mutations does.
+fn copy_acts(alloc: Global, rows: &mut Rows, changes: &[Change]) -> Result<(), Fail> {
+    let copy = batch(alloc, changes)?.copy()?;
+    Ok(apply(alloc, rows, &copy)?)
+}
+
+/// Whether these are all keys and their values.
+fn are(rows: &Rows, wanted: &[(&[u8], &[u8])]) -> bool {
+    rows.len() == wanted.len()
+        && rows.iter().zip(wanted).all(|((key, value), wanted)| key.as_slice() == wanted.0
+            && value.as_slice() == wanted.1)
+}
+
+const FIRST: [Change; 2] = [Set(Of(b"a"), Of(&[0xff])), Set(Of(b"b"), Of(&[0xff]))];
+
+const SECOND: [Change; 6] = [
+    Atomic(Add, Of(b"a"), Of(&[2])),
+    Atomic(Add, Of(b"b"), Of(&[0, 1])),
+    Atomic(And, Of(b"c"), Of(&[0x0f])),
+    Atomic(Or, Of(b"d"), Of(&[0x0f])),
+    Atomic(Max, Of(b"a"), Of(&[0, 1])),
+    Atomic(Min, Of(b"b"), Of(&[0, 2])),
+];
+
+const THIRD: [Change; 1] = [Clear(Of(b"b"), Of(b"d"))];
+
+const AFTER_SECOND: [(&[u8], &[u8]); 4] = [
+    (b"a", &[0, 1]),
+    (b"b", &[0xff, 1]),
+    (b"c", &[0x0f]),
+    (b"d", &[0x0f]),
+];
+
+const AFTER_THIRD: [(&[u8], &[u8]); 2] = [(b"a", &[0, 1]), (b"d", &[0x0f])];
+
+fn act_in_turn(rt: &impl Abort, alloc: Global, rows: &mut Rows) -> Result<(), Fail> {
+    acts(alloc, rows, &FIRST)?;
+    copy_acts(alloc, rows, &SECOND)?;
+    assert!(rt; are(rows, &AFTER_SECOND));
+    acts(alloc, rows, &THIRD)?;
+    assert!(rt; are(rows, &AFTER_THIRD));
+    Ok(())
 }
 
 #[test]
 fn mutations_act_in_turn(rt: HostRuntime) -> Result<(), Fail> {
-    let alloc = rt.alloc();
-    let mut rows = BTreeMap::new(alloc);
-    let first = batch(
-        alloc,
-        &[(Kind::Set, b"a", &[0xff]), (Kind::Set, b"b", &[0xff])],
-    )?;
-    apply(alloc, &mut rows, &first)?;
-    let second: [(Kind, &[u8], &[u8]); 6] = [
-        (Kind::Atomic(AtomicOp::Add), b"a", &[2]),
-        (Kind::Atomic(AtomicOp::Add), b"b", &[0, 1]),
-        (Kind::Atomic(AtomicOp::And), b"c", &[0x0f]),
-        (Kind::Atomic(AtomicOp::Or), b"d", &[0x0f]),
-        (Kind::Atomic(AtomicOp::Max), b"a", &[0, 1]),
-        (Kind::Atomic(AtomicOp::Min), b"b", &[0, 2]),
-    ];
-    apply(alloc, &mut rows, &batch(alloc, second.as_slice())?.copy()?)?;
-    assert_eq!(rt; rows.len(), 4);
-    let wanted: [(&[u8], &[u8]); 4] = [
-        (b"a", &[0, 1]),
-        (b"b", &[0xff, 1]),
-        (b"c", &[0x0f]),
-        (b"d", &[0x0f]),
-    ];
-    for ((key, value), (wanted_key, wanted_value)) in rows.iter().zip(wanted) {
-        assert_eq!(rt; key.as_slice(), wanted_key);
-        assert_eq!(rt; value.as_slice(), wanted_value);
-    }
-    let third = Batch::new(Vec::from_array(alloc, [clear(alloc, b"b", b"d")?])?)?;
-    apply(alloc, &mut rows, &third)?;
-    assert_eq!(rt; rows.len(), 2);
-    assert!(rt; rows.contains_key(&Bytes::from_slice(alloc, b"d")?));
-    Ok(())
+    act_in_turn(&rt, rt.alloc(), &mut BTreeMap::new(rt.alloc()))
+}
+
+/// The operation, the old value, the parameter and the new value.
+type Fitted = (AtomicOp, &'static [u8], &'static [u8], &'static [u8]);
+
+const FITTED: [Fitted; 9] = [
+    (Add, &[1, 2, 3], &[5], &[6]),
+    (Add, &[0xff, 0xff], &[1, 0], &[0, 0]),
+    (Add, &[7], &[], &[]),
+    (And, &[0x3c], &[0xff, 0xff], &[0x3c, 0]),
+    (Or, &[0x80], &[1, 1], &[0x81, 1]),
+    (Xor, &[0x0f, 0xf0], &[0xff], &[0xf0]),
+    (Max, &[5], &[1, 0], &[5, 0]),
+    (Max, &[3, 9], &[4], &[4]),
+    (Min, &[1, 0, 9], &[2, 0], &[1, 0]),
+];
+
+/// Whether `a`, set to the old value, has the new one once the operation acted.
+fn is_fitted(
+    alloc: Global,
+    rows: &mut Rows,
+    (op, old, param, wanted): Fitted,
+) -> Result<bool, Fail> {
+    let changes = [Set(Of(b"a"), Of(old)), Atomic(op, Of(b"a"), Of(param))];
+    acts(alloc, rows, &changes)?;
+    Ok(are(rows, &[(b"a", wanted)]))
 }
 
 #[test]
 fn old_values_are_fitted(rt: HostRuntime) -> Result<(), Fail> {
-    let alloc = rt.alloc();
-    let cases: [(Kind, &[u8], &[u8], &[u8]); 9] = [
-        (Kind::Atomic(AtomicOp::Add), &[1, 2, 3], &[5], &[6]),
-        (Kind::Atomic(AtomicOp::Add), &[0xff, 0xff], &[1, 0], &[0, 0]),
-        (Kind::Atomic(AtomicOp::Add), &[7], &[], &[]),
-        (
-            Kind::Atomic(AtomicOp::And),
-            &[0x3c],
-            &[0xff, 0xff],
-            &[0x3c, 0],
-        ),
-        (Kind::Atomic(AtomicOp::Or), &[0x80], &[1, 1], &[0x81, 1]),
-        (Kind::Atomic(AtomicOp::Xor), &[0x0f, 0xf0], &[0xff], &[0xf0]),
-        (Kind::Atomic(AtomicOp::Max), &[5], &[1, 0], &[5, 0]),
-        (Kind::Atomic(AtomicOp::Max), &[3, 9], &[4], &[4]),
-        (Kind::Atomic(AtomicOp::Min), &[1, 0, 9], &[2, 0], &[1, 0]),
-    ];
-    for (kind, old, param, wanted) in cases {
-        let mut rows = BTreeMap::new(alloc);
-        let both = batch(alloc, &[(Kind::Set, b"a", old), (kind, b"a", param)])?;
-        apply(alloc, &mut rows, &both)?;
-        let value = rows
-            .get(&Bytes::from_slice(alloc, b"a")?)
-            .ok_or("no value")?;
-        assert_eq!(rt; value.as_slice(), wanted);
+    for (number, case) in FITTED.iter().enumerate() {
+        let is_so = is_fitted(rt.alloc(), &mut BTreeMap::new(rt.alloc()), *case)?;
+        assert!(rt; is_so, "in row {number}");
     }
     Ok(())
 }
 
-/// The fault of a set whose key and value have these lengths.
-fn fault(alloc: Global, key: usize, value: usize) -> Result<Option<BatchFault>, Fail> {
-    let key = Bytes::from_vec(vec![in alloc; 0u8; key]?);
-    let value = Bytes::from_vec(vec![in alloc; 0u8; value]?);
+const LONG_KEY: Text = Many(0x62, 10_001);
+
+const LONG_VALUE: Text = Many(0, 100_001);
+
+/// So many times these mutations, and the limit that they break.
+type Limit = (usize, &'static [Change], Option<BatchFault>);
+
+const LIMITS: [Limit; 4] = [
+    (1, &[Set(Many(0, MAX_KEY), Many(0, MAX_VALUE))], None),
+    (
+        1,
+        &[Set(Many(0, 10_001), LONG_VALUE)],
+        Some(BatchFault::KeyTooLong),
+    ),
+    (
+        1,
+        &[Set(Many(0, 1), LONG_VALUE)],
+        Some(BatchFault::ValueTooLong),
+    ),
+    (
+        MAX_MUTATIONS + 1,
+        &[Set(Many(0, 10_001), Of(b""))],
+        Some(BatchFault::TooMany),
+    ),
+];
+
+/// Two limits that mutations break: the number of mutations is tested first, then one mutation after the other, a key
+/// before a value, and a key before the order of a clear's ends.
+const TWO_LIMITS: [Limit; 7] = [
+    (
+        1,
+        &[Set(LONG_KEY, LONG_VALUE)],
+        Some(BatchFault::KeyTooLong),
+    ),
+    (
+        1,
+        &[Atomic(Add, LONG_KEY, LONG_VALUE)],
+        Some(BatchFault::KeyTooLong),
+    ),
+    (
+        1,
+        &[Clear(LONG_KEY, Of(b"a"))],
+        Some(BatchFault::KeyTooLong),
+    ),
+    (
+        1,
+        &[Set(Of(b"a"), LONG_VALUE), Set(LONG_KEY, Of(b""))],
+        Some(BatchFault::ValueTooLong),
+    ),
+    (
+        1,
+        &[Clear(Of(b"b"), Of(b"a")), Atomic(Add, Of(b"a"), LONG_VALUE)],
+        Some(BatchFault::Inverted),
+    ),
+    (
+        1,
+        &[Atomic(Add, Of(b"a"), LONG_VALUE), Clear(Of(b"b"), Of(b"a"))],
+        Some(BatchFault::ValueTooLong),
+    ),
+    (
+        1_001,
+        &[Clear(Of(b"b"), Of(b"a"))],
+        Some(BatchFault::TooMany),
+    ),
+];
+
+/// The limit that so many times these mutations break.
+fn fault(alloc: Global, times: usize, changes: &[Change]) -> Result<Option<BatchFault>, Memory> {
     let mut mutations = Vec::new(alloc);
-    mutations.push(Mutation::Set { key, value })?;
+    for _ in 0..times {
+        push(alloc, &mut mutations, changes)?;
+    }
     Ok(Batch::new(mutations).err())
+}
+
+/// Asserts that each batch of a table breaks the limit that it says.
+fn break_limits(rt: &impl Abort, alloc: Global, limits: &[Limit]) -> Result<(), Fail> {
+    for (number, (times, changes, wanted)) in limits.iter().enumerate() {
+        assert!(rt;
+            fault(alloc, *times, changes)? == *wanted,
+            "in row {number}"
+        );
+    }
+    Ok(())
 }
 
 #[test]
 fn batches_keep_the_limits(rt: HostRuntime) -> Result<(), Fail> {
-    let alloc = rt.alloc();
-    assert_eq!(rt; fault(alloc, MAX_KEY, MAX_VALUE)?, None);
-    assert_eq!(rt;
-        fault(alloc, 10_001, 100_001)?,
-        Some(BatchFault::KeyTooLong)
-    );
-    assert_eq!(rt; fault(alloc, 1, 100_001)?, Some(BatchFault::ValueTooLong));
-    let long = vec![in alloc; 0u8; 10_001]?;
-    let mut many = Vec::new(alloc);
-    for _ in 0..MAX_MUTATIONS + 1 {
-        many.push(keyed(alloc, Kind::Set, long.as_slice(), &[])?)?;
-    }
-    assert_eq!(rt; Batch::new(many).err(), Some(BatchFault::TooMany));
-    Ok(())
+    break_limits(&rt, rt.alloc(), &LIMITS)
 }
 
-/// Of two limits that mutations break, the one that is tested first: the number of mutations, then one
-/// mutation after the other, a key before a value, and a key before the order of a clear's ends.
 #[test]
 fn the_first_limit_is_answered(rt: HostRuntime) -> Result<(), Fail> {
-    let alloc = rt.alloc();
-    let long_key = vec![in alloc; 0x62u8; 10_001]?;
-    let long_value = vec![in alloc; 0u8; 100_001]?;
-    let long_set = keyed(alloc, Kind::Set, long_key.as_slice(), long_value.as_slice())?;
-    let add = Kind::Atomic(AtomicOp::Add);
-    let long_add = keyed(alloc, add, long_key.as_slice(), long_value.as_slice())?;
-    let long_clear = clear(alloc, long_key.as_slice(), b"a")?;
-    for mutation in [long_set, long_add, long_clear] {
-        let alone = Vec::from_array(alloc, [mutation])?;
-        assert_eq!(rt; Batch::new(alone).err(), Some(BatchFault::KeyTooLong));
-    }
-    let value_then_key = Vec::from_array(
-        alloc,
-        [
-            keyed(alloc, Kind::Set, b"a", long_value.as_slice())?,
-            keyed(alloc, Kind::Set, long_key.as_slice(), b"")?,
-        ],
-    )?;
-    assert_eq!(rt;
-        Batch::new(value_then_key).err(),
-        Some(BatchFault::ValueTooLong)
-    );
-    let ends_then_value = Vec::from_array(
-        alloc,
-        [
-            clear(alloc, b"b", b"a")?,
-            keyed(alloc, add, b"a", long_value.as_slice())?,
-        ],
-    )?;
-    assert_eq!(rt;
-        Batch::new(ends_then_value).err(),
-        Some(BatchFault::Inverted)
-    );
-    let value_then_ends = Vec::from_array(
-        alloc,
-        [
-            keyed(alloc, add, b"a", long_value.as_slice())?,
-            clear(alloc, b"b", b"a")?,
-        ],
-    )?;
-    assert_eq!(rt;
-        Batch::new(value_then_ends).err(),
-        Some(BatchFault::ValueTooLong)
-    );
-    let mut many = Vec::new(alloc);
-    for _ in 0..1_001 {
-        many.push(clear(alloc, b"b", b"a")?)?;
-    }
-    assert_eq!(rt; Batch::new(many).err(), Some(BatchFault::TooMany));
-    Ok(())
+    break_limits(&rt, rt.alloc(), &TWO_LIMITS)
 }
 
-#[test]
-fn an_operation_is_found_by_its_name(rt: HostRuntime) {
-    let rows = [
-        ("add", AtomicOp::Add),
-        ("and", AtomicOp::And),
-        ("or", AtomicOp::Or),
-        ("xor", AtomicOp::Xor),
-        ("max", AtomicOp::Max),
-        ("min", AtomicOp::Min),
-    ];
-    for (name, op) in rows {
-        assert_eq!(rt; op.name(), name);
-        assert_eq!(rt; AtomicOp::from_name(name), Some(op));
-    }
-    assert_eq!(rt; AtomicOp::from_name("set"), None);
-    assert_eq!(rt; BatchFault::Inverted.name(), "Inverted");
-}
+/// A name, and the operation of it.
+const NAMES: [(&str, Option<AtomicOp>); 7] = [
+    ("add", Some(Add)),
+    ("and", Some(And)),
+    ("or", Some(Or)),
+    ("xor", Some(Xor)),
+    ("max", Some(Max)),
+    ("min", Some(Min)),
+    ("set", None),
+];
 
-/// Whether there is one mutation, and it is this clear.
-fn is_clear(batch: &Batch, from: &[u8], to: &[u8]) -> bool {
-    match batch.mutations() {
-        [Mutation::Clear { begin, end }] => begin.as_slice() == from && end.as_slice() == to,
+/// Whether this operation is found by this name, and has it.
+fn is_found(name: &str, wanted: Option<AtomicOp>) -> bool {
+    match (AtomicOp::from_name(name), wanted) {
+        (Some(found), Some(wanted)) => found == wanted && wanted.name() == name,
+        (None, None) => true,
         _ => false,
     }
 }
 
 #[test]
-fn a_clip_cuts_clears(rt: HostRuntime) -> Result<(), Fail> {
-    let alloc = rt.alloc();
-    let middle = Bytes::from_slice(alloc, b"m")?;
-    let low = Shard {
-        begin: Bytes::empty(alloc),
-        end: Some(middle.copy()?),
-    };
-    let high = Shard {
-        begin: middle.copy()?,
-        end: None,
-    };
-    assert!(rt; high.copy()?.contains(&middle));
-    assert!(rt; !low.contains(&middle));
-    let all = Batch::new(Vec::from_array(alloc, [clear(alloc, b"a", b"z")?])?)?;
-    assert!(rt; is_clear(&clip(alloc, &all, &low)?, b"a", b"m"));
-    assert!(rt; is_clear(&clip(alloc, &all, &high)?, b"m", b"z"));
-    let none = Batch::new(Vec::from_array(alloc, [clear(alloc, b"a", b"a")?])?)?;
-    assert!(rt; clip(alloc, &none, &low)?.mutations().is_empty());
+fn an_operation_is_found_by_its_name(rt: HostRuntime) {
+    for (name, wanted) in NAMES {
+        assert!(rt; is_found(name, wanted), "{name}");
+    }
+}
+
+fn is_called(fault: BatchFault, name: &str) -> bool {
+    fault.name() == name
+}
+
+#[test]
+fn a_fault_has_a_name(rt: HostRuntime) {
+    assert!(rt; is_called(BatchFault::Inverted, "Inverted"));
+}
+
+/// The keys below `m`.
+fn low(alloc: Global) -> Result<Shard, Memory>
+    ensures { IfOk result (λ shard. EndsFit shard) }
+{
+    let begin = Bytes::empty(alloc);
+    let end = Bytes::from_slice(alloc, b"m")?;
+    Ok(Shard {
+        begin,
+        end: Some(end),
+    })
+}
+
+/// The keys from `m` on.
+fn high(alloc: Global) -> Result<Shard, Memory>
+    ensures { IfOk result (λ shard. EndsFit shard) }
+{
+    let begin = Bytes::from_slice(alloc, b"m")?;
+    Ok(Shard { begin, end: None })
+}
+
+fn has(alloc: Global, shard: &Shard, key: &[u8]) -> Result<bool, Memory> {
+    let key = Bytes::from_slice(alloc, key)?;
+    Ok(shard.contains(&key))
+}
+
+fn copy_has(alloc: Global, shard: &Shard, key: &[u8]) -> Result<bool, Memory> {
+    let copy = shard.copy()?;
+    has(alloc, &copy, key)
+}
+
+/// Two ends of a clear.
+type Ends = (&'static [u8], &'static [u8]);
+
+/// Whether there is one mutation, and it is this clear, or there is none.
+fn is_clear(mutations: &[Mutation], wanted: Option<Ends>) -> bool {
+    match (mutations, wanted) {
+        ([Mutation::Clear { begin, end }], Some(wanted)) => {
+            begin.as_slice() == wanted.0 && end.as_slice() == wanted.1
+        }
+        ([], None) => true,
+        _ => false,
+    }
+}
+
+/// Whether a shard has this of a clear.
+fn cuts(alloc: Global, shard: &Shard, ends: Ends, wanted: Option<Ends>) -> Result<bool, Fail>
+    requires { EndsFit shard.now }
+{
+    let batch = batch(alloc, &[Clear(Of(ends.0), Of(ends.1))])?;
+    let clipped = clip(alloc, &batch, shard)?;
+    Ok(is_clear(clipped.mutations(), wanted))
+}
+
+fn low_cuts(rt: &impl Abort, alloc: Global, low: &Shard) -> Result<(), Fail>
+    requires { EndsFit low.now }
+{
+    assert!(rt; !has(alloc, low, b"m")?);
+    assert!(rt; cuts(alloc, low, (b"a", b"z"), Some((b"a", b"m")))?);
+    assert!(rt; cuts(alloc, low, (b"a", b"a"), None)?);
     Ok(())
+}
+
+fn high_cuts(rt: &impl Abort, alloc: Global, high: &Shard) -> Result<(), Fail>
+    requires { EndsFit high.now }
+{
+    assert!(rt; copy_has(alloc, high, b"m")?);
+    assert!(rt; cuts(alloc, high, (b"a", b"z"), Some((b"m", b"z")))?);
+    Ok(())
+}
+
+#[test]
+fn a_clip_cuts_clears(rt: HostRuntime) -> Result<(), Fail> {
+    low_cuts(&rt, rt.alloc(), &low(rt.alloc())?)?;
+    high_cuts(&rt, rt.alloc(), &high(rt.alloc())?)
 }

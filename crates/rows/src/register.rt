@@ -1,6 +1,7 @@
 use fr_base::{Ballot, Machine};
 use fr_register::{Cell, CellAsk, CellTell, CellValue, Progress, ReadTally, WriteTally};
 use std::alloc::Global;
+use std::process::Abort;
 use std::test::Fail;
 
 /// An ask of a table, with a value of one byte.
@@ -23,7 +24,7 @@ fn ballot(number: u64) -> Result<Ballot, Fail> {
     Ok(Ballot::new(number).ok_or("no ballot")?)
 }
 
-fn value(alloc: Global, byte: u8) -> Result<CellValue, Fail> {
+pub(crate) fn value(alloc: Global, byte: u8) -> Result<CellValue, Fail> {
     Ok(CellValue::new(Vec::from_slice(alloc, &[byte])?).ok_or("too long")?)
 }
 
@@ -63,37 +64,61 @@ fn answers(alloc: Global, cell: &mut Cell, ask: Ask, tell: Tell) -> Result<bool,
     Ok(is_first && cell.step(alloc, ask)? == tell)
 }
 
-#[test]
-fn a_cell_answers_by_its_promise_also_when_asked_again(rt: HostRuntime) -> Result<(), Fail> {
-    let alloc = rt.alloc();
-    let mut cell = Cell::new(alloc);
-    for (ask, tell) in [
-        (Ask::Write(257, b'x'), Tell::Written(257)),
-        (Ask::Read(513), Tell::Promise(257, b'x')),
-        (Ask::Read(512), Tell::Refused(513)),
-        (Ask::Write(513, b'y'), Tell::Written(513)),
-        (Ask::Write(513, b'z'), Tell::TwoValues),
-        (Ask::Write(513, b'y'), Tell::Written(513)),
-        (Ask::Write(512, b'z'), Tell::Refused(513)),
-        (Ask::Read(513), Tell::Promise(513, b'y')),
-    ] {
-        assert!(rt; answers(alloc, &mut cell, ask, tell)?);
-    }
+/// What a cell is asked in turn, and what it tells.
+const TURNS: [(Ask, Tell); 8] = [
+    (Ask::Write(257, b'x'), Tell::Written(257)),
+    (Ask::Read(513), Tell::Promise(257, b'x')),
+    (Ask::Read(512), Tell::Refused(513)),
+    (Ask::Write(513, b'y'), Tell::Written(513)),
+    (Ask::Write(513, b'z'), Tell::TwoValues),
+    (Ask::Write(513, b'y'), Tell::Written(513)),
+    (Ask::Write(512, b'z'), Tell::Refused(513)),
+    (Ask::Read(513), Tell::Promise(513, b'y')),
+];
+
+/// Whether the copy of a cell promised and wrote this ballot, with this value.
+fn copy_holds(cell: &Cell, ballot: u64, value: &[u8]) -> Result<bool, Fail> {
     let copy = cell.copy()?;
-    assert_eq!(rt; copy.promised().get(), 513);
-    assert_eq!(rt; copy.written().get(), 513);
-    assert_eq!(rt; copy.value().as_slice(), b"y".as_slice());
+    Ok(
+        copy.promised().get() == ballot
+            && copy.written().get() == ballot
+            && copy.value().as_slice() == value,
+    )
+}
+
+/// Asserts what a cell answers, and what it then is.
+fn takes_turns(rt: &impl Abort, alloc: Global, cell: &mut Cell) -> Result<(), Fail> {
+    for (number, (ask, tell)) in TURNS.iter().enumerate() {
+        assert!(rt; answers(alloc, cell, *ask, *tell)?, "in row {number}");
+    }
+    assert!(rt; copy_holds(cell, 513, b"y")?);
     Ok(())
 }
 
 #[test]
+fn a_cell_answers_by_its_promise_also_when_asked_again(rt: HostRuntime) -> Result<(), Fail> {
+    takes_turns(&rt, rt.alloc(), &mut Cell::new(rt.alloc()))
+}
+
+/// Whether so many bytes are a value.
+fn is_value(alloc: Global, len: usize) -> Result<bool, Fail> {
+    let mut bytes = Vec::new(alloc);
+    bytes.resize(len, 7)?;
+    Ok(CellValue::new(bytes).is_some())
+}
+
+/// Whether the copy of a value of one byte is that byte.
+fn is_copied(alloc: Global, byte: u8) -> Result<bool, Fail> {
+    let bytes = value(alloc, byte)?.copy()?.into_vec();
+    Ok(bytes.as_slice() == [byte].as_slice())
+}
+
+#[test]
 fn a_value_has_at_most_4096_bytes(rt: HostRuntime) -> Result<(), Fail> {
-    let alloc = rt.alloc();
-    assert!(rt; CellValue::new(vec![in alloc; 7; 4096]?).is_some());
-    assert!(rt; CellValue::new(vec![in alloc; 7; 4097]?).is_none());
-    let x = value(alloc, b'x')?;
-    assert_eq!(rt; x.copy()?.into_vec().as_slice(), b"x".as_slice());
-    assert_eq!(rt; CellValue::empty(alloc).len(), 0);
+    assert!(rt; is_value(rt.alloc(), 4096)?);
+    assert!(rt; !is_value(rt.alloc(), 4097)?);
+    assert!(rt; is_copied(rt.alloc(), b'x')?);
+    assert!(rt; CellValue::empty(rt.alloc()).len() == 0);
     Ok(())
 }
 
@@ -106,157 +131,260 @@ enum Answer {
 }
 
 fn is_answer(progress: Progress, answer: Answer) -> bool {
-    match answer {
-        Answer::Waiting => progress == Progress::Waiting,
-        Answer::Majority => progress == Progress::Majority,
-        Answer::Lost(number) => match progress {
-            Progress::Lost { promised } => promised.get() == number,
-            _ => false,
-        },
+    match progress {
+        Progress::Waiting => matches!(answer, Answer::Waiting),
+        Progress::Majority => matches!(answer, Answer::Majority),
+        Progress::Lost { promised } => matches!(answer, Answer::Lost(it) if it == promised.get()),
     }
 }
 
-/// Whether a read tally of ballot 769 answers each tell as the table says, and has that pair then.
-fn reads_as(
-    alloc: Global,
-    cells: u8,
-    table: &[(u8, Tell, Answer, (u64, &[u8]))],
-) -> Result<bool, Fail> {
-    let mut tally = ReadTally::new(alloc, cells, ballot(769)?);
-    let mut is_so = tally.cells() == cells && tally.ballot().get() == 769;
-    for (index, tell, answer, pair) in table {
-        let progress = tally.hear(*index, tell_of(alloc, *tell)?)?;
-        let (greatest, value) = tally.greatest();
-        is_so = is_so
-            && is_answer(progress, *answer)
-            && greatest.get() == pair.0
-            && value.as_slice() == pair.1;
-    }
-    Ok(is_so && tally.copy()?.progress() == tally.progress())
+/// A tell of the cell of this index, what a read tally answers, and the pair that it then has.
+type Read = (u8, Tell, Answer, (u64, &'static [u8]));
+
+fn is_greatest(tally: &ReadTally, (ballot, bytes): (u64, &[u8])) -> bool {
+    let (greatest, value) = tally.greatest();
+    greatest.get() == ballot && value.as_slice() == bytes
 }
+
+fn hears_read(
+    alloc: Global,
+    tally: &mut ReadTally,
+    (index, tell, answer, pair): Read,
+) -> Result<bool, Fail> {
+    let tell = tell_of(alloc, tell)?;
+    let progress = tally.hear(index, tell)?;
+    Ok(is_answer(progress, answer) && is_greatest(tally, pair))
+}
+
+/// Whether a copy has the same answer.
+fn is_read_copied(tally: &ReadTally) -> Result<bool, Fail> {
+    Ok(tally.copy()?.progress() == tally.progress())
+}
+
+/// Asserts that a read tally of ballot 769 answers each tell as the table says, and has that pair then.
+fn hears_reads(
+    rt: &impl Abort,
+    alloc: Global,
+    tally: &mut ReadTally,
+    cells: u8,
+    table: &[Read],
+) -> Result<(), Fail> {
+    assert!(rt; tally.cells() == cells && tally.ballot().get() == 769);
+    for (number, row) in table.iter().enumerate() {
+        assert!(rt; hears_read(alloc, tally, *row)?, "in row {number}");
+    }
+    assert!(rt; is_read_copied(tally)?);
+    Ok(())
+}
+
+fn reads(rt: &impl Abort, alloc: Global, cells: u8, table: &[Read]) -> Result<(), Fail> {
+    let mut tally = ReadTally::new(alloc, cells, ballot(769)?);
+    hears_reads(rt, alloc, &mut tally, cells, table)
+}
+
+const NONE: (u64, &[u8]) = (0, b"");
+
+const X: (u64, &[u8]) = (257, b"x");
+
+const Z: (u64, &[u8]) = (513, b"z");
+
+/// Of three cells.
+const WON_READS: [Read; 8] = [
+    (3, Tell::Promise(600, b's'), Answer::Waiting, NONE),
+    (0, Tell::Written(769), Answer::Waiting, NONE),
+    (0, Tell::Promise(257, b'x'), Answer::Waiting, X),
+    (0, Tell::Promise(513, b'z'), Answer::Waiting, X),
+    (0, Tell::Refused(800), Answer::Waiting, X),
+    (1, Tell::Promise(257, b'y'), Answer::Majority, X),
+    (2, Tell::Refused(800), Answer::Majority, X),
+    (2, Tell::Promise(513, b'z'), Answer::Majority, Z),
+];
+
+const LOST_READS: [Read; 5] = [
+    (0, Tell::Refused(800), Answer::Lost(800), NONE),
+    (1, Tell::Refused(900), Answer::Lost(800), NONE),
+    (1, Tell::Promise(257, b'x'), Answer::Lost(800), X),
+    // the cell that refused was heard
+    (0, Tell::Promise(600, b's'), Answer::Lost(800), X),
+    (2, Tell::Promise(513, b'z'), Answer::Lost(800), Z),
+];
 
 #[test]
 fn a_read_tally_keeps_its_answer_and_goes_on_hearing(rt: HostRuntime) -> Result<(), Fail> {
-    let alloc = rt.alloc();
-    let none: (u64, &[u8]) = (0, b"");
-    let x: (u64, &[u8]) = (257, b"x");
-    let z: (u64, &[u8]) = (513, b"z");
-    let won = [
-        (3, Tell::Promise(600, b's'), Answer::Waiting, none),
-        (0, Tell::Written(769), Answer::Waiting, none),
-        (0, Tell::Promise(257, b'x'), Answer::Waiting, x),
-        (0, Tell::Promise(513, b'z'), Answer::Waiting, x),
-        (0, Tell::Refused(800), Answer::Waiting, x),
-        (1, Tell::Promise(257, b'y'), Answer::Majority, x),
-        (2, Tell::Refused(800), Answer::Majority, x),
-        (2, Tell::Promise(513, b'z'), Answer::Majority, z),
-    ];
-    assert!(rt; reads_as(alloc, 3, &won)?);
-    let lost = [
-        (0, Tell::Refused(800), Answer::Lost(800), none),
-        (1, Tell::Refused(900), Answer::Lost(800), none),
-        (1, Tell::Promise(257, b'x'), Answer::Lost(800), x),
-        // the cell that refused was heard
-        (0, Tell::Promise(600, b's'), Answer::Lost(800), x),
-        (2, Tell::Promise(513, b'z'), Answer::Lost(800), z),
-    ];
-    assert!(rt; reads_as(alloc, 3, &lost)?);
+    reads(&rt, rt.alloc(), 3, &WON_READS)?;
+    reads(&rt, rt.alloc(), 3, &LOST_READS)
+}
+
+/// A tell of the cell of this index, and what a write tally answers.
+type Write = (u8, Tell, Answer);
+
+fn hears_write(
+    alloc: Global,
+    tally: &mut WriteTally,
+    (index, tell, answer): Write,
+) -> Result<bool, Fail> {
+    let tell = tell_of(alloc, tell)?;
+    let progress = tally.hear(index, tell)?;
+    Ok(is_answer(progress, answer))
+}
+
+/// Whether a copy has the same answer.
+fn is_write_copied(tally: &WriteTally) -> Result<bool, Fail> {
+    Ok(tally.copy()?.progress() == tally.progress())
+}
+
+/// Asserts that a write tally of ballot 769 answers each tell as the table says.
+fn hears_writes(
+    rt: &impl Abort,
+    alloc: Global,
+    tally: &mut WriteTally,
+    cells: u8,
+    table: &[Write],
+) -> Result<(), Fail> {
+    assert!(rt; tally.cells() == cells && tally.ballot().get() == 769);
+    for (number, row) in table.iter().enumerate() {
+        assert!(rt; hears_write(alloc, tally, *row)?, "in row {number}");
+    }
+    assert!(rt; is_write_copied(tally)?);
     Ok(())
 }
 
-/// Whether a write tally of ballot 769 answers each tell as the table says.
-fn writes_as(alloc: Global, cells: u8, table: &[(u8, Tell, Answer)]) -> Result<bool, Fail> {
+fn writes(rt: &impl Abort, alloc: Global, cells: u8, table: &[Write]) -> Result<(), Fail> {
     let mut tally = WriteTally::new(alloc, cells, ballot(769)?);
-    let mut is_so = tally.cells() == cells && tally.ballot().get() == 769;
-    for (index, tell, answer) in table {
-        let progress = tally.hear(*index, tell_of(alloc, *tell)?)?;
-        is_so = is_so && is_answer(progress, *answer);
-    }
-    Ok(is_so && tally.copy()?.progress() == tally.progress())
+    hears_writes(rt, alloc, &mut tally, cells, table)
 }
+
+/// Of three cells.
+const LOST_WRITES: [Write; 8] = [
+    (3, Tell::Refused(800), Answer::Waiting),
+    (0, Tell::Written(513), Answer::Waiting),
+    (0, Tell::Promise(257, b'x'), Answer::Waiting),
+    (0, Tell::Written(769), Answer::Waiting),
+    (0, Tell::Written(769), Answer::Waiting),
+    (0, Tell::TwoValues, Answer::Waiting),
+    (1, Tell::TwoValues, Answer::Lost(769)),
+    (2, Tell::Written(769), Answer::Lost(769)),
+];
+
+/// Of one cell.
+const WON_WRITES: [Write; 2] = [
+    (0, Tell::Written(769), Answer::Majority),
+    (0, Tell::Refused(800), Answer::Majority),
+];
 
 #[test]
 fn a_write_tally_keeps_its_answer(rt: HostRuntime) -> Result<(), Fail> {
-    let alloc = rt.alloc();
-    let lost = [
-        (3, Tell::Refused(800), Answer::Waiting),
-        (0, Tell::Written(513), Answer::Waiting),
-        (0, Tell::Promise(257, b'x'), Answer::Waiting),
-        (0, Tell::Written(769), Answer::Waiting),
-        (0, Tell::Written(769), Answer::Waiting),
-        (0, Tell::TwoValues, Answer::Waiting),
-        (1, Tell::TwoValues, Answer::Lost(769)),
-        (2, Tell::Written(769), Answer::Lost(769)),
-    ];
-    assert!(rt; writes_as(alloc, 3, &lost)?);
-    let won = [
-        (0, Tell::Written(769), Answer::Majority),
-        (0, Tell::Refused(800), Answer::Majority),
-    ];
-    assert!(rt; writes_as(alloc, 1, &won)?);
-    Ok(())
+    writes(&rt, rt.alloc(), 3, &LOST_WRITES)?;
+    writes(&rt, rt.alloc(), 1, &WON_WRITES)
 }
 
-/// How many cells of this number have to give the awaited answer, for reads and for writes.
-fn majorities(alloc: Global, cells: u8) -> Result<(u8, u8), Fail> {
-    let mut reads = ReadTally::new(alloc, cells, ballot(769)?);
-    let mut writes = WriteTally::new(alloc, cells, ballot(769)?);
-    let mut needed = (0, 0);
+/// How many cells of this number have to give the awaited answer to a read.
+fn reads_needed(alloc: Global, tally: &mut ReadTally, cells: u8) -> Result<u8, Fail> {
+    let mut needed = 0;
     for index in 0..cells {
-        if !reads.has_heard(index) && reads.progress() == Progress::Waiting {
-            reads.hear(index, tell_of(alloc, Tell::Promise(257, b'x'))?)?;
-            needed.0 = index + 1;
-        }
-        if !writes.has_heard(index) && writes.progress() == Progress::Waiting {
-            writes.hear(index, tell_of(alloc, Tell::Written(769))?)?;
-            needed.1 = index + 1;
+        if !tally.has_heard(index) && is_answer(tally.progress(), Answer::Waiting) {
+            tally.hear(index, tell_of(alloc, Tell::Promise(257, b'x'))?)?;
+            needed = index + 1;
         }
     }
     Ok(needed)
 }
 
+/// How many of them have to give that to a write.
+fn writes_needed(alloc: Global, tally: &mut WriteTally, cells: u8) -> Result<u8, Fail> {
+    let mut needed = 0;
+    for index in 0..cells {
+        if !tally.has_heard(index) && is_answer(tally.progress(), Answer::Waiting) {
+            tally.hear(index, tell_of(alloc, Tell::Written(769))?)?;
+            needed = index + 1;
+        }
+    }
+    Ok(needed)
+}
+
+/// Both.
+fn needed(alloc: Global, cells: u8) -> Result<(u8, u8), Fail> {
+    let ballot = ballot(769)?;
+    let reads = reads_needed(alloc, &mut ReadTally::new(alloc, cells, ballot), cells)?;
+    let writes = writes_needed(alloc, &mut WriteTally::new(alloc, cells, ballot), cells)?;
+    Ok((reads, writes))
+}
+
 #[test]
 fn a_majority_is_above_half(rt: HostRuntime) -> Result<(), Fail> {
-    let alloc = rt.alloc();
     for (cells, majority) in [(1, 1), (3, 2), (5, 3), (7, 4), (9, 5)] {
-        assert_eq!(rt; majorities(alloc, cells)?, (majority, majority), "{cells}");
+        assert!(rt;
+            needed(rt.alloc(), cells)? == (majority, majority),
+            "{cells}"
+        );
     }
     Ok(())
 }
 
 /// No two of these are the same, and each is the same as itself and its copy.
+const ASKS: [Ask; 5] = [
+    Ask::Read(256),
+    Ask::Read(512),
+    Ask::Write(256, b'x'),
+    Ask::Write(256, b'y'),
+    Ask::Write(512, b'x'),
+];
+
+/// No two of these either.
+const TELLS: [Tell; 8] = [
+    Tell::Promise(256, b'x'),
+    Tell::Promise(256, b'y'),
+    Tell::Promise(512, b'x'),
+    Tell::Written(256),
+    Tell::Written(512),
+    Tell::Refused(256),
+    Tell::Refused(512),
+    Tell::TwoValues,
+];
+
+fn copy_is_ask(one: &CellAsk, other: &CellAsk) -> Result<bool, Fail> {
+    Ok(one.copy()?.is_same(other))
+}
+
+/// Whether the copy of the one ask is the same as the other ask.
+fn is_same_ask(alloc: Global, one: Ask, other: Ask) -> Result<bool, Fail> {
+    let one = ask_of(alloc, one)?;
+    let other = ask_of(alloc, other)?;
+    copy_is_ask(&one, &other)
+}
+
+fn copy_is_tell(one: &CellTell, other: &CellTell) -> Result<bool, Fail> {
+    Ok(one.copy()?.is_same(other))
+}
+
+/// Whether the copy of the one tell is the same as the other tell.
+fn is_same_tell(alloc: Global, one: Tell, other: Tell) -> Result<bool, Fail> {
+    let one = tell_of(alloc, one)?;
+    let other = tell_of(alloc, other)?;
+    copy_is_tell(&one, &other)
+}
+
 #[test]
-fn asks_and_tells_are_told_apart(rt: HostRuntime) -> Result<(), Fail> {
-    let alloc = rt.alloc();
-    let asks = [
-        Ask::Read(256),
-        Ask::Read(512),
-        Ask::Write(256, b'x'),
-        Ask::Write(256, b'y'),
-        Ask::Write(512, b'x'),
-    ];
-    for (i, a) in asks.iter().enumerate() {
-        for (j, b) in asks.iter().enumerate() {
-            let one = ask_of(alloc, *a)?.copy()?;
-            let other = ask_of(alloc, *b)?;
-            assert!(rt; one.is_same(&other) == (i == j));
+fn asks_are_told_apart(rt: HostRuntime) -> Result<(), Fail> {
+    for (i, one) in ASKS.iter().enumerate() {
+        for (j, other) in ASKS.iter().enumerate() {
+            assert!(rt;
+                is_same_ask(rt.alloc(), *one, *other)? == (i == j),
+                "{i} {j}"
+            );
         }
     }
-    let tells = [
-        Tell::Promise(256, b'x'),
-        Tell::Promise(256, b'y'),
-        Tell::Promise(512, b'x'),
-        Tell::Written(256),
-        Tell::Written(512),
-        Tell::Refused(256),
-        Tell::Refused(512),
-        Tell::TwoValues,
-    ];
-    for (i, a) in tells.iter().enumerate() {
-        for (j, b) in tells.iter().enumerate() {
-            let one = tell_of(alloc, *a)?.copy()?;
-            let other = tell_of(alloc, *b)?;
-            assert!(rt; one.is_same(&other) == (i == j));
+    Ok(())
+}
+
+#[test]
+fn tells_are_told_apart(rt: HostRuntime) -> Result<(), Fail> {
+    for (i, one) in TELLS.iter().enumerate() {
+        for (j, other) in TELLS.iter().enumerate() {
+            assert!(rt;
+                is_same_tell(rt.alloc(), *one, *other)? == (i == j),
+                "{i} {j}"
+            );
         }
     }
     Ok(())
