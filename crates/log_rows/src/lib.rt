@@ -3,6 +3,8 @@
 
 pub mod back;
 #[cfg(test)]
+mod copied;
+#[cfg(test)]
 mod log;
 #[cfg(test)]
 mod made;
@@ -10,5 +12,7 @@ mod made;
 mod order;
 #[cfg(test)]
 mod state;
+#[cfg(test)]
+mod table;
 #[cfg(test)]
 mod tags;

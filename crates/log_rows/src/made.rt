@@ -1,6 +1,6 @@
-//! Seeds, bodies and states of which the tests make asks.
+//! Logs, and the seeds, pushes and answers of tables.
 use fr_base::{Bytes, Epoch, LogId, Tag, Version};
-use fr_log::{Log, Seed, SeedRecord};
+use fr_log::{Log, Peeked, PeekedRecord, Push, Seed, SeedRecord};
 use fr_mutation::{Batch, Mutation};
 use fr_state::{CoordState, Generation};
 use fr_tags::Body;
@@ -19,26 +19,51 @@ pub(crate) fn tag(number: u8) -> Result<Tag, Fail> {
     Ok(Tag::new(number).ok_or("a tag")?)
 }
 
+fn set(alloc: Global, value: u8) -> Result<Mutation, Fail> {
+    let key = Bytes::from_slice(alloc, &[0x61])?;
+    let value = Bytes::from_slice(alloc, &[value])?;
+    Ok(Mutation::Set { key, value })
+}
+
 /// The batch that sets the key 61.
 pub(crate) fn batch(alloc: Global, value: u8) -> Result<Batch, Fail> {
     let mut mutations = Vec::new(alloc);
-    mutations.push(Mutation::Set {
-        key: Bytes::from_slice(alloc, &[0x61])?,
-        value: Bytes::from_slice(alloc, &[value])?,
-    })?;
+    mutations.push(set(alloc, value)?)?;
     Ok(Batch::new(mutations)?)
 }
 
-/// One body for each of these tags, with the value.
-pub(crate) fn bodies(alloc: Global, tags: &[u8], value: u8) -> Result<Vec<Body>, Fail> {
+fn body(alloc: Global, number: u8, value: u8) -> Result<Body, Fail> {
+    let tag = tag(number)?;
+    let batch = batch(alloc, value)?;
+    Ok(Body { tag, batch })
+}
+
+/// Bodies of these tags and values.
+pub(crate) fn bodies(alloc: Global, all: &[(u8, u8)]) -> Result<Vec<Body>, Fail> {
     let mut bodies = Vec::new(alloc);
-    for number in tags {
-        bodies.push(Body {
-            tag: tag(*number)?,
-            batch: batch(alloc, value)?,
-        })?;
+    for (number, value) in all {
+        bodies.push(body(alloc, *number, *value)?)?;
     }
     Ok(bodies)
+}
+
+/// A push of this epoch: the version before, the version, the known one, and bodies of these tags and values.
+pub(crate) fn push(
+    alloc: Global,
+    number: u64,
+    (prev, version, known): (u64, u64, u64),
+    all: &[(u8, u8)],
+) -> Result<Option<Push>, Fail> {
+    let epoch = epoch(number)?;
+    let (prev, version, known) = (at(prev)?, at(version)?, at(known)?);
+    Ok(Push::new(epoch, prev, version, known, bodies(alloc, all)?))
+}
+
+/// The mark of this epoch after this version, with the state of the start.
+pub(crate) fn mark(alloc: Global, number: u64, prev: u64) -> Result<Option<Push>, Fail> {
+    let epoch = epoch(number)?;
+    let (prev, known) = (at(prev)?, at(0)?);
+    Ok(Push::mark(alloc, epoch, prev, known, start(alloc)?))
 }
 
 /// The coordinated state of the start.
@@ -47,30 +72,68 @@ pub(crate) fn start(alloc: Global) -> Result<CoordState, Fail> {
     Ok(CoordState::new(alloc, first.ok_or("the start")?)?)
 }
 
+fn record(alloc: Global, version: u64, number: u8, value: u8) -> Result<SeedRecord, Fail> {
+    let version = at(version)?;
+    let tag = tag(number)?;
+    let batch = batch(alloc, value)?;
+    Ok(SeedRecord {
+        version,
+        tag,
+        batch,
+    })
+}
+
 /// Seed records of these versions, tags and values.
-pub(crate) fn records(alloc: Global, all: &[(u64, u8, u8)]) -> Result<Vec<SeedRecord>, Fail> {
+fn records(alloc: Global, all: &[(u64, u8, u8)]) -> Result<Vec<SeedRecord>, Fail> {
     let mut records = Vec::new(alloc);
     for (version, number, value) in all {
-        records.push(SeedRecord {
-            version: at(*version)?,
-            tag: tag(*number)?,
-            batch: batch(alloc, *value)?,
-        })?;
+        records.push(record(alloc, *version, *number, *value)?)?;
     }
     Ok(records)
 }
 
+/// A seed of this epoch: first, seeded to, and records of these versions, tags and values.
 pub(crate) fn seed(
+    alloc: Global,
     number: u64,
-    first: u64,
-    seeded_to: u64,
-    records: Vec<SeedRecord>,
+    (first, seeded_to): (u64, u64),
+    all: &[(u64, u8, u8)],
 ) -> Result<Seed, Fail> {
-    let seed = Seed::new(epoch(number)?, at(first)?, at(seeded_to)?, records);
+    let epoch = epoch(number)?;
+    let (first, seeded_to) = (at(first)?, at(seeded_to)?);
+    let seed = Seed::new(epoch, first, seeded_to, records(alloc, all)?);
     Ok(seed.ok_or("a seed")?)
 }
 
-/// Log 0 of this epoch.
+fn peeked_record(alloc: Global, version: u64, value: u8) -> Result<PeekedRecord, Fail> {
+    let version = at(version)?;
+    let batch = batch(alloc, value)?;
+    Ok(PeekedRecord { version, batch })
+}
+
+fn peeked_records(alloc: Global, all: &[(u64, u8)]) -> Result<Vec<PeekedRecord>, Fail> {
+    let mut records = Vec::new(alloc);
+    for (version, value) in all {
+        records.push(peeked_record(alloc, *version, *value)?)?;
+    }
+    Ok(records)
+}
+
+/// What a peek of tag 0 gives after a version: records of these versions and values, through which version, and what
+/// is known.
+pub(crate) fn peeked(
+    alloc: Global,
+    after: u64,
+    all: &[(u64, u8)],
+    (upto, known): (u64, u64),
+) -> Result<Peeked, Fail> {
+    let tag = tag(0)?;
+    let (after, upto, known) = (at(after)?, at(upto)?, at(known)?);
+    let peeked = Peeked::new(tag, after, peeked_records(alloc, all)?, upto, known);
+    Ok(peeked.ok_or("an answer")?)
+}
+
+/// Log 0 of this epoch, of 4 logs with 2 holders of each tag, so that it holds the tags 0 and 3.
 pub(crate) fn new_log(alloc: Global, number: u64) -> Result<Log, Fail> {
     let id = LogId {
         epoch: epoch(number)?,

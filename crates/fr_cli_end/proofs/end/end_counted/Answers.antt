@@ -1,4 +1,5 @@
 use Rattle.std.proofs.Common.{rules, ◌≡◌, None}
+use Rattle.fr_epoch.specs.EndTally.{new_end}
 use Rattle.fr_cli_end.specs.Script.{replies_of}
 use Rattle.fr_cli.proofs.TextLemmas.{gains_kept, appends_kept}
 use Rattle.fr_cli.proofs.CommandLemmas.{unread, misread, cut_off, printed}
@@ -13,13 +14,19 @@ returns-in_err-replies-clause-prints g c = misread _ _ _ _ _ _ _ c.from_residual
     record { input = c.in_ok-input.input.items; whole = c.in_ok-input.ensures.all; meant = none })
 
 pub returns-in_err-put_lines-clause-prints : goal.returns-in_err-put_lines-clause-prints
-returns-in_err-put_lines-clause-prints g c = cut_off _ _ _ _ _ _ _ _ c.from_residual-in_err-put_lines.ensures.0 (search rules)
-    (c.in_ok-replies.replies.items, record { input = c.in_ok-input.input.items; whole = c.in_ok-input.ensures.all; meant = c.in_ok-replies.ensures.ok }, c.put_lines.ensures.front)
+returns-in_err-put_lines-clause-prints g c =
+    let made : c.new-tally.result ≡ new_end c.args.options.logs c.args.options.degree = rw (c.logs.ensures.value, c.degree.ensures.value) at c.new-tally.ensures in
+    cut_off _ _ _ _ _ _ _ _ c.from_residual-in_err-put_lines.ensures.0 (search rules)
+    (c.in_ok-replies.replies.items, record { input = c.in_ok-input.input.items; whole = c.in_ok-input.ensures.all; meant = c.in_ok-replies.ensures.ok }, (rw made at c.put_lines.ensures.front))
 
 pub returns-in_err-flush-clause-prints : goal.returns-in_err-flush-clause-prints
-returns-in_err-flush-clause-prints g c = cut_off _ _ _ _ _ _ _ _ c.from_residual-in_err-flush.ensures.0 (search rules)
-    (c.in_ok-replies.replies.items, record { input = c.in_ok-input.input.items; whole = c.in_ok-input.ensures.all; meant = c.in_ok-replies.ensures.ok }, gains_kept _ _ _ _ c.put_lines.ensures.front c.flush.ensures.kept)
+returns-in_err-flush-clause-prints g c =
+    let made : c.new-tally.result ≡ new_end c.args.options.logs c.args.options.degree = rw (c.logs.ensures.value, c.degree.ensures.value) at c.new-tally.ensures in
+    cut_off _ _ _ _ _ _ _ _ c.from_residual-in_err-flush.ensures.0 (search rules)
+    (c.in_ok-replies.replies.items, record { input = c.in_ok-input.input.items; whole = c.in_ok-input.ensures.all; meant = c.in_ok-replies.ensures.ok }, gains_kept _ _ _ _ (rw made at c.put_lines.ensures.front) c.flush.ensures.kept)
 
 pub returns-clause-prints : goal.returns-clause-prints
-returns-clause-prints g c = printed _ _ _ _ _ _ _
-    (c.in_ok-replies.replies.items, record { input = c.in_ok-input.input.items; whole = c.in_ok-input.ensures.all; meant = c.in_ok-replies.ensures.ok }, appends_kept _ _ _ _ c.in_ok-put_lines.ensures.ok c.flush.ensures.kept)
+returns-clause-prints g c =
+    let made : c.new-tally.result ≡ new_end c.args.options.logs c.args.options.degree = rw (c.logs.ensures.value, c.degree.ensures.value) at c.new-tally.ensures in
+    printed _ _ _ _ _ _ _
+    (c.in_ok-replies.replies.items, record { input = c.in_ok-input.input.items; whole = c.in_ok-input.ensures.all; meant = c.in_ok-replies.ensures.ok }, appends_kept _ _ _ _ (rw made at c.in_ok-put_lines.ensures.ok) c.flush.ensures.kept)
