@@ -5,7 +5,8 @@ use Rattle.fr_cli.specs.declared.fault.CliFault.{CliFault}
 use Rattle.fr_cli.specs.declared.fault.CliFault.TheVariants.{BadScript, Input, Output}
 use Rattle.fr_cli.specs.Text.{HasRead, GainsFront}
 
--- a reader had bytes left, and has others now; a writer stood somewhere, and stands elsewhere now
+-- the command called a reader, which had the bytes `left` and now has `left_now`, and a writer, which was `old` and is `new`; `means` says
+-- which script an input is, `lines_of` which lines it has, `contents` what a writer holds
 pub record Prints {S W : Type 0} (means : List ℕ → Option S) (lines_of : S → List ℕ) (left left_now : Option (List ℕ)) (contents : W → Option (List ℕ)) (old new : W) (result : Result ℕ CliFault) : Type 0 where
   -- the status is 0, and the writer has gained the lines of the script that was read
   pub status : IfOk result (λ status. status ≡ 0)
