@@ -1,7 +1,7 @@
 //! The program `fdbrec`.
 #![tactic(auto)]
 
-use fr_program::run_main;
+use fr_cli::run_main;
 use std::process::ExitCode;
 
 fn main(rt: HostRuntime) -> ExitCode {

@@ -5,12 +5,12 @@ use Rattle.std.specs.Option.{option_map}
 use Rattle.std.specs.List.{slice_get}
 use Rattle.std.proofs.lemmas.List.{drop_more}
 use Rattle.std.proofs.lemmas.Option.{slice_get-get_or, slice_get-map}
-use Rattle.fr_history.specs.Config.{Config}
-use Rattle.fr_history.specs.Turn.{Turn}
-use Rattle.fr_journal.specs.Journal.{JournalState}
-use Rattle.fr_journal.specs.Merge.{Placed}
-use Rattle.fr_audit_rule.specs.Audited.{after_entries, first_unlike, is_closed, is_repeated, lesser, then_on}
-use Rattle.fr_audit_rule.specs.declared.fault.AuditFault.{AuditFault}
+use Rattle.fr_run.specs.Config.{Config}
+use Rattle.fr_run.specs.Turn.{Turn}
+use Rattle.fr_audit_journal.specs.Journal.{JournalState}
+use Rattle.fr_audit_journal.specs.Merge.{Placed}
+use Rattle.fr_audit.specs.Audited.{after_entries, first_unlike, is_closed, is_repeated, lesser, then_on}
+use Rattle.fr_audit.specs.declared.fault.AuditFault.{AuditFault}
 use Rattle.fr_audit.specs.Checking.{after_this, before_at}
 
 -- the entry before one that is not the first

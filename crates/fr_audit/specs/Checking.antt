@@ -1,12 +1,12 @@
 -- An entry that an audit comes to, and the one before it.
 use Rattle.std.specs.Prelude.{ℕ, zero, suc, Bool, List, Option, None, Some, Result, Err, if◌then◌else◌}
 use Rattle.std.specs.List.{slice_get}
-use Rattle.fr_history.specs.Config.{Config}
-use Rattle.fr_history.specs.Turn.{Turn}
-use Rattle.fr_journal.specs.Merge.{Placed}
-use Rattle.fr_audit_rule.specs.Audited.{turn_at, with_turn}
-use Rattle.fr_audit_rule.specs.declared.fault.AuditFault.{AuditFault}
-use Rattle.fr_audit_rule.specs.declared.fault.AuditFault.TheVariants.{NotARun}
+use Rattle.fr_run.specs.Config.{Config}
+use Rattle.fr_run.specs.Turn.{Turn}
+use Rattle.fr_audit_journal.specs.Merge.{Placed}
+use Rattle.fr_audit.specs.Audited.{turn_at, with_turn}
+use Rattle.fr_audit.specs.declared.fault.AuditFault.{AuditFault}
+use Rattle.fr_audit.specs.declared.fault.AuditFault.TheVariants.{NotARun}
 
 -- the entry before that of a number
 abbrev pub before_at : List Placed → ℕ → Option Placed

@@ -1,13 +1,14 @@
 //! Whether journals are a run.
 ghost use Rattle.std.specs.Prelude.{◌≡◌, ◌≢◌, ◌<◌, None, length, map, Err, IfErr, IfOk, Ok, OnOk};
-ghost use Rattle.fr_audit_rule.specs.Audited as rule;
+ghost use Rattle.fr_audit.specs.Audited as rule;
 ghost use Rattle.fr_audit.specs.Checking.{after_this, before_at};
-ghost use Rattle.fr_journal.specs.Placed.{placed_of};
+ghost use Rattle.fr_audit_journal.specs.Placed.{placed_of};
 
-use fr_audit_rule::{AuditFault, event_of, says};
+use crate::entry::{event_of, says};
+use crate::fault::AuditFault;
+use fr_audit_journal::{Journal, NodeEntry, merge};
 use fr_base::{Memory, NodeId};
-use fr_event::NotEnabled;
-use fr_journal::{Journal, NodeEntry, merge};
+use fr_run_event::NotEnabled;
 use fr_world::{Config, World};
 use std::alloc::Global;
 use std::cmp::Ordering;

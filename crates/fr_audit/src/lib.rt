@@ -1,10 +1,15 @@
-//! Audits: whether journals are a run of a world. Where an audit has no fault, what holds of every run holds of what
-//! the journals tell.
+//! Audits: whether journals are a run of a world. Which event an entry of a journal is, what it says of the world's
+//! answer, the first fault of some journals, and that there is none exactly where they are a run. Where an audit has no
+//! fault, what holds of every run holds of what the journals tell.
 #![tactic(auto)]
 
 mod checking;
+mod entry;
+mod fault;
+pub mod laws;
 
 pub use checking::audit;
-pub use fr_audit_rule::AuditFault;
+pub use entry::{event_of, says};
+pub use fault::AuditFault;
 /// The world that an audit answers.
 pub use fr_world::World;

@@ -2,9 +2,9 @@
 use Rattle.std.specs.Prelude.{ℕ, List, [], ◌++◌, codes, decimal, Result, Ok, Err}
 use Rattle.fr_base.specs.declared.place.NodeId.{NodeId}
 use Rattle.fr_base.specs.declared.place.NodeId.TheVariants.{Cell, Log, Sequencer, Proxy, Recoverer, Storage}
-use Rattle.fr_history.specs.Turn.{Turn}
-use Rattle.fr_audit_rule.specs.declared.fault.AuditFault.{AuditFault}
-use Rattle.fr_audit_rule.specs.declared.fault.AuditFault.TheVariants.{NotARun, TellDiffers, StateDiffers, Memory}
+use Rattle.fr_run.specs.Turn.{Turn}
+use Rattle.fr_audit.specs.declared.fault.AuditFault.{AuditFault}
+use Rattle.fr_audit.specs.declared.fault.AuditFault.TheVariants.{NotARun, TellDiffers, StateDiffers, Memory}
 
 -- a node: its kind, and its numbers
 abbrev pub node_text : NodeId → List ℕ

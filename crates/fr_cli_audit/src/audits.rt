@@ -1,18 +1,18 @@
 //! The command `audit`.
 ghost use Rattle.std.specs.Prelude.{◌≡◌, ◌≢◌, ◌<◌, ◌⊎◌, List, None, Err, IsOk, IfOk, IfErr, IfSome, OnOk};
 ghost use Rattle.std.specs.Io.KnownBytes.{Appends};
-ghost use Rattle.fr_cli.specs.Calls.{no_calls, HasNoInput, HasNotFailed, IsWriteFault};
-ghost use Rattle.fr_history.specs.Config as history;
-ghost use Rattle.fr_journal.specs.Journal.{JournalState};
-ghost use Rattle.fr_audit_rule.specs.Audited.{audited};
+ghost use Rattle.fr_cli_apply.specs.Calls.{no_calls, HasNoInput, HasNotFailed, IsWriteFault};
+ghost use Rattle.fr_run.specs.Config as history;
+ghost use Rattle.fr_audit_journal.specs.Journal.{JournalState};
+ghost use Rattle.fr_audit.specs.Audited.{audited};
 ghost use Rattle.fr_cli_audit.specs.Lines.{line_of, status_of};
 
 use crate::lines::fault_text;
 use fr_audit::{AuditFault, audit};
-use fr_cli::{CallCounts, CliFault, put, read_input};
-use fr_config::Config;
-use fr_journal::Journal;
-use fr_script::{ScriptFault, read_script};
+use fr_audit_journal::Journal;
+use fr_audit_script::{ScriptFault, read_script};
+use fr_cli_apply::{CallCounts, CliFault, put, read_input};
+use fr_run_event::Config;
 use std::alloc::Global;
 use std::io::{Read, Write};
 

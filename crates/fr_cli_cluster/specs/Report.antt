@@ -2,11 +2,11 @@
 use Rattle.std.specs.Prelude.{◌≡◌, ◌⊎◌, Bool, true, false, ℕ, List, ◌++◌, codes}
 use Rattle.serde_json.specs.Data.{Data}
 use Rattle.serde_json.specs.Written.{IsInOrder}
-use Rattle.fr_history.specs.Config.{Config}
-use Rattle.fr_history.specs.Turn.{Turn}
-use Rattle.fr_journal.specs.Journal.{JournalState}
-use Rattle.fr_audit_rule.specs.Run.{IsRunOf}
-use Rattle.fr_audit_rule.specs.declared.fault.AuditFault.{AuditFault}
+use Rattle.fr_run.specs.Config.{Config}
+use Rattle.fr_run.specs.Turn.{Turn}
+use Rattle.fr_audit_journal.specs.Journal.{JournalState}
+use Rattle.fr_audit.specs.Run.{IsRunOf}
+use Rattle.fr_audit.specs.declared.fault.AuditFault.{AuditFault}
 use Rattle.fr_runtime.specs.Handed.{IsHanded}
 use Rattle.fr_cli_audit.specs.Lines.{fault_line}
 

@@ -1,6 +1,6 @@
 -- What a cluster starts from.
 use Rattle.std.specs.Prelude.{ℕ, ◌+◌, ◌-◌, ◌*◌, List, [], ◌∷◌, ◌++◌, zero, suc}
-use Rattle.fr_history.specs.Config.{Config}
+use Rattle.fr_run.specs.Config.{Config}
 use Rattle.fr_cli_cluster.specs.declared.options.ClusterWords.{ClusterWords}
 
 -- the shard after the first ones begins at the byte 8 above the last

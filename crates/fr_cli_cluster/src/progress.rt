@@ -5,7 +5,7 @@ use crate::options::ClusterOptions;
 use fr_ask::Ask;
 use fr_base::{Ballot, NodeId};
 use fr_log::LogAsk;
-use fr_station::{Faults, NoFaults, Verdict};
+use fr_runtime_station::{Faults, NoFaults, Verdict};
 use std::io::Eprint;
 use std::sync::atomic::{AtomicU64, Ordering};
 

@@ -1,18 +1,18 @@
 //! What is printed of a cluster.
 ghost use Rattle.std.specs.Prelude.{◌≡◌, ℕ, List, string_bytes, Err, IfErr, IfOk, OnOk};
 ghost use Rattle.std.specs.Io.KnownBytes.{Appends};
-ghost use Rattle.fr_cli.specs.Calls.{IsOutputFault, IsWriteFault};
+ghost use Rattle.fr_cli_apply.specs.Calls.{IsOutputFault, IsWriteFault};
 ghost use Rattle.fr_cli_audit.specs.Lines.{fault_line};
 ghost use Rattle.fr_cli_cluster.specs.Report.{IsRunText, IsScriptLine};
 
-use fr_audit_rule::AuditFault;
+use fr_audit::AuditFault;
+use fr_audit_journal::Journal;
+use fr_audit_script::write_script;
 use fr_base::Memory;
-use fr_cli::{CallCounts, CliFault, put};
+use fr_cli_apply::{CallCounts, CliFault, put};
 use fr_cli_audit::fault_text;
-use fr_config::Config;
-use fr_journal::Journal;
+use fr_run_event::Config;
 use fr_runtime::Report;
-use fr_script::write_script;
 use std::alloc::Global;
 use std::io::Write;
 

@@ -5,7 +5,7 @@ ghost use Rattle.fr_cli_cluster.specs.Setting.{begins_of, config_of};
 
 use crate::options::ClusterWords;
 use fr_base::{Ballot, Bytes, Memory};
-use fr_config::Config;
+use fr_run_event::Config;
 use fr_runtime::Orders;
 use std::alloc::Global;
 

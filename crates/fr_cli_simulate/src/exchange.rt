@@ -2,7 +2,7 @@
 use crate::pending::{Purpose, pending_ask};
 use fr_ask::{Ask, Tell};
 use fr_base::{Memory, NodeId};
-use fr_event::{Answer, Event, NotEnabled};
+use fr_run_event::{Answer, Event, NotEnabled};
 use fr_world::World;
 use std::alloc::Global;
 

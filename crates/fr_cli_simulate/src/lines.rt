@@ -1,10 +1,10 @@
 //! The lines of storage servers.
 ghost use Rattle.std.specs.Prelude.{◌≡◌, IfErr, OnOk};
-ghost use Rattle.fr_cli.specs.Calls.{IsWriteFault};
+ghost use Rattle.fr_cli_apply.specs.Calls.{IsWriteFault};
 
 use fr_ask::Last;
 use fr_base::{NodeId, Tag};
-use fr_cli::{CallCounts, CliFault, put, put_rows};
+use fr_cli_apply::{CallCounts, CliFault, put, put_rows};
 use fr_world::World;
 use std::alloc::Global;
 use std::io::Write;

@@ -1,6 +1,6 @@
 //! The names of refusals, as lines have them.
-use fr_event::NotEnabled;
 use fr_log::LogRefusal;
+use fr_run_event::NotEnabled;
 use fr_storage::StorageFault;
 
 /// Why a storage server did not get what it asked a log for.

@@ -3,9 +3,9 @@ use Rattle.std.proofs.Common.{◌≡◌, ◌<◌, ◌==◌, ◌||◌, ℕ, Bool,
 use Rattle.std.proofs.lemmas.Bool.{and_parts, eqb-true, ltb-true}
 use Rattle.fr_base.specs.declared.place.NodeId.{NodeId}
 use Rattle.fr_base.specs.declared.place.NodeId.TheVariants.{Cell, Log, Sequencer, Proxy, Recoverer, Storage}
-use Rattle.fr_history.specs.Config.{Config, first_epoch}
-use Rattle.fr_history.specs.Nodes.{is_there, is_open, is_open_in, logs_in, plan_at, rec_at}
-use Rattle.fr_journal.specs.Journal.{JournalState}
+use Rattle.fr_run.specs.Config.{Config, first_epoch}
+use Rattle.fr_run.specs.Nodes.{is_there, is_open, is_open_in, logs_in, plan_at, rec_at}
+use Rattle.fr_audit_journal.specs.Journal.{JournalState}
 use Rattle.fr_runtime.specs.Handed.{has_journal}
 
 -- at the start there are the cells, the logs, the sequencer and the proxies of the first epoch, and the storage servers

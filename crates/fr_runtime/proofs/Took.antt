@@ -13,24 +13,24 @@ use Rattle.fr_ask.specs.declared.ask.Ask.TheVariants as ask
 use Rattle.fr_ask.specs.declared.tell.Tell.{Tell}
 use Rattle.fr_epoch.specs.Asks.{pending}
 use Rattle.fr_epoch.specs.Recoverer.{RecState, new_recoverer}
-use Rattle.fr_history.specs.Config.{Config}
-use Rattle.fr_history.specs.Nodes.{is_there, rec_at, storage_at}
-use Rattle.fr_history.specs.Turn.{Turn, Begun, actor_of}
-use Rattle.fr_event.specs.Step.{begun, is_used, crashed, delivered, heard_by, heard_by_rec, heard_by_storage, if_sent, if_takes, if_told, if_up, turn_of, whole}
-use Rattle.fr_event.specs.Tests.{is_gone, was_told}
-use Rattle.fr_event.specs.declared.event.Event.{Event}
-use Rattle.fr_event.specs.declared.event.Event.TheVariants as event
-use Rattle.fr_event.specs.declared.not_enabled.NotEnabled.{NotEnabled}
-use Rattle.fr_event.specs.declared.not_enabled.NotEnabled.TheVariants as not_enabled
+use Rattle.fr_run.specs.Config.{Config}
+use Rattle.fr_run.specs.Nodes.{is_there, rec_at, storage_at}
+use Rattle.fr_run.specs.Turn.{Turn, Begun, actor_of}
+use Rattle.fr_run_event.specs.Step.{begun, is_used, crashed, delivered, heard_by, heard_by_rec, heard_by_storage, if_sent, if_takes, if_told, if_up, turn_of, whole}
+use Rattle.fr_run_event.specs.Tests.{is_gone, was_told}
+use Rattle.fr_run_event.specs.declared.event.Event.{Event}
+use Rattle.fr_run_event.specs.declared.event.Event.TheVariants as event
+use Rattle.fr_run_event.specs.declared.not_enabled.NotEnabled.{NotEnabled}
+use Rattle.fr_run_event.specs.declared.not_enabled.NotEnabled.TheVariants as not_enabled
 use Rattle.fr_proxy.specs.declared.fault.SubmitFault.{SubmitFault}
-use Rattle.fr_journal.specs.Journal.{JournalState}
-use Rattle.fr_journal.specs.Law.{MergedHasAll}
-use Rattle.fr_journal.specs.Merge.{Placed, all_placed, merged, placed_by}
-use Rattle.fr_journal.specs.declared.act.Act.{Act}
-use Rattle.fr_journal.specs.declared.act.Act.TheVariants as act
-use Rattle.fr_journal.specs.declared.act.Entry.{Entry}
-use Rattle.fr_audit_rule.specs.Entry.{event_of}
-use Rattle.fr_audit_rule.specs.Run.{Happen, IsTurnOf}
+use Rattle.fr_audit_journal.specs.Journal.{JournalState}
+use Rattle.fr_audit_journal.specs.Law.{MergedHasAll}
+use Rattle.fr_audit_journal.specs.Merge.{Placed, all_placed, merged, placed_by}
+use Rattle.fr_audit_journal.specs.declared.act.Act.{Act}
+use Rattle.fr_audit_journal.specs.declared.act.Act.TheVariants as act
+use Rattle.fr_audit_journal.specs.declared.act.Entry.{Entry}
+use Rattle.fr_audit.specs.Entry.{event_of}
+use Rattle.fr_audit.specs.Run.{Happen, IsTurnOf}
 use Rattle.fr_runtime.specs.Handed.{has_journal}
 
 -- ---- whose turn an event is

@@ -3,10 +3,10 @@ use Rattle.std.specs.Prelude.{◌≡◌, ◌&&◌, not, Bool, true, List, [], �
 use Rattle.std.specs.List.{list_any}
 use Rattle.fr_base.specs.Node.{is_same_node}
 use Rattle.fr_base.specs.declared.place.NodeId.{NodeId}
-use Rattle.fr_history.specs.Config.{Config}
-use Rattle.fr_history.specs.Nodes.{is_there}
-use Rattle.fr_history.specs.Turn.{Turn, actor_of}
-use Rattle.fr_journal.specs.Journal.{JournalState}
+use Rattle.fr_run.specs.Config.{Config}
+use Rattle.fr_run.specs.Nodes.{is_there}
+use Rattle.fr_run.specs.Turn.{Turn, actor_of}
+use Rattle.fr_audit_journal.specs.Journal.{JournalState}
 
 -- whether one of these is the journal of a node
 abbrev pub has_journal : NodeId → List JournalState → Bool

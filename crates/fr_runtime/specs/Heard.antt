@@ -4,10 +4,10 @@ use Rattle.std.specs.Global.{Vec}
 use Rattle.fr_base.specs.declared.place.NodeId.{NodeId}
 use Rattle.fr_base.specs.declared.place.NodeId.TheVariants.{Recoverer}
 use Rattle.fr_proxy.specs.declared.outcome.Outcome.{Outcome}
-use Rattle.fr_journal.specs.Journal.{JournalState}
-use Rattle.fr_threads.specs.declared.order.Order.{Order}
-use Rattle.fr_threads.specs.Account.{all_given, all_outcomes, is_proxy, left_over, waiting_for}
-use Rattle.fr_threads.specs.Begins.{starts_with_begun}
+use Rattle.fr_audit_journal.specs.Journal.{JournalState}
+use Rattle.fr_runtime_threads.specs.declared.order.Order.{Order}
+use Rattle.fr_runtime_threads.specs.Account.{all_given, all_outcomes, is_proxy, left_over, waiting_for}
+use Rattle.fr_runtime_threads.specs.Begins.{starts_with_begun}
 
 -- the journals of the proxies of a number, in their order
 abbrev pub of_number : ℕ → List JournalState → List JournalState

@@ -2,9 +2,9 @@
 use Rattle.std.specs.Prelude.{◌≡◌, ℕ, ◌+◌, Bool, true, false, List, [], ◌∷◌, ◌++◌, Option, Result, Ok}
 use Rattle.std.specs.Global.{Vec}
 use Rattle.fr_proxy.specs.declared.outcome.Outcome.{Outcome}
-use Rattle.fr_journal.specs.Journal.{JournalState}
-use Rattle.fr_threads.specs.declared.order.Order.{Order}
-use Rattle.fr_threads.specs.Account.{all_given, all_outcomes, are_proxies, is_proxy, left_over, waiting_for}
+use Rattle.fr_audit_journal.specs.Journal.{JournalState}
+use Rattle.fr_runtime_threads.specs.declared.order.Order.{Order}
+use Rattle.fr_runtime_threads.specs.Account.{all_given, all_outcomes, are_proxies, is_proxy, left_over, waiting_for}
 use Rattle.fr_runtime.specs.declared.job.Done.{Done}
 use Rattle.fr_runtime.specs.declared.job.Done.TheVariants.{Served, Kept, Nothing}
 use Rattle.fr_runtime.specs.declared.job.Job.{Job}

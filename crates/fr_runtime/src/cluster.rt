@@ -1,6 +1,6 @@
 //! The running cluster.
 ghost use Rattle.std.specs.Prelude.{◌≡◌, IfOk};
-ghost use Rattle.fr_audit_rule.specs.Run.{IsRunOf};
+ghost use Rattle.fr_audit.specs.Run.{IsRunOf};
 ghost use Rattle.fr_runtime.specs.Handed.{IsHanded};
 ghost use Rattle.fr_runtime.specs.Heard.{AllBegin, AreHeard};
 
@@ -10,15 +10,15 @@ use crate::handed::unlike;
 use crate::job::run_threads;
 use crate::prepare::{directory, storages};
 use crate::rack::Rack;
+use fr_audit::laws::audit_law;
 use fr_audit::{AuditFault, World, audit};
-use fr_audit_rule::laws::audit_law;
+use fr_audit_journal::Journal;
+use fr_audit_journal::laws::merge_law;
 use fr_base::Ballot;
-use fr_config::Config;
-use fr_journal::Journal;
-use fr_journal::laws::merge_law;
 use fr_proxy::Outcome;
-use fr_station::Faults;
-use fr_threads::Workload;
+use fr_run_event::Config;
+use fr_runtime_station::Faults;
+use fr_runtime_threads::Workload;
 use std::alloc::Global;
 use std::sync::Wait;
 use std::thread::Threads;

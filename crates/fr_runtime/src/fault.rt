@@ -1,8 +1,8 @@
 //! Why a cluster's run has no report.
 use fr_audit::AuditFault;
 use fr_base::{Memory as NoMemory, NodeFault};
+use fr_runtime_threads::TurnFault;
 use fr_storage::StorageFault;
-use fr_threads::TurnFault;
 use fr_undo::StoreFault;
 use thiserror::Error;
 

@@ -4,8 +4,8 @@ ghost use Rattle.fr_runtime.specs.Job.{all_journals, all_told, all_works, journa
 
 use crate::job::Done;
 use crate::prepare::put;
+use fr_audit_journal::Journal;
 use fr_base::Memory;
-use fr_journal::Journal;
 use fr_proxy::Outcome;
 use std::alloc::Global;
 

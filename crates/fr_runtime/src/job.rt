@@ -5,15 +5,15 @@ ghost use Rattle.fr_runtime.specs.Job.{AllDid, Did, DidServe, oks, pull_jobs, re
 
 use crate::fault::RunFault;
 use crate::prepare::{first_generation, put};
+use fr_audit_journal::Journal;
 use fr_base::{Ballot, Memory, Node};
-use fr_config::Config;
-use fr_journal::Journal;
 use fr_log::Log;
 use fr_proxy::Outcome;
 use fr_register::Cell;
-use fr_station::{Directory, Faults};
+use fr_run_event::Config;
+use fr_runtime_station::{Directory, Faults};
+use fr_runtime_threads::{Order, Served, TurnFault, Workload, crash, pull, recover, serve};
 use fr_storage::Storage;
-use fr_threads::{Order, Served, TurnFault, Workload, crash, pull, recover, serve};
 use fr_undo::ShardStore;
 use std::alloc::Global;
 use std::sync::Wait;

@@ -2,7 +2,7 @@
 use fr_base::{Bytes, Memory, Step};
 use fr_mutation::{Batch, Mutation};
 use fr_proxy::Outcome;
-use fr_threads::{Order, Workload};
+use fr_runtime_threads::{Order, Workload};
 use std::alloc::Global;
 
 /// Batches of one set each, with a step of 1: batch j, from 0, sets the key of two bytes, 8 (j mod the number of

@@ -1,17 +1,17 @@
 //! What a cluster starts with.
 ghost use Rattle.std.specs.Prelude.{◌≡◌, ◌++◌, ◌∷◌, ◌<◌, [], false, IfOk, None, OnOk};
-ghost use Rattle.fr_history.specs.Config.{first_generation};
+ghost use Rattle.fr_run.specs.Config.{first_generation};
 
 use crate::fault::RunFault;
 use crate::rack::Rack;
 use fr_base::{Ballot, Epoch, InMemory, LogId, Memory, Node, NodeFault, NodeId, Tag, Version};
-use fr_config::Config;
-use fr_housing::Housed;
 use fr_log::{Log, LogAsk, Push, Seed};
 use fr_proxy::Sequencer;
 use fr_register::{Cell, CellAsk, CellValue};
+use fr_run_event::Config;
+use fr_runtime_housing::Housed;
+use fr_runtime_station::{Directory, Station};
 use fr_state::{CoordState, Generation, encode};
-use fr_station::{Directory, Station};
 use fr_storage::Storage;
 use fr_undo::StoreFault;
 use std::alloc::Global;

@@ -18,17 +18,17 @@ use Rattle.fr_proxy.specs.Proxy as proxy
 use Rattle.fr_proxy.specs.Proxy.{ProxyState}
 use Rattle.fr_proxy.specs.declared.outcome.Outcome.{Outcome}
 use Rattle.fr_epoch.specs.Recoverer.{RecState, Plan}
-use Rattle.fr_history.specs.Config.{Config, first_epoch, first_generation}
-use Rattle.fr_history.specs.Turn.{Turn, Sending, Submitted, ProxyHeard}
-use Rattle.fr_history.specs.Nodes.{rec_at, plan_in, plan_at, generation_in, generation_at, is_open, is_open_in, new_proxy_in, proxy_from, proxy_at}
-use Rattle.fr_history.specs.Run.{IsUp, IsTurn, IsRun}
-use Rattle.fr_history.specs.Laws.{Laws}
-use Rattle.fr_history.proofs.ByTurn.{proxy_by_turn}
-use Rattle.fr_history.proofs.Growth.{opener, open_generation}
-use Rattle.fr_nodes.specs.Parts.{pair_cmp, Logs, Sequencers, Proxies, Recoverers, Storages, AreProxies, IsWorld, new_proxy}
+use Rattle.fr_run.specs.Config.{Config, first_epoch, first_generation}
+use Rattle.fr_run.specs.Turn.{Turn, Sending, Submitted, ProxyHeard}
+use Rattle.fr_run.specs.Nodes.{rec_at, plan_in, plan_at, generation_in, generation_at, is_open, is_open_in, new_proxy_in, proxy_from, proxy_at}
+use Rattle.fr_run.specs.Run.{IsUp, IsTurn, IsRun}
+use Rattle.fr_run.specs.Laws.{Laws}
+use Rattle.fr_run.proofs.ByTurn.{proxy_by_turn}
+use Rattle.fr_run.proofs.Growth.{opener, open_generation}
+use Rattle.fr_world_nodes.specs.Parts.{pair_cmp, Logs, Sequencers, Proxies, Recoverers, Storages, AreProxies, IsWorld, new_proxy}
 use Rattle.fr_world.specs.World.{WorldState}
-use Rattle.fr_nodes.proofs.Keys.{pair_cmp-IsAntisymmetric}
-use Rattle.fr_nodes.proofs.Stands.{logs_next, sequencers_next, proxies_next}
+use Rattle.fr_world_nodes.proofs.Keys.{pair_cmp-IsAntisymmetric}
+use Rattle.fr_world_nodes.proofs.Stands.{logs_next, sequencers_next, proxies_next}
 
 -- ---- places of pairs
 

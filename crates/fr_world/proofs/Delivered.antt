@@ -11,13 +11,13 @@ use Rattle.fr_register.specs.declared.ask.CellAsk.{CellAsk}
 use Rattle.fr_log.specs.Step as log
 use Rattle.fr_log.specs.declared.ask.LogAsk.{LogAsk}
 use Rattle.fr_proxy.specs.Sequencer as seq
-use Rattle.fr_history.specs.Turn.{Turn, CellTurn, LogTurn, SeqTurn}
-use Rattle.fr_history.specs.Nodes.{cell_at, log_at, seq_at}
-use Rattle.fr_history.specs.Run.{IsTurn, WantsSome}
-use Rattle.fr_event.specs.declared.event.Event.TheVariants.{Deliver}
-use Rattle.fr_event.specs.Law.{EventIsTurn}
-use Rattle.fr_event.specs.Step.{delivered, if_sent}
-use Rattle.fr_event.specs.Tests.{was_sent, storage_may_ask}
+use Rattle.fr_run.specs.Turn.{Turn, CellTurn, LogTurn, SeqTurn}
+use Rattle.fr_run.specs.Nodes.{cell_at, log_at, seq_at}
+use Rattle.fr_run.specs.Run.{IsTurn, WantsSome}
+use Rattle.fr_run_event.specs.declared.event.Event.TheVariants.{Deliver}
+use Rattle.fr_run_event.specs.Law.{EventIsTurn}
+use Rattle.fr_run_event.specs.Step.{delivered, if_sent}
+use Rattle.fr_run_event.specs.Tests.{was_sent, storage_may_ask}
 use Rattle.fr_world.specs.World.{WorldState, next_turn}
 use Rattle.fr_world.specs.Stepping.{why_not_up}
 use Rattle.fr_world.proofs.Ups.{up_turn}

@@ -1,16 +1,16 @@
 -- From event to event the committed list only grows.
 use Rattle.std.proofs.Common.{◌≡◌, Result, Ok, Err, sym, ap, subst}
 use Rattle.std.specs.Prelude.{OnErr}
-use Rattle.fr_history.specs.Config.{Config}
-use Rattle.fr_history.specs.Turn.{Turn}
-use Rattle.fr_history.specs.Run.{IsRun}
-use Rattle.fr_history.specs.StateLaws.{IsConfig}
-use Rattle.fr_event.specs.declared.answer.Answer.{Answer}
-use Rattle.fr_event.specs.declared.event.Event.{Event}
-use Rattle.fr_event.specs.declared.not_enabled.NotEnabled.{NotEnabled}
-use Rattle.fr_event.specs.Step.{answer_of}
-use Rattle.fr_follows.specs.Safety.{IsGrownFrom, EachTurnGrows, StandingGrows}
-use Rattle.fr_config.specs.Limits.{IsWithin}
+use Rattle.fr_run.specs.Config.{Config}
+use Rattle.fr_run.specs.Turn.{Turn}
+use Rattle.fr_run.specs.Run.{IsRun}
+use Rattle.fr_run.specs.StateLaws.{IsConfig}
+use Rattle.fr_run_event.specs.declared.answer.Answer.{Answer}
+use Rattle.fr_run_event.specs.declared.event.Event.{Event}
+use Rattle.fr_run_event.specs.declared.not_enabled.NotEnabled.{NotEnabled}
+use Rattle.fr_run_event.specs.Step.{answer_of}
+use Rattle.fr_run_headline.specs.Safety.{IsGrownFrom, EachTurnGrows, StandingGrows}
+use Rattle.fr_run_event.specs.ConfigLimits.{IsWithin}
 use Rattle.fr_world.specs.Stepping.{Steps}
 use Rattle.fr_world.specs.World.{WorldState, with_turn, next_turn, stepped_by}
 

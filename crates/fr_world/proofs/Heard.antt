@@ -4,14 +4,14 @@ use Rattle.std.specs.Prelude.{Result, Ok}
 use Rattle.fr_ask.specs.declared.tell.Tell.{Tell}
 use Rattle.fr_base.specs.declared.place.NodeId.{NodeId}
 use Rattle.fr_base.specs.declared.place.NodeId.TheVariants as node
-use Rattle.fr_history.specs.Turn.{Turn, StorageHeard}
-use Rattle.fr_history.specs.Nodes.{storage_at}
-use Rattle.fr_history.specs.Run.{IsHeardBy, fault_of}
-use Rattle.fr_event.specs.declared.event.Event.TheVariants.{Hear}
-use Rattle.fr_event.specs.declared.not_enabled.NotEnabled.{NotEnabled}
-use Rattle.fr_event.specs.Law.{EventIsTurn}
-use Rattle.fr_event.specs.Tests.{was_told}
-use Rattle.fr_event.specs.Step.{turn_of, if_told}
+use Rattle.fr_run.specs.Turn.{Turn, StorageHeard}
+use Rattle.fr_run.specs.Nodes.{storage_at}
+use Rattle.fr_run.specs.Run.{IsHeardBy, fault_of}
+use Rattle.fr_run_event.specs.declared.event.Event.TheVariants.{Hear}
+use Rattle.fr_run_event.specs.declared.not_enabled.NotEnabled.{NotEnabled}
+use Rattle.fr_run_event.specs.Law.{EventIsTurn}
+use Rattle.fr_run_event.specs.Tests.{was_told}
+use Rattle.fr_run_event.specs.Step.{turn_of, if_told}
 use Rattle.fr_world.specs.World.{WorldState}
 use Rattle.fr_world.specs.Stepping.{why_not_up}
 use Rattle.fr_world.proofs.Ups.{up_turn}

@@ -6,13 +6,13 @@ use Rattle.fr_base.specs.declared.place.NodeId.TheVariants as node
 use Rattle.fr_ask.specs.declared.tell.Tell.{Tell}
 use Rattle.fr_epoch.specs.Recoverer.{RecState}
 use Rattle.fr_epoch.specs.Asks.{new_asks}
-use Rattle.fr_history.specs.Turn.{RecHeard}
-use Rattle.fr_history.specs.Nodes.{rec_at}
-use Rattle.fr_history.specs.Run.{IsTurn}
-use Rattle.fr_event.specs.declared.event.Event.TheVariants.{Hear}
-use Rattle.fr_event.specs.Law.{EventIsTurn}
-use Rattle.fr_event.specs.Step.{if_told, heard_by_rec, heard_by}
-use Rattle.fr_event.specs.Tests.{was_told}
+use Rattle.fr_run.specs.Turn.{RecHeard}
+use Rattle.fr_run.specs.Nodes.{rec_at}
+use Rattle.fr_run.specs.Run.{IsTurn}
+use Rattle.fr_run_event.specs.declared.event.Event.TheVariants.{Hear}
+use Rattle.fr_run_event.specs.Law.{EventIsTurn}
+use Rattle.fr_run_event.specs.Step.{if_told, heard_by_rec, heard_by}
+use Rattle.fr_run_event.specs.Tests.{was_told}
 use Rattle.fr_world.specs.World.{WorldState, next_turn}
 use Rattle.fr_world.specs.Stepping.{why_not_up}
 use Rattle.fr_world.proofs.Ups.{up_turn}

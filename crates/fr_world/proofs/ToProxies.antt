@@ -4,13 +4,13 @@ use Rattle.std.specs.Prelude.{is_some, Result, Ok}
 use Rattle.fr_base.specs.declared.place.NodeId.{NodeId}
 use Rattle.fr_base.specs.declared.place.NodeId.TheVariants as node
 use Rattle.fr_ask.specs.declared.tell.Tell.{Tell}
-use Rattle.fr_history.specs.Turn.{Turn, Gone}
-use Rattle.fr_history.specs.Run.{IsUp, IsTurn}
-use Rattle.fr_event.specs.declared.event.Event.TheVariants.{Crash, Hear}
-use Rattle.fr_event.specs.declared.not_enabled.NotEnabled.{NotEnabled}
-use Rattle.fr_event.specs.Law.{EventIsTurn}
-use Rattle.fr_event.specs.Step.{if_told, whole, heard_by}
-use Rattle.fr_event.specs.Tests.{was_told}
+use Rattle.fr_run.specs.Turn.{Turn, Gone}
+use Rattle.fr_run.specs.Run.{IsUp, IsTurn}
+use Rattle.fr_run_event.specs.declared.event.Event.TheVariants.{Crash, Hear}
+use Rattle.fr_run_event.specs.declared.not_enabled.NotEnabled.{NotEnabled}
+use Rattle.fr_run_event.specs.Law.{EventIsTurn}
+use Rattle.fr_run_event.specs.Step.{if_told, whole, heard_by}
+use Rattle.fr_run_event.specs.Tests.{was_told}
 use Rattle.fr_world.specs.World.{WorldState, next_turn}
 use Rattle.fr_world.specs.Stepping.{why_not_up}
 use Rattle.fr_world.proofs.Called.{heard_in}

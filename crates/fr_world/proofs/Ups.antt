@@ -2,12 +2,12 @@
 use Rattle.std.proofs.Common.{◌≡◌, Bool, true, false, cond, not, Option, None, Some, refl, ap}
 use Rattle.std.specs.Prelude.{Result, Err}
 use Rattle.fr_base.specs.declared.place.NodeId.{NodeId}
-use Rattle.fr_history.specs.Turn.{Turn}
-use Rattle.fr_history.specs.Nodes.{is_there}
-use Rattle.fr_event.specs.declared.not_enabled.NotEnabled.{NotEnabled}
-use Rattle.fr_event.specs.declared.not_enabled.NotEnabled.TheVariants as not_enabled
-use Rattle.fr_event.specs.Tests.{is_gone}
-use Rattle.fr_event.specs.Step.{if_up}
+use Rattle.fr_run.specs.Turn.{Turn}
+use Rattle.fr_run.specs.Nodes.{is_there}
+use Rattle.fr_run_event.specs.declared.not_enabled.NotEnabled.{NotEnabled}
+use Rattle.fr_run_event.specs.declared.not_enabled.NotEnabled.TheVariants as not_enabled
+use Rattle.fr_run_event.specs.Tests.{is_gone}
+use Rattle.fr_run_event.specs.Step.{if_up}
 use Rattle.fr_world.specs.World.{WorldState}
 use Rattle.fr_world.specs.Stepping.{why_not_up}
 

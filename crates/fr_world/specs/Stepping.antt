@@ -1,12 +1,12 @@
 -- What stands in the way of an event.
 use Rattle.std.specs.Prelude.{◌≡◌, ◌≢◌, not, Option, None, Some, Result, Ok, Err, if◌then◌else◌, IfOk, IfErr, unwrap_or}
 use Rattle.fr_base.specs.declared.place.NodeId.{NodeId}
-use Rattle.fr_history.specs.Nodes.{is_there}
-use Rattle.fr_event.specs.declared.answer.Answer.{Answer}
-use Rattle.fr_event.specs.declared.event.Event.{Event}
-use Rattle.fr_event.specs.declared.not_enabled.NotEnabled.{NotEnabled}
-use Rattle.fr_event.specs.declared.not_enabled.NotEnabled.TheVariants as not_enabled
-use Rattle.fr_event.specs.Tests.{is_gone}
+use Rattle.fr_run.specs.Nodes.{is_there}
+use Rattle.fr_run_event.specs.declared.answer.Answer.{Answer}
+use Rattle.fr_run_event.specs.declared.event.Event.{Event}
+use Rattle.fr_run_event.specs.declared.not_enabled.NotEnabled.{NotEnabled}
+use Rattle.fr_run_event.specs.declared.not_enabled.NotEnabled.TheVariants as not_enabled
+use Rattle.fr_run_event.specs.Tests.{is_gone}
 use Rattle.fr_world.specs.World.{WorldState, next_turn, stepped}
 
 -- why a node has no turn: it is not there, or it is gone

@@ -1,13 +1,13 @@
 -- A world as contracts see it: what it started from, and what happened.
 use Rattle.std.specs.Prelude.{List, ◌∷◌, Result, Ok, Err}
-use Rattle.fr_history.specs.Config.{Config}
-use Rattle.fr_history.specs.Turn.{Turn}
-use Rattle.fr_event.specs.declared.answer.Answer.{Answer}
-use Rattle.fr_event.specs.declared.event.Event.{Event}
-use Rattle.fr_event.specs.declared.not_enabled.NotEnabled.{NotEnabled}
-use Rattle.fr_event.specs.Step.{turn_of, answer_of}
+use Rattle.fr_run.specs.Config.{Config}
+use Rattle.fr_run.specs.Turn.{Turn}
+use Rattle.fr_run_event.specs.declared.answer.Answer.{Answer}
+use Rattle.fr_run_event.specs.declared.event.Event.{Event}
+use Rattle.fr_run_event.specs.declared.not_enabled.NotEnabled.{NotEnabled}
+use Rattle.fr_run_event.specs.Step.{turn_of, answer_of}
 use Rattle.fr_world.specs.declared.nodes.Nodes.{Nodes}
-use Rattle.fr_nodes.specs.Parts.{IsWorld}
+use Rattle.fr_world_nodes.specs.Parts.{IsWorld}
 
 -- what it started from, and its turns, the newest first: by them each of its nodes is known
 pub record WorldState : Type 0 where

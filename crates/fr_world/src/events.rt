@@ -11,7 +11,7 @@ mod served;
 
 use crate::nodes::Nodes;
 use fr_base::NodeId;
-use fr_event::NotEnabled;
+use fr_run_event::NotEnabled;
 
 impl Nodes {
     /// Why a node has no turn: it is not there, or it is gone.

@@ -8,7 +8,6 @@ mod replay;
 mod step;
 mod world;
 
-pub use fr_config::{Config, ConfigFault};
-pub use fr_event::{Answer, Event, NotEnabled};
-pub use fr_turns::Turn;
+pub use fr_run_event::{Answer, Config, ConfigFault, Event, NotEnabled};
+pub use fr_world_turns::Turn;
 pub use world::World;

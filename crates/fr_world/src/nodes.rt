@@ -1,7 +1,7 @@
 //! The nodes that a world keeps, and what happened: one exact run.
 ghost use Rattle.std.specs.Prelude.{◌≡◌, ◌<◌, [], IfOk};
-ghost use Rattle.fr_history.specs.Nodes as nodes;
-ghost use Rattle.fr_event.specs.Tests as tests;
+ghost use Rattle.fr_run.specs.Nodes as nodes;
+ghost use Rattle.fr_run_event.specs.Tests as tests;
 ghost use Rattle.fr_world.specs.World.{state_of, IsKept};
 
 mod asked;
@@ -13,17 +13,17 @@ mod served;
 
 use fr_ask::{Ask, Tell};
 use fr_base::{Ballot, Epoch, Memory, NodeId};
-use fr_config::Config;
 use fr_epoch::Recoverer;
 use fr_log::Log;
-use fr_nodes::opened::logs_in;
-use fr_nodes::start;
 use fr_proxy::{Proxy, Sequencer};
 use fr_register::Cell;
+use fr_run_event::Config;
 use fr_state::Generation;
 use fr_storage::Storage;
-use fr_turns::Turns;
 use fr_undo::MapStore;
+use fr_world_nodes::opened::logs_in;
+use fr_world_nodes::start;
+use fr_world_turns::Turns;
 use std::alloc::Global;
 use std::collections::BTreeMap;
 

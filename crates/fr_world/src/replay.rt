@@ -1,13 +1,12 @@
 //! Lists of events.
 ghost use Rattle.std.specs.Prelude.{◌≡◌, ◌≢◌, Err, IfErr, IfOk, Ok};
-ghost use Rattle.fr_event.specs.declared.not_enabled.NotEnabled.{NotEnabled};
-ghost use Rattle.fr_event.specs.Step.{replay};
-ghost use Rattle.fr_follows.specs.Committed.{AcknowledgedIsNeverUndone, RolledBackIsExact};
-ghost use Rattle.fr_follows.specs.Safety.{IsSafe};
+ghost use Rattle.fr_run_event.specs.declared.not_enabled.NotEnabled.{NotEnabled};
+ghost use Rattle.fr_run_event.specs.Step.{replay};
+ghost use Rattle.fr_run_headline.specs.Committed.{AcknowledgedIsNeverUndone, RolledBackIsExact};
+ghost use Rattle.fr_run_headline.specs.Safety.{IsSafe};
 
 use crate::world::World;
-use fr_config::Config;
-use fr_event::{Event, NotEnabled};
+use fr_run_event::{Config, Event, NotEnabled};
 use std::alloc::Global;
 
 impl World {

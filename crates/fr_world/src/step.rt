@@ -1,13 +1,13 @@
 //! One event.
 ghost use Rattle.std.specs.Prelude.{◌≡◌, OnErr};
-ghost use Rattle.fr_event.specs.declared.event.Event.TheVariants as event;
+ghost use Rattle.fr_run_event.specs.declared.event.Event.TheVariants as event;
 ghost use Rattle.fr_world.specs.Stepping.{Steps, Refuses, why_unheard};
 ghost use Rattle.fr_world.specs.World.{state_of, IsKept};
 
 use crate::nodes::Nodes;
 use fr_ask::Tell;
 use fr_base::{Memory, NodeId, Version};
-use fr_event::{Answer, Event, NotEnabled};
+use fr_run_event::{Answer, Event, NotEnabled};
 use std::alloc::Global;
 
 impl Nodes {

@@ -1,27 +1,26 @@
 //! A world of nodes.
 ghost use Rattle.std.specs.Option.{option_map};
 ghost use Rattle.std.specs.Prelude.{◌≡◌, [], length, nat_lt, is_some, IfOk, IfSome, OnErr, false};
-ghost use Rattle.fr_follows.specs.Committed.{AcknowledgedIsNeverUndone, RolledBackIsExact};
-ghost use Rattle.fr_follows.specs.Safety.{IsGrownFrom, IsSafe};
-ghost use Rattle.fr_history.specs.Run.{IsRun};
+ghost use Rattle.fr_run_headline.specs.Committed.{AcknowledgedIsNeverUndone, RolledBackIsExact};
+ghost use Rattle.fr_run_headline.specs.Safety.{IsGrownFrom, IsSafe};
+ghost use Rattle.fr_run.specs.Run.{IsRun};
 ghost use Rattle.fr_world.specs.Stepping.{Steps, Refuses};
-ghost use Rattle.fr_history.specs.Nodes as nodes;
-ghost use Rattle.fr_event.specs.Tests as tests;
-ghost use Rattle.fr_last.specs.At.{last_at, proxy_if_there};
-ghost use Rattle.fr_nodes.specs.Parts.{server_of};
-ghost use Rattle.fr_turns.specs.Turns.{history_of};
+ghost use Rattle.fr_run.specs.Nodes as nodes;
+ghost use Rattle.fr_run_event.specs.Tests as tests;
+ghost use Rattle.fr_run_event.specs.At.{last_at, proxy_if_there};
+ghost use Rattle.fr_world_nodes.specs.Parts.{server_of};
+ghost use Rattle.fr_world_turns.specs.Turns.{history_of};
 
 use crate::nodes::Nodes;
 use fr_ask::{Ask, Last, Tell};
 use fr_base::{Ballot, Epoch, Memory, NodeId, Tag};
-use fr_config::Config;
 use fr_epoch::Recoverer;
-use fr_event::{Answer, Event, NotEnabled};
-use fr_follows::laws::safety_law;
 use fr_proxy::Proxy;
+use fr_run_event::{Answer, Config, Event, NotEnabled};
+use fr_run_headline::laws::safety_law;
 use fr_storage::Storage;
-use fr_turns::Turn;
 use fr_undo::MapStore;
+use fr_world_turns::Turn;
 use std::alloc::Global;
 use std::marker::Model;
 

@@ -6,8 +6,8 @@ use crate::script::Commit;
 use crate::steps::push::push_to;
 use fr_ask::{Ask, SeqTell, Tell};
 use fr_base::{Memory, NodeId, Version};
-use fr_event::{Event, NotEnabled};
 use fr_mutation::{Batch, BatchFault};
+use fr_run_event::{Event, NotEnabled};
 use fr_world::World;
 use std::alloc::Global;
 

@@ -1,7 +1,7 @@
 //! The step `lose`: a log is lost.
 use crate::names::event_name;
 use fr_base::{LogId, Memory};
-use fr_event::{Event, NotEnabled};
+use fr_run_event::{Event, NotEnabled};
 use fr_world::World;
 use std::alloc::Global;
 

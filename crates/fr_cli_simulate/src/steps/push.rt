@@ -4,9 +4,9 @@ use crate::pending::{Purpose, pending_of};
 use crate::script::Push;
 use fr_ask::Ask;
 use fr_base::{Memory, NodeId, Version};
-use fr_event::Answer;
 use fr_log::LogAsk;
 use fr_proxy::Outcome;
+use fr_run_event::Answer;
 use fr_world::World;
 use std::alloc::Global;
 

@@ -4,8 +4,7 @@ use crate::names::event_name;
 use crate::pending::{Purpose, pending_ask};
 use crate::script::Recover;
 use fr_base::{Ballot, Memory, NodeId, Tag};
-use fr_event::{Event, NotEnabled};
-use fr_last::phase_text;
+use fr_run_event::{Event, NotEnabled, phase_text};
 use fr_world::World;
 use std::alloc::Global;
 

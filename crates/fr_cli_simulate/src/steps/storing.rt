@@ -4,8 +4,8 @@ use crate::names::Refusal;
 use crate::script::Pull;
 use fr_ask::{Ask, Tell};
 use fr_base::{Memory, NodeId};
-use fr_event::{Answer, NotEnabled};
 use fr_log::{LogAsk, LogTell};
+use fr_run_event::{Answer, NotEnabled};
 use fr_world::World;
 use std::alloc::Global;
 

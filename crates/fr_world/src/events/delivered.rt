@@ -1,12 +1,12 @@
 //! Asks come to cells, logs and sequencers.
 ghost use Rattle.std.specs.Prelude.{◌≡◌, ◌≢◌, true, Err, IfErr, IfOk, Ok, OnErr};
-ghost use Rattle.fr_event.specs.Limits.{AskHasLimits};
-ghost use Rattle.fr_event.specs.Step.{if_sent};
-ghost use Rattle.fr_event.specs.declared.event.Event.TheVariants as event;
-ghost use Rattle.fr_event.specs.declared.not_enabled.NotEnabled.TheVariants as not_enabled;
-ghost use Rattle.fr_history.specs.Nodes as nodes;
-ghost use Rattle.fr_history.specs.Run.{IsTurn};
-ghost use Rattle.fr_history.specs.Turn as history;
+ghost use Rattle.fr_run_event.specs.Limits.{AskHasLimits};
+ghost use Rattle.fr_run_event.specs.Step.{if_sent};
+ghost use Rattle.fr_run_event.specs.declared.event.Event.TheVariants as event;
+ghost use Rattle.fr_run_event.specs.declared.not_enabled.NotEnabled.TheVariants as not_enabled;
+ghost use Rattle.fr_run.specs.Nodes as nodes;
+ghost use Rattle.fr_run.specs.Run.{IsTurn};
+ghost use Rattle.fr_run.specs.Turn as history;
 ghost use Rattle.fr_log.specs.Step as log;
 ghost use Rattle.fr_proxy.specs.Sequencer as seq;
 ghost use Rattle.fr_register.specs.Cell as cell;
@@ -16,11 +16,11 @@ ghost use Rattle.fr_world.specs.World.{state_of, stepped_by, IsKept};
 use crate::nodes::Nodes;
 use fr_ask::{Ask, SeqAsk, Tell};
 use fr_base::{Epoch, LogId, NodeId};
-use fr_event::laws::step_law;
-use fr_event::{Answer, NotEnabled};
 use fr_log::LogAsk;
-use fr_nodes::storages::storage_may_ask;
 use fr_register::CellAsk;
+use fr_run_event::laws::step_law;
+use fr_run_event::{Answer, NotEnabled};
+use fr_world_nodes::storages::storage_may_ask;
 use std::alloc::Global;
 
 impl Nodes {

@@ -1,13 +1,13 @@
 //! Nodes crash, and logs are lost.
 ghost use Rattle.std.specs.Prelude.{◌≡◌, OnErr};
-ghost use Rattle.fr_event.specs.declared.event.Event.TheVariants as event;
+ghost use Rattle.fr_run_event.specs.declared.event.Event.TheVariants as event;
 ghost use Rattle.fr_world.specs.Stepping.{Steps, Refuses};
 ghost use Rattle.fr_world.specs.World.{state_of, IsKept};
 
 use crate::nodes::Nodes;
 use fr_base::{LogId, NodeId};
-use fr_event::laws::step_law;
-use fr_event::{Answer, NotEnabled};
+use fr_run_event::laws::step_law;
+use fr_run_event::{Answer, NotEnabled};
 
 impl Nodes {
     /// A node crashes: a sequencer, a proxy or a recoverer is gone, another node stands as it was.

@@ -1,19 +1,19 @@
 //! Storage servers hear.
 ghost use Rattle.std.specs.Prelude.{◌≡◌, ◌≢◌, Err, IfErr, IfOk, None, Ok, OnErr, Some};
 ghost use Rattle.fr_base.specs.declared.place.NodeId.TheVariants as node;
-ghost use Rattle.fr_event.specs.Step.{heard_by_storage};
-ghost use Rattle.fr_event.specs.declared.event.Event.TheVariants as event;
-ghost use Rattle.fr_event.specs.declared.not_enabled.NotEnabled.TheVariants as not_enabled;
-ghost use Rattle.fr_history.specs.Nodes as nodes;
-ghost use Rattle.fr_history.specs.Run.{IsHeardBy};
+ghost use Rattle.fr_run_event.specs.Step.{heard_by_storage};
+ghost use Rattle.fr_run_event.specs.declared.event.Event.TheVariants as event;
+ghost use Rattle.fr_run_event.specs.declared.not_enabled.NotEnabled.TheVariants as not_enabled;
+ghost use Rattle.fr_run.specs.Nodes as nodes;
+ghost use Rattle.fr_run.specs.Run.{IsHeardBy};
 ghost use Rattle.fr_world.specs.Stepping.{Steps, Refuses};
 ghost use Rattle.fr_world.specs.World.{state_of, stepped_by, IsKept};
 
 use crate::nodes::Nodes;
 use fr_ask::Tell;
 use fr_base::{NodeId, Tag, Version};
-use fr_event::laws::step_law;
-use fr_event::{Answer, NotEnabled};
+use fr_run_event::laws::step_law;
+use fr_run_event::{Answer, NotEnabled};
 use std::alloc::Global;
 
 impl Nodes {

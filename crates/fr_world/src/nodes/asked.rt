@@ -4,25 +4,25 @@ ghost use Rattle.std.specs.BTreeMap as tree;
 ghost use Rattle.fr_register.specs.Cell as cell;
 ghost use Rattle.fr_log.specs.Step as log;
 ghost use Rattle.fr_proxy.specs.Sequencer as seq;
-ghost use Rattle.fr_history.specs.Nodes as nodes;
-ghost use Rattle.fr_history.specs.Run.{IsTurn};
-ghost use Rattle.fr_history.specs.Turn as history;
-ghost use Rattle.fr_nodes.specs.Parts.{pair_cmp};
+ghost use Rattle.fr_run.specs.Nodes as nodes;
+ghost use Rattle.fr_run.specs.Run.{IsTurn};
+ghost use Rattle.fr_run.specs.Turn as history;
+ghost use Rattle.fr_world_nodes.specs.Parts.{pair_cmp};
 ghost use Rattle.fr_world.specs.World.{state_of, with_turn, IsKept};
 
 use super::Nodes;
 use fr_ask::{SeqAsk, SeqTell};
 use fr_base::{Epoch, LogId, Memory, NodeId, Version};
 use fr_epoch::laws::write_law;
-use fr_history::laws::node_laws;
 use fr_log::{Log, LogAsk, LogTell};
-use fr_nodes::cells::ask_cell;
-use fr_nodes::logs::{ask_log, keep_log};
-use fr_nodes::opened::{mark_version, new_log};
-use fr_nodes::sequencers::ask_sequencer;
-use fr_nodes::start;
 use fr_register::{CellAsk, CellTell};
-use fr_turns::Turn;
+use fr_run::laws::node_laws;
+use fr_world_nodes::cells::ask_cell;
+use fr_world_nodes::logs::{ask_log, keep_log};
+use fr_world_nodes::opened::{mark_version, new_log};
+use fr_world_nodes::sequencers::ask_sequencer;
+use fr_world_nodes::start;
+use fr_world_turns::Turn;
 use std::alloc::Global;
 
 impl Nodes {

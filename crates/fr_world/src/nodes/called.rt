@@ -5,22 +5,22 @@ ghost use Rattle.fr_proxy.specs.Proxy as proxy;
 ghost use Rattle.fr_proxy.specs.Proxy.{new_asks, number_ask, opened, outcome_of, submit_fault};
 ghost use Rattle.fr_proxy.specs.declared.fault.SubmitFault.TheVariants as SubmitFault;
 ghost use Rattle.fr_base.specs.declared.place.NodeId.TheVariants as node;
-ghost use Rattle.fr_history.specs.Nodes as nodes;
-ghost use Rattle.fr_history.specs.Run.{IsTurn, IsUp};
-ghost use Rattle.fr_history.specs.Turn as history;
-ghost use Rattle.fr_nodes.specs.Parts.{new_proxy, pair_cmp};
+ghost use Rattle.fr_run.specs.Nodes as nodes;
+ghost use Rattle.fr_run.specs.Run.{IsTurn, IsUp};
+ghost use Rattle.fr_run.specs.Turn as history;
+ghost use Rattle.fr_world_nodes.specs.Parts.{new_proxy, pair_cmp};
 ghost use Rattle.fr_world.specs.World.{state_of, with_turn, IsKept};
 
 use super::Nodes;
 use fr_ask::Tell;
 use fr_base::{Epoch, Memory, NodeId, Step, Version};
-use fr_history::laws::node_laws;
 use fr_mutation::Batch;
-use fr_nodes::called::{again, heard, room, taken};
-use fr_nodes::opened::first_proxy;
-use fr_nodes::proxies::{keep_proxy, submit, tell_proxy};
-use fr_nodes::start::first_epoch;
 use fr_proxy::{Outcome, Proxy, SubmitFault};
+use fr_run::laws::node_laws;
+use fr_world_nodes::called::{again, heard, room, taken};
+use fr_world_nodes::opened::first_proxy;
+use fr_world_nodes::proxies::{keep_proxy, submit, tell_proxy};
+use fr_world_nodes::start::first_epoch;
 use std::alloc::Global;
 
 impl Nodes {

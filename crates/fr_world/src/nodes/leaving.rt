@@ -1,13 +1,13 @@
 //! Nodes crash, or are lost.
 ghost use Rattle.std.specs.Prelude.{◌≡◌, OnErr, OnOk};
-ghost use Rattle.fr_history.specs.Run.{IsTurn};
-ghost use Rattle.fr_history.specs.Turn as history;
+ghost use Rattle.fr_run.specs.Run.{IsTurn};
+ghost use Rattle.fr_run.specs.Turn as history;
 ghost use Rattle.fr_world.specs.World.{state_of, with_turn, IsKept};
 
 use super::Nodes;
 use fr_base::{Memory, NodeId};
-use fr_history::laws::node_laws;
-use fr_turns::Turn;
+use fr_run::laws::node_laws;
+use fr_world_turns::Turn;
 
 impl Nodes {
     /// A sequencer, proxy or recoverer crashes, or a log is lost.

@@ -3,23 +3,23 @@ ghost use Rattle.std.specs.Prelude.{◌≡◌, false, true, length, nat_lt, is_s
 ghost use Rattle.std.specs.Option.{option_map};
 ghost use Rattle.fr_ask.specs.Named.{last_of_cell, last_of_log};
 ghost use Rattle.fr_base.specs.declared.place.NodeId.TheVariants as node;
-ghost use Rattle.fr_follows.specs.Safety.{IsSafe};
-ghost use Rattle.fr_history.specs.Nodes as nodes;
-ghost use Rattle.fr_last.specs.At.{last_at, proxy_if_there};
-ghost use Rattle.fr_last.specs.Last as last;
-ghost use Rattle.fr_nodes.specs.Parts.{server_of};
+ghost use Rattle.fr_run_headline.specs.Safety.{IsSafe};
+ghost use Rattle.fr_run.specs.Nodes as nodes;
+ghost use Rattle.fr_run_event.specs.At.{last_at, proxy_if_there};
+ghost use Rattle.fr_run_event.specs.Last as last;
+ghost use Rattle.fr_world_nodes.specs.Parts.{server_of};
 ghost use Rattle.fr_world.specs.World.{state_of, IsKept};
 
 use super::Nodes;
 use fr_ask::{Last, Named};
 use fr_base::{Ballot, Epoch, LogId, Memory, NodeId, Tag};
 use fr_epoch::Recoverer;
-use fr_follows::laws::safety_law;
-use fr_last::{last_of_proxy, last_of_recoverer};
-use fr_nodes::storages::last_of_copy;
 use fr_proxy::Proxy;
+use fr_run_event::{last_of_proxy, last_of_recoverer};
+use fr_run_headline::laws::safety_law;
 use fr_storage::Storage;
 use fr_undo::MapStore;
+use fr_world_nodes::storages::last_of_copy;
 use std::alloc::Global;
 
 impl Nodes {

@@ -2,18 +2,18 @@
 ghost use Rattle.std.specs.Prelude.{◌≡◌, IfSome, IsSome, OnErr, OnOk};
 ghost use Rattle.fr_epoch.specs.Asks.{new_asks, pending};
 ghost use Rattle.fr_epoch.specs.Recoverer.{new_recoverer};
-ghost use Rattle.fr_history.specs.Nodes.{rec_at};
-ghost use Rattle.fr_history.specs.Run.{IsTurn};
-ghost use Rattle.fr_history.specs.Turn as history;
+ghost use Rattle.fr_run.specs.Nodes.{rec_at};
+ghost use Rattle.fr_run.specs.Run.{IsTurn};
+ghost use Rattle.fr_run.specs.Turn as history;
 ghost use Rattle.fr_world.specs.World.{state_of, with_turn, IsKept};
 
 use super::Nodes;
 use fr_ask::Tell;
 use fr_base::{Ballot, Memory, NodeId};
 use fr_epoch::Recoverer;
-use fr_history::laws::node_laws;
-use fr_nodes::recoverers::{keep_recoverer, tell_recoverer};
-use fr_turns::Turn;
+use fr_run::laws::node_laws;
+use fr_world_nodes::recoverers::{keep_recoverer, tell_recoverer};
+use fr_world_turns::Turn;
 use std::alloc::Global;
 
 impl Nodes {

@@ -1,19 +1,19 @@
 //! Storage servers are told.
 ghost use Rattle.std.specs.Prelude.{◌≡◌, false, IfOk, IsTrue, None, OnErr, OnOk, Some};
 ghost use Rattle.fr_base.specs.declared.place.NodeId.TheVariants as node;
-ghost use Rattle.fr_event.specs.Step.{may_break};
-ghost use Rattle.fr_history.specs.Nodes as nodes;
-ghost use Rattle.fr_history.specs.Run.{fault_of, IsHeardBy, IsTurn};
-ghost use Rattle.fr_history.specs.Turn as history;
+ghost use Rattle.fr_run_event.specs.Step.{may_break};
+ghost use Rattle.fr_run.specs.Nodes as nodes;
+ghost use Rattle.fr_run.specs.Run.{fault_of, IsHeardBy, IsTurn};
+ghost use Rattle.fr_run.specs.Turn as history;
 ghost use Rattle.fr_world.specs.World.{state_of, with_turn, IsKept};
 
 use super::Nodes;
 use fr_ask::Tell;
 use fr_base::{Memory, NodeId, Tag, Version};
-use fr_history::laws::node_laws;
-use fr_nodes::storages::{Heard, break_server, tell_server};
+use fr_run::laws::node_laws;
 use fr_storage::StorageFault;
-use fr_turns::Turn;
+use fr_world_nodes::storages::{Heard, break_server, tell_server};
+use fr_world_turns::Turn;
 use std::alloc::Global;
 
 impl Nodes {

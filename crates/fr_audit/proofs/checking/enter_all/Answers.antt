@@ -1,5 +1,5 @@
 use Rattle.std.proofs.Common.{ap, sym, ◌∙◌}
-use Rattle.fr_journal.specs.Placed.{placed_of}
+use Rattle.fr_audit_journal.specs.Placed.{placed_of}
 use Rattle.fr_audit.specs.Checking.{after_this}
 use Rattle.fr_audit.proofs.Steps.{one_entered}
 use Rattle.fr_audit.proofs.checking.enter_all.Goals as goal

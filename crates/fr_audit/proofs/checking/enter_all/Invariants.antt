@@ -1,7 +1,7 @@
 use Rattle.std.proofs.Common.{◌≡◌, drop, None}
 use Rattle.std.specs.Prelude.{map}
-use Rattle.fr_journal.specs.Placed.{placed_of}
-use Rattle.fr_audit_rule.specs.Audited.{after_entries}
+use Rattle.fr_audit_journal.specs.Placed.{placed_of}
+use Rattle.fr_audit.specs.Audited.{after_entries}
 use Rattle.fr_audit.specs.Checking.{before_at}
 use Rattle.fr_audit.proofs.checking.enter_all.Given as goal
 

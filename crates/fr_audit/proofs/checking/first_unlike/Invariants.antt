@@ -1,5 +1,5 @@
 use Rattle.std.proofs.Common.{◌≡◌, ◌≤◌, drop, length}
-use Rattle.fr_audit_rule.specs.Audited.{first_unlike}
+use Rattle.fr_audit.specs.Audited.{first_unlike}
 use Rattle.fr_audit.proofs.checking.first_unlike.Given as goal
 
 abbrev pub decreases-loop-left : goal.decreases-loop-left

@@ -1,7 +1,7 @@
 use Rattle.std.proofs.Common.{◌≡◌, Some, ap, sym, ◌∙◌, arith}
 use Rattle.std.specs.Prelude.{map}
-use Rattle.fr_audit_rule.specs.Audited as rule
-use Rattle.fr_journal.specs.Placed.{placed_of}
+use Rattle.fr_audit.specs.Audited as rule
+use Rattle.fr_audit_journal.specs.Placed.{placed_of}
 use Rattle.fr_audit.specs.Checking.{before_at}
 use Rattle.fr_audit.proofs.Steps.{before_is}
 use Rattle.fr_audit.proofs.checking.is_repeated.Goals as goal

@@ -2,8 +2,8 @@ use denote.Param.Send.{param_sync, sendable}
 use Rattle.std.proofs.Common.{subst, sym}
 use Rattle.std.proofs.Crossing.{crosses}
 use Rattle.std.specs.Prelude.{IfOk, slice_index_or}
-use Rattle.fr_config.proofs.config.Config.TheSendSync as config
-use Rattle.fr_station.proofs.Sent.{directory-sync}
+use Rattle.fr_run_event.proofs.config.Config.TheSendSync as config
+use Rattle.fr_runtime_station.proofs.Sent.{directory-sync}
 use Rattle.fr_runtime.specs.Job.{Did}
 use Rattle.fr_runtime.proofs.Captures.{captures-sync}
 use Rattle.fr_runtime.proofs.job.run_jobs.Goals as goal

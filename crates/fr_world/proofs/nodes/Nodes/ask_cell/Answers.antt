@@ -1,13 +1,13 @@
 use Rattle.std.proofs.Common.{◌≡◌, ap, ◌∙◌, slice_index_or, slice_set, ◌∷◌}
 use Rattle.fr_register.specs.CellState.{fresh_cell}
 use Rattle.fr_register.specs.Cell as cell
-use Rattle.fr_history.specs.Nodes as nodes
-use Rattle.fr_history.specs.Turn as history
-use Rattle.fr_turns.specs.Turns.{turn_of}
+use Rattle.fr_run.specs.Nodes as nodes
+use Rattle.fr_run.specs.Turn as history
+use Rattle.fr_world_turns.specs.Turns.{turn_of}
 use Rattle.fr_world.specs.World.{WorldState}
-use Rattle.fr_turns.specs.declared.turn.Turn.TheVariants as code
-use Rattle.fr_nodes.proofs.Histories.{history_push}
-use Rattle.fr_nodes.proofs.Kept.{cell_entered, cell_told, cell_world}
+use Rattle.fr_world_turns.specs.declared.turn.Turn.TheVariants as code
+use Rattle.fr_world_nodes.proofs.Histories.{history_push}
+use Rattle.fr_world_nodes.proofs.Kept.{cell_entered, cell_told, cell_world}
 use Rattle.fr_world.proofs.nodes.Nodes.ask_cell.Goals as goal
 
 pub returns-clause-told : goal.returns-clause-told

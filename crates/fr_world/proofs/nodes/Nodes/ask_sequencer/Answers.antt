@@ -1,12 +1,12 @@
 use Rattle.std.proofs.Common.{◌≡◌, ap, ◌∙◌, ◌∷◌}
 use Rattle.fr_proxy.specs.Sequencer as seq
-use Rattle.fr_history.specs.Nodes as nodes
-use Rattle.fr_history.specs.Turn as history
-use Rattle.fr_turns.specs.Turns.{turn_of}
+use Rattle.fr_run.specs.Nodes as nodes
+use Rattle.fr_run.specs.Turn as history
+use Rattle.fr_world_turns.specs.Turns.{turn_of}
 use Rattle.fr_world.specs.World.{WorldState}
-use Rattle.fr_turns.specs.declared.turn.Turn.TheVariants as code
-use Rattle.fr_nodes.proofs.Histories.{history_push}
-use Rattle.fr_nodes.proofs.Asked.{seq_told, seq_world}
+use Rattle.fr_world_turns.specs.declared.turn.Turn.TheVariants as code
+use Rattle.fr_world_nodes.proofs.Histories.{history_push}
+use Rattle.fr_world_nodes.proofs.Asked.{seq_told, seq_world}
 use Rattle.fr_world.proofs.nodes.Nodes.ask_sequencer.Goals as goal
 
 -- the sequencer told it

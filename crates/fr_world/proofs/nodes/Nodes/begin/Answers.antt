@@ -1,12 +1,12 @@
 use Rattle.std.proofs.Common.{◌≡◌, ap, ◌∙◌, ◌∷◌}
 use Rattle.fr_epoch.specs.Asks.{pending}
 use Rattle.fr_epoch.specs.Recoverer.{new_recoverer}
-use Rattle.fr_history.specs.Turn as history
-use Rattle.fr_turns.specs.Turns.{turn_of}
+use Rattle.fr_run.specs.Turn as history
+use Rattle.fr_world_turns.specs.Turns.{turn_of}
 use Rattle.fr_world.specs.World.{WorldState}
-use Rattle.fr_turns.specs.declared.turn.Turn.TheVariants as code
-use Rattle.fr_nodes.proofs.Histories.{history_push}
-use Rattle.fr_nodes.proofs.Recovering.{begun_world}
+use Rattle.fr_world_turns.specs.declared.turn.Turn.TheVariants as code
+use Rattle.fr_world_nodes.proofs.Histories.{history_push}
+use Rattle.fr_world_nodes.proofs.Recovering.{begun_world}
 use Rattle.fr_world.proofs.nodes.Nodes.begin.Goals as goal
 
 -- it is the recoverer of the config

@@ -1,10 +1,10 @@
 use Rattle.std.proofs.Common.{◌≡◌, ap, ◌∙◌, refl, ◌∷◌}
-use Rattle.fr_history.specs.Turn as history
-use Rattle.fr_turns.specs.Turns.{turn_of}
+use Rattle.fr_run.specs.Turn as history
+use Rattle.fr_world_turns.specs.Turns.{turn_of}
 use Rattle.fr_world.specs.World.{WorldState}
-use Rattle.fr_turns.specs.declared.turn.Turn.TheVariants as code
-use Rattle.fr_nodes.proofs.Histories.{history_push}
-use Rattle.fr_nodes.proofs.Leaving.{crashed_world}
+use Rattle.fr_world_turns.specs.declared.turn.Turn.TheVariants as code
+use Rattle.fr_world_nodes.proofs.Histories.{history_push}
+use Rattle.fr_world_nodes.proofs.Leaving.{crashed_world}
 use Rattle.fr_world.proofs.nodes.Nodes.crash.Goals as goal
 
 -- the turn is entered

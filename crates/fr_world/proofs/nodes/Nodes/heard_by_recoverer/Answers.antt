@@ -1,6 +1,6 @@
 use Rattle.std.proofs.Common.{◌≡◌, true, sym, ◌∙◌}
 use Rattle.fr_base.specs.declared.place.NodeId.TheVariants as node
-use Rattle.fr_event.specs.Tests.{was_told}
+use Rattle.fr_run_event.specs.Tests.{was_told}
 use Rattle.fr_world.specs.World.{state_of}
 use Rattle.fr_world.proofs.Hears.{heard_may}
 use Rattle.fr_world.proofs.nodes.Nodes.heard_by_recoverer.Goals as goal

@@ -1,4 +1,4 @@
-use Rattle.fr_nodes.proofs.Lasts.{cell_read}
+use Rattle.fr_world_nodes.proofs.Lasts.{cell_read}
 use Rattle.fr_world.proofs.nodes.Nodes.last_of_cell.Goals as goal
 
 pub returns-in_ok-last-in-Some : goal.returns-in_ok-last-in-Some

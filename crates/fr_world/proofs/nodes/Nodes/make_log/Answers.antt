@@ -1,7 +1,7 @@
 use Rattle.std.proofs.Common.{rules, ◌≡◌, None}
 use Rattle.std.specs.BTreeMap as tree
-use Rattle.fr_nodes.specs.Parts.{pair_cmp}
-use Rattle.fr_nodes.proofs.Asked.{made_world}
+use Rattle.fr_world_nodes.specs.Parts.{pair_cmp}
+use Rattle.fr_world_nodes.proofs.Asked.{made_world}
 use Rattle.fr_world.proofs.nodes.Nodes.make_log.Goals as goal
 
 pub returns-clause-stays : goal.returns-clause-stays

@@ -1,7 +1,7 @@
 use Rattle.std.proofs.Common.{◌≡◌, ap, sym, ◌∙◌}
 use Rattle.std.specs.Ordering.{nat_cmp}
 use Rattle.std.specs.BTreeMap as tree
-use Rattle.fr_nodes.proofs.Asked.{has_room}
+use Rattle.fr_world_nodes.proofs.Asked.{has_room}
 use Rattle.fr_world.proofs.nodes.Nodes.mark_version.Goals as goal
 
 pub mark_version-requires : goal.mark_version-requires

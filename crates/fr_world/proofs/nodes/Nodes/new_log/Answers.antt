@@ -1,8 +1,8 @@
 use Rattle.std.proofs.Common.{◌≡◌, ◌==◌, ap, sym, ◌∙◌}
 use Rattle.std.specs.Ordering.{nat_cmp}
 use Rattle.std.specs.BTreeMap as tree
-use Rattle.fr_history.specs.Config.{first_epoch}
-use Rattle.fr_nodes.proofs.Asked.{there_in}
+use Rattle.fr_run.specs.Config.{first_epoch}
+use Rattle.fr_world_nodes.proofs.Asked.{there_in}
 use Rattle.fr_world.proofs.nodes.Nodes.new_log.Goals as goal
 
 pub new_log-requires : goal.new_log-requires

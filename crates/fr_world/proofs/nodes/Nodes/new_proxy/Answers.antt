@@ -3,7 +3,7 @@ use Rattle.std.specs.Prelude.{IfSome}
 use Rattle.fr_proxy.specs.Proxy as proxy
 use Rattle.std.specs.Ordering.{nat_cmp}
 use Rattle.std.specs.BTreeMap as tree
-use Rattle.fr_history.specs.Config.{first_epoch}
+use Rattle.fr_run.specs.Config.{first_epoch}
 use Rattle.fr_world.proofs.Called.{open_plan, made_proxy}
 use Rattle.fr_world.proofs.nodes.Nodes.new_proxy.Goals as goal
 

@@ -1,11 +1,11 @@
 use Rattle.std.proofs.Common.{◌≡◌, ap, ◌∙◌, [], ◌∷◌, None, refl}
 use Rattle.fr_base.specs.declared.place.NodeId.TheVariants as node
 use Rattle.fr_proxy.specs.Proxy as proxy
-use Rattle.fr_history.specs.Nodes.{proxy_at}
-use Rattle.fr_history.specs.Turn.{Submitted}
-use Rattle.fr_turns.specs.Turns.{turn_of}
+use Rattle.fr_run.specs.Nodes.{proxy_at}
+use Rattle.fr_run.specs.Turn.{Submitted}
+use Rattle.fr_world_turns.specs.Turns.{turn_of}
 use Rattle.fr_world.specs.World.{WorldState, state_of, with_turn}
-use Rattle.fr_nodes.proofs.Histories.{history_push}
+use Rattle.fr_world_nodes.proofs.Histories.{history_push}
 use Rattle.fr_world.proofs.Called.{proxy_is, may_take, up_open, up_same, taken_in, taken_entered, taken_world}
 use Rattle.fr_world.proofs.nodes.Nodes.submit.Goals as goal
 

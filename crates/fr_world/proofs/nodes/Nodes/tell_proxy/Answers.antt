@@ -1,10 +1,10 @@
 use Rattle.std.proofs.Common.{◌≡◌, ap, ◌∙◌, ◌∷◌}
 use Rattle.fr_proxy.specs.Proxy as proxy
-use Rattle.fr_history.specs.Nodes.{proxy_at}
-use Rattle.fr_history.specs.Turn.{ProxyHeard}
-use Rattle.fr_turns.specs.Turns.{turn_of}
+use Rattle.fr_run.specs.Nodes.{proxy_at}
+use Rattle.fr_run.specs.Turn.{ProxyHeard}
+use Rattle.fr_world_turns.specs.Turns.{turn_of}
 use Rattle.fr_world.specs.World.{WorldState, state_of, with_turn}
-use Rattle.fr_nodes.proofs.Histories.{history_push}
+use Rattle.fr_world_nodes.proofs.Histories.{history_push}
 use Rattle.fr_world.proofs.Called.{heard_in, heard_open, heard_same, heard_says, heard_entered, heard_world}
 use Rattle.fr_world.proofs.nodes.Nodes.tell_proxy.Goals as goal
 

@@ -1,14 +1,14 @@
 use Rattle.std.proofs.Common.{◌≡◌, None, ap, ◌∙◌, length, ◌∷◌}
 use Rattle.std.proofs.lemmas.Bool.{ltb-true}
-use Rattle.fr_history.specs.Nodes as nodes
-use Rattle.fr_history.specs.Run.{fault_of}
-use Rattle.fr_history.specs.Turn as history
-use Rattle.fr_nodes.specs.Parts.{server_of}
-use Rattle.fr_turns.specs.Turns.{turn_of}
+use Rattle.fr_run.specs.Nodes as nodes
+use Rattle.fr_run.specs.Run.{fault_of}
+use Rattle.fr_run.specs.Turn as history
+use Rattle.fr_world_nodes.specs.Parts.{server_of}
+use Rattle.fr_world_turns.specs.Turns.{turn_of}
 use Rattle.fr_world.specs.World.{WorldState}
-use Rattle.fr_turns.specs.declared.turn.Turn.TheVariants as code
-use Rattle.fr_nodes.proofs.Histories.{history_push}
-use Rattle.fr_nodes.proofs.Served.{server_there, storage_entered, storage_world}
+use Rattle.fr_world_turns.specs.declared.turn.Turn.TheVariants as code
+use Rattle.fr_world_nodes.proofs.Histories.{history_push}
+use Rattle.fr_world_nodes.proofs.Served.{server_there, storage_entered, storage_world}
 use Rattle.fr_world.proofs.nodes.Nodes.tell_storage.Goals as goal
 
 -- the server that is told works

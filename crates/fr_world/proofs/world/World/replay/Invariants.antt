@@ -1,5 +1,5 @@
 use Rattle.std.proofs.Common.{◌≡◌, drop}
-use Rattle.fr_event.specs.Step.{replay, replay_from}
+use Rattle.fr_run_event.specs.Step.{replay, replay_from}
 use Rattle.fr_world.proofs.world.World.replay.Given as goal
 
 -- the world is that of the events so far: with those that are left it is as from the start

@@ -1,5 +1,5 @@
 use Rattle.std.proofs.Common.{subst}
-use Rattle.fr_follows.specs.Safety.{IsGrownFrom, IsSafe}
+use Rattle.fr_run_headline.specs.Safety.{IsGrownFrom, IsSafe}
 use Rattle.fr_world.specs.World.{WorldState, state_of}
 use Rattle.fr_world.proofs.Grows.{is_config, grown}
 use Rattle.fr_world.proofs.world.World.step.Goals as goal

@@ -1,0 +1,87 @@
+-- What an audit of journals answers: the turns of their run, or the first fault.
+use Rattle.std.specs.Prelude.{ℕ, ◌+◌, Bool, false, List, [], ◌∷◌, Option, None, Some, Result, Ok, Err, if◌then◌else◌}
+use Rattle.std.specs.Ordering.{is_eq, is_lt}
+use Rattle.fr_base.specs.Node.{node_cmp}
+use Rattle.fr_base.specs.declared.place.NodeId.{NodeId}
+use Rattle.fr_ask.specs.Last.{is_same_last}
+use Rattle.fr_ask.specs.declared.last.Last.{Last}
+use Rattle.fr_run.specs.Config.{Config}
+use Rattle.fr_run.specs.Turn.{Turn}
+use Rattle.fr_run_event.specs.Step.{answer_of, turn_of}
+use Rattle.fr_run_event.specs.declared.event.Event.{Event}
+use Rattle.fr_run_event.specs.declared.not_enabled.NotEnabled.{NotEnabled}
+use Rattle.fr_run_event.specs.At.{last_at}
+use Rattle.fr_audit_journal.specs.Journal.{JournalState}
+use Rattle.fr_audit_journal.specs.Merge.{Placed, merged, place_cmp}
+use Rattle.fr_audit.specs.Entry.{event_of, says}
+use Rattle.fr_audit.specs.declared.fault.AuditFault.{AuditFault}
+use Rattle.fr_audit.specs.declared.fault.AuditFault.TheVariants.{NotARun, TellDiffers, StateDiffers}
+
+-- ---- one entry
+
+abbrev pub turn_in : Result Turn NotEnabled → Option Turn
+turn_in (Ok t) = Some t
+turn_in (Err why) = None
+
+abbrev pub turn_if : Config → List Turn → Option Event → Option Turn
+turn_if c h None = None
+turn_if c h (Some event) = turn_in (turn_of c h event)
+
+-- the turn that an entry is, where it is an event that can happen
+abbrev pub turn_at : Config → List Turn → Placed → Option Turn
+turn_at c h p = turn_if c h (event_of p.node p.entry.act)
+
+-- whether two entries have one stamp and one node
+abbrev pub is_same_place : Placed → Placed → Bool
+is_same_place p q = is_eq (place_cmp p q)
+
+-- whether an entry has the stamp and the node of the one before
+abbrev pub is_repeated : Option Placed → Placed → Bool
+is_repeated None p = false
+is_repeated (Some q) p = is_same_place q p
+
+abbrev pub with_turn : List Turn → ℕ → Placed → Option Turn → Result (List Turn) AuditFault
+with_turn h at p None = Err (NotARun at)
+with_turn h at p (Some t) = if says p.entry.act (answer_of t) then Ok (t ∷ h) else Err (TellDiffers at)
+
+-- the turns after an entry, which has this number and follows that entry; or its fault
+abbrev pub after_entry : Config → List Turn → Option Placed → ℕ → Placed → Result (List Turn) AuditFault
+after_entry c h before at p = if is_repeated before p then Err (NotARun at) else with_turn h at p (turn_at c h p)
+
+-- ---- all entries
+
+abbrev pub then_on : Result (List Turn) AuditFault → (List Turn → Result (List Turn) AuditFault) → Result (List Turn) AuditFault
+then_on (Ok h) go = go h
+then_on (Err fault) go = Err fault
+
+abbrev pub after_entries : Config → List Turn → Option Placed → ℕ → List Placed → Result (List Turn) AuditFault
+after_entries c h before at [] = Ok h
+after_entries c h before at (p ∷ ps) = then_on (after_entry c h before at p) (λ later. after_entries c later (Some p) (at + 1) ps)
+
+-- ---- last states
+
+abbrev pub is_this_last : Option Last → Option Last → Bool
+is_this_last (Some a) (Some b) = is_same_last a b
+is_this_last a b = false
+
+-- whether a journal was closed with the last state of its node
+abbrev pub is_closed : Config → List Turn → JournalState → Bool
+is_closed c h j = is_this_last (last_at c h j.node) j.last
+
+abbrev pub lesser : NodeId → Option NodeId → NodeId
+lesser a None = a
+lesser a (Some b) = if is_lt (node_cmp b a) then b else a
+
+-- the first node whose journal was not closed with its last state
+abbrev pub first_unlike : Config → List Turn → List JournalState → Option NodeId
+first_unlike c h [] = None
+first_unlike c h (j ∷ js) = if is_closed c h j then first_unlike c h js else Some (lesser j.node (first_unlike c h js))
+
+abbrev pub with_lasts : List Turn → Option NodeId → Result (List Turn) AuditFault
+with_lasts h None = Ok h
+with_lasts h (Some who) = Err (StateDiffers who)
+
+-- ---- the whole
+
+abbrev pub audited : Config → List JournalState → Result (List Turn) AuditFault
+audited c js = then_on (after_entries c [] None 0 (merged js)) (λ h. with_lasts h (first_unlike c h js))

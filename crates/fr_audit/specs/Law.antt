@@ -1,0 +1,84 @@
+-- That an audit is without fault exactly for runs, and that a fault is the first one.
+use Rattle.std.specs.Prelude.{◌≡◌, ◌⊎◌, ℕ, true, false, List, [], ◌∷◌, ◌++◌, length, Option, None, Some, Ok, Err}
+use Rattle.std.specs.Ordering.{is_lt}
+use Rattle.fr_base.specs.Node.{node_cmp}
+use Rattle.fr_base.specs.declared.place.NodeId.{NodeId}
+use Rattle.fr_run.specs.Config.{Config}
+use Rattle.fr_run.specs.Turn.{Turn}
+use Rattle.fr_run_event.specs.Step.{answer_of}
+use Rattle.fr_audit_journal.specs.Journal.{JournalState}
+use Rattle.fr_audit_journal.specs.Merge.{Placed, merged}
+use Rattle.fr_audit.specs.Audited.{audited, is_closed, is_repeated, turn_at}
+use Rattle.fr_audit.specs.Entry.{says}
+use Rattle.fr_audit.specs.Run.{AreApart, Happen, IsRunOf}
+use Rattle.fr_audit.specs.declared.fault.AuditFault.TheVariants.{NotARun, TellDiffers, StateDiffers}
+
+-- without fault: the journals are a run, and these are its turns
+abbrev pub OkIsRun : Type 0
+OkIsRun = (c : Config) (js : List JournalState) (h : List Turn) → audited c js ≡ Ok h → IsRunOf c js h
+
+abbrev pub RunIsOk : Type 0
+RunIsOk = (c : Config) (js : List JournalState) (h : List Turn) → IsRunOf c js h → audited c js ≡ Ok h
+
+-- ---- the first fault
+
+-- no entry has the stamp and the node of the one before it
+abbrev pub AreUnrepeated : Option Placed → List Placed → Type 0
+AreUnrepeated before [] = Unit {0}
+AreUnrepeated before (p ∷ ps) = (is_repeated before p ≡ false) × AreUnrepeated (Some p) ps
+
+-- the last of some entries
+abbrev pub last_of : Option Placed → List Placed → Option Placed
+last_of before [] = before
+last_of before (p ∷ ps) = last_of (Some p) ps
+
+-- the entry of this number, in order of places: each before it has another place than the one before that, and they happen
+pub record IsReached (c : Config) (entries : List Placed) (at : ℕ) : Type 0 where
+  pub before : List Placed
+  pub entry : Placed
+  pub after : List Placed
+  pub entries_are : entries ≡ before ++ (entry ∷ after)
+  pub number_is : at ≡ length before
+  pub unrepeated : AreUnrepeated None before
+  pub turns : List Turn
+  pub happen : Happen c [] before turns
+
+-- the first entry with a fault has the place of the one before, or is no event that can happen
+pub record IsNoRunAt (c : Config) (js : List JournalState) (at : ℕ) : Type 0 where
+  pub reached : IsReached c (merged js) at
+  pub cause : (is_repeated (last_of None reached.before) reached.entry ≡ true) ⊎ (turn_at c reached.turns reached.entry ≡ None)
+
+abbrev pub NotARunIsFirst : Type 0
+NotARunIsFirst = (c : Config) (js : List JournalState) (at : ℕ) → audited c js ≡ Err (NotARun at) → IsNoRunAt c js at
+
+-- the first entry with a fault happens, and does not say what the world answers
+pub record IsToldElse (c : Config) (js : List JournalState) (at : ℕ) : Type 0 where
+  pub reached : IsReached c (merged js) at
+  pub unrepeated : is_repeated (last_of None reached.before) reached.entry ≡ false
+  pub turn : Turn
+  pub happens : turn_at c reached.turns reached.entry ≡ Some turn
+  pub differs : says reached.entry.entry.act (answer_of turn) ≡ false
+
+abbrev pub TellDiffersIsFirst : Type 0
+TellDiffersIsFirst = (c : Config) (js : List JournalState) (at : ℕ) → audited c js ≡ Err (TellDiffers at) → IsToldElse c js at
+
+-- a journal of a node is among these, and was not closed with that node's last state
+abbrev pub IsUnlikeIn : Config → List Turn → NodeId → List JournalState → Type 0
+IsUnlikeIn c h who [] = ⊥
+IsUnlikeIn c h who (j ∷ js) = ((j.node ≡ who) × (is_closed c h j ≡ false)) ⊎ IsUnlikeIn c h who js
+
+-- and none such is of a node before
+abbrev pub NoneBefore : Config → List Turn → NodeId → List JournalState → Type 0
+NoneBefore c h who [] = Unit {0}
+NoneBefore c h who (j ∷ js) = (is_closed c h j ≡ false → is_lt (node_cmp j.node who) ≡ false) × NoneBefore c h who js
+
+-- all entries happen, and this is the first node whose journal was not closed with its last state
+pub record IsFirstUnlike (c : Config) (js : List JournalState) (who : NodeId) : Type 0 where
+  pub apart : AreApart (merged js)
+  pub turns : List Turn
+  pub happen : Happen c [] (merged js) turns
+  pub unlike : IsUnlikeIn c turns who js
+  pub first : NoneBefore c turns who js
+
+abbrev pub StateDiffersIsFirst : Type 0
+StateDiffersIsFirst = (c : Config) (js : List JournalState) (who : NodeId) → audited c js ≡ Err (StateDiffers who) → IsFirstUnlike c js who

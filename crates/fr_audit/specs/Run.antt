@@ -1,0 +1,63 @@
+-- What it means that journals are a run of a config.
+use Rattle.std.specs.Prelude.{◌≡◌, ◌≢◌, List, [], ◌∷◌, Some, Ok}
+use Rattle.fr_run.specs.Config.{Config}
+use Rattle.fr_run.specs.Turn.{Turn}
+use Rattle.fr_run_event.specs.Step.{answer_of, turn_of}
+use Rattle.fr_run_event.specs.declared.answer.Answer.{Answer}
+use Rattle.fr_run_event.specs.declared.answer.Answer.TheVariants as answer
+use Rattle.fr_run_event.specs.declared.event.Event.{Event}
+use Rattle.fr_run_event.specs.At.{last_at}
+use Rattle.fr_ask.specs.declared.last.Last.{Last}
+use Rattle.fr_audit_journal.specs.Journal.{JournalState}
+use Rattle.fr_audit_journal.specs.Merge.{Placed, merged, place_numbers}
+use Rattle.fr_audit_journal.specs.declared.act.Act.{Act}
+use Rattle.fr_audit_journal.specs.declared.act.Act.TheVariants.{Asked, Heard, Submitted, Begun, Crashed, Lost}
+use Rattle.fr_audit.specs.Entry.{event_of, outcome_in}
+
+-- an act says what the world answers: what was told, and the outcome of what was heard
+abbrev pub Says : Act → Answer → Type 0
+Says (Asked from ask tell) a = a ≡ answer.Told tell
+Says (Heard from tell taken o) a = outcome_in a ≡ o
+Says (Submitted step batch) a = Unit {0}
+Says Begun a = Unit {0}
+Says Crashed a = Unit {0}
+Says Lost a = Unit {0}
+
+-- an entry is an event that can happen, is this turn, and says what that answers
+pub record IsTurnOf (c : Config) (h : List Turn) (p : Placed) (t : Turn) : Type 0 where
+  pub event : Event
+  pub is_event : event_of p.node p.entry.act ≡ Some event
+  pub can_happen : turn_of c h event ≡ Ok t
+  pub says : Says p.entry.act (answer_of t)
+
+-- entries happen in turn, and make turns of earlier ones
+abbrev pub Happen : Config → List Turn → List Placed → List Turn → Type 0
+Happen c h [] later = h ≡ later
+Happen c h (p ∷ ps) later = (t : Turn) × (IsTurnOf c h p t × Happen c (t ∷ h) ps later)
+
+-- none of these has the stamp and the node of an entry
+abbrev pub IsApart : Placed → List Placed → Type 0
+IsApart p [] = Unit {0}
+IsApart p (q ∷ ps) = (place_numbers p ≢ place_numbers q) × IsApart p ps
+
+-- no two have one stamp and one node
+abbrev pub AreApart : List Placed → Type 0
+AreApart [] = Unit {0}
+AreApart (p ∷ ps) = IsApart p ps × AreApart ps
+
+-- a journal was closed with the last state of its node
+pub record IsClosed (c : Config) (h : List Turn) (j : JournalState) : Type 0 where
+  pub last : Last
+  pub of_node : last_at c h j.node ≡ Some last
+  pub closed : j.last ≡ Some last
+
+abbrev pub AreClosed : Config → List Turn → List JournalState → Type 0
+AreClosed c h [] = Unit {0}
+AreClosed c h (j ∷ js) = IsClosed c h j × AreClosed c h js
+
+-- journals are a run of a config, with these turns: sorted by stamp and node, no two of their entries have one place, each happens in
+-- turn, with the tells and outcomes that the world gives, and each journal was closed with its node's last state
+pub record IsRunOf (c : Config) (js : List JournalState) (h : List Turn) : Type 0 where
+  pub apart : AreApart (merged js)
+  pub happen : Happen c [] (merged js) h
+  pub closed : AreClosed c h js

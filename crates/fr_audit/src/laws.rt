@@ -1,0 +1,15 @@
+//! Laws of audits.
+ghost use Rattle.fr_audit.specs.Law.{NotARunIsFirst, OkIsRun, RunIsOk, StateDiffersIsFirst, TellDiffersIsFirst};
+
+use fr_audit_journal::laws::merge_law;
+
+/// An audit has no fault exactly where the journals are a run, with its turns; and a fault is the first one.
+pub fn audit_law()
+    ensures run { OkIsRun }
+    ensures ok { RunIsOk }
+    ensures not_a_run { NotARunIsFirst }
+    ensures tell_differs { TellDiffersIsFirst }
+    ensures state_differs { StateDiffersIsFirst }
+{
+    merge_law();
+}

@@ -1,5 +1,0 @@
-mod Sayings
-mod Places
-mod Entries
-mod Lasts
-mod Audits

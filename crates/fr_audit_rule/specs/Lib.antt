@@ -1,4 +1,0 @@
-pub mod Entry
-pub mod Audited
-pub mod Run
-pub mod Law

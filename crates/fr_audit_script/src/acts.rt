@@ -1,0 +1,132 @@
+//! What nodes do.
+use crate::asks::{read_ask, read_tell, write_ask, write_tell};
+use crate::fault::ScriptFault;
+use crate::fields::{Fields, bare, variant, version_of};
+use crate::names;
+use crate::nodes::{read_node, write_node};
+use crate::object::{Object, bare_named, numbered};
+use crate::sequencers::read_step;
+use crate::values::{read_batch, write_batch};
+use fr_ask::{Ask, Tell};
+use fr_audit_journal::Act;
+use fr_base::{Memory, NodeId, Version};
+use fr_proxy::Outcome;
+use serde_json::Value;
+use std::alloc::Global;
+
+pub(crate) fn read_act(alloc: Global, value: Value) -> Result<Act, ScriptFault> {
+    let (name, content) = variant(value)?;
+    match name.as_str() {
+        names::ASKED => read_asked(alloc, &mut Fields::new(content, 3)),
+        names::HEARD => read_heard(alloc, &mut Fields::new(content, 4)),
+        names::SUBMITTED => read_submitted(alloc, &mut Fields::new(content, 2)),
+        names::BEGUN => bare(&content, Act::Begun),
+        names::CRASHED => bare(&content, Act::Crashed),
+        names::LOST => bare(&content, Act::Lost),
+        _ => Err(ScriptFault::BadScript),
+    }
+}
+
+fn read_asked(alloc: Global, fields: &mut Fields) -> Result<Act, ScriptFault> {
+    let from = read_node(fields.take(names::FROM)?)?;
+    let ask = read_ask(alloc, fields.take(names::ASK)?)?;
+    let tell = read_tell(alloc, fields.take(names::TELL)?)?;
+    Ok(Act::Asked { from, ask, tell })
+}
+
+fn read_heard(alloc: Global, fields: &mut Fields) -> Result<Act, ScriptFault> {
+    let from = read_node(fields.take(names::FROM)?)?;
+    let taken = read_taken(fields.value(names::TAKEN)?)?;
+    let outcome = read_outcome(fields.take(names::OUTCOME)?)?;
+    let tell = read_tell(alloc, fields.take(names::TELL)?)?;
+    Ok(Act::Heard {
+        from,
+        tell,
+        taken,
+        outcome,
+    })
+}
+
+fn read_submitted(alloc: Global, fields: &mut Fields) -> Result<Act, ScriptFault> {
+    let step = read_step(fields)?;
+    let batch = read_batch(alloc, fields.take(names::BATCH)?)?;
+    Ok(Act::Submitted { step, batch })
+}
+
+/// The version at which a hear broke off, or null.
+fn read_taken(value: &Value) -> Result<Option<Version>, ScriptFault> {
+    if value.is_null() {
+        return Ok(None);
+    }
+    Ok(Some(version_of(value)?))
+}
+
+/// An outcome, or null.
+fn read_outcome(value: Value) -> Result<Option<Outcome>, ScriptFault> {
+    if value.is_null() {
+        return Ok(None);
+    }
+    let (name, content) = variant(value)?;
+    match name.as_str() {
+        names::WAITING => bare(&content, Some(Outcome::Waiting)),
+        names::COMMITTED => {
+            let version = Fields::new(content, 1).version(names::VERSION)?;
+            Ok(Some(Outcome::Committed { version }))
+        }
+        names::ENDED => bare(&content, Some(Outcome::Ended)),
+        _ => Err(ScriptFault::BadScript),
+    }
+}
+
+pub(crate) fn write_act(alloc: Global, act: &Act) -> Result<Value, Memory> {
+    match act {
+        Act::Asked { from, ask, tell } => write_asked(alloc, from, ask, tell),
+        Act::Heard {
+            from,
+            tell,
+            taken,
+            outcome,
+        } => Object::new(alloc)
+            .with(names::TAKEN, write_taken(taken))?
+            .with(names::OUTCOME, write_outcome(alloc, outcome)?)?
+            .with(names::FROM, write_node(alloc, from)?)?
+            .with(names::TELL, write_tell(alloc, tell)?)?
+            .named(names::HEARD),
+        Act::Submitted { step, batch } => Object::of(alloc, &[(names::STEP, step.get())])?
+            .with(names::BATCH, write_batch(alloc, batch)?)?
+            .named(names::SUBMITTED),
+        Act::Begun => bare_named(alloc, names::BEGUN),
+        Act::Crashed => bare_named(alloc, names::CRASHED),
+        Act::Lost => bare_named(alloc, names::LOST),
+    }
+}
+
+fn write_asked(alloc: Global, from: &NodeId, ask: &Ask, tell: &Tell) -> Result<Value, Memory> {
+    Object::new(alloc)
+        .with(names::FROM, write_node(alloc, from)?)?
+        .with(names::ASK, write_ask(alloc, ask)?)?
+        .with(names::TELL, write_tell(alloc, tell)?)?
+        .named(names::ASKED)
+}
+
+fn write_taken(taken: &Option<Version>) -> Value {
+    match taken {
+        Some(version) => Value::from(version.get()),
+        None => Value::Null,
+    }
+}
+
+fn write_outcome(alloc: Global, outcome: &Option<Outcome>) -> Result<Value, Memory> {
+    let Some(outcome) = outcome else {
+        return Ok(Value::Null);
+    };
+    match outcome {
+        Outcome::Waiting => bare_named(alloc, names::WAITING),
+        Outcome::Committed { version } => numbered(
+            alloc,
+            names::COMMITTED,
+            &[(names::VERSION, version.get())],
+        ),
+        Outcome::Ended => bare_named(alloc, names::ENDED),
+    }
+}

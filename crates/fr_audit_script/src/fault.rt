@@ -1,0 +1,43 @@
+//! Why a text is no script.
+use fr_base::Memory as NoMemory;
+use fr_cli_apply::CliFault;
+use std::alloc::{AllocError, AllocFailed};
+use thiserror::Error;
+
+/// Why no script was read. Their numbers are 1 and 2, in the order of these variants.
+#[derive(Clone, Copy, Debug, PartialEq, Eq, Error)]
+pub enum ScriptFault {
+    /// The text is no JSON, or no script of an audit.
+    #[error("bad script")]
+    BadScript,
+    /// There is no memory.
+    #[error("out of memory")]
+    Memory,
+}
+
+impl From<AllocError> for ScriptFault {
+    fn from(_error: AllocError) -> ScriptFault {
+        ScriptFault::Memory
+    }
+}
+
+impl<T: Drop> From<AllocFailed<T>> for ScriptFault {
+    fn from(_error: AllocFailed<T>) -> ScriptFault {
+        ScriptFault::Memory
+    }
+}
+
+impl From<NoMemory> for ScriptFault {
+    fn from(_error: NoMemory) -> ScriptFault {
+        ScriptFault::Memory
+    }
+}
+
+impl From<CliFault> for ScriptFault {
+    fn from(fault: CliFault) -> ScriptFault {
+        match fault {
+            CliFault::Memory => ScriptFault::Memory,
+            CliFault::BadScript | CliFault::Input | CliFault::Output => ScriptFault::BadScript,
+        }
+    }
+}

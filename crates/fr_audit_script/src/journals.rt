@@ -1,0 +1,74 @@
+//! Journals.
+use crate::acts::{read_act, write_act};
+use crate::fault::ScriptFault;
+use crate::fields::{Fields, items};
+use crate::lasts::{read_last, write_last};
+use crate::names;
+use crate::nodes::{read_node, write_node};
+use crate::object::Object;
+use fr_audit_journal::{Entry, Journal, JournalFault};
+use fr_base::{Memory, Stamp};
+use serde_json::Value;
+use std::alloc::Global;
+
+/// A journal. One whose stamps do not rise is no script.
+pub(crate) fn read_journal(alloc: Global, fields: &mut Fields) -> Result<Journal, ScriptFault> {
+    let node = read_node(fields.take(names::NODE)?)?;
+    let entries = items(fields.take(names::ENTRIES)?)?;
+    let mut journal = Journal::new(alloc, node);
+    for entry in entries {
+        enter(&mut journal, read_entry(alloc, &mut Fields::new(entry, 2))?)?;
+    }
+    if let Some(last) = read_last(alloc, fields.take(names::LAST)?)? {
+        journal.close(last);
+    }
+    Ok(journal)
+}
+
+fn enter(journal: &mut Journal, entry: Entry) -> Result<(), ScriptFault> {
+    match journal.push(entry) {
+        Ok(()) => Ok(()),
+        Err(JournalFault::NotRising) => Err(ScriptFault::BadScript),
+        Err(JournalFault::Memory) => Err(ScriptFault::Memory),
+    }
+}
+
+fn read_entry(alloc: Global, fields: &mut Fields) -> Result<Entry, ScriptFault> {
+    let stamp = Stamp::new(fields.number(names::STAMP)?).ok_or(ScriptFault::BadScript)?;
+    let act = read_act(alloc, fields.take(names::ACT)?)?;
+    Ok(Entry { stamp, act })
+}
+
+pub(crate) fn write_journal(alloc: Global, journal: &Journal) -> Result<Value, Memory> {
+    Ok(
+        Object::new(alloc)
+            .with(names::NODE, write_node(alloc, &journal.node())?)?
+            .with(names::ENTRIES, write_entries(alloc, journal.entries())?)?
+            .with(names::LAST, write_last_in(alloc, journal)?)?
+            .value(),
+    )
+}
+
+fn write_last_in(alloc: Global, journal: &Journal) -> Result<Value, Memory> {
+    match journal.last() {
+        Some(last) => write_last(alloc, last),
+        None => Ok(Value::Null),
+    }
+}
+
+fn write_entries(alloc: Global, entries: &[Entry]) -> Result<Value, Memory> {
+    let mut items = Vec::with_capacity(alloc, entries.len())?;
+    for entry in entries {
+        items.push(write_entry(alloc, entry)?)?;
+    }
+    Ok(Value::Array(items))
+}
+
+fn write_entry(alloc: Global, entry: &Entry) -> Result<Value, Memory> {
+    let act = write_act(alloc, &entry.act)?;
+    Ok(
+        Object::of(alloc, &[(names::STAMP, entry.stamp.get())])?
+            .with(names::ACT, act)?
+            .value(),
+    )
+}

@@ -1,0 +1,109 @@
+//! The command `apply`.
+ghost use Rattle.std.specs.Prelude.{◌≡◌};
+ghost use Rattle.fr_undo.specs.State.{fresh};
+ghost use Rattle.fr_cli_apply.specs.Calls.{no_calls, HasCause};
+ghost use Rattle.fr_cli_apply.specs.Command.{Prints};
+ghost use Rattle.fr_cli_apply.specs.Script.{script_of};
+ghost use Rattle.fr_cli_apply.specs.Lines.{lines_of};
+
+use crate::calls::CallCounts;
+use crate::fault::CliFault;
+use crate::input::read_input;
+use crate::operations::{run_in_memory, run_on};
+use crate::script::read_script;
+use fr_undo::ShardStore;
+use std::alloc::Global;
+use std::io::{Read, Write};
+
+/// What a store keeps its rows in.
+#[derive(Clone, Copy, Debug, PartialEq, Eq)]
+pub enum StoreKind {
+    /// A map in memory.
+    Map,
+}
+
+/// The options of `apply`.
+#[derive(Clone, Copy, Debug, PartialEq, Eq)]
+pub struct ApplyOptions {
+    /// The store that the operations run on.
+    pub store: StoreKind,
+}
+
+/// Runs the operations of a script on an empty store, and writes a line for each and then the rows.
+///
+/// The status is 0. A script is read whole before its first line is written, so what is no script
+/// writes nothing. A store that fails ends the command as want of memory does.
+pub fn run_apply<R: Read, W: Write>(
+    alloc: Global,
+    options: ApplyOptions,
+    reader: &mut R,
+    writer: &mut W,
+) -> Result<u8, CliFault>
+    ensures prints { Prints script_of lines_of (R.remaining reader.old) (R.remaining reader.new)
+        W.contents writer.old writer.new result }
+{
+    let mut calls = CallCounts::new();
+    apply_counted(alloc, options, &mut calls, reader, writer)
+}
+
+/// As [`run_apply`], on a store with nothing applied, which then holds what the operations made. What the
+/// store keeps its rows in changes no line.
+pub fn run_apply_on<S: ShardStore, R: Read, W: Write>(
+    alloc: Global,
+    store: &mut S,
+    reader: &mut R,
+    writer: &mut W,
+) -> Result<u8, CliFault>
+    requires empty { S.state store.old ≡ fresh }
+    ensures prints { Prints script_of lines_of (R.remaining reader.old) (R.remaining reader.new)
+        W.contents writer.old writer.new result }
+{
+    let mut calls = CallCounts::new();
+    apply_counted_on(alloc, store, &mut calls, reader, writer)
+}
+
+/// As [`run_apply`], with the calls of the reader and of the writer counted in `calls`, which has none
+/// yet: `Input` is answered only where a read failed or 2^30 of them found no end, `Output` only where
+/// a write or a flush failed.
+pub fn apply_counted<R: Read, W: Write>(
+    alloc: Global,
+    options: ApplyOptions,
+    calls: &mut CallCounts,
+    reader: &mut R,
+    writer: &mut W,
+) -> Result<u8, CliFault>
+    requires fresh { calls.old ≡ no_calls }
+    ensures prints { Prints script_of lines_of (R.remaining reader.old) (R.remaining reader.new)
+        W.contents writer.old writer.new result }
+    ensures cause { HasCause calls.new result }
+{
+    let input = read_input(alloc, calls, reader)?;
+    let script = read_script(alloc, input)?;
+    match options.store {
+        StoreKind::Map => run_in_memory(alloc, script, calls, writer)?,
+    }
+    calls.flush(writer)?;
+    Ok(0)
+}
+
+/// As [`apply_counted`], on a store with nothing applied, which then holds what the operations made. What
+/// the store keeps its rows in changes no line.
+pub fn apply_counted_on<S: ShardStore, R: Read, W: Write>(
+    alloc: Global,
+    store: &mut S,
+    calls: &mut CallCounts,
+    reader: &mut R,
+    writer: &mut W,
+) -> Result<u8, CliFault>
+    requires empty { S.state store.old ≡ fresh }
+    requires fresh { calls.old ≡ no_calls }
+    ensures prints { Prints script_of lines_of (R.remaining reader.old) (R.remaining reader.new)
+        W.contents writer.old writer.new result }
+    ensures cause { HasCause calls.new result }
+{
+    let bytes = read_input(alloc, calls, reader)?;
+    let operations = read_script(alloc, bytes)?;
+    run_on(alloc, store, operations, calls, writer)?;
+    calls.flush(writer)?;
+    Ok(0)
+}

@@ -1,0 +1,153 @@
+//! The operations of a script, run on a store.
+ghost use Rattle.std.specs.Prelude.{◌≡◌, IfOk, IfErr, OnOk, Some, None, MatchResult, string_bytes, option_map};
+ghost use Rattle.std.specs.Io.KnownBytes.{Appends};
+ghost use Rattle.std.specs.FinMap as map;
+ghost use Rattle.fr_undo.specs.State.{fresh};
+ghost use Rattle.fr_cli_apply.specs.Text.{GainsFront, Owes};
+ghost use Rattle.fr_cli_apply.specs.Calls.{IsWriteFault};
+ghost use Rattle.fr_cli_apply.specs.Plan.{plan_lines, plan_outcome};
+ghost use Rattle.fr_cli_apply.specs.Lines.{ok_line, line_of as line_text, row_lines, state_after, name_in, name_of};
+
+use crate::calls::CallCounts;
+use crate::fault::CliFault;
+use crate::output::{put, put_rows, put_tree};
+use crate::plan::Planned;
+use fr_undo::{MapStore, ShardStore, StoreFault};
+use std::alloc::{AllocError, Global};
+use std::io::Write;
+
+/// Runs operations on an empty store in memory, and writes a line for each and then the rows.
+pub(crate) fn run_in_memory<W: Write>(
+    alloc: Global,
+    operations: Vec<Planned>,
+    calls: &mut CallCounts,
+    writer: &mut W,
+) -> Result<(), CliFault>
+    ensures ok { OnOk result (Appends (W.contents writer.old) (W.contents writer.new) (plan_lines fresh operations.items)) }
+    ensures front { GainsFront (W.contents writer.old) (W.contents writer.new) (plan_lines fresh operations.items) }
+    ensures fault { IfErr result (λ e. IsWriteFault calls.new e) }
+    ensures done { OnOk result (calls.new ≡ calls.old) }
+{
+    let mut store = MapStore::new(alloc);
+    run_operations(alloc, &mut store, operations, calls, writer)?;
+    put_tree(alloc, store.rows(), calls, writer)
+}
+
+/// Runs operations on a store, and writes a line for each and then the rows.
+pub(crate) fn run_on<S: ShardStore, W: Write>(
+    alloc: Global,
+    store: &mut S,
+    operations: Vec<Planned>,
+    calls: &mut CallCounts,
+    writer: &mut W,
+) -> Result<(), CliFault>
+    ensures ok { OnOk result (Appends (W.contents writer.old) (W.contents writer.new) (plan_lines (S.state store.old) operations.items)) }
+    ensures front { GainsFront (W.contents writer.old) (W.contents writer.new) (plan_lines (S.state store.old) operations.items) }
+    ensures fault { IfErr result (λ e. IsWriteFault calls.new e) }
+    ensures done { OnOk result (calls.new ≡ calls.old) }
+{
+    run_operations(alloc, store, operations, calls, writer)?;
+    put_contents(alloc, store, calls, writer)
+}
+
+/// Runs operations on a store, and writes a line for each. What is left to be written then is the rows.
+fn run_operations<S: ShardStore, W: Write>(
+    alloc: Global,
+    store: &mut S,
+    operations: Vec<Planned>,
+    calls: &mut CallCounts,
+    writer: &mut W,
+) -> Result<(), CliFault>
+    ensures ok { OnOk result (Owes (W.contents writer.old) (W.contents writer.new) (row_lines (map.entries (S.state store.new).contents)) (plan_lines (S.state store.old) operations.items)) }
+    ensures front { GainsFront (W.contents writer.old) (W.contents writer.new) (plan_lines (S.state store.old) operations.items) }
+    ensures fault { IfErr result (λ e. IsWriteFault calls.new e) }
+    ensures done { OnOk result (calls.new ≡ calls.old) }
+{
+    for operation in operations {
+        let line = line_of(alloc, store, operation)?;
+        put(calls, writer, line.as_str())?;
+    }
+    Ok(())
+}
+
+/// Runs an operation, and gives its line.
+fn line_of<S: ShardStore>(
+    alloc: Global,
+    store: &mut S,
+    operation: Planned,
+) -> Result<String, CliFault>
+    ensures ok { IfOk result (λ line. string_bytes line ≡ line_text (plan_outcome (S.state store.old) operation)) }
+    ensures state { OnOk result (S.state store.new ≡ state_after (S.state store.old) (plan_outcome (S.state store.old) operation)) }
+    ensures fault { IfErr result (λ e. e ≡ CliFault.Memory) }
+{
+    match run_operation(alloc, store, operation)? {
+        None => Ok(ok_line(alloc, store)?),
+        Some(name) => Ok(format!(in alloc; "refused {name}\n")?),
+    }
+}
+
+/// Runs an operation, and gives the name of its refusal where it is refused.
+fn run_operation<S: ShardStore>(
+    alloc: Global,
+    store: &mut S,
+    operation: Planned,
+) -> Result<Option<&'static str>, CliFault>
+    ensures ok { IfOk result (λ name. option_map (λ s. s.now) name ≡ name_in (plan_outcome (S.state store.old) operation)) }
+    ensures state { OnOk result (S.state store.new ≡ state_after (S.state store.old) (plan_outcome (S.state store.old) operation)) }
+    ensures fault { IfErr result (λ e. e ≡ CliFault.Memory) }
+{
+    let taken = match operation {
+        Planned::Apply { version, batch } => store.apply(alloc, version, &batch),
+        Planned::Beyond { fault } => return Ok(Some(fault.name())),
+        Planned::Undo { to } => store.undo_to(alloc, to),
+        Planned::Forget { through } => store.forget_through(alloc, through),
+        Planned::Advance { version } => store.advance(version),
+    };
+    match taken {
+        Ok(()) => Ok(None),
+        Err(fault) => Ok(Some(refusal_of(fault)?)),
+    }
+}
+
+/// The name of a refusal. A store that found no memory, or failed, refused nothing.
+fn refusal_of(fault: StoreFault) -> Result<&'static str, CliFault>
+    ensures { MatchResult result (λ name. name_of fault ≡ Some name.now)
+        (λ e. (e ≡ CliFault.Memory) × (name_of fault ≡ None)) }
+{
+    match fault {
+        StoreFault::NotAfter | StoreFault::BelowFloor | StoreFault::AboveApplied => {
+            Ok(fault.name())
+        }
+        StoreFault::Device | StoreFault::Full | StoreFault::Failed | StoreFault::Memory => {
+            Err(CliFault::Memory)
+        }
+    }
+}
+
+/// The line of an operation that was done.
+fn ok_line<S: ShardStore>(alloc: Global, store: &S) -> Result<String, AllocError>
+    ensures { IfOk result (λ line. string_bytes line ≡ ok_line (S.state store.now)) }
+{
+    let applied = store.applied().get();
+    let floor = store.floor().get();
+    let rows = store.undo_rows();
+    format!(in alloc; "ok {applied} floor {floor} undo {rows}\n")
+}
+
+/// Writes the rows of a store, by key.
+fn put_contents<S: ShardStore, W: Write>(
+    alloc: Global,
+    store: &mut S,
+    calls: &mut CallCounts,
+    writer: &mut W,
+) -> Result<(), CliFault>
+    ensures ok { OnOk result (Appends (W.contents writer.old) (W.contents writer.new) (row_lines (map.entries (S.state store.old).contents))) }
+    ensures front { GainsFront (W.contents writer.old) (W.contents writer.new) (row_lines (map.entries (S.state store.old).contents)) }
+    ensures fault { IfErr result (λ e. IsWriteFault calls.new e) }
+    ensures done { OnOk result (calls.new ≡ calls.old) }
+{
+    match store.dump(alloc) {
+        Ok(rows) => put_rows(alloc, rows, calls, writer),
+        Err(_) => Err(CliFault::Memory),
+    }
+}

@@ -1,4 +1,0 @@
-pub mod Limits
-pub mod Tests
-pub mod Step
-pub mod Law

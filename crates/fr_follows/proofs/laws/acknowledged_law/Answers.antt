@@ -1,5 +1,0 @@
-use Rattle.fr_follows.proofs.Acknowledging.{acknowledged_has_batch}
-use Rattle.fr_follows.proofs.laws.acknowledged_law.Goals as goal
-
-pub returns : goal.returns
-returns c = record { batches = acknowledged_has_batch c.lower_laws.ensures }

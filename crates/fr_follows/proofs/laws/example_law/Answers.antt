@@ -1,6 +1,0 @@
-use Rattle.fr_follows.proofs.Example.{rollback_happens}
-use Rattle.fr_follows.proofs.Recoveries.{survives_two_recoveries}
-use Rattle.fr_follows.proofs.laws.example_law.Goals as goal
-
-pub returns : goal.returns
-returns c = record { rollback = rollback_happens; survives = survives_two_recoveries }

@@ -1,8 +1,0 @@
-use Rattle.fr_follows.proofs.Following.{storages_follow, hears_are_taken}
-use Rattle.fr_follows.proofs.Exact.{every_storage_follows}
-use Rattle.fr_follows.proofs.laws.follow_law.Goals as goal
-
-pub returns : goal.returns
-returns c =
-    let laws = c.lower_laws.ensures in
-    record { storages = storages_follow laws; exact = every_storage_follows laws; taken = hears_are_taken laws }

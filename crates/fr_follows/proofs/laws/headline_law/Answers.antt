@@ -1,8 +1,0 @@
-use Rattle.fr_follows.proofs.Retrieving.{committed_is_retrievable}
-use Rattle.fr_follows.proofs.Standing.{headline}
-use Rattle.fr_follows.proofs.laws.headline_law.Goals as goal
-
-pub returns : goal.returns
-returns c =
-    let laws = c.lower_laws.ensures in
-    record { undo = c.inverse_law.ensures; headline = headline laws; retrievable = committed_is_retrievable laws }

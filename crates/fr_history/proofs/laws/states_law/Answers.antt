@@ -1,7 +1,0 @@
-use Rattle.fr_history.proofs.States.{recoverers_have_states, chosen_is_front}
-use Rattle.fr_history.proofs.laws.states_law.Goals as goal
-
-pub returns : goal.returns
-returns c =
-    let laws = c.node_laws.ensures in
-    record { states = recoverers_have_states laws; front = chosen_is_front laws }

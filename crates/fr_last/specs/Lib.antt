@@ -1,3 +1,0 @@
-pub mod Phase
-pub mod Last
-pub mod At

@@ -1,9 +1,0 @@
-use Rattle.fr_log_file.proofs.Group.{run_is_read}
-use Rattle.fr_log_file.proofs.Runs.{read_is_run}
-use Rattle.fr_log_file.proofs.laws.run_law.Goals as goal
-
-pub returns : goal.returns
-returns c = record {
-  read = run_is_read c.spelling_is_read.ensures c.spelling_law.ensures.again;
-  run = read_is_run;
-}

@@ -1,7 +1,0 @@
-use Rattle.std.proofs.Common.{ℕ, ◌<◌, get_or}
-use Rattle.fr_log_file.specs.Limits.{IsSoundBody}
-use Rattle.fr_log_file.proofs.limits.bodies_within_limits.Given as goal
-
--- what is true of those that were seen
-abbrev pub invariant-loop-body : goal.invariant-loop-body
-invariant-loop-body l = (k : ℕ) (d : _) → k < l.body-index → IsSoundBody (get_or l.bodies k d)

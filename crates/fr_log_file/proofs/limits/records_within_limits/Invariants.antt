@@ -1,7 +1,0 @@
-use Rattle.std.proofs.Common.{ℕ, ◌<◌, get_or}
-use Rattle.fr_log_file.specs.Limits.{IsSoundRecord}
-use Rattle.fr_log_file.proofs.limits.records_within_limits.Given as goal
-
--- what is true of those that were seen
-abbrev pub invariant-loop-record : goal.invariant-loop-record
-invariant-loop-record l = (k : ℕ) (d : _) → k < l.record-index → IsSoundRecord (get_or l.records k d)

@@ -1,0 +1,9 @@
+use Rattle.fr_record_log.proofs.Group.{run_is_read}
+use Rattle.fr_record_log.proofs.Runs.{read_is_run}
+use Rattle.fr_record_log.proofs.laws.run_law.Goals as goal
+
+pub returns : goal.returns
+returns c = record {
+  read = run_is_read c.spelling_is_read.ensures c.spelling_law.ensures.again;
+  run = read_is_run;
+}

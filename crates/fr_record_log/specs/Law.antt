@@ -1,0 +1,28 @@
+-- The file of a run of asks.
+use Rattle.std.specs.Prelude.{◌≡◌, ℕ, List, [], ◌∷◌, ◌++◌, All, Some}
+use Rattle.fr_log.specs.declared.ask.LogAsk.{LogAsk}
+use Rattle.fr_log.specs.LogState.{LogState, fresh_log}
+use Rattle.fr_log.specs.Step.{next_of}
+use Rattle.fr_log.specs.Law.{after_all}
+use Rattle.fr_record_node.specs.Replay.{replayed}
+use Rattle.fr_record_log.specs.Limits.{IsSoundAsk}
+use Rattle.fr_record_log.specs.Spelling.{written_log}
+use Rattle.fr_record_log.specs.LogFile.{replay_log, IsSoundLog}
+
+-- the records of asks, one after another
+abbrev pub written_all : LogState → List LogAsk → List (List ℕ)
+written_all l [] = []
+written_all l (a ∷ asks) = written_log l a ++ written_all (next_of l a) asks
+
+-- the records of every list of asks lead a log where the asks do
+abbrev pub RunIsRead : Type 0
+RunIsRead =
+    (l : LogState) (asks : List LogAsk) → IsSoundLog l → All IsSoundAsk asks
+    → replayed replay_log (Some l) (written_all l asks) ≡ Some (after_all l asks)
+
+-- what a file is read as, some asks make of a log that was never asked
+abbrev pub ReadIsRun : Type 0
+ReadIsRun =
+    (epoch index m k : ℕ) (records : List (List ℕ)) (l : LogState)
+    → replayed replay_log (Some (fresh_log epoch index m k)) records ≡ Some l
+    → (asks : List LogAsk) × (after_all (fresh_log epoch index m k) asks ≡ l)

@@ -1,0 +1,15 @@
+//! The law of the files of logs.
+ghost use Rattle.fr_record_log.specs.Law.{RunIsRead, ReadIsRun};
+
+use fr_mutation::spelling_is_read;
+use fr_state::spelling_law;
+
+/// The records of every list of asks lead a log where the asks do; and what the records of a file lead a log
+/// to that was never asked, some asks make of it.
+pub fn run_law()
+    ensures read { RunIsRead }
+    ensures run { ReadIsRun }
+{
+    spelling_is_read();
+    spelling_law();
+}

@@ -1,0 +1,197 @@
+//! The changes of a log as records of its file.
+ghost use Rattle.std.specs.Prelude.{◌≡◌, Err, None, Some, OnOk, OnErr};
+ghost use Rattle.fr_record_node.specs.declared.fault.ReadFault.{ReadFault};
+ghost use Rattle.fr_record_log.specs.declared.change.Change.{Change};
+ghost use Rattle.fr_record_log.specs.LogFile.{taken, IsSoundLog};
+
+use crate::change::Change;
+use crate::limits::{ask_within_limits, log_within_limits};
+use crate::reading::change_at;
+use crate::spelling::spelled_ask;
+use fr_base::{Machine, Memory};
+use fr_log::laws::place_law;
+use fr_log::{Log, LogAsk, LogTell, Place, SeedRecord};
+use fr_mutation::spelling_is_read;
+use fr_record_node::{ReadFault, Recorded};
+use fr_state::spelling_law;
+use std::alloc::Global;
+use std::marker::Model;
+
+/// A log whose changes are records of a file. Contracts see the log.
+#[derive(Drop)]
+pub(crate) struct FileLog {
+    log: Log,
+}
+
+impl Model for FileLog {
+    ghost use Rattle.fr_log.specs.LogState.{LogState};
+
+    ghost Value = { LogState };
+
+    ghost view = { λ f. f.log };
+}
+
+impl FileLog {
+    /// This log.
+    pub(crate) fn new(log: Log) -> Self
+        ensures { result ≡ log }
+    {
+        FileLog { log }
+    }
+
+    /// The log.
+    pub(crate) fn log(&self) -> &Log
+        ensures { result.now ≡ self.now }
+    {
+        &self.log
+    }
+}
+
+impl Machine for FileLog {
+    ghost use Rattle.fr_log.specs.Step.{answer_of, next_of, IsAnsweredInPlace};
+    ghost use Rattle.std.specs.Prelude.{⊤};
+    ghost use Rattle.fr_log.specs.StepLaws.{log_high_water, repeats};
+
+    type Ask = LogAsk;
+
+    type Tell = LogTell;
+
+    ghost IsReached = { λ _. ⊤ };
+
+    ghost told = { answer_of };
+
+    ghost after = { next_of };
+
+    ghost high_water = { log_high_water };
+
+    ghost TakesNone = { IsAnsweredInPlace };
+
+    ghost stays_reached = { λ l a h. record {} };
+
+    ghost told_again = { λ l a h. (repeats l a).told };
+
+    ghost after_again = { λ l a h. (repeats l a).after };
+
+    ghost never_back = { λ l a h. (repeats l a).high };
+
+    fn step(&mut self, alloc: Global, ask: LogAsk) -> Result<LogTell, Memory> {
+        self.log.step(alloc, ask)
+    }
+}
+
+/// Where a log stood before an ask, and a copy of the ask.
+#[derive(Drop)]
+pub(crate) struct LogPlace {
+    place: Place,
+    ask: LogAsk,
+}
+
+/// Takes an ask that changes the log.
+fn take_ask(log: &mut Log, alloc: Global, ask: LogAsk) -> Result<(), ReadFault>
+    ensures ok { OnOk result (taken log.old (Change.Asked ask) ≡ Some log.new) }
+    ensures broken { (result ≡ Err ReadFault.Broken) → taken log.old (Change.Asked ask) ≡ None }
+    ensures err { OnErr result (log.new ≡ log.old) }
+    ensures sound { IsSoundLog log.new }
+{
+    log_within_limits(log);
+    if !log.is_changed_by(&ask) {
+        return Err(ReadFault::Broken);
+    }
+    match log.step(alloc, ask) {
+        Ok(_) => {
+            log_within_limits(log);
+            Ok(())
+        }
+        Err(_) => Err(ReadFault::Memory),
+    }
+}
+
+/// Takes one record more into the seed.
+fn take_seeded(log: &mut Log, next: SeedRecord) -> Result<(), ReadFault>
+    ensures ok { OnOk result (taken log.old (Change.Seeded next) ≡ Some log.new) }
+    ensures broken { (result ≡ Err ReadFault.Broken) → taken log.old (Change.Seeded next) ≡ None }
+    ensures err { OnErr result (log.new ≡ log.old) }
+    ensures sound { IsSoundLog log.new }
+{
+    log_within_limits(log);
+    match log.take_seeded(next) {
+        Ok(true) => {
+            log_within_limits(log);
+            Ok(())
+        }
+        Ok(false) => Err(ReadFault::Broken),
+        Err(_) => Err(ReadFault::Memory),
+    }
+}
+
+impl Recorded for FileLog {
+    ghost use Rattle.std.specs.Prelude.{◌≡◌};
+    ghost use Rattle.fr_log.specs.Chain.{IsLog};
+    ghost use Rattle.fr_log.specs.Place.{place_of};
+    ghost use Rattle.fr_record_log.specs.Spelling.{written_log};
+    ghost use Rattle.fr_record_log.specs.LogFile.{fresh_of, replay_log, IsSoundLog, LeadsBack};
+    ghost use Rattle.fr_record_log.specs.LogFileLaws.{stays_sound, same_fresh, same_read};
+
+    type Place = LogPlace;
+
+    ghost fresh = { fresh_of };
+
+    ghost replay = { replay_log };
+
+    ghost written = { written_log };
+
+    ghost IsSound = { IsSoundLog };
+
+    ghost IsAsk = { LeadsBack };
+
+    ghost IsPlaceOf = { λ l a p. IsLog l × (p.place ≡ place_of l) × (p.ask ≡ a) };
+
+    ghost replays = { λ l a sound leads. leads l sound };
+
+    ghost stays_sound = { λ l a sound leads. stays_sound l a sound };
+
+    ghost same_fresh = { same_fresh };
+
+    ghost same_read = { same_read };
+
+    fn records(&self, alloc: Global, ask: &LogAsk) -> Result<Vec<Vec<u8>>, Memory> {
+        spelling_is_read();
+        spelling_law();
+        ask_within_limits(ask);
+        log_within_limits(&self.log);
+        if self.log.is_changed_by(ask) {
+            spelled_ask(alloc, &self.log, ask)
+        } else {
+            Ok(Vec::new(alloc))
+        }
+    }
+
+    fn place(&self, _alloc: Global, ask: &LogAsk) -> Result<LogPlace, Memory> {
+        Ok(LogPlace {
+            place: self.log.place(),
+            ask: ask.copy()?,
+        })
+    }
+
+    fn go_back(&mut self, place: LogPlace) -> LogAsk {
+        place_law();
+        self.log.go_back(place.place);
+        place.ask
+    }
+
+    fn copy_ask(_alloc: Global, ask: &LogAsk) -> Result<LogAsk, Memory> {
+        ask.copy()
+    }
+
+    fn read(&mut self, alloc: Global, change: &[u8]) -> Result<(), ReadFault> {
+        log_within_limits(&self.log);
+        let change = match change_at(alloc, &self.log, change) {
+            Ok(change) => change,
+            Err(fault) => return Err(fault),
+        };
+        match change {
+            Change::Asked(ask) => take_ask(&mut self.log, alloc, ask),
+            Change::Seeded(next) => take_seeded(&mut self.log, next),
+        }
+    }
+}

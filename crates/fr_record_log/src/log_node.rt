@@ -1,0 +1,132 @@
+//! Logs over devices.
+ghost use Rattle.std.specs.Prelude.{◌≡◌, ◌≢◌, ◌⊎◌, ◌↔◌, ◌<◌, ◌≤◌, [], List, ℕ, None, Some, Err, IfOk, IfErr, false};
+ghost use Rattle.fr_log.specs.LogState.{fresh_log};
+ghost use Rattle.fr_record.specs.File.{StandsFor};
+ghost use Rattle.fr_record.specs.Failing.{FailsOnceMore};
+ghost use Rattle.fr_record_node.specs.Replay.{replayed};
+ghost use Rattle.fr_record_log.specs.LogFile.{replay_log};
+
+use crate::limits::log_within_limits;
+use crate::log_file::FileLog;
+use fr_base::{LogId, Machine, Node, NodeFault, Reopened};
+use fr_device::Device;
+use fr_log::{Log, LogAsk, LogTell};
+use fr_record_node::FileNode;
+use fr_tags::MAX_LOGS;
+use std::alloc::Global;
+use std::marker::Model;
+
+/// A log whose seed, pushes and lock outlast every crash: an ask is answered only once its records are on
+/// the device, and one that changes nothing makes no call of it. A push costs its own length, reading the
+/// log back the length of its file. Contracts see the device, the records of its file, and the log.
+#[derive(Drop)]
+pub struct LogNode<D: Device> {
+    node: FileNode<FileLog, D>,
+}
+
+impl<D: Device> Model for LogNode<D> {
+    ghost use Rattle.fr_log.specs.LogState.{LogState};
+    ghost use Rattle.fr_log.specs.declared.ask.LogAsk.{LogAsk};
+    ghost use Rattle.fr_record_node.specs.Node.{NodeState};
+
+    ghost Value = { NodeState D LogState LogAsk };
+
+    ghost view = { λ n. n.node };
+}
+
+/// A log that was never asked.
+fn fresh(alloc: Global, id: LogId, m: u8, k: u8) -> FileLog
+    requires some { 1 ≤ k }
+    requires fits { k ≤ m }
+    requires limit { m ≤ MAX_LOGS }
+    requires place { id.index < m }
+    ensures { result ≡ fresh_log id.epoch id.index m k }
+{
+    FileLog::new(Log::new(alloc, id, m, k))
+}
+
+impl<D: Device> LogNode<D> {
+    /// A log that was never asked, of a generation of `m` logs on `k` of which each tag stands, over a
+    /// device that it is the only one to use.
+    pub fn format(alloc: Global, device: D, id: LogId, m: u8, k: u8) -> Result<Self, NodeFault>
+        requires some { 1 ≤ k }
+        requires fits { k ≤ m }
+        requires limit { m ≤ MAX_LOGS }
+        requires place { id.index < m }
+        ensures log { IfOk result (λ node. node.machine ≡ fresh_log id.epoch id.index m k) }
+        ensures records { IfOk result (λ node. node.records ≡ []) }
+        ensures works { IfOk result (λ node. node.is_failed ≡ false) }
+        ensures full { (result ≡ Err NodeFault.Full) ↔ (D.capacity_of device < 1) }
+        ensures only_device { IfErr result (λ fault. (fault ≡ NodeFault.Device) ⊎ (fault ≡ NodeFault.Full)) }
+        ensures device { (result ≡ Err NodeFault.Device) → FailsOnceMore D.failures_of device }
+    {
+        let log = fresh(alloc, id, m, k);
+        log_within_limits(log.log());
+        match FileNode::format(alloc, device, log) {
+            Ok(node) => Ok(LogNode { node }),
+            Err(fault) => Err(fault),
+        }
+    }
+
+    /// The log whose file a device holds, whatever a crash made of it. `Broken` where the device holds no
+    /// record file, or one of records that no run of a log of this id, `m` and `k` writes.
+    pub fn open(alloc: Global, device: D, id: LogId, m: u8, k: u8) -> Result<Self, NodeFault>
+        requires some { 1 ≤ k }
+        requires fits { k ≤ m }
+        requires limit { m ≤ MAX_LOGS }
+        requires place { id.index < m }
+        ensures records { IfOk result (λ node. StandsFor (D.disk device).content node.records) }
+        ensures replays { IfOk result (λ node. replayed replay_log (Some (fresh_log id.epoch id.index m k)) node.records ≡ Some node.machine) }
+        ensures works { IfOk result (λ node. node.is_failed ≡ false) }
+        ensures broken { (result ≡ Err NodeFault.Broken) → (records : List (List ℕ)) → StandsFor (D.disk device).content records → replayed replay_log (Some (fresh_log id.epoch id.index m k)) records ≡ None }
+        ensures device { (result ≡ Err NodeFault.Device) → FailsOnceMore D.failures_of device }
+        ensures never_full { result ≢ Err NodeFault.Full }
+        ensures never_failed { result ≢ Err NodeFault.Failed }
+    {
+        let log = fresh(alloc, id, m, k);
+        log_within_limits(log.log());
+        match FileNode::open(alloc, device, log) {
+            Ok(node) => Ok(LogNode { node }),
+            Err(fault) => Err(fault),
+        }
+    }
+
+    /// Gives the device back.
+    pub fn into_device(self) -> D
+        ensures { result ≡ self.device }
+    {
+        self.node.into_device()
+    }
+}
+
+impl<D: Device> Node for LogNode<D> {
+    ghost use Rattle.std.specs.Prelude.{IsTrue};
+    ghost use Rattle.fr_device.specs.Moments as moments;
+    ghost use Rattle.fr_record_node.specs.Replay.{Opens};
+    ghost use Rattle.fr_record_node.specs.Node.{is_trouble};
+    ghost use Rattle.fr_record_log.specs.LogFile.{fresh_of, replay_log};
+
+    type Plain = Log;
+
+    ghost state = { λ n. n.machine };
+
+    ghost is_failed = { λ n. n.is_failed };
+
+    ghost held = { λ n. n.held };
+
+    ghost Throughout = { λ P n later. moments.Throughout D.Led D.disk (Opens replay_log (fresh_of n.machine) P) n.device later.device };
+
+    ghost CanMeet = { λ fault. IsTrue (is_trouble fault) };
+
+    fn serve(&mut self, alloc: Global, ask: LogAsk) -> Result<LogTell, NodeFault> {
+        self.node.serve(alloc, ask)
+    }
+
+    fn reopen(&mut self, alloc: Global) -> Result<Reopened, NodeFault> {
+        self.node.reopen(alloc)
+    }
+
+    fn plain(&self) -> &Log {
+        self.node.plain().log()
+    }
+}

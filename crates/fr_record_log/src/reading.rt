@@ -1,0 +1,303 @@
+//! What the bytes of a record of a log are read as.
+ghost use Rattle.std.specs.Prelude.{◌≡◌, ◌<◌, ◌^◌, ◌++◌, ◌∷◌, [], IfOk, IfErr, OnOk};
+ghost use Rattle.fr_record_node.specs.declared.fault.ReadFault.{ReadFault};
+ghost use Rattle.fr_record_log.specs.Reading.{Finds, byte_at, bytes_at, number_at, length_at, version_at, tag_at, batch_of, state_of, text_at, bodies_of, numbers_at, push_of, mark_of, own_at, head_of, seeded_of, change_at};
+
+use crate::change::Change;
+use crate::spelling::{HEAD, LOCK, MARK, PUSH, SEEDED};
+use fr_base::{Epoch, Tag, Version};
+use fr_log::{Log, LogAsk, Push, Seed, SeedRecord};
+use fr_mutation::{Batch, DecodeFault, decode};
+use fr_record_node::ReadFault;
+use fr_state::{CoordState, DecodeFault as StateFault, decode as decode_state};
+use fr_tags::Body;
+use std::alloc::Global;
+
+/// The numbers of a push.
+#[derive(Clone, Copy)]
+pub(crate) struct Numbers {
+    prev: u64,
+    version: u64,
+    known: u64,
+}
+
+/// A byte, and what follows it.
+fn byte_at(bytes: &[u8]) -> Result<(u8, &[u8]), ReadFault>
+    ensures { Finds (λ x. (x.0, x.1.now)) result (byte_at bytes.now) }
+{
+    match bytes {
+        [] => Err(ReadFault::Broken),
+        [byte, rest @ ..] => Ok((*byte, rest)),
+    }
+}
+
+/// So many bytes, and what follows them.
+fn bytes_at(len: usize, bytes: &[u8]) -> Result<(&[u8], &[u8]), ReadFault>
+    ensures { Finds (λ x. (x.0.now, x.1.now)) result (bytes_at len bytes.now) }
+{
+    bytes.split_at_checked(len).ok_or(ReadFault::Broken)
+}
+
+/// A number of eight bytes, and what follows it.
+#[tactic(auto, unfolding(crate::specs::Reading::number_at))]
+fn number_at(bytes: &[u8]) -> Result<(u64, &[u8]), ReadFault>
+    ensures { Finds (λ x. (x.0, x.1.now)) result (number_at bytes.now) }
+{
+    let (front, rest) = bytes.split_first_chunk::<8>().ok_or(ReadFault::Broken)?;
+    Ok((u64::from_be_bytes(*front), rest))
+}
+
+/// A length of four bytes, and what follows it.
+#[tactic(auto, unfolding(crate::specs::Reading::length_at))]
+fn length_at(bytes: &[u8]) -> Result<(usize, &[u8]), ReadFault>
+    ensures { Finds (λ x. (x.0, x.1.now)) result (length_at bytes.now) }
+{
+    let (front, rest) = bytes.split_first_chunk::<4>().ok_or(ReadFault::Broken)?;
+    Ok((u32::from_be_bytes(*front) as usize, rest))
+}
+
+/// The number of a version, and what follows it.
+#[tactic(auto, unfolding(crate::specs::Reading::version_at))]
+fn version_at(bytes: &[u8]) -> Result<(u64, &[u8]), ReadFault>
+    ensures found { Finds (λ x. (x.0, x.1.now)) result (version_at bytes.now) }
+    ensures within { IfOk result (λ x. x.0 < 2 ^ 62) }
+{
+    let (number, rest) = number_at(bytes)?;
+    if number < 1 << 62 {
+        Ok((number, rest))
+    } else {
+        Err(ReadFault::Broken)
+    }
+}
+
+/// The version of a number.
+fn version_of(number: u64) -> Version
+    requires { number < 2 ^ 62 }
+    ensures { result ≡ number }
+{
+    match Version::new(number) {
+        Some(version) => version,
+        None => unreachable!(),
+    }
+}
+
+/// The number of a tag, and what follows it.
+#[tactic(auto, unfolding(crate::specs::Reading::tag_at))]
+fn tag_at(bytes: &[u8]) -> Result<(u8, &[u8]), ReadFault>
+    ensures found { Finds (λ x. (x.0, x.1.now)) result (tag_at bytes.now) }
+    ensures within { IfOk result (λ x. x.0 < 32) }
+{
+    let (number, rest) = byte_at(bytes)?;
+    if number < 32 {
+        Ok((number, rest))
+    } else {
+        Err(ReadFault::Broken)
+    }
+}
+
+/// The tag of a number.
+fn tag_of(number: u8) -> Tag
+    requires { number < 32 }
+    ensures { result ≡ number }
+{
+    match Tag::new(number) {
+        Some(tag) => tag,
+        None => unreachable!(),
+    }
+}
+
+/// The batch that all of the bytes spell.
+fn batch_of(alloc: Global, bytes: &[u8]) -> Result<Batch, ReadFault>
+    ensures { Finds (λ batch. batch) result (batch_of bytes.now) }
+{
+    match decode(alloc, bytes) {
+        Ok((batch, used)) => {
+            if used == bytes.len() {
+                Ok(batch)
+            } else {
+                Err(ReadFault::Broken)
+            }
+        }
+        Err(DecodeFault::Memory) => Err(ReadFault::Memory),
+        Err(DecodeFault::Short) => Err(ReadFault::Broken),
+        Err(DecodeFault::UnknownKind) => Err(ReadFault::Broken),
+        Err(DecodeFault::OverLimit) => Err(ReadFault::Broken),
+        Err(DecodeFault::Inverted) => Err(ReadFault::Broken),
+    }
+}
+
+/// The coordinated state that all of the bytes spell.
+fn state_of(alloc: Global, bytes: &[u8]) -> Result<CoordState, ReadFault>
+    ensures { Finds (λ state. state) result (state_of bytes.now) }
+{
+    match decode_state(alloc, bytes) {
+        Ok(state) => Ok(state),
+        Err(StateFault::Memory) => Err(ReadFault::Memory),
+        Err(StateFault::Short) => Err(ReadFault::Broken),
+        Err(StateFault::BadForm) => Err(ReadFault::Broken),
+        Err(StateFault::Trailing) => Err(ReadFault::Broken),
+    }
+}
+
+/// The number of a body's tag, the bytes of its batch, and what follows it.
+#[tactic(auto, unfolding(crate::specs::Reading::text_at))]
+fn text_at(bytes: &[u8]) -> Result<(u8, &[u8], &[u8]), ReadFault>
+    ensures found { Finds (λ x. (x.0, x.1.now, x.2.now)) result (text_at bytes.now) }
+    ensures within { IfOk result (λ x. x.0 < 32) }
+{
+    let (tag, rest) = tag_at(bytes)?;
+    let (len, rest) = length_at(rest)?;
+    let (text, rest) = bytes_at(len, rest)?;
+    Ok((tag, text, rest))
+}
+
+/// The bodies that all of the bytes spell.
+#[tactic(auto, unfolding(crate::specs::Reading::bodies_of))]
+fn bodies_of(alloc: Global, bytes: &[u8]) -> Result<Vec<Body>, ReadFault>
+    ensures { Finds (λ bodies. bodies.items) result (bodies_of bytes.now) }
+{
+    let (count, front) = byte_at(bytes)?;
+    let mut bodies = Vec::new(alloc);
+    let mut rest = front;
+    for _ in 0..count {
+        let (tag, text, after) = text_at(rest)?;
+        let batch = batch_of(alloc, text)?;
+        let tag = tag_of(tag);
+        add(&mut bodies, Body { tag, batch })?;
+        rest = after;
+    }
+    if rest.is_empty() {
+        Ok(bodies)
+    } else {
+        Err(ReadFault::Broken)
+    }
+}
+
+/// Adds a body at the end.
+fn add(bodies: &mut Vec<Body>, body: Body) -> Result<(), ReadFault>
+    ensures ok { OnOk result (bodies.new.items ≡ bodies.old.items ++ body ∷ []) }
+    ensures err { IfErr result (λ fault. fault ≡ ReadFault.Memory) }
+{
+    match bodies.push(body) {
+        Ok(()) => Ok(()),
+        Err(_) => Err(ReadFault::Memory),
+    }
+}
+
+/// The numbers of a push, and what follows them.
+#[tactic(auto, unfolding(crate::specs::Reading::numbers_at))]
+fn numbers_at(bytes: &[u8]) -> Result<(Numbers, &[u8]), ReadFault>
+    ensures found { Finds (λ x. (x.0, x.1.now)) result (numbers_at bytes.now) }
+    ensures within { IfOk result (λ x. (x.0.prev < 2 ^ 62) × (x.0.version < 2 ^ 62) × (x.0.known < 2 ^ 62)) }
+{
+    let (prev, rest) = version_at(bytes)?;
+    let (version, rest) = version_at(rest)?;
+    let (known, rest) = version_at(rest)?;
+    Ok((
+        Numbers {
+            prev,
+            version,
+            known,
+        },
+        rest,
+    ))
+}
+
+/// The push of an epoch that the bytes behind its kind spell.
+#[tactic(auto, unfolding(crate::specs::Reading::push_of))]
+fn push_of(alloc: Global, epoch: Epoch, bytes: &[u8]) -> Result<Push, ReadFault>
+    ensures { Finds (λ push. push) result (push_of epoch bytes.now) }
+{
+    let (numbers, rest) = numbers_at(bytes)?;
+    let bodies = bodies_of(alloc, rest)?;
+    let (prev, version) = (version_of(numbers.prev), version_of(numbers.version));
+    match Push::new(epoch, prev, version, version_of(numbers.known), bodies) {
+        Some(push) => Ok(push),
+        None => Err(ReadFault::Broken),
+    }
+}
+
+/// The mark of an epoch that the bytes behind its kind spell.
+#[tactic(auto, unfolding(crate::specs::Reading::mark_of))]
+fn mark_of(alloc: Global, epoch: Epoch, bytes: &[u8]) -> Result<Push, ReadFault>
+    ensures { Finds (λ push. push) result (mark_of epoch bytes.now) }
+{
+    let (numbers, rest) = numbers_at(bytes)?;
+    let state = state_of(alloc, rest)?;
+    if numbers.version != numbers.prev + 1 {
+        return Err(ReadFault::Broken);
+    }
+    let (prev, known) = (version_of(numbers.prev), version_of(numbers.known));
+    match Push::mark(alloc, epoch, prev, known, state) {
+        Some(push) => Ok(push),
+        None => Err(ReadFault::Broken),
+    }
+}
+
+/// The bytes behind the four numbers of a log.
+#[tactic(auto, unfolding(crate::specs::Reading::own_at))]
+fn own_at<'a>(log: &Log, bytes: &'a [u8]) -> Result<&'a [u8], ReadFault>
+    ensures { Finds (λ rest. rest.now) result (own_at log.now bytes.now) }
+{
+    let (epoch, rest) = number_at(bytes)?;
+    let (index, rest) = byte_at(rest)?;
+    let (m, rest) = byte_at(rest)?;
+    let (k, rest) = byte_at(rest)?;
+    let id = log.id();
+    if epoch == id.epoch.get() && index == id.index && m == log.m() && k == log.k() {
+        Ok(rest)
+    } else {
+        Err(ReadFault::Broken)
+    }
+}
+
+/// The seed of a log, but for its records, that the bytes behind its kind spell.
+#[tactic(auto, unfolding(crate::specs::Reading::head_of))]
+fn head_of(alloc: Global, log: &Log, bytes: &[u8]) -> Result<Seed, ReadFault>
+    ensures { Finds (λ seed. seed) result (head_of log.now bytes.now) }
+{
+    let rest = own_at(log, bytes)?;
+    let (first, rest) = version_at(rest)?;
+    let (seeded_to, rest) = version_at(rest)?;
+    if !rest.is_empty() {
+        return Err(ReadFault::Broken);
+    }
+    let (first, seeded_to) = (version_of(first), version_of(seeded_to));
+    match Seed::new(log.id().epoch, first, seeded_to, Vec::new(alloc)) {
+        Some(seed) => Ok(seed),
+        None => Err(ReadFault::Broken),
+    }
+}
+
+/// The record of a seed that the bytes behind its kind spell.
+#[tactic(auto, unfolding(crate::specs::Reading::seeded_of))]
+fn seeded_of(alloc: Global, bytes: &[u8]) -> Result<SeedRecord, ReadFault>
+    ensures { Finds (λ x. x) result (seeded_of bytes.now) }
+{
+    let (version, rest) = version_at(bytes)?;
+    let (tag, rest) = tag_at(rest)?;
+    let batch = batch_of(alloc, rest)?;
+    let (version, tag) = (version_of(version), tag_of(tag));
+    Ok(SeedRecord {
+        version,
+        tag,
+        batch,
+    })
+}
+
+/// What a log does by a record.
+#[tactic(auto, unfolding(crate::specs::Reading::change_at))]
+pub(crate) fn change_at(alloc: Global, log: &Log, bytes: &[u8]) -> Result<Change, ReadFault>
+    ensures { Finds (λ change. change) result (change_at log.now bytes.now) }
+{
+    let (kind, rest) = byte_at(bytes)?;
+    let epoch = log.id().epoch;
+    match kind {
+        HEAD => Ok(Change::Asked(LogAsk::Seed(head_of(alloc, log, rest)?))),
+        SEEDED => Ok(Change::Seeded(seeded_of(alloc, rest)?)),
+        PUSH => Ok(Change::Asked(LogAsk::Push(push_of(alloc, epoch, rest)?))),
+        MARK => Ok(Change::Asked(LogAsk::Push(mark_of(alloc, epoch, rest)?))),
+        LOCK if rest.is_empty() => Ok(Change::Asked(LogAsk::Lock { epoch })),
+        _ => Err(ReadFault::Broken),
+    }
+}

@@ -1,0 +1,170 @@
+//! The bytes of the records of a log.
+ghost use Rattle.std.specs.Prelude.{◌≡◌, ◌<◌, ◌≤◌, ◌^◌, ◌+◌, ◌*◌, ◌++◌, ◌∷◌, [], length, map, All, IfOk, OnOk};
+ghost use Rattle.fr_mutation.specs.CodecSpelling.{spelled};
+ghost use Rattle.fr_record.specs.Group.{records_of};
+ghost use Rattle.fr_record_log.specs.Limits.{IsSoundBody, IsSoundSeed, IsSoundPush, IsSoundAsk};
+ghost use Rattle.fr_record_log.specs.Spelling.{spelled_head, spelled_seeded, spelled_body, spelled_numbers, spelled_bodies, spelled_push, spelled_ask};
+
+use fr_base::Memory;
+use fr_log::{Log, LogAsk, Push, Seed, SeedRecord};
+use fr_mutation::{Batch, encode as encode_batch};
+use fr_state::encode as encode_state;
+use fr_tags::Body;
+use std::alloc::Global;
+
+/// A seed but for its records.
+pub(crate) const HEAD: u8 = 1;
+/// A record of a seed.
+pub(crate) const SEEDED: u8 = 2;
+/// A push.
+pub(crate) const PUSH: u8 = 3;
+/// A mark.
+pub(crate) const MARK: u8 = 4;
+/// A lock.
+pub(crate) const LOCK: u8 = 5;
+
+/// The records of an ask that changes a log.
+pub(crate) fn spelled_ask(alloc: Global, log: &Log, ask: &LogAsk) -> Result<Vec<Vec<u8>>, Memory>
+    requires { IsSoundAsk ask.now }
+    ensures records { IfOk result (λ group. records_of group.items ≡ spelled_ask log.now ask.now) }
+    ensures short { IfOk result (λ group. All (λ v. length v.items < 2 ^ 32) group.items) }
+{
+    let mut group = Vec::new(alloc);
+    match ask {
+        LogAsk::Seed(seed) => {
+            group.push(head(alloc, log, seed)?)?;
+            put_records(&mut group, alloc, seed.records())?;
+        }
+        LogAsk::Push(push) => group.push(pushed(alloc, push)?)?,
+        LogAsk::Lock { .. } => group.push(lock(alloc)?)?,
+        LogAsk::Peek { .. } | LogAsk::MarkAsked { .. } => {}
+    }
+    Ok(group)
+}
+
+/// The record of a seed but for its records.
+#[tactic(auto, unfolding(crate::specs::Spelling::spelled_head))]
+fn head(alloc: Global, log: &Log, seed: &Seed) -> Result<Vec<u8>, Memory>
+    ensures bytes { IfOk result (λ bytes. bytes.items ≡ spelled_head log.now seed.now) }
+    ensures short { IfOk result (λ bytes. length bytes.items < 2 ^ 32) }
+{
+    let mut bytes = Vec::with_capacity(alloc, 28)?;
+    bytes.push(HEAD)?;
+    bytes.extend_from_slice(&seed.epoch().get().to_be_bytes())?;
+    bytes.push(log.id().index)?;
+    bytes.push(log.m())?;
+    bytes.push(log.k())?;
+    bytes.extend_from_slice(&seed.first().get().to_be_bytes())?;
+    bytes.extend_from_slice(&seed.seeded_to().get().to_be_bytes())?;
+    Ok(bytes)
+}
+
+/// Adds the records of a seed's records to a group.
+fn put_records(
+    group: &mut Vec<Vec<u8>>,
+    alloc: Global,
+    records: &[SeedRecord],
+) -> Result<(), Memory>
+    requires { All (λ v. length v.items < 2 ^ 32) group.old.items }
+    ensures records { OnOk result (records_of group.new.items ≡ records_of group.old.items ++ map spelled_seeded records.now) }
+    ensures short { OnOk result (All (λ v. length v.items < 2 ^ 32) group.new.items) }
+{
+    for record in records {
+        group.push(seeded(alloc, record)?)?;
+    }
+    Ok(())
+}
+
+/// The record of a seed's record.
+#[tactic(auto, unfolding(crate::specs::Spelling::spelled_seeded))]
+fn seeded(alloc: Global, record: &SeedRecord) -> Result<Vec<u8>, Memory>
+    ensures bytes { IfOk result (λ bytes. bytes.items ≡ spelled_seeded «record».now) }
+    ensures short { IfOk result (λ bytes. length bytes.items < 2 ^ 32) }
+{
+    let batch = batch_bytes(alloc, &record.batch)?;
+    let mut bytes = Vec::with_capacity(alloc, 10 + batch.len())?;
+    bytes.push(SEEDED)?;
+    bytes.extend_from_slice(&record.version.get().to_be_bytes())?;
+    bytes.push(record.tag.get())?;
+    bytes.extend_from_slice(&batch)?;
+    Ok(bytes)
+}
+
+/// The record of a push or of a mark.
+fn pushed(alloc: Global, push: &Push) -> Result<Vec<u8>, Memory>
+    requires { IsSoundPush push.now }
+    ensures bytes { IfOk result (λ bytes. bytes.items ≡ spelled_push push.now) }
+    ensures short { IfOk result (λ bytes. length bytes.items < 2 ^ 32) }
+{
+    let mut bytes = Vec::new(alloc);
+    match push.marked() {
+        Some(state) => {
+            bytes.push(MARK)?;
+            put_numbers(&mut bytes, push)?;
+            bytes.extend_from_slice(&encode_state(alloc, state)?)?;
+        }
+        None => {
+            bytes.push(PUSH)?;
+            put_numbers(&mut bytes, push)?;
+            put_bodies(&mut bytes, alloc, push.bodies())?;
+        }
+    }
+    Ok(bytes)
+}
+
+/// Writes the numbers of a push at the end.
+#[tactic(auto, unfolding(crate::specs::Spelling::spelled_numbers))]
+fn put_numbers(out: &mut Vec<u8>, push: &Push) -> Result<(), Memory>
+    ensures bytes { OnOk result (out.new.items ≡ out.old.items ++ spelled_numbers push.now) }
+    ensures len { OnOk result (length (spelled_numbers push.now) ≡ 24) }
+{
+    out.extend_from_slice(&push.prev().get().to_be_bytes())?;
+    out.extend_from_slice(&push.version().get().to_be_bytes())?;
+    out.extend_from_slice(&push.known().get().to_be_bytes())?;
+    Ok(())
+}
+
+/// Writes the bodies of a push at the end.
+#[tactic(auto, unfolding(crate::specs::Spelling::spelled_bodies))]
+fn put_bodies(out: &mut Vec<u8>, alloc: Global, bodies: &[Body]) -> Result<(), Memory>
+    requires { length bodies.now ≤ 32 }
+    ensures bytes { OnOk result (out.new.items ≡ out.old.items ++ spelled_bodies bodies.now) }
+    ensures short { OnOk result (length (spelled_bodies bodies.now) ≤ 1 + 110007008 * 32) }
+{
+    out.push(bodies.len() as u8)?;
+    for body in bodies {
+        put_body(out, alloc, body)?;
+    }
+    Ok(())
+}
+
+/// Writes a body at the end.
+#[tactic(auto, unfolding(crate::specs::Spelling::spelled_body))]
+fn put_body(out: &mut Vec<u8>, alloc: Global, body: &Body) -> Result<(), Memory>
+    ensures bytes { OnOk result (out.new.items ≡ out.old.items ++ spelled_body body.now) }
+    ensures short { OnOk result (length (spelled_body body.now) ≤ 110007008) }
+{
+    let batch = batch_bytes(alloc, &body.batch)?;
+    out.push(body.tag.get())?;
+    out.extend_from_slice(&(batch.len() as u32).to_be_bytes())?;
+    out.extend_from_slice(&batch)?;
+    Ok(())
+}
+
+/// The bytes of a batch.
+fn batch_bytes(alloc: Global, batch: &Batch) -> Result<Vec<u8>, Memory>
+    ensures bytes { IfOk result (λ bytes. bytes.items ≡ spelled batch.now) }
+    ensures short { IfOk result (λ bytes. length bytes.items ≤ 110007003) }
+{
+    let _mutations = batch.mutations();
+    encode_batch(alloc, batch)
+}
+
+/// The record of a lock.
+fn lock(alloc: Global) -> Result<Vec<u8>, Memory>
+    ensures { IfOk result (λ bytes. bytes.items ≡ 5 ∷ []) }
+{
+    let mut bytes = Vec::new(alloc);
+    bytes.push(LOCK)?;
+    Ok(bytes)
+}

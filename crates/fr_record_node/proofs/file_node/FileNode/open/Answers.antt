@@ -1,0 +1,17 @@
+use Rattle.std.proofs.Common.{◌≡◌, Some, Err, ap, sym, ◌∙◌}
+use Rattle.fr_base.specs.declared.node.NodeFault.TheVariants as node
+use Rattle.fr_record_node.specs.Node.{node_fault}
+use Rattle.fr_record_node.specs.Replay.{replayed}
+use Rattle.fr_record_node.proofs.Lemmas.{is_broken}
+use Rattle.fr_record_node.proofs.file_node.FileNode.open.Goals as goal
+
+pub returns-in-Err-clause-broken : goal.returns-in-Err-clause-broken
+returns-in-Err-clause-broken g c e records stands =
+    let told : node_fault c.in-Err.fault ≡ node.Broken = cc (sym c.node_fault.ensures, e) in
+    absurd (c.open.ensures.broken (c.in-Err.is ∙ ap (λ f. Err f) (is_broken c.in-Err.fault told)) records stands)
+
+pub returns-in-Err-read_all-clause-broken : goal.returns-in-Err-read_all-clause-broken
+returns-in-Err-read_all-clause-broken g c e records stands =
+    let told : c.in-Err-read_all.fault ≡ node.Broken = cc e in
+    ap (λ l. replayed g.M.Recorded.replay (Some c.args.machine) l) (c.left_law.ensures.one_list (g.D.Device.disk c.args.device).content c.in-Ok.file.records records c.in-Ok.ensures.records stands)
+    ∙ c.read_all.ensures.broken (c.in-Err-read_all.is ∙ ap (λ f. Err f) told)

@@ -1,0 +1,42 @@
+//! Faults of files, as nodes tell them.
+ghost use Rattle.std.specs.Prelude.{◌≡◌};
+ghost use Rattle.fr_record_node.specs.Node.{node_fault};
+
+use fr_base::{Memory as NoMemory, NodeFault};
+use fr_record::RecordFault;
+use thiserror::Error;
+
+/// Why a record was not read.
+#[derive(Clone, Copy, Debug, PartialEq, Eq, Error)]
+pub enum ReadFault {
+    /// No ask of such a machine writes this record.
+    #[error("the record is of no such machine")]
+    Broken,
+    /// A growth of memory was refused.
+    #[error("out of memory")]
+    Memory,
+}
+
+impl From<NoMemory> for ReadFault {
+    ghost use Rattle.std.specs.Prelude.{◌≡◌};
+    ghost use Rattle.fr_record_node.specs.declared.fault.ReadFault.TheVariants.{Memory};
+
+    ghost from_gives = { λ _ fault. fault ≡ Memory };
+
+    fn from(_: NoMemory) -> ReadFault {
+        ReadFault::Memory
+    }
+}
+
+/// The fault of a node whose file has this fault.
+pub(crate) fn node_fault(fault: RecordFault) -> NodeFault
+    ensures { result ≡ node_fault fault }
+{
+    match fault {
+        RecordFault::Device => NodeFault::Device,
+        RecordFault::Full => NodeFault::Full,
+        RecordFault::Failed => NodeFault::Failed,
+        RecordFault::Memory => NodeFault::Memory,
+        RecordFault::Broken => NodeFault::Broken,
+    }
+}

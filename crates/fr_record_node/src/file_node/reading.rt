@@ -1,0 +1,43 @@
+//! Bringing a machine back from its file.
+ghost use Rattle.std.specs.Prelude.{◌≡◌, ◌≢◌, ◌+◌, ◌-◌, ◌^◌, min, Err, Some, None, OnOk, OnErr, false};
+ghost use Rattle.fr_record_node.specs.Replay.{replayed};
+
+use crate::fault::{ReadFault, node_fault};
+use crate::recorded::Recorded;
+use fr_base::NodeFault;
+use fr_device::Device;
+use fr_record::Records;
+use std::alloc::Global;
+
+/// Takes the changes of all records of a file, in order. It costs the length of the file.
+pub(super) fn read_all<M: Recorded, D: Device>(
+    file: &mut Records<D>,
+    machine: &mut M,
+    alloc: Global,
+) -> Result<(), NodeFault>
+    requires works { file.old.is_failed ≡ false }
+    requires sound { M.IsSound machine.old }
+    ensures ok { OnOk result (replayed M.replay (Some machine.old) file.old.records ≡ Some machine.new) }
+    ensures broken { (result ≡ Err NodeFault.Broken) → replayed M.replay (Some machine.old) file.old.records ≡ None }
+    ensures records { file.new.records ≡ file.old.records }
+    ensures works { OnOk result (file.new.is_failed ≡ false) }
+    ensures device { (result ≡ Err NodeFault.Device) → D.failures_of file.new.device ≡ min (D.failures_of file.old.device + 1) (2 ^ 64 - 1) }
+    ensures never_full { result ≢ Err NodeFault.Full }
+    ensures never_failed { result ≢ Err NodeFault.Failed }
+    ensures sound { M.IsSound machine.new }
+    ensures same { M.fresh machine.new ≡ M.fresh machine.old }
+{
+    for i in 0..file.len() {
+        let change = match file.get(alloc, i) {
+            Ok(Some(change)) => change,
+            Ok(None) => unreachable!(),
+            Err(fault) => return Err(node_fault(fault)),
+        };
+        match machine.read(alloc, change.as_slice()) {
+            Ok(()) => {}
+            Err(ReadFault::Broken) => return Err(NodeFault::Broken),
+            Err(ReadFault::Memory) => return Err(NodeFault::Memory),
+        }
+    }
+    Ok(())
+}

@@ -1,0 +1,229 @@
+-- The states that recoverers take over and plan, and that the chosen ones are one chain.
+use Rattle.std.proofs.Common.{◌≡◌, ℕ, ◌+◌, ◌<◌, ◌≤◌, ◌^◌, Bool, true, false, cond, ◌==◌, List, [], ◌∷◌, ◌++◌, append-nil, append_assoc, Option, None, Some, inl, inr, refl, sym, ◌∙◌, ap, subst, arith}
+use Rattle.std.specs.List.{All, Contains}
+use Rattle.std.specs.Prelude.{IfSome, Ok}
+use Rattle.std.proofs.lemmas.List.Elements.{All-nil, All-push, All-head, All-tail}
+use Rattle.fr_base.specs.declared.place.NodeId.{NodeId}
+use Rattle.fr_base.specs.declared.place.NodeId.TheVariants as node
+use Rattle.fr_register.specs.declared.poll.Progress.TheVariants.{Majority}
+use Rattle.fr_register.specs.Poll.{Stamped, ReadState}
+use Rattle.fr_register.specs.Tally.{hear_read, progress_of}
+use Rattle.fr_register.specs.Heard.{read_tally}
+use Rattle.fr_register.specs.History as register
+use Rattle.fr_register.specs.Chosen.{IsKept, IsHeldBy, IsReadByMajority, Descends, itself, by_parent}
+use Rattle.fr_state.specs.Generations.{LogGeneration, CoordinatedState, IsGeneration, IsCoordinatedState, last_of}
+use Rattle.fr_state.specs.Reading.{reading}
+use Rattle.fr_state.specs.Spelling.{spelling}
+use Rattle.fr_ask.specs.declared.tell.Tell.{Tell}
+use Rattle.fr_epoch.specs.EndTally.{EndState, pev_of, rv_of}
+use Rattle.fr_tail.specs.Tail.{after_hear as after_peeked}
+use Rattle.fr_epoch.specs.Recoverer.{RecState, Parent, Plan, Reading, new_recoverer}
+use Rattle.fr_epoch.specs.Hear as rec
+use Rattle.fr_epoch.specs.Hear.{with_lock, next_generation, plan_of}
+use Rattle.fr_epoch.specs.Words.{word_of}
+use Rattle.fr_epoch.specs.Change.{replied, Change, Stands, LosesReads, Reads, Finds, Locks, LosesLocks, Plans, Copies, Seeds, SeedsAll, Writes, LosesWrites, Chooses, Marks}
+use Rattle.fr_epoch.specs.Law.{IsRecoverer}
+use Rattle.fr_run.specs.Config.{Config, first_epoch, first_generation, first_state, first_cell}
+use Rattle.fr_run.specs.Turn.{Turn, Told, cell_turns}
+use Rattle.fr_run.specs.Nodes.{rec_at, plan_in, plan_at}
+use Rattle.fr_run.specs.States.{state_in, state_of, pair_of}
+use Rattle.fr_run.specs.Run.{IsRun}
+use Rattle.fr_run.specs.Laws.{Laws}
+use Rattle.fr_run.specs.StateLaws.{IsConfig, IsFrontOf, HasStates, RecoverersHaveStates, ChosenIsFront}
+use Rattle.fr_run.specs.ParentLaws.{greatest_in, parent_at}
+use Rattle.fr_run.proofs.ByTurn.{rec_by_turn}
+use Rattle.fr_run.proofs.Growth.{rec_is}
+use Rattle.fr_run.proofs.Cells.{cells_have_history, first_within, written_is_state}
+use Rattle.fr_run.proofs.Register.{HasRead, has_found, reads_more, cell_told, no_parent, parents_descend}
+
+-- ---- states within their limits
+
+pub first_is : (c : Config) → IsConfig c → IsCoordinatedState (first_state c)
+first_is c k = record {
+  limits = All-push IsGeneration [] (first_generation c) (All-nil IsGeneration) (record {
+    epoch_low = omega arith;
+    epoch_high = omega arith;
+    k_low = k.k_low;
+    k_high = k.k_high;
+    m_high = k.m_high;
+    first_low = omega arith;
+    first_high = omega arith;
+    seeded_to_low = omega arith;
+    seeded_to_high = omega arith;
+  });
+  ordered = tt;
+  some = omega arith;
+  few = omega arith;
+}
+
+-- the last of some generations is one of them
+pub last_is : (P : LogGeneration → Type 0) (gens : List LogGeneration) (g : LogGeneration) → last_of gens ≡ Some g → All P gens → P g
+last_is P [] g e all = absurd (cc)
+last_is P (x ∷ []) g e all = let d : x ≡ g = cc in subst P d (All-head P x [] all)
+last_is P (x ∷ y ∷ gens) g e all = last_is P (y ∷ gens) g e (All-tail P x (y ∷ gens) all)
+
+-- the last of a list with one more is that one
+pub last_more : (gens : List LogGeneration) (n : LogGeneration) → last_of (gens ++ n ∷ []) ≡ Some n
+last_more [] n = refl
+last_more (x ∷ []) n = refl
+last_more (x ∷ y ∷ gens) n = last_more (y ∷ gens) n
+
+-- the next generation is within the limits
+next_is : (r : RecState) (p : Parent) (end : EndState) → IsGeneration p.last → 256 ≤ r.ballot → r.ballot < 2 ^ 48 → pev_of end ≤ rv_of end → rv_of end + 1 < 2 ^ 62 → IsGeneration (next_generation r p end)
+next_is r p end k low high le below = record {
+  epoch_low = low;
+  epoch_high = high;
+  k_low = k.k_low;
+  k_high = k.k_high;
+  m_high = k.m_high;
+  first_low = omega arith;
+  first_high = omega (arith, le, below);
+  seeded_to_low = omega (arith, le);
+  seeded_to_high = omega (arith, below);
+}
+
+-- two states with one spelling are one
+pub one_spelling : Laws → (x y : CoordinatedState) → IsCoordinatedState x → IsCoordinatedState y → spelling x ≡ spelling y → x ≡ y
+one_spelling laws x y i j e =
+    let k : Ok x ≡ reading (spelling y) = sym (laws.spelled_is_read x i) ∙ ap reading e in
+    let m : Ok x ≡ Ok y = k ∙ laws.spelled_is_read y j in
+    cc
+
+-- ---- what a recoverer finds
+
+-- a pair spells a state
+pub record Spells (v : List ℕ) : Type 0 where
+  pub state : CoordinatedState
+  pub within : IsCoordinatedState state
+  pub is : v ≡ spelling state
+
+-- a pair that a cell held at some moment spells a state
+held_spells : Laws → (c : Config) (h : List Turn) → IsConfig c → IsRun c h → ((b : ℕ) → IfSome (rec_at c h b) HasStates) → (i : ℕ) (p : Stamped) → IsHeldBy (first_cell c) (cell_turns h) i p → Spells p.value
+held_spells laws c h config run all i p (inl start) = record { state = first_state c; within = first_is c config; is = ap (λ (s : Stamped). s.value) start }
+held_spells laws c h config run all i p (inr w) =
+    let k = written_is_state laws c h run p (record { cell = i; tell = _; comes = w }) in
+    let s : HasStates k.recoverer = subst (λ o. IfSome o HasStates) k.at (all p.ballot) in
+    record { state = k.plan.state; within = (s.plan k.plan k.planned).0; is = k.value }
+
+-- the greatest pair of a read majority spells a state
+read_spells : Laws → (c : Config) (h : List Turn) → IsConfig c → IsRun c h → ((b : ℕ) → IfSome (rec_at c h b) HasStates) → (b : ℕ) (reads : ReadState) → HasRead c h b reads → progress_of reads.poll ≡ Majority → Spells reads.greatest.value
+read_spells laws c h config run all b reads k majority = held_spells laws c h config run all own.found.0 reads.greatest kept.holds
+  where
+    own : IsReadByMajority c.cells (cell_turns h) b (read_tally c.cells b k.heard).greatest
+    own = laws.read_majority c.cells b (cell_turns h) k.heard k.told (subst (λ (s : ReadState). progress_of s.poll ≡ Majority) k.is majority)
+
+    kept : IsKept (first_cell c) (cell_turns h) own.found.0 b reads.greatest
+    kept = laws.promises_kept (first_cell c) (cell_turns h) own.found.0 b reads.greatest (first_within c) (cells_have_history c h run) (subst (λ (s : ReadState). Contains (cell_turns h) (register.promise_turn own.found.0 b s.greatest)) (sym k.is) own.found.1)
+
+-- ---- one more tell
+
+new_has_states : (c : Config) (b : ℕ) → HasStates (new_recoverer b c.cells c.begins)
+new_has_states c b = record { parent = λ p e. absurd (cc); plan = λ q e. absurd (cc) }
+
+no_plan : (r : RecState) → IsRecoverer r → r.phase ≡ Reading → (q : Plan) → r.plan ≡ Some q → ⊥
+no_plan r shape ph q e = let k : None ≡ Some q = sym (shape.parentless (shape.reading ph)) ∙ e in absurd (cc)
+
+change : Laws → (c : Config) (h : List Turn) → IsConfig c → IsRun c h → ((b : ℕ) → IfSome (rec_at c h b) HasStates) → (b : ℕ) (from : NodeId) (t : Tell) → Told h from (node.Recoverer b) t → (r : RecState) → rec_at c h b ≡ Some r → HasStates r
+    → (n : RecState) → Change r (word_of from t) n → HasStates n
+change laws c h config run all b from t told r at k n Stands = k
+change laws c h config run all b from t told r at k n (LosesReads i u why is) = record {
+  parent = λ p e. absurd (no_parent r (rec_is laws c h run b r at).shape is.phase p e);
+  plan = k.plan;
+}
+change laws c h config run all b from t told r at k n (Reads i u is) = record {
+  parent = λ p e. absurd (no_parent r (rec_is laws c h run b r at).shape is.phase p e);
+  plan = k.plan;
+}
+change laws c h config run all b from t told r at k n (Finds i u s g heard is) =
+    let reads = reads_more laws c h run b i u r.reads (cell_told h b from t i u told heard.word) (has_found laws c h run b r at).reads in
+    let z = read_spells laws c h config run all b (hear_read r.reads i u) reads is.majority in
+    let same : Ok z.state ≡ Ok s = sym (laws.spelled_is_read z.state z.within) ∙ (ap reading (sym z.is) ∙ is.value) in
+    let d : z.state ≡ s = cc in
+    record {
+      parent = λ p e. (
+          let m : record { state = s; last = g } ≡ p = cc in
+          subst (λ (x : Parent). IsCoordinatedState x.state × ((hear_read r.reads i u).greatest.value ≡ spelling x.state)) m (subst (λ x. IsCoordinatedState x × ((hear_read r.reads i u).greatest.value ≡ spelling x)) d (z.within, z.is)));
+      plan = λ q e. absurd (no_plan r (rec_is laws c h run b r at).shape heard.phase q e);
+    }
+change laws c h config run all b from t told r at k n (Locks p end i durable known is) = record { parent = k.parent; plan = k.plan }
+change laws c h config run all b from t told r at k n (LosesLocks p end i durable known why is) = record { parent = k.parent; plan = k.plan }
+change laws c h config run all b from t told r at k n (Plans p end i durable known s heard is) =
+    let own = rec_is laws c h run b r at in
+    let e = heard.parent in
+    let par = k.parent p e in
+    let last : IsGeneration p.last = last_is IsGeneration p.state.gens p.last ((has_found laws c h run b r at).found p e).last par.0.limits in
+    let low : 256 ≤ r.ballot = omega (arith, own.ballot, own.low) in
+    let high : r.ballot < 2 ^ 48 = subst (λ x. x < 2 ^ 48) (sym own.ballot) own.high in
+    let m = replied end i durable known in
+    let x = laws.extension p.state s (next_generation r p m) par.0 (next_is r p m last low high is.within is.below) is.state in
+    record {
+      parent = k.parent;
+      plan = λ q d. (
+          let f : plan_of r p m s ≡ q = cc in
+          subst (λ (y : Plan). IsCoordinatedState y.state × ((o : Parent) × (r.parent ≡ Some o) × (y.state.gens ≡ o.state.gens ++ y.generation ∷ []))) f
+          (x.0, (p, e, ap (λ (y : CoordinatedState). y.gens) x.1)));
+    }
+change laws c h config run all b from t told r at k n (Copies parent p i peeked is) = record {
+  parent = k.parent;
+  plan = λ q d. (
+      let m : Plan = record { state = p.state; generation = p.generation; tail = after_peeked p.tail i peeked.tag peeked } in
+      let f : m ≡ q = cc in
+      subst (λ (y : Plan). IsCoordinatedState y.state × ((o : Parent) × (r.parent ≡ Some o) × (y.state.gens ≡ o.state.gens ++ y.generation ∷ []))) f (k.plan p is.plan));
+}
+change laws c h config run all b from t told r at k n (Seeds p i is w) = record { parent = k.parent; plan = k.plan }
+change laws c h config run all b from t told r at k n (SeedsAll p i is w) = record { parent = k.parent; plan = k.plan }
+change laws c h config run all b from t told r at k n (Writes i u is) = record { parent = k.parent; plan = k.plan }
+change laws c h config run all b from t told r at k n (LosesWrites i u why is) = record { parent = k.parent; plan = k.plan }
+change laws c h config run all b from t told r at k n (Chooses i u is m) = record { parent = k.parent; plan = k.plan }
+change laws c h config run all b from t told r at k n (Marks p i is) = record { parent = k.parent; plan = k.plan }
+
+have_states : Laws → (c : Config) (h : List Turn) → IsConfig c → IsRun c h → (b : ℕ) → IfSome (rec_at c h b) HasStates
+have_states laws c [] config run b = tt
+have_states laws c (t ∷ h) config run b =
+    rec_by_turn c h t run.0 b (λ o. IfSome o HasStates) (have_states laws c h config run.1 b) (λ none may. new_has_states c b) (λ r from u at told.
+    change laws c h config run.1 (have_states laws c h config run.1) b from u told r at (subst (λ o. IfSome o HasStates) at (have_states laws c h config run.1 b)) (rec.after_hear r from u) (laws.rec_change r from u))
+
+pub recoverers_have_states : Laws → RecoverersHaveStates
+recoverers_have_states laws c h config run b r at = subst (λ o. IfSome o HasStates) at (have_states laws c h config run b)
+
+-- ---- chains
+
+pub front_itself : (gens : List LogGeneration) → IsFrontOf gens gens
+front_itself gens = ([], append-nil gens)
+
+front_more : (front gens : List LogGeneration) (g : LogGeneration) → IsFrontOf front gens → IsFrontOf front (gens ++ g ∷ [])
+front_more front gens g (rest, e) = (rest ++ g ∷ [], sym (append_assoc front rest (g ∷ [])) ∙ ap (λ xs. xs ++ g ∷ []) e)
+
+-- what descends from a pair that spells a state has that state's generations in front
+descends_front : Laws → (c : Config) (h : List Turn) → IsConfig c → IsRun c h → (p q : Stamped) → Descends (cell_turns h) (parent_at c h) p q → (x y : CoordinatedState) → IsCoordinatedState x → p.value ≡ spelling x
+    → IsCoordinatedState y → q.value ≡ spelling y → IsFrontOf y.gens x.gens
+descends_front laws c h config run p q itself x y i v j w = subst (λ (s : CoordinatedState). IsFrontOf y.gens s.gens) (one_spelling laws y x j i (sym w ∙ v)) (front_itself y.gens)
+descends_front laws c h config run p q (by_parent came d) x y i v j w =
+    let k = written_is_state laws c h run p came in
+    let states = recoverers_have_states laws c h config run p.ballot k.recoverer k.at in
+    let plan = states.plan k.plan k.planned in
+    let same : k.plan.state ≡ x = one_spelling laws k.plan.state x plan.0 i (sym k.value ∙ v) in
+    let par = states.parent plan.1.0 plan.1.1 in
+    let greatest : (parent_at c h p.ballot).value ≡ spelling plan.1.0.state = ap (λ o. (greatest_in o).value) k.at ∙ par.1 in
+    let below = descends_front laws c h config run (parent_at c h p.ballot) q d plan.1.0.state y par.0 greatest j w in
+    subst (λ (s : CoordinatedState). IsFrontOf y.gens s.gens) same (subst (IsFrontOf y.gens) (sym plan.1.2) (front_more y.gens plan.1.0.state.gens k.plan.generation below))
+
+-- the state of each epoch is within its limits
+pub state_is : Laws → (c : Config) (h : List Turn) → IsConfig c → IsRun c h → (e : ℕ) → IsCoordinatedState (state_of c h e)
+state_is laws c h config run e = go (e == first_epoch)
+  where
+    planned : (o : Option RecState) → rec_at c h e ≡ o → (q : Option Plan) → plan_in o ≡ q → IsCoordinatedState (state_in c q)
+    planned o at None k = first_is c config
+    planned None at (Some q) k = absurd (cc)
+    planned (Some r) at (Some q) k = ((recoverers_have_states laws c h config run e r at).plan q k).0
+
+    go : (s : Bool) → IsCoordinatedState (cond s (first_state c) (state_in c (plan_at c h e)))
+    go true = first_is c config
+    go false = planned (rec_at c h e) refl (plan_at c h e) refl
+
+pub chosen_is_front : Laws → ChosenIsFront
+chosen_is_front laws c h config run a b r p chosen at e l =
+    let par = (recoverers_have_states laws c h config run b r at).parent p e in
+    let d = parents_descend laws c h run (pair_of c h a) b r p chosen at e l in
+    let greatest : (parent_at c h b).value ≡ spelling p.state = ap (λ o. (greatest_in o).value) at ∙ par.1 in
+    descends_front laws c h config run (parent_at c h b) (pair_of c h a) d p.state (state_of c h a) par.0 greatest (state_is laws c h config run a) refl

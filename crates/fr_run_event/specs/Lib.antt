@@ -1,0 +1,4 @@
+pub mod ConfigLimits
+pub mod Phase
+pub mod Last
+pub mod At

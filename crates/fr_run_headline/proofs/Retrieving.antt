@@ -1,0 +1,291 @@
+-- Each committed version can be retrieved while fewer than k logs of each generation are lost.
+use Rattle.std.proofs.Common.{◌≡◌, ℕ, ◌+◌, ◌-◌, ◌<◌, ◌≤◌, Bool, true, false, cond, nat_lt, nat_le, ◌==◌, filter, map, List, [], ◌∷◌, ◌++◌, append_assoc, length, length-append, Option, None, Some, inl, inr, refl, sym, ◌∙◌, ap, subst, arith}
+use Rattle.std.specs.Prelude.{IfSome, IsSome, is_some}
+use Rattle.std.specs.List.{Contains}
+use Rattle.std.specs.Option.{option_map}
+use Rattle.std.proofs.lemmas.Bool.{cases_lt, eq-eqb}
+use Rattle.std.proofs.lemmas.List.{same_from_push}
+use Rattle.std.proofs.lemmas.List.Elements.{All-contains, All-weaker, Contains-append_left, Contains-append_right}
+use Rattle.fr_base.specs.declared.place.NodeId.{NodeId}
+use Rattle.fr_base.specs.declared.place.NodeId.TheVariants as node
+use Rattle.fr_state.specs.Generations.{LogGeneration, CoordinatedState, IsGeneration, IsCoordinatedState, last_of}
+use Rattle.fr_state.specs.LookUp.{next_of, end_of, cut_of, source_of}
+use Rattle.fr_tags.specs.Placement.{is_held, log_count}
+use Rattle.fr_log.specs.Seed.{SeedContent}
+use Rattle.fr_log.specs.LogState.{LogState, durable_of, records_of}
+use Rattle.fr_epoch.specs.EndTally.{pev_of}
+use Rattle.fr_epoch.specs.Recoverer.{RecState, Parent, Plan}
+use Rattle.fr_storage.specs.Storage.{epoch_of}
+use Rattle.fr_storage.proofs.Generations.{greatest}
+use Rattle.fr_run.specs.Config.{Config, first_epoch, first_generation}
+use Rattle.fr_run.specs.Turn.{Turn, Begun, CellTurn, LogTurn, SeqTurn, Submitted, ProxyHeard, RecHeard, StorageHeard, Gone, Crashed}
+use Rattle.fr_run.specs.Nodes.{rec_at, generation_at, logs_at, log_at}
+use Rattle.fr_run.specs.Run.{IsRun}
+use Rattle.fr_run.specs.States.{state_of}
+use Rattle.fr_run.specs.StateLaws.{IsConfig}
+use Rattle.fr_run.proofs.Cells.{Contains-here, Contains-later, Contains-none, Contains-cases}
+use Rattle.fr_run.proofs.Chosen.{first_is_chosen, chosen_is_planned, chosen_are_chain, state_planned}
+use Rattle.fr_run.proofs.Register.{has_found}
+use Rattle.fr_run.proofs.States.{last_more, recoverers_have_states, state_is}
+use Rattle.fr_run_versions.specs.Bounds.{HasReached, AllReach, IsSeedAt}
+use Rattle.fr_run_versions.specs.LogLaws.{tally, StandsAt}
+use Rattle.fr_run_versions.specs.SeededLaws.{IsSeededEpoch}
+use Rattle.fr_run_versions.proofs.Behind.{planned_by, front_is_state, behind_is_seeded}
+use Rattle.fr_run_versions.proofs.Ends.{end_is_of_replies}
+use Rattle.fr_run_versions.proofs.Known.{logs_know}
+use Rattle.fr_run_versions.proofs.Locks.{replies_stand_still}
+use Rattle.fr_run_versions.proofs.Named.{IsNamed, log_named}
+use Rattle.fr_run_versions.proofs.Orders.{below_is_durable, known_fold, known_is_durable}
+use Rattle.fr_run_contents.specs.Issued.{issued, least_durable}
+use Rattle.fr_run_contents.specs.Contents.{HasParts, part_records}
+use Rattle.fr_run_contents.proofs.Lists.{HasList, planned_list}
+use Rattle.fr_run_contents.proofs.PartLists.{part_of, part_above, part_through, part_same}
+use Rattle.fr_run_contents.proofs.PeekLists.{record_of, kept_records}
+use Rattle.fr_run_contents.proofs.Truths.{logs_have_parts}
+use Rattle.fr_run_headline.specs.Retrievable.{lost_with, lost_after, lost_logs, records_at, IsRetrievable, CommittedIsRetrievable}
+use Rattle.fr_run_headline.specs.Laws.{Laws}
+use Rattle.fr_run_headline.proofs.Agreement.{split_at, front_issues}
+use Rattle.fr_run_headline.proofs.Durables.{seeded_logs, least_is_below}
+
+-- ---- lost logs
+
+lost_stays : (who : NodeId) (e : ℕ) (logs : List ℕ) (i : ℕ) → Contains logs i → Contains (lost_with who e logs) i
+lost_stays (node.Cell j) e logs i k = k
+lost_stays (node.Log x j) e logs i k = go (x == e)
+  where
+    go : (b : Bool) → Contains (cond b (j ∷ logs) logs) i
+    go true = Contains-later j logs i k
+    go false = k
+lost_stays (node.Sequencer x) e logs i k = k
+lost_stays (node.Proxy x p) e logs i k = k
+lost_stays (node.Recoverer b) e logs i k = k
+lost_stays (node.Storage t) e logs i k = k
+
+lost_on : (t : Turn) (e : ℕ) (logs : List ℕ) (i : ℕ) → Contains logs i → Contains (lost_after t e logs) i
+lost_on (Begun b asks) e logs i k = k
+lost_on (CellTurn from j a u) e logs i k = k
+lost_on (LogTurn from x j a u) e logs i k = k
+lost_on (SeqTurn from x a u) e logs i k = k
+lost_on (Submitted x p n batch asks) e logs i k = k
+lost_on (ProxyHeard x p from u outcome asks) e logs i k = k
+lost_on (RecHeard b from u asks) e logs i k = k
+lost_on (StorageHeard y from u taken fault) e logs i k = k
+lost_on (Gone who) e logs i k = lost_stays who e logs i k
+lost_on (Crashed who) e logs i k = k
+
+-- a log that is gone is among the lost ones
+gone_is_lost : (h : List Turn) (e i : ℕ) → Contains h (Gone (node.Log e i)) → Contains (lost_logs h e) i
+gone_is_lost [] e i k = absurd (Contains-none k)
+gone_is_lost (t ∷ h) e i k = elim (Contains-cases t h (Gone (node.Log e i)) k) [
+  | inl now ↦ subst (λ u. Contains (lost_after u e (lost_logs h e)) i) (sym now) (subst (λ b. Contains (cond b (i ∷ lost_logs h e) (lost_logs h e)) i) (sym (eq-eqb e e refl)) (Contains-here i (lost_logs h e)))
+  | inr before ↦ lost_on t e (lost_logs h e) i (gone_is_lost h e i before)
+]
+
+-- ---- a generation that has a next one was known through its end
+
+-- so each of its logs has come that far
+end_is_reached : Laws → (c : Config) (h : List Turn) → IsConfig c → IsRun c h → (e : ℕ) (g : LogGeneration) → generation_at c h e ≡ Some g
+    → (front : List LogGeneration) (own next : LogGeneration) (rest : List LogGeneration) → (state_of c h e).gens ≡ front ++ own ∷ next ∷ rest
+    → (i : ℕ) → i < logs_at c h own.epoch → IsSome (log_at c h own.epoch i).seed → next.first ≤ durable_of (log_at c h own.epoch i) + 1
+end_is_reached laws c h config run e g at front own next rest is i there seeded = elim (planned_by c h next.epoch next own_next) [
+  | inl first ↦ absurd (no_first first.0)
+  | inr k ↦ by_plan k.recoverer k.at k.plan k.planned k.is
+]
+  where
+    list : HasList c h e g
+    list = planned_list laws.contents.nodes c h config run e g at
+
+    all : (state_of c h e).gens ≡ (front ++ own ∷ []) ++ next ∷ rest
+    all = is ∙ sym (append_assoc front (own ∷ []) (next ∷ rest))
+
+    own_next : generation_at c h next.epoch ≡ Some next
+    own_next = All-contains (λ x. generation_at c h x.epoch ≡ Some x) (state_of c h e).gens next list.each (subst (λ xs. Contains xs next) (sym all) (Contains-append_right (front ++ own ∷ []) (next ∷ rest) next (Contains-here next rest)))
+
+    mine : (state_of c h next.epoch).gens ≡ (front ++ own ∷ []) ++ next ∷ []
+    mine = front_is_state laws.contents.nodes c h config run e g at (front ++ own ∷ []) next rest all
+
+    -- the first generation has none behind it
+    no_first : next.epoch ≡ first_epoch → ⊥
+    no_first first =
+        let one : (state_of c h next.epoch).gens ≡ first_generation c ∷ [] = ap (λ x. (state_of c h x).gens) first in
+        let same : (front ++ own ∷ []) ++ next ∷ [] ≡ first_generation c ∷ [] = sym mine ∙ one in
+        let many = ap length same in
+        let a = length-append (front ++ own ∷ []) (next ∷ []) in
+        let b = length-append front (own ∷ []) in
+        omega (arith, many, a, b)
+
+    by_plan : (r : RecState) → rec_at c h next.epoch ≡ Some r → (q : Plan) → r.plan ≡ Some q → q.generation ≡ next → next.first ≤ durable_of (log_at c h own.epoch i) + 1
+    by_plan r here q planned same =
+        let states = (recoverers_have_states laws.contents.nodes c h config run next.epoch r here).plan q planned in
+        let p : Parent = states.1.0 in
+        let parent : r.parent ≡ Some p = states.1.1 in
+        let gens : (front ++ own ∷ []) ++ next ∷ [] ≡ p.state.gens ++ q.generation ∷ [] = sym mine ∙ ap (λ (s : CoordinatedState). s.gens) (state_planned laws.contents.nodes c h run next.epoch r here q planned) ∙ states.1.2 in
+        let behind : front ++ own ∷ [] ≡ p.state.gens = (same_from_push (front ++ own ∷ []) p.state.gens next q.generation gens).0 in
+        let found : last_of p.state.gens ≡ Some p.last = ((has_found laws.contents.nodes c h run next.epoch r here).found p parent).last in
+        let lasts : Some own ≡ Some p.last = sym (last_more front own) ∙ ap last_of behind ∙ found in
+        let last : own ≡ p.last = cc in
+        let epoch : own.epoch ≡ p.last.epoch = ap (λ (x : LogGeneration). x.epoch) last in
+        let end = end_is_of_replies laws.contents.nodes c h run next.epoch r q here planned in
+        let stand = replies_stand_still laws.contents.nodes c h run next.epoch r p here parent in
+        let low : pev_of (tally r) ≤ durable_of (log_at c h p.last.epoch i) =
+        known_fold (durable_of (log_at c h p.last.epoch i)) 0 (tally r).replies (omega arith) (All-weaker (λ y. StandsAt c h p.last.epoch y.log y.durable y.known) (λ y. y.known ≤ durable_of (log_at c h p.last.epoch i))
+        (λ y z. (
+        let l = known_is_durable laws.contents.nodes c h run p.last.epoch y.log i z.there (subst (λ x. i < logs_at c h x) epoch there) (subst (λ x. IsSome (log_at c h x i).seed) epoch seeded) in
+        let k = z.known_is in
+        omega (arith, l, k))) (tally r).replies stand) in
+        let first = end.first in
+        let at_next = ap (λ (x : LogGeneration). x.first) same in
+        let durable = ap (λ x. durable_of (log_at c h x i)) epoch in
+        omega (arith, low, first, at_next, durable)
+
+-- ---- one log
+
+-- what a log of a generation has at a version is the generation's part there
+log_has : Laws → (c : Config) (h : List Turn) → IsConfig c → IsRun c h → (g : LogGeneration) → generation_at c h g.epoch ≡ Some g → (i tag version : ℕ) → tag < length c.begins → i < logs_at c h g.epoch → is_held tag g.m g.k i ≡ true
+    → g.first ≤ version → version ≤ durable_of (log_at c h g.epoch i) → (o : Option SeedContent) → (log_at c h g.epoch i).seed ≡ o → is_some o ≡ true
+    → records_at version (records_of (log_at c h g.epoch i) tag) ≡ part_records c h g.epoch tag (version - 1) version
+log_has laws c h config run g at i tag version inside there held first durable None seeded some = absurd (cc)
+log_has laws c h config run g at i tag version inside there held first durable (Some s) seeded some =
+    ap (records_at version) whole
+    ∙ ap (filter (λ r. nat_le r.version version)) (kept_records (nat_lt (version - 1)) (part_of c tag (s.first - 1) (durable_of l) (issued c h g.epoch)) ∙ ap (map record_of) (part_above c tag (s.first - 1) (version - 1) (durable_of l) (issued c h g.epoch) (omega (arith, low, first))))
+    ∙ kept_records (λ v. nat_le v version) (part_of c tag (version - 1) (durable_of l) (issued c h g.epoch))
+    ∙ ap (map record_of) (part_through c tag (version - 1) version (durable_of l) (issued c h g.epoch) durable)
+  where
+    l : LogState
+    l = log_at c h g.epoch i
+
+    named : IsNamed c h g.epoch i (log_at c h g.epoch i)
+    named = log_named laws.contents.nodes c h run g.epoch i there
+
+    generation : named.generation ≡ g
+    generation = (let two : Some named.generation ≡ Some g = sym named.of ∙ at in cc)
+
+    holds : is_held tag l.m l.k i ≡ true
+    holds =
+        ap (λ m. is_held tag m l.k i) (named.m ∙ ap (λ (x : LogGeneration). x.m) generation)
+        ∙ ap (λ k. is_held tag g.m k i) (named.k ∙ ap (λ (x : LogGeneration). x.k) generation)
+        ∙ held
+
+    parts : HasParts c h g.epoch i l s
+    parts = subst (λ o. IfSome o (HasParts c h g.epoch i l)) seeded (logs_have_parts laws.contents c h config run g.epoch i there)
+
+    whole : records_of l tag ≡ part_records c h g.epoch tag (s.first - 1) (durable_of l)
+    whole = parts tag inside ∙ ap (λ b. cond b (part_records c h g.epoch tag (s.first - 1) (durable_of l)) []) holds
+
+    seed : IsSeedAt c h g.epoch s
+    seed = subst (λ o. IfSome o (IsSeedAt c h g.epoch)) seeded (logs_know laws.contents.nodes c h run g.epoch i there).seed
+
+    low : s.first ≡ g.first
+    low = seed.first ∙ (let two : Some seed.generation ≡ Some g = sym seed.of ∙ at in let one : seed.generation ≡ g = cc in ap (λ (x : LogGeneration). x.first) one)
+
+-- a holder that is left serves the version
+served : Laws → (c : Config) (h : List Turn) → IsConfig c → IsRun c h → (e tag version : ℕ) → tag < length c.begins → (src : LogGeneration) → source_of (state_of c h e).gens version ≡ Some src → generation_at c h src.epoch ≡ Some src
+    → src.first ≤ version → src.k ≤ src.m → log_count src.m (lost_logs h src.epoch) < src.k → AllReach c h src.epoch src version
+    → part_records c h src.epoch tag (version - 1) version ≡ part_records c h e tag (version - 1) version → IsRetrievable c h e tag version
+served laws c h config run e tag version inside src is at first le few all same =
+    let left = laws.holder_left tag src.m src.k (lost_logs h src.epoch) le few in
+    let k = all left.0 left.1 in
+    record {
+      source = src;
+      is_source = is;
+      first = first;
+      log = left.0;
+      there = k.there;
+      up = λ gone. left.3 (gone_is_lost h src.epoch left.0 gone);
+      held = left.2;
+      seeded = k.seeded;
+      durable = k.durable;
+      records = log_has laws c h config run src at left.0 tag version inside k.there left.2 first k.durable (log_at c h src.epoch left.0).seed refl k.seeded ∙ same;
+    }
+
+-- ---- each version
+
+pub committed_is_retrievable : Laws → CommittedIsRetrievable
+committed_is_retrievable laws c h config run e latest few tag inside version low high = go (source_of gens version) refl
+  where
+    gens : List LogGeneration
+    gens = (state_of c h e).gens
+
+    is : IsCoordinatedState (state_of c h e)
+    is = state_is laws.contents.nodes c h config run e
+
+    g : (g : LogGeneration) × (generation_at c h e ≡ Some g)
+    g = chosen_is_planned laws.contents.nodes c h run e latest.chosen
+
+    list : HasList c h e g.0
+    list = planned_list laws.contents.nodes c h config run e g.0 g.1
+
+    own_is : (x : LogGeneration) → Contains gens x → generation_at c h x.epoch ≡ Some x
+    own_is x there = All-contains (λ y. generation_at c h y.epoch ≡ Some y) gens x list.each there
+
+    -- the list begins with the first generation, which starts at 1
+    first_there : Contains gens (first_generation c)
+    first_there =
+        let front = chosen_are_chain laws.contents.nodes c h config run first_epoch e (first_is_chosen c h) latest.chosen (latest.greatest first_epoch (first_is_chosen c h)) in
+        subst (λ (xs : List LogGeneration). Contains xs (first_generation c)) front.1 (Contains-append_left (first_generation c ∷ []) front.0 (first_generation c) (Contains-here (first_generation c) []))
+
+    -- the last generation
+    last_one : (src : LogGeneration) → Contains gens src → end_of gens src.epoch ≡ None → src ≡ g.0
+    last_one src there none = elim (cases_lt src.epoch g.0.epoch) [
+      | inl lt ↦ (
+          let k : IsSome (end_of gens src.epoch) = (laws.stores.earlier gens src g.0 list.ordered there list.last lt).0 in
+          let j : false ≡ true = sym (ap is_some none) ∙ k in
+          absurd (cc))
+      | inr ge ↦ (
+          let most = greatest gens src list.ordered there in
+          let top : epoch_of (last_of gens) ≡ g.0.epoch = ap epoch_of list.last in
+          let same : src.epoch ≡ g.0.epoch = omega (arith, ge, most, top) in
+          let two : Some src ≡ Some g.0 = sym (own_is src there) ∙ ap (generation_at c h) (same ∙ list.own) ∙ g.1 in
+          cc)
+    ]
+
+    limits : (src : LogGeneration) → Contains gens src → src.k ≤ src.m
+    limits src there = (All-contains IsGeneration gens src is.limits there).k_high
+
+    found : (src : LogGeneration) → source_of gens version ≡ Some src → Contains gens src → src.first ≤ version → IfSome (end_of gens src.epoch) (λ end. version ≤ end) → (o : Option LogGeneration) → next_of gens src.epoch ≡ o → IsRetrievable c h e tag version
+    found src at there first within None next =
+        let none : end_of gens src.epoch ≡ None = ap (option_map (λ (n : LogGeneration). n.first - 1)) next in
+        let same : src ≡ g.0 = last_one src there none in
+        let epoch : src.epoch ≡ e = ap (λ (x : LogGeneration). x.epoch) same ∙ list.own in
+        let below = least_is_below laws c h config run e g.0 latest.chosen g.1 in
+        served laws c h config run e tag version inside src at (own_is src there) first (limits src there) (All-contains (λ x. log_count x.m (lost_logs h x.epoch) < x.k) gens src few there)
+        (λ i l. subst (λ x. HasReached c h x i version) (sym epoch) (reached i (subst (λ (x : LogGeneration). i < x.m) same l)))
+        (ap (λ x. part_records c h x tag (version - 1) version) epoch)
+      where
+        reached : (i : ℕ) → i < g.0.m → HasReached c h e i version
+        reached i l =
+            let k = seeded_logs laws c h config run e g.0 latest.chosen g.1 i l in
+            let below = least_is_below laws c h config run e g.0 latest.chosen g.1 in
+            let d = below_is_durable laws.contents.nodes c h run e (least_durable c h e) below i k.0 k.1 in
+            record { there = k.0; seeded = k.1; durable = omega (arith, d, high) }
+    found src at there first within (Some next) is_next =
+        let s = split_at gens src.epoch next is_next in
+        let own_there : Contains gens s.own = subst (λ (xs : List LogGeneration). Contains xs s.own) (sym s.are) (Contains-append_right s.before (s.own ∷ next ∷ s.after) s.own (Contains-here s.own (next ∷ s.after))) in
+        let two : Some s.own ≡ Some src = sym (own_is s.own own_there) ∙ ap (generation_at c h) s.is ∙ own_is src there in
+        let same : s.own ≡ src = cc in
+        let are : gens ≡ s.before ++ src ∷ next ∷ s.after = s.are ∙ ap (λ (x : LogGeneration). s.before ++ x ∷ next ∷ s.after) same in
+        let end : end_of gens src.epoch ≡ Some (next.first - 1) = ap (option_map (λ (n : LogGeneration). n.first - 1)) is_next in
+        let cut : cut_of gens src.epoch ≡ Some next.seeded_to = ap (option_map (λ (n : LogGeneration). n.seeded_to)) is_next in
+        let upto : version ≤ next.first - 1 = subst (λ (o : Option ℕ). IfSome o (λ n. version ≤ n)) end within in
+        let above = laws.stores.above_end gens src.epoch (next.first - 1) next.seeded_to is.limits end cut in
+        let seeded = behind_is_seeded laws.contents.nodes c h config run e g.0 g.1 s.before src next s.after are in
+        served laws c h config run e tag version inside src at (own_is src there) first (limits src there) (All-contains (λ x. log_count x.m (lost_logs h x.epoch) < x.k) gens src few there)
+        (λ i l. behind_reached src (own_is src there) seeded i l (λ here is. (let d = end_is_reached laws c h config run e g.0 g.1 s.before src next s.after are i here is in omega (arith, d, upto, low))))
+        (ap (map record_of) (part_same c tag (version - 1) version version (issued c h src.epoch) (issued c h e) (omega arith) (front_issues laws c h config run e g.0 g.1 s.before src next s.after are version (omega (arith, upto, above)))))
+      where
+        behind_reached : (src : LogGeneration) → generation_at c h src.epoch ≡ Some src → IsSeededEpoch c h src.epoch → (i : ℕ) → i < src.m → (i < logs_at c h src.epoch → IsSome (log_at c h src.epoch i).seed → version ≤ durable_of (log_at c h src.epoch i)) → HasReached c h src.epoch i version
+        behind_reached src at k i l reach =
+            let two : Some src ≡ Some k.generation = sym at ∙ k.of in
+            let same : src ≡ k.generation = cc in
+            let m = ap (λ (x : LogGeneration). x.m) same in
+            let logs = k.logs in
+            let here : i < logs_at c h src.epoch = omega (arith, l, m, logs) in
+            record { there = here; seeded = k.seeded i here; durable = reach here (k.seeded i here) }
+
+    go : (o : Option LogGeneration) → source_of gens version ≡ o → IsRetrievable c h e tag version
+    go None at =
+        let above = All-contains (λ x. version < x.first) gens (first_generation c) ((laws.source_none gens version).0 at) first_there in
+        absurd (omega (arith, above, low))
+    go (Some src) at =
+        let k = (laws.stores.source gens version src is.ordered is.limits).0 at in
+        found src at k.0 k.1 k.2 (next_of gens src.epoch) refl

@@ -1,0 +1,23 @@
+-- What epochs have for a tag, and that it agrees along the generations of each epoch's state.
+use Rattle.std.specs.Prelude.{◌≡◌, ℕ, List, Some}
+use Rattle.fr_state.specs.Generations.{LogGeneration}
+use Rattle.fr_storage.specs.Follows.{Pieces, ArePieces, Agrees}
+use Rattle.fr_run.specs.Config.{Config}
+use Rattle.fr_run.specs.Turn.{Turn}
+use Rattle.fr_run.specs.Nodes.{generation_at}
+use Rattle.fr_run.specs.Run.{IsRun}
+use Rattle.fr_run.specs.States.{state_of}
+use Rattle.fr_run.specs.StateLaws.{IsConfig}
+use Rattle.fr_run_contents.specs.Issued.{part}
+
+-- what the epochs of a run have for a tag
+abbrev pub pieces_at : Config → List Turn → ℕ → Pieces
+pieces_at c h tag epoch after upto = part c h epoch tag after upto
+
+-- these are pieces
+abbrev pub PartsArePieces : Type 0
+PartsArePieces = (c : Config) (h : List Turn) → IsConfig c → IsRun c h → (tag : ℕ) → ArePieces (pieces_at c h tag)
+
+-- and along the state of an epoch that is planned they agree through each cut
+abbrev pub PartsAgree : Type 0
+PartsAgree = (c : Config) (h : List Turn) → IsConfig c → IsRun c h → (e : ℕ) (g : LogGeneration) → generation_at c h e ≡ Some g → (tag : ℕ) → Agrees (pieces_at c h tag) (state_of c h e)

@@ -1,0 +1,39 @@
+-- That the main theorem says something: a run in which a storage server ran ahead of what survived and rolled back, while what was acknowledged stands; and one in
+-- which an acknowledged commit survives two recoveries.
+use Rattle.std.specs.Prelude.{◌≡◌, true, List, Contains}
+use Rattle.fr_base.specs.declared.place.NodeId.TheVariants as node
+use Rattle.fr_mutation.specs.declared.mutation.Mutation.{Mutation}
+use Rattle.fr_run.specs.Config.{Config}
+use Rattle.fr_run.specs.Turn.{Turn, Gone}
+use Rattle.fr_run.specs.Nodes.{is_open}
+use Rattle.fr_run.specs.Run.{IsRun}
+use Rattle.fr_run.specs.StateLaws.{IsConfig}
+use Rattle.fr_run_contents.specs.Issued.{committed}
+use Rattle.fr_run_headline.specs.Committed.{HasRolledBack, applied_at, IsAcknowledgedBatch, commit_at}
+
+-- a run of a generation of two logs: a batch was acknowledged at version 2; storage server 0 had applied version 3 too, which one log alone held; that log was lost, and
+-- the other one locked; after the recovery the storage server is at version 2
+pub record RollbackHappens : Type 0 where
+  pub config : Config
+  pub run : List Turn
+  pub is_config : IsConfig config
+  pub is_run : IsRun config run
+  pub rolled_back : HasRolledBack config run 0
+  pub ahead : applied_at config rolled_back.before 0 ≡ 3
+  pub now : applied_at config run 0 ≡ 2
+  pub lost : Contains run (Gone (node.Log 257 0))
+  pub batch : List Mutation
+  pub acknowledged : IsAcknowledgedBatch config run 257 2 batch
+
+-- the same run, with another recovery in place of the rollback: a batch was acknowledged at version 2 of epoch 257, a log was lost, the epochs 513 and 769 were opened one
+-- after the other, and by the last one the batch stands in the committed list at its version
+pub record SurvivesTwoRecoveries : Type 0 where
+  pub config : Config
+  pub run : List Turn
+  pub is_config : IsConfig config
+  pub is_run : IsRun config run
+  pub batch : List Mutation
+  pub acknowledged : IsAcknowledgedBatch config run 257 2 batch
+  pub first : is_open config run 513 ≡ true
+  pub second : is_open config run 769 ≡ true
+  pub stands : Contains (committed config run 769) (commit_at 257 2 batch)

@@ -1,0 +1,57 @@
+-- All that is promised of one moment of a run, in one record; and what each moment keeps of the one before.
+use Rattle.std.specs.Prelude.{◌≡◌, ◌≢◌, ◌<◌, ◌≤◌, ℕ, List, ◌∷◌, ◌++◌, length, Some, IsSome, IfSome, Contains}
+use Rattle.fr_log.specs.Push.{PushContent}
+use Rattle.fr_log.specs.LogState.{known_of, durable_of}
+use Rattle.fr_epoch.specs.Recoverer.{RecState, Lost}
+use Rattle.fr_epoch.specs.declared.why.LostWhy.TheVariants.{Inconsistent}
+use Rattle.fr_storage.specs.Storage.{own_epoch}
+use Rattle.fr_run.specs.Config.{Config}
+use Rattle.fr_run.specs.Turn.{Turn}
+use Rattle.fr_run.specs.Nodes.{rec_at, logs_at, log_at, storage_at}
+use Rattle.fr_run.specs.Run.{IsRun}
+use Rattle.fr_run.specs.Batches.{IsAcknowledged}
+use Rattle.fr_run.specs.States.{state_of, IsChosenEpoch, IsLatest}
+use Rattle.fr_run.specs.StateLaws.{IsConfig}
+use Rattle.fr_run_contents.specs.Issued.{Entry, least_durable, committed}
+use Rattle.fr_run_contents.specs.Contents.{HasParts}
+use Rattle.fr_run_headline.specs.Committed.{IsFollowing, RolledBackIsExact, AcknowledgedIsNeverUndone}
+use Rattle.fr_run_headline.specs.Order.{IsNeverCut}
+use Rattle.fr_run_headline.specs.Retrievable.{AreFewLost, IsRetrievable}
+
+-- the order of versions: what a log knows each seeded log of the epoch holds; what is known, what was acknowledged and each floor no recovery cuts off; no
+-- recoverer finds its replies at odds; a log holds pushes, its mark among them, only of an epoch that is chosen; and a seeded log holds exactly its tags'
+-- parts of what its epoch issues
+pub record AreOrdered (c : Config) (h : List Turn) : Type 0 where
+  pub durable : (e i j : ℕ) → i < logs_at c h e → j < logs_at c h e → IsSome (log_at c h e j).seed → known_of (log_at c h e i) ≤ durable_of (log_at c h e j)
+  pub known : (e i : ℕ) → i < logs_at c h e → IsNeverCut c h e (known_of (log_at c h e i))
+  pub acknowledged : (e version : ℕ) → IsAcknowledged h e version → IsNeverCut c h e version
+  pub floors : (tag : ℕ) → IsNeverCut c h (own_epoch (storage_at c h tag).state) (storage_at c h tag).store.floor
+  pub consistent : (b : ℕ) (r : RecState) → rec_at c h b ≡ Some r → r.phase ≢ Lost Inconsistent
+  pub marks : (e i : ℕ) (q : PushContent) → i < logs_at c h e → Contains (log_at c h e i).pushes q → IsChosenEpoch c h e × IfSome q.mark (λ x. x ≡ state_of c h e)
+  pub parts : (e i : ℕ) → i < logs_at c h e → IfSome (log_at c h e i).seed (HasParts c h e i (log_at c h e i))
+
+-- all of it: the order of versions; every storage server follows; one that has just rolled back holds exactly its shard of what is committed; no acknowledged
+-- commit is ever undone; and while fewer than k logs of each generation are lost, each committed version can be retrieved for each tag
+pub record IsSafe (c : Config) (h : List Turn) : Type 0 where
+  pub order : AreOrdered c h
+  pub follows : (tag : ℕ) → IsFollowing c h tag (storage_at c h tag)
+  pub rolled_back : RolledBackIsExact c h
+  pub acknowledged : AcknowledgedIsNeverUndone c h
+  pub retrievable : (latest : ℕ) → IsLatest c h latest → AreFewLost c h latest → (tag : ℕ) → tag < length c.begins
+      → (version : ℕ) → 1 ≤ version → version ≤ least_durable c h latest → IsRetrievable c h latest tag version
+
+-- every moment of every run is safe
+abbrev pub EveryMomentIsSafe : Type 0
+EveryMomentIsSafe = (c : Config) (h : List Turn) → IsConfig c → IsRun c h → IsSafe c h
+
+-- the committed list of one moment begins with that of another
+abbrev pub IsGrownFrom : Config → List Turn → List Turn → Type 0
+IsGrownFrom c h later = (a b : ℕ) → IsLatest c h a → IsLatest c later b → (rest : List Entry) × (committed c h a ++ rest ≡ committed c later b)
+
+-- that of a turn later does
+abbrev pub EachTurnGrows : Type 0
+EachTurnGrows = (c : Config) (h : List Turn) (t : Turn) → IsConfig c → IsRun c (t ∷ h) → IsGrownFrom c h (t ∷ h)
+
+-- and that of the same moment
+abbrev pub StandingGrows : Type 0
+StandingGrows = (c : Config) (h : List Turn) → IsConfig c → IsRun c h → IsGrownFrom c h h

@@ -1,0 +1,143 @@
+//! Laws of storage servers, and of what is committed.
+ghost use Rattle.fr_run_headline.specs.Agreement.{PartsAgree, PartsArePieces};
+ghost use Rattle.fr_run_headline.specs.Committed.{AcknowledgedHasBatch, CommittedGrows, EveryStorageFollows, LatestIsThere};
+ghost use Rattle.fr_run_headline.specs.Example.{RollbackHappens, SurvivesTwoRecoveries};
+ghost use Rattle.fr_run_headline.specs.Headline.{Headline};
+ghost use Rattle.fr_run_headline.specs.Order.{AcknowledgedIsNeverCut, FloorIsNeverCut, HeldIsChosen, KnownIsNeverCut, NeverInconsistent};
+ghost use Rattle.fr_run_headline.specs.Retrievable.{CommittedIsRetrievable};
+ghost use Rattle.fr_run_headline.specs.Safety.{EachTurnGrows, EveryMomentIsSafe, StandingGrows};
+ghost use Rattle.fr_run_headline.specs.Storages.{HearsAreTaken, StoragesFollow};
+ghost use Rattle.fr_run_headline.specs.Laws.{Laws};
+ghost use Rattle.fr_run_contents.specs.Laws as contents;
+ghost use Rattle.fr_storage.specs.Laws as storage;
+ghost use Rattle.fr_undo.specs.Law.{InverseLaw};
+
+use fr_mutation::{after_law, clip_law};
+use fr_run::laws::node_laws;
+use fr_run_contents::laws::contents_law;
+use fr_run_versions::laws::order_law as version_law;
+use fr_state::{cut_law, equal_law, front_law, source_law, spelling_law};
+use fr_storage::follow_law as hear_law;
+use fr_tags::laws::{cover_law, shard_fold_law, split_law};
+use fr_tail::laws::copy_law;
+use fr_undo::{canonical_law, inverse_law};
+
+/// The laws of what logs hold.
+fn contents_laws()
+    ensures { contents.Laws }
+{
+    node_laws();
+    split_law();
+    copy_law();
+}
+
+/// The laws of stores and of lists of generations.
+fn store_laws()
+    ensures { storage.Laws }
+{
+    canonical_law();
+    source_law();
+    cut_law();
+    front_law();
+    equal_law();
+    spelling_law();
+}
+
+/// The laws of the crates below on which these rest.
+fn lower_laws()
+    ensures { Laws }
+{
+    contents_laws();
+    store_laws();
+    cut_law();
+    source_law();
+    cover_law();
+    after_law();
+    clip_law();
+    shard_fold_law();
+    hear_law();
+}
+
+/// What epochs have for a tag is pieces of commits, and along the generations of an epoch's state they agree
+/// through each cut.
+pub fn agree_law()
+    ensures pieces { PartsArePieces }
+    ensures agree { PartsAgree }
+{
+    lower_laws();
+}
+
+/// At every moment each storage server keeps the state of a chosen epoch and follows that epoch, also one that ran
+/// ahead, that skipped epochs, or whose hear broke off: it has exactly its shard of the map that the epoch issued
+/// through the version applied. No hear is refused as that of a stranger, nor below the floor.
+pub fn follow_law()
+    ensures storages { StoragesFollow }
+    ensures exact { EveryStorageFollows }
+    ensures taken { HearsAreTaken }
+{
+    lower_laws();
+}
+
+/// At every moment there is a committed list, by the chosen epoch of the greatest ballot, and it only grows: at each
+/// later moment it begins with what it was.
+pub fn committed_law()
+    ensures latest { LatestIsThere }
+    ensures grows { CommittedGrows }
+{
+    lower_laws();
+}
+
+/// What a log knows, what was acknowledged and the floor of a storage server are not above the cut of their epoch in any
+/// state that goes on from it; logs hold pushes of chosen epochs alone; and no recoverer finds its replies at odds.
+pub fn order_law()
+    ensures known { KnownIsNeverCut }
+    ensures acknowledged { AcknowledgedIsNeverCut }
+    ensures floors { FloorIsNeverCut }
+    ensures held { HeldIsChosen }
+    ensures consistent { NeverInconsistent }
+{
+    lower_laws();
+}
+
+/// Each version that a proxy answers to be committed is acknowledged with the batch that the proxy has under way.
+pub fn acknowledged_law()
+    ensures batches { AcknowledgedHasBatch }
+{
+    lower_laws();
+}
+
+/// The main theorem. On every state of a store a batch applied and then undone is the identity; hence, over every list
+/// of commits, pulls, crashes, recoveries and losses of fewer than k logs of each generation, a storage server that has
+/// rolled back holds exactly its shard of the map given by the committed batches through its applied version, which is
+/// at most the recovery version, and no acknowledged commit is ever undone. Only that what is committed can be
+/// retrieved wants fewer than k logs to be lost; the rest holds whatever is lost.
+pub fn headline_law()
+    ensures undo { InverseLaw }
+    ensures headline { Headline }
+    ensures retrievable { CommittedIsRetrievable }
+{
+    inverse_law();
+    lower_laws();
+}
+
+/// All of it in one record: every moment of every run is safe, and from turn to turn the committed list only grows.
+pub fn safety_law()
+    ensures safe { EveryMomentIsSafe }
+    ensures turns { EachTurnGrows }
+    ensures stands { StandingGrows }
+{
+    version_law();
+    contents_law();
+    order_law();
+    follow_law();
+    committed_law();
+    headline_law();
+}
+
+/// The theorem says something: there is a run in which a batch is acknowledged, a storage server runs ahead of what
+/// survives, one of two logs is lost, and the storage server rolls back by one version. And there is a run in which an
+/// acknowledged batch survives two recoveries.
+pub fn example_law()
+    ensures rollback { RollbackHappens }
+    ensures survives { SurvivesTwoRecoveries }
+{}

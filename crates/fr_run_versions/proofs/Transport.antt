@@ -1,0 +1,166 @@
+-- Along the generations of a state each one is its ballot's, and what is below in one is not above what any later one is seeded to.
+use Rattle.std.proofs.Common.{◌≡◌, ℕ, zero, suc, ◌<◌, ◌≤◌, true, List, [], ◌∷◌, ◌++◌, Option, None, Some, inl, inr, ◌⊎◌, refl, sym, ◌∙◌, ap, subst, arith}
+use Rattle.std.specs.Prelude.{IfSome, IsSome, is_some}
+use Rattle.std.specs.List.{All, Contains}
+use Rattle.std.proofs.lemmas.List.Elements.{All-nil, All-push, All-weaker, All-contains, Contains-append_right}
+use Rattle.fr_state.specs.Generations.{LogGeneration, CoordinatedState, IsCoordinatedState, last_of}
+use Rattle.fr_state.specs.Spelling.{spelling}
+use Rattle.fr_register.specs.Poll.{Stamped}
+use Rattle.fr_register.specs.Chosen.{IsKept, IsReady}
+use Rattle.fr_log.specs.Seed.{SeedContent}
+use Rattle.fr_log.specs.LogState.{durable_of, seeded_to_of}
+use Rattle.fr_epoch.specs.Recoverer.{RecState, Parent, Plan, is_written}
+use Rattle.fr_run.specs.Config.{Config, first_generation, first_state, first_cell}
+use Rattle.fr_run.specs.Turn.{Turn, cell_turns}
+use Rattle.fr_run.specs.Nodes.{rec_at, generation_at, logs_at, log_at}
+use Rattle.fr_run.specs.Run.{IsRun}
+use Rattle.fr_run_versions.specs.Bounds.{IsSeedAt, TakesOver, AreTakenOver, IsLine}
+use Rattle.fr_run.specs.Laws.{Laws}
+use Rattle.fr_run.specs.StateLaws.{IsConfig}
+use Rattle.fr_run_versions.specs.LogLaws.{tally, StandsAt}
+use Rattle.fr_run.specs.ParentLaws.{greatest_in, parent_at}
+use Rattle.fr_run_versions.specs.BoundLaws.{BelowIsHeldLater, AcknowledgedIsHeldLater}
+use Rattle.fr_run_versions.proofs.Acks.{acknowledged_is_safe}
+use Rattle.fr_run.proofs.Growth.{rec_is}
+use Rattle.fr_run.proofs.Cells.{Contains-later, cells_have_history, first_within, written_is_state}
+use Rattle.fr_run.proofs.Register.{has_found, parent_is_greatest}
+use Rattle.fr_run.proofs.States.{first_is, last_is, one_spelling, recoverers_have_states}
+use Rattle.fr_run_versions.proofs.Pushes.{plan_is, plan_generation}
+use Rattle.fr_run_versions.proofs.Locks.{replies_stand_still}
+use Rattle.fr_run_versions.proofs.Ends.{end_is_of_replies}
+use Rattle.fr_run_versions.proofs.Tells.{from_start}
+use Rattle.fr_run_versions.proofs.Known.{logs_know}
+use Rattle.fr_run_versions.proofs.Orders.{low_least, below_is_taken_over}
+
+-- ---- where a parent comes from
+
+-- a parent state is the first one, or the plan of a lower ballot
+pub record IsPlanBelow (c : Config) (h : List Turn) (b : ℕ) (s : CoordinatedState) : Type 0 where
+  pub ballot : ℕ
+  pub below : ballot < b
+  pub recoverer : RecState
+  pub at : rec_at c h ballot ≡ Some recoverer
+  pub plan : Plan
+  pub planned : recoverer.plan ≡ Some plan
+  pub written : is_written recoverer ≡ true
+  pub is : plan.state ≡ s
+
+pub parent_comes : Laws → (c : Config) (h : List Turn) → IsConfig c → IsRun c h → (b : ℕ) (r : RecState) (p : Parent) → rec_at c h b ≡ Some r → r.parent ≡ Some p → (first_state c ≡ p.state) ⊎ IsPlanBelow c h b p.state
+parent_comes laws c h config run b r p at parent = elim kept.holds [
+  | inl start ↦ inl (one_spelling laws (first_state c) p.state (first_is c config) par.0 (sym (ap (λ (s : Stamped). s.value) start) ∙ greatest))
+  | inr w ↦ (
+      let k = written_is_state laws c h run (parent_at c h b) (record { cell = ready.read.found.0; tell = _; comes = w }) in
+      let states = (recoverers_have_states laws c h config run (parent_at c h b).ballot k.recoverer k.at).plan k.plan k.planned in
+      inr (record {
+        ballot = (parent_at c h b).ballot;
+        below = ready.below;
+        recoverer = k.recoverer;
+        at = k.at;
+        plan = k.plan;
+        planned = k.planned;
+        written = k.written;
+        is = one_spelling laws k.plan.state p.state states.0 par.0 (sym k.value ∙ greatest);
+      }))
+]
+  where
+    par : IsCoordinatedState p.state × (r.reads.greatest.value ≡ spelling p.state)
+    par = (recoverers_have_states laws c h config run b r at).parent p parent
+
+    greatest : (parent_at c h b).value ≡ spelling p.state
+    greatest = ap (λ o. (greatest_in o).value) at ∙ par.1
+
+    ready : IsReady c.cells (first_cell c) (cell_turns h) b (parent_at c h b)
+    ready = parent_is_greatest laws c h run b r p at parent
+
+    kept : IsKept (first_cell c) (cell_turns h) ready.read.found.0 b (parent_at c h b)
+    kept = laws.promises_kept (first_cell c) (cell_turns h) ready.read.found.0 b (parent_at c h b) (first_within c) (cells_have_history c h run) ready.read.found.1
+
+-- ---- one more generation
+
+-- a seeded log holds through what its generation was seeded to
+pub seeded_is_durable : Laws → (c : Config) (h : List Turn) → IsRun c h → (e : ℕ) (g : LogGeneration) → generation_at c h e ≡ Some g → (i : ℕ) → i < logs_at c h e → IsSome (log_at c h e i).seed → g.seeded_to ≤ durable_of (log_at c h e i)
+seeded_is_durable laws c h run e g at i there seeded =
+    let seed = from (log_at c h e i).seed (logs_know laws c h run e i there).seed seeded in
+    let start = from_start (seeded_to_of (log_at c h e i).seed) (log_at c h e i).pushes in
+    omega (arith, seed, start)
+  where
+    from : (o : Option SeedContent) → IfSome o (IsSeedAt c h e) → is_some o ≡ true → g.seeded_to ≤ seeded_to_of o
+    from None j d = absurd (cc)
+    from (Some s) j d =
+        let two : Some g ≡ Some j.generation = sym at ∙ j.of in
+        let same : g ≡ j.generation = cc in
+        let e' = ap (λ (x : LogGeneration). x.seeded_to) same in
+        omega (arith, e', j.seeded_to)
+
+-- a plan is not seeded to less than the generation before it
+seed_rises : Laws → (c : Config) (h : List Turn) → IsRun c h → (b : ℕ) (r : RecState) (p : Parent) (q : Plan) → rec_at c h b ≡ Some r → r.parent ≡ Some p → r.plan ≡ Some q → generation_at c h p.last.epoch ≡ Some p.last
+    → p.last.seeded_to ≤ q.generation.seeded_to
+seed_rises laws c h run b r p q at parent planned last =
+    let end = end_is_of_replies laws c h run b r q at planned in
+    let each : All (λ x. p.last.seeded_to ≤ x.durable) (tally r).replies = All-weaker (λ x. StandsAt c h p.last.epoch x.log x.durable x.known) (λ x. p.last.seeded_to ≤ x.durable)
+    (λ x s. (let l = seeded_is_durable laws c h run p.last.epoch p.last last x.log s.there s.seeded in omega (arith, l, s.durable_is))) (tally r).replies (replies_stand_still laws c h run b r p at parent) in
+    let low = low_least p.last.seeded_to (tally r).m (tally r).k (tally r).replies end.covered each in
+    omega (arith, low, end.seeded_to)
+
+over_more : (c : Config) (h : List Turn) (gens : List LogGeneration) (g n : LogGeneration) → last_of gens ≡ Some g → g.seeded_to ≤ n.seeded_to → TakesOver c h g n → AreTakenOver c h gens → AreTakenOver c h (gens ++ n ∷ [])
+over_more c h [] g n last l k all = absurd (cc)
+over_more c h (x ∷ []) g n last l k all =
+    let same : x ≡ g = cc in
+    (All-push (TakesOver c h x) [] n (All-nil (TakesOver c h x)) (subst (λ y. TakesOver c h y n) (sym same) k), (All-nil (TakesOver c h n), tt))
+over_more c h (x ∷ y ∷ gens) g n last l k all =
+    let upto : TakesOver c h x g = last_is (TakesOver c h x) (y ∷ gens) g last all.0 in
+    (All-push (TakesOver c h x) (y ∷ gens) n all.0 (λ v below. (let j = upto v below in omega (arith, j, l))), over_more c h (y ∷ gens) g n last l k all.1)
+
+line_more : (c : Config) (h : List Turn) (gens : List LogGeneration) (g n : LogGeneration) → last_of gens ≡ Some g → g.seeded_to ≤ n.seeded_to → TakesOver c h g n → generation_at c h n.epoch ≡ Some n → IsLine c h gens → IsLine c h (gens ++ n ∷ [])
+line_more c h gens g n last l k own line = record {
+  each = All-push (λ x. generation_at c h x.epoch ≡ Some x) gens n line.each own;
+  over = over_more c h gens g n last l k line.over;
+}
+
+pub first_line : (c : Config) (h : List Turn) → IsLine c h (first_state c).gens
+first_line c h = record {
+  each = All-push (λ x. generation_at c h x.epoch ≡ Some x) [] (first_generation c) (All-nil (λ x. generation_at c h x.epoch ≡ Some x)) refl;
+  over = (All-nil (TakesOver c h (first_generation c)), tt);
+}
+
+-- ---- all generations, by the ballot
+
+lines : Laws → (c : Config) (h : List Turn) → IsConfig c → IsRun c h → (n b : ℕ) → b < n → (r : RecState) (q : Plan) → rec_at c h b ≡ Some r → r.plan ≡ Some q → IsLine c h q.state.gens
+lines laws c h config run zero b l r q at planned = absurd (omega (arith, l))
+lines laws c h config run (suc n) b l r q at planned =
+    let state = (recoverers_have_states laws c h config run b r at).plan q planned in
+    let p : Parent = state.1.0 in
+    let parent : r.parent ≡ Some p = state.1.1 in
+    let before : IsLine c h p.state.gens = elim (parent_comes laws c h config run b r p at parent) [
+      | inl first ↦ subst (λ (s : CoordinatedState). IsLine c h s.gens) first (first_line c h)
+      | inr k ↦ subst (λ (s : CoordinatedState). IsLine c h s.gens) k.is (lines laws c h config run n k.ballot (let low = k.below in omega (arith, l, low)) k.recoverer k.plan k.at k.planned)
+    ] in
+    let last : last_of p.state.gens ≡ Some p.last = ((has_found laws c h run b r at).found p parent).last in
+    let own : generation_at c h p.last.epoch ≡ Some p.last = last_is (λ x. generation_at c h x.epoch ≡ Some x) p.state.gens p.last last before.each in
+    let is = plan_is laws c h run b r at q planned in
+    let mine : generation_at c h q.generation.epoch ≡ Some q.generation = subst (λ y. generation_at c h y ≡ Some q.generation) (sym (is.epoch ∙ (rec_is laws c h run b r at).ballot)) (plan_generation laws c h run b r at q planned) in
+    subst (IsLine c h) (sym state.1.2) (line_more c h p.state.gens p.last q.generation last (seed_rises laws c h run b r p q at parent planned own) (λ v below. below_is_taken_over laws c h run b r p q at parent planned v below) mine before)
+
+pub plans_are_lines : Laws → (c : Config) (h : List Turn) → IsConfig c → IsRun c h → (b : ℕ) (r : RecState) (q : Plan) → rec_at c h b ≡ Some r → r.plan ≡ Some q → IsLine c h q.state.gens
+plans_are_lines laws c h config run b r q at planned = lines laws c h config run (suc b) b (omega arith) r q at planned
+
+-- ---- later generations
+
+over_at : (c : Config) (h : List Turn) (front : List LogGeneration) (g : LogGeneration) (rest : List LogGeneration) → AreTakenOver c h (front ++ g ∷ rest) → All (TakesOver c h g) rest
+over_at c h [] g rest k = k.0
+over_at c h (x ∷ front) g rest k = over_at c h front g rest k.1
+
+later_is : (front : List LogGeneration) (g n : LogGeneration) (rest : List LogGeneration) → Contains rest n → Contains (front ++ g ∷ rest) n
+later_is front g n rest k = Contains-append_right front (g ∷ rest) n (Contains-later g rest n k)
+
+pub below_is_held_later : Laws → BelowIsHeldLater
+below_is_held_later laws c h config run b r q at planned front g n rest is later v below =
+    let line = plans_are_lines laws c h config run b r q at planned in
+    let low : v ≤ n.seeded_to = All-contains (TakesOver c h g) rest n (over_at c h front g rest (subst (AreTakenOver c h) is line.over)) later v below in
+    let own : generation_at c h n.epoch ≡ Some n = All-contains (λ x. generation_at c h x.epoch ≡ Some x) (front ++ g ∷ rest) n (subst (λ xs. All (λ x. generation_at c h x.epoch ≡ Some x) xs) is line.each) (later_is front g n rest later) in
+    (low, (λ i there seeded. (let k = seeded_is_durable laws c h run n.epoch n own i there seeded in omega (arith, k, low))))
+
+pub acknowledged_is_held_later : Laws → AcknowledgedIsHeldLater
+acknowledged_is_held_later laws c h config run b r q at planned front g n rest is later v acked =
+    let k = acknowledged_is_safe laws c h run g.epoch v acked in
+    below_is_held_later laws c h config run b r q at planned front g n rest is later v (record { generation = k.generation; at = k.of; below = inr k.reached })

@@ -1,0 +1,131 @@
+-- A node with its journal, as contracts see it.
+use Rattle.std.specs.Prelude.{ℕ, Bool, true, false, ◌≡◌, ◌⊎◌, ◌+◌, ◌-◌, ◌==◌, ◌^◌, max, ◌++◌, List, [], ◌∷◌, Option, Some, None, if◌then◌else◌}
+use Rattle.fr_base.specs.declared.node.NodeFault.{NodeFault}
+use Rattle.fr_base.specs.declared.node.NodeFault.TheVariants as node
+use Rattle.fr_base.specs.declared.place.NodeId.{NodeId}
+use Rattle.fr_ask.specs.declared.tell.Tell.{Tell}
+use Rattle.fr_audit_journal.specs.declared.act.Act.{Act}
+use Rattle.fr_audit_journal.specs.declared.act.Act.TheVariants as act
+use Rattle.fr_audit_journal.specs.declared.act.Entry.{Entry}
+use Rattle.fr_audit_journal.specs.Journal.{IsAbove, last_stamp}
+use Rattle.fr_runtime_housing.specs.declared.kept.Kept.{Kept}
+use Rattle.fr_runtime_housing.specs.declared.fault.CallFault.{CallFault}
+use Rattle.fr_runtime_housing.specs.declared.fault.CallFault.TheVariants as call
+use Rattle.fr_runtime_housing.specs.Replays.{Steps, state_after, TellsAre, IsThere, gone_at_end}
+
+-- a node's place, its state when it was housed, what it did since, its state, whether it stands failed, and the ask that met the fault
+pub record Housing (S A : Type 0) : Type 0 where
+  pub place : NodeId
+  pub first : S
+  pub entries : List Entry
+  pub state : S
+  pub is_failed : Bool
+  pub kept : Option (Kept A)
+
+-- the stamp of the last entry, 0 where there is none
+abbrev pub number_or_zero : Option ℕ → ℕ
+number_or_zero None = 0
+number_or_zero (Some n) = n
+
+abbrev pub last_number : List Entry → ℕ
+last_number entries = number_or_zero (last_stamp entries)
+
+-- the stamp of an entry that follows these, for a caller of this stamp
+abbrev pub next_stamp : List Entry → ℕ → ℕ
+next_stamp entries stamp = max (last_number entries) stamp + 1
+
+-- the stamp of the ask that met the fault, 0 where there is none
+abbrev pub kept_stamp : {A : Type 0} → Option (Kept A) → ℕ
+kept_stamp None = 0
+kept_stamp (Some k) = k.stamp
+
+-- the greatest stamp that the next one has to be above
+abbrev pub greatest_stamp : {S A : Type 0} → Housing S A → ℕ → ℕ
+greatest_stamp h stamp = max (max (last_number h.entries) stamp) (kept_stamp h.kept)
+
+-- whether the node is a log that is lost, or a sequencer that crashed
+abbrev pub is_gone : {S A : Type 0} → Housing S A → Bool
+is_gone h = gone_at_end h.place false h.entries
+
+-- the state before the ask that met the fault; where none did, the node's
+abbrev pub before : {S A : Type 0} → Steps S A → Housing S A → S
+before m h = state_after m h.first h.entries
+
+-- the entry of the ask that met the fault, for where it was taken
+abbrev pub found_entry : {S A : Type 0} → Steps S A → S → Kept A → Entry
+found_entry m s k = record { stamp = k.stamp; act = act.Asked k.from (m.wrapped k.ask) (m.told s k.ask) }
+
+-- the entries, and that of the ask that met the fault
+abbrev pub with_found : {S A : Type 0} → Steps S A → S → List Entry → Option (Kept A) → List Entry
+with_found m s entries None = entries
+with_found m s entries (Some k) = entries ++ found_entry m s k ∷ []
+
+-- whether there is such an ask, which was found taken
+abbrev pub is_found : {A : Type 0} → Option (Kept A) → Bool
+is_found None = false
+is_found (Some k) = k.found
+
+-- what is kept once the node is found to stand before the ask, and after it
+
+abbrev pub left_kept : {A : Type 0} → Option (Kept A) → Option (Kept A)
+left_kept None = None
+left_kept (Some k) = if k.found then Some k else None
+
+abbrev pub found_kept : {A : Type 0} → Option (Kept A) → Option (Kept A)
+found_kept None = None
+found_kept (Some k) = Some (record k { found = true })
+
+-- the entries once the fault is settled: with the ask that met it, where this was taken, or without it; an ask once found taken stays so
+abbrev pub IsSettled : {S A : Type 0} → Steps S A → Housing S A → List Entry → Type 0
+IsSettled m h entries =
+    ((is_found h.kept ≡ false) × (entries ≡ h.entries))
+    ⊎ (entries ≡ with_found m (before m h) h.entries h.kept)
+
+-- a call leaves the entries, but for the ask that met an earlier fault
+abbrev pub Leaves : {S A : Type 0} → Steps S A → Housing S A → Housing S A → Type 0
+Leaves m old new = (new.entries ≡ old.entries) ⊎ (new.entries ≡ with_found m (before m old) old.entries old.kept)
+
+-- a call asks the node and enters that, at the end, and nothing else but the ask that met an earlier fault; `got` is the stamp and the tell
+pub record Asks {S A : Type 0} (m : Steps S A) (old new : Housing S A) (stamp : ℕ) (from : NodeId) (ask : A) (got : ℕ × Tell) : Type 0 where
+  pub settled : List Entry
+  pub is_settled : IsSettled m old settled
+  pub stamp_is : got.0 ≡ next_stamp settled stamp
+  pub tell_is : got.1 ≡ m.told (state_after m old.first settled) ask
+  pub entries_are : new.entries ≡ settled ++ record { stamp = got.0; act = act.Asked from (m.wrapped ask) got.1 } ∷ []
+
+-- a call enters an act, at the end, and nothing else but the ask that met an earlier fault
+pub record Enters {S A : Type 0} (m : Steps S A) (old new : Housing S A) (stamp at : ℕ) (done : Act) : Type 0 where
+  pub settled : List Entry
+  pub is_settled : IsSettled m old settled
+  pub stamp_is : at ≡ next_stamp settled stamp
+  pub entries_are : new.entries ≡ settled ++ record { stamp = at; act = done } ∷ []
+
+-- why a call is not taken, before anything is tried
+abbrev pub refusal_of : {S A : Type 0} → Housing S A → ℕ → Option CallFault
+refusal_of h stamp = if is_gone h then Some call.Lost else (if greatest_stamp h stamp == 2 ^ 40 - 1 then Some call.StampsSpent else None)
+
+-- the node works, and no fault is to be settled
+abbrev pub Works : {S A : Type 0} → Housing S A → Type 0
+Works h = (h.is_failed ≡ false) × (h.kept ≡ None)
+
+-- where the node stands beside what its journal says: there, or, where an ask met a fault, before it or, once that is found, after it
+abbrev pub StandsBy : {S A : Type 0} → Steps S A → S → S → Bool → Option A → Kept A → Bool → Type 0
+StandsBy m s state failed held k false = (state ≡ s) × (failed ≡ true) × (held ≡ Some k.ask)
+StandsBy m s state failed held k true = (state ≡ m.after s k.ask) × ((held ≡ None) ⊎ ((held ≡ Some k.ask) × (failed ≡ true)))
+
+abbrev pub Stands : {S A : Type 0} → Steps S A → S → List Entry → S → Bool → Option A → Option (Kept A) → Type 0
+Stands m s entries state failed held None = (state ≡ s) × (held ≡ None)
+Stands m s entries state failed held (Some k) = IsAbove entries k.stamp × StandsBy m s state failed held k k.found
+
+-- what is true of every node with its journal
+pub record IsHoused {S A : Type 0} (m : Steps S A) (IsReached : S → Type 0) (h : Housing S A) (held : Option A) : Type 0 where
+  pub tells : TellsAre m h.first h.entries
+  pub there : IsThere h.place false h.entries
+  pub reached : IsReached (before m h)
+  pub stands : Stands m (before m h) h.entries h.state h.is_failed held h.kept
+
+-- a fault that such a node can meet, or want of memory
+abbrev pub IsTrouble : (NodeFault → Type 0) → CallFault → Type 0
+IsTrouble CanMeet (call.Node fault) = (fault ≡ node.Memory) ⊎ CanMeet fault
+IsTrouble CanMeet call.StampsSpent = Unit {0}
+IsTrouble CanMeet call.Lost = Unit {0}

@@ -1,0 +1,115 @@
+//! What a node with its journal does anew is entered.
+ghost use Rattle.std.specs.Prelude.{◌≡◌, ◌⊎◌, ◌++◌, ◌∷◌, [], false, IfOk, OnOk, IfErr};
+ghost use Rattle.fr_base.specs.declared.node.NodeFault.{NodeFault};
+ghost use Rattle.fr_audit_journal.specs.declared.act.Act.{Act};
+ghost use Rattle.fr_audit_journal.specs.Journal.{IsAbove};
+ghost use Rattle.fr_runtime_housing.specs.Housing.{Works, is_gone};
+
+use super::Housed;
+use crate::housable::{Housable, repeat_law};
+use crate::kept::Kept;
+use crate::served::{ends_by_crash, served};
+use fr_ask::{Named, Tell};
+use fr_audit_journal::{Act, Entry};
+use fr_base::{Machine, Node, NodeFault, NodeId, Stamp};
+use std::alloc::Global;
+
+impl<N: Node> Housed<N>
+where
+    N::Plain: Housable,
+    <N::Plain as Machine>::Ask: Drop,
+{
+    /// Serves an ask and enters it.
+    pub(super) fn serve_new(
+        &mut self,
+        alloc: Global,
+        stamp: Stamp,
+        from: NodeId,
+        ask: <N::Plain as Machine>::Ask,
+    ) -> Result<Tell, NodeFault>
+        requires works { Works self.old }
+        requires there { is_gone self.old ≡ false }
+        requires above { IsAbove self.old.entries stamp }
+        ensures place { self.new.place ≡ self.old.place }
+        ensures first { self.new.first ≡ self.old.first }
+        ensures told { IfOk result (λ tell. tell ≡ N.Plain.wrapped_tell (N.Plain.told self.old.state ask)) }
+        ensures entered { OnOk result (self.new.entries ≡ self.old.entries ++ record { stamp = stamp; act = Act.Asked from (N.Plain.wrapped ask) (N.Plain.wrapped_tell (N.Plain.told self.old.state ask)) } ∷ []) }
+        ensures state { OnOk result (self.new.state ≡ N.Plain.after self.old.state ask) }
+        ensures works { OnOk result (Works self.new) }
+        ensures err { IfErr result (λ fault. (self.new.entries ≡ self.old.entries) ⊎ ((fault ≡ NodeFault.Memory) × (self.new.entries ≡ self.old.entries ++ record { stamp = stamp; act = Act.Asked from (N.Plain.wrapped ask) (N.Plain.wrapped_tell (N.Plain.told self.old.state ask)) } ∷ []))) }
+        ensures trouble { IfErr result (λ fault. (fault ≡ NodeFault.Memory) ⊎ N.CanMeet fault) }
+    {
+        repeat_law::<N::Plain>();
+        match served(alloc, &mut self.node, &mut self.journal, &ask) {
+            Ok(tell) => {
+                let tell = N::Plain::wrap_tell(tell);
+                let handed = tell.copy();
+                let ask = N::Plain::wrap(ask);
+                self.journal.push_reserved(Entry {
+                    stamp,
+                    act: Act::Asked { from, ask, tell },
+                });
+                match handed {
+                    Ok(tell) => Ok(tell),
+                    Err(_) => Err(NodeFault::Memory),
+                }
+            }
+            Err(fault) => {
+                if fault == NodeFault::Device {
+                    self.is_failed = true;
+                    self.kept = Some(Kept {
+                        stamp,
+                        from,
+                        ask,
+                        found: false,
+                    });
+                }
+                Err(fault)
+            }
+        }
+    }
+
+    /// Enters that the node crashed and stood up again.
+    pub(super) fn enter_crashed(&mut self, stamp: Stamp) -> Result<(), NodeFault>
+        requires works { Works self.old }
+        requires there { is_gone self.old ≡ false }
+        requires above { IsAbove self.old.entries stamp }
+        ensures place { self.new.place ≡ self.old.place }
+        ensures first { self.new.first ≡ self.old.first }
+        ensures entered { OnOk result (self.new.entries ≡ self.old.entries ++ record { stamp = stamp; act = Act.Crashed } ∷ []) }
+        ensures works { OnOk result (Works self.new) }
+        ensures err { IfErr result (λ fault. (fault ≡ NodeFault.Memory) × (self.new.entries ≡ self.old.entries)) }
+    {
+        if self.journal.reserve().is_err() {
+            return Err(NodeFault::Memory);
+        }
+        self.is_gone = ends_by_crash(self.journal.node());
+        self.journal.push_reserved(Entry {
+            stamp,
+            act: Act::Crashed,
+        });
+        Ok(())
+    }
+
+    /// Enters that the node is lost.
+    pub(super) fn enter_lost(&mut self, stamp: Stamp) -> Result<(), NodeFault>
+        requires works { Works self.old }
+        requires there { is_gone self.old ≡ false }
+        requires above { IsAbove self.old.entries stamp }
+        ensures place { self.new.place ≡ self.old.place }
+        ensures first { self.new.first ≡ self.old.first }
+        ensures entered { OnOk result (self.new.entries ≡ self.old.entries ++ record { stamp = stamp; act = Act.Lost } ∷ []) }
+        ensures works { OnOk result (Works self.new) }
+        ensures err { IfErr result (λ fault. (fault ≡ NodeFault.Memory) × (self.new.entries ≡ self.old.entries)) }
+    {
+        if self.journal.reserve().is_err() {
+            return Err(NodeFault::Memory);
+        }
+        self.is_gone = true;
+        self.journal.push_reserved(Entry {
+            stamp,
+            act: Act::Lost,
+        });
+        Ok(())
+    }
+}

@@ -1,0 +1,75 @@
+//! What housing does beside the journal: serving an ask, and what becomes of the one that met a fault.
+ghost use Rattle.std.specs.Prelude.{◌≡◌, ◌≢◌, ◌⊎◌, ◌||◌, ◌≤◌, Err, Some, IfOk, OnOk, IfErr, OnErr, false};
+ghost use Rattle.fr_base.specs.declared.node.NodeFault.{NodeFault};
+ghost use Rattle.fr_base.specs.Faults.{met_device};
+ghost use Rattle.fr_runtime_housing.specs.Replays.{ends_by_crash};
+ghost use Rattle.fr_runtime_housing.specs.Housing.{found_kept, left_kept};
+
+use crate::housable::Housable;
+use crate::kept::Kept;
+use fr_audit_journal::Journal;
+use fr_base::{Machine, Node, NodeFault, NodeId};
+use std::alloc::Global;
+
+/// Whether a crash ends a node for good.
+pub(crate) fn ends_by_crash(node: NodeId) -> bool
+    ensures { result ≡ ends_by_crash node }
+{
+    matches!(node, NodeId::Sequencer { .. })
+}
+
+/// Serves an ask once the journal has room for its entry.
+pub(crate) fn served<N: Node>(
+    alloc: Global,
+    node: &mut N,
+    journal: &mut Journal,
+    ask: &<N::Plain as Machine>::Ask,
+) -> Result<<N::Plain as Machine>::Tell, NodeFault>
+where
+    N::Plain: Housable,
+    <N::Plain as Machine>::Ask: Drop,
+    ensures entries { journal.new.entries ≡ journal.old.entries }
+    ensures place { journal.new.node ≡ journal.old.node }
+    ensures room { OnOk result (1 ≤ journal.new.room) }
+    ensures told { IfOk result (λ tell. tell ≡ N.Plain.told (N.state node.old) ask.now) }
+    ensures after { OnOk result (N.state node.new ≡ N.Plain.after (N.state node.old) ask.now) }
+    ensures err { OnErr result (N.state node.new ≡ N.state node.old) }
+    ensures works { OnOk result (N.is_failed node.old ≡ false) }
+    ensures fails { N.is_failed node.new ≡ (N.is_failed node.old || met_device result) }
+    ensures holds_none { OnOk result (N.held node.new ≡ N.held node.old) }
+    ensures holds { (result ≡ Err NodeFault.Device) → N.held node.new ≡ Some ask.now }
+    ensures holds_still { result ≢ Err NodeFault.Device → N.held node.new ≡ N.held node.old }
+    ensures trouble { N.is_failed node.old ≡ false → IfErr result (λ fault. (fault ≡ NodeFault.Memory) ⊎ N.CanMeet fault) }
+{
+    if journal.reserve().is_err() {
+        return Err(NodeFault::Memory);
+    }
+    let Ok(ask) = N::Plain::copy_ask(ask) else {
+        return Err(NodeFault::Memory);
+    };
+    node.serve(alloc, ask)
+}
+
+/// The ask that met a fault, where it was found taken before.
+pub(crate) fn left<A: Drop>(kept: Option<Kept<A>>) -> Option<Kept<A>>
+    ensures { result ≡ left_kept kept }
+{
+    match kept {
+        Some(kept) => { if kept.found { Some(kept) } else { None } }
+        None => None,
+    }
+}
+
+/// The ask that met a fault, as one that is found taken.
+pub(crate) fn found<A>(kept: Option<Kept<A>>) -> Option<Kept<A>>
+    ensures { result ≡ found_kept kept }
+{
+    match kept {
+        Some(kept) => {
+            let mut kept = kept;
+            kept.found = true;
+            Some(kept)
+        }
+        None => None,
+    }
+}

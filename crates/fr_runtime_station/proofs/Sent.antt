@@ -1,0 +1,49 @@
+-- Threads may share a directory where its cells and logs may go to another.
+use denote.RattleType.{RattleType}
+use denote.Struct.Declared.{shape}
+use denote.Param.Send.{IsSend, IsSync, recorded_sync, sendable, struct_sync}
+use Rattle.std.proofs.Crossing.{crosses}
+use Rattle.fr_ask.proofs.sequencer.SeqAsk.TheSendSync as seq_ask
+use Rattle.fr_ask.specs.declared.named.Named as named
+use Rattle.fr_base.proofs.node.InMemory.TheSendSync as in_memory
+use Rattle.fr_base.specs.declared.machine.Machine as machine
+use Rattle.fr_base.specs.declared.node.Node as node
+use Rattle.fr_runtime_housing.proofs.Sent.{housed-send}
+use Rattle.fr_runtime_housing.specs.contracts.housed.Housed as housed
+use Rattle.fr_log.proofs.ask.LogAsk.TheSendSync as log_ask
+use Rattle.fr_log.specs.declared.ask.LogAsk.{LogAsk}
+use Rattle.fr_log.specs.declared.ask.LogTell.{LogTell}
+use Rattle.fr_log.specs.declared.log.Log.{Log}
+use Rattle.fr_proxy.proofs.sequencer.Sequencer.TheSendSync as sequencer
+use Rattle.fr_register.proofs.ask.CellAsk.TheSendSync as cell_ask
+use Rattle.fr_register.specs.declared.ask.CellAsk.{CellAsk}
+use Rattle.fr_register.specs.declared.ask.CellTell.{CellTell}
+use Rattle.fr_register.specs.declared.cell.Cell.{Cell}
+use Rattle.fr_runtime_station.specs.contracts.directory.Directory as directory
+use Rattle.fr_runtime_station.specs.contracts.seat.Seat as seat
+use Rattle.fr_runtime_station.specs.contracts.station.Station as station
+
+module _ (N M A T : RattleType) (g : node.Ghosts N.Denot M.Denot A.Denot T.Denot) (h : machine.Ghosts M.Denot A.Denot T.Denot) (k : named.Ghosts M.Denot A.Denot T.Denot) where
+  station-sync : IsSend (housed.the_row N M A T g h k) → IsSync (station.the_row N M A T g h k)
+  station-sync s = search (sendable, crosses) depth 40
+
+  seat-sync : IsSend (housed.the_row N M A T g h k) → IsSync (seat.the_row N M A T g h k)
+  seat-sync s = search (sendable, crosses) depth 40
+
+module _ (C L : RattleType) (g : node.Ghosts C.Denot Cell CellAsk CellTell) (h : node.Ghosts L.Denot Log LogAsk LogTell) where
+  pub directory-sync : IsSend C → IsSend L → IsSync (directory.the_row C L g h)
+  directory-sync c l =
+      let S = directory.the_type C L g h in
+      recorded_sync _ _ _ S.to_one (struct_sync (shape S) (
+        search (sendable, crosses, station-sync, housed-send, cell_ask.the_send) depth 40,
+        (
+          search (sendable, crosses, station-sync, housed-send, log_ask.the_send) depth 40,
+          (
+            search (sendable, crosses, seat-sync, housed-send, in_memory.the_send, sequencer.the_send, seq_ask.the_send) depth 40,
+            (
+              search (sendable, crosses) depth 40,
+              (search (sendable, crosses) depth 40, (search (sendable, crosses) depth 40, tt)),
+            ),
+          ),
+        ),
+      ))

@@ -1,0 +1,63 @@
+//! What lies under the lock of a station.
+ghost use Rattle.std.specs.Prelude.{◌≡◌, ◌<◌, IfOk, true};
+ghost use Rattle.fr_runtime_station.specs.Answering.{answers};
+
+use fr_ask::Tell;
+use fr_base::{Machine, Node, NodeId, Stamp};
+use fr_runtime_housing::{CallFault, Housable, Housed};
+use std::alloc::Global;
+
+/// A cell, a log or a sequencer, with its journal.
+#[derive(Drop)]
+pub(crate) struct Answering<N: Node>
+where
+    N::Plain: Housable,
+{
+    housed: Housed<N>,
+    ghost place: { answers housed.place ≡ true },
+}
+
+impl<N: Node> Answering<N>
+where
+    N::Plain: Housable,
+    <N::Plain as Machine>::Ask: Drop,
+{
+    /// This node with its journal.
+    pub(crate) fn new(housed: Housed<N>) -> Self
+        requires place { answers housed.place ≡ true }
+    {
+        Answering { housed }
+    }
+
+    /// Asks the node, as [`Housed::ask`] does.
+    pub(crate) fn ask(
+        &mut self,
+        alloc: Global,
+        stamp: Stamp,
+        from: NodeId,
+        ask: <N::Plain as Machine>::Ask,
+    ) -> Result<(Stamp, Tell), CallFault>
+    where
+        N: Drop,
+        ensures { IfOk result (λ told. stamp < told.0) }
+    {
+        self.housed.ask(alloc, stamp, from, ask)
+    }
+
+    /// Crashes the node, as [`Housed::crash`] does.
+    pub(crate) fn crash(&mut self, alloc: Global, stamp: Stamp) -> Result<Stamp, CallFault>
+    where
+        N: Drop,
+        ensures { IfOk result (λ at. stamp < at) }
+    {
+        self.housed.crash(alloc, stamp)
+    }
+
+    /// The node with its journal.
+    pub(crate) fn into_housed(self) -> Housed<N>
+        ensures place { answers result.place ≡ true }
+    {
+        let Answering { housed, .. } = self;
+        housed
+    }
+}

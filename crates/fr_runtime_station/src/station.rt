@@ -1,0 +1,68 @@
+//! A node with its journal, which threads share.
+ghost use Rattle.std.specs.Prelude.{◌≡◌, ◌<◌, IfOk, true};
+ghost use Rattle.fr_runtime_station.specs.Answering.{answers};
+
+use crate::answering::Answering;
+use fr_ask::Tell;
+use fr_base::{Machine, Node, NodeId, Stamp};
+use fr_runtime_housing::{CallFault, Housable, Housed};
+use std::alloc::Global;
+use std::sync::{Mutex, Wait};
+
+/// A cell, a log or a sequencer with its journal behind a lock. Whenever the lock is free the journal replays to the
+/// node: that is what is true of every [`Housed`].
+#[derive(Drop)]
+pub struct Station<N: Node>
+where
+    N::Plain: Housable,
+{
+    lock: Mutex<Answering<N>>,
+}
+
+impl<N: Node> Station<N>
+where
+    N::Plain: Housable,
+    <N::Plain as Machine>::Ask: Drop,
+{
+    /// A station of this node.
+    pub fn new(housed: Housed<N>) -> Self
+        requires place { answers housed.place ≡ true }
+    {
+        Station {
+            lock: Mutex::new(Answering::new(housed)),
+        }
+    }
+
+    /// Asks the node, as [`Housed::ask`] does, once the lock is free. The stamp is above the caller's.
+    pub fn call<R: Wait>(
+        &self,
+        rt: &R,
+        alloc: Global,
+        stamp: Stamp,
+        from: NodeId,
+        ask: <N::Plain as Machine>::Ask,
+    ) -> Result<(Stamp, Tell), CallFault>
+    where
+        N: Drop,
+        ensures { IfOk result (λ told. stamp < told.0) }
+    {
+        self.lock.lock(rt).ask(alloc, stamp, from, ask)
+    }
+
+    /// Crashes the node, as [`Housed::crash`] does, once the lock is free. The stamp is above the caller's.
+    pub fn crash<R: Wait>(&self, rt: &R, alloc: Global, stamp: Stamp) -> Result<Stamp, CallFault>
+    where
+        N: Drop,
+        ensures { IfOk result (λ at. stamp < at) }
+    {
+        self.lock.lock(rt).crash(alloc, stamp)
+    }
+
+    /// The node with its journal.
+    pub fn into_inner(self) -> Housed<N>
+        ensures place { answers result.place ≡ true }
+    {
+        let Station { lock } = self;
+        lock.into_inner().into_housed()
+    }
+}

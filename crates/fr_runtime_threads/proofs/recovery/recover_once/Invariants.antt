@@ -1,0 +1,5 @@
+use Rattle.std.proofs.Common.{◌≡◌}
+use Rattle.fr_runtime_threads.proofs.recovery.recover_once.Given as goal
+
+abbrev pub invariant-loop-to : goal.invariant-loop-to
+invariant-loop-to g l = l.recovery.notes.journal.node ≡ l.fn.recovery.notes.journal.node

@@ -1,0 +1,265 @@
+//! The thread of a workload: it hands the workload's batches to the proxy of its number in the newest epoch.
+ghost use Rattle.std.specs.Prelude.{◌≡◌, ◌++◌, [], true, IfOk, OnOk};
+ghost use Rattle.fr_runtime_threads.specs.declared.order.UnderWay.{UnderWay};
+ghost use Rattle.fr_runtime_threads.specs.Account.{account, all_given, all_outcomes, are_proxies, is_proxy, left_over, said, waiting_for, waiting_if};
+
+use crate::door::{Door, send_all};
+use crate::fault::TurnFault;
+use crate::order::{Order, UnderWay};
+use crate::workload::Workload;
+use fr_audit_journal::Journal;
+use fr_base::{Memory, Node};
+use fr_log::Log;
+use fr_proxy::Outcome;
+use fr_register::Cell;
+use fr_run_event::Config;
+use fr_runtime_station::{Chosen, Directory, Faults, first_stamp};
+use fr_state::Generation;
+use std::alloc::Global;
+use std::snapshot::Snapshot;
+use std::sync::Wait;
+
+/// A workload at its proxies: the present one, the journals of the earlier ones, a batch that none has taken yet, and
+/// what the workload was told.
+#[derive(Drop)]
+struct Client<W: Workload> {
+    first: Snapshot<W>,
+    work: W,
+    number: u8,
+    door: Door,
+    earlier: Vec<Journal>,
+    kept: Option<Order>,
+    told: Vec<Outcome>,
+    ghost gives: { W.given work ≡ W.given first.value ++ (all_given earlier.items ++ ((account door.notes.journal.entries).given ++ left_over kept)) },
+    ghost hears: { W.heard work ≡ W.heard first.value ++ told.items },
+    ghost tells: { told.items ≡ all_outcomes earlier.items ++ door.told.items },
+    ghost places: { are_proxies number earlier.items ≡ true },
+    ghost place: { is_proxy number door.notes.journal.node ≡ true },
+}
+
+/// What a workload's thread hands back: the workload, the journals of its proxies, the batch that none of them took, if
+/// there is one, and what the workload was told.
+#[derive(Drop)]
+pub struct Served<W: Workload> {
+    pub work: W,
+    pub journals: Vec<Journal>,
+    pub kept: Option<Order>,
+    pub told: Vec<Outcome>,
+}
+
+impl<W: Workload + Drop> Client<W> {
+    /// A workload at the proxy of its number in the first generation.
+    fn new(
+        alloc: Global,
+        config: &Config,
+        first: Generation,
+        number: u8,
+        work: W,
+    ) -> Result<Self, Memory>
+        ensures first { IfOk result (λ client. client.first.value ≡ work) }
+        ensures number { IfOk result (λ client. client.number ≡ number) }
+    {
+        Ok(Client {
+            first: Snapshot::of(&work),
+            work,
+            number,
+            door: Door::new(alloc, config, number, first, first_stamp())?,
+            earlier: Vec::new(alloc),
+            kept: None,
+            told: Vec::new(alloc),
+        })
+    }
+
+    /// Takes the next batch from the workload, where none is kept; false where there is none.
+    fn fill(&mut self) -> Result<bool, Memory>
+        ensures first { self.new.first ≡ self.old.first }
+        ensures number { self.new.number ≡ self.old.number }
+        ensures under_way { self.new.door.under_way ≡ self.old.door.under_way }
+    {
+        if self.kept.is_some() {
+            return Ok(true);
+        }
+        match self.work.next()? {
+            Some((step, batch)) => {
+                self.kept = Some(Order { step, batch });
+                Ok(true)
+            }
+            None => Ok(false),
+        }
+    }
+
+    /// Goes over to the proxy of the newest epoch, where the present one is over and the epoch is later.
+    fn move_on(&mut self, alloc: Global, config: &Config, newest: Chosen) -> Result<(), Memory>
+        requires shut { self.old.door.under_way ≡ UnderWay.Nothing }
+        ensures first { self.new.first ≡ self.old.first }
+        ensures number { self.new.number ≡ self.old.number }
+        ensures shut { self.new.door.under_way ≡ UnderWay.Nothing }
+    {
+        if !self.door.is_over() || newest.generation.epoch() <= self.door.epoch() {
+            return Ok(());
+        }
+        let now = self.door.seen().max(newest.stamp);
+        self.earlier.reserve(1)?;
+        let next = Door::new(alloc, config, self.number, newest.generation, now)?;
+        let before = std::mem::replace(&mut self.door, next);
+        self.earlier.push_reserved(before.close());
+        Ok(())
+    }
+
+    /// Hands the next batch to a proxy; false where there is none. One that no proxy takes is kept.
+    fn hand_out(&mut self, alloc: Global, config: &Config, newest: Chosen) -> Result<bool, Memory>
+        requires shut { self.old.door.under_way ≡ UnderWay.Nothing }
+        ensures first { self.new.first ≡ self.old.first }
+        ensures number { self.new.number ≡ self.old.number }
+    {
+        self.move_on(alloc, config, newest)?;
+        if !self.fill()? {
+            return Ok(false);
+        }
+        if !self.door.is_over() {
+            self.door.submit(&mut self.kept)?;
+        }
+        Ok(true)
+    }
+
+    /// Tells the workload what the proxy said, where it said something of its batch.
+    fn settle(&mut self) -> Result<(), Memory>
+        ensures first { self.new.first ≡ self.old.first }
+        ensures number { self.new.number ≡ self.old.number }
+        ensures settled { OnOk result (said self.new.door.under_way ≡ []) }
+    {
+        match self.door.under_way() {
+            UnderWay::Said(outcome) => {
+                self.door.reserve()?;
+                self.told.reserve(1)?;
+                let said = outcome;
+                let taken = outcome;
+                self.work.told(outcome)?;
+                self.door.take(taken);
+                self.told.push_reserved(said);
+                Ok(())
+            }
+            UnderWay::Open => Ok(()),
+            UnderWay::Nothing => Ok(()),
+        }
+    }
+
+    /// One turn: a batch is handed out where none is open, and each pending ask is sent once. False where there is no
+    /// further batch.
+    fn turn<R: Wait, C: Node<Plain = Cell> + Drop, L: Node<Plain = Log> + Drop, F: Faults>(
+        &mut self,
+        rt: &R,
+        alloc: Global,
+        config: &Config,
+        directory: &Directory<C, L>,
+        faults: &F,
+    ) -> Result<bool, TurnFault>
+        ensures first { self.new.first ≡ self.old.first }
+        ensures number { self.new.number ≡ self.old.number }
+    {
+        if let UnderWay::Nothing = self.door.under_way() {
+            if !self.hand_out(alloc, config, directory.newest(rt))? {
+                return Ok(false);
+            }
+        }
+        send_all(rt, alloc, directory, faults, &mut self.door)?;
+        self.settle()?;
+        Ok(true)
+    }
+
+    /// What is handed back. A batch that is open or kept is told to be waiting.
+    fn end(self) -> Result<Served<W>, Memory>
+        ensures given { IfOk result (λ s. W.given s.work ≡ W.given self.first.value ++ (all_given s.journals.items ++ left_over s.kept)) }
+        ensures told { IfOk result (λ s. s.told.items ≡ all_outcomes s.journals.items ++ waiting_for s.kept) }
+        ensures heard { IfOk result (λ s. W.heard s.work ≡ W.heard self.first.value ++ s.told.items) }
+        ensures places { IfOk result (λ s. are_proxies self.number s.journals.items ≡ true) }
+    {
+        let mut client = self;
+        client.settle()?;
+        let Client {
+            work,
+            door,
+            earlier,
+            told,
+            kept,
+            ..
+        } = client;
+        let is_open = door.is_open();
+        let (work, told) = tell_waiting(work, told, is_open)?;
+        let is_kept = is_left(&kept);
+        let (work, told) = tell_waiting(work, told, is_kept)?;
+        let mut journals = earlier;
+        journals.reserve(1)?;
+        journals.push_reserved(door.close());
+        Ok(Served {
+            work,
+            journals,
+            kept,
+            told,
+        })
+    }
+}
+
+/// Whether a batch is left over.
+fn is_left(kept: &Option<Order>) -> bool
+    ensures { waiting_if result ≡ waiting_for kept.now }
+{
+    match kept {
+        Some(_) => true,
+        None => false,
+    }
+}
+
+/// Tells a workload that a batch is waiting, where one is.
+fn tell_waiting<W: Workload + Drop>(
+    work: W,
+    told: Vec<Outcome>,
+    is_waiting: bool,
+) -> Result<(W, Vec<Outcome>), Memory>
+    ensures given { IfOk result (λ r. W.given r.0 ≡ W.given work) }
+    ensures heard { IfOk result (λ r. W.heard r.0 ≡ W.heard work ++ waiting_if is_waiting) }
+    ensures told { IfOk result (λ r. r.1.items ≡ told.items ++ waiting_if is_waiting) }
+{
+    let mut work = work;
+    let mut told = told;
+    if is_waiting {
+        told.reserve(1)?;
+        told.push_reserved(Outcome::Waiting);
+        work.told(Outcome::Waiting)?;
+    }
+    Ok((work, told))
+}
+
+/// The turns of a workload, at the proxies of its number. Of what the proxies took and said the workload misses nothing:
+/// what it gave are the batches that they took, in order, and then the one that none took, if there is one; and it is
+/// told of each in turn what the proxy said, Waiting where that was nothing.
+pub fn serve<
+    R: Wait,
+    C: Node<Plain = Cell> + Drop,
+    L: Node<Plain = Log> + Drop,
+    F: Faults,
+    W: Workload + Drop,
+>(
+    rt: &R,
+    alloc: Global,
+    config: &Config,
+    first: Generation,
+    directory: &Directory<C, L>,
+    faults: &F,
+    number: u8,
+    work: W,
+    turns: u32,
+) -> Result<Served<W>, TurnFault>
+    ensures given { IfOk result (λ s. W.given s.work ≡ W.given work ++ (all_given s.journals.items ++ left_over s.kept)) }
+    ensures told { IfOk result (λ s. s.told.items ≡ all_outcomes s.journals.items ++ waiting_for s.kept) }
+    ensures heard { IfOk result (λ s. W.heard s.work ≡ W.heard work ++ s.told.items) }
+    ensures places { IfOk result (λ s. are_proxies number s.journals.items ≡ true) }
+{
+    let mut client = Client::new(alloc, config, first, number, work)?;
+    for _turn in 0..turns {
+        if !client.turn(rt, alloc, config, directory, faults)? {
+            break;
+        }
+    }
+    Ok(client.end()?)
+}

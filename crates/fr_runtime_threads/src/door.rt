@@ -1,0 +1,244 @@
+//! A proxy, what it took and what it said of it.
+ghost use Rattle.std.specs.Prelude.{◌≡◌, ◌++◌, ◌∷◌, [], ◌<◌, false, length, vec_capacity, IfOk, None, OnOk, Some};
+ghost use Rattle.fr_base.specs.declared.place.NodeId.{NodeId};
+ghost use Rattle.fr_runtime_threads.specs.declared.order.UnderWay.{UnderWay};
+ghost use Rattle.fr_runtime_threads.specs.Account.{account, after_saying, is_open_in, left_over, said};
+
+use crate::fault::TurnFault;
+use crate::notes::Notes;
+use crate::order::{Order, UnderWay};
+use crate::sending::{Hearer, send};
+use fr_ask::{Ask, Tell};
+use fr_audit_journal::{Act, Journal};
+use fr_base::{Epoch, Memory, Node, NodeId, Stamp, Version};
+use fr_log::Log;
+use fr_proxy::{Outcome, Proxy};
+use fr_register::Cell;
+use fr_run_event::{Config, last_of_proxy};
+use fr_runtime_station::{Directory, Faults};
+use fr_state::Generation;
+use std::alloc::Global;
+use std::sync::Wait;
+
+/// A proxy with its journal, and what its journal comes to: what it said of each batch, and what became of the last.
+#[derive(Drop)]
+pub(crate) struct Door {
+    proxy: Proxy,
+    notes: Notes,
+    told: Vec<Outcome>,
+    under_way: UnderWay,
+    is_over: bool,
+    ghost tells: { (account notes.journal.entries).told ≡ told.items ++ said under_way },
+    ghost opens: { (account notes.journal.entries).is_open ≡ is_open_in under_way },
+}
+
+/// What became of a batch once its proxy said this.
+fn after_saying(under_way: UnderWay, outcome: Outcome) -> UnderWay
+    ensures { result ≡ after_saying under_way outcome }
+{
+    match (under_way, outcome) {
+        (UnderWay::Open, Outcome::Committed { .. }) => UnderWay::Said(outcome),
+        (UnderWay::Open, Outcome::Ended) => UnderWay::Said(outcome),
+        _ => under_way,
+    }
+}
+
+impl Door {
+    /// The proxy of a number in a generation, for a thread that has seen this stamp.
+    pub(crate) fn new(
+        alloc: Global,
+        config: &Config,
+        number: u8,
+        generation: Generation,
+        now: Stamp,
+    ) -> Result<Self, Memory>
+        ensures place { IfOk result (λ door. door.notes.journal.node ≡ NodeId.Proxy generation.epoch number) }
+        ensures entries { IfOk result (λ door. door.notes.journal.entries ≡ []) }
+        ensures shut { IfOk result (λ door. door.under_way ≡ UnderWay.Nothing) }
+        ensures told { IfOk result (λ door. door.told.items ≡ []) }
+    {
+        let _within = config.coordinators();
+        let epoch = generation.epoch();
+        let known = match generation.first().before() {
+            Some(known) => known,
+            None => Version::ZERO,
+        };
+        let map = config.map().copy()?;
+        let proxy = Proxy::new(epoch, number, config.logs(), config.degree(), map, known);
+        Ok(Door {
+            proxy,
+            notes: Notes::new(alloc, NodeId::Proxy { epoch, number }, now),
+            told: Vec::new(alloc),
+            under_way: UnderWay::Nothing,
+            is_over: false,
+        })
+    }
+
+    /// The proxy's epoch.
+    pub(crate) fn epoch(&self) -> Epoch {
+        self.proxy.epoch()
+    }
+
+    /// The greatest stamp that the thread has seen.
+    pub(crate) fn seen(&self) -> Stamp {
+        self.notes.seen()
+    }
+
+    /// What became of the batch that it took last.
+    pub(crate) fn under_way(&self) -> UnderWay
+        ensures { result ≡ self.now.under_way }
+    {
+        self.under_way
+    }
+
+    /// Whether the batch that it took last is under way.
+    pub(crate) fn is_open(&self) -> bool
+        ensures { result ≡ is_open_in self.now.under_way }
+    {
+        match self.under_way {
+            UnderWay::Open => true,
+            UnderWay::Nothing => false,
+            UnderWay::Said(_) => false,
+        }
+    }
+
+    /// Whether the proxy takes no more.
+    pub(crate) fn is_over(&self) -> bool {
+        self.is_over
+    }
+
+    /// The asks whose tells are wanted.
+    pub(crate) fn pending(&self, alloc: Global) -> Result<Vec<(NodeId, Ask)>, Memory> {
+        self.proxy.pending(alloc)
+    }
+
+    /// Hands a batch to the proxy, where nothing is under way and the proxy takes it.
+    pub(crate) fn submit(&mut self, kept: &mut Option<Order>) -> Result<(), Memory>
+        requires shut { self.old.under_way ≡ UnderWay.Nothing }
+        ensures place { self.new.notes.journal.node ≡ self.old.notes.journal.node }
+        ensures told { self.new.told.items ≡ self.old.told.items }
+        ensures given { (account self.new.notes.journal.entries).given ++ left_over kept.new ≡ (account self.old.notes.journal.entries).given ++ left_over kept.old }
+    {
+        let (step, taken) = match kept.as_ref() {
+            Some(order) => (order.step, order.batch.copy()?),
+            None => return Ok(()),
+        };
+        let Some(stamp) = self.notes.next()? else {
+            return Ok(());
+        };
+        if self.proxy.submit(step, taken).is_err() {
+            self.is_over = true;
+            return Ok(());
+        }
+        if let Some(order) = kept.take() {
+            let Order { step, batch } = order;
+            self.notes.enter(stamp, Act::Submitted { step, batch });
+            self.under_way = UnderWay::Open;
+        }
+        Ok(())
+    }
+
+    /// Makes room for one outcome more of which the workload is told.
+    pub(crate) fn reserve(&mut self) -> Result<(), Memory>
+        ensures room { OnOk result (length self.new.told.items < vec_capacity self.new.told) }
+        ensures place { self.new.notes ≡ self.old.notes }
+        ensures told { self.new.told.items ≡ self.old.told.items }
+        ensures under_way { self.new.under_way ≡ self.old.under_way }
+    {
+        self.told.reserve(1)?;
+        Ok(())
+    }
+
+    /// The workload is told what the proxy said. It takes no memory.
+    pub(crate) fn take(&mut self, outcome: Outcome)
+        requires room { length self.old.told.items < vec_capacity self.old.told }
+        requires said { self.old.under_way ≡ UnderWay.Said outcome }
+        ensures notes { self.new.notes ≡ self.old.notes }
+        ensures told { self.new.told.items ≡ self.old.told.items ++ outcome ∷ [] }
+        ensures under_way { self.new.under_way ≡ UnderWay.Nothing }
+    {
+        self.told.push_reserved(outcome);
+        self.under_way = UnderWay::Nothing;
+    }
+
+    /// The journal, closed with where the proxy stands.
+    pub(crate) fn close(self) -> Journal
+        ensures place { result.node ≡ self.notes.journal.node }
+        ensures entries { result.entries ≡ self.notes.journal.entries }
+    {
+        let Door { proxy, notes, .. } = self;
+        notes.close(last_of_proxy(&proxy))
+    }
+}
+
+/// Sends each pending ask of a proxy once.
+pub(crate) fn send_all<
+    R: Wait,
+    C: Node<Plain = Cell> + Drop,
+    L: Node<Plain = Log> + Drop,
+    F: Faults,
+>(
+    rt: &R,
+    alloc: Global,
+    directory: &Directory<C, L>,
+    faults: &F,
+    door: &mut Door,
+) -> Result<(), TurnFault>
+    ensures place { door.new.notes.journal.node ≡ door.old.notes.journal.node }
+    ensures given { (account door.new.notes.journal.entries).given ≡ (account door.old.notes.journal.entries).given }
+    ensures told { door.new.told.items ≡ door.old.told.items }
+{
+    let asks = door.pending(alloc)?;
+    for (to, ask) in asks.iter() {
+        send(rt, alloc, directory, faults, door, to, ask)?;
+    }
+    Ok(())
+}
+
+impl Hearer for Door {
+    ghost use Rattle.fr_runtime_threads.specs.Account.{account};
+
+    ghost node = { λ d. d.notes.journal.node };
+
+    ghost given = { λ d. (account d.notes.journal.entries).given };
+
+    ghost told = { λ d. d.told.items };
+
+    fn place(&self) -> NodeId {
+        self.notes.place()
+    }
+
+    fn now(&self) -> Stamp {
+        self.notes.seen()
+    }
+
+    fn hear(
+        &mut self,
+        alloc: Global,
+        at: Stamp,
+        from: NodeId,
+        tell: Tell,
+    ) -> Result<(), TurnFault> {
+        self.notes.see(at);
+        let Some(stamp) = self.notes.next()? else {
+            return Ok(());
+        };
+        let sender = from;
+        let (outcome, _asks) = self.proxy.hear(alloc, sender, &tell)?;
+        let said = outcome;
+        let is_end = matches!(&said, Outcome::Ended);
+        self.notes.enter(
+            stamp,
+            Act::Heard {
+                from,
+                tell,
+                taken: None,
+                outcome: Some(outcome),
+            },
+        );
+        let before = self.under_way;
+        self.under_way = after_saying(before, said);
+        self.is_over = self.is_over || is_end;
+        Ok(())
+    }
+}

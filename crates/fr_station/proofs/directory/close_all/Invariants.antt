@@ -1,6 +1,0 @@
-use Rattle.std.proofs.Common.{◌≡◌, true}
-use Rattle.fr_station.specs.Answering.{all_answer}
-use Rattle.fr_station.proofs.directory.close_all.Given as goal
-
-abbrev pub invariant-loop-station : goal.invariant-loop-station
-invariant-loop-station g l = all_answer l.journals.items ≡ true

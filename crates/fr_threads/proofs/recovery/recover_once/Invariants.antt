@@ -1,5 +1,0 @@
-use Rattle.std.proofs.Common.{◌≡◌}
-use Rattle.fr_threads.proofs.recovery.recover_once.Given as goal
-
-abbrev pub invariant-loop-to : goal.invariant-loop-to
-invariant-loop-to g l = l.recovery.notes.journal.node ≡ l.fn.recovery.notes.journal.node

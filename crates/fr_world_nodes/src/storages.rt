@@ -1,0 +1,199 @@
+//! The storage servers of a world.
+ghost use Rattle.std.specs.Prelude.{◌≡◌, ◌&&◌, false, not, is_some, IfOk, IfSome, IsTrue, None, OnOk, Some};
+ghost use Rattle.fr_run.specs.Nodes.{whole_hear, part_hear, storage_hear};
+ghost use Rattle.fr_run.specs.Run.{fault_of, fault_of_log};
+ghost use Rattle.fr_storage.specs.Server.{met_store, refusal_of};
+ghost use Rattle.fr_ask.specs.declared.tell.Tell.TheVariants as told;
+ghost use Rattle.fr_run_event.specs.Tests as tests;
+ghost use Rattle.fr_run_event.specs.Step.{breaks_in, may_break};
+ghost use Rattle.fr_run_event.specs.Last as last;
+ghost use Rattle.fr_world_nodes.specs.Parts.{server_of, is_ok_true};
+
+use fr_ask::{Last, Tell};
+use fr_base::{Epoch, Memory, NodeId, Version};
+use fr_log::{LogAsk, LogTell};
+use fr_run_event::{Config, last_of_storage};
+use fr_storage::{Storage, StorageFault};
+use fr_undo::MapStore;
+use std::alloc::Global;
+
+/// A server after a hear, and why it refused what it heard.
+#[derive(Drop)]
+pub struct Heard {
+    pub server: Storage<MapStore>,
+    pub fault: Option<StorageFault>,
+}
+
+/// What a tell makes of a server, which itself stands: only what a log tells reaches it.
+pub fn tell_server(
+    alloc: Global,
+    server: &Storage<MapStore>,
+    from: &NodeId,
+    tell: &Tell,
+) -> Result<Heard, Memory>
+    requires { server.now.failed ≡ false }
+    ensures fault { IfOk result (λ heard. heard.fault ≡ fault_of (server_of server.now) from.now tell.now) }
+    ensures state { IfOk result (λ heard. server_of heard.server ≡ storage_hear None (server_of server.now) from.now tell.now) }
+    ensures works { IfOk result (λ heard. heard.server.failed ≡ false) }
+{
+    let mut server = server.copy(alloc)?;
+    let fault = hear_from(alloc, &mut server, from, tell)?;
+    Ok(Heard { server, fault })
+}
+
+/// Tells a server what a node told it. Want of memory may leave it failed.
+fn hear_from(
+    alloc: Global,
+    server: &mut Storage<MapStore>,
+    from: &NodeId,
+    tell: &Tell,
+) -> Result<Option<StorageFault>, Memory>
+    requires { server.old.failed ≡ false }
+    ensures fault { IfOk result (λ fault. fault ≡ fault_of (server_of server.old) from.now tell.now) }
+    ensures state { OnOk result (server_of server.new ≡ storage_hear None (server_of server.old) from.now tell.now) }
+    ensures works { OnOk result (server.new.failed ≡ false) }
+{
+    match (from, tell) {
+        (NodeId::Log { epoch, .. }, Tell::Log(tell)) => hear(alloc, server, *epoch, tell),
+        _ => Ok(None),
+    }
+}
+
+/// Tells a server what a log of an epoch told it, and answers why it refuses that. Want of memory may leave it
+/// failed.
+fn hear(
+    alloc: Global,
+    server: &mut Storage<MapStore>,
+    epoch: Epoch,
+    tell: &LogTell,
+) -> Result<Option<StorageFault>, Memory>
+    requires { server.old.failed ≡ false }
+    ensures fault { IfOk result (λ fault. fault ≡ fault_of_log (server_of server.old) epoch tell.now) }
+    ensures state { OnOk result (server_of server.new ≡ whole_hear (server_of server.old) epoch tell.now) }
+    ensures works { OnOk result (server.new.failed ≡ false) }
+{
+    match tell {
+        LogTell::Peeked(peeked) => refusal(server.hear_peeked(alloc, epoch, peeked)),
+        LogTell::Marked { state } => {
+            let state = state.copy()?;
+            refusal(server.hear_marked(alloc, state))
+        }
+        _ => Ok(None),
+    }
+}
+
+/// Why a hear was refused, where memory was not wanting.
+fn refusal(heard: Result<(), StorageFault>) -> Result<Option<StorageFault>, Memory>
+    ensures refusal { IfOk result (λ fault. fault ≡ refusal_of heard) }
+    ensures ok { OnOk result (met_store heard ≡ false) }
+{
+    match heard {
+        Ok(()) => Ok(None),
+        Err(StorageFault::Store(_)) => Err(Memory),
+        Err(fault) => Ok(Some(fault)),
+    }
+}
+
+/// What a tell makes of a server where the hear breaks off at a version; the server itself stands. None where it
+/// cannot break off there.
+pub fn break_server(
+    alloc: Global,
+    server: &Storage<MapStore>,
+    from: &NodeId,
+    tell: &Tell,
+    version: Version,
+) -> Result<Option<Storage<MapStore>>, Memory>
+    requires { server.now.failed ≡ false }
+    ensures found { IfOk result (λ broken. is_some broken ≡ may_break (server_of server.now) from.now tell.now version) }
+    ensures state { IfOk result (λ broken. IfSome broken (λ s. server_of s ≡ storage_hear (Some version) (server_of server.now) from.now tell.now)) }
+    ensures works { IfOk result (λ broken. IfSome broken (λ s. s.failed ≡ false)) }
+{
+    let mut server = server.copy(alloc)?;
+    if break_from(alloc, &mut server, from, tell, version)? {
+        Ok(Some(server))
+    } else {
+        Ok(None)
+    }
+}
+
+/// Tells a server what a node told it, and breaks off at a version; answers whether it can. Want of memory may
+/// leave it failed.
+fn break_from(
+    alloc: Global,
+    server: &mut Storage<MapStore>,
+    from: &NodeId,
+    tell: &Tell,
+    version: Version,
+) -> Result<bool, Memory>
+    requires { server.old.failed ≡ false }
+    ensures found { IfOk result (λ found. found ≡ may_break (server_of server.old) from.now tell.now version) }
+    ensures state { IfOk result (λ found. IsTrue found → server_of server.new ≡ storage_hear (Some version) (server_of server.old) from.now tell.now) }
+    ensures works { OnOk result (server.new.failed ≡ false) }
+{
+    match (from, tell) {
+        (NodeId::Log { epoch, .. }, Tell::Log(tell)) => {
+            break_off(alloc, server, *epoch, tell, version)
+        }
+        _ => Ok(version == server.position().1),
+    }
+}
+
+/// Tells a server what a log of an epoch told it, and breaks off at a version; answers whether it can. Want of
+/// memory may leave it failed.
+fn break_off(
+    alloc: Global,
+    server: &mut Storage<MapStore>,
+    epoch: Epoch,
+    tell: &LogTell,
+    version: Version,
+) -> Result<bool, Memory>
+    requires { server.old.failed ≡ false }
+    ensures found { IfOk result (λ found. found ≡ breaks_in (server_of server.old) epoch (told.Log tell.now) version) }
+    ensures state { IfOk result (λ found. IsTrue found → server_of server.new ≡ part_hear (Some version) (server_of server.old) epoch tell.now) }
+    ensures works { OnOk result (server.new.failed ≡ false) }
+{
+    match tell {
+        LogTell::Peeked(peeked) => broken(server.break_off_peeked(alloc, epoch, peeked, version)),
+        LogTell::Marked { state } => broken(server.break_off_marked(alloc, state, version)),
+        _ => Ok(version == server.position().1),
+    }
+}
+
+/// Whether a hear broke off at a version, where memory was not wanting: one that is refused does not.
+fn broken(heard: Result<bool, StorageFault>) -> Result<bool, Memory>
+    ensures ok { OnOk result (met_store heard ≡ false) }
+    ensures found { IfOk result (λ found. found ≡ (not (is_some (refusal_of heard)) && is_ok_true heard)) }
+{
+    match heard {
+        Ok(found) => Ok(found),
+        Err(StorageFault::Store(_)) => Err(Memory),
+        Err(_) => Ok(false),
+    }
+}
+
+/// What others see of a server, by a copy of it.
+pub fn last_of_copy(alloc: Global, server: &Storage<MapStore>) -> Result<Last, Memory>
+    requires { server.now.failed ≡ false }
+    ensures { IfOk result (λ told. told ≡ last.last_of_storage (server_of server.now)) }
+{
+    let mut server = server.copy(alloc)?;
+    match last_of_storage(alloc, &mut server) {
+        Ok(last) => Ok(last),
+        Err(_) => Err(Memory),
+    }
+}
+
+/// Whether an ask is one that storage servers may give at any time: for a mark, and for records of the own tag.
+pub fn storage_may_ask(config: &Config, from: &NodeId, ask: &LogAsk) -> bool
+    ensures { result ≡ tests.storage_may_ask config.now from.now ask.now }
+{
+    match (from, ask) {
+        (NodeId::Storage { tag }, LogAsk::Peek { tag: asked, .. }) => {
+            tag.get() == asked.get() && usize::from(tag.get()) < config.map().begins().len()
+        }
+        (NodeId::Storage { tag }, LogAsk::MarkAsked { .. }) => {
+            usize::from(tag.get()) < config.map().begins().len()
+        }
+        _ => false,
+    }
+}

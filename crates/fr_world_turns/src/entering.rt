@@ -1,0 +1,140 @@
+//! Places of turns are entered under the keys of what the turns did.
+ghost use Rattle.std.specs.Prelude.{◌≡◌, ◌<◌, length, slice_get, true, IfSome, OnOk, Some};
+ghost use Rattle.fr_run_event.specs.Tests as tests;
+ghost use Rattle.fr_world_turns.specs.Finding.{at_place, some_under, AreFound, AsksAreFound, GoneIsFound, IsFound, TellIsFound};
+ghost use Rattle.fr_world_turns.specs.Keys as keys;
+ghost use Rattle.fr_world_turns.specs.Places.{Grows};
+ghost use Rattle.fr_world_turns.specs.Turns.{turn_of};
+
+use crate::finding::{has_ask, has_retold};
+use crate::keys::{ask_key, gone_key, told_key};
+use crate::places::{Places, add};
+use crate::turn::Turn;
+use fr_ask::Ask;
+use fr_base::{Memory, NodeId};
+use std::alloc::Global;
+
+/// Enters the turns that are not entered yet, oldest first. Where there is no memory, those before are entered.
+pub(crate) fn enter_rest(
+    alloc: Global,
+    turns: &[Turn],
+    indexed: &mut usize,
+    places: &mut Places,
+) -> Result<(), Memory>
+    requires { AreFound turns.now indexed.old places.old }
+    ensures found { AreFound turns.now indexed.new places.new }
+    ensures all { OnOk result (indexed.new ≡ length turns.now) }
+{
+    for place in *indexed..turns.len() {
+        enter_at(alloc, turns, places, place)?;
+        *indexed = place + 1;
+    }
+    Ok(())
+}
+
+/// Enters the turn at a place.
+fn enter_at(alloc: Global, turns: &[Turn], places: &mut Places, place: usize) -> Result<(), Memory>
+    ensures grows { Grows places.old places.new }
+    ensures found { OnOk result (IfSome (slice_get turns.now place) (λ t. IsFound turns.now places.new (turn_of t))) }
+{
+    match turns.get(place) {
+        Some(turn) => enter(alloc, turns, places, place, turn),
+        None => Ok(()),
+    }
+}
+
+/// Enters a turn: that it took a node away, what it asked, what it told.
+fn enter(
+    alloc: Global,
+    turns: &[Turn],
+    places: &mut Places,
+    place: usize,
+    turn: &Turn,
+) -> Result<(), Memory>
+    requires { slice_get turns.now place ≡ Some turn.now }
+    ensures grows { Grows places.old places.new }
+    ensures found { OnOk result (IsFound turns.now places.new (turn_of turn.now)) }
+{
+    enter_gone(alloc, turns, places, place, turn)?;
+    enter_asks(alloc, turns, places, place, turn)?;
+    enter_tell(alloc, turns, places, place, turn)
+}
+
+/// Enters a turn that took a node away under the key of the node.
+fn enter_gone(
+    alloc: Global,
+    turns: &[Turn],
+    places: &mut Places,
+    place: usize,
+    turn: &Turn,
+) -> Result<(), Memory>
+    requires { slice_get turns.now place ≡ Some turn.now }
+    ensures grows { Grows places.old places.new }
+    ensures found { OnOk result (GoneIsFound turns.now places.new (turn_of turn.now)) }
+{
+    match turn {
+        Turn::Gone { node } => add(alloc, places, &gone_key(node), place),
+        _ => Ok(()),
+    }
+}
+
+/// Enters a turn under the keys of the asks that it gave.
+fn enter_asks(
+    alloc: Global,
+    turns: &[Turn],
+    places: &mut Places,
+    place: usize,
+    turn: &Turn,
+) -> Result<(), Memory>
+    requires { slice_get turns.now place ≡ Some turn.now }
+    ensures grows { Grows places.old places.new }
+    ensures found { OnOk result (AsksAreFound turns.now places.new (turn_of turn.now)) }
+{
+    let from = turn.node();
+    let asks = turn.asks();
+    for sent in asks {
+        enter_ask(alloc, turns, places, place, &from, sent)?;
+    }
+    Ok(())
+}
+
+/// Enters a turn under the key of an ask that it gave, where no turn stands there that gave it.
+fn enter_ask(
+    alloc: Global,
+    turns: &[Turn],
+    places: &mut Places,
+    place: usize,
+    from: &NodeId,
+    sent: &(NodeId, Ask),
+) -> Result<(), Memory>
+    requires { at_place turns.now (tests.gives from.now sent.now.0 sent.now.1) place ≡ true }
+    ensures grows { Grows places.old places.new }
+    ensures found { OnOk result (some_under turns.now places.new (tests.gives from.now sent.now.0 sent.now.1) (keys.ask_key from.now sent.now.0 sent.now.1) ≡ true) }
+{
+    if has_ask(turns, places, from, &sent.0, &sent.1) {
+        return Ok(());
+    }
+    let key = ask_key(from, &sent.0, &sent.1);
+    add(alloc, places, &key, place)
+}
+
+/// Enters a turn under the key of what was told in it, where no turn stands there in which it was told.
+fn enter_tell(
+    alloc: Global,
+    turns: &[Turn],
+    places: &mut Places,
+    place: usize,
+    turn: &Turn,
+) -> Result<(), Memory>
+    requires { slice_get turns.now place ≡ Some turn.now }
+    ensures grows { Grows places.old places.new }
+    ensures found { OnOk result (TellIsFound turns.now places.new (turn_of turn.now)) }
+{
+    let Some(key) = told_key(turn) else {
+        return Ok(());
+    };
+    if has_retold(turns, places, &key, turn) {
+        return Ok(());
+    }
+    add(alloc, places, &key, place)
+}

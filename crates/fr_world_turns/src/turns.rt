@@ -1,0 +1,120 @@
+//! The turns of a world.
+ghost use Rattle.std.specs.Prelude.{◌≡◌, ◌≤◌, ◌∷◌, ◌+◌, length, [], OnOk};
+ghost use Rattle.fr_run_event.specs.Tests as tests;
+ghost use Rattle.fr_world_turns.specs.Turns.{history_of, turn_of};
+
+use crate::entering::enter_rest;
+use crate::finding;
+use crate::places::Places;
+use crate::turn::Turn;
+use fr_ask::{Ask, Tell};
+use fr_base::{Memory, NodeId};
+use std::alloc::Global;
+use std::collections::BTreeMap;
+use std::marker::Model;
+
+/// The turns of a world, oldest first, with places by which it is found who is gone, what was sent and what was
+/// told, in a logarithm of how many turns there are. Contracts see them as a history, which has the newest first,
+/// and as for how many more there is room.
+///
+/// A turn that is added is found too, but it is looked at each time, until `catch_up` enters it.
+#[derive(Drop)]
+pub struct Turns {
+    turns: Vec<Turn>,
+    indexed: usize,
+    places: Places,
+}
+
+impl Model for Turns {
+    ghost use Rattle.std.specs.Prelude.{◌-◌};
+    ghost use Rattle.std.specs.Vec.{vec_capacity, vec_len};
+    ghost use Rattle.fr_world_turns.specs.Finding.{AreFound};
+    ghost use Rattle.fr_world_turns.specs.Happened.{Happened};
+    ghost use Rattle.fr_world_turns.specs.Turns.{history_of};
+
+    ghost Value = { Happened };
+
+    ghost view = { λ h. record { turns = history_of h.turns.items; room = vec_capacity h.turns - vec_len h.turns } };
+
+    ghost invariant = { λ h. AreFound h.turns.items h.indexed h.places };
+}
+
+impl Turns {
+    /// No turns. It takes no memory.
+    pub fn new(alloc: Global) -> Self
+        ensures { result.turns ≡ [] }
+    {
+        Turns {
+            turns: Vec::new(alloc),
+            indexed: 0,
+            places: BTreeMap::new(alloc),
+        }
+    }
+
+    /// Makes room for one turn more. Want of memory changes no turn.
+    pub fn reserve(&mut self) -> Result<(), Memory>
+        ensures turns { self.new.turns ≡ self.old.turns }
+        ensures room { OnOk result (1 ≤ self.new.room) }
+    {
+        self.turns.reserve(1)?;
+        Ok(())
+    }
+
+    /// Adds a turn, for which there is room. It takes no memory.
+    pub fn push_reserved(&mut self, turn: Turn)
+        requires { 1 ≤ self.old.room }
+        ensures { self.new.turns ≡ turn_of turn ∷ self.old.turns }
+    {
+        self.turns.push_reserved(turn);
+    }
+
+    /// Enters the turns that were added, so that none of them has to be looked at to find another. Want of memory
+    /// leaves those entered for which there was memory.
+    pub fn catch_up(&mut self, alloc: Global) -> Result<(), Memory>
+        ensures { self.new ≡ self.old }
+    {
+        enter_rest(
+            alloc,
+            self.turns.as_slice(),
+            &mut self.indexed,
+            &mut self.places,
+        )
+    }
+
+    /// The turns, oldest first.
+    pub fn as_slice(&self) -> &[Turn]
+        ensures { history_of result.now ≡ self.now.turns }
+    {
+        self.turns.as_slice()
+    }
+
+    /// How many turns there are.
+    pub fn len(&self) -> usize
+        ensures { result ≡ length self.now.turns }
+    {
+        self.turns.as_slice().len()
+    }
+
+    /// Whether a node crashed for good, or is a log that is lost.
+    pub fn is_gone(&self, node: &NodeId) -> bool
+        ensures { result ≡ tests.is_gone self.now.turns node.now }
+    {
+        finding::is_gone(self.turns.as_slice(), self.indexed, &self.places, node)
+    }
+
+    /// Whether a node gave an ask to another.
+    pub fn was_sent(&self, from: &NodeId, to: &NodeId, ask: &Ask) -> bool
+        ensures { result ≡ tests.was_sent self.now.turns from.now to.now ask.now }
+    {
+        let turns = self.turns.as_slice();
+        finding::was_sent(turns, self.indexed, &self.places, from, to, ask)
+    }
+
+    /// Whether a node told this to another.
+    pub fn was_told(&self, by: &NodeId, to: &NodeId, tell: &Tell) -> bool
+        ensures { result ≡ tests.was_told self.now.turns by.now to.now tell.now }
+    {
+        let turns = self.turns.as_slice();
+        finding::was_told(turns, self.indexed, &self.places, by, to, tell)
+    }
+}

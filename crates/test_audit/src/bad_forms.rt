@@ -1,0 +1,158 @@
+//! What is no script.
+use crate::scripts::Place::{self, Act, Ask, Config, Entries, Journal, Last, Node, Tell, Whole};
+use crate::scripts::script_in;
+use fr_audit_script::{ScriptFault, read_script};
+use std::alloc::Global;
+use std::process::Abort;
+use std::test::Fail;
+
+const TEXTS: [&str; 9] = [
+    r#""#,
+    r#"{"config""#,
+    r#"null"#,
+    r#"[]"#,
+    r#"{"config":null,"journals":[]}"#,
+    r#"{"journals":[]}"#,
+    r#"{"config":{"coordinators":1,"degree":1,"logs":1,"proxies":1,"shards":[""]}}"#,
+    r#"{"config":{"coordinators":1,"degree":1,"logs":1,"proxies":1,"shards":[""]},"journals":{}}"#,
+    r#"{"config":{"coordinators":1,"degree":1,"logs":1,"proxies":1,"shards":[""]},"journals":[],"more":0}"#,
+];
+
+const CONFIGS: [&str; 8] = [
+    r#"{"coordinators":2,"degree":1,"logs":1,"proxies":1,"shards":[""]}"#,
+    r#"{"coordinators":1,"degree":2,"logs":1,"proxies":1,"shards":[""]}"#,
+    r#"{"coordinators":1,"degree":1,"logs":17,"proxies":1,"shards":[""]}"#,
+    r#"{"coordinators":1,"degree":1,"logs":1,"proxies":0,"shards":[""]}"#,
+    r#"{"coordinators":1,"degree":1,"logs":1,"proxies":1,"shards":[]}"#,
+    r#"{"coordinators":1,"degree":1,"logs":1,"proxies":1,"shards":["","A1"]}"#,
+    r#"{"coordinators":257,"degree":1,"logs":1,"proxies":1,"shards":[""]}"#,
+    r#"{"coordinators":1,"degree":1,"logs":1,"proxies":1}"#,
+];
+
+const ASKS: [&str; 28] = [
+    r#"{}"#,
+    r#"null"#,
+    r#"{"cell":{}}"#,
+    r#"{"cell":{"read":{}}}"#,
+    r#"{"cell":{"read":{"ballot":null}}}"#,
+    r#"{"cell":{"read":{"ballot":1}}}"#,
+    r#"{"cell":{"read":{"ballot":281474976710656}}}"#,
+    r#"{"cell":{"read":{"ballot":513.0}}}"#,
+    r#"{"cell":{"read":{"ballot":-0}}}"#,
+    r#"{"cell":{"read":{"ballot":513,"more":0}}}"#,
+    r#"{"cell":{"Read":{"ballot":513}}}"#,
+    r#"{"cell":{"read":{"ballot":513}},"log":{}}"#,
+    r#"{"cell":{"lock":{"epoch":257}}}"#,
+    r#"{"cell":{"write":{"ballot":513,"value":"0A"}}}"#,
+    r#"{"cell":{"write":{"ballot":513,"value":"0"}}}"#,
+    r#"{"log":{"lock":{"epoch":255}}}"#,
+    r#"{"log":{"peek":{"after":0,"epoch":257,"most":0,"tag":0}}}"#,
+    r#"{"log":{"peek":{"after":0,"epoch":257,"most":101,"tag":0}}}"#,
+    r#"{"log":{"peek":{"after":4611686018427387904,"epoch":257,"most":1,"tag":0}}}"#,
+    r#"{"log":{"peek":{"after":0,"epoch":257,"most":1,"tag":32}}}"#,
+    r#"{"log":{"seed":{"epoch":257,"first":0,"records":[],"seeded_to":0}}}"#,
+    r#"{"log":{"seed":{"epoch":257,"first":1,"records":[{"batch":[],"tag":0,"version":2}],"seeded_to":1}}}"#,
+    r#"{"log":{"push":{"bodies":[],"epoch":257,"known":2,"mark":null,"prev":1,"version":2}}}"#,
+    r#"{"log":{"push":{"bodies":[[0,[],0]],"epoch":257,"known":0,"mark":null,"prev":1,"version":2}}}"#,
+    r#"{"log":{"push":{"bodies":[[0,[]]],"epoch":257,"known":0,"mark":[{"epoch":257,"first":1,"k":1,"m":1,"seeded_to":0}],"prev":1,"version":2}}}"#,
+    r#"{"log":{"push":{"bodies":[],"epoch":257,"known":0,"mark":[{"epoch":257,"first":1,"k":1,"m":1,"seeded_to":0}],"prev":1,"version":3}}}"#,
+    r#"{"seq":{"next":{"proxy":16,"request":1,"step":1}}}"#,
+    r#"{"seq":{"next":{"proxy":0,"request":0,"step":1}}}"#,
+];
+
+const TELLS: [&str; 12] = [
+    r#"{"cell":{"two_values":null}}"#,
+    r#"{"cell":{"two_values":{"why":0}}}"#,
+    r#"{"log":{"seeded":[]}}"#,
+    r#"{"log":{"held":2}}"#,
+    r#"{"log":{"refused":{"why":"stale"}}}"#,
+    r#"{"log":{"refused":{"why":{"spent":{}}}}}"#,
+    r#"{"log":{"marked":{"state":[]}}}"#,
+    r#"{"log":{"marked":{"state":[{"epoch":513,"first":1,"k":1,"m":1,"seeded_to":0},{"epoch":257,"first":1,"k":1,"m":1,"seeded_to":0}]}}}"#,
+    r#"{"log":{"peeked":{"after":0,"known":0,"records":[{"batch":[],"version":2}],"tag":0,"upto":1}}}"#,
+    r#"{"log":{"peeked":{"after":0,"known":0,"records":[{"batch":[{"clear":{"begin":"62","end":"61"}}],"version":1}],"tag":0,"upto":1}}}"#,
+    r#"{"seq":{"numbered":{"prev":1,"request":4611686018427387904,"version":2}}}"#,
+    r#"{"seq":{"refused":{"why":{"stopped":{}}}}}"#,
+];
+
+const ACTS: [&str; 9] = [
+    r#""begun""#,
+    r#"{"begun":null}"#,
+    r#"{"ended":{}}"#,
+    r#"{"asked":{"from":{"cell":{"index":0}},"tell":{"cell":{"two_values":{}}}}}"#,
+    r#"{"heard":{"from":{"cell":{"index":0}},"taken":null,"tell":{"log":{"seeded":{}}}}}"#,
+    r#"{"heard":{"from":{"cell":{"index":0}},"outcome":"waiting","taken":null,"tell":{"log":{"seeded":{}}}}}"#,
+    r#"{"heard":{"from":{"cell":{"index":0}},"outcome":null,"taken":"3","tell":{"log":{"seeded":{}}}}}"#,
+    r#"{"submitted":{"batch":[],"step":0}}"#,
+    r#"{"submitted":{"batch":[],"step":1000001}}"#,
+];
+
+const NODES: [&str; 8] = [
+    r#"{"cell":{"index":9}}"#,
+    r#"{"log":{"epoch":257,"index":16}}"#,
+    r#"{"log":{"index":0}}"#,
+    r#"{"sequencer":{"epoch":0}}"#,
+    r#"{"proxy":{"epoch":257,"number":16}}"#,
+    r#"{"recoverer":{"ballot":255}}"#,
+    r#"{"storage":{"tag":32}}"#,
+    r#"{"storage":0}"#,
+];
+
+const LASTS: [&str; 6] = [
+    r#"{}"#,
+    r#"{"log":{"durable":0,"known":0,"seeded":0,"stopped":false}}"#,
+    r#"{"recoverer":{"phase":null}}"#,
+    r#"{"storage":{"epoch":257,"floor":0,"rows":[["61"]],"version":0}}"#,
+    r#"{"storage":{"epoch":257,"floor":0,"rows":[["61","1"]],"version":0}}"#,
+    r#"{"sequencer":{"last":null}}"#,
+];
+
+const ENTRIES: [&str; 5] = [
+    r#"{"act":{"begun":{}},"stamp":1099511627776}"#,
+    r#"{"act":{"begun":{}}}"#,
+    r#"{"act":{"begun":{}},"stamp":1},{"act":{"begun":{}},"stamp":1}"#,
+    r#"{"act":{"begun":{}},"stamp":2},{"act":{"begun":{}},"stamp":1}"#,
+    r#"{"act":{"begun":{}},"stamp":0},null"#,
+];
+
+const JOURNALS: [&str; 2] = ["{}", r#"{"entries":[],"last":null}"#];
+
+fn is_bad(alloc: Global, text: &[u8]) -> bool {
+    match read_script(alloc, text) {
+        Err(ScriptFault::BadScript) => true,
+        _ => false,
+    }
+}
+
+fn is_bad_in(alloc: Global, place: Place, form: &str) -> Result<bool, Fail> {
+    let script = script_in(alloc, place, form)?;
+    Ok(is_bad(alloc, script.as_bytes()))
+}
+
+fn are_bad(rt: &impl Abort, alloc: Global, place: Place, forms: &[&str]) -> Result<(), Fail> {
+    for form in forms {
+        assert!(rt; is_bad_in(alloc, place, form)?, "{form}");
+    }
+    Ok(())
+}
+
+#[test]
+fn other_texts_are_bad(rt: HostRuntime) -> Result<(), Fail> {
+    are_bad(&rt, rt.alloc(), Whole, &TEXTS)?;
+    are_bad(&rt, rt.alloc(), Config, &CONFIGS)?;
+    are_bad(&rt, rt.alloc(), Journal, &JOURNALS)
+}
+
+#[test]
+fn other_asks_and_tells_are_bad(rt: HostRuntime) -> Result<(), Fail> {
+    are_bad(&rt, rt.alloc(), Ask, &ASKS)?;
+    are_bad(&rt, rt.alloc(), Tell, &TELLS)
+}
+
+#[test]
+fn other_acts_nodes_and_last_states_are_bad(rt: HostRuntime) -> Result<(), Fail> {
+    are_bad(&rt, rt.alloc(), Act, &ACTS)?;
+    are_bad(&rt, rt.alloc(), Node, &NODES)?;
+    are_bad(&rt, rt.alloc(), Last, &LASTS)?;
+    are_bad(&rt, rt.alloc(), Entries, &ENTRIES)
+}

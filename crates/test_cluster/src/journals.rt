@@ -1,0 +1,189 @@
+//! What the command `cluster` prints.
+use fr_audit::audit;
+use fr_audit_journal::Journal;
+use fr_audit_script::{read_script, write_script};
+use fr_cli_apply::CallCounts;
+use fr_cli_cluster::{
+    ClusterOptions, ClusterWords, DEFAULTS, Progress, cluster_counted, run_cluster,
+};
+use fr_run_event::Config;
+use std::alloc::Global;
+use std::fmt::Display;
+use std::io;
+use std::io::Eprint;
+use std::sync::Wait;
+use std::sync::atomic::{AtomicU64, Ordering};
+use std::test::Fail;
+use std::thread::Threads;
+
+/// Runs the command, and whether it ends well.
+fn runs<R: Threads + Wait + Sync>(
+    rt: &R,
+    alloc: Global,
+    options: ClusterOptions,
+    writer: &mut Vec<u8>,
+) -> Result<bool, Fail> {
+    Ok(run_cluster(rt, alloc, options, writer)? == 0)
+}
+
+/// Whether a cluster of these words ends well and prints that its audit does.
+fn is_run<R: Threads + Wait + Sync>(
+    rt: &R,
+    alloc: Global,
+    words: ClusterWords,
+) -> Result<bool, Fail> {
+    let options = ClusterOptions::new(words).ok_or("options")?;
+    let mut writer = Vec::new(alloc);
+    let is_well = runs(rt, alloc, options, &mut writer)?;
+    Ok(is_well && writer.as_slice() == b"audit ok\n".as_slice())
+}
+
+#[test]
+fn the_defaults_are_a_run(rt: HostRuntime) -> Result<(), Fail> {
+    assert!(rt; is_run(&rt, rt.alloc(), DEFAULTS)?);
+    Ok(())
+}
+
+const GREATEST: ClusterWords = ClusterWords {
+    coordinators: 9,
+    logs: 16,
+    degree: 16,
+    storages: 32,
+    proxies: 16,
+    batches: 3,
+    recoveries: 2,
+    turns: 120,
+    journal: false,
+};
+
+#[test]
+fn the_greatest_cluster_is_a_run(rt: HostRuntime) -> Result<(), Fail> {
+    assert!(rt; is_run(&rt, rt.alloc(), GREATEST)?);
+    Ok(())
+}
+
+/// Whether a config has these numbers.
+fn has_numbers(config: &Config) -> bool {
+    config.coordinators() == 3
+        && config.logs() == 4
+        && config.degree() == 2
+        && config.map().begins().len() == 2
+        && config.proxies() == 2
+}
+
+/// Whether a text is a line with the script of these journals.
+fn is_line(
+    alloc: Global,
+    config: &Config,
+    journals: &[Journal],
+    text: &[u8],
+) -> Result<bool, Fail> {
+    let mut line = write_script(alloc, config, journals)?;
+    line.push(b'\n')?;
+    Ok(line.as_slice() == text)
+}
+
+fn is_audited(alloc: Global, config: Config, journals: &[Journal]) -> bool {
+    match audit(alloc, config, journals) {
+        Ok(_) => true,
+        Err(_) => false,
+    }
+}
+
+/// Whether a text is a line with the script of journals of the defaults, which are a run.
+fn is_read_back(alloc: Global, text: &[u8]) -> Result<bool, Fail> {
+    let (config, journals) = read_script(alloc, text)?;
+    let is_same = is_line(alloc, &config, journals.as_slice(), text)?;
+    Ok(is_same && has_numbers(&config) && is_audited(alloc, config, journals.as_slice()))
+}
+
+const SHOWN: ClusterWords = ClusterWords {
+    turns: 150,
+    journal: true,
+    ..DEFAULTS
+};
+
+#[test]
+fn what_is_printed_is_read_back_and_is_a_run(rt: HostRuntime) -> Result<(), Fail> {
+    let options = ClusterOptions::new(SHOWN).ok_or("options")?;
+    let mut writer = Vec::new(rt.alloc());
+    let is_well = runs(&rt, rt.alloc(), options, &mut writer)?;
+    assert!(rt; is_well && is_read_back(rt.alloc(), writer.as_slice())?);
+    Ok(())
+}
+
+const OTHERS: [ClusterWords; 4] = [
+    ClusterWords {
+        coordinators: 4,
+        ..DEFAULTS
+    },
+    ClusterWords {
+        degree: 5,
+        ..DEFAULTS
+    },
+    ClusterWords {
+        storages: 33,
+        ..DEFAULTS
+    },
+    ClusterWords {
+        turns: 0,
+        ..DEFAULTS
+    },
+];
+
+#[test]
+fn other_numbers_are_no_options(rt: HostRuntime) {
+    for words in OTHERS.iter() {
+        assert!(rt; ClusterOptions::new(*words).is_none());
+    }
+}
+
+/// A terminal that counts what is written on it.
+#[derive(Drop)]
+struct Counted {
+    writes: AtomicU64,
+}
+
+impl Eprint for Counted {
+    fn eprint<D: Display + Drop>(&self, value: D) -> io::Result<()> {
+        drop(value);
+        let _before = self.writes.fetch_add(1, Ordering::SeqCst);
+        Ok(())
+    }
+
+    fn eprintln<D: Display + Drop>(&self, value: D) -> io::Result<()> {
+        self.eprint(value)
+    }
+}
+
+/// Runs the command with this terminal, and whether it ends well and prints that its audit does.
+fn is_told<R: Threads + Wait + Sync>(
+    rt: &R,
+    alloc: Global,
+    options: ClusterOptions,
+    progress: &Progress<Counted>,
+) -> Result<bool, Fail> {
+    let mut calls = CallCounts::new();
+    let mut writer = Vec::new(alloc);
+    let status = cluster_counted(rt, alloc, options, progress, &mut calls, &mut writer)?;
+    Ok(status == 0 && writer.as_slice() == b"audit ok\n".as_slice())
+}
+
+const LONG: ClusterWords = ClusterWords {
+    turns: 1000,
+    ..DEFAULTS
+};
+
+#[test]
+fn a_terminal_is_told_how_far_it_has_come(rt: HostRuntime) -> Result<(), Fail> {
+    let options = ClusterOptions::new(LONG).ok_or("options")?;
+    let terminal = Counted {
+        writes: AtomicU64::new(0),
+    };
+    let progress = Progress::new(&terminal, options);
+    assert!(rt; is_told(&rt, rt.alloc(), options, &progress)?);
+    assert_eq!(rt; terminal.writes.load(Ordering::SeqCst), 4);
+    progress.end();
+    assert_eq!(rt; terminal.writes.load(Ordering::SeqCst), 6);
+    Ok(())
+}

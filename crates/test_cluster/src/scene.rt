@@ -1,0 +1,158 @@
+//! Clusters in memory, and what their journals say.
+use fr_audit_journal::{Entry, Journal};
+use fr_base::{Ballot, Bytes, Epoch, NodeId};
+use fr_proxy::Outcome;
+use fr_run_event::Config;
+use fr_runtime::{Cluster, Orders, PlainRack, Rack, Report};
+use fr_runtime_station::Faults;
+use std::alloc::Global;
+use std::sync::Wait;
+use std::test::Fail;
+use std::thread::Threads;
+
+/// A cluster's numbers.
+#[derive(Clone, Copy)]
+pub(crate) struct Numbers {
+    pub(crate) coordinators: u8,
+    pub(crate) logs: u8,
+    pub(crate) degree: u8,
+    pub(crate) storages: u8,
+    pub(crate) proxies: u8,
+    pub(crate) batches: u32,
+    pub(crate) turns: u32,
+}
+
+/// What the program runs where no number is given, with fewer turns.
+pub(crate) const DEFAULTS: Numbers = Numbers {
+    coordinators: 3,
+    logs: 4,
+    degree: 2,
+    storages: 2,
+    proxies: 2,
+    batches: 20,
+    turns: 1000,
+};
+
+/// One workload and one storage server.
+pub(crate) const ALONE: Numbers = Numbers {
+    storages: 1,
+    proxies: 1,
+    turns: 10_000,
+    ..DEFAULTS
+};
+
+fn epoch(number: u64) -> Result<Epoch, Fail> {
+    Ok(Epoch::new(number).ok_or("an epoch")?)
+}
+
+/// The ballot of the first epoch after that of the start.
+pub(crate) fn ballot() -> Result<Ballot, Fail> {
+    Ok(Ballot::new(513).ok_or("a ballot")?)
+}
+
+/// A log of the first epoch.
+pub(crate) fn log(index: u8) -> Result<NodeId, Fail> {
+    let epoch = epoch(257)?;
+    Ok(NodeId::Log { epoch, index })
+}
+
+/// Where the shards begin: the first at the empty key, shard i at the byte 8 i.
+fn begins(alloc: Global, storages: u8) -> Result<Vec<Bytes>, Fail> {
+    let mut begins = Vec::new(alloc);
+    begins.push(Bytes::empty(alloc))?;
+    for number in 1..storages {
+        begins.push(Bytes::from_slice(alloc, &[(number & 0x1f) * 8])?)?;
+    }
+    Ok(begins)
+}
+
+/// What may be so of a run.
+pub(crate) trait Question {
+    /// Whether it is so, by the report of the run and the workloads.
+    fn is_so(&self, report: &Report, works: &[Orders]) -> bool;
+}
+
+fn config(alloc: Global, numbers: Numbers) -> Result<Config, Fail> {
+    let begins = begins(alloc, numbers.storages)?;
+    let (coordinators, logs) = (numbers.coordinators, numbers.logs);
+    Ok(Config::new(coordinators, logs, numbers.degree, begins, numbers.proxies)?)
+}
+
+fn works(alloc: Global, numbers: Numbers) -> Result<Vec<Orders>, Fail> {
+    let mut works = Vec::new(alloc);
+    for number in 0..numbers.proxies {
+        works.push(Orders::new(alloc, number, numbers.storages, numbers.batches))?;
+    }
+    Ok(works)
+}
+
+fn made(alloc: Global, numbers: Numbers) -> Result<(Config, Vec<Orders>), Fail> {
+    let config = config(alloc, numbers)?;
+    let works = works(alloc, numbers)?;
+    Ok((config, works))
+}
+
+fn run<K: Rack + Drop, F: Faults + Sync, R: Threads + Wait + Sync>(
+    rt: &R,
+    alloc: Global,
+    numbers: Numbers,
+    ballots: &[Ballot],
+    rack: K,
+    faults: &F,
+) -> Result<(Report, Vec<Orders>), Fail> {
+    let (config, works) = made(alloc, numbers)?;
+    let turns = numbers.turns;
+    Ok(Cluster::run(rt, alloc, config, ballots, turns, rack, works, faults)?)
+}
+
+/// Runs a cluster over the nodes of a rack, with a recoverer for each of these ballots; whether this is so of it.
+pub(crate) fn holds_on<K: Rack + Drop, F: Faults + Sync, Q: Question, R: Threads + Wait + Sync>(
+    rt: &R,
+    alloc: Global,
+    numbers: Numbers,
+    ballots: &[Ballot],
+    rack: K,
+    faults: &F,
+    question: &Q,
+) -> Result<bool, Fail> {
+    let (report, works) = run(rt, alloc, numbers, ballots, rack, faults)?;
+    Ok(question.is_so(&report, works.as_slice()))
+}
+
+/// The same of a cluster in memory.
+pub(crate) fn holds<F: Faults + Sync, Q: Question, R: Threads + Wait + Sync>(
+    rt: &R,
+    alloc: Global,
+    numbers: Numbers,
+    ballots: &[Ballot],
+    faults: &F,
+    question: &Q,
+) -> Result<bool, Fail> {
+    holds_on(rt, alloc, numbers, ballots, PlainRack, faults, question)
+}
+
+/// What the first workload was told, nothing where there is none.
+pub(crate) fn first_told(report: &Report) -> &[Outcome] {
+    match report.told.first() {
+        Some(told) => told.as_slice(),
+        None => &[],
+    }
+}
+
+/// The journal of a node.
+pub(crate) fn journal_of(report: &Report, node: NodeId) -> Option<&Journal> {
+    for journal in report.journals.iter() {
+        if journal.node() == node {
+            return Some(journal);
+        }
+    }
+    None
+}
+
+/// The entries of a node's journal, none where it has no journal.
+pub(crate) fn entries_of(report: &Report, node: NodeId) -> &[Entry] {
+    match journal_of(report, node) {
+        Some(journal) => journal.entries(),
+        None => &[],
+    }
+}

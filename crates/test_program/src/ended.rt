@@ -1,0 +1,262 @@
+//! How a program ends, and what it writes.
+use crate::words::words_of;
+use fr_cli::{Ending, run_program};
+use fr_cli_apply::CliFault;
+use std::alloc::{AllocError, Global};
+use std::sync::Wait;
+use std::test::Fail;
+use std::thread::Threads;
+
+/// How a program ends.
+#[derive(Clone, Copy, Debug, PartialEq, Eq)]
+enum How {
+    Done,
+    BadScript,
+    BadWords,
+    Otherwise,
+}
+
+/// A line of words with an input, how the program ends, with which status, and what it writes.
+#[derive(Clone, Copy)]
+struct Row {
+    line: &'static str,
+    input: &'static str,
+    how: How,
+    status: u8,
+    writes: &'static str,
+}
+
+/// How the program of this line ends on this input. What it writes goes to the writer.
+pub(crate) fn run<H: Threads + Wait + Sync>(
+    rt: &H,
+    alloc: Global,
+    line: &str,
+    input: &[u8],
+    writer: &mut Vec<u8>,
+) -> Result<Ending, AllocError> {
+    let words = words_of(alloc, line)?;
+    let mut reader = input;
+    Ok(run_program(
+        rt,
+        None::<&HostRuntime>,
+        alloc,
+        words.as_slice(),
+        &mut reader,
+        writer,
+    ))
+}
+
+fn how_of(ending: &Ending) -> How {
+    match ending {
+        Ending::Done(_) => How::Done,
+        Ending::Fault(CliFault::BadScript) => How::BadScript,
+        Ending::Fault(_) => How::Otherwise,
+        Ending::BadWords(_) => How::BadWords,
+    }
+}
+
+/// Whether a program ends as its row says.
+fn ends<H: Threads + Wait + Sync>(rt: &H, alloc: Global, row: Row) -> Result<bool, AllocError> {
+    let mut written = Vec::new(alloc);
+    let ending = run(rt, alloc, row.line, row.input.as_bytes(), &mut written)?;
+    Ok(
+        how_of(&ending) == row.how
+            && ending.status() == row.status
+            && written.as_slice() == row.writes.as_bytes(),
+    )
+}
+
+const ROWS: [Row; 15] = [
+    Row {
+        line: "fdbrec apply",
+        input: "{\"ops\":[{\"advance\":{\"version\":4}}]}",
+        how: How::Done,
+        status: 0,
+        writes: "ok 4 floor 0 undo 0\n",
+    },
+    Row {
+        line: "fdbrec apply",
+        input: "\"ops\":[{\"advance\":{\"version\":4}}]}",
+        how: How::BadScript,
+        status: 2,
+        writes: "",
+    },
+    Row {
+        line: "fdbrec apply",
+        input: "{\"ops\":[{\"advance\":{\"version\":4}}]",
+        how: How::BadScript,
+        status: 2,
+        writes: "",
+    },
+    Row {
+        line: "fdbrec end --logs 2 --degree 2",
+        input: "{\"replies\":[[0,5,5],[1,3,2]]}",
+        how: How::Done,
+        status: 0,
+        writes: "pev 5 rv 5\ninconsistent\n",
+    },
+    Row {
+        line: "fdbrec end --logs 2 --degree 2",
+        input: "\"replies\":[[0,5,5],[1,3,2]]}",
+        how: How::BadScript,
+        status: 2,
+        writes: "",
+    },
+    Row {
+        line: "fdbrec end --logs 2 --degree 3",
+        input: "{\"replies\":[]}",
+        how: How::BadWords,
+        status: 2,
+        writes: "",
+    },
+    Row {
+        line: "fdbrec simulate",
+        input: "{\"config\":{\"coordinators\":1,\"degree\":1,\"logs\":1,\"proxies\":1,\"shards\":[\"\"]},\"steps\":[]}",
+        how: How::Done,
+        status: 0,
+        writes: "storage 0 257 0 floor 0 rows 0\n",
+    },
+    Row {
+        line: "fdbrec simulate",
+        input: "\"config\":{\"coordinators\":1,\"degree\":1,\"logs\":1,\"proxies\":1,\"shards\":[\"\"]},\"steps\":[]}",
+        how: How::BadScript,
+        status: 2,
+        writes: "",
+    },
+    Row {
+        line: "fdbrec audit",
+        input: "{\"config\":{\"coordinators\":1,\"degree\":1,\"logs\":1,\"proxies\":1,\"shards\":[\"\"]},\"journals\":[]}",
+        how: How::Done,
+        status: 0,
+        writes: "audit ok\n",
+    },
+    Row {
+        line: "fdbrec audit",
+        input: "{\"config\":{\"coordinators\":1,\"degree\":1,\"logs\":1,\"proxies\":1,\"shards\":[\"\"]},\"journals\":[{\"entries\":[],\"last\":null,\"node\":{\"cell\":{\"index\":0}}}]}",
+        how: How::Done,
+        status: 1,
+        writes: "state differs at cell 0\n",
+    },
+    Row {
+        line: "fdbrec audit",
+        input: "\"config\":{\"coordinators\":1,\"degree\":1,\"logs\":1,\"proxies\":1,\"shards\":[\"\"]},\"journals\":[]}",
+        how: How::BadScript,
+        status: 2,
+        writes: "",
+    },
+    Row {
+        line: "fdbrec cluster --turns 300",
+        input: "",
+        how: How::Done,
+        status: 0,
+        writes: "audit ok\n",
+    },
+    Row {
+        line: "fdbrec cluster --logs=2 --degree=3",
+        input: "",
+        how: How::BadWords,
+        status: 2,
+        writes: "",
+    },
+    Row {
+        line: "fdbrec run",
+        input: "",
+        how: How::BadWords,
+        status: 2,
+        writes: "",
+    },
+    Row {
+        line: "fdbrec",
+        input: "{\"ops\":[]}",
+        how: How::BadWords,
+        status: 2,
+        writes: "",
+    },
+];
+
+#[test]
+fn programs_end_as_their_words_and_inputs_say(rt: HostRuntime) -> Result<(), Fail> {
+    for row in ROWS {
+        let line = row.line;
+        let input = row.input;
+        assert!(rt; ends(&rt, rt.alloc(), row)?, "{line} of {input}");
+    }
+    Ok(())
+}
+
+/// Lines that ask for help, with what they show.
+const SHOWN: [(&str, &str); 28] = [
+    ("fdbrec --version", "fdbrec 0.1.0 (rattle-kit-"),
+    ("fdbrec apply --help", "undo"),
+    ("fdbrec apply --help", "forget"),
+    ("fdbrec apply --help", "advance"),
+    ("fdbrec apply --help", "clear"),
+    ("fdbrec apply --help", "xor"),
+    ("fdbrec apply --help", "TooMany"),
+    ("fdbrec apply --help", "BelowFloor"),
+    ("fdbrec apply --help", "4 input"),
+    ("fdbrec end --help", "--logs"),
+    ("fdbrec end --help", "--degree"),
+    ("fdbrec end --help", "replies"),
+    ("fdbrec end --help", "none"),
+    ("fdbrec end --help", "inconsistent"),
+    ("fdbrec end --help", "Stranger"),
+    ("fdbrec end --help", "Differs"),
+    ("fdbrec simulate --help", "commit"),
+    ("fdbrec simulate --help", "push"),
+    ("fdbrec simulate --help", "pull"),
+    ("fdbrec simulate --help", "mark"),
+    ("fdbrec simulate --help", "recover"),
+    ("fdbrec simulate --help", "lose"),
+    ("fdbrec simulate --help", "chosen pev P rv R"),
+    ("fdbrec cluster --help", "--coordinators"),
+    ("fdbrec cluster --help", "--recoveries"),
+    ("fdbrec cluster --help", "--journal"),
+    ("fdbrec cluster --help", "[default: 10000]"),
+    ("fdbrec cluster --help", "audit ok"),
+];
+
+/// Whether the program of a line ends well and shows a text.
+fn shows<H: Threads + Wait + Sync>(
+    rt: &H,
+    alloc: Global,
+    line: &str,
+    text: &str,
+) -> Result<bool, AllocError> {
+    let mut written = Vec::new(alloc);
+    let ending = run(rt, alloc, line, b"".as_slice(), &mut written)?;
+    Ok(ending.status() == 0 && has(written.as_slice(), text.as_bytes()))
+}
+
+/// Whether a text stands in another.
+fn has(all: &[u8], text: &[u8]) -> bool {
+    !text.is_empty() && all.windows(text.len()).any(|at| at == text)
+}
+
+#[test]
+fn help_and_version_are_shown(rt: HostRuntime) -> Result<(), Fail> {
+    for (line, text) in SHOWN {
+        assert!(rt; shows(&rt, rt.alloc(), line, text)?, "{line}: {text}");
+    }
+    Ok(())
+}
+
+#[test]
+fn a_program_audits_what_a_cluster_prints(rt: HostRuntime) -> Result<(), Fail> {
+    let mut script = Vec::new(rt.alloc());
+    let line = "fdbrec cluster --turns=150 --journal";
+    let ending = run(&rt, rt.alloc(), line, b"".as_slice(), &mut script)?;
+    assert_eq!(rt; ending.status(), 0);
+    assert!(rt; script.starts_with(b"{\"config\":".as_slice()));
+    let mut written = Vec::new(rt.alloc());
+    let ending = run(
+        &rt,
+        rt.alloc(),
+        "fdbrec audit",
+        script.as_slice(),
+        &mut written,
+    )?;
+    assert_eq!(rt; ending.status(), 0);
+    assert!(rt; written.as_slice() == b"audit ok\n".as_slice());
+    Ok(())
+}

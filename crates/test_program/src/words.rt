@@ -1,0 +1,118 @@
+//! The words that choose a command.
+use clap::error::ErrorKind;
+use fr_cli::{EndOptions, Request, StoreKind, read_words};
+use std::alloc::{AllocError, Global};
+use std::test::Fail;
+
+/// The words of a line, the first of which is the program's name.
+pub(crate) fn words_of(alloc: Global, line: &str) -> Result<Vec<String>, AllocError> {
+    let mut all = Vec::new(alloc);
+    for word in line.split_whitespace() {
+        all.push(String::from_str(alloc, word)?)?;
+    }
+    Ok(all)
+}
+
+/// Whether a line chooses this.
+pub(crate) fn chooses(alloc: Global, line: &str, wanted: &Request) -> Result<bool, AllocError> {
+    let words = words_of(alloc, line)?;
+    match read_words(alloc, words.as_slice()) {
+        Ok(request) => Ok(request == *wanted),
+        Err(_) => Ok(false),
+    }
+}
+
+/// Whether a line is refused for this.
+pub(crate) fn is_refused(alloc: Global, line: &str, kind: ErrorKind) -> Result<bool, AllocError> {
+    let words = words_of(alloc, line)?;
+    match read_words(alloc, words.as_slice()) {
+        Ok(_) => Ok(false),
+        Err(error) => Ok(error.kind() == kind),
+    }
+}
+
+const STORES: [(&str, StoreKind); 5] = [
+    ("fdbrec apply", StoreKind::Map),
+    ("fdbrec apply --store map", StoreKind::Map),
+    ("fdbrec apply --store=map", StoreKind::Map),
+    ("fdbrec apply --store sql", StoreKind::Sql),
+    ("fdbrec apply --store=sql", StoreKind::Sql),
+];
+
+#[test]
+fn words_choose_a_store(rt: HostRuntime) -> Result<(), Fail> {
+    for (line, kind) in STORES {
+        assert!(rt; chooses(rt.alloc(), line, &Request::Apply(kind))?, "{line}");
+    }
+    Ok(())
+}
+
+/// A line, its logs and its degree.
+const ENDS: [(&str, u8, u8); 4] = [
+    ("fdbrec end --logs 4 --degree 2", 4, 2),
+    ("fdbrec end --degree=16 --logs=16", 16, 16),
+    ("fdbrec end --logs 16 --degree 1", 16, 1),
+    ("fdbrec end --logs=1 --degree=1", 1, 1),
+];
+
+#[test]
+fn words_choose_the_end_of_an_epoch(rt: HostRuntime) -> Result<(), Fail> {
+    for (line, logs, degree) in ENDS {
+        let wanted = Request::End(EndOptions::new(logs, degree).ok_or("options")?);
+        assert!(rt; chooses(rt.alloc(), line, &wanted)?, "{line}");
+    }
+    Ok(())
+}
+
+#[test]
+fn words_choose_a_simulation(rt: HostRuntime) -> Result<(), Fail> {
+    assert!(rt; chooses(rt.alloc(), "fdbrec simulate", &Request::Simulate)?);
+    Ok(())
+}
+
+const REFUSED: [(&str, ErrorKind); 21] = [
+    ("fdbrec", ErrorKind::MissingSubcommand),
+    ("fdbrec run", ErrorKind::InvalidSubcommand),
+    ("fdbrec --store map", ErrorKind::UnknownArgument),
+    ("fdbrec apply --store tree", ErrorKind::InvalidValue),
+    ("fdbrec apply --store", ErrorKind::InvalidValue),
+    ("fdbrec apply more", ErrorKind::UnknownArgument),
+    ("fdbrec simulate more", ErrorKind::UnknownArgument),
+    ("fdbrec --help", ErrorKind::DisplayHelp),
+    ("fdbrec --version", ErrorKind::DisplayVersion),
+    ("fdbrec apply --help", ErrorKind::DisplayHelp),
+    ("fdbrec end", ErrorKind::MissingRequiredArgument),
+    ("fdbrec end --logs 4", ErrorKind::MissingRequiredArgument),
+    ("fdbrec end --degree 2", ErrorKind::MissingRequiredArgument),
+    ("fdbrec end --logs=2 --degree=3", ErrorKind::ValueValidation),
+    ("fdbrec end --logs=0 --degree=0", ErrorKind::ValueValidation),
+    ("fdbrec end --logs=4 --degree=0", ErrorKind::ValueValidation),
+    (
+        "fdbrec end --logs=17 --degree=2",
+        ErrorKind::ValueValidation,
+    ),
+    (
+        "fdbrec end --logs=272 --degree=2",
+        ErrorKind::ValueValidation,
+    ),
+    (
+        "fdbrec end --logs=0x4 --degree=2",
+        ErrorKind::ValueValidation,
+    ),
+    (
+        "fdbrec end --logs=-4 --degree=2",
+        ErrorKind::ValueValidation,
+    ),
+    (
+        "fdbrec end --logs=four --degree=2",
+        ErrorKind::ValueValidation,
+    ),
+];
+
+#[test]
+fn other_words_are_refused(rt: HostRuntime) -> Result<(), Fail> {
+    for (line, kind) in REFUSED {
+        assert!(rt; is_refused(rt.alloc(), line, kind)?, "{line}");
+    }
+    Ok(())
+}

@@ -1,0 +1,32 @@
+//! The same seeded calls at a store in SQL, at one in a map and at lists give the same answers and states.
+use fr_sql_store::SqlStore;
+use fr_undo::{MapStore, ShardStore};
+use rand_pcg::Pcg32;
+use std::alloc::Global;
+use std::test::Fail;
+use test_store_plain::{SlowStore, agrees, goes_back};
+
+/// Whether a store and lists do the same at each of 40 calls, and then on the way back.
+fn follows<S: ShardStore>(alloc: Global, seed: u64, store: &mut S) -> Result<bool, Fail> {
+    let mut rng = Pcg32::new(seed, 54);
+    let mut slow = SlowStore::new(alloc);
+    Ok(agrees(alloc, &mut rng, 40, store, &mut slow)? && goes_back(alloc, store, &mut slow)?)
+}
+
+#[test]
+fn tables_agree_with_lists(rt: HostRuntime) -> Result<(), Fail> {
+    for seed in 0..2u64 {
+        let mut store = SqlStore::in_memory(rt.alloc())?;
+        assert!(rt; follows(rt.alloc(), seed, &mut store)?, "{seed}");
+    }
+    Ok(())
+}
+
+#[test]
+fn a_map_agrees_with_lists(rt: HostRuntime) -> Result<(), Fail> {
+    for seed in 0..2u64 {
+        let mut store = MapStore::new(rt.alloc());
+        assert!(rt; follows(rt.alloc(), seed, &mut store)?, "{seed}");
+    }
+    Ok(())
+}
