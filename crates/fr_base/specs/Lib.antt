@@ -4,3 +4,4 @@ pub mod HighWater
 pub mod Same
 pub mod Node
 pub mod Faults
+pub mod Shape

@@ -8,6 +8,7 @@ mod memory;
 mod node;
 mod order;
 mod place;
+mod shape;
 mod version;
 
 pub use ballot::{Ballot, Epoch, Stamp};
@@ -16,4 +17,5 @@ pub use machine::Machine;
 pub use memory::Memory;
 pub use node::{InMemory, Node, NodeFault, Reopened};
 pub use place::{LogId, NodeId, Tag};
+pub use shape::Shape;
 pub use version::{Step, Version};

@@ -1,5 +1,5 @@
 //! What serves asks as a plain machine does, over a device or without one.
-ghost use Rattle.std.specs.Prelude.{◌≡◌, ◌≢◌, ◌⊎◌, ◌||◌, ◌↔◌, Ok, Err, Some, None, IfOk, OnOk, OnErr, IfErr, IfSome, IsSome, IsTrue, false};
+ghost use Rattle.std.specs.Prelude.{◌≡◌, ◌≢◌, ◌⊎◌, ◌||◌, ◌↔◌, ◌+◌, ◌-◌, ◌^◌, min, Ok, Err, Some, None, IfOk, OnOk, OnErr, IfErr, IsTrue, false};
 ghost use Rattle.fr_base.specs.Faults.{met_device};
 
 use crate::machine::Machine;
@@ -38,20 +38,20 @@ impl From<NoMemory> for NodeFault {
     }
 }
 
-/// Where a node stands that was opened again: before or after the ask that met the device's fault, and
-/// before where no ask did.
+/// Where a node stands that was opened again: before or after the asks that met the device's fault, and
+/// before where none did.
 #[derive(Clone, Copy, Debug, PartialEq, Eq)]
 pub enum Reopened {
-    /// The ask left nothing.
+    /// They left nothing.
     Before,
-    /// The ask was taken; asked again it is told what it would have been.
+    /// They were taken; asked again they are told what they would have been.
     After,
 }
 
 /// A node: it answers as its plain machine does, or with a fault. What it answered outlasts every crash.
 /// Where its device fails in an ask, the ask is taken or it is not, and `reopen` says which.
 pub trait Node {
-    ghost use Rattle.std.specs.Prelude.{Option, Bool};
+    ghost use Rattle.std.specs.Prelude.{Option, Bool, ℕ};
     ghost use Rattle.fr_base.specs.declared.node.NodeFault.{NodeFault};
 
     /// The machine that it serves as.
@@ -63,8 +63,14 @@ pub trait Node {
     /// Whether a device failed in a call, and the node was not opened again since.
     ghost is_failed: { Self → Bool };
 
-    /// The ask that met the device's fault, if one did since the node was last opened.
-    ghost held: { Self → Option Self.Plain.Ask };
+    /// The state to which the asks lead that met the device's fault, if some did since the node was last opened.
+    ghost owed: { Self → Option Self.Plain };
+
+    /// How often the device answered that it failed; at 2^64 - 1 it stays.
+    ghost failures: { Self → ℕ };
+
+    /// Whether the device has no room for what an ask writes.
+    ghost LacksRoom: { Self → Self.Plain.Ask → Type 0 };
 
     /// From the first node to the second the device made calls, and a crash at any moment of them, inside
     /// a call too, leaves a node whose state has P.
@@ -84,8 +90,10 @@ pub trait Node {
         ensures err { OnErr result (state self.new ≡ state self.old) }
         ensures failed { (result ≡ Err NodeFault.Failed) ↔ IsTrue (is_failed self.old) }
         ensures fails { is_failed self.new ≡ (is_failed self.old || met_device result) }
-        ensures holds { (result ≡ Err NodeFault.Device) → held self.new ≡ Some ask }
-        ensures holds_still { result ≢ Err NodeFault.Device → held self.new ≡ held self.old }
+        ensures device { (result ≡ Err NodeFault.Device) → failures self.new ≡ min (failures self.old + 1) (2 ^ 64 - 1) }
+        ensures full { (result ≡ Err NodeFault.Full) → LacksRoom self.old ask }
+        ensures owes { (result ≡ Err NodeFault.Device) → owed self.new ≡ Some (Self.Plain.after (state self.old) ask) }
+        ensures owes_still { result ≢ Err NodeFault.Device → owed self.new ≡ owed self.old }
         ensures trouble { IfErr result (λ fault. fault ≢ NodeFault.Failed → CanMeet fault) }
         ensures any_moment { is_failed self.old ≡ false → Throughout (λ x. (x ≡ state self.old) ⊎ (x ≡ Self.Plain.after (state self.old) ask)) self.old self.new }
         ensures kept { OnOk result (Throughout (λ x. x ≡ state self.new) self.new self.new) };
@@ -93,14 +101,17 @@ pub trait Node {
     /// Opens the node again, failed or not, and says where it then stands. A fault leaves the state.
     fn reopen(&mut self, alloc: Global) -> Result<Reopened, NodeFault>
         ensures before { (result ≡ Ok Reopened.Before) → state self.new ≡ state self.old }
-        ensures after { (result ≡ Ok Reopened.After) → IsSome (held self.old) × IfSome (held self.old) (λ ask. state self.new ≡ Self.Plain.after (state self.old) ask) }
+        ensures after { (result ≡ Ok Reopened.After) → owed self.old ≡ Some (state self.new) }
         ensures works { OnOk result (is_failed self.new ≡ false) }
-        ensures free { OnOk result (held self.new ≡ None) }
+        ensures free { OnOk result (owed self.new ≡ None) }
         ensures err { OnErr result (state self.new ≡ state self.old) }
-        ensures holds_still { OnErr result (held self.new ≡ held self.old) }
+        ensures owes_still { OnErr result (owed self.new ≡ owed self.old) }
         ensures fails { OnErr result (is_failed self.new ≡ (is_failed self.old || met_device result)) }
+        ensures device { (result ≡ Err NodeFault.Device) → failures self.new ≡ min (failures self.old + 1) (2 ^ 64 - 1) }
+        ensures never_full { result ≢ Err NodeFault.Full }
+        ensures never_failed { result ≢ Err NodeFault.Failed }
         ensures trouble { IfErr result CanMeet }
-        ensures any_moment { Throughout (λ x. (x ≡ state self.old) ⊎ (IsSome (held self.old) × IfSome (held self.old) (λ ask. x ≡ Self.Plain.after (state self.old) ask))) self.old self.new }
+        ensures any_moment { Throughout (λ x. (x ≡ state self.old) ⊎ (owed self.old ≡ Some x)) self.old self.new }
         ensures kept { OnOk result (Throughout (λ x. x ≡ state self.new) self.new self.new) };
 
     /// The state of the plain machine; while failed, the one before the ask that met the fault.
@@ -140,7 +151,11 @@ impl<M: Machine + Send> Node for InMemory<M> {
 
     ghost is_failed = { λ n. false };
 
-    ghost held = { λ n. None };
+    ghost owed = { λ n. None };
+
+    ghost failures = { λ n. 0 };
+
+    ghost LacksRoom = { λ n ask. ⊥ };
 
     ghost Throughout = { λ P n later. P n.machine × P later.machine };
 
