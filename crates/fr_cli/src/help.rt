@@ -1,55 +1,5 @@
 //! What stands below the help of each command.
 
-/// What stands below the help of `apply`.
-pub(crate) const APPLY_HELP: &str = "\
-The script is read from standard input. Keys, values and parameters are lower case hex, two
-digits a byte; versions are numbers below 2^62. It is an object {\"ops\":[..]} of operations:
-
-  {\"apply\":{\"version\":V,\"batch\":[..]}}   applies mutations at version V
-  {\"undo\":{\"to\":V}}                      undoes all versions above V
-  {\"forget\":{\"through\":V}}               forgets how to undo below V
-  {\"advance\":{\"version\":V}}              moves the version applied to V, and nothing else
-
-A batch is a list of mutations:
-
-  {\"set\":{\"key\":K,\"value\":X}}         the key takes the value
-  {\"clear\":{\"begin\":K,\"end\":K}}       the keys from begin up to, but without, end go
-  {\"add\":{\"key\":K,\"param\":X}}         the key takes the sum of its value and X; so for
-                                        and, or, xor, max and min
-
-It prints a line for each operation, and then the rows of the store:
-
-  ok A floor F undo U   done: the version applied, the floor (no undo goes below it) and the
-                        number of undo rows (values kept so that they can be put back)
-  refused NAME          not done, and nothing changed: a batch by the first limit it breaks
-                        (TooMany: 1,000 mutations, KeyTooLong: 10,000 bytes, ValueTooLong:
-                        100,000 bytes, Inverted: a clear that ends before it begins); then
-                        NotAfter (a version not above the one applied), BelowFloor,
-                        AboveApplied
-  KEY VALUE             a row, - for no bytes
-
-With --store sql the rows are kept in the tables of a database in memory. It prints the same.
-
-For instance
-
-  {\"ops\":[
-    {\"apply\":{\"version\":5,\"batch\":[{\"set\":{\"key\":\"61\",\"value\":\"01\"}}]}},
-    {\"apply\":{\"version\":6,\"batch\":[
-      {\"set\":{\"key\":\"61\",\"value\":\"02\"}},
-      {\"clear\":{\"begin\":\"61\",\"end\":\"63\"}},
-      {\"add\":{\"key\":\"61\",\"param\":\"05\"}}]}},
-    {\"undo\":{\"to\":5}}]}
-
-prints
-
-  ok 5 floor 0 undo 1
-  ok 6 floor 0 undo 2
-  ok 5 floor 0 undo 1
-  61 01
-
-Statuses: 0 done, refused operations included; 2 bad script, or bad words; 3 out of memory;
-4 input or output failed. A bad script prints no line.";
-
 /// What stands below the help of `end`.
 pub(crate) const END_HELP: &str = "\
 The script is read from standard input. It is an object of what the locked logs of a generation

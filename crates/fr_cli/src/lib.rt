@@ -10,14 +10,15 @@ mod words;
 use fr_cli_apply::CliFault;
 pub use fr_cli_cluster::{ClusterOptions, ClusterWords, DEFAULTS};
 pub use fr_cli_end::EndOptions;
-pub use program::{BAD_WORDS, Ending, run_program};
-use std::alloc::Global;
+use fr_cli_words::own_words;
+pub use fr_cli_words::{BAD_WORDS, Ending, StoreKind};
+pub use program::run_program;
 use std::io;
 use std::io::{BufWriter, IsTerminal};
 use std::process::ExitCode;
 use std::sync::Wait;
 use std::thread::Threads;
-pub use words::{Request, StoreKind, read_words};
+pub use words::{Request, read_words};
 
 /// Runs the program over its own words, standard input and standard output, with these threads, and gives its status.
 pub fn run_main<H: Threads + Wait + Sync>(rt: &HostRuntime, threads: &H) -> ExitCode {
@@ -27,7 +28,7 @@ pub fn run_main<H: Threads + Wait + Sync>(rt: &HostRuntime, threads: &H) -> Exit
         Err(status) => return status,
     };
     let Ok(mut writer) = BufWriter::new(alloc, io::writer(rt)) else {
-        return end_by(rt, &Ending::Fault(CliFault::Memory));
+        return Ending::Fault(CliFault::Memory).say(rt);
     };
     let mut reader = rt.reader();
     let terminal = if rt.stderr().is_terminal() {
@@ -35,40 +36,13 @@ pub fn run_main<H: Threads + Wait + Sync>(rt: &HostRuntime, threads: &H) -> Exit
     } else {
         None
     };
-    let ending = run_program(
+    run_program(
         threads,
         terminal,
         alloc,
         words.as_slice(),
         &mut reader,
         &mut writer,
-    );
-    end_by(rt, &ending)
-}
-
-/// The program's own words, or the status where they cannot be had.
-fn own_words(rt: &HostRuntime, alloc: Global) -> Result<Vec<String>, ExitCode> {
-    match std::env::args(rt) {
-        Ok(words) => match words.collect(alloc) {
-            Ok(words) => Ok(words),
-            Err(_) => Err(end_by(rt, &Ending::Fault(CliFault::Memory))),
-        },
-        Err(error) if error.kind() == io::ErrorKind::OutOfMemory => {
-            Err(end_by(rt, &Ending::Fault(CliFault::Memory)))
-        }
-        Err(_) => {
-            let _ = eprintln!(rt; "error: a word is no text");
-            Err(ExitCode::from(BAD_WORDS))
-        }
-    }
-}
-
-/// Says on standard error why the program ends, where it is not done, and gives its status.
-fn end_by(rt: &impl Eprint, ending: &Ending) -> ExitCode {
-    let _ = match ending {
-        Ending::Done(_) => Ok(()),
-        Ending::Fault(fault) => eprintln!(rt; "{fault}"),
-        Ending::BadWords(error) => rt.eprint(error),
-    };
-    ExitCode::from(ending.status())
+    )
+    .say(rt)
 }

@@ -1,41 +1,16 @@
 //! The program over its words, a reader and a writer.
 use crate::apply::apply_to;
 use crate::words::{Request, read_words};
-use clap::error::{Error, ErrorKind};
 use fr_cli_apply::{CallCounts, CliFault};
 use fr_cli_audit::run_audit;
 use fr_cli_cluster::{ClusterOptions, Progress, cluster_counted, run_cluster};
 use fr_cli_end::run_end;
 use fr_cli_simulate::run_simulate;
+use fr_cli_words::{Ending, show};
 use std::alloc::Global;
 use std::io::{Eprint, Read, Write};
 use std::sync::Wait;
 use std::thread::Threads;
-
-/// The status of bad words.
-pub const BAD_WORDS: u8 = 2;
-
-/// How the program ends. What is to be said on standard error is left to who has one.
-#[derive(Debug, Drop)]
-pub enum Ending {
-    /// The command was done, or help or the version was asked for and shown.
-    Done(u8),
-    /// The command ended early.
-    Fault(CliFault),
-    /// The words choose no command.
-    BadWords(Error),
-}
-
-impl Ending {
-    /// The exit status.
-    pub fn status(&self) -> u8 {
-        match self {
-            Ending::Done(status) => *status,
-            Ending::Fault(fault) => fault.status(),
-            Ending::BadWords(_) => BAD_WORDS,
-        }
-    }
-}
 
 /// Does what the words ask for, the first of which is the program's name. Where there is a terminal, a cluster that runs
 /// says there how far it has come.
@@ -47,23 +22,12 @@ pub fn run_program<H: Threads + Wait + Sync, E: Eprint + Sync, R: Read, W: Write
     reader: &mut R,
     writer: &mut W,
 ) -> Ending {
-    let error = match read_words(alloc, words) {
-        Ok(request) => {
-            return match run(rt, terminal, alloc, request, reader, writer) {
-                Ok(status) => Ending::Done(status),
-                Err(fault) => Ending::Fault(fault),
-            };
-        }
-        Err(error) => error,
+    let request = match read_words(alloc, words) {
+        Ok(request) => request,
+        Err(error) => return show(alloc, error, writer),
     };
-    if error.kind() == ErrorKind::OutOfMemory {
-        return Ending::Fault(CliFault::Memory);
-    }
-    if error.use_stderr() {
-        return Ending::BadWords(error);
-    }
-    match show(alloc, &error, writer) {
-        Ok(()) => Ending::Done(0),
+    match run(rt, terminal, alloc, request, reader, writer) {
+        Ok(status) => Ending::Done(status),
         Err(fault) => Ending::Fault(fault),
     }
 }
@@ -102,13 +66,4 @@ fn run_shown<H: Threads + Wait + Sync, E: Eprint + Sync, W: Write>(
     let ended = cluster_counted(rt, alloc, options, &progress, &mut calls, writer);
     progress.end();
     ended
-}
-
-/// Shows help or the version.
-fn show<W: Write>(alloc: Global, help: &Error, writer: &mut W) -> Result<(), CliFault> {
-    let text = format!(in alloc; "{help}")?;
-    if writer.write_all(text.as_bytes()).is_err() || writer.flush().is_err() {
-        return Err(CliFault::Output);
-    }
-    Ok(())
 }

@@ -1,19 +1,11 @@
 //! The words of the command line.
-use crate::help::{APPLY_HELP, AUDIT_HELP, CLUSTER_HELP, END_HELP, SIMULATE_HELP};
+use crate::help::{AUDIT_HELP, CLUSTER_HELP, END_HELP, SIMULATE_HELP};
 use clap::error::{Error, ErrorKind};
 use clap::{Arg, ArgAction, ArgMatches, Command, value_parser};
 use fr_cli_cluster::{ClusterOptions, ClusterWords, DEFAULTS};
 use fr_cli_end::EndOptions;
+use fr_cli_words::{StoreKind, apply_command, program_command, read_store};
 use std::alloc::Global;
-
-/// What a store keeps its rows in.
-#[derive(Clone, Copy, Debug, PartialEq, Eq)]
-pub enum StoreKind {
-    /// A map in memory.
-    Map,
-    /// The tables of a database in memory.
-    Sql,
-}
 
 /// What the words ask for.
 #[derive(Clone, Copy, Debug, PartialEq, Eq)]
@@ -29,12 +21,6 @@ pub enum Request {
     /// A cluster in threads, and the audit of its journals.
     Cluster(ClusterOptions),
 }
-
-/// The kinds of store, as the words name them.
-static STORES: [&str; 2] = ["map", "sql"];
-
-/// The program's version, and the line of the kit that it is proved with.
-const VERSION: &str = "0.1.0 (rattle-kit-13b logic dac8208d650f15bf)";
 
 /// Reads the words, the first of which is the program's name. An error is a request for help or a
 /// mistake in the words, with the text for the user.
@@ -56,14 +42,6 @@ pub fn read_words(alloc: Global, words: &[String]) -> Result<Request, Error> {
     match matches.subcommand_matches("apply") {
         Some(apply) => Ok(Request::Apply(read_store(apply))),
         None => Ok(Request::Apply(StoreKind::Map)),
-    }
-}
-
-/// Reads the kind of store, which is a map where none is named. Other names are refused.
-fn read_store(matches: &ArgMatches<'_>) -> StoreKind {
-    match matches.get_str("store") {
-        Some("sql") => StoreKind::Sql,
-        _ => StoreKind::Map,
     }
 }
 
@@ -117,17 +95,28 @@ fn number(matches: &ArgMatches<'_>, name: &str, default: u32) -> u32 {
 }
 
 fn command<'a>(alloc: Global) -> Result<Command<'a>, Error> {
-    let store = Arg::new(alloc, "store")
-        .long("store")
-        .help("What the store keeps its rows in")
-        .value_name("KIND")
-        .value_parser(STORES.as_slice())
-        .default_value("map")
-        .action(ArgAction::Set);
-    let apply = Command::new(alloc, "apply")
-        .about("Runs store operations on an empty store")
-        .after_help(APPLY_HELP)
-        .arg(store)?;
+    let simulate = Command::new(alloc, "simulate")
+        .about(
+            "Takes steps in a world of coordinators, logs, proxies, recoverers and storage servers",
+        )
+        .after_help(SIMULATE_HELP);
+    let audit = Command::new(alloc, "audit")
+        .about("Tells whether the journals of all nodes are a run")
+        .after_help(AUDIT_HELP);
+    let command = program_command(alloc)
+        .after_help(
+            "All commands but cluster read a script from standard input: 'fdbrec apply --help' shows one.",
+        )
+        .subcommand(apply_command(alloc)?)?
+        .subcommand(end_command(alloc)?)?
+        .subcommand(simulate)?
+        .subcommand(audit)?
+        .subcommand(cluster_command(alloc)?)?;
+    Ok(command)
+}
+
+/// The command `end` with its words.
+fn end_command<'a>(alloc: Global) -> Result<Command<'a>, Error> {
     let logs = Arg::new(alloc, "logs")
         .long("logs")
         .help("How many logs the locked generation has, 1 to 16")
@@ -142,32 +131,11 @@ fn command<'a>(alloc: Global) -> Result<Command<'a>, Error> {
         .value_parser(value_parser!(u8).range(1..=16))
         .required(true)
         .action(ArgAction::Set);
-    let end = Command::new(alloc, "end")
+    let command = Command::new(alloc, "end")
         .about("Tells the end of an epoch, reply by reply of its locked logs")
         .after_help(END_HELP)
         .arg(logs)?
         .arg(degree)?;
-    let simulate = Command::new(alloc, "simulate")
-        .about(
-            "Takes steps in a world of coordinators, logs, proxies, recoverers and storage servers",
-        )
-        .after_help(SIMULATE_HELP);
-    let audit = Command::new(alloc, "audit")
-        .about("Tells whether the journals of all nodes are a run")
-        .after_help(AUDIT_HELP);
-    let cluster = cluster_command(alloc)?;
-    let command = Command::new(alloc, "fdbrec")
-        .about("Recovery of FoundationDB's log system, with storage servers that roll back")
-        .version(VERSION)
-        .after_help(
-            "All commands but cluster read a script from standard input: 'fdbrec apply --help' shows one.",
-        )
-        .subcommand_required(true)
-        .subcommand(apply)?
-        .subcommand(end)?
-        .subcommand(simulate)?
-        .subcommand(audit)?
-        .subcommand(cluster)?;
     Ok(command)
 }
 

@@ -186,7 +186,7 @@ fn programs_end_as_their_words_and_inputs_say(rt: HostRuntime) -> Result<(), Fai
 
 /// Lines that ask for help, with what they show.
 const SHOWN: [(&str, &str); 28] = [
-    ("fdbrec --version", "fdbrec 0.1.0 (rattle-kit-"),
+    ("fdbrec --version", "fdbrec 0.1.0 (rattle logic "),
     ("fdbrec apply --help", "undo"),
     ("fdbrec apply --help", "forget"),
     ("fdbrec apply --help", "advance"),

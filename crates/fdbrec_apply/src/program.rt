@@ -1,0 +1,48 @@
+//! The program over its words, a reader and a writer.
+use clap::error::{Error, ErrorKind};
+use fr_cli_apply::{ApplyOptions, run_apply};
+use fr_cli_words::{Ending, StoreKind, apply_command, program_command, read_store, show};
+use std::alloc::Global;
+use std::io::{Read, Write};
+
+/// Runs a script on an empty store in memory, or shows what the words ask for.
+pub(crate) fn run_program<R: Read, W: Write>(
+    alloc: Global,
+    words: &[String],
+    reader: &mut R,
+    writer: &mut W,
+) -> Ending {
+    let options = match read_words(alloc, words) {
+        Ok(options) => options,
+        Err(error) => return show(alloc, error, writer),
+    };
+    match run_apply(alloc, options, reader, writer) {
+        Ok(status) => Ending::Done(status),
+        Err(fault) => Ending::Fault(fault),
+    }
+}
+
+/// Reads the words, the first of which is the program's name. A store in tables is refused.
+fn read_words(alloc: Global, words: &[String]) -> Result<ApplyOptions, Error> {
+    let matches = command(alloc)?.try_get_matches_from(words)?;
+    let kind = match matches.subcommand_matches("apply") {
+        Some(apply) => read_store(apply),
+        None => StoreKind::Map,
+    };
+    match kind {
+        StoreKind::Map => Ok(ApplyOptions {
+            store: fr_cli_apply::StoreKind::Map,
+        }),
+        StoreKind::Sql => {
+            let message = "this program has no store in tables: the whole program has";
+            Err(command(alloc)?.error(ErrorKind::InvalidValue, message)?)
+        }
+    }
+}
+
+fn command<'a>(alloc: Global) -> Result<clap::Command<'a>, Error> {
+    let command = program_command(alloc)
+        .after_help("This program has one command of fdbrec, on a store in memory.")
+        .subcommand(apply_command(alloc)?)?;
+    Ok(command)
+}

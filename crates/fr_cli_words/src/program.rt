@@ -1,0 +1,95 @@
+//! A program's name and version, its own words, and how it ends.
+use clap::Command;
+use clap::error::{Error, ErrorKind};
+use fr_cli_apply::CliFault;
+use std::alloc::Global;
+use std::io;
+use std::io::{Eprint, Write};
+use std::process::ExitCode;
+
+/// The version, and the logic that it is proved in, as `rt version` names it.
+const VERSION: &str = "0.1.0 (rattle logic dac8208d650f15bf)";
+
+/// The status of bad words.
+pub const BAD_WORDS: u8 = 2;
+
+/// How a program ends. What is to be said on standard error is left to who has one.
+#[derive(Debug, Drop)]
+pub enum Ending {
+    /// The command was done, or help or the version was asked for and shown.
+    Done(u8),
+    /// The command ended early.
+    Fault(CliFault),
+    /// The words choose no command.
+    BadWords(Error),
+}
+
+impl Ending {
+    /// The exit status.
+    pub fn status(&self) -> u8 {
+        match self {
+            Ending::Done(status) => *status,
+            Ending::Fault(fault) => fault.status(),
+            Ending::BadWords(_) => BAD_WORDS,
+        }
+    }
+
+    /// Says on standard error why the program ends, where it is not done, and gives its status.
+    pub fn say(&self, rt: &impl Eprint) -> ExitCode {
+        let _ = match self {
+            Ending::Done(_) => Ok(()),
+            Ending::Fault(fault) => eprintln!(rt; "{fault}"),
+            Ending::BadWords(error) => rt.eprint(error),
+        };
+        ExitCode::from(self.status())
+    }
+}
+
+/// The words of a program by the name `fdbrec`, of which one chooses a command.
+pub fn program_command<'a>(alloc: Global) -> Command<'a> {
+    Command::new(alloc, "fdbrec")
+        .about("Recovery of FoundationDB's log system, with storage servers that roll back")
+        .version(VERSION)
+        .subcommand_required(true)
+}
+
+/// The program's own words, or the status where they cannot be had.
+pub fn own_words(rt: &HostRuntime, alloc: Global) -> Result<Vec<String>, ExitCode> {
+    match std::env::args(rt) {
+        Ok(words) => match words.collect(alloc) {
+            Ok(words) => Ok(words),
+            Err(_) => Err(Ending::Fault(CliFault::Memory).say(rt)),
+        },
+        Err(error) if error.kind() == io::ErrorKind::OutOfMemory => {
+            Err(Ending::Fault(CliFault::Memory).say(rt))
+        }
+        Err(_) => {
+            let _ = eprintln!(rt; "error: a word is no text");
+            Err(ExitCode::from(BAD_WORDS))
+        }
+    }
+}
+
+/// How the program ends where its words choose no command: it shows the help or the version that they ask for, or they
+/// are bad.
+pub fn show<W: Write>(alloc: Global, error: Error, writer: &mut W) -> Ending {
+    if error.kind() == ErrorKind::OutOfMemory {
+        return Ending::Fault(CliFault::Memory);
+    }
+    if error.use_stderr() {
+        return Ending::BadWords(error);
+    }
+    match write_help(alloc, &error, writer) {
+        Ok(()) => Ending::Done(0),
+        Err(fault) => Ending::Fault(fault),
+    }
+}
+
+/// Writes help or the version.
+fn write_help<W: Write>(alloc: Global, help: &Error, writer: &mut W) -> Result<(), CliFault> {
+    let text = format!(in alloc; "{help}")?;
+    if writer.write_all(text.as_bytes()).is_err() || writer.flush().is_err() {
+        return Err(CliFault::Output);
+    }
+    Ok(())
+}
