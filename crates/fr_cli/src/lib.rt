@@ -1,5 +1,5 @@
 //! The program `fdbrec` as a library: its words choose a command, which reads a script and prints lines.
-//! The programs of this repository that call it differ in what the gate runs them on.
+//! `fdbrec` runs it over the words of its command line, `example_scripts` over those of each example.
 #![tactic(auto)]
 
 mod apply;
