@@ -1,6 +1,7 @@
 //! The command `apply` on each kind of store.
 use crate::words::StoreKind;
-use fr_cli_apply::{ApplyOptions, CliFault, run_apply};
+use fr_cli_apply::{ApplyOptions, run_apply};
+use fr_cli_json::CliFault;
 use fr_cli_apply_sql::run_apply_sql;
 use std::alloc::Global;
 use std::io::{Read, Write};

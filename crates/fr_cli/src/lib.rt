@@ -7,7 +7,7 @@ mod help;
 mod program;
 mod words;
 
-use fr_cli_apply::CliFault;
+use fr_cli_json::CliFault;
 pub use fr_cli_cluster::{ClusterOptions, ClusterWords, DEFAULTS};
 pub use fr_cli_end::EndOptions;
 pub use program::{BAD_WORDS, Ending, run_program};

@@ -2,7 +2,7 @@
 use crate::apply::apply_to;
 use crate::words::{Request, read_words};
 use clap::error::{Error, ErrorKind};
-use fr_cli_apply::{CallCounts, CliFault};
+use fr_cli_json::{CallCounts, CliFault};
 use fr_cli_audit::run_audit;
 use fr_cli_cluster::{ClusterOptions, Progress, cluster_counted, run_cluster};
 use fr_cli_end::run_end;
