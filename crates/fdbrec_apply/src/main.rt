@@ -4,7 +4,7 @@
 
 mod program;
 
-use fr_cli_apply::CliFault;
+use fr_cli_json::CliFault;
 use fr_cli_words::{Ending, own_words};
 use program::run_program;
 use std::io;

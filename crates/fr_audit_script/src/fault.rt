@@ -1,6 +1,6 @@
 //! Why a text is no script.
 use fr_base::Memory as NoMemory;
-use fr_cli_apply::CliFault;
+use fr_cli_json::CliFault;
 use std::alloc::{AllocError, AllocFailed};
 use thiserror::Error;
 

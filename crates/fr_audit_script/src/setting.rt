@@ -4,7 +4,7 @@ use crate::fields::{Fields, items};
 use crate::names;
 use crate::object::{Object, hex_value};
 use fr_base::{Bytes, Memory};
-use fr_cli_apply::tree::read_bytes;
+use fr_cli_json::tree::read_bytes;
 use fr_run_event::{Config, ConfigFault};
 use serde_json::Value;
 use std::alloc::Global;

@@ -5,7 +5,7 @@ use crate::names;
 use crate::object::{Object, hex_value, pair_value};
 use fr_ask::Rows;
 use fr_base::{Bytes, Memory};
-use fr_cli_apply::tree::{read_batch as read_mutations, read_bytes};
+use fr_cli_json::tree::{read_batch as read_mutations, read_bytes};
 use fr_mutation::{Batch, BatchFault, Mutation};
 use serde_json::Value;
 use std::alloc::Global;

@@ -1,4 +1,5 @@
 //! The program `fdbrec` as a library: its words choose a command, which reads a script and prints lines.
+//! Each command is also a function over a reader and a writer, handed on here.
 //! `fdbrec` runs it over the words of its command line, `example_scripts` over those of each example.
 #![tactic(auto)]
 
@@ -7,9 +8,13 @@ mod help;
 mod program;
 mod words;
 
-use fr_cli_apply::CliFault;
-pub use fr_cli_cluster::{ClusterOptions, ClusterWords, DEFAULTS};
-pub use fr_cli_end::EndOptions;
+pub use fr_cli_apply::{ApplyOptions, run_apply, run_apply_on};
+pub use fr_cli_apply_sql::run_apply_sql;
+pub use fr_cli_audit::run_audit;
+pub use fr_cli_cluster::{ClusterOptions, ClusterWords, DEFAULTS, run_cluster};
+pub use fr_cli_end::{EndOptions, run_end};
+pub use fr_cli_json::CliFault;
+pub use fr_cli_simulate::run_simulate;
 use fr_cli_words::own_words;
 pub use fr_cli_words::{BAD_WORDS, Ending, StoreKind};
 pub use program::run_program;

@@ -1,7 +1,3 @@
-pub mod TextLemmas
-pub mod JsonLemmas
-pub mod TokenLemmas
-pub mod HexLemmas
+pub mod ScriptLemmas
 pub mod PlanLemmas
 pub mod RowLemmas
-pub mod CommandLemmas

@@ -11,11 +11,11 @@ use Rattle.fr_undo.specs.State.{StoreState, fresh}
 use Rattle.fr_cli_apply.specs.declared.script.Operation.{Operation}
 use Rattle.fr_cli_apply.specs.declared.script.Operation.TheVariants.{Apply, Undo, Forget, Advance}
 use Rattle.fr_cli_apply.specs.declared.plan.Planned.{Planned}
-use Rattle.fr_cli_apply.specs.Json.{data_of, only, each_of}
+use Rattle.fr_cli_json.specs.Json.{data_of, only, each_of}
 use Rattle.fr_cli_apply.specs.Script.{operation_of, script_from, script_of}
 use Rattle.fr_cli_apply.specs.Lines.{apply_outcome, outcome_of, line_of, lines_from, lines_of, state_after}
-use Rattle.fr_cli_apply.specs.Text.{IsInput, HasRead, GainsFront}
-use Rattle.fr_cli_apply.specs.Tokens.{Gives}
+use Rattle.fr_cli_json.specs.Text.{IsInput, HasRead, GainsFront}
+use Rattle.fr_cli_json.specs.Tokens.{Gives}
 use Rattle.fr_cli_apply.specs.Plan.{plan_batch, plan, planned_of, plan_from, plan_of, plan_outcome, plan_lines}
 
 -- ---- read

@@ -6,8 +6,8 @@ use Rattle.std.specs.FinMap.{entries}
 use Rattle.fr_base.specs.Bytes.{bytes_cmp, bytes_total, bytes_exact}
 use Rattle.fr_base.specs.Map.{Map, map_of}
 use Rattle.fr_undo.proofs.TreeLemmas.{entries-map_of}
-use Rattle.fr_cli_apply.specs.Text.{Owes, GainsFront}
-use Rattle.fr_cli_apply.proofs.TextLemmas.{owes_rest, owes_none, gains_more}
+use Rattle.fr_cli_json.specs.Text.{Owes, GainsFront}
+use Rattle.fr_cli_json.proofs.TextLemmas.{owes_rest, owes_none, gains_more}
 
 module _ (old now new : Option (List ℕ)) (rows all : List ℕ) (owed : Owes old now rows all) where
   with_none : Owes old now (rows ++ []) all

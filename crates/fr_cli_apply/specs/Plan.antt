@@ -13,7 +13,7 @@ use Rattle.fr_cli_apply.specs.declared.script.Operation.{Operation}
 use Rattle.fr_cli_apply.specs.declared.script.Operation.TheVariants.{Apply, Undo, Forget, Advance}
 use Rattle.fr_cli_apply.specs.declared.plan.Planned.{Planned}
 use Rattle.fr_cli_apply.specs.declared.plan.Planned.TheVariants as planned
-use Rattle.fr_cli_apply.specs.Json.{data_of, only, each_of}
+use Rattle.fr_cli_json.specs.Json.{data_of, only, each_of}
 use Rattle.fr_cli_apply.specs.Script.{operation_of}
 use Rattle.fr_cli_apply.specs.Lines.{Outcome, done, refused, if_after, line_of, state_after, row_lines}
 

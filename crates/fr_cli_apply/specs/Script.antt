@@ -3,35 +3,10 @@ use Rattle.std.specs.Prelude.{ℕ, List, codes, if◌then◌else◌, Option, Non
 use Rattle.serde_json.specs.Data.{Data}
 use Rattle.serde_json.specs.Find.{as_array}
 use Rattle.fr_base.specs.Bytes.{bytes_eq}
-use Rattle.fr_mutation.specs.Atomic.{op_named}
-use Rattle.fr_mutation.specs.declared.mutation.Mutation.{Mutation}
-use Rattle.fr_mutation.specs.declared.mutation.Mutation.TheVariants.{Set, Clear, Atomic}
 use Rattle.fr_cli_apply.specs.declared.script.Operation.{Operation}
 use Rattle.fr_cli_apply.specs.declared.script.Operation.TheVariants.{Apply, Undo, Forget, Advance}
-use Rattle.fr_cli_apply.specs.Json.{data_of, only, one_member, version_of, pair_of, each_of}
-
--- the key and the parameter of an atomic operation
-abbrev pub param_of : Data → Option (List ℕ × List ℕ)
-param_of fields = pair_of (codes "key") (codes "param") fields
-
--- the mutation of a name, with its fields
-abbrev pub mutation_named : List ℕ → Data → Option Mutation
-mutation_named name fields =
-    if bytes_eq name (codes "set") then option_map (λ p. Set p.0 p.1) (pair_of (codes "key") (codes "value") fields)
-    else if bytes_eq name (codes "clear") then option_map (λ p. Clear p.0 p.1) (pair_of (codes "begin") (codes "end") fields)
-    else option_and_then (λ op. option_map (λ p. Atomic op p.0 p.1) (param_of fields)) (op_named name)
-
--- an object of one member, which names the mutation
-abbrev pub mutation_of : Data → Option Mutation
-mutation_of d = option_and_then (λ m. mutation_named m.0 m.1) (one_member d)
-
--- a batch: the list of its mutations, whether it is within its limits or not
-abbrev pub batch_of : Data → Option (List Mutation)
-batch_of d = option_and_then (each_of mutation_of) (as_array d)
-
--- the version under a name, in an object of that member alone
-abbrev pub version_at : List ℕ → Data → Option ℕ
-version_at name fields = option_and_then version_of (only 1 name fields)
+use Rattle.fr_cli_json.specs.Json.{data_of, only, one_member, version_at, version_of, each_of}
+use Rattle.fr_cli_json.specs.Mutations.{batch_of}
 
 abbrev pub apply_of : Data → Option Operation
 apply_of fields =

@@ -1,16 +1,14 @@
 //! The command `apply`.
 ghost use Rattle.std.specs.Prelude.{◌≡◌};
 ghost use Rattle.fr_undo.specs.State.{fresh};
-ghost use Rattle.fr_cli_apply.specs.Calls.{no_calls, HasCause};
-ghost use Rattle.fr_cli_apply.specs.Command.{Prints};
+ghost use Rattle.fr_cli_json.specs.Calls.{no_calls, HasCause};
+ghost use Rattle.fr_cli_json.specs.Command.{Prints};
 ghost use Rattle.fr_cli_apply.specs.Script.{script_of};
 ghost use Rattle.fr_cli_apply.specs.Lines.{lines_of};
 
-use crate::calls::CallCounts;
-use crate::fault::CliFault;
-use crate::input::read_input;
 use crate::operations::{run_in_memory, run_on};
 use crate::script::read_script;
+use fr_cli_json::{CallCounts, CliFault, read_input};
 use fr_undo::ShardStore;
 use std::alloc::Global;
 use std::io::{Read, Write};

@@ -3,15 +3,14 @@ ghost use Rattle.std.specs.Prelude.{◌≡◌, IfOk, IfErr, OnOk, Some, None, Ma
 ghost use Rattle.std.specs.Io.KnownBytes.{Appends};
 ghost use Rattle.std.specs.FinMap as map;
 ghost use Rattle.fr_undo.specs.State.{fresh};
-ghost use Rattle.fr_cli_apply.specs.Text.{GainsFront, Owes};
-ghost use Rattle.fr_cli_apply.specs.Calls.{IsWriteFault};
+ghost use Rattle.fr_cli_json.specs.Text.{GainsFront, Owes};
+ghost use Rattle.fr_cli_json.specs.Calls.{IsWriteFault};
 ghost use Rattle.fr_cli_apply.specs.Plan.{plan_lines, plan_outcome};
 ghost use Rattle.fr_cli_apply.specs.Lines.{ok_line, line_of as line_text, row_lines, state_after, name_in, name_of};
 
-use crate::calls::CallCounts;
-use crate::fault::CliFault;
-use crate::output::{put, put_rows, put_tree};
 use crate::plan::Planned;
+use crate::rows::{put_rows, put_tree};
+use fr_cli_json::{CallCounts, CliFault, put};
 use fr_undo::{MapStore, ShardStore, StoreFault};
 use std::alloc::{AllocError, Global};
 use std::io::Write;

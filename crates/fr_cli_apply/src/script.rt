@@ -2,12 +2,13 @@
 ghost use Rattle.std.specs.Prelude.{◌≡◌, ◌⊎◌, None, Some, IfOk, IfErr};
 ghost use Rattle.fr_cli_apply.specs.Plan.{plan_of};
 
-use crate::fault::CliFault;
-use crate::mutations::Mutations;
+mod tokens;
+mod tree;
+
 use crate::plan::Planned;
-use crate::tokens::Unread;
-use crate::{tokens, tree};
 use fr_base::Version;
+use fr_cli_json::tokens::Unread;
+use fr_cli_json::{CliFault, Mutations};
 use std::alloc::Global;
 
 /// An operation of a script.
@@ -30,9 +31,9 @@ pub(crate) fn read_script(alloc: Global, input: Vec<u8>) -> Result<Vec<Planned>,
     ensures bad { result ≡ Err CliFault.BadScript → plan_of input.items ≡ None }
     ensures fault { IfErr result (λ e. (e ≡ CliFault.BadScript) ⊎ (e ≡ CliFault.Memory)) }
 {
-    match tokens::script::read_script(alloc, input.as_slice()) {
+    match tokens::read_script(alloc, input.as_slice()) {
         Ok(script) => Ok(script),
         Err(Unread::Memory) => Err(CliFault::Memory),
-        Err(Unread::Unusual) => tree::script::read_script(alloc, input),
+        Err(Unread::Unusual) => tree::read_script(alloc, input),
     }
 }

@@ -3,12 +3,13 @@
 
 mod memory_file;
 
-ghost use Rattle.fr_cli_apply.specs.Command.{Prints};
+ghost use Rattle.fr_cli_json.specs.Command.{Prints};
 ghost use Rattle.fr_cli_apply.specs.Script.{script_of};
 ghost use Rattle.fr_cli_apply.specs.Lines.{lines_of};
 
 use crate::memory_file::blank_files;
-use fr_cli_apply::{CliFault, run_apply_on};
+use fr_cli_apply::run_apply_on;
+use fr_cli_json::CliFault;
 use fr_sql_store::SqlFileStore;
 use std::alloc::Global;
 use std::io::{Read, Write};

@@ -1,7 +1,7 @@
 //! The command `audit`.
 ghost use Rattle.std.specs.Prelude.{◌≡◌, ◌≢◌, ◌<◌, ◌⊎◌, List, None, Err, IsOk, IfOk, IfErr, IfSome, OnOk};
 ghost use Rattle.std.specs.Io.KnownBytes.{Appends};
-ghost use Rattle.fr_cli_apply.specs.Calls.{no_calls, HasNoInput, HasNotFailed, IsWriteFault};
+ghost use Rattle.fr_cli_json.specs.Calls.{no_calls, HasNoInput, HasNotFailed, IsWriteFault};
 ghost use Rattle.fr_run.specs.Config as history;
 ghost use Rattle.fr_audit_journal.specs.Journal.{JournalState};
 ghost use Rattle.fr_audit.specs.Audited.{audited};
@@ -11,7 +11,7 @@ use crate::lines::fault_text;
 use fr_audit::{AuditFault, audit};
 use fr_audit_journal::Journal;
 use fr_audit_script::{ScriptFault, read_script};
-use fr_cli_apply::{CallCounts, CliFault, put, read_input};
+use fr_cli_json::{CallCounts, CliFault, put, read_input};
 use fr_run_event::Config;
 use std::alloc::Global;
 use std::io::{Read, Write};

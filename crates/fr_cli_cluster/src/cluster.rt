@@ -1,7 +1,7 @@
 //! The command `cluster`.
 ghost use Rattle.std.specs.Prelude.{◌≡◌, ◌<◌, ℕ, List, Err, IfErr, IfOk, OnOk};
 ghost use Rattle.std.specs.Io.KnownBytes.{Appends};
-ghost use Rattle.fr_cli_apply.specs.Calls.{no_calls, HasNotFailed, IsWriteFault};
+ghost use Rattle.fr_cli_json.specs.Calls.{no_calls, HasNotFailed, IsWriteFault};
 ghost use Rattle.fr_audit.specs.Run.{IsRunOf};
 ghost use Rattle.fr_runtime.specs.Handed.{IsHanded};
 ghost use Rattle.fr_cli_audit.specs.Lines.{fault_line};
@@ -14,7 +14,7 @@ use crate::report::{put_fault, put_run};
 use crate::setting::{ballots, config, works};
 use fr_audit::AuditFault;
 use fr_base::Memory;
-use fr_cli_apply::{CallCounts, CliFault};
+use fr_cli_json::{CallCounts, CliFault};
 use fr_runtime::{Cluster, PlainRack, Report, RunFault};
 use fr_runtime_station::{Faults, NoFaults};
 use std::alloc::Global;

@@ -1,7 +1,7 @@
 //! What is printed of a cluster.
 ghost use Rattle.std.specs.Prelude.{◌≡◌, ℕ, List, string_bytes, Err, IfErr, IfOk, OnOk};
 ghost use Rattle.std.specs.Io.KnownBytes.{Appends};
-ghost use Rattle.fr_cli_apply.specs.Calls.{IsOutputFault, IsWriteFault};
+ghost use Rattle.fr_cli_json.specs.Calls.{IsOutputFault, IsWriteFault};
 ghost use Rattle.fr_cli_audit.specs.Lines.{fault_line};
 ghost use Rattle.fr_cli_cluster.specs.Report.{IsRunText, IsScriptLine};
 
@@ -9,7 +9,7 @@ use fr_audit::AuditFault;
 use fr_audit_journal::Journal;
 use fr_audit_script::write_script;
 use fr_base::Memory;
-use fr_cli_apply::{CallCounts, CliFault, put};
+use fr_cli_json::{CallCounts, CliFault, put};
 use fr_cli_audit::fault_text;
 use fr_run_event::Config;
 use fr_runtime::Report;

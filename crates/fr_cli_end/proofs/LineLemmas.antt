@@ -2,7 +2,7 @@
 use Rattle.std.proofs.Common.{◌≡◌, ℕ, ◌++◌, List, ◌∷◌, Option, sym, subst}
 use Rattle.fr_epoch.specs.declared.reply.Reply.{Reply}
 use Rattle.fr_epoch.specs.EndTally.{EndState, with_reply}
-use Rattle.fr_cli_apply.specs.Text.{Owes}
+use Rattle.fr_cli_json.specs.Text.{Owes}
 use Rattle.fr_cli_end.specs.Lines.{line_of, lines_from}
 
 -- the line of the next reply, and then those of the others to the tally that heard it

@@ -10,10 +10,10 @@ use Rattle.serde_json.specs.Find.{as_array}
 use Rattle.serde_json.specs.View.{items_view}
 use Rattle.serde_json.specs.declared.value.Value.{Value}
 use Rattle.fr_epoch.specs.declared.reply.Reply.{Reply}
-use Rattle.fr_cli_apply.specs.Json.{version_of}
-use Rattle.fr_cli_apply.specs.Tokens.{BeginsWith, Gives}
-use Rattle.fr_cli_apply.proofs.JsonLemmas.{data_here}
-use Rattle.fr_cli_apply.proofs.TokenLemmas.{no_more_items, one_more_item, an_array, whole_text}
+use Rattle.fr_cli_json.specs.Json.{version_of}
+use Rattle.fr_cli_json.specs.Tokens.{BeginsWith, Gives}
+use Rattle.fr_cli_json.proofs.JsonLemmas.{data_here}
+use Rattle.fr_cli_json.proofs.TokenLemmas.{no_more_items, one_more_item, an_array, whole_text}
 use Rattle.fr_cli_end.specs.Script.{index_of, three_of, reply_with, reply_of, replies_from, replies_of}
 
 -- what begins with a value does not end an array

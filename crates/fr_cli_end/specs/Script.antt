@@ -3,7 +3,7 @@ use Rattle.std.specs.Prelude.{ℕ, List, codes, nat_lt, if◌then◌else◌, Opt
 use Rattle.serde_json.specs.Data.{Data, Items, no_items, item}
 use Rattle.serde_json.specs.Find.{as_array}
 use Rattle.fr_epoch.specs.declared.reply.Reply.{Reply}
-use Rattle.fr_cli_apply.specs.Json.{data_of, only, natural_of, version_of, each_of}
+use Rattle.fr_cli_json.specs.Json.{data_of, only, natural_of, version_of, each_of}
 
 -- the number of a log, whether the generation has it or not: a number below 256, written in digits alone
 abbrev pub index_of : Data → Option ℕ

@@ -1,14 +1,14 @@
 //! The command `end`.
 ghost use Rattle.std.specs.Prelude.{◌≡◌};
-ghost use Rattle.fr_cli_apply.specs.Calls.{no_calls, HasCause};
-ghost use Rattle.fr_cli_apply.specs.Command.{Prints};
+ghost use Rattle.fr_cli_json.specs.Calls.{no_calls, HasCause};
+ghost use Rattle.fr_cli_json.specs.Command.{Prints};
 ghost use Rattle.fr_cli_end.specs.Script.{replies_of};
 ghost use Rattle.fr_cli_end.specs.Lines.{lines_of};
 
 use crate::lines::put_lines;
 use crate::options::EndOptions;
 use crate::script::read_script;
-use fr_cli_apply::{CallCounts, CliFault, read_input};
+use fr_cli_json::{CallCounts, CliFault, read_input};
 use fr_epoch::EndTally;
 use std::alloc::Global;
 use std::io::{Read, Write};

@@ -1,12 +1,12 @@
 //! Replies heard by a tally, and their lines.
 ghost use Rattle.std.specs.Prelude.{◌≡◌, IfErr, OnOk};
 ghost use Rattle.std.specs.Io.KnownBytes.{Appends};
-ghost use Rattle.fr_cli_apply.specs.Calls.{IsWriteFault};
-ghost use Rattle.fr_cli_apply.specs.Text.{GainsFront};
+ghost use Rattle.fr_cli_json.specs.Calls.{IsWriteFault};
+ghost use Rattle.fr_cli_json.specs.Text.{GainsFront};
 ghost use Rattle.fr_epoch.specs.EndTally.{end_of, with_reply};
 ghost use Rattle.fr_cli_end.specs.Lines.{end_line, line_of, lines_from};
 
-use fr_cli_apply::{CallCounts, CliFault, put};
+use fr_cli_json::{CallCounts, CliFault, put};
 use fr_epoch::{EndTally, EpochEnd, Inconsistent, Reply, ReplyFault};
 use std::alloc::Global;
 use std::io::Write;

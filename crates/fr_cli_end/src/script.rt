@@ -3,8 +3,8 @@ ghost use Rattle.std.specs.Prelude.{◌≡◌, ◌⊎◌, Err, None, Some, IfOk,
 ghost use Rattle.fr_cli_end.specs.Script.{replies_of};
 
 use crate::{tokens, tree};
-use fr_cli_apply::CliFault;
-use fr_cli_apply::tokens::Unread;
+use fr_cli_json::CliFault;
+use fr_cli_json::tokens::Unread;
 use fr_epoch::Reply;
 use std::alloc::Global;
 

@@ -1,9 +1,9 @@
 //! The script of `end`, read from the tokens of its text.
 ghost use Rattle.std.specs.Prelude.{◌≡◌, ◌<◌, ℕ, length, Some, IfOk, OnOk};
-ghost use Rattle.fr_cli_apply.specs.Tokens.{Gives};
+ghost use Rattle.fr_cli_json.specs.Tokens.{Gives};
 ghost use Rattle.fr_cli_end.specs.Script.{index_of, reply_of, replies_in, replies_from, replies_of};
 
-use fr_cli_apply::tokens::{
+use fr_cli_json::tokens::{
     Unread, close_object, open_array, open_object, read_number, read_version, take_key,
 };
 use fr_epoch::Reply;

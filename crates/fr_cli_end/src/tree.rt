@@ -3,8 +3,8 @@ ghost use Rattle.std.specs.Prelude.{◌≡◌, ◌⊎◌, Err, None, Some, IfOk,
 ghost use Rattle.serde_json.specs.View.{view};
 ghost use Rattle.fr_cli_end.specs.Script.{index_of, reply_of, replies_from, replies_of};
 
-use fr_cli_apply::CliFault;
-use fr_cli_apply::tree::{into_items, read_value, read_version, take_member};
+use fr_cli_json::CliFault;
+use fr_cli_json::tree::{into_items, read_value, read_version, take_member};
 use fr_epoch::Reply;
 use serde_json::Value;
 use std::alloc::Global;

@@ -1,10 +1,11 @@
 //! The lines of storage servers.
 ghost use Rattle.std.specs.Prelude.{◌≡◌, IfErr, OnOk};
-ghost use Rattle.fr_cli_apply.specs.Calls.{IsWriteFault};
+ghost use Rattle.fr_cli_json.specs.Calls.{IsWriteFault};
 
 use fr_ask::Last;
 use fr_base::{NodeId, Tag};
-use fr_cli_apply::{CallCounts, CliFault, put, put_rows};
+use fr_cli_apply::put_rows;
+use fr_cli_json::{CallCounts, CliFault, put};
 use fr_world::World;
 use std::alloc::Global;
 use std::io::Write;

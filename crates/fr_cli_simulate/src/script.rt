@@ -6,8 +6,8 @@ mod setting;
 mod step;
 
 use fr_base::{Ballot, Epoch, LogId, Step, Tag};
-use fr_cli_apply::tree::{into_items, read_value, take_member};
-use fr_cli_apply::{CliFault, Mutations};
+use fr_cli_json::tree::{into_items, read_value, take_member};
+use fr_cli_json::{CliFault, Mutations};
 use fr_world::Config;
 use std::alloc::Global;
 

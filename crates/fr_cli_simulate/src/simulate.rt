@@ -1,11 +1,11 @@
 //! The command `simulate`.
 ghost use Rattle.std.specs.Prelude.{◌≡◌, ◌<◌, ◌⊎◌, Err, IfOk, IfErr, OnOk};
-ghost use Rattle.fr_cli_apply.specs.Calls.{no_calls, HasNoInput, HasNotFailed, IsWriteFault};
+ghost use Rattle.fr_cli_json.specs.Calls.{no_calls, HasNoInput, HasNotFailed, IsWriteFault};
 
 use crate::lines::put_storages;
 use crate::script::{Act, Script, read_script};
 use crate::steps::line_of;
-use fr_cli_apply::{CallCounts, CliFault, put, read_input};
+use fr_cli_json::{CallCounts, CliFault, put, read_input};
 use fr_world::World;
 use std::alloc::Global;
 use std::io::{Read, Write};

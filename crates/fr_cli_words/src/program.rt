@@ -1,7 +1,7 @@
 //! A program's name and version, its own words, and how it ends.
 use clap::Command;
 use clap::error::{Error, ErrorKind};
-use fr_cli_apply::CliFault;
+use fr_cli_json::CliFault;
 use std::alloc::Global;
 use std::io;
 use std::io::{Eprint, Write};

@@ -1,6 +1,6 @@
 //! Readers and writers that fail or are interrupted, and commands that run with them.
 use crate::examples::{UNDO, apply};
-use fr_cli_apply::CliFault;
+use fr_cli_json::CliFault;
 use fr_cli_end::{EndOptions, run_end};
 use std::alloc::{AllocError, Global};
 use std::io;

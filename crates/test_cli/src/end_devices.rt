@@ -2,7 +2,7 @@
 use crate::devices::{
     Command, REPLIES, UNFLUSHED, failing, interrupting, reads, reads_and_writes, writes,
 };
-use fr_cli_apply::CliFault;
+use fr_cli_json::CliFault;
 use std::test::Fail;
 
 #[test]

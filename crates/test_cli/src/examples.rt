@@ -1,5 +1,6 @@
 //! Scripts with what they print, and how one is run.
-use fr_cli_apply::{ApplyOptions, CliFault, StoreKind, run_apply};
+use fr_cli_apply::{ApplyOptions, StoreKind, run_apply};
+use fr_cli_json::CliFault;
 use std::alloc::{AllocError, Global};
 use std::io::{Read, Write};
 

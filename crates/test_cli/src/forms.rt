@@ -3,7 +3,7 @@
 ghost use Rattle.std.specs.Prelude.{◌<◌, length};
 
 use crate::examples::{prints, run, twice};
-use fr_cli_apply::CliFault;
+use fr_cli_json::CliFault;
 use std::alloc::{AllocError, Global};
 use std::process::Abort;
 use std::test::Fail;

@@ -2,7 +2,7 @@ use crate::examples::{
     BEFORE_UNDO, EACH_MUTATION, EMPTY, Example, FORGET, LIMIT_FIRST, NO_KEY, NOTHING, REFUSED,
     UNDO, answers, prints, run,
 };
-use fr_cli_apply::CliFault;
+use fr_cli_json::CliFault;
 use std::alloc::{AllocError, Global};
 use std::process::Abort;
 use std::test::Fail;

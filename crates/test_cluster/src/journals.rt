@@ -2,7 +2,7 @@
 use fr_audit::audit;
 use fr_audit_journal::Journal;
 use fr_audit_script::{read_script, write_script};
-use fr_cli_apply::CallCounts;
+use fr_cli_json::CallCounts;
 use fr_cli_cluster::{
     ClusterOptions, ClusterWords, DEFAULTS, Progress, cluster_counted, run_cluster,
 };

@@ -1,7 +1,7 @@
 //! How a program ends where its reader or its writer fails.
 use crate::words::words_of;
 use fr_cli::{Ending, run_program};
-use fr_cli_apply::CliFault;
+use fr_cli_json::CliFault;
 use std::io;
 use std::io::{Error, ErrorKind as IoErrorKind, Read, Write};
 use std::test::Fail;

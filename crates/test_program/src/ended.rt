@@ -1,7 +1,7 @@
 //! How a program ends, and what it writes.
 use crate::words::words_of;
 use fr_cli::{Ending, run_program};
-use fr_cli_apply::CliFault;
+use fr_cli_json::CliFault;
 use std::alloc::{AllocError, Global};
 use std::sync::Wait;
 use std::test::Fail;

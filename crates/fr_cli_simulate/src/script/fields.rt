@@ -2,8 +2,8 @@
 ghost use Rattle.std.specs.Prelude.{◌≡◌, ◌⊎◌, IfErr};
 
 use fr_base::{Epoch, LogId};
-use fr_cli_apply::CliFault;
-use fr_cli_apply::tree::member_of;
+use fr_cli_json::CliFault;
+use fr_cli_json::tree::member_of;
 use serde_json::Value;
 use std::alloc::Global;
 

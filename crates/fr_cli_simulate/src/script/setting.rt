@@ -3,8 +3,8 @@ ghost use Rattle.std.specs.Prelude.{◌≡◌, ◌⊎◌, IfErr};
 
 use super::fields::Fields;
 use fr_base::Bytes;
-use fr_cli_apply::CliFault;
-use fr_cli_apply::tree::read_bytes;
+use fr_cli_json::CliFault;
+use fr_cli_json::tree::read_bytes;
 use fr_world::{Config, ConfigFault};
 use serde_json::Value;
 use std::alloc::Global;

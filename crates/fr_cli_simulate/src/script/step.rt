@@ -4,8 +4,8 @@ ghost use Rattle.std.specs.Prelude.{◌≡◌, ◌⊎◌, IfErr};
 use super::fields::{Fields, LAST_CELL, LAST_LOG};
 use super::{Act, Commit, Pull, Push, Recover};
 use fr_base::{Ballot, Step, Tag};
-use fr_cli_apply::CliFault;
-use fr_cli_apply::tree::{into_one_member, read_batch, take_member};
+use fr_cli_json::CliFault;
+use fr_cli_json::tree::{into_one_member, read_batch, take_member};
 use serde_json::Value;
 use std::alloc::Global;
 

@@ -2,8 +2,8 @@ use Rattle.std.proofs.Common.{rules, ◌≡◌, None, refl}
 use Rattle.fr_undo.specs.State.{fresh}
 use Rattle.fr_cli_apply.specs.Plan.{plan_of}
 use Rattle.fr_cli_apply.proofs.PlanLemmas.{bad_found, front_found, all_found}
-use Rattle.fr_cli_apply.proofs.TextLemmas.{gains_kept, appends_kept}
-use Rattle.fr_cli_apply.proofs.CommandLemmas.{unread, misread, cut_off, printed}
+use Rattle.fr_cli_json.proofs.TextLemmas.{gains_kept, appends_kept}
+use Rattle.fr_cli_json.proofs.CommandLemmas.{unread, misread, cut_off, printed}
 use Rattle.fr_cli_apply.proofs.apply.apply_counted.Goals as goal
 
 pub returns-in_err-input-clause-prints : goal.returns-in_err-input-clause-prints

@@ -1,4 +1,4 @@
-use Rattle.fr_cli_apply.proofs.TextLemmas.{gains_none}
+use Rattle.fr_cli_json.proofs.TextLemmas.{gains_none}
 use Rattle.fr_cli_apply.proofs.operations.put_contents.Goals as goal
 
 pub returns-in-Err-clause-front : goal.returns-in-Err-clause-front

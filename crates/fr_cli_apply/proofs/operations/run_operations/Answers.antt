@@ -1,5 +1,5 @@
 use Rattle.std.proofs.Common.{◌∙◌}
-use Rattle.fr_cli_apply.proofs.TextLemmas.{owes_rest, gains_more}
+use Rattle.fr_cli_json.proofs.TextLemmas.{owes_rest, gains_more}
 use Rattle.fr_cli_apply.proofs.operations.run_operations.Goals as goal
 
 pub returns-in_err-put-clause-front : goal.returns-in_err-put-clause-front

@@ -1,6 +1,6 @@
 use Rattle.std.proofs.Common.{◌≡◌}
 use Rattle.fr_cli_apply.specs.Plan.{plan_lines}
-use Rattle.fr_cli_apply.specs.Text.{Owes}
+use Rattle.fr_cli_json.specs.Text.{Owes}
 use Rattle.fr_cli_apply.proofs.operations.run_operations.Given as goal
 
 abbrev pub invariant-loop-operation : goal.invariant-loop-operation

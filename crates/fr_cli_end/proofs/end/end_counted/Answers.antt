@@ -1,10 +1,10 @@
 use Rattle.std.proofs.Common.{rules, ◌≡◌, ℕ, List, Option, None, Some}
 use Rattle.fr_epoch.specs.declared.reply.Reply.{Reply}
 use Rattle.fr_epoch.specs.EndTally.{new_end}
-use Rattle.fr_cli_apply.specs.Text.{IsInput, HasRead}
+use Rattle.fr_cli_json.specs.Text.{IsInput, HasRead}
 use Rattle.fr_cli_end.specs.Script.{replies_of}
-use Rattle.fr_cli_apply.proofs.TextLemmas.{gains_kept, appends_kept}
-use Rattle.fr_cli_apply.proofs.CommandLemmas.{unread, misread, cut_off, printed}
+use Rattle.fr_cli_json.proofs.TextLemmas.{gains_kept, appends_kept}
+use Rattle.fr_cli_json.proofs.CommandLemmas.{unread, misread, cut_off, printed}
 use Rattle.fr_cli_end.proofs.end.end_counted.Goals as goal
 
 has_read : (old new : Option (List ℕ)) (input : List ℕ) (replies : List Reply) → IsInput old new input → replies_of input ≡ Some replies → HasRead replies_of old new (Some replies)

@@ -1,6 +1,6 @@
 use Rattle.std.proofs.Common.{◌∙◌, sym, subst}
-use Rattle.fr_cli_apply.specs.Text.{GainsFront}
-use Rattle.fr_cli_apply.proofs.TextLemmas.{gains_none}
+use Rattle.fr_cli_json.specs.Text.{GainsFront}
+use Rattle.fr_cli_json.proofs.TextLemmas.{gains_none}
 use Rattle.fr_cli_end.specs.Lines.{end_line}
 use Rattle.fr_cli_end.proofs.lines.put_end.Goals as goal
 

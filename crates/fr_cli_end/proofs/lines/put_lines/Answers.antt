@@ -1,6 +1,6 @@
 use Rattle.std.proofs.Common.{◌∙◌, ◌≡◌, [], arith}
 use Rattle.std.proofs.lemmas.Grind.{common_steps}
-use Rattle.fr_cli_apply.proofs.TextLemmas.{owes_rest, owes_none, gains_more}
+use Rattle.fr_cli_json.proofs.TextLemmas.{owes_rest, owes_none, gains_more}
 use Rattle.fr_cli_end.proofs.LineLemmas.{next_owed}
 use Rattle.fr_cli_end.proofs.lines.put_lines.Goals as goal
 

@@ -1,5 +1,5 @@
 use Rattle.std.proofs.Common.{◌≡◌}
-use Rattle.fr_cli_apply.specs.Text.{Owes}
+use Rattle.fr_cli_json.specs.Text.{Owes}
 use Rattle.fr_cli_end.specs.Lines.{lines_from}
 use Rattle.fr_cli_end.proofs.lines.put_lines.Given as goal
 

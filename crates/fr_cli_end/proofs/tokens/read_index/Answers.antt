@@ -1,6 +1,6 @@
 use Rattle.std.proofs.Common.{rules, ◌≡◌, ℕ, Option, Some, None, nat_lt, if◌then◌else◌}
-use Rattle.fr_cli_apply.specs.Json.{natural_of}
-use Rattle.fr_cli_apply.proofs.TokenLemmas.{given_by}
+use Rattle.fr_cli_json.specs.Json.{natural_of}
+use Rattle.fr_cli_json.proofs.TokenLemmas.{given_by}
 use Rattle.fr_cli_end.proofs.tokens.read_index.Goals as goal
 
 pub returns-in-Ok-clause-value : goal.returns-in-Ok-clause-value

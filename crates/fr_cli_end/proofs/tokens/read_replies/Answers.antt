@@ -1,7 +1,7 @@
 use Rattle.std.proofs.Common.{◌≡◌, ◌-◌, ◌<◌, length, Some, None, sym, subst, arith}
 use Rattle.json.specs.Json.{after_end_array}
-use Rattle.fr_cli_apply.specs.Tokens.{Gives}
-use Rattle.fr_cli_apply.proofs.TokenLemmas.{AllRead, none_read, one_more_read, list_read}
+use Rattle.fr_cli_json.specs.Tokens.{Gives}
+use Rattle.fr_cli_json.proofs.TokenLemmas.{AllRead, none_read, one_more_read, list_read}
 use Rattle.fr_cli_end.specs.Script.{reply_of}
 use Rattle.fr_cli_end.proofs.tokens.read_replies.Goals as goal
 

@@ -1,5 +1,5 @@
 use Rattle.std.proofs.Common.{ℕ, ◌≤◌, length}
-use Rattle.fr_cli_apply.proofs.TokenLemmas.{AllRead}
+use Rattle.fr_cli_json.proofs.TokenLemmas.{AllRead}
 use Rattle.fr_cli_end.specs.Script.{reply_of}
 use Rattle.fr_cli_end.proofs.tokens.read_replies.Given as goal
 

@@ -1,6 +1,6 @@
 use Rattle.std.proofs.Common.{ap, ◌∙◌, subst}
 use Rattle.json.specs.Lex.{tokens}
-use Rattle.fr_cli_apply.specs.Tokens.{Gives}
+use Rattle.fr_cli_json.specs.Tokens.{Gives}
 use Rattle.fr_cli_end.specs.Script.{replies_from}
 use Rattle.fr_cli_end.proofs.ScriptLemmas.{text_read}
 use Rattle.fr_cli_end.proofs.tokens.read_script.Goals as goal

@@ -1,5 +1,5 @@
 use Rattle.std.proofs.Common.{codes, arith}
-use Rattle.fr_cli_apply.proofs.TokenLemmas.{member_read}
+use Rattle.fr_cli_json.proofs.TokenLemmas.{member_read}
 use Rattle.fr_cli_end.specs.Script.{replies_in}
 use Rattle.fr_cli_end.proofs.tokens.read_whole.Goals as goal
 

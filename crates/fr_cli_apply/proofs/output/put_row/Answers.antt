@@ -1,5 +1,0 @@
-use Rattle.fr_cli_apply.proofs.TextLemmas.{gains_none}
-use Rattle.fr_cli_apply.proofs.output.put_row.Goals as goal
-
-pub returns-in_err-make_line-clause-front : goal.returns-in_err-make_line-clause-front
-returns-in_err-make_line-clause-front g c = gains_none _ _
