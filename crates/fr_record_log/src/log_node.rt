@@ -1,10 +1,11 @@
 //! Logs over devices.
 ghost use Rattle.std.specs.Prelude.{◌≡◌, ◌≢◌, ◌⊎◌, ◌↔◌, ◌<◌, ◌≤◌, [], List, ℕ, None, Some, Err, IfOk, IfErr, false};
 ghost use Rattle.fr_log.specs.LogState.{fresh_log};
+ghost use Rattle.fr_device.specs.Moments.{Throughout};
 ghost use Rattle.fr_record.specs.File.{StandsFor};
 ghost use Rattle.fr_record.specs.Failing.{FailsOnceMore};
-ghost use Rattle.fr_record_node.specs.Replay.{replayed};
-ghost use Rattle.fr_record_log.specs.LogFile.{replay_log};
+ghost use Rattle.fr_record_node.specs.Replay.{replayed, Opens};
+ghost use Rattle.fr_record_log.specs.LogFile.{fresh_of, replay_log};
 
 use crate::limits::log_within_limits;
 use crate::log_file::FileLog;
@@ -26,10 +27,9 @@ pub struct LogNode<D: Device> {
 
 impl<D: Device> Model for LogNode<D> {
     ghost use Rattle.fr_log.specs.LogState.{LogState};
-    ghost use Rattle.fr_log.specs.declared.ask.LogAsk.{LogAsk};
     ghost use Rattle.fr_record_node.specs.Node.{NodeState};
 
-    ghost Value = { NodeState D LogState LogAsk };
+    ghost Value = { NodeState D LogState };
 
     ghost view = { λ n. n.node };
 }
@@ -56,6 +56,8 @@ impl<D: Device> LogNode<D> {
         ensures log { IfOk result (λ node. node.machine ≡ fresh_log id.epoch id.index m k) }
         ensures records { IfOk result (λ node. node.records ≡ []) }
         ensures works { IfOk result (λ node. node.is_failed ≡ false) }
+        ensures free { IfOk result (λ node. node.owed ≡ None) }
+        ensures kept { IfOk result (λ node. Throughout D.Led D.disk (Opens replay_log (fresh_of node.machine) (λ x. x ≡ node.machine)) node.device node.device) }
         ensures full { (result ≡ Err NodeFault.Full) ↔ (D.capacity_of device < 1) }
         ensures only_device { IfErr result (λ fault. (fault ≡ NodeFault.Device) ⊎ (fault ≡ NodeFault.Full)) }
         ensures device { (result ≡ Err NodeFault.Device) → FailsOnceMore D.failures_of device }
@@ -78,6 +80,8 @@ impl<D: Device> LogNode<D> {
         ensures records { IfOk result (λ node. StandsFor (D.disk device).content node.records) }
         ensures replays { IfOk result (λ node. replayed replay_log (Some (fresh_log id.epoch id.index m k)) node.records ≡ Some node.machine) }
         ensures works { IfOk result (λ node. node.is_failed ≡ false) }
+        ensures free { IfOk result (λ node. node.owed ≡ None) }
+        ensures kept { IfOk result (λ node. Throughout D.Led D.disk (Opens replay_log (fresh_of node.machine) (λ x. x ≡ node.machine)) node.device node.device) }
         ensures broken { (result ≡ Err NodeFault.Broken) → (records : List (List ℕ)) → StandsFor (D.disk device).content records → replayed replay_log (Some (fresh_log id.epoch id.index m k)) records ≡ None }
         ensures device { (result ≡ Err NodeFault.Device) → FailsOnceMore D.failures_of device }
         ensures never_full { result ≢ Err NodeFault.Full }
@@ -103,7 +107,8 @@ impl<D: Device> Node for LogNode<D> {
     ghost use Rattle.std.specs.Prelude.{IsTrue};
     ghost use Rattle.fr_device.specs.Moments as moments;
     ghost use Rattle.fr_record_node.specs.Replay.{Opens};
-    ghost use Rattle.fr_record_node.specs.Node.{is_trouble};
+    ghost use Rattle.fr_record_node.specs.Node.{HasNoRoom, is_trouble};
+    ghost use Rattle.fr_record_log.specs.Spelling.{written_log};
     ghost use Rattle.fr_record_log.specs.LogFile.{fresh_of, replay_log};
 
     type Plain = Log;
@@ -112,7 +117,11 @@ impl<D: Device> Node for LogNode<D> {
 
     ghost is_failed = { λ n. n.is_failed };
 
-    ghost held = { λ n. n.held };
+    ghost owed = { λ n. n.owed };
+
+    ghost failures = { λ n. D.failures_of n.device };
+
+    ghost LacksRoom = { λ n ask. HasNoRoom (D.capacity_of n.device) n.records (written_log n.machine ask) };
 
     ghost Throughout = { λ P n later. moments.Throughout D.Led D.disk (Opens replay_log (fresh_of n.machine) P) n.device later.device };
 

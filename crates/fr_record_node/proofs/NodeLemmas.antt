@@ -1,17 +1,17 @@
 -- A node, before and after a call of its file.
 use Rattle.std.proofs.Common.{◌≡◌, ◌⊎◌, inl, inr, ℕ, Bool, true, false, List, [], ◌++◌, refl, sym, ap, ◌∙◌, subst}
-use Rattle.std.specs.Prelude.{Option, None, Some, IsSome, IfSome}
+use Rattle.std.specs.Prelude.{Option, None, Some}
 use Rattle.fr_device.specs.Disk.{Disk}
 use Rattle.fr_device.specs.Moments.{LeavesOnly, Throughout}
 use Rattle.fr_record.specs.File.{AreShort, IsLeft, IsAtRest}
 use Rattle.fr_record.specs.Laws.{WholeOrNot, RestStands}
 use Rattle.fr_record_node.specs.Replay.{replayed, Opens}
-use Rattle.fr_record_node.specs.Node.{NodeState, InFlight, group_of, IsNode}
+use Rattle.fr_record_node.specs.Node.{NodeState, InFlight, group_of, owed_of, IsNode}
 use Rattle.fr_record_node.proofs.Lemmas.{started, weaker, at_last, put_flight, replays_more, rest_opens, flight_opens}
 
 module _ {D M A : Type 0} (Led : D → D → Type 0) (disk : D → Disk) (fresh : M → M) (replay : M → List ℕ → Option M) (written : M → A → List (List ℕ)) (IsAsk : A → Type 0) (IsSound : M → Type 0) (after : M → A → M) where
-  abbrev pub IsNodeHere : NodeState D M A → Type 0
-  IsNodeHere n = IsNode Led disk fresh replay written IsAsk IsSound n
+  abbrev pub IsNodeHere : Option A → NodeState D M → Type 0
+  IsNodeHere held n = IsNode Led disk fresh replay written IsAsk IsSound held n
 
   abbrev pub Replays : Type 0
   Replays = (s : M) (a : A) → IsSound s → IsAsk a → replayed replay (Some s) (written s a) ≡ Some (after s a)
@@ -25,7 +25,7 @@ module _ {D M A : Type 0} (Led : D → D → Type 0) (disk : D → Disk) (fresh 
   kept_now rest_stands m records device replays leaves =
       started Led disk _ device (λ left may. rest_opens replay (fresh m) records m replays (λ x. x ≡ m) refl rest_stands left (leaves left may))
 
-  module _ (n : NodeState D M A) (node : IsNodeHere n) where
+  module _ (held : Option A) (n : NodeState D M) (node : IsNodeHere held n) where
     abbrev pub Claim : A → D → Type 0
     Claim a last = Throughout Led disk (Opens replay (fresh n.machine) (λ x. (x ≡ n.machine) ⊎ (x ≡ after n.machine a))) n.device last
 
@@ -60,7 +60,7 @@ module _ {D M A : Type 0} (Led : D → D → Type 0) (disk : D → Disk) (fresh 
 
     -- the node while its device works
     pub working : n.is_failed ≡ false → (device : D) (records : List (List ℕ)) (is_failed : Bool) (m : M) → is_failed ≡ false → replayed replay (Some (fresh m)) records ≡ Some m → IsSound m
-        → IsNodeHere (record { device = device; records = records; is_failed = is_failed; machine = m; held = n.held })
+        → IsNodeHere held (record { device = device; records = records; is_failed = is_failed; machine = m; owed = owed_of after m held })
     working works device records is_failed m still_works replays sound = record {
       replays = replays;
       sound = sound;
@@ -72,7 +72,7 @@ module _ {D M A : Type 0} (Led : D → D → Type 0) (disk : D → Disk) (fresh 
     -- the node whose device failed in an ask
     pub failing : (a : A) → IsAsk a → (device : D) → Throughout Led disk (InFlight n.records (written n.machine a)) n.device device
         → (records : List (List ℕ)) (is_failed : Bool) (m : M) (b : A) → records ≡ n.records → is_failed ≡ true → m ≡ n.machine → b ≡ a → IsSound m
-        → IsNodeHere (record { device = device; records = records; is_failed = is_failed; machine = m; held = Some b })
+        → IsNodeHere (Some b) (record { device = device; records = records; is_failed = is_failed; machine = m; owed = owed_of after m (Some b) })
     failing a asks device moments records is_failed m b records_is fails m_is b_is sound = record {
       replays = same m records m_is records_is;
       sound = sound;
@@ -86,8 +86,8 @@ module _ {D M A : Type 0} (Led : D → D → Type 0) (disk : D → Disk) (fresh 
     }
 
     -- a node in which no ask is held, opened again
-    pub idle_again : n.held ≡ None → (device : D) (records : List (List ℕ)) (is_failed : Bool) → records ≡ n.records → Throughout Led disk (IsAtRest n.records) n.device device
-        → IsNodeHere (record { device = device; records = records; is_failed = is_failed; machine = n.machine; held = n.held })
+    pub idle_again : held ≡ None → (device : D) (records : List (List ℕ)) (is_failed : Bool) → records ≡ n.records → Throughout Led disk (IsAtRest n.records) n.device device
+        → IsNodeHere held (record { device = device; records = records; is_failed = is_failed; machine = n.machine; owed = owed_of after n.machine held })
     idle_again none device records is_failed records_is moments = record {
       replays = same n.machine records refl records_is;
       sound = node.sound;
@@ -103,7 +103,7 @@ module _ {D M A : Type 0} (Led : D → D → Type 0) (disk : D → Disk) (fresh 
         weaker Led disk (IsAtRest n.records) _ (rest_opens replay (fresh n.machine) n.records n.machine node.replays P here rest_stands) n.device last moments
 
     -- a node in which an ask is held, opened again
-    module _ (ask : A) (held_is : n.held ≡ Some ask) where
+    module _ (ask : A) (held_is : held ≡ Some ask) where
       pub is_failing : n.is_failed ≡ true
       is_failing = go n.is_failed refl
         where
@@ -113,15 +113,15 @@ module _ {D M A : Type 0} (Led : D → D → Type 0) (disk : D → Disk) (fresh 
 
       pub held_again : (device : D) (records : List (List ℕ)) (is_failed : Bool) (m : M) → records ≡ n.records → m ≡ n.machine → is_failed ≡ true → IsSound m
           → Throughout Led disk (InFlight n.records (written n.machine ask)) n.device device
-          → IsNodeHere (record { device = device; records = records; is_failed = is_failed; machine = m; held = n.held })
+          → IsNodeHere held (record { device = device; records = records; is_failed = is_failed; machine = m; owed = owed_of after m held })
       held_again device records is_failed m records_is m_is fails sound moments =
-          subst (λ h. IsNodeHere (record { device = device; records = records; is_failed = is_failed; machine = m; held = h })) (sym held_is)
+          subst (λ h. IsNodeHere h (record { device = device; records = records; is_failed = is_failed; machine = m; owed = owed_of after m h })) (sym held_is)
           (failing ask (node.asked ask held_is) device moments records is_failed m ask records_is fails m_is refl sound)
 
       pub held_claim : Replays → WholeOrNot → RestStands → (last : D) → Throughout Led disk (InFlight n.records (written n.machine ask)) n.device last
-          → Throughout Led disk (Opens replay (fresh n.machine) (λ x. (x ≡ n.machine) ⊎ (IsSome n.held × IfSome n.held (λ a. x ≡ after n.machine a)))) n.device last
+          → Throughout Led disk (Opens replay (fresh n.machine) (λ x. (x ≡ n.machine) ⊎ (owed_of after n.machine held ≡ Some x))) n.device last
       held_claim law whole_or_not rest_stands last moments =
-          let there : IsSome n.held × IfSome n.held (λ a. after n.machine ask ≡ after n.machine a) = subst (λ h. IsSome h × IfSome h (λ a. after n.machine ask ≡ after n.machine a)) (sym held_is) (refl, refl) in
+          let there : owed_of after n.machine held ≡ Some (after n.machine ask) = ap (owed_of after n.machine) held_is in
           weaker Led disk (InFlight n.records (written n.machine ask)) _
           (flight_opens replay (fresh n.machine) n.records n.machine node.replays _ (inl refl) whole_or_not rest_stands (written n.machine ask) (after n.machine ask) (law n.machine ask node.sound (node.asked ask held_is)) (inr there))
           n.device last moments

@@ -1,21 +1,30 @@
 -- A machine whose changes are records of a file.
-use Rattle.std.specs.Prelude.{◌≡◌, ℕ, Bool, true, false, List, [], ◌∷◌, ◌++◌, Option, None, Some}
+use Rattle.std.specs.Prelude.{◌≡◌, ℕ, ◌+◌, ◌<◌, Bool, true, false, List, [], ◌∷◌, ◌++◌, length, Option, None, Some}
 use Rattle.fr_base.specs.declared.node.NodeFault.{NodeFault}
 use Rattle.fr_base.specs.declared.node.NodeFault.TheVariants as node
 use Rattle.fr_record.specs.declared.fault.RecordFault.{RecordFault}
 use Rattle.fr_record.specs.declared.fault.RecordFault.TheVariants.{Device, Full, Failed, Memory, Broken}
 use Rattle.fr_device.specs.Disk.{Disk}
 use Rattle.fr_device.specs.Moments.{LeavesOnly}
-use Rattle.fr_record.specs.File.{AreShort, IsLeft, IsAtRest}
+use Rattle.fr_record.specs.File.{frames, AreShort, IsLeft, IsAtRest}
 use Rattle.fr_record_node.specs.Replay.{replayed}
 
--- a node over a device: the device, the records of its file, whether the device failed, the machine, and the ask that met the fault
-pub record NodeState (D M A : Type 0) : Type 0 where
+-- a node over a device: the device, the records of its file, whether the device failed, the machine, and the state to which the ask leads that met the fault
+pub record NodeState (D M : Type 0) : Type 0 where
   pub device : D
   pub records : List (List ℕ)
   pub is_failed : Bool
   pub machine : M
-  pub held : Option A
+  pub owed : Option M
+
+-- the state to which an ask leads, none where there is none
+abbrev pub owed_of : {M A : Type 0} → (M → A → M) → M → Option A → Option M
+owed_of after m None = None
+owed_of after m (Some ask) = Some (after m ask)
+
+-- whether a device of this capacity has no room behind the records of its file for those of an ask
+abbrev pub HasNoRoom : ℕ → List (List ℕ) → List (List ℕ) → Type 0
+HasNoRoom capacity records group = capacity < length (frames records) + length (frames group) + 1
 
 -- what a crash leaves while a group is in flight, or none
 abbrev pub InFlight : List (List ℕ) → List (List ℕ) → List ℕ → Type 0
@@ -27,15 +36,15 @@ abbrev pub group_of : {A : Type 0} → (A → List (List ℕ)) → Option A → 
 group_of written None = []
 group_of written (Some ask) = written ask
 
--- what is true of every node
-pub record IsNode {D M A : Type 0} (Led : D → D → Type 0) (disk : D → Disk) (fresh : M → M) (replay : M → List ℕ → Option M) (written : M → A → List (List ℕ)) (IsAsk : A → Type 0) (IsSound : M → Type 0) (n : NodeState D M A) : Type 0 where
+-- what is true of every node, and of the ask that met the fault
+pub record IsNode {D M A : Type 0} (Led : D → D → Type 0) (disk : D → Disk) (fresh : M → M) (replay : M → List ℕ → Option M) (written : M → A → List (List ℕ)) (IsAsk : A → Type 0) (IsSound : M → Type 0) (held : Option A) (n : NodeState D M) : Type 0 where
   -- the records bring the machine back
   pub replays : replayed replay (Some (fresh n.machine)) n.records ≡ Some n.machine
   pub sound : IsSound n.machine
-  pub idle : n.is_failed ≡ false → n.held ≡ None
-  pub asked : (ask : A) → n.held ≡ Some ask → IsAsk ask
+  pub idle : n.is_failed ≡ false → held ≡ None
+  pub asked : (ask : A) → held ≡ Some ask → IsAsk ask
   -- while failed, a crash leaves the records with those of the ask in flight or without them
-  pub owed : n.is_failed ≡ true → LeavesOnly Led disk (InFlight n.records (group_of (written n.machine) n.held)) n.device
+  pub owed : n.is_failed ≡ true → LeavesOnly Led disk (InFlight n.records (group_of (written n.machine) held)) n.device
 
 -- the fault of a node whose file has this fault
 abbrev pub node_fault : RecordFault → NodeFault

@@ -1,8 +1,9 @@
 //! A machine over a record file.
-ghost use Rattle.std.specs.Prelude.{◌≡◌, ◌≢◌, ◌⊎◌, ◌||◌, ◌↔◌, ◌<◌, [], ◌∷◌, Ok, Err, Some, None, List, ℕ, IfOk, OnOk, OnErr, IfErr, IfSome, IsSome, IsTrue, false};
+ghost use Rattle.std.specs.Prelude.{◌≡◌, ◌≢◌, ◌⊎◌, ◌||◌, ◌↔◌, ◌<◌, ◌+◌, ◌-◌, ◌^◌, min, [], ◌∷◌, Ok, Err, Some, None, List, ℕ, IfOk, OnOk, OnErr, IfErr, IsTrue, false};
+ghost use Rattle.fr_device.specs.Moments.{Throughout};
 ghost use Rattle.fr_record.specs.File.{StandsFor};
 ghost use Rattle.fr_record.specs.Failing.{FailsOnceMore};
-ghost use Rattle.fr_record_node.specs.Replay.{replayed};
+ghost use Rattle.fr_record_node.specs.Replay.{replayed, Opens};
 
 mod reading;
 mod reopening;
@@ -28,13 +29,13 @@ pub struct FileNode<M: Recorded, D: Device> {
 }
 
 impl<M: Recorded, D: Device> Model for FileNode<M, D> {
-    ghost use Rattle.fr_record_node.specs.Node.{NodeState, IsNode};
+    ghost use Rattle.fr_record_node.specs.Node.{NodeState, owed_of, IsNode};
 
-    ghost Value = { NodeState D M M.Ask };
+    ghost Value = { NodeState D M };
 
-    ghost view = { λ n. record { device = n.file.device; records = n.file.records; is_failed = n.file.is_failed; machine = n.machine; held = n.held } };
+    ghost view = { λ n. record { device = n.file.device; records = n.file.records; is_failed = n.file.is_failed; machine = n.machine; owed = owed_of M.after n.machine n.held } };
 
-    ghost invariant = { λ n. IsNode D.Led D.disk M.fresh M.replay M.written M.IsAsk M.IsSound (record { device = n.file.device; records = n.file.records; is_failed = n.file.is_failed; machine = n.machine; held = n.held }) };
+    ghost invariant = { λ n. IsNode D.Led D.disk M.fresh M.replay M.written M.IsAsk M.IsSound n.held (record { device = n.file.device; records = n.file.records; is_failed = n.file.is_failed; machine = n.machine; owed = owed_of M.after n.machine n.held }) };
 }
 
 impl<M: Recorded, D: Device> FileNode<M, D>
@@ -48,10 +49,13 @@ where
         ensures machine { IfOk result (λ node. node.machine ≡ machine) }
         ensures records { IfOk result (λ node. node.records ≡ []) }
         ensures works { IfOk result (λ node. node.is_failed ≡ false) }
+        ensures free { IfOk result (λ node. node.owed ≡ None) }
+        ensures kept { IfOk result (λ node. Throughout D.Led D.disk (Opens M.replay (M.fresh node.machine) (λ x. x ≡ node.machine)) node.device node.device) }
         ensures full { (result ≡ Err NodeFault.Full) ↔ (D.capacity_of device < 1) }
         ensures only_device { IfErr result (λ fault. (fault ≡ NodeFault.Device) ⊎ (fault ≡ NodeFault.Full)) }
         ensures device { (result ≡ Err NodeFault.Device) → FailsOnceMore D.failures_of device }
     {
+        left_law();
         match Records::format(alloc, device) {
             Ok(file) => {
                 let _is_failed = file.is_failed();
@@ -74,6 +78,8 @@ where
         ensures records { IfOk result (λ node. StandsFor (D.disk device).content node.records) }
         ensures replays { IfOk result (λ node. replayed M.replay (Some machine) node.records ≡ Some node.machine) }
         ensures works { IfOk result (λ node. node.is_failed ≡ false) }
+        ensures free { IfOk result (λ node. node.owed ≡ None) }
+        ensures kept { IfOk result (λ node. Throughout D.Led D.disk (Opens M.replay (M.fresh node.machine) (λ x. x ≡ node.machine)) node.device node.device) }
         ensures broken { (result ≡ Err NodeFault.Broken) → (records : List (List ℕ)) → StandsFor (D.disk device).content records → replayed M.replay (Some machine) records ≡ None }
         ensures device { (result ≡ Err NodeFault.Device) → FailsOnceMore D.failures_of device }
         ensures never_full { result ≢ Err NodeFault.Full }
@@ -113,7 +119,7 @@ where
     ghost use Rattle.std.specs.Prelude.{IsTrue};
     ghost use Rattle.fr_device.specs.Moments as moments;
     ghost use Rattle.fr_record_node.specs.Replay.{Opens};
-    ghost use Rattle.fr_record_node.specs.Node.{is_trouble};
+    ghost use Rattle.fr_record_node.specs.Node.{HasNoRoom, is_trouble};
 
     type Plain = M;
 
@@ -121,7 +127,11 @@ where
 
     ghost is_failed = { λ n. n.is_failed };
 
-    ghost held = { λ n. n.held };
+    ghost owed = { λ n. n.owed };
+
+    ghost failures = { λ n. D.failures_of n.device };
+
+    ghost LacksRoom = { λ n ask. HasNoRoom (D.capacity_of n.device) n.records (M.written n.machine ask) };
 
     ghost Throughout = { λ P n later. moments.Throughout D.Led D.disk (Opens M.replay (M.fresh n.machine) P) n.device later.device };
 

@@ -1,5 +1,5 @@
 //! Opening a node again.
-ghost use Rattle.std.specs.Prelude.{◌≡◌, ◌≢◌, ◌⊎◌, ◌||◌, [], Ok, Err, Some, None, OnOk, OnErr, IfErr, IsTrue, false};
+ghost use Rattle.std.specs.Prelude.{◌≡◌, ◌≢◌, ◌⊎◌, ◌||◌, ◌+◌, ◌-◌, ◌^◌, min, [], Ok, Err, Some, None, OnOk, OnErr, IfErr, IsTrue, false};
 ghost use Rattle.fr_device.specs.Moments.{Throughout, LeavesOnly};
 ghost use Rattle.fr_base.specs.Faults.{met_device};
 ghost use Rattle.fr_record.specs.File.{IsAtRest};
@@ -23,6 +23,8 @@ pub(super) fn reopen_idle<D: Device>(
     ensures same { file.new.records ≡ file.old.records }
     ensures works { OnOk result (file.new.is_failed ≡ false) }
     ensures fails { OnErr result (file.new.is_failed ≡ (file.old.is_failed || met_device result)) }
+    ensures device { (result ≡ Err NodeFault.Device) → D.failures_of file.new.device ≡ min (D.failures_of file.old.device + 1) (2 ^ 64 - 1) }
+    ensures never_full { result ≢ Err NodeFault.Full }
     ensures trouble { IfErr result (λ fault. IsTrue (is_trouble fault)) }
     ensures any_moment { Throughout D.Led D.disk (IsAtRest file.old.records) file.old.device file.new.device }
     ensures kept { OnOk result (LeavesOnly D.Led D.disk (IsAtRest file.new.records) file.new.device) }
@@ -57,6 +59,8 @@ where
     ensures err { OnErr result (machine.new ≡ machine.old) }
     ensures err_records { OnErr result (file.new.records ≡ file.old.records) }
     ensures fails { OnErr result (file.new.is_failed ≡ (file.old.is_failed || met_device result)) }
+    ensures device { (result ≡ Err NodeFault.Device) → D.failures_of file.new.device ≡ min (D.failures_of file.old.device + 1) (2 ^ 64 - 1) }
+    ensures never_full { result ≢ Err NodeFault.Full }
     ensures trouble { IfErr result (λ fault. IsTrue (is_trouble fault)) }
     ensures any_moment { Throughout D.Led D.disk (InFlight file.old.records (M.written machine.old ask.now)) file.old.device file.new.device }
     ensures kept { OnOk result (LeavesOnly D.Led D.disk (IsAtRest file.new.records) file.new.device) }

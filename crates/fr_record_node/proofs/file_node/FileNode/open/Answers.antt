@@ -3,6 +3,7 @@ use Rattle.fr_base.specs.declared.node.NodeFault.TheVariants as node
 use Rattle.fr_record_node.specs.Node.{node_fault}
 use Rattle.fr_record_node.specs.Replay.{replayed}
 use Rattle.fr_record_node.proofs.Lemmas.{is_broken}
+use Rattle.fr_record_node.proofs.NodeLemmas.{kept_now}
 use Rattle.fr_record_node.proofs.file_node.FileNode.open.Goals as goal
 
 pub returns-in-Err-clause-broken : goal.returns-in-Err-clause-broken
@@ -15,3 +16,14 @@ returns-in-Err-read_all-clause-broken g c e records stands =
     let told : c.in-Err-read_all.fault ≡ node.Broken = cc e in
     ap (λ l. replayed g.M.Recorded.replay (Some c.args.machine) l) (c.left_law.ensures.one_list (g.D.Device.disk c.args.device).content c.in-Ok.file.records records c.in-Ok.ensures.records stands)
     ∙ c.read_all.ensures.broken (c.in-Err-read_all.is ∙ ap (λ f. Err f) told)
+
+pub returns-clause-kept : goal.returns-clause-kept
+returns-clause-kept g c =
+    let machine = c.read_all.new.machine in
+    let records = c.read_all.new.file.records in
+    let replays : replayed g.M.Recorded.replay (Some (g.M.Recorded.fresh machine)) records ≡ Some machine =
+    ap (λ f. replayed g.M.Recorded.replay (Some f) records) (c.read_all.ensures.same ∙ c.requires.fresh)
+    ∙ ap (λ l. replayed g.M.Recorded.replay (Some c.args.machine) l) c.read_all.ensures.records
+    ∙ c.in-Ok-read_all.ensures.ok in
+    kept_now g.D.Device.Led g.D.Device.disk g.M.Recorded.fresh g.M.Recorded.replay g.M.Recorded.written g.M.Recorded.IsAsk g.M.Recorded.IsSound g.M.Machine.after c.left_law.ensures.at_rest machine records c.read_all.new.file.device replays
+    (c.is_failed-is_failed.ensures.kept c.in-Ok-read_all.ensures.works)
