@@ -13,7 +13,7 @@ use Rattle.fr_audit_journal.specs.declared.act.Entry.{Entry}
 use Rattle.fr_runtime_housing.specs.Replays.{Steps, told_at, after_at, after_act, state_after, TellsAre, IsTold, gone_after, gone_at_end, IsThere}
 use Rattle.fr_runtime_housing.specs.declared.kept.Kept.{Kept}
 use Rattle.fr_audit_journal.specs.Journal.{last_from, last_stamp}
-use Rattle.fr_runtime_housing.specs.Housing.{Housing, Asks, IsHoused, IsSettled, Keeps, Leaves, Stands, StandsBy, Works, before, found_entry, found_kept, greatest_stamp, is_gone, kept_stamp, last_number, left_kept, next_stamp, number_or_zero, with_found}
+use Rattle.fr_runtime_housing.specs.Housing.{Housing, Asks, IsHoused, IsSettled, Leaves, Stands, StandsBy, before, found_entry, greatest_stamp, is_gone, kept_stamp, last_number, left_kept, next_stamp, number_or_zero, with_found}
 
 pub state-append : {S A : Type 0} (m : Steps S A) (s : S) (es : List Entry) (e : Entry)
     → state_after m s (es ++ e ∷ []) ≡ after_act m (state_after m s es) e.act
@@ -220,25 +220,3 @@ pub settled-fails : {N S A : Type 0} (m : Steps S A) (old mid new : Housing N S 
     → Leaves m old new ⊎ ((call.Node fault ≡ call.Node node.Memory) × ((got : ℕ × Tell) × Asks m old new stamp from a got))
 settled-fails m old mid new stamp at from a fault settled first state is (inl e) = inl (settled-leaves m old mid new settled e)
 settled-fails m old mid new stamp at from a fault settled first state is (inr e) = inr (ap (λ f. call.Node f) e.0, settled-asks m old mid new stamp at from a settled first state is e.1)
-
--- what is kept of an earlier fault that could not be settled once the node was opened again
-pub opened-kept : {A : Type 0} (old mid new : Option (Kept A))
-    → (mid ≡ left_kept old) ⊎ (mid ≡ found_kept old) → (mid ≡ None → ⊥) → new ≡ mid → (new ≡ old) ⊎ (new ≡ found_kept old)
-opened-kept old mid new (inr e) some n = inr (n ∙ e)
-opened-kept None mid new (inl e) some n = absurd (some e)
-opened-kept (Some k) mid new (inl e) some n = inl (n ∙ (e ∙ go k.found refl))
-  where
-    go : (f : Bool) → k.found ≡ f → left_kept (Some k) ≡ Some k
-    go true f = rw f refl
-    go false f = let l : left_kept (Some k) ≡ None = rw f refl in absurd (some (e ∙ l))
-
--- what is kept of an ask that came to the node, once the fault before it is settled
-pub settled-keeps : {N S A : Type 0} (m : Steps S A) (old mid new : Housing N S A) (stamp at : ℕ) (from : NodeId) (a : A) (fault : NodeFault)
-    → IsSettled m old mid.entries → at ≡ next_stamp mid.entries stamp → fault ≡ node.Device
-    → (new.entries ≡ mid.entries) ⊎ ((fault ≡ node.Memory) × (new.entries ≡ mid.entries ++ record { stamp = at; act = act.Asked from (m.wrapped a) (m.told mid.state a) } ∷ []))
-    → new.kept ≡ Some (record { stamp = at; from = from; ask = a; found = false })
-    → Keeps m old new stamp from a
-settled-keeps m old mid new stamp at from a fault settled is device (inr x) kept = absurd (cc)
-settled-keeps m old mid new stamp at from a fault settled is device (inl e) kept =
-    let n : at ≡ next_stamp new.entries stamp = is ∙ ap (λ es. next_stamp es stamp) (sym e) in
-    inl (subst (λ es. IsSettled m old es) (sym e) settled, kept ∙ ap (λ x. Some (record { stamp = x; from = from; ask = a; found = false })) n)
