@@ -64,9 +64,9 @@ fn started_cell<N: Node<Plain = Cell> + Drop>(
     state: &CoordState,
 ) -> Result<N, NodeFault>
     requires works { N.is_failed node ≡ false }
-    requires free { N.held node ≡ None }
+    requires free { N.owed node ≡ None }
     ensures works { IfOk result (λ started. N.is_failed started ≡ false) }
-    ensures free { IfOk result (λ started. N.held started ≡ None) }
+    ensures free { IfOk result (λ started. N.owed started ≡ None) }
 {
     let mut node = node;
     let Some(value) = CellValue::new(encode(alloc, state)?) else {
@@ -84,9 +84,9 @@ fn started_log<N: Node<Plain = Log> + Drop>(
     state: &CoordState,
 ) -> Result<N, NodeFault>
     requires works { N.is_failed node ≡ false }
-    requires free { N.held node ≡ None }
+    requires free { N.owed node ≡ None }
     ensures works { IfOk result (λ started. N.is_failed started ≡ false) }
-    ensures free { IfOk result (λ started. N.held started ≡ None) }
+    ensures free { IfOk result (λ started. N.owed started ≡ None) }
 {
     let mut node = node;
     let epoch = first_epoch();

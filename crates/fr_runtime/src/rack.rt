@@ -24,7 +24,7 @@ pub trait Rack {
     /// The cell of this number.
     fn cell(&self, alloc: Global, index: u8) -> Result<Self::Cell, NodeFault>
         ensures works { IfOk result (λ node. Self.Cell.is_failed node ≡ false) }
-        ensures free { IfOk result (λ node. Self.Cell.held node ≡ None) }
+        ensures free { IfOk result (λ node. Self.Cell.owed node ≡ None) }
         ensures fresh { IfOk result (λ node. Self.Cell.state node ≡ fresh_cell) };
 
     /// A log of a generation of `m` logs, of which `k` hold each tag.
@@ -34,7 +34,7 @@ pub trait Rack {
         requires limit { m ≤ 16 }
         requires place { id.index < m }
         ensures works { IfOk result (λ node. Self.Log.is_failed node ≡ false) }
-        ensures free { IfOk result (λ node. Self.Log.held node ≡ None) }
+        ensures free { IfOk result (λ node. Self.Log.owed node ≡ None) }
         ensures fresh { IfOk result (λ node. Self.Log.state node ≡ fresh_log id.epoch id.index m k) };
 
     /// The store of this tag.

@@ -46,13 +46,13 @@ reached-act m R s (act.Asked from ask tell) stays h = go (m.unwrapped ask)
 reached-act m R s a stays h = h
 
 -- a node that enters an act, as it stands by it, stays one with its journal
-pub housed-append : {S A : Type 0} (m : Steps S A) (R : S → Type 0) (h : Housing S A) (held : Option A) (e : Entry) (state : S) (failed : Bool)
-    → ((s : S) (a : A) → R s → R (m.after s a)) → IsHoused m R h held
+pub housed-append : {N S A : Type 0} (m : Steps S A) (R : S → Type 0) (h : Housing N S A) (inner : N) (owed : Option S) (e : Entry) (state : S) (failed : Bool)
+    → ((s : S) (a : A) → R s → R (m.after s a)) → IsHoused m R h owed
     → gone_at_end h.place false h.entries ≡ false
     → IsTold m (state_after m h.first h.entries) e.act
     → state ≡ after_act m (state_after m h.first h.entries) e.act
-    → IsHoused m R (record { place = h.place; first = h.first; entries = h.entries ++ e ∷ []; state = state; is_failed = failed; kept = None }) None
-housed-append m R h held e state failed stays is there told after =
+    → IsHoused m R (record { node = inner; place = h.place; first = h.first; entries = h.entries ++ e ∷ []; state = state; is_failed = failed; kept = None }) None
+housed-append m R h inner owed e state failed stays is there told after =
     let s = state-append m h.first h.entries e in
     record {
       tells = tells-append m h.first h.entries e is.tells told;
@@ -61,7 +61,7 @@ housed-append m R h held e state failed stays is there told after =
       stands = (after ∙ sym s, refl);
     }
 
--- an ask that was found taken stands as found, and where the node works nothing is held
+-- an ask that was found taken stands as found, and where the node works nothing is owed
 found-true : {A : Type 0} (k : Kept A) → left_kept (Some k) ≡ Some k → k.found ≡ true
 found-true k e = go k.found refl
   where
@@ -70,19 +70,19 @@ found-true k e = go k.found refl
     go false f = let n = subst (λ b. (if b then Some k else None) ≡ Some k) f e in absurd (cc)
 
 -- how a node stands by an ask that was found taken
-stands-found : {S A : Type 0} (m : Steps S A) (R : S → Type 0) (h : Housing S A) (held : Option A) (k : Kept A)
-    → IsHoused m R h held → h.kept ≡ Some k → left_kept h.kept ≡ h.kept → StandsBy m (before m h) h.state h.is_failed held k true
-stands-found m R h held k is e left =
+stands-found : {N S A : Type 0} (m : Steps S A) (R : S → Type 0) (h : Housing N S A) (owed : Option S) (k : Kept A)
+    → IsHoused m R h owed → h.kept ≡ Some k → left_kept h.kept ≡ h.kept → StandsBy m (before m h) h.state h.is_failed owed k true
+stands-found m R h owed k is e left =
     let f : k.found ≡ true = found-true k (subst (λ o. left_kept o ≡ o) e left) in
-    let s = subst (λ o. Stands m (before m h) h.entries h.state h.is_failed held o) e is.stands in
-    subst (λ b. StandsBy m (before m h) h.state h.is_failed held k b) f s.1
+    let s = subst (λ o. Stands m (before m h) h.entries h.state h.is_failed owed o) e is.stands in
+    subst (λ b. StandsBy m (before m h) h.state h.is_failed owed k b) f s.1
 
 -- a node that works and whose ask was found taken holds no ask
-pub found-free : {S A : Type 0} (m : Steps S A) (R : S → Type 0) (h : Housing S A) (held : Option A) (k : Kept A)
-    → IsHoused m R h held → h.kept ≡ Some k → left_kept h.kept ≡ h.kept → h.is_failed ≡ false → held ≡ None
-found-free m R h held k is e left works = go (stands-found m R h held k is e left).1
+pub found-free : {N S A : Type 0} (m : Steps S A) (R : S → Type 0) (h : Housing N S A) (owed : Option S) (k : Kept A)
+    → IsHoused m R h owed → h.kept ≡ Some k → left_kept h.kept ≡ h.kept → h.is_failed ≡ false → owed ≡ None
+found-free m R h owed k is e left works = go (stands-found m R h owed k is e left).1
   where
-    go : (held ≡ None) ⊎ ((held ≡ Some k.ask) × (h.is_failed ≡ true)) → held ≡ None
+    go : (owed ≡ None) ⊎ ((owed ≡ Some (m.after h.state k.ask)) × (h.is_failed ≡ true)) → owed ≡ None
     go (inl n) = n
     go (inr x) = absurd (cc)
 
@@ -99,47 +99,47 @@ after-own : {S A : Type 0} (m : Steps S A) (s : S) (a : A) → m.unwrapped (m.wr
 after-own m s a e = ap (after_at m s) e
 
 -- a node with its journal is its parts
-two-same : {S A : Type 0} (n : Housing S A) (place : NodeId) (first : S) (entries : List Entry) → place ≡ n.place → first ≡ n.first → entries ≡ n.entries → None ≡ n.kept
-    → record { place = place; first = first; entries = entries; state = n.state; is_failed = n.is_failed; kept = None } ≡ n
+two-same : {N S A : Type 0} (n : Housing N S A) (place : NodeId) (first : S) (entries : List Entry) → place ≡ n.place → first ≡ n.first → entries ≡ n.entries → None ≡ n.kept
+    → record { node = n.node; place = place; first = first; entries = entries; state = n.state; is_failed = n.is_failed; kept = None } ≡ n
 two-same n place first entries p f e k = rw (p, f, e, k) refl
 
 -- the ask that was found taken is entered
-pub found-housed : {S A : Type 0} (m : Steps S A) (R : S → Type 0) (h n : Housing S A) (held free : Option A) (k : Kept A)
+pub found-housed : {N S A : Type 0} (m : Steps S A) (R : S → Type 0) (h n : Housing N S A) (owed free : Option S) (k : Kept A)
     → ((s : S) (a : A) → R s → R (m.after s a)) → ((s : S) (a : A) → R s → m.after (m.after s a) a ≡ m.after s a)
-    → IsHoused m R h held → is_gone h ≡ false → h.kept ≡ Some k → left_kept h.kept ≡ h.kept
+    → IsHoused m R h owed → is_gone h ≡ false → h.kept ≡ Some k → left_kept h.kept ≡ h.kept
     → m.unwrapped (m.wrapped k.ask) ≡ Some k.ask
     → n.place ≡ h.place → n.first ≡ h.first → n.entries ≡ h.entries ++ found_entry m (before m h) k ∷ [] → n.state ≡ m.after h.state k.ask → n.kept ≡ None → free ≡ None
     → IsHoused m R n free
-found-housed m R h n held free k stays again is there e left own place first entries state kept none =
+found-housed m R h n owed free k stays again is there e left own place first entries state kept none =
     let s = before m h in
-    let t = (stands-found m R h held k is e left).0 in
+    let t = (stands-found m R h owed k is e left).0 in
     let at : n.state ≡ after_at m s (m.unwrapped (m.wrapped k.ask)) = state ∙ (ap (λ x. m.after x k.ask) t ∙ (again s k.ask is.reached ∙ sym (after-own m s k.ask own))) in
-    let r = housed-append m R h held (found_entry m s k) n.state n.is_failed stays is there (told-own m s k.ask own) at in
+    let r = housed-append m R h n.node owed (found_entry m s k) n.state n.is_failed stays is there (told-own m s k.ask own) at in
     subst (λ o. IsHoused m R n o) (sym none) (subst (λ x. IsHoused m R x None) (two-same n h.place h.first (h.entries ++ found_entry m s k ∷ []) (sym place) (sym first) (sym entries) (sym kept)) r)
 
 -- a new ask is entered
-pub asked-housed : {S A : Type 0} (m : Steps S A) (R : S → Type 0) (h n : Housing S A) (held free : Option A) (stamp : ℕ) (from : NodeId) (a : A)
+pub asked-housed : {N S A : Type 0} (m : Steps S A) (R : S → Type 0) (h n : Housing N S A) (owed free : Option S) (stamp : ℕ) (from : NodeId) (a : A)
     → ((s : S) (a : A) → R s → R (m.after s a))
-    → IsHoused m R h held → is_gone h ≡ false → h.kept ≡ None
+    → IsHoused m R h owed → is_gone h ≡ false → h.kept ≡ None
     → m.unwrapped (m.wrapped a) ≡ Some a
-    → n.place ≡ h.place → n.first ≡ h.first → n.entries ≡ h.entries ++ record { stamp = stamp; act = act.Asked from (m.wrapped a) (m.told h.state a) } ∷ [] → n.state ≡ m.after h.state a → n.kept ≡ None → free ≡ held
+    → n.place ≡ h.place → n.first ≡ h.first → n.entries ≡ h.entries ++ record { stamp = stamp; act = act.Asked from (m.wrapped a) (m.told h.state a) } ∷ [] → n.state ≡ m.after h.state a → n.kept ≡ None → free ≡ owed
     → IsHoused m R n free
-asked-housed m R h n held free stamp from a stays is there e own place first entries state kept none =
+asked-housed m R h n owed free stamp from a stays is there e own place first entries state kept none =
     let s = before m h in
-    let w = subst (λ o. Stands m (before m h) h.entries h.state h.is_failed held o) e is.stands in
+    let w = subst (λ o. Stands m (before m h) h.entries h.state h.is_failed owed o) e is.stands in
     let at : n.state ≡ after_at m s (m.unwrapped (m.wrapped a)) = state ∙ (ap (λ x. m.after x a) w.0 ∙ sym (after-own m s a own)) in
     let told : told_at m s (m.unwrapped (m.wrapped a)) ≡ Some (m.told h.state a) = told-own m s a own ∙ ap (λ x. Some (m.told x a)) (sym w.0) in
     let new : Entry = record { stamp = stamp; act = act.Asked from (m.wrapped a) (m.told h.state a) } in
-    let r = housed-append m R h held new n.state n.is_failed stays is there told at in
+    let r = housed-append m R h n.node owed new n.state n.is_failed stays is there told at in
     subst (λ o. IsHoused m R n o) (sym (none ∙ w.1)) (subst (λ x. IsHoused m R x None) (two-same n h.place h.first (h.entries ++ new ∷ []) (sym place) (sym first) (sym entries) (sym kept)) r)
 
 -- the ask that was found taken is told again what it would have been
-pub found-told : {S A : Type 0} (m : Steps S A) (R : S → Type 0) (h : Housing S A) (held : Option A) (k : Kept A)
-    → IsHoused m R h held → h.kept ≡ Some k → left_kept h.kept ≡ h.kept
+pub found-told : {N S A : Type 0} (m : Steps S A) (R : S → Type 0) (h : Housing N S A) (owed : Option S) (k : Kept A)
+    → IsHoused m R h owed → h.kept ≡ Some k → left_kept h.kept ≡ h.kept
     → ((s : S) (a : A) → R s → m.told (m.after s a) a ≡ m.told s a)
     → m.told h.state k.ask ≡ m.told (before m h) k.ask
-found-told m R h held k is e left again =
-    ap (λ x. m.told x k.ask) (stands-found m R h held k is e left).0 ∙ again (before m h) k.ask is.reached
+found-told m R h owed k is e left again =
+    ap (λ x. m.told x k.ask) (stands-found m R h owed k is e left).0 ∙ again (before m h) k.ask is.reached
 
 -- a crash and a loss are told nothing, and change nothing
 ended-told : {S A : Type 0} (m : Steps S A) (s : S) (a : Act) → (a ≡ act.Crashed) ⊎ (a ≡ act.Lost) → IsTold m s a × (after_act m s a ≡ s)
@@ -149,23 +149,23 @@ ended-told m s a (inl x) = absurd (cc)
 ended-told m s a (inr x) = absurd (cc)
 
 -- a crash or a loss is entered
-pub ended-housed : {S A : Type 0} (m : Steps S A) (R : S → Type 0) (h n : Housing S A) (held : Option A) (e : Entry)
-    → IsHoused m R h held → is_gone h ≡ false → h.kept ≡ None
+pub ended-housed : {N S A : Type 0} (m : Steps S A) (R : S → Type 0) (h n : Housing N S A) (owed : Option S) (e : Entry)
+    → IsHoused m R h owed → is_gone h ≡ false → h.kept ≡ None
     → ((e.act ≡ act.Crashed) ⊎ (e.act ≡ act.Lost))
     → n.place ≡ h.place → n.first ≡ h.first → n.entries ≡ h.entries ++ e ∷ [] → n.state ≡ h.state → n.kept ≡ None
-    → IsHoused m R n held
-ended-housed m R h n held e is there none ended place first entries state kept =
+    → IsHoused m R n owed
+ended-housed m R h n owed e is there none ended place first entries state kept =
     let s = before m h in
-    let w = subst (λ o. Stands m (before m h) h.entries h.state h.is_failed held o) none is.stands in
+    let w = subst (λ o. Stands m (before m h) h.entries h.state h.is_failed owed o) none is.stands in
     let t = ended-told m s e.act ended in
     let moved = state-append m h.first h.entries e in
-    let r : IsHoused m R (record { place = h.place; first = h.first; entries = h.entries ++ e ∷ []; state = n.state; is_failed = n.is_failed; kept = None }) held = record {
+    let r : IsHoused m R (record { node = n.node; place = h.place; first = h.first; entries = h.entries ++ e ∷ []; state = n.state; is_failed = n.is_failed; kept = None }) owed = record {
       tells = tells-append m h.first h.entries e is.tells t.0;
       there = there-append h.place false h.entries e is.there there;
       reached = subst R (sym (moved ∙ t.1)) is.reached;
       stands = (state ∙ (w.0 ∙ sym (moved ∙ t.1)), w.1);
     } in
-    subst (λ x. IsHoused m R x held) (two-same n h.place h.first (h.entries ++ e ∷ []) (sym place) (sym first) (sym entries) (sym kept)) r
+    subst (λ x. IsHoused m R x owed) (two-same n h.place h.first (h.entries ++ e ∷ []) (sym place) (sym first) (sym entries) (sym kept)) r
 
 -- ---- settled
 
@@ -186,19 +186,19 @@ last-found m s es None = omega arith
 last-found m s es (Some k) = let e = last-append es (found_entry m s k) in omega (arith, e)
 
 -- once the fault is settled there is a stamp, where there was one above all
-pub settled-fits : {S A : Type 0} (m : Steps S A) (h : Housing S A) (es : List Entry) (stamp : ℕ)
+pub settled-fits : {N S A : Type 0} (m : Steps S A) (h : Housing N S A) (es : List Entry) (stamp : ℕ)
     → IsSettled m h es → greatest_stamp h stamp + 1 < 2 ^ 40 → next_stamp es stamp < 2 ^ 40
 settled-fits m h es stamp (inl x) fits = let e = ap last_number x.1 in omega (arith, e, fits)
 settled-fits m h es stamp (inr x) fits = let e = ap last_number x in let l = last-found m (before m h) h.entries h.kept in omega (arith, e, l, fits)
 
 -- a call that fails once the fault is settled leaves the entries, but for the ask that met it
-pub settled-leaves : {S A : Type 0} (m : Steps S A) (old mid new : Housing S A)
+pub settled-leaves : {N S A : Type 0} (m : Steps S A) (old mid new : Housing N S A)
     → IsSettled m old mid.entries → new.entries ≡ mid.entries → Leaves m old new
 settled-leaves m old mid new (inl x) e = inl (e ∙ x.1)
 settled-leaves m old mid new (inr x) e = inr (e ∙ x)
 
 -- a call whose tell finds no memory has asked the node
-pub settled-asks : {S A : Type 0} (m : Steps S A) (old mid new : Housing S A) (stamp at : ℕ) (from : NodeId) (a : A)
+pub settled-asks : {N S A : Type 0} (m : Steps S A) (old mid new : Housing N S A) (stamp at : ℕ) (from : NodeId) (a : A)
     → IsSettled m old mid.entries → mid.first ≡ old.first → mid.state ≡ before m mid → at ≡ next_stamp mid.entries stamp
     → new.entries ≡ mid.entries ++ record { stamp = at; act = act.Asked from (m.wrapped a) (m.told mid.state a) } ∷ []
     → (got : ℕ × Tell) × Asks m old new stamp from a got
@@ -214,7 +214,7 @@ settled-asks m old mid new stamp at from a settled first state is entries = (
 )
 
 -- what a call leaves that fails once the fault is settled
-pub settled-fails : {S A : Type 0} (m : Steps S A) (old mid new : Housing S A) (stamp at : ℕ) (from : NodeId) (a : A) (fault : NodeFault)
+pub settled-fails : {N S A : Type 0} (m : Steps S A) (old mid new : Housing N S A) (stamp at : ℕ) (from : NodeId) (a : A) (fault : NodeFault)
     → IsSettled m old mid.entries → mid.first ≡ old.first → mid.state ≡ before m mid → at ≡ next_stamp mid.entries stamp
     → (new.entries ≡ mid.entries) ⊎ ((fault ≡ node.Memory) × (new.entries ≡ mid.entries ++ record { stamp = at; act = act.Asked from (m.wrapped a) (m.told mid.state a) } ∷ []))
     → Leaves m old new ⊎ ((call.Node fault ≡ call.Node node.Memory) × ((got : ℕ × Tell) × Asks m old new stamp from a got))

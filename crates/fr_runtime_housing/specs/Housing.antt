@@ -13,8 +13,9 @@ use Rattle.fr_runtime_housing.specs.declared.fault.CallFault.{CallFault}
 use Rattle.fr_runtime_housing.specs.declared.fault.CallFault.TheVariants as call
 use Rattle.fr_runtime_housing.specs.Replays.{Steps, state_after, TellsAre, IsThere, gone_at_end}
 
--- a node's place, its state when it was housed, what it did since, its state, whether it stands failed, and the ask that met the fault
-pub record Housing (S A : Type 0) : Type 0 where
+-- a node, its place, its state when it was housed, what it did since, its state, whether it stands failed, and the ask that met the fault
+pub record Housing (N S A : Type 0) : Type 0 where
+  pub node : N
   pub place : NodeId
   pub first : S
   pub entries : List Entry
@@ -40,15 +41,15 @@ kept_stamp None = 0
 kept_stamp (Some k) = k.stamp
 
 -- the greatest stamp that the next one has to be above
-abbrev pub greatest_stamp : {S A : Type 0} → Housing S A → ℕ → ℕ
+abbrev pub greatest_stamp : {N S A : Type 0} → Housing N S A → ℕ → ℕ
 greatest_stamp h stamp = max (max (last_number h.entries) stamp) (kept_stamp h.kept)
 
 -- whether the node is a log that is lost, or a sequencer that crashed
-abbrev pub is_gone : {S A : Type 0} → Housing S A → Bool
+abbrev pub is_gone : {N S A : Type 0} → Housing N S A → Bool
 is_gone h = gone_at_end h.place false h.entries
 
 -- the state before the ask that met the fault; where none did, the node's
-abbrev pub before : {S A : Type 0} → Steps S A → Housing S A → S
+abbrev pub before : {N S A : Type 0} → Steps S A → Housing N S A → S
 before m h = state_after m h.first h.entries
 
 -- the entry of the ask that met the fault, for where it was taken
@@ -76,17 +77,17 @@ found_kept None = None
 found_kept (Some k) = Some (record k { found = true })
 
 -- the entries once the fault is settled: with the ask that met it, where this was taken, or without it; an ask once found taken stays so
-abbrev pub IsSettled : {S A : Type 0} → Steps S A → Housing S A → List Entry → Type 0
+abbrev pub IsSettled : {N S A : Type 0} → Steps S A → Housing N S A → List Entry → Type 0
 IsSettled m h entries =
     ((is_found h.kept ≡ false) × (entries ≡ h.entries))
     ⊎ (entries ≡ with_found m (before m h) h.entries h.kept)
 
 -- a call leaves the entries, but for the ask that met an earlier fault
-abbrev pub Leaves : {S A : Type 0} → Steps S A → Housing S A → Housing S A → Type 0
+abbrev pub Leaves : {N S A : Type 0} → Steps S A → Housing N S A → Housing N S A → Type 0
 Leaves m old new = (new.entries ≡ old.entries) ⊎ (new.entries ≡ with_found m (before m old) old.entries old.kept)
 
 -- a call asks the node and enters that, at the end, and nothing else but the ask that met an earlier fault; `got` is the stamp and the tell
-pub record Asks {S A : Type 0} (m : Steps S A) (old new : Housing S A) (stamp : ℕ) (from : NodeId) (ask : A) (got : ℕ × Tell) : Type 0 where
+pub record Asks {N S A : Type 0} (m : Steps S A) (old new : Housing N S A) (stamp : ℕ) (from : NodeId) (ask : A) (got : ℕ × Tell) : Type 0 where
   pub settled : List Entry
   pub is_settled : IsSettled m old settled
   pub stamp_is : got.0 ≡ next_stamp settled stamp
@@ -94,35 +95,41 @@ pub record Asks {S A : Type 0} (m : Steps S A) (old new : Housing S A) (stamp : 
   pub entries_are : new.entries ≡ settled ++ record { stamp = got.0; act = act.Asked from (m.wrapped ask) got.1 } ∷ []
 
 -- a call enters an act, at the end, and nothing else but the ask that met an earlier fault
-pub record Enters {S A : Type 0} (m : Steps S A) (old new : Housing S A) (stamp at : ℕ) (done : Act) : Type 0 where
+pub record Enters {N S A : Type 0} (m : Steps S A) (old new : Housing N S A) (stamp at : ℕ) (done : Act) : Type 0 where
   pub settled : List Entry
   pub is_settled : IsSettled m old settled
   pub stamp_is : at ≡ next_stamp settled stamp
   pub entries_are : new.entries ≡ settled ++ record { stamp = at; act = done } ∷ []
 
 -- why a call is not taken, before anything is tried
-abbrev pub refusal_of : {S A : Type 0} → Housing S A → ℕ → Option CallFault
+abbrev pub refusal_of : {N S A : Type 0} → Housing N S A → ℕ → Option CallFault
 refusal_of h stamp = if is_gone h then Some call.Lost else (if greatest_stamp h stamp == 2 ^ 40 - 1 then Some call.StampsSpent else None)
 
 -- the node works, and no fault is to be settled
-abbrev pub Works : {S A : Type 0} → Housing S A → Type 0
+abbrev pub Works : {N S A : Type 0} → Housing N S A → Type 0
 Works h = (h.is_failed ≡ false) × (h.kept ≡ None)
 
--- where the node stands beside what its journal says: there, or, where an ask met a fault, before it or, once that is found, after it
-abbrev pub StandsBy : {S A : Type 0} → Steps S A → S → S → Bool → Option A → Kept A → Bool → Type 0
-StandsBy m s state failed held k false = (state ≡ s) × (failed ≡ true) × (held ≡ Some k.ask)
-StandsBy m s state failed held k true = (state ≡ m.after s k.ask) × ((held ≡ None) ⊎ ((held ≡ Some k.ask) × (failed ≡ true)))
+-- what is kept after the device failed in a call: of an ask that came to the node, the ask, its sender and the stamp of its entry to be; where an earlier fault is not settled yet, what was kept of that one, found taken or not
+abbrev pub Keeps : {N S A : Type 0} → Steps S A → Housing N S A → Housing N S A → ℕ → NodeId → A → Type 0
+Keeps m old new stamp from ask =
+    (IsSettled m old new.entries × (new.kept ≡ Some (record { stamp = next_stamp new.entries stamp; from = from; ask = ask; found = false })))
+    ⊎ ((Works old → ⊥) × (new.entries ≡ old.entries) × ((new.kept ≡ old.kept) ⊎ (new.kept ≡ found_kept old.kept)))
 
-abbrev pub Stands : {S A : Type 0} → Steps S A → S → List Entry → S → Bool → Option A → Option (Kept A) → Type 0
-Stands m s entries state failed held None = (state ≡ s) × (held ≡ None)
-Stands m s entries state failed held (Some k) = IsAbove entries k.stamp × StandsBy m s state failed held k k.found
+-- where the node stands beside what its journal says: there, or, where an ask met a fault, before it or, once that is found, after it; while it is not opened again it owes the state after that ask
+abbrev pub StandsBy : {S A : Type 0} → Steps S A → S → S → Bool → Option S → Kept A → Bool → Type 0
+StandsBy m s state failed owed k false = (state ≡ s) × (failed ≡ true) × (owed ≡ Some (m.after state k.ask))
+StandsBy m s state failed owed k true = (state ≡ m.after s k.ask) × ((owed ≡ None) ⊎ ((owed ≡ Some (m.after state k.ask)) × (failed ≡ true)))
+
+abbrev pub Stands : {S A : Type 0} → Steps S A → S → List Entry → S → Bool → Option S → Option (Kept A) → Type 0
+Stands m s entries state failed owed None = (state ≡ s) × (owed ≡ None)
+Stands m s entries state failed owed (Some k) = IsAbove entries k.stamp × StandsBy m s state failed owed k k.found
 
 -- what is true of every node with its journal
-pub record IsHoused {S A : Type 0} (m : Steps S A) (IsReached : S → Type 0) (h : Housing S A) (held : Option A) : Type 0 where
+pub record IsHoused {N S A : Type 0} (m : Steps S A) (IsReached : S → Type 0) (h : Housing N S A) (owed : Option S) : Type 0 where
   pub tells : TellsAre m h.first h.entries
   pub there : IsThere h.place false h.entries
   pub reached : IsReached (before m h)
-  pub stands : Stands m (before m h) h.entries h.state h.is_failed held h.kept
+  pub stands : Stands m (before m h) h.entries h.state h.is_failed owed h.kept
 
 -- a fault that such a node can meet, or want of memory
 abbrev pub IsTrouble : (NodeFault → Type 0) → CallFault → Type 0

@@ -1,12 +1,12 @@
 //! A node with its journal.
-ghost use Rattle.std.specs.Prelude.{◌≡◌, ◌≢◌, ◌⊎◌, ◌↔◌, ◌||◌, ◌≤◌, ◌++◌, ◌∷◌, [], ◌+◌, ◌-◌, ◌^◌, ◌<◌, max, ℕ, Err, None, Some, IfOk, IfSome, IsSome, OnOk, IfErr, OnErr, false, true};
+ghost use Rattle.std.specs.Prelude.{◌≡◌, ◌≢◌, ◌⊎◌, ◌↔◌, ◌||◌, ◌≤◌, ◌++◌, ◌∷◌, [], ◌+◌, ◌-◌, ◌^◌, ◌<◌, max, min, ℕ, Err, None, Some, IfOk, IfSome, IsSome, OnOk, IfErr, OnErr, false, true};
 ghost use Rattle.fr_base.specs.declared.node.NodeFault.{NodeFault};
 ghost use Rattle.fr_audit_journal.specs.declared.act.Act.{Act};
 ghost use Rattle.fr_audit_journal.specs.Journal.{IsAbove};
 ghost use Rattle.fr_ask.specs.declared.tell.Tell.{Tell};
 ghost use Rattle.fr_runtime_housing.specs.declared.fault.CallFault.{CallFault};
 ghost use Rattle.fr_runtime_housing.specs.Replays.{Replays, state_after, steps};
-ghost use Rattle.fr_runtime_housing.specs.Housing.{Asks, Enters, IsSettled, IsTrouble, Leaves, Works, before, found_kept, greatest_stamp, is_gone, last_number, left_kept, next_stamp, refusal_of, with_found};
+ghost use Rattle.fr_runtime_housing.specs.Housing.{Asks, Enters, IsSettled, IsTrouble, Keeps, Leaves, Works, before, found_kept, greatest_stamp, is_gone, last_number, left_kept, next_stamp, refusal_of, with_found};
 
 mod entering;
 mod settling;
@@ -43,11 +43,11 @@ where
     ghost use Rattle.fr_runtime_housing.specs.Replays.{gone_at_end, steps};
     ghost use Rattle.fr_runtime_housing.specs.Housing.{Housing, IsHoused};
 
-    ghost Value = { Housing N.Plain N.Plain.Ask };
+    ghost Value = { Housing N N.Plain N.Plain.Ask };
 
-    ghost view = { λ h. record { place = h.journal.node; first = h.first.value; entries = h.journal.entries; state = N.state h.node; is_failed = N.is_failed h.node; kept = h.kept } };
+    ghost view = { λ h. record { node = h.node; place = h.journal.node; first = h.first.value; entries = h.journal.entries; state = N.state h.node; is_failed = N.is_failed h.node; kept = h.kept } };
 
-    ghost invariant = { λ h. IsHoused (steps N.Plain.wrapped N.Plain.unwrapped N.Plain.wrapped_tell N.Plain.told N.Plain.after) N.Plain.IsReached (record { place = h.journal.node; first = h.first.value; entries = h.journal.entries; state = N.state h.node; is_failed = N.is_failed h.node; kept = h.kept }) (N.held h.node) × (h.is_failed ≡ N.is_failed h.node) × (h.is_gone ≡ gone_at_end h.journal.node false h.journal.entries) };
+    ghost invariant = { λ h. IsHoused (steps N.Plain.wrapped N.Plain.unwrapped N.Plain.wrapped_tell N.Plain.told N.Plain.after) N.Plain.IsReached (record { node = h.node; place = h.journal.node; first = h.first.value; entries = h.journal.entries; state = N.state h.node; is_failed = N.is_failed h.node; kept = h.kept }) (N.owed h.node) × (h.is_failed ≡ N.is_failed h.node) × (h.is_gone ≡ gone_at_end h.journal.node false h.journal.entries) };
 }
 
 impl<N: Node> Housed<N>
@@ -58,7 +58,8 @@ where
     /// A node that did nothing yet.
     pub fn new(alloc: Global, node: N, id: NodeId) -> Self
         requires works { N.is_failed node ≡ false }
-        requires free { N.held node ≡ None }
+        requires free { N.owed node ≡ None }
+        ensures node { result.node ≡ node }
         ensures place { result.place ≡ id }
         ensures first { result.first ≡ N.state node }
         ensures state { result.state ≡ N.state node }
@@ -134,8 +135,9 @@ where
 
     /// Asks the node. A node that stands failed is opened again first, and the ask that met the fault is entered where
     /// the node took it. The entry's stamp is one more than the greater of the caller's and the journal's last, and the
-    /// answer is that stamp and what the node told. A fault of the node enters nothing more; want of memory may be
-    /// answered when the ask was taken and entered.
+    /// answer is that stamp and what the node told. A fault of the node enters nothing more; where its device failed in
+    /// the ask, this is kept with its sender and the stamp that its entry would have. Want of memory may be answered when
+    /// the ask was taken and entered.
     pub fn ask(
         &mut self,
         alloc: Global,
@@ -150,6 +152,9 @@ where
         ensures entered { IfOk result (λ got. Asks (steps N.Plain.wrapped N.Plain.unwrapped N.Plain.wrapped_tell N.Plain.told N.Plain.after) self.old self.new stamp from ask (got.0, got.1)) }
         ensures works { OnOk result (Works self.new) }
         ensures err { IfErr result (λ fault. Leaves (steps N.Plain.wrapped N.Plain.unwrapped N.Plain.wrapped_tell N.Plain.told N.Plain.after) self.old self.new ⊎ ((fault ≡ CallFault.Node NodeFault.Memory) × ((got : ℕ × Tell) × Asks (steps N.Plain.wrapped N.Plain.unwrapped N.Plain.wrapped_tell N.Plain.told N.Plain.after) self.old self.new stamp from ask got))) }
+        ensures kept { (result ≡ Err (CallFault.Node NodeFault.Device)) → Keeps (steps N.Plain.wrapped N.Plain.unwrapped N.Plain.wrapped_tell N.Plain.told N.Plain.after) self.old self.new stamp from ask }
+        ensures device { (result ≡ Err (CallFault.Node NodeFault.Device)) → Works self.old → N.failures self.new.node ≡ min (N.failures self.old.node + 1) (2 ^ 64 - 1) }
+        ensures full { (result ≡ Err (CallFault.Node NodeFault.Full)) → Works self.old → N.LacksRoom self.old.node ask }
         ensures trouble { IfErr result (IsTrouble N.CanMeet) }
     {
         if let Some(fault) = self.refusal(stamp) {

@@ -1,5 +1,5 @@
 //! What housing does beside the journal: serving an ask, and what becomes of the one that met a fault.
-ghost use Rattle.std.specs.Prelude.{◌≡◌, ◌≢◌, ◌⊎◌, ◌||◌, ◌≤◌, Err, Some, IfOk, OnOk, IfErr, OnErr, false};
+ghost use Rattle.std.specs.Prelude.{◌≡◌, ◌≢◌, ◌⊎◌, ◌||◌, ◌≤◌, ◌+◌, ◌-◌, ◌^◌, min, Err, Some, IfOk, OnOk, IfErr, OnErr, false};
 ghost use Rattle.fr_base.specs.declared.node.NodeFault.{NodeFault};
 ghost use Rattle.fr_base.specs.Faults.{met_device};
 ghost use Rattle.fr_runtime_housing.specs.Replays.{ends_by_crash};
@@ -36,9 +36,11 @@ where
     ensures err { OnErr result (N.state node.new ≡ N.state node.old) }
     ensures works { OnOk result (N.is_failed node.old ≡ false) }
     ensures fails { N.is_failed node.new ≡ (N.is_failed node.old || met_device result) }
-    ensures holds_none { OnOk result (N.held node.new ≡ N.held node.old) }
-    ensures holds { (result ≡ Err NodeFault.Device) → N.held node.new ≡ Some ask.now }
-    ensures holds_still { result ≢ Err NodeFault.Device → N.held node.new ≡ N.held node.old }
+    ensures device { (result ≡ Err NodeFault.Device) → N.failures node.new ≡ min (N.failures node.old + 1) (2 ^ 64 - 1) }
+    ensures full { (result ≡ Err NodeFault.Full) → N.LacksRoom node.old ask.now }
+    ensures owes_none { OnOk result (N.owed node.new ≡ N.owed node.old) }
+    ensures owes { (result ≡ Err NodeFault.Device) → N.owed node.new ≡ Some (N.Plain.after (N.state node.old) ask.now) }
+    ensures owes_still { result ≢ Err NodeFault.Device → N.owed node.new ≡ N.owed node.old }
     ensures trouble { N.is_failed node.old ≡ false → IfErr result (λ fault. (fault ≡ NodeFault.Memory) ⊎ N.CanMeet fault) }
 {
     if journal.reserve().is_err() {

@@ -119,7 +119,11 @@ impl Node for WatchedLog<'_> {
 
     ghost is_failed = { λ n. false };
 
-    ghost held = { λ n. None };
+    ghost owed = { λ n. None };
+
+    ghost failures = { λ n. 0 };
+
+    ghost LacksRoom = { λ n ask. ⊥ };
 
     ghost Throughout = { λ P n later. P n.log.machine × P later.log.machine };
 

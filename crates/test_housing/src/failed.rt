@@ -70,7 +70,7 @@ fn formatted(alloc: Global, epoch: Epoch, n: u64) -> Result<Faulty, NodeFault> {
 /// A log over a file whose device fails in this call, opened again once it was made.
 fn faulty(alloc: Global, epoch: Epoch, n: u64) -> Result<Faulty, NodeFault>
     ensures works { IfOk result (λ node. ⟦<Faulty as Node>⟧.is_failed node ≡ false) }
-    ensures free { IfOk result (λ node. ⟦<Faulty as Node>⟧.held node ≡ None) }
+    ensures free { IfOk result (λ node. ⟦<Faulty as Node>⟧.owed node ≡ None) }
 {
     let mut node = formatted(alloc, epoch, n)?;
     let _ = node.reopen(alloc)?;

@@ -75,7 +75,7 @@ fn log_after(alloc: Global, number: u64, asks: &[Asked]) -> Result<Log, Fail> {
 /// A node of log 0 of this epoch, with an empty journal.
 pub(crate) fn house<N: Node<Plain = Log> + Drop>(alloc: Global, node: N, epoch: Epoch) -> Housed<N>
     requires works { N.is_failed node ≡ false }
-    requires free { N.held node ≡ None }
+    requires free { N.owed node ≡ None }
 {
     Housed::new(alloc, node, NodeId::Log { epoch, index: 0 })
 }

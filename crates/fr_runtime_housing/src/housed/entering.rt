@@ -1,5 +1,5 @@
 //! What a node with its journal does anew is entered.
-ghost use Rattle.std.specs.Prelude.{◌≡◌, ◌⊎◌, ◌++◌, ◌∷◌, [], false, IfOk, OnOk, IfErr};
+ghost use Rattle.std.specs.Prelude.{◌≡◌, ◌⊎◌, ◌++◌, ◌∷◌, [], ◌+◌, ◌-◌, ◌^◌, min, false, Err, Some, IfOk, OnOk, IfErr};
 ghost use Rattle.fr_base.specs.declared.node.NodeFault.{NodeFault};
 ghost use Rattle.fr_audit_journal.specs.declared.act.Act.{Act};
 ghost use Rattle.fr_audit_journal.specs.Journal.{IsAbove};
@@ -37,6 +37,9 @@ where
         ensures state { OnOk result (self.new.state ≡ N.Plain.after self.old.state ask) }
         ensures works { OnOk result (Works self.new) }
         ensures err { IfErr result (λ fault. (self.new.entries ≡ self.old.entries) ⊎ ((fault ≡ NodeFault.Memory) × (self.new.entries ≡ self.old.entries ++ record { stamp = stamp; act = Act.Asked from (N.Plain.wrapped ask) (N.Plain.wrapped_tell (N.Plain.told self.old.state ask)) } ∷ []))) }
+        ensures kept { (result ≡ Err NodeFault.Device) → self.new.kept ≡ Some (record { stamp = stamp; from = from; ask = ask; found = false }) }
+        ensures device { (result ≡ Err NodeFault.Device) → N.failures self.new.node ≡ min (N.failures self.old.node + 1) (2 ^ 64 - 1) }
+        ensures full { (result ≡ Err NodeFault.Full) → N.LacksRoom self.old.node ask }
         ensures trouble { IfErr result (λ fault. (fault ≡ NodeFault.Memory) ⊎ N.CanMeet fault) }
     {
         repeat_law::<N::Plain>();

@@ -1,5 +1,5 @@
 //! A node that met a fault is opened again, and the ask that met it is entered where it was taken.
-ghost use Rattle.std.specs.Prelude.{◌≡◌, ◌⊎◌, false, OnOk, OnErr, IfErr};
+ghost use Rattle.std.specs.Prelude.{◌≡◌, ◌≢◌, ◌⊎◌, ◌+◌, ◌-◌, ◌^◌, min, false, Err, None, OnOk, OnErr, IfErr, IfSome};
 ghost use Rattle.fr_base.specs.declared.node.NodeFault.{NodeFault};
 ghost use Rattle.fr_runtime_housing.specs.Replays.{steps};
 ghost use Rattle.fr_runtime_housing.specs.Housing.{IsSettled, Works, before, found_kept, is_gone, left_kept, with_found};
@@ -25,6 +25,9 @@ where
         ensures left { OnOk result ((self.new.kept ≡ left_kept self.old.kept) ⊎ (self.new.kept ≡ found_kept self.old.kept)) }
         ensures works { OnOk result (self.new.is_failed ≡ false) }
         ensures err { OnErr result (self.new.kept ≡ self.old.kept) }
+        ensures device { (result ≡ Err NodeFault.Device) → N.failures self.new.node ≡ min (N.failures self.old.node + 1) (2 ^ 64 - 1) }
+        ensures never_full { result ≢ Err NodeFault.Full }
+        ensures never_failed { result ≢ Err NodeFault.Failed }
         ensures trouble { IfErr result N.CanMeet }
     {
         match self.node.reopen(alloc) {
@@ -55,7 +58,11 @@ where
         ensures entries { OnOk result (self.new.entries ≡ with_found (steps N.Plain.wrapped N.Plain.unwrapped N.Plain.wrapped_tell N.Plain.told N.Plain.after) (before (steps N.Plain.wrapped N.Plain.unwrapped N.Plain.wrapped_tell N.Plain.told N.Plain.after) self.old) self.old.entries self.old.kept) }
         ensures there { OnOk result (is_gone self.new ≡ false) }
         ensures works { OnOk result (Works self.new) }
+        ensures idle { self.old.kept ≡ None → OnErr result ⊥ × (self.new.node ≡ self.old.node) }
         ensures err { OnErr result (self.new.entries ≡ self.old.entries) }
+        ensures err_kept { OnErr result (self.new.kept ≡ self.old.kept) }
+        ensures device { (result ≡ Err NodeFault.Device) → N.failures self.new.node ≡ min (N.failures self.old.node + 1) (2 ^ 64 - 1) }
+        ensures full { (result ≡ Err NodeFault.Full) → IfSome self.old.kept (λ kept. N.LacksRoom self.old.node kept.ask) }
         ensures trouble { IfErr result (λ fault. (fault ≡ NodeFault.Memory) ⊎ N.CanMeet fault) }
     {
         let Some(kept) = self.kept.take() else {
@@ -93,7 +100,9 @@ where
         ensures there { OnOk result (is_gone self.new ≡ false) }
         ensures works { OnOk result (Works self.new) }
         ensures stands { OnOk result (self.new.state ≡ before (steps N.Plain.wrapped N.Plain.unwrapped N.Plain.wrapped_tell N.Plain.told N.Plain.after) self.new) }
+        ensures idle { Works self.old → OnErr result ⊥ × (self.new.node ≡ self.old.node) }
         ensures err { OnErr result (self.new.entries ≡ self.old.entries) }
+        ensures err_kept { OnErr result ((self.new.kept ≡ self.old.kept) ⊎ (self.new.kept ≡ found_kept self.old.kept)) }
         ensures trouble { IfErr result (λ fault. (fault ≡ NodeFault.Memory) ⊎ N.CanMeet fault) }
     {
         if self.is_failed {

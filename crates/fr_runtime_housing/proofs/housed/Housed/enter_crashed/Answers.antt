@@ -12,13 +12,13 @@ invariant_of-self-2 g c =
     let N = g.N.Plain.Named in
     let M = g.N.Plain.Machine in
     let m = steps N.wrapped N.unwrapped N.wrapped_tell M.told M.after in
-    let old : Housing g.row.N-Plain.Denot g.row.N-Plain-Ask.Denot = record { place = c.self.inside.journal.node; first = c.self.inside.first.value; entries = c.self.inside.journal.entries; state = g.N.Node.state c.self.inside.node; is_failed = g.N.Node.is_failed c.self.inside.node; kept = c.self.inside.kept } in
-    let new : Housing g.row.N-Plain.Denot g.row.N-Plain-Ask.Denot = record { place = c.push_reserved.new.self.node; first = c.self.inside.first.value; entries = c.push_reserved.new.self.entries; state = g.N.Node.state c.self.inside.node; is_failed = g.N.Node.is_failed c.self.inside.node; kept = c.self.inside.kept } in
+    let old : Housing g.row.N.Denot g.row.N-Plain.Denot g.row.N-Plain-Ask.Denot = record { node = c.self.inside.node; place = c.self.inside.journal.node; first = c.self.inside.first.value; entries = c.self.inside.journal.entries; state = g.N.Node.state c.self.inside.node; is_failed = g.N.Node.is_failed c.self.inside.node; kept = c.self.inside.kept } in
+    let new : Housing g.row.N.Denot g.row.N-Plain.Denot g.row.N-Plain-Ask.Denot = record { node = c.self.inside.node; place = c.push_reserved.new.self.node; first = c.self.inside.first.value; entries = c.push_reserved.new.self.entries; state = g.N.Node.state c.self.inside.node; is_failed = g.N.Node.is_failed c.self.inside.node; kept = c.self.inside.kept } in
     let there : is_gone old ≡ false = ap is_gone c.self.view_is ∙ c.requires.there in
     let kept = ap (λ h. h.kept) c.self.view_is ∙ c.requires.works.1 in
     let e : Entry = record { stamp = c.args.stamp; act = act.Crashed } in
     let entries : c.push_reserved.new.self.entries ≡ c.self.inside.journal.entries ++ e ∷ [] = c.push_reserved.ensures.entries ∙ rw c.reserve.ensures.entries refl in
     let place = c.push_reserved.ensures.node ∙ c.reserve.ensures.node in
-    let r = ended-housed m M.IsReached old new (g.N.Node.held c.self.inside.node) e i.0 there kept (inl refl) place refl entries refl kept in
+    let r = ended-housed m M.IsReached old new (g.N.Node.owed c.self.inside.node) e i.0 there kept (inl refl) place refl entries refl kept in
     let gone = gone-append old.place false old.entries e in
     (r, i.1, (c.ends_by_crash-self-inside.ensures ∙ ap ends_by_crash (c.node.ensures ∙ c.reserve.ensures.node)) ∙ (sym (gone ∙ ap (λ b. b || ends_by_crash old.place) there) ∙ rw (place, entries) refl))
