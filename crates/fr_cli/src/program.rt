@@ -1,10 +1,10 @@
 //! The program over its words, a reader and a writer.
 use crate::apply::apply_to;
 use crate::words::{Request, read_words};
-use fr_cli_json::{CallCounts, CliFault};
 use fr_cli_audit::run_audit;
 use fr_cli_cluster::{ClusterOptions, Progress, cluster_counted, run_cluster};
 use fr_cli_end::run_end;
+use fr_cli_json::{CallCounts, CliFault};
 use fr_cli_simulate::run_simulate;
 use fr_cli_words::{Ending, show};
 use std::alloc::Global;

@@ -19,7 +19,11 @@ pub fn put<W: Write>(calls: &mut CallCounts, writer: &mut W, text: &str) -> Resu
 }
 
 /// Writes bytes, in as many calls as the writer wants. An interrupted call is made again.
-pub fn put_bytes<W: Write>(calls: &mut CallCounts, writer: &mut W, bytes: &[u8]) -> Result<(), CliFault>
+pub fn put_bytes<W: Write>(
+    calls: &mut CallCounts,
+    writer: &mut W,
+    bytes: &[u8],
+) -> Result<(), CliFault>
     ensures ok { OnOk result (Appends (W.contents writer.old) (W.contents writer.new) bytes.now) }
     ensures front { GainsFront (W.contents writer.old) (W.contents writer.new) bytes.now }
     ensures fault { IfErr result (λ e. IsOutputFault calls.new e) }

@@ -2,8 +2,8 @@
 use crate::devices::{Command, PLAIN, Plan, REPLIES, Slow, UNFLUSHED, failing, interrupting};
 use crate::examples::{OPTIONS, UNDO};
 use fr_cli_apply::apply_counted;
-use fr_cli_json::{CallCounts, CliFault};
 use fr_cli_end::{EndOptions, end_counted};
+use fr_cli_json::{CallCounts, CliFault};
 use std::alloc::{AllocError, Global};
 use std::io::{Read, Write};
 use std::test::Fail;

@@ -1,7 +1,7 @@
 //! Readers and writers that fail or are interrupted, and commands that run with them.
 use crate::examples::{UNDO, apply};
-use fr_cli_json::CliFault;
 use fr_cli_end::{EndOptions, run_end};
+use fr_cli_json::CliFault;
 use std::alloc::{AllocError, Global};
 use std::io;
 use std::io::{Error, ErrorKind, Read, Write};

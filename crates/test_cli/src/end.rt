@@ -1,8 +1,8 @@
 //! Scripts of `end`: what each prints, and what is none. Each is also read by way of the tree of its JSON,
 //! with a first member `replies` that the one behind it replaces.
 use crate::examples::twice;
-use fr_cli_json::CliFault;
 use fr_cli_end::{EndOptions, run_end};
+use fr_cli_json::CliFault;
 use std::alloc::{AllocError, Global};
 use std::process::Abort;
 use std::test::Fail;

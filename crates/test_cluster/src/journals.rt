@@ -2,10 +2,10 @@
 use fr_audit::audit;
 use fr_audit_journal::Journal;
 use fr_audit_script::{read_script, write_script};
-use fr_cli_json::CallCounts;
 use fr_cli_cluster::{
     ClusterOptions, ClusterWords, DEFAULTS, Progress, cluster_counted, run_cluster,
 };
+use fr_cli_json::CallCounts;
 use fr_run_event::Config;
 use std::alloc::Global;
 use std::fmt::Display;

@@ -7,7 +7,8 @@ ghost use Rattle.fr_cli_json.specs.Tokens.{Gives};
 use super::Operation;
 use crate::plan::Planned;
 use fr_cli_json::tokens::{
-    Unread, close_object, open_array, open_object, read_batch, read_version, read_version_at, take_key,
+    Unread, close_object, open_array, open_object, read_batch, read_version, read_version_at,
+    take_key,
 };
 use json::{Reader, Scratch};
 use std::alloc::Global;
