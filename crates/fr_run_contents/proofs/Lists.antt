@@ -16,10 +16,10 @@ use Rattle.fr_run.proofs.Growth.{rec_is}
 use Rattle.fr_run.proofs.Register.{has_found}
 use Rattle.fr_run.proofs.States.{last_more, recoverers_have_states}
 use Rattle.fr_run.proofs.Chosen.{state_lasts}
+use Rattle.fr_run.proofs.Parents.{plan_is, parent_comes}
 use Rattle.fr_run_versions.specs.Numbers.{top_at}
-use Rattle.fr_run_versions.proofs.Pushes.{plan_is}
 use Rattle.fr_run_versions.proofs.Ends.{always_chained, seed_is_reached}
-use Rattle.fr_run_versions.proofs.Transport.{parent_comes, plans_are_lines, first_line}
+use Rattle.fr_run_versions.proofs.Transport.{plans_are_lines, first_line}
 use Rattle.fr_run_contents.specs.Issued.{entries}
 use Rattle.fr_run_contents.proofs.IssuedLists.{EntriesRise, GainsAbove, Reaches}
 use Rattle.fr_run_contents.proofs.EntryLists.{entries_rise}

@@ -30,7 +30,8 @@ use Rattle.fr_run.proofs.States.{last_more, recoverers_have_states, state_is}
 use Rattle.fr_run_versions.specs.Bounds.{HasReached, AllReach, IsSeedAt}
 use Rattle.fr_run_versions.specs.LogLaws.{tally, StandsAt}
 use Rattle.fr_run_versions.specs.SeededLaws.{IsSeededEpoch}
-use Rattle.fr_run_versions.proofs.Behind.{planned_by, front_is_state, behind_is_seeded}
+use Rattle.fr_run.proofs.Parents.{planned_by}
+use Rattle.fr_run_versions.proofs.Behind.{front_is_state, behind_is_seeded}
 use Rattle.fr_run_versions.proofs.Ends.{end_is_of_replies}
 use Rattle.fr_run_versions.proofs.Known.{logs_know}
 use Rattle.fr_run_versions.proofs.Locks.{replies_stand_still}

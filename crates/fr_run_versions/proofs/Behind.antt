@@ -1,13 +1,12 @@
 -- The generations of an epoch's state: each is its own epoch's, the front through it is that epoch's state, and its logs are seeded.
-use Rattle.std.proofs.Common.{◌≡◌, ℕ, zero, suc, ◌<◌, Bool, true, false, cond, ◌==◌, List, [], ◌∷◌, ◌++◌, append_assoc, Option, None, Some, inl, inr, ◌⊎◌, refl, sym, ◌∙◌, ap, subst, arith}
+use Rattle.std.proofs.Common.{◌≡◌, ℕ, zero, suc, ◌<◌, true, List, [], ◌∷◌, ◌++◌, append_assoc, Some, inl, inr, refl, sym, ◌∙◌, ap, subst, arith}
 use Rattle.std.specs.List.{All}
-use Rattle.std.proofs.lemmas.Bool.{eqb-true}
 use Rattle.std.proofs.lemmas.List.Elements.{All-nil, All-push, All-head, All-tail}
 use Rattle.fr_state.specs.Generations.{LogGeneration, CoordinatedState, AreOrdered, last_of}
 use Rattle.fr_epoch.specs.Recoverer.{RecState, Parent, Plan, is_written}
 use Rattle.fr_run.specs.Config.{Config, first_epoch, first_generation, first_state}
 use Rattle.fr_run.specs.Turn.{Turn}
-use Rattle.fr_run.specs.Nodes.{rec_at, plan_in, plan_at, generation_in, generation_at}
+use Rattle.fr_run.specs.Nodes.{rec_at, generation_at}
 use Rattle.fr_run.specs.Run.{IsRun}
 use Rattle.fr_run.specs.Laws.{Laws}
 use Rattle.fr_run.specs.States.{state_of}
@@ -15,10 +14,10 @@ use Rattle.fr_run.specs.StateLaws.{IsConfig}
 use Rattle.fr_run.proofs.Growth.{rec_is}
 use Rattle.fr_run.proofs.States.{last_more, recoverers_have_states}
 use Rattle.fr_run.proofs.Chosen.{state_planned}
+use Rattle.fr_run.proofs.Parents.{plan_is, parent_comes, planned_by}
 use Rattle.fr_run_versions.specs.SeededLaws.{IsSeededEpoch}
 use Rattle.fr_run_versions.specs.BehindLaws.{HasGenerations, GenerationsAreOwn, FrontIsState, BehindIsSeeded}
-use Rattle.fr_run_versions.proofs.Pushes.{plan_is}
-use Rattle.fr_run_versions.proofs.Transport.{parent_comes, plans_are_lines, first_line}
+use Rattle.fr_run_versions.proofs.Transport.{plans_are_lines, first_line}
 use Rattle.fr_run_versions.proofs.Seeds.{writing_is_seeded, first_is_seeded}
 
 -- ---- fronts
@@ -119,29 +118,6 @@ plan_state laws c h config run b r q at planned =
       fronts = subst (λ (s : CoordinatedState). AreFronts c h [] s.gens) (sym here) k.1.fronts;
       seeded = k.1.behind;
     }
-
--- an epoch that has a generation and is not the first has it by its ballot's plan
-pub record IsPlannedBy (c : Config) (h : List Turn) (e : ℕ) (g : LogGeneration) : Type 0 where
-  pub recoverer : RecState
-  pub at : rec_at c h e ≡ Some recoverer
-  pub plan : Plan
-  pub planned : recoverer.plan ≡ Some plan
-  pub is : plan.generation ≡ g
-
-pub planned_by : (c : Config) (h : List Turn) (e : ℕ) (g : LogGeneration) → generation_at c h e ≡ Some g → ((e ≡ first_epoch) × (first_generation c ≡ g)) ⊎ IsPlannedBy c h e g
-planned_by c h e g at = go (e == first_epoch) refl at
-  where
-    plan : (r : RecState) → rec_at c h e ≡ Some r → (o : Option Plan) → r.plan ≡ o → generation_in o ≡ Some g → IsPlannedBy c h e g
-    plan r at None planned m = absurd (cc)
-    plan r at (Some q) planned m = let same : q.generation ≡ g = cc in record { recoverer = r; at = at; plan = q; planned = planned; is = same }
-
-    rec : (o : Option RecState) → rec_at c h e ≡ o → generation_in (plan_in o) ≡ Some g → IsPlannedBy c h e g
-    rec None at m = absurd (cc)
-    rec (Some r) at m = plan r at r.plan refl m
-
-    go : (s : Bool) → (e == first_epoch) ≡ s → cond s (Some (first_generation c)) (generation_in (plan_at c h e)) ≡ Some g → ((e ≡ first_epoch) × (first_generation c ≡ g)) ⊎ IsPlannedBy c h e g
-    go true k m = let same : first_generation c ≡ g = cc in inl (eqb-true e first_epoch k, same)
-    go false k m = inr (rec (rec_at c h e) refl m)
 
 pub state_is : Laws → (c : Config) (h : List Turn) → IsConfig c → IsRun c h → (e : ℕ) (g : LogGeneration) → generation_at c h e ≡ Some g → IsState c h e g
 state_is laws c h config run e g at = elim (planned_by c h e g at) [

@@ -13,12 +13,13 @@ use Rattle.fr_run.specs.StateLaws.{IsConfig}
 use Rattle.fr_run.proofs.Cells.{Contains-here, Contains-none, Contains-cases}
 use Rattle.fr_run.proofs.States.{recoverers_have_states, chosen_is_front}
 use Rattle.fr_run.proofs.Chosen.{open_is_chosen, state_planned, chosen_is_planned, chosen_are_chain}
+use Rattle.fr_run.proofs.Parents.{planned_by}
 use Rattle.fr_run_versions.specs.Bounds.{IsBelow}
 use Rattle.fr_run_versions.specs.BehindLaws.{BelowIsHeldBehind, BelowStaysBelow, ChosenStaysBelow, AcknowledgedIsKept}
 use Rattle.fr_run_versions.proofs.Acks.{acknowledged_is_safe}
 use Rattle.fr_run_versions.proofs.Transport.{below_is_held_later}
 use Rattle.fr_run_versions.proofs.Seeds.{chosen_is_seeded}
-use Rattle.fr_run_versions.proofs.Behind.{IsState, planned_by, state_is}
+use Rattle.fr_run_versions.proofs.Behind.{IsState, state_is}
 
 -- the first epoch has nothing behind its generation
 first_alone : (c : Config) (front : List LogGeneration) (g n : LogGeneration) (rest : List LogGeneration) → (first_state c).gens ≡ front ++ g ∷ rest → Contains rest n → ⊥
@@ -36,12 +37,12 @@ below_is_held_behind laws c h config run e own at front g n rest is later v belo
 ]
 
 -- what is in a list stands between two parts of it
-record StandsIn (xs : List LogGeneration) (x : LogGeneration) : Type 0 where
-  front : List LogGeneration
-  rest : List LogGeneration
-  is : xs ≡ front ++ x ∷ rest
+pub record StandsIn (xs : List LogGeneration) (x : LogGeneration) : Type 0 where
+  pub front : List LogGeneration
+  pub rest : List LogGeneration
+  pub is : xs ≡ front ++ x ∷ rest
 
-stands_in : (xs : List LogGeneration) (x : LogGeneration) → Contains xs x → StandsIn xs x
+pub stands_in : (xs : List LogGeneration) (x : LogGeneration) → Contains xs x → StandsIn xs x
 stands_in [] x k = absurd (Contains-none k)
 stands_in (y ∷ xs) x k = elim (Contains-cases y xs x k) [
   | inl e ↦ record { front = []; rest = xs; is = ap (λ z. z ∷ xs) e }
@@ -75,7 +76,7 @@ below_stays_below laws c h config run e s g there v below = elim (Contains-push_
     }
 
 -- the generation of an epoch is in its state
-own_is_there : Laws → (c : Config) (h : List Turn) → IsConfig c → IsRun c h → (e : ℕ) (g : LogGeneration) → generation_at c h e ≡ Some g → Contains (state_of c h e).gens g
+pub own_is_there : Laws → (c : Config) (h : List Turn) → IsConfig c → IsRun c h → (e : ℕ) (g : LogGeneration) → generation_at c h e ≡ Some g → Contains (state_of c h e).gens g
 own_is_there laws c h config run e g at = (let k = state_is laws c h config run e g at in subst (λ xs. Contains xs g) (sym k.is) (Contains-append_right k.behind (g ∷ []) g (Contains-here g [])))
 
 pub chosen_stays_below : Laws → ChosenStaysBelow

@@ -1,6 +1,7 @@
 -- The epochs that the state of an epoch goes back to, and what it takes over from them.
-use Rattle.std.specs.Prelude.{◌≡◌, ◌<◌, ◌≤◌, ℕ, List, [], ◌∷◌, ◌++◌, Some, All, Contains}
+use Rattle.std.specs.Prelude.{◌≡◌, ◌<◌, ◌≤◌, ℕ, true, List, [], ◌∷◌, ◌++◌, Some, All, Contains}
 use Rattle.fr_state.specs.Generations.{LogGeneration, AreOrdered, last_of}
+use Rattle.fr_epoch.specs.EndTally.{is_covered, rv_of}
 use Rattle.fr_epoch.specs.Recoverer.{RecState, Plan}
 use Rattle.fr_run.specs.Config.{Config}
 use Rattle.fr_run.specs.Turn.{Turn}
@@ -10,6 +11,7 @@ use Rattle.fr_run.specs.Batches.{IsAcknowledged}
 use Rattle.fr_run.specs.States.{state_of, IsChosenEpoch}
 use Rattle.fr_run.specs.StateLaws.{IsConfig}
 use Rattle.fr_run_versions.specs.Bounds.{IsBelow}
+use Rattle.fr_run_versions.specs.LogLaws.{tally}
 use Rattle.fr_run_versions.specs.BoundLaws.{IsHeldIn}
 use Rattle.fr_run_versions.specs.SeededLaws.{IsSeededEpoch}
 
@@ -60,3 +62,31 @@ ChosenStaysBelow =
 abbrev pub AcknowledgedIsKept : Type 0
 AcknowledgedIsKept =
     (c : Config) (h : List Turn) → IsConfig c → IsRun c h → (b : ℕ) (r : RecState) (q : Plan) → rec_at c h b ≡ Some r → r.plan ≡ Some q → (e v : ℕ) → IsAcknowledged h e v → e < b → v ≤ q.generation.seeded_to
+
+-- ---- what replies tell
+
+-- each log that replied to a recoverer of a later ballot holds all through a version of an epoch
+abbrev pub IsReplied : Config → List Turn → ℕ → ℕ → Type 0
+IsReplied c h e v = (b : ℕ) (r : RecState) → rec_at c h b ≡ Some r → e < b → All (λ x. v ≤ x.durable) (tally r).replies
+
+-- a version of an epoch is not above what each later epoch was seeded to, nor above the recovery version of each later recoverer whose replies cover: also of one
+-- that they leave lost, which plans nothing
+pub record IsTakenOver (c : Config) (h : List Turn) (e v : ℕ) : Type 0 where
+  pub epochs : (x : ℕ) (g : LogGeneration) → generation_at c h x ≡ Some g → e < x → v ≤ g.seeded_to
+  pub recoverers : (b : ℕ) (r : RecState) → rec_at c h b ≡ Some r → e < b → is_covered (tally r) ≡ true → v ≤ rv_of (tally r)
+
+-- what is below in a generation of a chosen epoch each log that replies to a later recoverer holds, so it is taken over
+abbrev pub BelowIsReplied : Type 0
+BelowIsReplied =
+    (c : Config) (h : List Turn) → IsConfig c → IsRun c h → (e : ℕ) → IsChosenEpoch c h e → (g : LogGeneration) → Contains (state_of c h e).gens g → (v : ℕ) → IsBelow c h g.epoch v → IsReplied c h e v
+
+abbrev pub BelowIsRecovered : Type 0
+BelowIsRecovered =
+    (c : Config) (h : List Turn) → IsConfig c → IsRun c h → (e : ℕ) → IsChosenEpoch c h e → (g : LogGeneration) → Contains (state_of c h e).gens g → (v : ℕ) → IsBelow c h g.epoch v → IsTakenOver c h e v
+
+-- so is what was acknowledged in any epoch
+abbrev pub AcknowledgedIsReplied : Type 0
+AcknowledgedIsReplied = (c : Config) (h : List Turn) → IsConfig c → IsRun c h → (e v : ℕ) → IsAcknowledged h e v → IsReplied c h e v
+
+abbrev pub AcknowledgedIsRecovered : Type 0
+AcknowledgedIsRecovered = (c : Config) (h : List Turn) → IsConfig c → IsRun c h → (e v : ℕ) → IsAcknowledged h e v → IsTakenOver c h e v

@@ -77,8 +77,7 @@ KnownIsDurable =
 
 -- replies that cover agree: the greatest known is not above the least durable
 abbrev pub RepliesAgree : Type 0
-RepliesAgree =
-    (c : Config) (h : List Turn) → IsRun c h → (b : ℕ) (r : RecState) (p : Parent) → rec_at c h b ≡ Some r → r.parent ≡ Some p → is_covered (tally r) ≡ true → pev_of (tally r) ≤ rv_of (tally r)
+RepliesAgree = (c : Config) (h : List Turn) → IsRun c h → (b : ℕ) (r : RecState) → rec_at c h b ≡ Some r → is_covered (tally r) ≡ true → pev_of (tally r) ≤ rv_of (tally r)
 
 -- what is below in the parent's epoch is not above what a plan is seeded to; so is what was acknowledged there
 abbrev pub BelowIsTakenOver : Type 0
