@@ -34,7 +34,7 @@ use Rattle.fr_run_versions.proofs.Known.{push_is_part}
 use Rattle.fr_run_versions.proofs.LogChanges.{IsTaken}
 use Rattle.fr_run_versions.proofs.Named.{IsNamed}
 use Rattle.fr_run.proofs.Chosen.{generation_planned}
-use Rattle.fr_run.proofs.Parents.{plan_is, parent_is}
+use Rattle.fr_run.proofs.Parents.{plan_is, parent_is, plan_line}
 use Rattle.fr_run_contents.specs.Issued.{Entry, entry_of, issued}
 use Rattle.fr_run_contents.specs.Contents.{HasParts, IsTrueCopy, part_records}
 use Rattle.fr_run_contents.specs.Laws.{Laws}
@@ -89,9 +89,9 @@ seeded_has laws c h config run copies e i l named empty from s sent tag below = 
     of_plan : (b : ℕ) (r : RecState) (q : Plan) → rec_at c h b ≡ Some r → r.plan ≡ Some q → is_complete q.tail ≡ true → e ≡ b → s ≡ seed_for q.tail r.ballot q.generation.m q.generation.k i
         → records_of now tag ≡ cond (is_held tag l.m l.k i) (part_records c h e tag (s.first - 1) (durable_of now)) []
     of_plan b r q at planned complete here is =
-        let states = (recoverers_have_states laws.nodes c h config run b r at).plan q planned in
-        let p : Parent = states.1.0 in
-        let parent : r.parent ≡ Some p = states.1.1 in
+        let line = plan_line laws.nodes c h config run b r q at planned in
+        let p : Parent = line.parent in
+        let parent : r.parent ≡ Some p = line.is in
         let copy = copies b r p q at parent planned in
         let pe = p.last.epoch in
         let inside : tag < length q.tail.parts = subst (λ n. tag < n) (sym copy.tags) below in

@@ -3,7 +3,7 @@ use Rattle.std.proofs.Common.{◌≡◌, ℕ, ◌<◌, ◌≤◌, true, false, L
 use Rattle.std.specs.Prelude.{IfSome, IsSome}
 use Rattle.std.specs.List.{All, Contains}
 use Rattle.std.proofs.lemmas.List.Elements.{All-nil, All-weaker, Contains-append_left, Contains-append_right, Contains-push_cases}
-use Rattle.fr_state.specs.Generations.{LogGeneration, CoordinatedState}
+use Rattle.fr_state.specs.Generations.{LogGeneration}
 use Rattle.fr_log.specs.LogState.{durable_of}
 use Rattle.fr_epoch.specs.declared.reply.Reply.{Reply}
 use Rattle.fr_epoch.specs.EndTally.{EndState, new_end, is_covered, rv_of}
@@ -16,13 +16,13 @@ use Rattle.fr_run.specs.Turn.{Turn}
 use Rattle.fr_run.specs.Nodes.{rec_at, generation_at, logs_at, log_at}
 use Rattle.fr_run.specs.Run.{IsRun}
 use Rattle.fr_run.specs.Laws.{Laws}
-use Rattle.fr_run.specs.States.{state_of}
+use Rattle.fr_run.specs.States.{line_of}
 use Rattle.fr_run.specs.StateLaws.{IsConfig}
 use Rattle.fr_run.proofs.ByTurn.{rec_by_turn}
 use Rattle.fr_run.proofs.Cells.{Contains-here}
-use Rattle.fr_run.proofs.States.{chosen_is_front}
 use Rattle.fr_run.proofs.Chosen.{open_is_chosen, first_is_least}
-use Rattle.fr_run.proofs.Parents.{IsOfParent, parent_is, planned_by}
+use Rattle.fr_run.specs.LineLaws.{IsOfParent}
+use Rattle.fr_run.proofs.Parents.{parent_is, planned_by, chosen_is_front}
 use Rattle.fr_run_versions.specs.Bounds.{IsBelow}
 use Rattle.fr_run_versions.specs.LogLaws.{tally_in, tally, StandsAt}
 use Rattle.fr_run_versions.specs.BoundLaws.{RepliesAgree}
@@ -86,12 +86,12 @@ covered_agree laws c h run b r at covered = (let k = covered_parent laws c h run
 
 -- what is below in a generation that a recoverer took over, each seeded log of the last one holds
 below_is_held : Laws → (c : Config) (h : List Turn) → IsConfig c → IsRun c h → (b : ℕ) (r : RecState) (p : Parent) → rec_at c h b ≡ Some r → r.parent ≡ Some p
-    → (g : LogGeneration) → Contains p.state.gens g → (v : ℕ) → IsBelow c h g.epoch v → (i : ℕ) → i < logs_at c h p.last.epoch → IsSome (log_at c h p.last.epoch i).seed → v ≤ durable_of (log_at c h p.last.epoch i)
-below_is_held laws c h config run b r p at parent g there v below i here seeded = elim (Contains-push_cases k.behind p.last g (subst (λ xs. Contains xs g) gens there)) [
+    → (g : LogGeneration) → Contains (line_of c h p.last.epoch) g → (v : ℕ) → IsBelow c h g.epoch v → (i : ℕ) → i < logs_at c h p.last.epoch → IsSome (log_at c h p.last.epoch i).seed → v ≤ durable_of (log_at c h p.last.epoch i)
+below_is_held laws c h config run b r p at parent g there v below i here seeded = elim (Contains-push_cases k.behind p.last g (subst (λ xs. Contains xs g) k.is there)) [
   | inl behind ↦ (
       let j = stands_in k.behind g behind in
       let own : List LogGeneration = p.last ∷ [] in
-      let is : (state_of c h p.last.epoch).gens ≡ j.front ++ g ∷ (j.rest ++ own) = k.is ∙ ap (λ xs. xs ++ own) j.is ∙ append_assoc j.front (g ∷ j.rest) own in
+      let is : line_of c h p.last.epoch ≡ j.front ++ g ∷ (j.rest ++ own) = k.is ∙ ap (λ xs. xs ++ own) j.is ∙ append_assoc j.front (g ∷ j.rest) own in
       let held = below_is_held_behind laws c h config run p.last.epoch p.last of.generation j.front g p.last (j.rest ++ own) is (Contains-append_right j.rest own p.last (Contains-here p.last [])) v below in
       held.1 i here seeded)
   | inr last ↦ (
@@ -105,12 +105,9 @@ below_is_held laws c h config run b r p at parent g there v below i here seeded 
     k : IsState c h p.last.epoch p.last
     k = state_is laws c h config run p.last.epoch p.last of.generation
 
-    gens : p.state.gens ≡ k.behind ++ p.last ∷ []
-    gens = ap (λ (s : CoordinatedState). s.gens) (sym of.state) ∙ k.is
-
 -- so each log that replied does
 below_in_replies : Laws → (c : Config) (h : List Turn) → IsConfig c → IsRun c h → (b : ℕ) (r : RecState) (p : Parent) → rec_at c h b ≡ Some r → r.parent ≡ Some p
-    → (g : LogGeneration) → Contains p.state.gens g → (v : ℕ) → IsBelow c h g.epoch v → All (λ x. v ≤ x.durable) (tally r).replies
+    → (g : LogGeneration) → Contains (line_of c h p.last.epoch) g → (v : ℕ) → IsBelow c h g.epoch v → All (λ x. v ≤ x.durable) (tally r).replies
 below_in_replies laws c h config run b r p at parent g there v below =
     All-weaker (λ x. StandsAt c h p.last.epoch x.log x.durable x.known) (λ x. v ≤ x.durable)
     (λ x s. (let l = below_is_held laws c h config run b r p at parent g there v below x.log s.there s.seeded in omega (arith, l, s.durable_is)))
@@ -123,7 +120,7 @@ below_is_replied laws c h config run e chosen g there v below b r at less = go r
     go None none = subst (λ (s : EndState). All (λ x. v ≤ x.durable) s.replies) (sym (untallied laws c h run b r at none)) (All-nil (λ (x : Reply). v ≤ x.durable))
     go (Some p) parent =
         let front = chosen_is_front laws c h config run e b r p chosen at parent less in
-        let here : Contains p.state.gens g = subst (λ xs. Contains xs g) front.1 (Contains-append_left (state_of c h e).gens front.0 g there) in
+        let here : Contains (line_of c h p.last.epoch) g = subst (λ xs. Contains xs g) front.1 (Contains-append_left (line_of c h e) front.0 g there) in
         below_in_replies laws c h config run b r p at parent g here v below
 
 -- ---- what is taken over

@@ -13,16 +13,17 @@ use Rattle.fr_run.specs.Nodes.{rec_at, generation_at, logs_at, log_at}
 use Rattle.fr_run.specs.Run.{IsRun}
 use Rattle.fr_run_versions.specs.Bounds.{IsSeedAt, TakesOver, AreTakenOver, IsLine}
 use Rattle.fr_run.specs.Laws.{Laws}
+use Rattle.fr_run.specs.States.{line_of}
 use Rattle.fr_run.specs.StateLaws.{IsConfig}
 use Rattle.fr_run_versions.specs.LogLaws.{tally, StandsAt}
-use Rattle.fr_run_versions.specs.BoundLaws.{BelowIsHeldLater, AcknowledgedIsHeldLater}
+use Rattle.fr_run_versions.specs.BoundLaws.{PlansAreLines, BelowIsHeldLater, AcknowledgedIsHeldLater}
 use Rattle.fr_run_versions.proofs.Acks.{acknowledged_is_safe}
 use Rattle.fr_run.proofs.Growth.{rec_is}
 use Rattle.fr_run.proofs.Cells.{Contains-later}
 use Rattle.fr_run.proofs.Register.{has_found}
 use Rattle.fr_run.proofs.States.{last_is, recoverers_have_states}
 use Rattle.fr_run.proofs.Chosen.{generation_planned}
-use Rattle.fr_run.proofs.Parents.{plan_is, parent_comes}
+use Rattle.fr_run.proofs.Parents.{plan_is, parent_is, parent_is_planned, plan_line}
 use Rattle.fr_run_versions.proofs.Locks.{replies_stand_still}
 use Rattle.fr_run_versions.proofs.Ends.{end_is_of_replies}
 use Rattle.fr_run_versions.proofs.Tells.{from_start}
@@ -79,23 +80,22 @@ first_line c h = record {
 
 -- ---- all generations, by the ballot
 
-lines : Laws → (c : Config) (h : List Turn) → IsConfig c → IsRun c h → (n b : ℕ) → b < n → (r : RecState) (q : Plan) → rec_at c h b ≡ Some r → r.plan ≡ Some q → IsLine c h q.state.gens
+lines : Laws → (c : Config) (h : List Turn) → IsConfig c → IsRun c h → (n b : ℕ) → b < n → (r : RecState) (q : Plan) → rec_at c h b ≡ Some r → r.plan ≡ Some q → IsLine c h (line_of c h b)
 lines laws c h config run zero b l r q at planned = absurd (omega (arith, l))
 lines laws c h config run (suc n) b l r q at planned =
-    let state = (recoverers_have_states laws c h config run b r at).plan q planned in
-    let p : Parent = state.1.0 in
-    let parent : r.parent ≡ Some p = state.1.1 in
-    let before : IsLine c h p.state.gens = elim (parent_comes laws c h config run b r p at parent) [
-      | inl first ↦ subst (λ (s : CoordinatedState). IsLine c h s.gens) first (first_line c h)
-      | inr k ↦ subst (λ (s : CoordinatedState). IsLine c h s.gens) k.is (lines laws c h config run n k.ballot (let low = k.below in omega (arith, l, low)) k.recoverer k.plan k.at k.planned)
+    let k = plan_line laws c h config run b r q at planned in
+    let p : Parent = k.parent in
+    let parent : r.parent ≡ Some p = k.is in
+    let of = parent_is laws c h config run b r p at parent in
+    let before : IsLine c h (line_of c h p.last.epoch) = elim (parent_is_planned laws c h config run b r p at parent) [
+      | inl first ↦ subst (λ e. IsLine c h (line_of c h e)) (sym first) (first_line c h)
+      | inr j ↦ lines laws c h config run n p.last.epoch (let low = j.below in omega (arith, l, low)) j.recoverer j.plan j.at j.planned
     ] in
-    let last : last_of p.state.gens ≡ Some p.last = ((has_found laws c h run b r at).found p parent).last in
-    let own : generation_at c h p.last.epoch ≡ Some p.last = last_is (λ x. generation_at c h x.epoch ≡ Some x) p.state.gens p.last last before.each in
     let is = plan_is laws c h run b r at q planned in
     let mine : generation_at c h q.generation.epoch ≡ Some q.generation = subst (λ y. generation_at c h y ≡ Some q.generation) (sym (is.epoch ∙ (rec_is laws c h run b r at).ballot)) (generation_planned laws c h run b r at q planned) in
-    subst (IsLine c h) (sym state.1.2) (line_more c h p.state.gens p.last q.generation last (seed_rises laws c h run b r p q at parent planned own) (λ v below. below_is_taken_over laws c h run b r p q at parent planned v below) mine before)
+    subst (IsLine c h) (sym k.line) (line_more c h (line_of c h p.last.epoch) p.last q.generation of.last (seed_rises laws c h run b r p q at parent planned of.generation) (λ v below. below_is_taken_over laws c h run b r p q at parent planned v below) mine before)
 
-pub plans_are_lines : Laws → (c : Config) (h : List Turn) → IsConfig c → IsRun c h → (b : ℕ) (r : RecState) (q : Plan) → rec_at c h b ≡ Some r → r.plan ≡ Some q → IsLine c h q.state.gens
+pub plans_are_lines : Laws → PlansAreLines
 plans_are_lines laws c h config run b r q at planned = lines laws c h config run (suc b) b (omega arith) r q at planned
 
 -- ---- later generations

@@ -8,7 +8,7 @@ use Rattle.fr_run.specs.Turn.{Turn}
 use Rattle.fr_run.specs.Nodes.{rec_at, generation_at}
 use Rattle.fr_run.specs.Run.{IsRun}
 use Rattle.fr_run.specs.Batches.{IsAcknowledged}
-use Rattle.fr_run.specs.States.{state_of, IsChosenEpoch}
+use Rattle.fr_run.specs.States.{line_of, IsChosenEpoch}
 use Rattle.fr_run.specs.StateLaws.{IsConfig}
 use Rattle.fr_run_versions.specs.Bounds.{IsBelow}
 use Rattle.fr_run_versions.specs.LogLaws.{tally}
@@ -17,27 +17,27 @@ use Rattle.fr_run_versions.specs.SeededLaws.{IsSeededEpoch}
 
 -- ---- generations
 
--- the generations of an epoch's state: in order, each its own epoch's, the last one the epoch's
+-- the line of an epoch: in order, each generation its own epoch's, the last one the epoch's
 pub record HasGenerations (c : Config) (h : List Turn) (e : ℕ) (g : LogGeneration) : Type 0 where
   pub own : g.epoch ≡ e
-  pub last : last_of (state_of c h e).gens ≡ Some g
-  pub ordered : AreOrdered (state_of c h e).gens
-  pub each : All (λ x. generation_at c h x.epoch ≡ Some x) (state_of c h e).gens
+  pub last : last_of (line_of c h e) ≡ Some g
+  pub ordered : AreOrdered (line_of c h e)
+  pub each : All (λ x. generation_at c h x.epoch ≡ Some x) (line_of c h e)
 
 abbrev pub GenerationsAreOwn : Type 0
 GenerationsAreOwn = (c : Config) (h : List Turn) → IsConfig c → IsRun c h → (e : ℕ) (g : LogGeneration) → generation_at c h e ≡ Some g → HasGenerations c h e g
 
--- the front of them through any one is the state of that one's epoch
+-- the front of a line through any generation is the line of that one's epoch
 abbrev pub FrontIsState : Type 0
 FrontIsState =
     (c : Config) (h : List Turn) → IsConfig c → IsRun c h → (e : ℕ) (own : LogGeneration) → generation_at c h e ≡ Some own
-    → (front : List LogGeneration) (g : LogGeneration) (rest : List LogGeneration) → (state_of c h e).gens ≡ front ++ g ∷ rest → (state_of c h g.epoch).gens ≡ front ++ g ∷ []
+    → (front : List LogGeneration) (g : LogGeneration) (rest : List LogGeneration) → line_of c h e ≡ front ++ g ∷ rest → line_of c h g.epoch ≡ front ++ g ∷ []
 
 -- and the epoch of each but the last is seeded, chosen or not
 abbrev pub BehindIsSeeded : Type 0
 BehindIsSeeded =
     (c : Config) (h : List Turn) → IsConfig c → IsRun c h → (e : ℕ) (own : LogGeneration) → generation_at c h e ≡ Some own
-    → (front : List LogGeneration) (g next : LogGeneration) (rest : List LogGeneration) → (state_of c h e).gens ≡ front ++ g ∷ next ∷ rest → IsSeededEpoch c h g.epoch
+    → (front : List LogGeneration) (g next : LogGeneration) (rest : List LogGeneration) → line_of c h e ≡ front ++ g ∷ next ∷ rest → IsSeededEpoch c h g.epoch
 
 -- ---- what is taken over
 
@@ -45,13 +45,13 @@ BehindIsSeeded =
 abbrev pub BelowIsHeldBehind : Type 0
 BelowIsHeldBehind =
     (c : Config) (h : List Turn) → IsConfig c → IsRun c h → (e : ℕ) (own : LogGeneration) → generation_at c h e ≡ Some own
-    → (front : List LogGeneration) (g n : LogGeneration) (rest : List LogGeneration) → (state_of c h e).gens ≡ front ++ g ∷ rest → Contains rest n → (v : ℕ) → IsBelow c h g.epoch v → IsHeldIn c h n v
+    → (front : List LogGeneration) (g n : LogGeneration) (rest : List LogGeneration) → line_of c h e ≡ front ++ g ∷ rest → Contains rest n → (v : ℕ) → IsBelow c h g.epoch v → IsHeldIn c h n v
 
 -- and is below in the epoch, if that is seeded
 abbrev pub BelowStaysBelow : Type 0
 BelowStaysBelow =
     (c : Config) (h : List Turn) → IsConfig c → IsRun c h → (e : ℕ) → IsSeededEpoch c h e
-    → (g : LogGeneration) → Contains (state_of c h e).gens g → (v : ℕ) → IsBelow c h g.epoch v → IsBelow c h e v
+    → (g : LogGeneration) → Contains (line_of c h e) g → (v : ℕ) → IsBelow c h g.epoch v → IsBelow c h e v
 
 -- so is what is below in a chosen epoch in each later one that is chosen
 abbrev pub ChosenStaysBelow : Type 0
@@ -78,11 +78,11 @@ pub record IsTakenOver (c : Config) (h : List Turn) (e v : ℕ) : Type 0 where
 -- what is below in a generation of a chosen epoch each log that replies to a later recoverer holds, so it is taken over
 abbrev pub BelowIsReplied : Type 0
 BelowIsReplied =
-    (c : Config) (h : List Turn) → IsConfig c → IsRun c h → (e : ℕ) → IsChosenEpoch c h e → (g : LogGeneration) → Contains (state_of c h e).gens g → (v : ℕ) → IsBelow c h g.epoch v → IsReplied c h e v
+    (c : Config) (h : List Turn) → IsConfig c → IsRun c h → (e : ℕ) → IsChosenEpoch c h e → (g : LogGeneration) → Contains (line_of c h e) g → (v : ℕ) → IsBelow c h g.epoch v → IsReplied c h e v
 
 abbrev pub BelowIsRecovered : Type 0
 BelowIsRecovered =
-    (c : Config) (h : List Turn) → IsConfig c → IsRun c h → (e : ℕ) → IsChosenEpoch c h e → (g : LogGeneration) → Contains (state_of c h e).gens g → (v : ℕ) → IsBelow c h g.epoch v → IsTakenOver c h e v
+    (c : Config) (h : List Turn) → IsConfig c → IsRun c h → (e : ℕ) → IsChosenEpoch c h e → (g : LogGeneration) → Contains (line_of c h e) g → (v : ℕ) → IsBelow c h g.epoch v → IsTakenOver c h e v
 
 -- so is what was acknowledged in any epoch
 abbrev pub AcknowledgedIsReplied : Type 0
