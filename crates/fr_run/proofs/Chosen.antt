@@ -22,7 +22,7 @@ use Rattle.fr_run.specs.Laws.{Laws}
 use Rattle.fr_run.proofs.Growth.{rec_is, plan_grows, generation_stays, opener}
 use Rattle.fr_run.proofs.Cells.{cell_turns_stay, written_is_state}
 use Rattle.fr_run.proofs.Register.{run_has_parents}
-use Rattle.fr_run.proofs.States.{recoverers_have_states, chosen_is_front, front_itself}
+use Rattle.fr_run.proofs.States.{recoverers_have_states, chosen_in_parent, front_itself}
 use Rattle.fr_run.proofs.Votes.{pair_in, has_votes}
 
 -- ---- plans as epochs
@@ -128,7 +128,7 @@ chosen_is_before laws c h config run a b low high less = elim (chosen_is_written
   | inr k ↦ (
       let plan = (recoverers_have_states laws c h config run b k.recoverer k.at).plan k.plan k.planned in
       let own : List LogGeneration = k.plan.generation ∷ [] in
-      let front = chosen_is_front laws c h config run a b k.recoverer plan.1.0 low k.at plan.1.1 less in
+      let front = chosen_in_parent laws c h config run a b k.recoverer plan.1.0 low k.at plan.1.1 less in
       let here : (state_of c h b).gens ≡ k.plan.state.gens = ap (λ (s : CoordinatedState). s.gens) (state_planned laws c h run b k.recoverer k.at k.plan k.planned) in
       record {
         between = front.0;

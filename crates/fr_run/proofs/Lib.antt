@@ -6,3 +6,4 @@ pub mod Register
 pub mod States
 pub mod Votes
 pub mod Chosen
+pub mod Parents

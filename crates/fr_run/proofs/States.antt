@@ -26,10 +26,10 @@ use Rattle.fr_epoch.specs.Law.{IsRecoverer}
 use Rattle.fr_run.specs.Config.{Config, first_epoch, first_generation, first_state, first_cell}
 use Rattle.fr_run.specs.Turn.{Turn, Told, cell_turns}
 use Rattle.fr_run.specs.Nodes.{rec_at, plan_in, plan_at}
-use Rattle.fr_run.specs.States.{state_in, state_of, pair_of}
+use Rattle.fr_run.specs.States.{state_in, state_of, pair_of, IsChosenEpoch}
 use Rattle.fr_run.specs.Run.{IsRun}
 use Rattle.fr_run.specs.Laws.{Laws}
-use Rattle.fr_run.specs.StateLaws.{IsConfig, IsFrontOf, HasStates, RecoverersHaveStates, ChosenIsFront}
+use Rattle.fr_run.specs.StateLaws.{IsConfig, IsFrontOf, HasStates, RecoverersHaveStates}
 use Rattle.fr_run.specs.ParentLaws.{greatest_in, parent_at}
 use Rattle.fr_run.proofs.ByTurn.{rec_by_turn}
 use Rattle.fr_run.proofs.Growth.{rec_is}
@@ -221,8 +221,9 @@ state_is laws c h config run e = go (e == first_epoch)
     go true = first_is c config
     go false = planned (rec_at c h e) refl (plan_at c h e) refl
 
-pub chosen_is_front : Laws → ChosenIsFront
-chosen_is_front laws c h config run a b r p chosen at e l =
+-- what a recoverer took over has the line of each chosen epoch of a lower ballot in front
+pub chosen_in_parent : Laws → (c : Config) (h : List Turn) → IsConfig c → IsRun c h → (a b : ℕ) (r : RecState) (p : Parent) → IsChosenEpoch c h a → rec_at c h b ≡ Some r → r.parent ≡ Some p → a < b → IsFrontOf (state_of c h a).gens p.state.gens
+chosen_in_parent laws c h config run a b r p chosen at e l =
     let par = (recoverers_have_states laws c h config run b r at).parent p e in
     let d = parents_descend laws c h run (pair_of c h a) b r p chosen at e l in
     let greatest : (parent_at c h b).value ≡ spelling p.state = ap (λ o. (greatest_in o).value) at ∙ par.1 in

@@ -5,7 +5,7 @@ use Rattle.fr_run.specs.Config.{Config, first_epoch}
 use Rattle.fr_run.specs.Turn.{Turn}
 use Rattle.fr_run.specs.Nodes.{generation_at, is_open}
 use Rattle.fr_run.specs.Run.{IsTurn, IsRun}
-use Rattle.fr_run.specs.States.{state_of, pair_of, IsChosenEpoch}
+use Rattle.fr_run.specs.States.{state_of, line_of, pair_of, IsChosenEpoch}
 use Rattle.fr_run.specs.CellLaws.{IsWriter}
 use Rattle.fr_run.specs.StateLaws.{IsConfig, IsFrontOf}
 
@@ -49,19 +49,19 @@ ChosenLasts =
 
 -- ---- one chain
 
--- the state of an epoch is that of a lower one with more generations, of which the epoch's own is the last
+-- the line of an epoch is that of a lower one with more generations, of which the epoch's own is the last
 pub record IsBefore (c : Config) (h : List Turn) (a b : ℕ) : Type 0 where
   pub between : List LogGeneration
   pub own : LogGeneration
   pub of : generation_at c h b ≡ Some own
-  pub is : (state_of c h a).gens ++ (between ++ own ∷ []) ≡ (state_of c h b).gens
+  pub is : line_of c h a ++ (between ++ own ∷ []) ≡ line_of c h b
 
 -- so is that of a chosen epoch and of each lower one that is chosen
 abbrev pub ChosenIsBefore : Type 0
 ChosenIsBefore = (c : Config) (h : List Turn) → IsConfig c → IsRun c h → (a b : ℕ) → IsChosenEpoch c h a → IsChosenEpoch c h b → a < b → IsBefore c h a b
 
--- of two chosen epochs the lower one's generations are the front of the other's
+-- of two chosen epochs the lower one's line is the front of the other's
 abbrev pub ChosenAreChain : Type 0
 ChosenAreChain =
     (c : Config) (h : List Turn) → IsConfig c → IsRun c h → (a b : ℕ) → IsChosenEpoch c h a → IsChosenEpoch c h b → a ≤ b
-    → IsFrontOf (state_of c h a).gens (state_of c h b).gens
+    → IsFrontOf (line_of c h a) (line_of c h b)

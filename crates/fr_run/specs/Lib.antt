@@ -11,3 +11,4 @@ pub mod ParentLaws
 pub mod StateLaws
 pub mod ChosenLaws
 pub mod Laws
+pub mod LineLaws

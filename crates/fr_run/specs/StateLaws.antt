@@ -7,7 +7,7 @@ use Rattle.fr_run.specs.Config.{Config}
 use Rattle.fr_run.specs.Turn.{Turn}
 use Rattle.fr_run.specs.Nodes.{rec_at}
 use Rattle.fr_run.specs.Run.{IsRun}
-use Rattle.fr_run.specs.States.{state_of, IsChosenEpoch}
+use Rattle.fr_run.specs.States.{line_of, IsChosenEpoch}
 
 -- the limits of a config: k and m of a generation
 pub record IsConfig (c : Config) : Type 0 where
@@ -27,8 +27,8 @@ pub record HasStates (r : RecState) : Type 0 where
 abbrev pub RecoverersHaveStates : Type 0
 RecoverersHaveStates = (c : Config) (h : List Turn) → IsConfig c → IsRun c h → (b : ℕ) (r : RecState) → rec_at c h b ≡ Some r → HasStates r
 
--- the generations of a chosen epoch are the front of the parent's of each recoverer of a greater ballot
+-- the line of a chosen epoch is the front of the line that each recoverer of a greater ballot goes on from
 abbrev pub ChosenIsFront : Type 0
 ChosenIsFront =
     (c : Config) (h : List Turn) → IsConfig c → IsRun c h → (a b : ℕ) (r : RecState) (p : Parent) → IsChosenEpoch c h a → rec_at c h b ≡ Some r → r.parent ≡ Some p → a < b
-    → IsFrontOf (state_of c h a).gens p.state.gens
+    → IsFrontOf (line_of c h a) (line_of c h p.last.epoch)

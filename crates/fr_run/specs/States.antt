@@ -2,7 +2,7 @@
 use Rattle.std.specs.Prelude.{◌≤◌, ℕ, ◌==◌, List, Option, None, Some, if◌then◌else◌}
 use Rattle.fr_register.specs.Poll.{Stamped}
 use Rattle.fr_register.specs.Chosen.{IsChosen}
-use Rattle.fr_state.specs.Generations.{CoordinatedState}
+use Rattle.fr_state.specs.Generations.{LogGeneration, CoordinatedState}
 use Rattle.fr_state.specs.Spelling.{spelling}
 use Rattle.fr_epoch.specs.Recoverer.{Plan}
 use Rattle.fr_run.specs.Config.{Config, first_epoch, first_state, first_cell}
@@ -16,6 +16,10 @@ state_in c (Some p) = p.state
 
 abbrev pub state_of : Config → List Turn → ℕ → CoordinatedState
 state_of c h e = if e == first_epoch then first_state c else state_in c (plan_at c h e)
+
+-- the line of an epoch: its generations, from the first one to its own
+abbrev pub line_of : Config → List Turn → ℕ → List LogGeneration
+line_of c h e = (state_of c h e).gens
 
 -- the pair that an epoch's ballot writes
 abbrev pub pair_of : Config → List Turn → ℕ → Stamped

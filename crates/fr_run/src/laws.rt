@@ -5,6 +5,7 @@ ghost use Rattle.fr_run.specs.ChosenLaws.{ChosenAreChain, ChosenIsBefore, Chosen
 ghost use Rattle.fr_run.specs.ChosenLaws.{FirstIsChosen, FirstIsLeast, OpenIsChosen, StateLasts, StatesAreWithin};
 ghost use Rattle.fr_run.specs.GrowthLaws.{CellsGrow, LogsGrow, ProxiesGrow, RecoverersGrow};
 ghost use Rattle.fr_run.specs.Laws.{Laws};
+ghost use Rattle.fr_run.specs.LineLaws.{LineOfPlan, ParentIsOfEpoch, ParentIsPlanned};
 ghost use Rattle.fr_run.specs.ParentLaws.{ParentIsGreatest, ParentIsRead, ParentsDescend, RunHasParents};
 ghost use Rattle.fr_run.specs.StateLaws.{ChosenIsFront, RecoverersHaveStates};
 
@@ -96,6 +97,16 @@ pub fn chosen_law()
     ensures lasts { ChosenLasts }
     ensures before { ChosenIsBefore }
     ensures chain { ChosenAreChain }
+{
+    node_laws();
+}
+
+/// What a recoverer took over is the state of the epoch that it ends: the first, or one that a lower ballot planned and
+/// might write. The line of its own plan is that epoch's, with one generation more.
+pub fn line_law()
+    ensures parent { ParentIsOfEpoch }
+    ensures planned { ParentIsPlanned }
+    ensures plan { LineOfPlan }
 {
     node_laws();
 }

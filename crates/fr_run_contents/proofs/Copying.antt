@@ -37,7 +37,7 @@ use Rattle.fr_run_contents.specs.Contents.{IsTrueCopy, IsTrueTell, part_records}
 use Rattle.fr_run_contents.specs.Laws.{Laws}
 use Rattle.fr_run_contents.proofs.PeekLists.{record_of, records_are_whole}
 use Rattle.fr_run_contents.proofs.Parts.{issued_rises, part_lasts}
-use Rattle.fr_run_contents.proofs.Parents.{parent_is}
+use Rattle.fr_run.proofs.Parents.{parent_is}
 use Rattle.fr_run_contents.proofs.Stays.{top_rises}
 
 -- a copy is true, of an epoch that is planned and was numbered through the copy's end

@@ -33,7 +33,8 @@ use Rattle.fr_run_versions.proofs.Ends.{end_is_of_replies}
 use Rattle.fr_run_versions.proofs.Known.{push_is_part}
 use Rattle.fr_run_versions.proofs.LogChanges.{IsTaken}
 use Rattle.fr_run_versions.proofs.Named.{IsNamed}
-use Rattle.fr_run_versions.proofs.Pushes.{plan_is, plan_generation}
+use Rattle.fr_run.proofs.Chosen.{generation_planned}
+use Rattle.fr_run.proofs.Parents.{plan_is, parent_is, plan_line}
 use Rattle.fr_run_contents.specs.Issued.{Entry, entry_of, issued}
 use Rattle.fr_run_contents.specs.Contents.{HasParts, IsTrueCopy, part_records}
 use Rattle.fr_run_contents.specs.Laws.{Laws}
@@ -43,7 +44,7 @@ use Rattle.fr_run_contents.proofs.PushLists.{pushed_is_part, mark_brings_none}
 use Rattle.fr_run_contents.proofs.LogLists.{holds_seed, holds_pushed}
 use Rattle.fr_run_contents.proofs.Parts.{issued_rises}
 use Rattle.fr_run_contents.proofs.Splits.{part_of_number, part_of_mark}
-use Rattle.fr_run_contents.proofs.Parents.{parent_is, part_of_parent}
+use Rattle.fr_run_contents.proofs.Parents.{part_of_parent}
 
 -- ---- generations
 
@@ -88,9 +89,9 @@ seeded_has laws c h config run copies e i l named empty from s sent tag below = 
     of_plan : (b : ℕ) (r : RecState) (q : Plan) → rec_at c h b ≡ Some r → r.plan ≡ Some q → is_complete q.tail ≡ true → e ≡ b → s ≡ seed_for q.tail r.ballot q.generation.m q.generation.k i
         → records_of now tag ≡ cond (is_held tag l.m l.k i) (part_records c h e tag (s.first - 1) (durable_of now)) []
     of_plan b r q at planned complete here is =
-        let states = (recoverers_have_states laws.nodes c h config run b r at).plan q planned in
-        let p : Parent = states.1.0 in
-        let parent : r.parent ≡ Some p = states.1.1 in
+        let line = plan_line laws.nodes c h config run b r q at planned in
+        let p : Parent = line.parent in
+        let parent : r.parent ≡ Some p = line.is in
         let copy = copies b r p q at parent planned in
         let pe = p.last.epoch in
         let inside : tag < length q.tail.parts = subst (λ n. tag < n) (sym copy.tags) below in
@@ -106,7 +107,7 @@ seeded_has laws c h config run copies e i l named empty from s sent tag below = 
         let le : q.tail.pev ≤ q.tail.rv = omega (arith, within, ef, es, pf, ps) in
         let rise : RiseOn (part_at q.tail tag).records = subst RiseOn (sym whole) (records_rise c tag 0 (top_at c h pe) q.tail.pev q.tail.rv (issued c h pe) (issued_rises laws.nodes c h config run pe p.last of.generation) le) in
         let held = holds_seed laws.copy_seeds q.tail r.ballot q.generation.m q.generation.k i tag now (ap Some is) empty rise inside in
-        let mine = plan_generation laws.nodes c h run b r at q planned in
+        let mine = generation_planned laws.nodes c h run b r at q planned in
         let two : Some named.generation ≡ Some q.generation = sym named.of ∙ ap (generation_at c h) here ∙ mine in
         let gen : named.generation ≡ q.generation = cc in
         let m : l.m ≡ q.generation.m = named.m ∙ ap (λ (g : LogGeneration). g.m) gen in
@@ -210,7 +211,7 @@ pushed_has laws c h config run e i l named s seeded starts has q took from sent 
     go (node.Proxy x p) sent k = of_proxy x p (push_is_part laws.nodes c h run x p e i q sent)
     go (node.Recoverer b) sent (r, at, (own, chosen, copied, (p, planned, low, is))) =
         let here : e ≡ b = own ∙ (rec_is laws.nodes c h run b r at).ballot in
-        let mine : generation_at c h e ≡ Some p.generation = ap (generation_at c h) here ∙ plan_generation laws.nodes c h run b r at p planned in
+        let mine : generation_at c h e ≡ Some p.generation = ap (generation_at c h) here ∙ generation_planned laws.nodes c h run b r at p planned in
         let prev : durable_of l ≡ p.generation.seeded_to = sym took.follows ∙ ap (λ (x : PushContent). x.prev) is in
         let version : q.version ≡ p.generation.seeded_to + 1 = ap (λ (x : PushContent). x.version) is in
         let empty = mark_brings_none tag q (ap (λ (x : PushContent). x.bodies) is) in

@@ -9,17 +9,17 @@ use Rattle.fr_run.specs.Config.{Config, first_epoch, first_generation, first_sta
 use Rattle.fr_run.specs.Turn.{Turn}
 use Rattle.fr_run.specs.Nodes.{rec_at, plan_in, plan_at, generation_in, generation_at}
 use Rattle.fr_run.specs.Run.{IsTurn, IsRun}
-use Rattle.fr_run.specs.States.{state_in, state_of}
+use Rattle.fr_run.specs.States.{state_in, state_of, line_of}
 use Rattle.fr_run.specs.StateLaws.{IsConfig}
 use Rattle.fr_run.specs.Laws.{Laws}
 use Rattle.fr_run.proofs.Growth.{rec_is}
 use Rattle.fr_run.proofs.Register.{has_found}
-use Rattle.fr_run.proofs.States.{last_more, recoverers_have_states}
+use Rattle.fr_run.proofs.States.{last_more, state_is}
 use Rattle.fr_run.proofs.Chosen.{state_lasts}
+use Rattle.fr_run.proofs.Parents.{plan_is, parent_is, parent_is_planned, plan_line}
 use Rattle.fr_run_versions.specs.Numbers.{top_at}
-use Rattle.fr_run_versions.proofs.Pushes.{plan_is}
 use Rattle.fr_run_versions.proofs.Ends.{always_chained, seed_is_reached}
-use Rattle.fr_run_versions.proofs.Transport.{parent_comes, plans_are_lines, first_line}
+use Rattle.fr_run_versions.proofs.Transport.{plans_are_lines, first_line}
 use Rattle.fr_run_contents.specs.Issued.{entries}
 use Rattle.fr_run_contents.proofs.IssuedLists.{EntriesRise, GainsAbove, Reaches}
 use Rattle.fr_run_contents.proofs.EntryLists.{entries_rise}
@@ -46,28 +46,27 @@ reaches top (x ∷ y ∷ gens) g upto last l all = (all.0, reaches top (y ∷ ge
 
 -- ---- plans
 
-plans_are_reached : Laws → (c : Config) (h : List Turn) → IsConfig c → IsRun c h → (n b : ℕ) → b < n → (r : RecState) (q : Plan) → rec_at c h b ≡ Some r → r.plan ≡ Some q → AreReached (top_at c h) q.state.gens
+plans_are_reached : Laws → (c : Config) (h : List Turn) → IsConfig c → IsRun c h → (n b : ℕ) → b < n → (r : RecState) (q : Plan) → rec_at c h b ≡ Some r → r.plan ≡ Some q → AreReached (top_at c h) (line_of c h b)
 plans_are_reached laws c h config run zero b l r q at planned = absurd (omega (arith, l))
 plans_are_reached laws c h config run (suc n) b l r q at planned =
-    let state = (recoverers_have_states laws c h config run b r at).plan q planned in
-    let p : Parent = state.1.0 in
-    let parent : r.parent ≡ Some p = state.1.1 in
-    let before : AreReached (top_at c h) p.state.gens = elim (parent_comes laws c h config run b r p at parent) [
-      | inl first ↦ subst (λ (s : CoordinatedState). AreReached (top_at c h) s.gens) first tt
-      | inr k ↦ subst (λ (s : CoordinatedState). AreReached (top_at c h) s.gens) k.is (plans_are_reached laws c h config run n k.ballot (let low = k.below in omega (arith, l, low)) k.recoverer k.plan k.at k.planned)
+    let k = plan_line laws c h config run b r q at planned in
+    let p : Parent = k.parent in
+    let of = parent_is laws c h config run b r p at k.is in
+    let before : AreReached (top_at c h) (line_of c h p.last.epoch) = elim (parent_is_planned laws c h config run b r p at k.is) [
+      | inl first ↦ subst (λ e. AreReached (top_at c h) (line_of c h e)) (sym first) tt
+      | inr j ↦ plans_are_reached laws c h config run n p.last.epoch (let low = j.below in omega (arith, l, low)) j.recoverer j.plan j.at j.planned
     ] in
-    let last : last_of p.state.gens ≡ Some p.last = ((has_found laws c h run b r at).found p parent).last in
-    subst (AreReached (top_at c h)) (sym state.1.2) (reached_more (top_at c h) p.state.gens p.last q.generation last (seed_is_reached laws c h config run b r p q at parent planned) before)
+    subst (AreReached (top_at c h)) (sym k.line) (reached_more (top_at c h) (line_of c h p.last.epoch) p.last q.generation of.last (seed_is_reached laws c h config run b r p q at k.is planned) before)
 
 -- ---- epochs
 
 -- what is true of the generations of an epoch that is planned
 pub record HasList (c : Config) (h : List Turn) (e : ℕ) (g : LogGeneration) : Type 0 where
   pub own : g.epoch ≡ e
-  pub last : last_of (state_of c h e).gens ≡ Some g
-  pub ordered : AreOrdered (state_of c h e).gens
-  pub each : All (λ x. generation_at c h x.epoch ≡ Some x) (state_of c h e).gens
-  pub reached : AreReached (top_at c h) (state_of c h e).gens
+  pub last : last_of (line_of c h e) ≡ Some g
+  pub ordered : AreOrdered (line_of c h e)
+  pub each : All (λ x. generation_at c h x.epoch ≡ Some x) (line_of c h e)
+  pub reached : AreReached (top_at c h) (line_of c h e)
 
 pub planned_list : Laws → (c : Config) (h : List Turn) → IsConfig c → IsRun c h → (e : ℕ) (g : LogGeneration) → generation_at c h e ≡ Some g → HasList c h e g
 planned_list laws c h config run e g at = go (e == first_epoch) refl at
@@ -94,16 +93,13 @@ planned_list laws c h config run e g at = go (e == first_epoch) refl at
         one None planned m = absurd (cc)
         one (Some q) planned m =
             let same : q.generation ≡ g = cc in
-            let is : state_of c h e ≡ q.state = ap (λ b. cond b (first_state c) (state_in c (plan_at c h e))) k ∙ ap (λ o. state_in c (plan_in o)) at ∙ ap (state_in c) planned in
-            let state = (recoverers_have_states laws c h config run e r at).plan q planned in
-            let p : Parent = state.1.0 in
-            let line = plans_are_lines laws c h config run e r q at planned in
+            let line = plan_line laws c h config run e r q at planned in
             record {
               own = ap (λ (x : LogGeneration). x.epoch) (sym same) ∙ (plan_is laws c h run e r at q planned).epoch ∙ (rec_is laws c h run e r at).ballot;
-              last = ap (λ (s : CoordinatedState). last_of s.gens) is ∙ ap last_of state.1.2 ∙ last_more p.state.gens q.generation ∙ ap Some same;
-              ordered = subst (λ (s : CoordinatedState). AreOrdered s.gens) (sym is) state.0.ordered;
-              each = subst (λ (s : CoordinatedState). All (λ x. generation_at c h x.epoch ≡ Some x) s.gens) (sym is) line.each;
-              reached = subst (λ (s : CoordinatedState). AreReached (top_at c h) s.gens) (sym is) (plans_are_reached laws c h config run (suc e) e (omega arith) r q at planned);
+              last = ap last_of line.line ∙ last_more (line_of c h line.parent.last.epoch) q.generation ∙ ap Some same;
+              ordered = (state_is laws c h config run e).ordered;
+              each = (plans_are_lines laws c h config run e r q at planned).each;
+              reached = plans_are_reached laws c h config run (suc e) e (omega arith) r q at planned;
             }
 
     go : (b : Bool) → (e == first_epoch) ≡ b → cond b (Some (first_generation c)) (generation_in (plan_at c h e)) ≡ Some g → HasList c h e g

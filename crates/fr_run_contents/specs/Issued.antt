@@ -1,6 +1,6 @@
 -- What an epoch issues, what of it is a tag's, and what is committed.
 use Rattle.fr_run.specs.Batches.{batch_at}
-use Rattle.fr_run.specs.States.{state_of}
+use Rattle.fr_run.specs.States.{line_of}
 use Rattle.std.specs.Prelude.{ℕ, nat_lt, nat_le, ◌&&◌, List, [], ◌∷◌, ◌++◌, length, map, reverse, filter, fold, min, Option, None, Some, if◌then◌else◌}
 use Rattle.std.specs.List.{range_with_len, filter_map}
 use Rattle.fr_mutation.specs.declared.mutation.Mutation.{Mutation}
@@ -34,7 +34,7 @@ issued_of entries (g ∷ next ∷ gens) = filter (λ x. nat_le x.version next.se
 
 -- what an epoch issued: its predecessors' entries through what each next one was seeded to, then its own
 abbrev pub issued : Config → List Turn → ℕ → List Entry
-issued c h e = issued_of (entries c h) (state_of c h e).gens
+issued c h e = issued_of (entries c h) (line_of c h e)
 
 -- a tag's part of an entry, if it is not empty
 abbrev pub filled : ℕ → List Mutation → Option (ℕ × List Mutation)

@@ -45,7 +45,7 @@ least_start : (f : ℕ → ℕ) (start a n : ℕ) → least_of f start (range_wi
 least_start f start a zero = omega arith
 least_start f start a (suc n) = let k = least_start f (min start (f a)) (a + 1) n in omega (arith, k)
 
-least_each : (f : ℕ → ℕ) (start a n i : ℕ) → a ≤ i → i < a + n → least_of f start (range_with_len a n) ≤ f i
+pub least_each : (f : ℕ → ℕ) (start a n i : ℕ) → a ≤ i → i < a + n → least_of f start (range_with_len a n) ≤ f i
 least_each f start a zero i l u = absurd (omega (arith, l, u))
 least_each f start a (suc n) i l u = elim (cases_lt a i) [
   | inl lt ↦ least_each f (min start (f a)) (a + 1) n i (omega (arith, lt)) (omega (arith, u))

@@ -21,14 +21,14 @@ use Rattle.fr_run.specs.Nodes.{storage_hear, part_hear, storage_after, storage_a
 use Rattle.fr_run.specs.Run.{IsTurn, IsRun, fault_of_log, fault_of, MayBreak}
 use Rattle.fr_run.specs.States.{state_of}
 use Rattle.fr_run.specs.StateLaws.{IsConfig}
-use Rattle.fr_run.proofs.Cells.{Contains-here}
+use Rattle.fr_run.proofs.Cells.{Contains-here, Contains-none, Contains-cases}
 use Rattle.fr_run.proofs.States.{first_is}
 use Rattle.fr_run_contents.proofs.Lists.{planned_state_stays}
 use Rattle.fr_run_contents.proofs.Parts.{part_lasts}
 use Rattle.fr_run_contents.proofs.Stays.{top_rises}
 use Rattle.fr_run_contents.proofs.Truths.{peeks_are_true}
 use Rattle.fr_run_headline.specs.Agreement.{pieces_at}
-use Rattle.fr_run_headline.specs.Storages.{IsStorageOf, StoragesFollow, HearsAreTaken}
+use Rattle.fr_run_headline.specs.Storages.{IsStorageOf, StoragesFollow, HearsAreTaken, EachHearIsTaken}
 use Rattle.fr_run_headline.specs.Laws.{Laws}
 use Rattle.fr_run.proofs.Chosen.{chosen_is_planned, chosen_lasts}
 use Rattle.fr_run_headline.proofs.Agreement.{parts_are_pieces}
@@ -234,3 +234,10 @@ hears_are_taken laws c h tag from u taken fault config run =
     let is = run.0 in
     let inside : tag < length c.begins = ltb-true tag (length c.begins) is.0.actor.there in
     subst IsTakenFault (sym is.1) (taken_tell laws c h config run.1 tag inside (storage_at c h tag) (storages_follow laws c h config run.1 tag) from u is.0.told)
+
+pub each_hear_is_taken : Laws → EachHearIsTaken
+each_hear_is_taken laws c [] config run tag from u taken fault k = absurd (Contains-none k)
+each_hear_is_taken laws c (t ∷ h) config run tag from u taken fault k = elim (Contains-cases t h (StorageHeard tag from u taken fault) k) [
+  | inl now ↦ hears_are_taken laws c h tag from u taken fault config (subst (λ x. IsRun c (x ∷ h)) now run)
+  | inr before ↦ each_hear_is_taken laws c h config run.1 tag from u taken fault before
+]

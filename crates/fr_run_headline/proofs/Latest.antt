@@ -10,16 +10,26 @@ use Rattle.fr_register.specs.Poll.{Stamped}
 use Rattle.fr_register.specs.History as register
 use Rattle.fr_register.specs.Chosen.{IsWrittenByMajority}
 use Rattle.fr_ask.specs.Cells.{is_same_cell_ask, is_same_cell_ask-IsSameness, is_same_cell_tell, is_same_cell_tell-IsSameness}
+use Rattle.fr_log.specs.LogState.{durable_of}
 use Rattle.fr_run.specs.Config.{Config, first_epoch}
 use Rattle.fr_run.specs.Turn.{Turn, cell_turns}
+use Rattle.fr_run.specs.Nodes.{logs_at, log_at}
 use Rattle.fr_run.specs.Run.{IsRun}
 use Rattle.fr_run.specs.States.{pair_of, IsChosenEpoch}
 use Rattle.fr_run.proofs.Cells.{Contains-here, Contains-later, Contains-none, Contains-cases}
 use Rattle.fr_run.proofs.Chosen.{first_is_chosen, chosen_is_planned}
 use Rattle.fr_run.proofs.Growth.{rec_is}
-use Rattle.fr_run_versions.proofs.Behind.{planned_by}
-use Rattle.fr_run_headline.specs.Committed.{LatestIsThere}
+use Rattle.fr_run.proofs.Parents.{planned_by}
+use Rattle.fr_run_versions.specs.Numbers.{top_at}
+use Rattle.fr_run_versions.proofs.Seeds.{chosen_is_seeded}
+use Rattle.fr_run_contents.specs.Issued.{Entry, issued, least_durable, committed}
+use Rattle.fr_run_contents.specs.IssuedLaws.{VersionsRise}
+use Rattle.fr_run_contents.proofs.Versions.{RiseIn, rise_through}
+use Rattle.fr_run_contents.proofs.IssuedLists.{version_of}
+use Rattle.fr_run_contents.proofs.Parts.{issued_rises}
+use Rattle.fr_run_headline.specs.Committed.{LatestIsThere, CommittedIsThere}
 use Rattle.fr_run_headline.specs.Laws.{Laws}
+use Rattle.fr_run_headline.proofs.Durables.{least_each}
 use Rattle.fr_run_headline.proofs.Places.{filter_has}
 
 -- ---- one vote
@@ -175,3 +185,25 @@ pub latest_is_there : Laws → LatestIsThere
 latest_is_there laws c h run =
     let r = search_up c h (2 ^ 48) in
     (r.0, record { chosen = r.1; greatest = λ d k. r.2 d k (chosen_within laws c h run d k) })
+
+-- ---- the committed list
+
+rises : (low high : ℕ) (xs : List Entry) → RiseIn version_of low xs high → VersionsRise low xs high
+rises low high [] k = k
+rises low high (x ∷ xs) (lt, k) = (lt, rises x.version high xs k)
+
+pub committed_is_there : Laws → CommittedIsThere
+committed_is_there laws c h config run =
+    let r = latest_is_there laws c h run in
+    let e = r.0 in
+    let k = chosen_is_seeded laws.contents.nodes c h config run e r.1.chosen in
+    let some = k.some in
+    let logs = k.logs in
+    let kept = rise_through version_of 0 (top_at c h e) (least_durable c h e) (issued c h e) (issued_rises laws.contents.nodes c h config run e k.generation k.of) (omega arith) in
+    record {
+      latest = e;
+      is_latest = r.1;
+      some = omega (arith, some, logs);
+      reached = λ i there. record { there = there; seeded = k.seeded i there; durable = least_each (λ j. durable_of (log_at c h e j)) (durable_of (log_at c h e 0)) 0 (logs_at c h e) i (omega arith) (omega (arith, there)) };
+      rises = rises 0 (least_durable c h e) (committed c h e) kept;
+    }

@@ -20,9 +20,10 @@ use Rattle.fr_run_versions.proofs.Acks.{acknowledged_is_safe}
 use Rattle.fr_run_versions.proofs.Known.{log_known_below}
 use Rattle.fr_run_versions.proofs.Logs.{logs_are_own}
 use Rattle.fr_run_versions.proofs.Marks.{logs_are_marked}
+use Rattle.fr_run_versions.proofs.Replies.{below_is_recovered}
 use Rattle.fr_run_contents.proofs.Lists.{planned_list}
 use Rattle.fr_run_headline.specs.Storages.{IsSafeFloor}
-use Rattle.fr_run_headline.specs.Order.{IsNeverCut, KnownIsNeverCut, AcknowledgedIsNeverCut, FloorIsNeverCut, HeldIsChosen}
+use Rattle.fr_run_headline.specs.Order.{IsNeverCut, KnownIsNeverCut, AcknowledgedIsNeverCut, FloorIsNeverCut, FloorIsTakenOver, HeldIsChosen}
 use Rattle.fr_run_headline.specs.Laws.{Laws}
 use Rattle.fr_run_headline.proofs.Floors.{floor_within_cut}
 use Rattle.fr_run_headline.proofs.Following.{storages_follow}
@@ -55,6 +56,13 @@ floor_is_never_cut laws c h config run tag x g at =
     let s = storage_at c h tag in
     let k = storages_follow laws c h config run tag in
     floor_within_cut laws c h config run x (own_epoch s.state) g at s.store.floor (subst (λ (y : CoordinatedState). IsSafeFloor c h y.gens s.store.floor) k.state k.floor)
+
+pub floor_is_taken_over : Laws → FloorIsTakenOver
+floor_is_taken_over laws c h config run tag =
+    let s = storage_at c h tag in
+    let k = storages_follow laws c h config run tag in
+    let safe : IsSafeFloor c h (state_of c h (own_epoch s.state)).gens s.store.floor = subst (λ (y : CoordinatedState). IsSafeFloor c h y.gens s.store.floor) k.state k.floor in
+    below_is_recovered laws.contents.nodes c h config run (own_epoch s.state) k.chosen safe.generation safe.there s.store.floor safe.below
 
 pub held_is_chosen : Laws → HeldIsChosen
 held_is_chosen laws c h config run e i q there held =

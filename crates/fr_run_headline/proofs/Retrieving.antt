@@ -30,7 +30,9 @@ use Rattle.fr_run.proofs.States.{last_more, recoverers_have_states, state_is}
 use Rattle.fr_run_versions.specs.Bounds.{HasReached, AllReach, IsSeedAt}
 use Rattle.fr_run_versions.specs.LogLaws.{tally, StandsAt}
 use Rattle.fr_run_versions.specs.SeededLaws.{IsSeededEpoch}
-use Rattle.fr_run_versions.proofs.Behind.{planned_by, front_is_state, behind_is_seeded}
+use Rattle.fr_run.specs.States.{line_of}
+use Rattle.fr_run.proofs.Parents.{parent_is, plan_line, planned_by}
+use Rattle.fr_run_versions.proofs.Behind.{front_is_state, behind_is_seeded}
 use Rattle.fr_run_versions.proofs.Ends.{end_is_of_replies}
 use Rattle.fr_run_versions.proofs.Known.{logs_know}
 use Rattle.fr_run_versions.proofs.Locks.{replies_stand_still}
@@ -116,12 +118,12 @@ end_is_reached laws c h config run e g at front own next rest is i there seeded 
 
     by_plan : (r : RecState) → rec_at c h next.epoch ≡ Some r → (q : Plan) → r.plan ≡ Some q → q.generation ≡ next → next.first ≤ durable_of (log_at c h own.epoch i) + 1
     by_plan r here q planned same =
-        let states = (recoverers_have_states laws.contents.nodes c h config run next.epoch r here).plan q planned in
-        let p : Parent = states.1.0 in
-        let parent : r.parent ≡ Some p = states.1.1 in
-        let gens : (front ++ own ∷ []) ++ next ∷ [] ≡ p.state.gens ++ q.generation ∷ [] = sym mine ∙ ap (λ (s : CoordinatedState). s.gens) (state_planned laws.contents.nodes c h run next.epoch r here q planned) ∙ states.1.2 in
-        let behind : front ++ own ∷ [] ≡ p.state.gens = (same_from_push (front ++ own ∷ []) p.state.gens next q.generation gens).0 in
-        let found : last_of p.state.gens ≡ Some p.last = ((has_found laws.contents.nodes c h run next.epoch r here).found p parent).last in
+        let line = plan_line laws.contents.nodes c h config run next.epoch r q here planned in
+        let p : Parent = line.parent in
+        let parent : r.parent ≡ Some p = line.is in
+        let gens : (front ++ own ∷ []) ++ next ∷ [] ≡ line_of c h p.last.epoch ++ q.generation ∷ [] = sym mine ∙ line.line in
+        let behind : front ++ own ∷ [] ≡ line_of c h p.last.epoch = (same_from_push (front ++ own ∷ []) (line_of c h p.last.epoch) next q.generation gens).0 in
+        let found : last_of (line_of c h p.last.epoch) ≡ Some p.last = (parent_is laws.contents.nodes c h config run next.epoch r p here parent).last in
         let lasts : Some own ≡ Some p.last = sym (last_more front own) ∙ ap last_of behind ∙ found in
         let last : own ≡ p.last = cc in
         let epoch : own.epoch ≡ p.last.epoch = ap (λ (x : LogGeneration). x.epoch) last in

@@ -17,13 +17,13 @@ use Rattle.fr_run_contents.proofs.Versions.{through, between, through_on, throug
 use Rattle.fr_run_contents.proofs.IssuedLists.{version_of}
 use Rattle.fr_run_contents.proofs.Lists.{planned_list}
 use Rattle.fr_run_contents.proofs.Parts.{issued_rises}
-use Rattle.fr_run_headline.specs.Committed.{IsAcknowledgedBatch, commit_at, Stands, IsNeverUndone, AcknowledgedIsNeverUndone, CommittedGrows}
+use Rattle.fr_run_headline.specs.Committed.{IsAcknowledgedBatch, commit_at, Stands, IsNeverUndone, AcknowledgedIsNeverUndone, AcknowledgedIsCommitted, CommittedGrows}
 use Rattle.fr_run_headline.specs.Headline.{Headline}
 use Rattle.fr_run_headline.specs.Laws.{Laws}
 use Rattle.fr_run.proofs.Chosen.{open_is_chosen, chosen_is_planned}
 use Rattle.fr_run_headline.proofs.Places.{entries_have, issued_has, last_place, same_has}
 use Rattle.fr_run_headline.proofs.Keeping.{HasIn}
-use Rattle.fr_run_headline.proofs.Acknowledging.{is_acknowledged, acknowledged_number}
+use Rattle.fr_run_headline.proofs.Acknowledging.{is_acknowledged, acknowledged_number, acknowledged_has_batch}
 use Rattle.fr_run_headline.proofs.Following.{keeps_applied}
 use Rattle.fr_run_headline.proofs.Later.{run_before, still_chosen, still_below, issued_still, still_acknowledged}
 use Rattle.fr_run_headline.proofs.Durables.{least_is_below, least_is_numbered, IsCommittedThrough, below_is_committed}
@@ -54,6 +54,12 @@ stands_now laws c h config run e v batch acked latest is =
 
 pub acknowledged_stands : Laws → (c : Config) (h : List Turn) → IsConfig c → (e v : ℕ) (batch : List Mutation) → IsAcknowledgedBatch c h e v batch → Stands c h (commit_at e v batch)
 acknowledged_stands laws c h config e v batch acked later run latest is = stands_now laws c (later ++ h) config run e v batch (still_acknowledged c later h e v batch acked) latest is
+
+-- with its batch
+pub acknowledged_is_committed : Laws → AcknowledgedIsCommitted
+acknowledged_is_committed laws c h config run e v acked =
+    let k = acknowledged_has_batch laws c h run e v acked in
+    record { batch = k.0; acknowledged = k.1; listed = λ latest is. stands_now laws c h config run e v k.0 k.1 latest is }
 
 -- ---- and is not undone
 

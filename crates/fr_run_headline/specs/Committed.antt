@@ -21,13 +21,14 @@ use Rattle.fr_proxy.specs.declared.outcome.Outcome.TheVariants.{Committed}
 use Rattle.fr_storage.specs.Storage.{StorageState, own_epoch}
 use Rattle.fr_run.specs.Config.{Config}
 use Rattle.fr_run.specs.Turn.{Turn, Sending, ProxyHeard, StorageHeard}
-use Rattle.fr_run.specs.Nodes.{proxy_at, storage_at}
+use Rattle.fr_run.specs.Nodes.{logs_at, proxy_at, storage_at}
 use Rattle.fr_run.specs.Run.{IsRun}
 use Rattle.fr_run.specs.Batches.{IsAcknowledged}
 use Rattle.fr_run.specs.States.{state_of, IsChosenEpoch, IsLatest}
 use Rattle.fr_run.specs.StateLaws.{IsConfig}
+use Rattle.fr_run_versions.specs.Bounds.{HasReached}
 use Rattle.fr_run_contents.specs.Issued.{Entry, issued, part, least_durable, committed}
-use Rattle.fr_run_contents.specs.IssuedLaws.{through}
+use Rattle.fr_run_contents.specs.IssuedLaws.{VersionsRise, through}
 
 -- ---- maps
 
@@ -136,6 +137,29 @@ AcknowledgedIsNeverUndone c h =
 -- at every moment there is a chosen epoch of the greatest ballot, by which the list is committed
 abbrev pub LatestIsThere : Type 0
 LatestIsThere = (c : Config) (h : List Turn) → IsRun c h → (latest : ℕ) × IsLatest c h latest
+
+-- a committed list: that of the chosen epoch of the greatest ballot, which has logs; its versions rise strictly, through one that each of these logs has come to,
+-- lost or not
+pub record HasCommitted (c : Config) (h : List Turn) : Type 0 where
+  pub latest : ℕ
+  pub is_latest : IsLatest c h latest
+  pub some : 1 ≤ logs_at c h latest
+  pub reached : (log : ℕ) → log < logs_at c h latest → HasReached c h latest log (least_durable c h latest)
+  pub rises : VersionsRise 0 (committed c h latest) (least_durable c h latest)
+
+-- there is one at every moment
+abbrev pub CommittedIsThere : Type 0
+CommittedIsThere = (c : Config) (h : List Turn) → IsConfig c → IsRun c h → HasCommitted c h
+
+-- a version that was acknowledged has a batch, with which it was, and the committed list has this batch at this version of its epoch
+pub record HasBatch (c : Config) (h : List Turn) (e version : ℕ) : Type 0 where
+  pub batch : List Mutation
+  pub acknowledged : IsAcknowledgedBatch c h e version batch
+  pub listed : (latest : ℕ) → IsLatest c h latest → Contains (committed c h latest) (commit_at e version batch)
+
+-- so has each one
+abbrev pub AcknowledgedIsCommitted : Type 0
+AcknowledgedIsCommitted = (c : Config) (h : List Turn) → IsConfig c → IsRun c h → (e version : ℕ) → IsAcknowledged h e version → HasBatch c h e version
 
 -- the committed list only grows
 abbrev pub CommittedGrows : Type 0

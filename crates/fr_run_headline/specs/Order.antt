@@ -14,6 +14,7 @@ use Rattle.fr_run.specs.Run.{IsRun}
 use Rattle.fr_run.specs.Batches.{IsAcknowledged}
 use Rattle.fr_run.specs.States.{state_of, IsChosenEpoch}
 use Rattle.fr_run.specs.StateLaws.{IsConfig}
+use Rattle.fr_run_versions.specs.BehindLaws.{IsTakenOver}
 
 -- a version of an epoch is not above the cut of the epoch in the state of any epoch that is planned: no recovery that goes on from the epoch takes over less
 abbrev pub IsNeverCut : Config → List Turn → ℕ → ℕ → Type 0
@@ -30,6 +31,10 @@ AcknowledgedIsNeverCut = (c : Config) (h : List Turn) → IsConfig c → IsRun c
 -- and the floor of a storage server of the epoch
 abbrev pub FloorIsNeverCut : Type 0
 FloorIsNeverCut = (c : Config) (h : List Turn) → IsConfig c → IsRun c h → (tag : ℕ) → IsNeverCut c h (own_epoch (storage_at c h tag).state) (storage_at c h tag).store.floor
+
+-- the floor is taken over by each later epoch and recoverer
+abbrev pub FloorIsTakenOver : Type 0
+FloorIsTakenOver = (c : Config) (h : List Turn) → IsConfig c → IsRun c h → (tag : ℕ) → IsTakenOver c h (own_epoch (storage_at c h tag).state) (storage_at c h tag).store.floor
 
 -- no recoverer finds that a log knows a version to be committed that another one does not hold
 abbrev pub NeverInconsistent : Type 0

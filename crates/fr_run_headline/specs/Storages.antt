@@ -42,3 +42,9 @@ abbrev pub HearsAreTaken : Type 0
 HearsAreTaken =
     (c : Config) (h : List Turn) (tag : ℕ) (from : NodeId) (tell : Tell) (taken : Option ℕ) (fault : Option StorageFault) → IsConfig c → IsRun c (StorageHeard tag from tell taken fault ∷ h)
     → (fault ≢ Some Stranger) × (fault ≢ Some BelowFloor)
+
+-- nor was any at an earlier moment
+abbrev pub EachHearIsTaken : Type 0
+EachHearIsTaken =
+    (c : Config) (h : List Turn) → IsConfig c → IsRun c h → (tag : ℕ) (from : NodeId) (tell : Tell) (taken : Option ℕ) (fault : Option StorageFault) → Contains h (StorageHeard tag from tell taken fault)
+    → (fault ≢ Some Stranger) × (fault ≢ Some BelowFloor)

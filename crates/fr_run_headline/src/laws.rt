@@ -1,12 +1,14 @@
 //! Laws of storage servers, and of what is committed.
 ghost use Rattle.fr_run_headline.specs.Agreement.{PartsAgree, PartsArePieces};
-ghost use Rattle.fr_run_headline.specs.Committed.{AcknowledgedHasBatch, CommittedGrows, EveryStorageFollows, LatestIsThere};
+ghost use Rattle.fr_run_headline.specs.Committed.{AcknowledgedHasBatch, AcknowledgedIsCommitted, CommittedGrows};
+ghost use Rattle.fr_run_headline.specs.Committed.{CommittedIsThere, EveryStorageFollows, LatestIsThere};
 ghost use Rattle.fr_run_headline.specs.Example.{RollbackHappens, SurvivesTwoRecoveries};
 ghost use Rattle.fr_run_headline.specs.Headline.{Headline};
-ghost use Rattle.fr_run_headline.specs.Order.{AcknowledgedIsNeverCut, FloorIsNeverCut, HeldIsChosen, KnownIsNeverCut, NeverInconsistent};
+ghost use Rattle.fr_run_headline.specs.Order.{AcknowledgedIsNeverCut, FloorIsNeverCut, FloorIsTakenOver};
+ghost use Rattle.fr_run_headline.specs.Order.{HeldIsChosen, KnownIsNeverCut, NeverInconsistent};
 ghost use Rattle.fr_run_headline.specs.Retrievable.{CommittedIsRetrievable};
 ghost use Rattle.fr_run_headline.specs.Safety.{EachTurnGrows, EveryMomentIsSafe, StandingGrows};
-ghost use Rattle.fr_run_headline.specs.Storages.{HearsAreTaken, StoragesFollow};
+ghost use Rattle.fr_run_headline.specs.Storages.{EachHearIsTaken, HearsAreTaken, StoragesFollow};
 ghost use Rattle.fr_run_headline.specs.Laws.{Laws};
 ghost use Rattle.fr_run_contents.specs.Laws as contents;
 ghost use Rattle.fr_storage.specs.Laws as storage;
@@ -15,7 +17,7 @@ ghost use Rattle.fr_undo.specs.Law.{InverseLaw};
 use fr_mutation::{after_law, clip_law};
 use fr_run::laws::node_laws;
 use fr_run_contents::laws::contents_law;
-use fr_run_versions::laws::order_law as version_law;
+use fr_run_versions::laws::{order_law as version_law, replied_law};
 use fr_state::{cut_law, equal_law, front_law, source_law, spelling_law};
 use fr_storage::follow_law as hear_law;
 use fr_tags::laws::{cover_law, shard_fold_law, split_law};
@@ -74,34 +76,39 @@ pub fn follow_law()
     ensures storages { StoragesFollow }
     ensures exact { EveryStorageFollows }
     ensures taken { HearsAreTaken }
+    ensures each { EachHearIsTaken }
 {
     lower_laws();
 }
 
-/// At every moment there is a committed list, by the chosen epoch of the greatest ballot, and it only grows: at each
-/// later moment it begins with what it was.
+/// At every moment there is a committed list, by the chosen epoch of the greatest ballot: its versions rise, through one
+/// that each log of the epoch has come to. It only grows: at each later moment it begins with what it was.
 pub fn committed_law()
     ensures latest { LatestIsThere }
+    ensures there { CommittedIsThere }
     ensures grows { CommittedGrows }
 {
     lower_laws();
 }
 
 /// What a log knows, what was acknowledged and the floor of a storage server are not above the cut of their epoch in any
-/// state that goes on from it; logs hold pushes of chosen epochs alone; and no recoverer finds its replies at odds.
+/// state that goes on from it, nor is the floor above the recovery version of any later epoch or recoverer; logs hold pushes of chosen epochs alone; and no recoverer finds its replies at odds.
 pub fn order_law()
     ensures known { KnownIsNeverCut }
     ensures acknowledged { AcknowledgedIsNeverCut }
     ensures floors { FloorIsNeverCut }
+    ensures floors_over { FloorIsTakenOver }
     ensures held { HeldIsChosen }
     ensures consistent { NeverInconsistent }
 {
     lower_laws();
 }
 
-/// Each version that a proxy answers to be committed is acknowledged with the batch that the proxy has under way.
+/// Each version that a proxy answers to be committed is acknowledged with the batch that the proxy has under way, and the
+/// committed list has this batch.
 pub fn acknowledged_law()
     ensures batches { AcknowledgedHasBatch }
+    ensures committed { AcknowledgedIsCommitted }
 {
     lower_laws();
 }
@@ -127,10 +134,12 @@ pub fn safety_law()
     ensures stands { StandingGrows }
 {
     version_law();
+    replied_law();
     contents_law();
     order_law();
     follow_law();
     committed_law();
+    acknowledged_law();
     headline_law();
 }
 

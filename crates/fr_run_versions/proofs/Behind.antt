@@ -1,86 +1,89 @@
 -- The generations of an epoch's state: each is its own epoch's, the front through it is that epoch's state, and its logs are seeded.
-use Rattle.std.proofs.Common.{◌≡◌, ℕ, zero, suc, ◌<◌, Bool, true, false, cond, ◌==◌, List, [], ◌∷◌, ◌++◌, append_assoc, Option, None, Some, inl, inr, ◌⊎◌, refl, sym, ◌∙◌, ap, subst, arith}
+use Rattle.std.proofs.Common.{◌≡◌, ℕ, zero, suc, ◌<◌, true, List, [], ◌∷◌, ◌++◌, append_assoc, Some, inl, inr, refl, sym, ◌∙◌, ap, subst, arith}
 use Rattle.std.specs.List.{All}
-use Rattle.std.proofs.lemmas.Bool.{eqb-true}
 use Rattle.std.proofs.lemmas.List.Elements.{All-nil, All-push, All-head, All-tail}
 use Rattle.fr_state.specs.Generations.{LogGeneration, CoordinatedState, AreOrdered, last_of}
 use Rattle.fr_epoch.specs.Recoverer.{RecState, Parent, Plan, is_written}
 use Rattle.fr_run.specs.Config.{Config, first_epoch, first_generation, first_state}
 use Rattle.fr_run.specs.Turn.{Turn}
-use Rattle.fr_run.specs.Nodes.{rec_at, plan_in, plan_at, generation_in, generation_at}
+use Rattle.fr_run.specs.Nodes.{rec_at, generation_at}
 use Rattle.fr_run.specs.Run.{IsRun}
 use Rattle.fr_run.specs.Laws.{Laws}
-use Rattle.fr_run.specs.States.{state_of}
+use Rattle.fr_run.specs.States.{line_of}
 use Rattle.fr_run.specs.StateLaws.{IsConfig}
 use Rattle.fr_run.proofs.Growth.{rec_is}
-use Rattle.fr_run.proofs.States.{last_more, recoverers_have_states}
+use Rattle.fr_run.proofs.States.{last_more}
+use Rattle.fr_run.proofs.States.{state_is as within}
 use Rattle.fr_run.proofs.Chosen.{state_planned}
+use Rattle.fr_run.proofs.Parents.{plan_is, parent_is_planned, plan_line, planned_by}
 use Rattle.fr_run_versions.specs.SeededLaws.{IsSeededEpoch}
 use Rattle.fr_run_versions.specs.BehindLaws.{HasGenerations, GenerationsAreOwn, FrontIsState, BehindIsSeeded}
-use Rattle.fr_run_versions.proofs.Pushes.{plan_is}
-use Rattle.fr_run_versions.proofs.Transport.{parent_comes, plans_are_lines, first_line}
+use Rattle.fr_run_versions.proofs.Transport.{plans_are_lines, first_line}
 use Rattle.fr_run_versions.proofs.Seeds.{writing_is_seeded, first_is_seeded}
 
 -- ---- fronts
 
--- behind some generations, each further one's epoch has those through it as its state
+-- behind some generations, each further one's epoch has those through it as its line
 abbrev pub AreFronts : Config → List Turn → List LogGeneration → List LogGeneration → Type 0
 AreFronts c h before [] = Unit {0}
-AreFronts c h before (g ∷ gens) = ((state_of c h g.epoch).gens ≡ before ++ g ∷ []) × AreFronts c h (before ++ g ∷ []) gens
+AreFronts c h before (g ∷ gens) = (line_of c h g.epoch ≡ before ++ g ∷ []) × AreFronts c h (before ++ g ∷ []) gens
 
-front_more : (c : Config) (h : List Turn) (before gens : List LogGeneration) (n : LogGeneration) → (state_of c h n.epoch).gens ≡ before ++ (gens ++ n ∷ []) → AreFronts c h before gens → AreFronts c h before (gens ++ n ∷ [])
+front_more : (c : Config) (h : List Turn) (before gens : List LogGeneration) (n : LogGeneration) → line_of c h n.epoch ≡ before ++ (gens ++ n ∷ []) → AreFronts c h before gens → AreFronts c h before (gens ++ n ∷ [])
 front_more c h before [] n is k = (is, tt)
 front_more c h before (g ∷ gens) n is k = (k.0, front_more c h (before ++ g ∷ []) gens n (is ∙ sym (append_assoc before (g ∷ []) (gens ++ n ∷ []))) k.1)
 
-front_at : (c : Config) (h : List Turn) (before front : List LogGeneration) (g : LogGeneration) (rest : List LogGeneration) → AreFronts c h before (front ++ g ∷ rest) → (state_of c h g.epoch).gens ≡ before ++ (front ++ g ∷ [])
+front_at : (c : Config) (h : List Turn) (before front : List LogGeneration) (g : LogGeneration) (rest : List LogGeneration) → AreFronts c h before (front ++ g ∷ rest) → line_of c h g.epoch ≡ before ++ (front ++ g ∷ [])
 front_at c h before [] g rest k = k.0
 front_at c h before (x ∷ front) g rest k = front_at c h (before ++ x ∷ []) front g rest k.1 ∙ append_assoc before (x ∷ []) (front ++ g ∷ [])
 
 -- ---- plans
 
--- what is true of the generations of a plan: the fronts are states, and those before the last are of seeded epochs
-record IsPlanned (c : Config) (h : List Turn) (p : Parent) (q : Plan) : Type 0 where
-  is : q.state.gens ≡ p.state.gens ++ q.generation ∷ []
-  fronts : AreFronts c h [] q.state.gens
-  behind : All (λ g. IsSeededEpoch c h g.epoch) p.state.gens
+-- what is true of the line of a plan: the fronts are lines, and those before the last are of seeded epochs
+record IsPlanned (c : Config) (h : List Turn) (b : ℕ) (p : Parent) (q : Plan) : Type 0 where
+  is : line_of c h b ≡ line_of c h p.last.epoch ++ q.generation ∷ []
+  fronts : AreFronts c h [] (line_of c h b)
+  behind : All (λ g. IsSeededEpoch c h g.epoch) (line_of c h p.last.epoch)
 
--- what a recoverer takes over
+-- what a recoverer goes on from
 record IsTaken (c : Config) (h : List Turn) (gens : List LogGeneration) : Type 0 where
   fronts : AreFronts c h [] gens
   seeded : All (λ g. IsSeededEpoch c h g.epoch) gens
 
-first_taken : Laws → (c : Config) (h : List Turn) → IsConfig c → IsRun c h → IsTaken c h (first_state c).gens
+first_taken : Laws → (c : Config) (h : List Turn) → IsConfig c → IsRun c h → IsTaken c h (line_of c h first_epoch)
 first_taken laws c h config run = record {
   fronts = (refl, tt);
   seeded = All-push (λ g. IsSeededEpoch c h g.epoch) [] (first_generation c) (All-nil (λ g. IsSeededEpoch c h g.epoch)) (first_is_seeded laws c h config run);
 }
 
+-- the epoch of a plan's generation is its ballot
+plan_own : Laws → (c : Config) (h : List Turn) → IsRun c h → (b : ℕ) (r : RecState) (q : Plan) → rec_at c h b ≡ Some r → r.plan ≡ Some q → q.generation.epoch ≡ b
+plan_own laws c h run b r q at planned = (plan_is laws c h run b r at q planned).epoch ∙ (rec_is laws c h run b r at).ballot
+
 -- a ballot's plan over what was taken over
-plan_more : Laws → (c : Config) (h : List Turn) → IsConfig c → IsRun c h → (b : ℕ) (r : RecState) (q : Plan) → rec_at c h b ≡ Some r → r.plan ≡ Some q → (p : Parent) → q.state.gens ≡ p.state.gens ++ q.generation ∷ [] → IsTaken c h p.state.gens → IsPlanned c h p q
-plan_more laws c h config run b r q at planned p gens taken =
-    let own : q.generation.epoch ≡ b = (plan_is laws c h run b r at q planned).epoch ∙ (rec_is laws c h run b r at).ballot in
-    let here : (state_of c h q.generation.epoch).gens ≡ p.state.gens ++ q.generation ∷ [] = ap (λ e. (state_of c h e).gens) own ∙ ap (λ (s : CoordinatedState). s.gens) (state_planned laws c h run b r at q planned) ∙ gens in
-    record { is = gens; fronts = subst (AreFronts c h []) (sym gens) (front_more c h [] p.state.gens q.generation here taken.fronts); behind = taken.seeded }
+plan_more : Laws → (c : Config) (h : List Turn) → IsRun c h → (b : ℕ) (r : RecState) (q : Plan) → rec_at c h b ≡ Some r → r.plan ≡ Some q → (p : Parent) → line_of c h b ≡ line_of c h p.last.epoch ++ q.generation ∷ [] → IsTaken c h (line_of c h p.last.epoch)
+    → IsPlanned c h b p q
+plan_more laws c h run b r q at planned p gens taken =
+    let here : line_of c h q.generation.epoch ≡ line_of c h p.last.epoch ++ q.generation ∷ [] = ap (line_of c h) (plan_own laws c h run b r q at planned) ∙ gens in
+    record { is = gens; fronts = subst (AreFronts c h []) (sym gens) (front_more c h [] (line_of c h p.last.epoch) q.generation here taken.fronts); behind = taken.seeded }
 
 -- what was written may be taken over
-planned_taken : Laws → (c : Config) (h : List Turn) → IsConfig c → IsRun c h → (b : ℕ) (r : RecState) (q : Plan) → rec_at c h b ≡ Some r → r.plan ≡ Some q → is_written r ≡ true → (p : Parent) → IsPlanned c h p q → IsTaken c h q.state.gens
+planned_taken : Laws → (c : Config) (h : List Turn) → IsConfig c → IsRun c h → (b : ℕ) (r : RecState) (q : Plan) → rec_at c h b ≡ Some r → r.plan ≡ Some q → is_written r ≡ true → (p : Parent) → IsPlanned c h b p q → IsTaken c h (line_of c h b)
 planned_taken laws c h config run b r q at planned written p k =
-    let own : q.generation.epoch ≡ b = (plan_is laws c h run b r at q planned).epoch ∙ (rec_is laws c h run b r at).ballot in
-    let last : IsSeededEpoch c h q.generation.epoch = subst (IsSeededEpoch c h) (sym own) (writing_is_seeded laws c h config run b r at written) in
-    record { fronts = k.fronts; seeded = subst (All (λ g. IsSeededEpoch c h g.epoch)) (sym k.is) (All-push (λ g. IsSeededEpoch c h g.epoch) p.state.gens q.generation k.behind last) }
+    let last : IsSeededEpoch c h q.generation.epoch = subst (IsSeededEpoch c h) (sym (plan_own laws c h run b r q at planned)) (writing_is_seeded laws c h config run b r at written) in
+    record { fronts = k.fronts; seeded = subst (All (λ g. IsSeededEpoch c h g.epoch)) (sym k.is) (All-push (λ g. IsSeededEpoch c h g.epoch) (line_of c h p.last.epoch) q.generation k.behind last) }
 
-plans : Laws → (c : Config) (h : List Turn) → IsConfig c → IsRun c h → (n b : ℕ) → b < n → (r : RecState) (q : Plan) → rec_at c h b ≡ Some r → r.plan ≡ Some q → (p : Parent) × IsPlanned c h p q
+plans : Laws → (c : Config) (h : List Turn) → IsConfig c → IsRun c h → (n b : ℕ) → b < n → (r : RecState) (q : Plan) → rec_at c h b ≡ Some r → r.plan ≡ Some q → (p : Parent) × IsPlanned c h b p q
 plans laws c h config run zero b l r q at planned = absurd (omega (arith, l))
 plans laws c h config run (suc n) b l r q at planned =
-    let state = (recoverers_have_states laws c h config run b r at).plan q planned in
-    let p : Parent = state.1.0 in
-    let taken : IsTaken c h p.state.gens = elim (parent_comes laws c h config run b r p at state.1.1) [
-      | inl first ↦ subst (λ (s : CoordinatedState). IsTaken c h s.gens) first (first_taken laws c h config run)
-      | inr k ↦ (
-          let before = plans laws c h config run n k.ballot (let low = k.below in omega (arith, l, low)) k.recoverer k.plan k.at k.planned in
-          subst (λ (s : CoordinatedState). IsTaken c h s.gens) k.is (planned_taken laws c h config run k.ballot k.recoverer k.plan k.at k.planned k.written before.0 before.1))
+    let k = plan_line laws c h config run b r q at planned in
+    let p : Parent = k.parent in
+    let taken : IsTaken c h (line_of c h p.last.epoch) = elim (parent_is_planned laws c h config run b r p at k.is) [
+      | inl first ↦ subst (λ e. IsTaken c h (line_of c h e)) (sym first) (first_taken laws c h config run)
+      | inr j ↦ (
+          let before = plans laws c h config run n p.last.epoch (let low = j.below in omega (arith, l, low)) j.recoverer j.plan j.at j.planned in
+          planned_taken laws c h config run p.last.epoch j.recoverer j.plan j.at j.planned j.written before.0 before.1)
     ] in
-    (p, plan_more laws c h config run b r q at planned p state.1.2 taken)
+    (p, plan_more laws c h run b r q at planned p k.line taken)
 
 -- ---- epochs
 
@@ -88,8 +91,8 @@ plans laws c h config run (suc n) b l r q at planned =
 pub record IsState (c : Config) (h : List Turn) (e : ℕ) (g : LogGeneration) : Type 0 where
   pub has : HasGenerations c h e g
   pub behind : List LogGeneration
-  pub is : (state_of c h e).gens ≡ behind ++ g ∷ []
-  pub fronts : AreFronts c h [] (state_of c h e).gens
+  pub is : line_of c h e ≡ behind ++ g ∷ []
+  pub fronts : AreFronts c h [] (line_of c h e)
   pub seeded : All (λ x. IsSeededEpoch c h x.epoch) behind
 
 first_is : Laws → (c : Config) (h : List Turn) → IsConfig c → IsRun c h → IsState c h first_epoch (first_generation c)
@@ -104,44 +107,18 @@ first_is laws c h config run = record {
 plan_state : Laws → (c : Config) (h : List Turn) → IsConfig c → IsRun c h → (b : ℕ) (r : RecState) (q : Plan) → rec_at c h b ≡ Some r → r.plan ≡ Some q → IsState c h b q.generation
 plan_state laws c h config run b r q at planned =
     let k = plans laws c h config run (suc b) b (omega arith) r q at planned in
-    let own : q.generation.epoch ≡ b = (plan_is laws c h run b r at q planned).epoch ∙ (rec_is laws c h run b r at).ballot in
-    let here : state_of c h b ≡ q.state = state_planned laws c h run b r at q planned in
-    let gens : (state_of c h b).gens ≡ k.0.state.gens ++ q.generation ∷ [] = ap (λ (s : CoordinatedState). s.gens) here ∙ k.1.is in
     record {
       has = record {
-        own = own;
-        last = ap last_of gens ∙ last_more k.0.state.gens q.generation;
-        ordered = subst (λ (s : CoordinatedState). AreOrdered s.gens) (sym here) ((recoverers_have_states laws c h config run b r at).plan q planned).0.ordered;
-        each = subst (λ (s : CoordinatedState). All (λ x. generation_at c h x.epoch ≡ Some x) s.gens) (sym here) (plans_are_lines laws c h config run b r q at planned).each;
+        own = plan_own laws c h run b r q at planned;
+        last = ap last_of k.1.is ∙ last_more (line_of c h k.0.last.epoch) q.generation;
+        ordered = (within laws c h config run b).ordered;
+        each = (plans_are_lines laws c h config run b r q at planned).each;
       };
-      behind = k.0.state.gens;
-      is = gens;
-      fronts = subst (λ (s : CoordinatedState). AreFronts c h [] s.gens) (sym here) k.1.fronts;
+      behind = line_of c h k.0.last.epoch;
+      is = k.1.is;
+      fronts = k.1.fronts;
       seeded = k.1.behind;
     }
-
--- an epoch that has a generation and is not the first has it by its ballot's plan
-pub record IsPlannedBy (c : Config) (h : List Turn) (e : ℕ) (g : LogGeneration) : Type 0 where
-  pub recoverer : RecState
-  pub at : rec_at c h e ≡ Some recoverer
-  pub plan : Plan
-  pub planned : recoverer.plan ≡ Some plan
-  pub is : plan.generation ≡ g
-
-pub planned_by : (c : Config) (h : List Turn) (e : ℕ) (g : LogGeneration) → generation_at c h e ≡ Some g → ((e ≡ first_epoch) × (first_generation c ≡ g)) ⊎ IsPlannedBy c h e g
-planned_by c h e g at = go (e == first_epoch) refl at
-  where
-    plan : (r : RecState) → rec_at c h e ≡ Some r → (o : Option Plan) → r.plan ≡ o → generation_in o ≡ Some g → IsPlannedBy c h e g
-    plan r at None planned m = absurd (cc)
-    plan r at (Some q) planned m = let same : q.generation ≡ g = cc in record { recoverer = r; at = at; plan = q; planned = planned; is = same }
-
-    rec : (o : Option RecState) → rec_at c h e ≡ o → generation_in (plan_in o) ≡ Some g → IsPlannedBy c h e g
-    rec None at m = absurd (cc)
-    rec (Some r) at m = plan r at r.plan refl m
-
-    go : (s : Bool) → (e == first_epoch) ≡ s → cond s (Some (first_generation c)) (generation_in (plan_at c h e)) ≡ Some g → ((e ≡ first_epoch) × (first_generation c ≡ g)) ⊎ IsPlannedBy c h e g
-    go true k m = let same : first_generation c ≡ g = cc in inl (eqb-true e first_epoch k, same)
-    go false k m = inr (rec (rec_at c h e) refl m)
 
 pub state_is : Laws → (c : Config) (h : List Turn) → IsConfig c → IsRun c h → (e : ℕ) (g : LogGeneration) → generation_at c h e ≡ Some g → IsState c h e g
 state_is laws c h config run e g at = elim (planned_by c h e g at) [

@@ -30,8 +30,10 @@ use Rattle.fr_run.specs.Laws.{Laws}
 use Rattle.fr_run.specs.AskLaws.{SenderAccounts}
 use Rattle.fr_run.proofs.Growth.{rec_is, open_generation, generation_stays}
 use Rattle.fr_run.proofs.Accounts.{sent_is_accounted, none_sent}
+use Rattle.fr_run.proofs.Chosen.{generation_planned}
+use Rattle.fr_run.proofs.Parents.{plan_is}
 use Rattle.fr_run_versions.proofs.Numbers.{numbers_stay}
-use Rattle.fr_run_versions.proofs.Pushes.{no_number_ask, plan_is, plan_generation}
+use Rattle.fr_run_versions.proofs.Pushes.{no_number_ask}
 use Rattle.fr_run_versions.proofs.LogChanges.{log_change}
 use Rattle.fr_run_versions.proofs.Logs.{no_seed, no_push, logs_generation}
 use Rattle.fr_run_versions.proofs.LogRule.{IsLogRule, log_holds}
@@ -125,7 +127,7 @@ push_known_below laws c h run from e i q s = go from s (sent_is_accounted laws c
     go (node.Proxy x p) s k = (let n = push_is_part laws c h run x p e i q s in subst (λ y. IsBelow c h y q.known) (sym n.epoch) n.known)
     go (node.Recoverer b) s (r, at, (own, chosen, copied, (p, planned, l, is))) =
         let e' : e ≡ b = own ∙ (rec_is laws c h run b r at).ballot in
-        let g = plan_generation laws c h run b r at p planned in
+        let g = generation_planned laws c h run b r at p planned in
         let k = plan_is laws c h run b r at p planned in
         let mark : IsBelow c h b (mark_of p).known = record { generation = p.generation; at = g; below = inl (omega (arith, k.first)) } in
         subst (λ y. IsBelow c h y q.known) (sym e') (subst (λ (y : PushContent). IsBelow c h b y.known) (sym is) mark)
@@ -141,7 +143,7 @@ seeds_are_at laws c h run from e i s sent = go from (sent_is_accounted laws c h 
     go (node.Proxy x p) k = absurd k.1.1
     go (node.Recoverer b) (r, at, (own, copied, (p, planned, l, is))) =
         let e' : e ≡ b = own ∙ (rec_is laws c h run b r at).ballot in
-        let g = plan_generation laws c h run b r at p planned in
+        let g = generation_planned laws c h run b r at p planned in
         let k = plan_is laws c h run b r at p planned in
         let here : IsSeedAt c h b s = record { generation = p.generation; of = g; first = ap (λ (x : SeedContent). x.first) is ∙ sym k.first; seeded_to = ap (λ (x : SeedContent). x.seeded_to) is ∙ sym k.seeded_to } in
         subst (λ y. IsSeedAt c h y s) (sym e') here

@@ -20,3 +20,4 @@ pub mod Seeds
 pub mod Behind
 pub mod Asked
 pub mod Taking
+pub mod Replies

@@ -1,7 +1,6 @@
 -- Each push and each seed that was sent to a log is of the log's epoch.
 use Rattle.std.proofs.Common.{◌≡◌, ℕ, ◌+◌, true, ◌==◌, List, [], ◌∷◌, Option, None, Some, inl, inr, refl, sym, ◌∙◌, ap, subst}
 use Rattle.std.specs.List.{Contains}
-use Rattle.std.specs.Prelude.{IfSome}
 use Rattle.std.proofs.lemmas.Bool.{or_right}
 use Rattle.std.proofs.lemmas.List.Elements.{All-contains}
 use Rattle.fr_base.specs.declared.place.NodeId.{NodeId}
@@ -16,8 +15,7 @@ use Rattle.fr_ask.specs.declared.tell.Tell.TheVariants as tell
 use Rattle.fr_ask.specs.declared.sequencer.SeqTell.TheVariants as stell
 use Rattle.fr_proxy.specs.declared.number.Number.{Number}
 use Rattle.fr_proxy.specs.Proxy as proxy
-use Rattle.fr_epoch.specs.Recoverer.{RecState, Plan, new_recoverer, mark_of}
-use Rattle.fr_epoch.specs.Law as rec_law
+use Rattle.fr_epoch.specs.Recoverer.{mark_of}
 use Rattle.fr_proxy.specs.Heard.{IsPushOf, IsPushTo}
 use Rattle.fr_run.specs.Config.{Config, first_epoch}
 use Rattle.fr_run.specs.Turn.{Turn, Sending, Begun, CellTurn, LogTurn, SeqTurn, Submitted, ProxyHeard, RecHeard, StorageHeard, Gone, Crashed, actor_of, asks_of, Sent, Told}
@@ -28,31 +26,13 @@ use Rattle.fr_run.specs.Run.{IsTurn, IsRun}
 use Rattle.fr_run.specs.Laws.{Laws}
 use Rattle.fr_run.specs.AskLaws.{SenderAccounts}
 use Rattle.fr_run_versions.specs.LogLaws.{PushesAreOwn, SeedsAreOwn}
-use Rattle.fr_run.proofs.ByTurn.{rec_by_turn, proxy_by_turn}
+use Rattle.fr_run.proofs.ByTurn.{proxy_by_turn}
 use Rattle.fr_run.proofs.Chosen.{generation_planned}
+use Rattle.fr_run.proofs.Parents.{plan_is}
 use Rattle.fr_run.proofs.Growth.{rec_is}
 use Rattle.fr_run.proofs.Accounts.{sent_is_accounted, none_sent}
 use Rattle.fr_run.proofs.Cells.{Contains-none, Contains-cases}
 use Rattle.fr_run_versions.proofs.Numbers.{numbers_stay, numbers_told}
-
--- ---- plans
-
-new_has_sound_plan : (c : Config) (b : ℕ) → rec_law.HasSoundPlan (new_recoverer b c.cells c.begins)
-new_has_sound_plan c b p e = absurd (cc)
-
-plans_are : Laws → (c : Config) (h : List Turn) → IsRun c h → (b : ℕ) → IfSome (rec_at c h b) rec_law.HasSoundPlan
-plans_are laws c [] run b = tt
-plans_are laws c (t ∷ h) run b =
-    rec_by_turn c h t run.0 b (λ o. IfSome o rec_law.HasSoundPlan) (plans_are laws c h run.1 b) (λ none unused. new_has_sound_plan c b) (λ r from u at told.
-    laws.rec_plans r from u (subst (λ o. IfSome o rec_law.HasSoundPlan) at (plans_are laws c h run.1 b)))
-
--- the plan of a ballot is of its epoch
-pub plan_is : Laws → (c : Config) (h : List Turn) → IsRun c h → (b : ℕ) (r : RecState) → rec_at c h b ≡ Some r → (p : Plan) → r.plan ≡ Some p → rec_law.IsPlanOf r.ballot p
-plan_is laws c h run b r at p e = (let k : rec_law.HasSoundPlan r = subst (λ o. IfSome o rec_law.HasSoundPlan) at (plans_are laws c h run b) in k p e)
-
--- the generation of a ballot that has a plan
-pub plan_generation : Laws → (c : Config) (h : List Turn) → IsRun c h → (b : ℕ) (r : RecState) → rec_at c h b ≡ Some r → (p : Plan) → r.plan ≡ Some p → generation_at c h b ≡ Some p.generation
-plan_generation laws c h run b r at p e = generation_planned laws c h run b r at p e
 
 -- ---- proxies
 
@@ -143,7 +123,7 @@ pushes_are_own laws c h run from e i q s = go from s (sent_is_accounted laws c h
         subst (λ y. IsOfEpoch c h y q) (sym at) here
     go (node.Recoverer b) s (r, at, (own, chosen, copied, (p, planned, l, is))) =
         let e' : e ≡ b = own ∙ (rec_is laws c h run b r at).ballot in
-        let g = plan_generation laws c h run b r at p planned in
+        let g = generation_planned laws c h run b r at p planned in
         let opened : is_open c h b ≡ true = or_right (b == first_epoch) (is_open_in (rec_at c h b)) (ap is_open_in at ∙ ap is_chosen_phase chosen) in
         let mark : IsOfEpoch c h b (mark_of p) = record { opened = opened; placed = (ap mark_version (sym g), refl) } in
         subst (λ y. IsOfEpoch c h y q) (sym e') (subst (IsOfEpoch c h b) (sym is) mark)
@@ -159,7 +139,7 @@ seeds_are_own laws c h run from e i s sent = go from (sent_is_accounted laws c h
     go (node.Proxy x p) k = absurd k.1.1
     go (node.Recoverer b) (r, at, (own, copied, (p, planned, l, is))) =
         let e' : e ≡ b = own ∙ (rec_is laws c h run b r at).ballot in
-        let g = plan_generation laws c h run b r at p planned in
+        let g = generation_planned laws c h run b r at p planned in
         let k = plan_is laws c h run b r at p planned in
         let here : IsSeedOf c h b s = ap (λ (x : SeedContent). x.seeded_to + 1) is ∙ ap (λ v. v + 1) (sym k.seeded_to) ∙ ap mark_version (sym g) in
         subst (λ y. IsSeedOf c h y s) (sym e') here

@@ -22,11 +22,13 @@ use Rattle.fr_run.specs.Turn.{Turn, Told}
 use Rattle.fr_run.specs.Nodes.{rec_at, plan_in, plan_at, logs_in, logs_at, log_at}
 use Rattle.fr_run.specs.Run.{IsTurn, IsRun}
 use Rattle.fr_run.specs.Laws.{Laws}
+use Rattle.fr_run.specs.States.{line_of}
 use Rattle.fr_run.specs.StateLaws.{IsConfig}
 use Rattle.fr_run.proofs.ByTurn.{rec_by_turn}
 use Rattle.fr_run.proofs.Growth.{rec_is, log_grows}
 use Rattle.fr_run.proofs.Accounts.{cell_ask_is_own}
-use Rattle.fr_run.proofs.States.{last_is, last_more, recoverers_have_states}
+use Rattle.fr_run.proofs.States.{last_is, last_more, state_is}
+use Rattle.fr_run.proofs.Parents.{plan_line}
 use Rattle.fr_run.proofs.Chosen.{other_epoch, generation_planned, chosen_is_written}
 use Rattle.fr_run_versions.specs.Bounds.{IsSeededLog}
 use Rattle.fr_run_versions.specs.SeededLaws.{IsSeededEpoch, CountedIsSeeded, AllCountedIsSeeded, WritingIsSeeded, SentIsSeeded, ChosenIsSeeded}
@@ -105,8 +107,8 @@ counted_is_seeded laws c h run b r at i e = found (IsSeededLog c h b) r.seeded i
 -- a generation that is planned is within its limits
 planned_within : Laws → (c : Config) (h : List Turn) → IsConfig c → IsRun c h → (b : ℕ) (r : RecState) → rec_at c h b ≡ Some r → (q : Plan) → r.plan ≡ Some q → IsGeneration q.generation
 planned_within laws c h config run b r at q planned =
-    let state = (recoverers_have_states laws c h config run b r at).plan q planned in
-    last_is IsGeneration q.state.gens q.generation (ap last_of state.1.2 ∙ last_more state.1.0.state.gens q.generation) state.0.limits
+    let k = plan_line laws c h config run b r q at planned in
+    last_is IsGeneration (line_of c h b) q.generation (ap last_of k.line ∙ last_more (line_of c h k.parent.last.epoch) q.generation) (state_is laws c h config run b).limits
 
 -- an epoch has none of its logs, or all
 logs_are : Laws → (c : Config) (h : List Turn) → IsRun c h → (b : ℕ) (r : RecState) → rec_at c h b ≡ Some r → (q : Plan) → r.plan ≡ Some q → 0 < logs_at c h b → logs_at c h b ≡ q.generation.m

@@ -1,79 +1,34 @@
 -- Along the generations of a state each one is its ballot's, and what is below in one is not above what any later one is seeded to.
-use Rattle.std.proofs.Common.{◌≡◌, ℕ, zero, suc, ◌<◌, ◌≤◌, true, List, [], ◌∷◌, ◌++◌, Option, None, Some, inl, inr, ◌⊎◌, refl, sym, ◌∙◌, ap, subst, arith}
+use Rattle.std.proofs.Common.{◌≡◌, ℕ, zero, suc, ◌<◌, ◌≤◌, true, List, [], ◌∷◌, ◌++◌, Option, None, Some, inl, inr, refl, sym, ◌∙◌, ap, subst, arith}
 use Rattle.std.specs.Prelude.{IfSome, IsSome, is_some}
 use Rattle.std.specs.List.{All, Contains}
 use Rattle.std.proofs.lemmas.List.Elements.{All-nil, All-push, All-weaker, All-contains, Contains-append_right}
-use Rattle.fr_state.specs.Generations.{LogGeneration, CoordinatedState, IsCoordinatedState, last_of}
-use Rattle.fr_state.specs.Spelling.{spelling}
-use Rattle.fr_register.specs.Poll.{Stamped}
-use Rattle.fr_register.specs.Chosen.{IsKept, IsReady}
+use Rattle.fr_state.specs.Generations.{LogGeneration, CoordinatedState, last_of}
 use Rattle.fr_log.specs.Seed.{SeedContent}
 use Rattle.fr_log.specs.LogState.{durable_of, seeded_to_of}
-use Rattle.fr_epoch.specs.Recoverer.{RecState, Parent, Plan, is_written}
-use Rattle.fr_run.specs.Config.{Config, first_generation, first_state, first_cell}
-use Rattle.fr_run.specs.Turn.{Turn, cell_turns}
+use Rattle.fr_epoch.specs.Recoverer.{RecState, Parent, Plan}
+use Rattle.fr_run.specs.Config.{Config, first_generation, first_state}
+use Rattle.fr_run.specs.Turn.{Turn}
 use Rattle.fr_run.specs.Nodes.{rec_at, generation_at, logs_at, log_at}
 use Rattle.fr_run.specs.Run.{IsRun}
 use Rattle.fr_run_versions.specs.Bounds.{IsSeedAt, TakesOver, AreTakenOver, IsLine}
 use Rattle.fr_run.specs.Laws.{Laws}
+use Rattle.fr_run.specs.States.{line_of}
 use Rattle.fr_run.specs.StateLaws.{IsConfig}
 use Rattle.fr_run_versions.specs.LogLaws.{tally, StandsAt}
-use Rattle.fr_run.specs.ParentLaws.{greatest_in, parent_at}
-use Rattle.fr_run_versions.specs.BoundLaws.{BelowIsHeldLater, AcknowledgedIsHeldLater}
+use Rattle.fr_run_versions.specs.BoundLaws.{PlansAreLines, BelowIsHeldLater, AcknowledgedIsHeldLater}
 use Rattle.fr_run_versions.proofs.Acks.{acknowledged_is_safe}
 use Rattle.fr_run.proofs.Growth.{rec_is}
-use Rattle.fr_run.proofs.Cells.{Contains-later, cells_have_history, first_within, written_is_state}
-use Rattle.fr_run.proofs.Register.{has_found, parent_is_greatest}
-use Rattle.fr_run.proofs.States.{first_is, last_is, one_spelling, recoverers_have_states}
-use Rattle.fr_run_versions.proofs.Pushes.{plan_is, plan_generation}
+use Rattle.fr_run.proofs.Cells.{Contains-later}
+use Rattle.fr_run.proofs.Register.{has_found}
+use Rattle.fr_run.proofs.States.{last_is, recoverers_have_states}
+use Rattle.fr_run.proofs.Chosen.{generation_planned}
+use Rattle.fr_run.proofs.Parents.{plan_is, parent_is, parent_is_planned, plan_line}
 use Rattle.fr_run_versions.proofs.Locks.{replies_stand_still}
 use Rattle.fr_run_versions.proofs.Ends.{end_is_of_replies}
 use Rattle.fr_run_versions.proofs.Tells.{from_start}
 use Rattle.fr_run_versions.proofs.Known.{logs_know}
 use Rattle.fr_run_versions.proofs.Orders.{low_least, below_is_taken_over}
-
--- ---- where a parent comes from
-
--- a parent state is the first one, or the plan of a lower ballot
-pub record IsPlanBelow (c : Config) (h : List Turn) (b : ℕ) (s : CoordinatedState) : Type 0 where
-  pub ballot : ℕ
-  pub below : ballot < b
-  pub recoverer : RecState
-  pub at : rec_at c h ballot ≡ Some recoverer
-  pub plan : Plan
-  pub planned : recoverer.plan ≡ Some plan
-  pub written : is_written recoverer ≡ true
-  pub is : plan.state ≡ s
-
-pub parent_comes : Laws → (c : Config) (h : List Turn) → IsConfig c → IsRun c h → (b : ℕ) (r : RecState) (p : Parent) → rec_at c h b ≡ Some r → r.parent ≡ Some p → (first_state c ≡ p.state) ⊎ IsPlanBelow c h b p.state
-parent_comes laws c h config run b r p at parent = elim kept.holds [
-  | inl start ↦ inl (one_spelling laws (first_state c) p.state (first_is c config) par.0 (sym (ap (λ (s : Stamped). s.value) start) ∙ greatest))
-  | inr w ↦ (
-      let k = written_is_state laws c h run (parent_at c h b) (record { cell = ready.read.found.0; tell = _; comes = w }) in
-      let states = (recoverers_have_states laws c h config run (parent_at c h b).ballot k.recoverer k.at).plan k.plan k.planned in
-      inr (record {
-        ballot = (parent_at c h b).ballot;
-        below = ready.below;
-        recoverer = k.recoverer;
-        at = k.at;
-        plan = k.plan;
-        planned = k.planned;
-        written = k.written;
-        is = one_spelling laws k.plan.state p.state states.0 par.0 (sym k.value ∙ greatest);
-      }))
-]
-  where
-    par : IsCoordinatedState p.state × (r.reads.greatest.value ≡ spelling p.state)
-    par = (recoverers_have_states laws c h config run b r at).parent p parent
-
-    greatest : (parent_at c h b).value ≡ spelling p.state
-    greatest = ap (λ o. (greatest_in o).value) at ∙ par.1
-
-    ready : IsReady c.cells (first_cell c) (cell_turns h) b (parent_at c h b)
-    ready = parent_is_greatest laws c h run b r p at parent
-
-    kept : IsKept (first_cell c) (cell_turns h) ready.read.found.0 b (parent_at c h b)
-    kept = laws.promises_kept (first_cell c) (cell_turns h) ready.read.found.0 b (parent_at c h b) (first_within c) (cells_have_history c h run) ready.read.found.1
 
 -- ---- one more generation
 
@@ -125,23 +80,22 @@ first_line c h = record {
 
 -- ---- all generations, by the ballot
 
-lines : Laws → (c : Config) (h : List Turn) → IsConfig c → IsRun c h → (n b : ℕ) → b < n → (r : RecState) (q : Plan) → rec_at c h b ≡ Some r → r.plan ≡ Some q → IsLine c h q.state.gens
+lines : Laws → (c : Config) (h : List Turn) → IsConfig c → IsRun c h → (n b : ℕ) → b < n → (r : RecState) (q : Plan) → rec_at c h b ≡ Some r → r.plan ≡ Some q → IsLine c h (line_of c h b)
 lines laws c h config run zero b l r q at planned = absurd (omega (arith, l))
 lines laws c h config run (suc n) b l r q at planned =
-    let state = (recoverers_have_states laws c h config run b r at).plan q planned in
-    let p : Parent = state.1.0 in
-    let parent : r.parent ≡ Some p = state.1.1 in
-    let before : IsLine c h p.state.gens = elim (parent_comes laws c h config run b r p at parent) [
-      | inl first ↦ subst (λ (s : CoordinatedState). IsLine c h s.gens) first (first_line c h)
-      | inr k ↦ subst (λ (s : CoordinatedState). IsLine c h s.gens) k.is (lines laws c h config run n k.ballot (let low = k.below in omega (arith, l, low)) k.recoverer k.plan k.at k.planned)
+    let k = plan_line laws c h config run b r q at planned in
+    let p : Parent = k.parent in
+    let parent : r.parent ≡ Some p = k.is in
+    let of = parent_is laws c h config run b r p at parent in
+    let before : IsLine c h (line_of c h p.last.epoch) = elim (parent_is_planned laws c h config run b r p at parent) [
+      | inl first ↦ subst (λ e. IsLine c h (line_of c h e)) (sym first) (first_line c h)
+      | inr j ↦ lines laws c h config run n p.last.epoch (let low = j.below in omega (arith, l, low)) j.recoverer j.plan j.at j.planned
     ] in
-    let last : last_of p.state.gens ≡ Some p.last = ((has_found laws c h run b r at).found p parent).last in
-    let own : generation_at c h p.last.epoch ≡ Some p.last = last_is (λ x. generation_at c h x.epoch ≡ Some x) p.state.gens p.last last before.each in
     let is = plan_is laws c h run b r at q planned in
-    let mine : generation_at c h q.generation.epoch ≡ Some q.generation = subst (λ y. generation_at c h y ≡ Some q.generation) (sym (is.epoch ∙ (rec_is laws c h run b r at).ballot)) (plan_generation laws c h run b r at q planned) in
-    subst (IsLine c h) (sym state.1.2) (line_more c h p.state.gens p.last q.generation last (seed_rises laws c h run b r p q at parent planned own) (λ v below. below_is_taken_over laws c h run b r p q at parent planned v below) mine before)
+    let mine : generation_at c h q.generation.epoch ≡ Some q.generation = subst (λ y. generation_at c h y ≡ Some q.generation) (sym (is.epoch ∙ (rec_is laws c h run b r at).ballot)) (generation_planned laws c h run b r at q planned) in
+    subst (IsLine c h) (sym k.line) (line_more c h (line_of c h p.last.epoch) p.last q.generation of.last (seed_rises laws c h run b r p q at parent planned of.generation) (λ v below. below_is_taken_over laws c h run b r p q at parent planned v below) mine before)
 
-pub plans_are_lines : Laws → (c : Config) (h : List Turn) → IsConfig c → IsRun c h → (b : ℕ) (r : RecState) (q : Plan) → rec_at c h b ≡ Some r → r.plan ≡ Some q → IsLine c h q.state.gens
+pub plans_are_lines : Laws → PlansAreLines
 plans_are_lines laws c h config run b r q at planned = lines laws c h config run (suc b) b (omega arith) r q at planned
 
 -- ---- later generations

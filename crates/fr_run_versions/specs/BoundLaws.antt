@@ -15,6 +15,7 @@ use Rattle.fr_epoch.specs.EndTally.{is_covered, pev_of, rv_of}
 use Rattle.fr_epoch.specs.Recoverer.{RecState, Parent, Plan}
 use Rattle.fr_run_versions.specs.LogLaws.{tally}
 use Rattle.fr_run.specs.Config.{Config}
+use Rattle.fr_run.specs.States.{line_of}
 use Rattle.fr_run.specs.StateLaws.{IsConfig}
 use Rattle.fr_run.specs.Turn.{Turn, Sent, Told}
 use Rattle.fr_run.specs.Nodes.{rec_at, is_open, logs_at, log_at, seq_at, proxy_at}
@@ -77,8 +78,7 @@ KnownIsDurable =
 
 -- replies that cover agree: the greatest known is not above the least durable
 abbrev pub RepliesAgree : Type 0
-RepliesAgree =
-    (c : Config) (h : List Turn) → IsRun c h → (b : ℕ) (r : RecState) (p : Parent) → rec_at c h b ≡ Some r → r.parent ≡ Some p → is_covered (tally r) ≡ true → pev_of (tally r) ≤ rv_of (tally r)
+RepliesAgree = (c : Config) (h : List Turn) → IsRun c h → (b : ℕ) (r : RecState) → rec_at c h b ≡ Some r → is_covered (tally r) ≡ true → pev_of (tally r) ≤ rv_of (tally r)
 
 -- what is below in the parent's epoch is not above what a plan is seeded to; so is what was acknowledged there
 abbrev pub BelowIsTakenOver : Type 0
@@ -91,24 +91,24 @@ AcknowledgedIsTakenOver =
     (c : Config) (h : List Turn) → IsRun c h → (b : ℕ) (r : RecState) (p : Parent) (q : Plan) → rec_at c h b ≡ Some r → r.parent ≡ Some p → r.plan ≡ Some q → (v : ℕ) → IsAcknowledged h p.last.epoch v
     → v ≤ q.generation.seeded_to
 
--- along the generations that a ballot is going to write each is its own ballot's, and takes over what is below in those before it
+-- along the line of a ballot that has a plan each generation is its own ballot's, and takes over what is below in those before it
 abbrev pub PlansAreLines : Type 0
-PlansAreLines = (c : Config) (h : List Turn) → IsConfig c → IsRun c h → (b : ℕ) (r : RecState) (q : Plan) → rec_at c h b ≡ Some r → r.plan ≡ Some q → IsLine c h q.state.gens
+PlansAreLines = (c : Config) (h : List Turn) → IsConfig c → IsRun c h → (b : ℕ) (r : RecState) (q : Plan) → rec_at c h b ≡ Some r → r.plan ≡ Some q → IsLine c h (line_of c h b)
 
 -- what a later generation was seeded to is not below a version, nor is what its seeded logs hold
 abbrev pub IsHeldIn : Config → List Turn → LogGeneration → ℕ → Type 0
 IsHeldIn c h n v = (v ≤ n.seeded_to) × ((i : ℕ) → i < logs_at c h n.epoch → IsSome (log_at c h n.epoch i).seed → v ≤ durable_of (log_at c h n.epoch i))
 
--- what is below in a generation of a plan's state is held in each later one; so is what was acknowledged there
+-- what is below in a generation of the line of a ballot that has a plan is held in each later one; so is what was acknowledged there
 abbrev pub BelowIsHeldLater : Type 0
 BelowIsHeldLater =
     (c : Config) (h : List Turn) → IsConfig c → IsRun c h → (b : ℕ) (r : RecState) (q : Plan) → rec_at c h b ≡ Some r → r.plan ≡ Some q
-    → (front : List LogGeneration) (g n : LogGeneration) (rest : List LogGeneration) → q.state.gens ≡ front ++ g ∷ rest → Contains rest n → (v : ℕ) → IsBelow c h g.epoch v → IsHeldIn c h n v
+    → (front : List LogGeneration) (g n : LogGeneration) (rest : List LogGeneration) → line_of c h b ≡ front ++ g ∷ rest → Contains rest n → (v : ℕ) → IsBelow c h g.epoch v → IsHeldIn c h n v
 
 abbrev pub AcknowledgedIsHeldLater : Type 0
 AcknowledgedIsHeldLater =
     (c : Config) (h : List Turn) → IsConfig c → IsRun c h → (b : ℕ) (r : RecState) (q : Plan) → rec_at c h b ≡ Some r → r.plan ≡ Some q
-    → (front : List LogGeneration) (g n : LogGeneration) (rest : List LogGeneration) → q.state.gens ≡ front ++ g ∷ rest → Contains rest n → (v : ℕ) → IsAcknowledged h g.epoch v → IsHeldIn c h n v
+    → (front : List LogGeneration) (g n : LogGeneration) (rest : List LogGeneration) → line_of c h b ≡ front ++ g ∷ rest → Contains rest n → (v : ℕ) → IsAcknowledged h g.epoch v → IsHeldIn c h n v
 
 -- the requests of each proxy's numbers count from 1
 abbrev pub NumbersAreCounted : Type 0

@@ -1,5 +1,6 @@
 //! Laws of versions.
 ghost use Rattle.fr_run_versions.specs.BehindLaws.{AcknowledgedIsKept, BehindIsSeeded, BelowIsHeldBehind, BelowStaysBelow};
+ghost use Rattle.fr_run_versions.specs.BehindLaws.{AcknowledgedIsRecovered, AcknowledgedIsReplied, BelowIsRecovered, BelowIsReplied};
 ghost use Rattle.fr_run_versions.specs.BehindLaws.{ChosenStaysBelow, FrontIsState, GenerationsAreOwn};
 ghost use Rattle.fr_run_versions.specs.BoundLaws.{AcknowledgedIsHeldLater, AcknowledgedIsSafe, AcknowledgedIsTakenOver};
 ghost use Rattle.fr_run_versions.specs.BoundLaws.{BelowIsHeldLater, BelowIsTakenOver, KnownIsDurable, PlansAreLines, RepliesAgree};
@@ -128,6 +129,18 @@ pub fn below_law()
     ensures stays { BelowStaysBelow }
     ensures chosen { ChosenStaysBelow }
     ensures acknowledged { AcknowledgedIsKept }
+{
+    node_laws();
+}
+
+/// Each log that replied to a recoverer holds what is below in any chosen epoch of a lower ballot, and what was
+/// acknowledged in any. So it is at most the recovery version of each later epoch, and of each later recoverer whose
+/// replies cover, also of one that they leave lost.
+pub fn replied_law()
+    ensures below { BelowIsReplied }
+    ensures below_over { BelowIsRecovered }
+    ensures acknowledged { AcknowledgedIsReplied }
+    ensures acknowledged_over { AcknowledgedIsRecovered }
 {
     node_laws();
 }
