@@ -8,7 +8,7 @@ use Rattle.std.proofs.lemmas.List.{same_from_push}
 use Rattle.std.proofs.lemmas.List.Elements.{All-contains, All-weaker, Contains-append_left, Contains-append_right}
 use Rattle.fr_base.specs.declared.place.NodeId.{NodeId}
 use Rattle.fr_base.specs.declared.place.NodeId.TheVariants as node
-use Rattle.fr_state.specs.Generations.{LogGeneration, CoordinatedState, IsGeneration, IsCoordinatedState, last_of}
+use Rattle.fr_state.specs.Generations.{LogGeneration, IsGeneration, IsCoordinatedState, last_of}
 use Rattle.fr_state.specs.LookUp.{next_of, end_of, cut_of, source_of}
 use Rattle.fr_tags.specs.Placement.{is_held, log_count}
 use Rattle.fr_log.specs.Seed.{SeedContent}
@@ -24,9 +24,8 @@ use Rattle.fr_run.specs.Run.{IsRun}
 use Rattle.fr_run.specs.States.{state_of, line_of}
 use Rattle.fr_run.specs.StateLaws.{IsConfig}
 use Rattle.fr_run.proofs.Cells.{Contains-here, Contains-later, Contains-none, Contains-cases}
-use Rattle.fr_run.proofs.Chosen.{first_is_chosen, chosen_is_planned, chosen_are_chain, state_planned}
-use Rattle.fr_run.proofs.Register.{has_found}
-use Rattle.fr_run.proofs.States.{last_more, recoverers_have_states, state_is}
+use Rattle.fr_run.proofs.Chosen.{first_is_chosen, chosen_is_planned, chosen_are_chain}
+use Rattle.fr_run.proofs.States.{last_more, state_is}
 use Rattle.fr_run_versions.specs.Bounds.{HasReached, AllReach, IsSeedAt}
 use Rattle.fr_run_versions.specs.LogLaws.{tally, StandsAt}
 use Rattle.fr_run_versions.specs.SeededLaws.{IsSeededEpoch}
