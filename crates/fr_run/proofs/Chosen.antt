@@ -14,7 +14,7 @@ use Rattle.fr_run.specs.Config.{Config, first_epoch, first_generation, first_sta
 use Rattle.fr_run.specs.Turn.{Turn, cell_turns}
 use Rattle.fr_run.specs.Nodes.{rec_at, plan_in, plan_at, generation_in, generation_at, is_open_in}
 use Rattle.fr_run.specs.Run.{IsTurn, IsRun}
-use Rattle.fr_run.specs.States.{state_in, state_of, pair_of, IsChosenEpoch}
+use Rattle.fr_run.specs.States.{state_in, state_of, line_of, pair_of, IsChosenEpoch}
 use Rattle.fr_run.specs.StateLaws.{IsFrontOf}
 use Rattle.fr_run.specs.ParentLaws.{parent_at}
 use Rattle.fr_run.specs.ChosenLaws.{OpenIsChosen, FirstIsChosen, FirstIsLeast, ChosenIsWritten, ChosenIsPlanned, StateLasts, ChosenLasts, ChosenIsBefore, ChosenAreChain}
@@ -129,21 +129,21 @@ chosen_is_before laws c h config run a b low high less = elim (chosen_is_written
       let plan = (recoverers_have_states laws c h config run b k.recoverer k.at).plan k.plan k.planned in
       let own : List LogGeneration = k.plan.generation ∷ [] in
       let front = chosen_in_parent laws c h config run a b k.recoverer plan.1.0 low k.at plan.1.1 less in
-      let here : (state_of c h b).gens ≡ k.plan.state.gens = ap (λ (s : CoordinatedState). s.gens) (state_planned laws c h run b k.recoverer k.at k.plan k.planned) in
+      let here : line_of c h b ≡ k.plan.state.gens = ap (λ (s : CoordinatedState). s.gens) (state_planned laws c h run b k.recoverer k.at k.plan k.planned) in
       record {
         between = front.0;
         own = k.plan.generation;
         of = generation_planned laws c h run b k.recoverer k.at k.plan k.planned;
-        is = sym (append_assoc (state_of c h a).gens front.0 own) ∙ ap (λ xs. xs ++ own) front.1 ∙ sym plan.1.2 ∙ sym here;
+        is = sym (append_assoc (line_of c h a) front.0 own) ∙ ap (λ xs. xs ++ own) front.1 ∙ sym plan.1.2 ∙ sym here;
       })
 ]
 
 pub chosen_are_chain : Laws → ChosenAreChain
 chosen_are_chain laws c h config run a b low high le = go (nat_lt a b) refl
   where
-    go : (s : Bool) → nat_lt a b ≡ s → IsFrontOf (state_of c h a).gens (state_of c h b).gens
+    go : (s : Bool) → nat_lt a b ≡ s → IsFrontOf (line_of c h a) (line_of c h b)
     go true k = let j = chosen_is_before laws c h config run a b low high (ltb-true a b k) in (j.between ++ j.own ∷ [], j.is)
     go false k =
         let up = ltb-false a b k in
         let same : a ≡ b = omega (arith, up, le) in
-        subst (λ x. IsFrontOf (state_of c h a).gens (state_of c h x).gens) same (front_itself (state_of c h a).gens)
+        subst (λ x. IsFrontOf (line_of c h a) (line_of c h x)) same (front_itself (line_of c h a))

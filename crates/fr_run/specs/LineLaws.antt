@@ -1,6 +1,6 @@
 -- What a recoverer goes on from, and the line of its plan: that of the epoch that it ends, with one generation more.
 use Rattle.std.specs.Prelude.{◌≡◌, ◌<◌, ◌⊎◌, ℕ, true, List, [], ◌∷◌, ◌++◌, Some}
-use Rattle.fr_state.specs.Generations.{LogGeneration, last_of}
+use Rattle.fr_state.specs.Generations.{last_of}
 use Rattle.fr_epoch.specs.Recoverer.{RecState, Parent, Plan, is_written}
 use Rattle.fr_run.specs.Config.{Config, first_epoch}
 use Rattle.fr_run.specs.Turn.{Turn}

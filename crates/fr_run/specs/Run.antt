@@ -27,10 +27,10 @@ pub record IsUp (c : Config) (h : List Turn) (who : NodeId) : Type 0 where
   pub up : Contains h (Gone who) → ⊥
 
 -- a storage server may ask each log for a mark, and for the records of its own tag
-abbrev pub StorageMayAsk : Config → NodeId → LogAsk → Type 0
-StorageMayAsk c (node.Storage t) (lask.Peek e tag after most) = (t ≡ tag) × (t < length c.begins)
-StorageMayAsk c (node.Storage t) (lask.MarkAsked e) = t < length c.begins
-StorageMayAsk c from a = ⊥
+abbrev pub StorageMayAsk : Config → List Turn → NodeId → LogAsk → Type 0
+StorageMayAsk c h (node.Storage t) (lask.Peek e tag after most) = (t ≡ tag) × (t < length c.begins)
+StorageMayAsk c h (node.Storage t) (lask.MarkAsked e) = t < length c.begins
+StorageMayAsk c h from a = ⊥
 
 -- the nodes that go: a log that is lost, and a sequencer, proxy or recoverer that crashes
 abbrev pub MayGo : NodeId → Type 0
@@ -94,7 +94,7 @@ IsTurn c h (Begun b asks) =
     (rec_at c h b ≡ None) × MayBegin b × (asks ≡ rec.pending (new_recoverer b c.cells c.begins))
 IsTurn c h (CellTurn from i a t) = (i < c.cells) × Sent h from (node.Cell i) (ask.Cell a) × (t ≡ cell.answer_of (cell_at c h i) a)
 IsTurn c h (LogTurn from e i a t) =
-    IsUp c h (node.Log e i) × (Sent h from (node.Log e i) (ask.Log a) ⊎ StorageMayAsk c from a) × (t ≡ log.answer_of (log_at c h e i) a) × WantsSome a
+    IsUp c h (node.Log e i) × (Sent h from (node.Log e i) (ask.Log a) ⊎ StorageMayAsk c h from a) × (t ≡ log.answer_of (log_at c h e i) a) × WantsSome a
 IsTurn c h (SeqTurn from e a t) = IsUp c h (node.Sequencer e) × Sent h from (node.Sequencer e) (ask.Seq a) × (t ≡ seq.answer_of (seq_at c h e) a)
 IsTurn c h (Submitted e p step batch asks) =
     IsUp c h (node.Proxy e p) × ((proxy.takes_batch (proxy_at c h e p) ≡ true) × (1 ≤ step))

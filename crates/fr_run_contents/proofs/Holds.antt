@@ -26,7 +26,6 @@ use Rattle.fr_run.specs.AskLaws.{SenderAccounts}
 use Rattle.fr_run.specs.StateLaws.{IsConfig}
 use Rattle.fr_run.proofs.Accounts.{sent_is_accounted}
 use Rattle.fr_run.proofs.Growth.{rec_is}
-use Rattle.fr_run.proofs.States.{recoverers_have_states}
 use Rattle.fr_run_versions.specs.Numbers.{numbers, top_at}
 use Rattle.fr_run_versions.specs.Proxies.{IsProxyPush}
 use Rattle.fr_run_versions.proofs.Ends.{end_is_of_replies}

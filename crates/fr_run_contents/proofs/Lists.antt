@@ -13,7 +13,6 @@ use Rattle.fr_run.specs.States.{state_in, state_of, line_of}
 use Rattle.fr_run.specs.StateLaws.{IsConfig}
 use Rattle.fr_run.specs.Laws.{Laws}
 use Rattle.fr_run.proofs.Growth.{rec_is}
-use Rattle.fr_run.proofs.Register.{has_found}
 use Rattle.fr_run.proofs.States.{last_more, state_is}
 use Rattle.fr_run.proofs.Chosen.{state_lasts}
 use Rattle.fr_run.proofs.Parents.{plan_is, parent_is, parent_is_planned, plan_line}

@@ -6,7 +6,7 @@ use Rattle.fr_run.specs.Config.{Config}
 use Rattle.fr_run.specs.Turn.{Turn}
 use Rattle.fr_run.specs.Nodes.{generation_at}
 use Rattle.fr_run.specs.Run.{IsTurn, IsRun}
-use Rattle.fr_run.specs.States.{state_of}
+use Rattle.fr_run.specs.States.{line_of}
 use Rattle.fr_run.specs.StateLaws.{IsConfig}
 use Rattle.fr_run.specs.Laws.{Laws}
 use Rattle.fr_run_versions.specs.Numbers.{top_at}
@@ -25,7 +25,7 @@ top_in_last top (x ∷ y ∷ gens) g last = top_in_last top (y ∷ gens) g last
 pub issued_rises : Laws → (c : Config) (h : List Turn) → IsConfig c → IsRun c h → (e : ℕ) (g : LogGeneration) → generation_at c h e ≡ Some g → RiseIn version_of 0 (issued c h e) (top_at c h e)
 issued_rises laws c h config run e g at =
     let k = planned_list laws c h config run e g at in
-    go (state_of c h e).gens k.last k.ordered k.each k.own
+    go (line_of c h e) k.last k.ordered k.each k.own
   where
     go : (gens : List LogGeneration) → last_of gens ≡ Some g → AreOrdered gens → All (λ x. generation_at c h x.epoch ≡ Some x) gens → g.epoch ≡ e → RiseIn version_of 0 (issued_of (entries c h) gens) (top_at c h e)
     go [] last order each own = absurd (cc)
@@ -41,7 +41,7 @@ issued_lasts laws c h t config run is e g at upto le =
     let k = planned_list laws c h config run e g at in
     let low : upto ≤ top_at c h g.epoch = subst (λ x. upto ≤ top_at c h x) (sym k.own) le in
     ap (λ s. through version_of upto (issued_of (entries c (t ∷ h)) s.gens)) (planned_state_stays laws c h t run is e g at)
-    ∙ issued_stays (entries c h) (entries c (t ∷ h)) (top_at c h) (state_of c h e).gens upto (list_gains laws c h t run is (state_of c h e).gens k.each) (reaches (top_at c h) (state_of c h e).gens g upto k.last low k.reached)
+    ∙ issued_stays (entries c h) (entries c (t ∷ h)) (top_at c h) (line_of c h e) upto (list_gains laws c h t run is (line_of c h e) k.each) (reaches (top_at c h) (line_of c h e) g upto k.last low k.reached)
 
 -- so does each part through it
 pub part_lasts : Laws → (c : Config) (h : List Turn) (t : Turn) → IsConfig c → IsRun c h → IsTurn c h t → (e : ℕ) (g : LogGeneration) → generation_at c h e ≡ Some g → (tag after upto : ℕ) → upto ≤ top_at c h e
@@ -50,4 +50,4 @@ part_lasts laws c h t config run is e g at tag after upto le =
     let k = planned_list laws c h config run e g at in
     let low : upto ≤ top_at c h g.epoch = subst (λ x. upto ≤ top_at c h x) (sym k.own) le in
     ap (λ s. part_of c tag after upto (issued_of (entries c (t ∷ h)) s.gens)) (planned_state_stays laws c h t run is e g at)
-    ∙ part_stays (entries c h) (entries c (t ∷ h)) (top_at c h) (state_of c h e).gens c tag after upto (list_gains laws c h t run is (state_of c h e).gens k.each) (reaches (top_at c h) (state_of c h e).gens g upto k.last low k.reached)
+    ∙ part_stays (entries c h) (entries c (t ∷ h)) (top_at c h) (line_of c h e) c tag after upto (list_gains laws c h t run is (line_of c h e) k.each) (reaches (top_at c h) (line_of c h e) g upto k.last low k.reached)

@@ -7,7 +7,7 @@ use Rattle.fr_run.specs.Config.{Config}
 use Rattle.fr_run.specs.Turn.{Turn}
 use Rattle.fr_run.specs.Nodes.{generation_at, mark_version}
 use Rattle.fr_run.specs.Run.{IsRun}
-use Rattle.fr_run.specs.States.{state_of}
+use Rattle.fr_run.specs.States.{line_of}
 use Rattle.fr_run.specs.StateLaws.{IsConfig}
 use Rattle.fr_run.specs.Laws.{Laws}
 use Rattle.fr_run.proofs.Cells.{Contains-none, Contains-cases}
@@ -52,7 +52,7 @@ pub record HasFront (c : Config) (h : List Turn) (e : ℕ) (g : LogGeneration) :
 pub has_front : Laws → (c : Config) (h : List Turn) → IsConfig c → IsRun c h → (e : ℕ) (g : LogGeneration) → generation_at c h e ≡ Some g → HasFront c h e g
 has_front laws c h config run e g at =
     let k = planned_list laws c h config run e g at in
-    let f = go (state_of c h e).gens k.last k.ordered k.each k.own in
+    let f = go (line_of c h e) k.last k.ordered k.each k.own in
     record { front = f.0; is = f.1; rise = f.2 }
   where
     go : (gens : List LogGeneration) → last_of gens ≡ Some g → AreOrdered gens → All (λ x. generation_at c h x.epoch ≡ Some x) gens → g.epoch ≡ e

@@ -68,7 +68,7 @@ holds_at : Laws → (c : Config) (h : List Turn) → IsRun c h → (e i : ℕ) (
 holds_at laws c h run e i l own parts = record { reached = durable_below c h e (always_chained laws.nodes c h run e) l own; parts = parts }
 
 asked : Laws → (c : Config) (h : List Turn) → IsConfig c → IsRun c h → ((b : ℕ) (r : RecState) (p : Parent) (q : Plan) → rec_at c h b ≡ Some r → r.parent ≡ Some p → r.plan ≡ Some q → IsTrueCopy c h p q)
-    → (e i : ℕ) → i < logs_at c h e → Holds c h e i (log_at c h e i) → (from : NodeId) (a : LogAsk) → Sent h from (node.Log e i) (ask.Log a) ⊎ StorageMayAsk c from a → Holds c h e i (next_of (log_at c h e i) a)
+    → (e i : ℕ) → i < logs_at c h e → Holds c h e i (log_at c h e i) → (from : NodeId) (a : LogAsk) → Sent h from (node.Log e i) (ask.Log a) ⊎ StorageMayAsk c h from a → Holds c h e i (next_of (log_at c h e i) a)
 asked laws c h config run copies e i below k from a came =
     holds_at laws c h run e i (next_of l a) (asked_log laws.nodes c h run e i l own from a came)
     (log_change (λ l. IfSome l.seed (HasParts c h e i l)) l a k.parts (λ s at free. seed s came at free) (λ q at took. push q came at took l.seed refl (logs_know laws.nodes c h run e i below).seed k.parts) k.parts)
@@ -79,13 +79,13 @@ asked laws c h config run copies e i below k from a came =
     own : IsLogOf c h e (log_at c h e i)
     own = logs_are_own laws.nodes c h run e i below
 
-    seed : (s : SeedContent) → Sent h from (node.Log e i) (ask.Log a) ⊎ StorageMayAsk c from a → a ≡ Seed s → (log_at c h e i).seed ≡ None → HasParts c h e i (record (log_at c h e i) { seed = Some s }) s
+    seed : (s : SeedContent) → Sent h from (node.Log e i) (ask.Log a) ⊎ StorageMayAsk c h from a → a ≡ Seed s → (log_at c h e i).seed ≡ None → HasParts c h e i (record (log_at c h e i) { seed = Some s }) s
     seed s (inl sent) at free = seeded_has laws c h config run copies e i (log_at c h e i) (log_named laws.nodes c h run e i below) (own.unseeded free) from s (subst (λ x. Sent h from (node.Log e i) (ask.Log x)) at sent)
-    seed s (inr may) at free = absurd (no_seed c from s (subst (StorageMayAsk c from) at may))
+    seed s (inr may) at free = absurd (no_seed c h from s (subst (StorageMayAsk c h from) at may))
 
-    push : (q : PushContent) → Sent h from (node.Log e i) (ask.Log a) ⊎ StorageMayAsk c from a → a ≡ Push q → IsTaken (log_at c h e i) q → (o : Option SeedContent) → (log_at c h e i).seed ≡ o → IfSome o (IsSeedAt c h e)
+    push : (q : PushContent) → Sent h from (node.Log e i) (ask.Log a) ⊎ StorageMayAsk c h from a → a ≡ Push q → IsTaken (log_at c h e i) q → (o : Option SeedContent) → (log_at c h e i).seed ≡ o → IfSome o (IsSeedAt c h e)
         → IfSome o (HasParts c h e i (log_at c h e i)) → IfSome o (HasParts c h e i (record (log_at c h e i) { pushes = (log_at c h e i).pushes ++ q ∷ [] }))
-    push q (inr may) at took o seeded knows parts = absurd (no_push c from q (subst (StorageMayAsk c from) at may))
+    push q (inr may) at took o seeded knows parts = absurd (no_push c h from q (subst (StorageMayAsk c h from) at may))
     push q (inl sent) at took None seeded knows parts = tt
     push q (inl sent) at took (Some s) seeded knows parts =
         let low = starts_low laws c h run e knows.generation knows.of in

@@ -116,10 +116,10 @@ limits_of b l n = l
 
 -- ---- turns
 
-log_came : (c : Config) (h : List Turn) (from : NodeId) (e i : ℕ) (a : LogAsk) → Sent h from (node.Log e i) (ask.Log a) ⊎ StorageMayAsk c from a
+log_came : (c : Config) (h : List Turn) (from : NodeId) (e i : ℕ) (a : LogAsk) → Sent h from (node.Log e i) (ask.Log a) ⊎ StorageMayAsk c h from a
     → (was_sent h from (node.Log e i) (ask.Log a) || storage_may_ask c from a) ≡ true
 log_came c h from e i a (inl k) = or_left (was_sent h from (node.Log e i) (ask.Log a)) (storage_may_ask c from a) (is_sent h from (node.Log e i) (ask.Log a) k)
-log_came c h from e i a (inr k) = or_right (was_sent h from (node.Log e i) (ask.Log a)) (storage_may_ask c from a) (asks_may c from a k)
+log_came c h from e i a (inr k) = or_right (was_sent h from (node.Log e i) (ask.Log a)) (storage_may_ask c from a) (asks_may c h from a k)
 
 gone_event : (c : Config) (h : List Turn) (who : NodeId) → IsUp c h who → MayGo who → IsEventOf c h (Gone who)
 gone_event c h (node.Cell i) up k = absurd k

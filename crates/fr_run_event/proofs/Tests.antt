@@ -150,14 +150,14 @@ is_gone_from (t ∷ h) who e = elim (or_cases' (goes who t) (is_gone h who) e) [
 
 -- ---- what storage servers may ask
 
-pub may_ask : (c : Config) (from : NodeId) (a : LogAsk) → storage_may_ask c from a ≡ true → StorageMayAsk c from a
-may_ask c (node.Storage t) (lask.Peek e tag after most) k =
+pub may_ask : (c : Config) (h : List Turn) (from : NodeId) (a : LogAsk) → storage_may_ask c from a ≡ true → StorageMayAsk c h from a
+may_ask c h (node.Storage t) (lask.Peek e tag after most) k =
     let p = and_parts (t == tag) (nat_lt t (length c.begins)) k in
     (eqb-true t tag p.0, ltb-true t (length c.begins) p.1)
-may_ask c (node.Storage t) (lask.MarkAsked e) k = ltb-true t (length c.begins) k
-may_ask c from a k = absurd (cc)
+may_ask c h (node.Storage t) (lask.MarkAsked e) k = ltb-true t (length c.begins) k
+may_ask c h from a k = absurd (cc)
 
-pub asks_may : (c : Config) (from : NodeId) (a : LogAsk) → StorageMayAsk c from a → storage_may_ask c from a ≡ true
-asks_may c (node.Storage t) (lask.Peek e tag after most) k = both' (t == tag) (nat_lt t (length c.begins)) (eq-eqb t tag k.0) (lt-ltb t (length c.begins) k.1)
-asks_may c (node.Storage t) (lask.MarkAsked e) k = lt-ltb t (length c.begins) k
-asks_may c from a k = absurd k
+pub asks_may : (c : Config) (h : List Turn) (from : NodeId) (a : LogAsk) → StorageMayAsk c h from a → storage_may_ask c from a ≡ true
+asks_may c h (node.Storage t) (lask.Peek e tag after most) k = both' (t == tag) (nat_lt t (length c.begins)) (eq-eqb t tag k.0) (lt-ltb t (length c.begins) k.1)
+asks_may c h (node.Storage t) (lask.MarkAsked e) k = lt-ltb t (length c.begins) k
+asks_may c h from a k = absurd k

@@ -75,9 +75,9 @@ deliver c h from (node.Log x i) (ask.Log a) t l up e =
     sent_turn c h _ t (was_sent h from (node.Log x i) (ask.Log a) || storage_may_ask c from a)
     (λ k. (up, came (or_cases' (was_sent h from (node.Log x i) (ask.Log a)) (storage_may_ask c from a) k), refl, l)) e
   where
-    came : (was_sent h from (node.Log x i) (ask.Log a) ≡ true) ⊎ (storage_may_ask c from a ≡ true) → Sent h from (node.Log x i) (ask.Log a) ⊎ StorageMayAsk c from a
+    came : (was_sent h from (node.Log x i) (ask.Log a) ≡ true) ⊎ (storage_may_ask c from a ≡ true) → Sent h from (node.Log x i) (ask.Log a) ⊎ StorageMayAsk c h from a
     came (inl k) = inl (sent_is h from (node.Log x i) (ask.Log a) k)
-    came (inr k) = inr (may_ask c from a k)
+    came (inr k) = inr (may_ask c h from a k)
 deliver c h from (node.Sequencer x) (ask.Seq a) t l up e =
     sent_turn c h _ t (was_sent h from (node.Sequencer x) (ask.Seq a)) (λ k. (up, sent_is h from (node.Sequencer x) (ask.Seq a) k, refl)) e
 deliver c h from to a t l up e = absurd (cc)

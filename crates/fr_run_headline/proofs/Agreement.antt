@@ -15,7 +15,7 @@ use Rattle.fr_run.specs.Config.{Config, first_epoch, first_generation, first_sta
 use Rattle.fr_run.specs.Turn.{Turn}
 use Rattle.fr_run.specs.Nodes.{plan_at, generation_in, generation_at}
 use Rattle.fr_run.specs.Run.{IsRun}
-use Rattle.fr_run.specs.States.{state_in, state_of}
+use Rattle.fr_run.specs.States.{state_in, state_of, line_of}
 use Rattle.fr_run.specs.StateLaws.{IsConfig}
 use Rattle.fr_run_versions.specs.Numbers.{top_at}
 use Rattle.fr_run_contents.specs.Issued.{entries, issued_of, issued, part}
@@ -86,7 +86,7 @@ all_back P (x ∷ xs) ys k = all_back P xs ys (All-tail P x (xs ++ ys) k)
 
 -- what is issued through what the next generation was seeded to is the same for a list and its front
 pub front_issues : Laws → (c : Config) (h : List Turn) → IsConfig c → IsRun c h → (e : ℕ) (g : LogGeneration) → generation_at c h e ≡ Some g
-    → (front : List LogGeneration) (own next : LogGeneration) (rest : List LogGeneration) → (state_of c h e).gens ≡ front ++ own ∷ next ∷ rest
+    → (front : List LogGeneration) (own next : LogGeneration) (rest : List LogGeneration) → line_of c h e ≡ front ++ own ∷ next ∷ rest
     → (upto : ℕ) → upto ≤ next.seeded_to → through version_of upto (issued c h own.epoch) ≡ through version_of upto (issued c h e)
 front_issues laws c h config run e g at front own next rest is upto le =
     ap (λ gens. through version_of upto (issued_of (entries c h) gens)) mine
@@ -96,7 +96,7 @@ front_issues laws c h config run e g at front own next rest is upto le =
     list : HasList c h e g
     list = planned_list laws.contents.nodes c h config run e g at
 
-    mine : (state_of c h own.epoch).gens ≡ front ++ own ∷ []
+    mine : line_of c h own.epoch ≡ front ++ own ∷ []
     mine = front_is_state laws.contents.nodes c h config run e g at front own (next ∷ rest) is
 
     each : All (λ x. generation_at c h x.epoch ≡ Some x) (next ∷ rest)
@@ -118,12 +118,12 @@ planned_epoch laws c h config run e g at = let k = planned_list laws.contents.no
 
 pub parts_agree : Laws → (c : Config) (h : List Turn) → IsConfig c → IsRun c h → (e : ℕ) (g : LogGeneration) → generation_at c h e ≡ Some g → (tag : ℕ) → Agrees (pieces_at c h tag) (state_of c h e)
 parts_agree laws c h config run e g at tag epoch cut after upto is le =
-    go (next_of (state_of c h e).gens epoch) refl is ∙ ap (λ x. part c h x tag after upto) (sym (planned_epoch laws c h config run e g at))
+    go (next_of (line_of c h e) epoch) refl is ∙ ap (λ x. part c h x tag after upto) (sym (planned_epoch laws c h config run e g at))
   where
-    go : (n : Option LogGeneration) → next_of (state_of c h e).gens epoch ≡ n → option_map (λ (next : LogGeneration). next.seeded_to) n ≡ Some cut → part c h epoch tag after upto ≡ part c h e tag after upto
+    go : (n : Option LogGeneration) → next_of (line_of c h e) epoch ≡ n → option_map (λ (next : LogGeneration). next.seeded_to) n ≡ Some cut → part c h epoch tag after upto ≡ part c h e tag after upto
     go None here k = absurd (cc)
     go (Some next) here k =
         let same : next.seeded_to ≡ cut = cc in
-        let s = split_at (state_of c h e).gens epoch next here in
+        let s = split_at (line_of c h e) epoch next here in
         ap (λ x. part c h x tag after upto) (sym s.is)
         ∙ part_same c tag after upto upto (issued c h s.own.epoch) (issued c h e) (omega arith) (front_issues laws c h config run e g at s.before s.own next s.after s.are upto (omega (arith, le, same)))

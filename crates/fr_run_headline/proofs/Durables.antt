@@ -11,7 +11,7 @@ use Rattle.fr_run.specs.Config.{Config, first_epoch, first_generation}
 use Rattle.fr_run.specs.Turn.{Turn}
 use Rattle.fr_run.specs.Nodes.{plan_at, generation_in, generation_at, logs_in, logs_at, log_at}
 use Rattle.fr_run.specs.Run.{IsRun}
-use Rattle.fr_run.specs.States.{state_of, IsChosenEpoch}
+use Rattle.fr_run.specs.States.{line_of, IsChosenEpoch}
 use Rattle.fr_run.specs.StateLaws.{IsConfig}
 use Rattle.fr_run.proofs.States.{last_is}
 use Rattle.fr_run_versions.specs.Numbers.{top_at}
@@ -78,7 +78,7 @@ logs_within c h e g at = go (e == first_epoch) at
 pub has_log : Laws → (c : Config) (h : List Turn) → IsConfig c → IsRun c h → (e : ℕ) (g : LogGeneration) → generation_at c h e ≡ Some g → (1 ≤ g.k) × (g.k ≤ g.m)
 has_log laws c h config run e g at =
     let list = planned_list laws.contents.nodes c h config run e g at in
-    let is = last_is IsGeneration (state_of c h e).gens g list.last (state_is laws.contents.nodes c h config run e).limits in
+    let is = last_is IsGeneration (line_of c h e) g list.last (state_is laws.contents.nodes c h config run e).limits in
     (is.k_low, is.k_high)
 
 -- each log of a chosen epoch is there and seeded

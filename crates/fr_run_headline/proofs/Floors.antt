@@ -12,7 +12,7 @@ use Rattle.fr_run.specs.Config.{Config}
 use Rattle.fr_run.specs.Turn.{Turn}
 use Rattle.fr_run.specs.Nodes.{mark_version, generation_at}
 use Rattle.fr_run.specs.Run.{IsTurn, IsRun}
-use Rattle.fr_run.specs.States.{state_of}
+use Rattle.fr_run.specs.States.{state_of, line_of}
 use Rattle.fr_run.specs.StateLaws.{IsConfig}
 use Rattle.fr_run.proofs.Cells.{Contains-here, Contains-none, Contains-cases}
 use Rattle.fr_run_versions.specs.Numbers.{numbers, top_at}
@@ -70,36 +70,36 @@ seed_is_numbered laws c h run e g at =
 
 -- no cut in a planned epoch's state is above what the epoch was seeded to
 pub cut_is_seeded : Laws → (c : Config) (h : List Turn) → IsConfig c → IsRun c h → (e : ℕ) (g : LogGeneration) → generation_at c h e ≡ Some g → (epoch : ℕ) → cut_in (state_of c h e) epoch ≤ g.seeded_to
-cut_is_seeded laws c h config run e g at epoch = go (cut_of (state_of c h e).gens epoch) refl
+cut_is_seeded laws c h config run e g at epoch = go (cut_of (line_of c h e) epoch) refl
   where
     list : HasList c h e g
     list = planned_list laws.contents.nodes c h config run e g at
 
-    go : (o : Option ℕ) → cut_of (state_of c h e).gens epoch ≡ o → unwrap_or o 0 ≤ g.seeded_to
+    go : (o : Option ℕ) → cut_of (line_of c h e) epoch ≡ o → unwrap_or o 0 ≤ g.seeded_to
     go None here = omega arith
-    go (Some cut) here = laws.stores.below_last (state_of c h e).gens g epoch cut list.ordered list.last here
+    go (Some cut) here = laws.stores.below_last (line_of c h e) g epoch cut list.ordered list.last here
 
 -- ---- later generations
 
 -- what is below in a generation is not above what any later one of the list was seeded to
 pub taken_over : Laws → (c : Config) (h : List Turn) → IsConfig c → IsRun c h → (e : ℕ) (g : LogGeneration) → generation_at c h e ≡ Some g
-    → (front : List LogGeneration) (a n : LogGeneration) (rest : List LogGeneration) → (state_of c h e).gens ≡ front ++ a ∷ rest → Contains rest n → (v : ℕ) → IsBelow c h a.epoch v → v ≤ n.seeded_to
+    → (front : List LogGeneration) (a n : LogGeneration) (rest : List LogGeneration) → line_of c h e ≡ front ++ a ∷ rest → Contains rest n → (v : ℕ) → IsBelow c h a.epoch v → v ≤ n.seeded_to
 taken_over laws c h config run e g at front a n rest is later v below = (below_is_held_behind laws.contents.nodes c h config run e g at front a n rest is later v below).0
 
 -- ---- floors
 
 -- a safe floor is not above any cut of its epoch
 pub floor_within_cut : Laws → (c : Config) (h : List Turn) → IsConfig c → IsRun c h → (e own : ℕ) (g : LogGeneration) → generation_at c h e ≡ Some g
-    → (floor : ℕ) → IsSafeFloor c h (state_of c h own).gens floor → IfSome (cut_of (state_of c h e).gens own) (λ cut. floor ≤ cut)
-floor_within_cut laws c h config run e own g at floor safe = go (next_of (state_of c h e).gens own) refl
+    → (floor : ℕ) → IsSafeFloor c h (line_of c h own) floor → IfSome (cut_of (line_of c h e) own) (λ cut. floor ≤ cut)
+floor_within_cut laws c h config run e own g at floor safe = go (next_of (line_of c h e) own) refl
   where
-    go : (o : Option LogGeneration) → next_of (state_of c h e).gens own ≡ o → IfSome (option_map (λ (next : LogGeneration). next.seeded_to) o) (λ cut. floor ≤ cut)
+    go : (o : Option LogGeneration) → next_of (line_of c h e) own ≡ o → IfSome (option_map (λ (next : LogGeneration). next.seeded_to) o) (λ cut. floor ≤ cut)
     go None here = tt
     go (Some next) here =
-        let s = split_at (state_of c h e).gens own next here in
-        let mine : (state_of c h own).gens ≡ s.before ++ s.own ∷ [] = ap (λ x. (state_of c h x).gens) (sym s.is) ∙ front_is_state laws.contents.nodes c h config run e g at s.before s.own (next ∷ s.after) s.are in
+        let s = split_at (line_of c h e) own next here in
+        let mine : line_of c h own ≡ s.before ++ s.own ∷ [] = ap (line_of c h) (sym s.is) ∙ front_is_state laws.contents.nodes c h config run e g at s.before s.own (next ∷ s.after) s.are in
         let place = place_of (s.before ++ s.own ∷ []) safe.generation (subst (λ xs. Contains xs safe.generation) mine safe.there) in
-        let all : (state_of c h e).gens ≡ place.front ++ safe.generation ∷ (place.back ++ next ∷ s.after) =
+        let all : line_of c h e ≡ place.front ++ safe.generation ∷ (place.back ++ next ∷ s.after) =
         s.are
         ∙ sym (append_assoc s.before (s.own ∷ []) (next ∷ s.after))
         ∙ ap (λ (xs : List LogGeneration). xs ++ next ∷ s.after) place.is

@@ -19,7 +19,7 @@ use Rattle.fr_run.specs.Config.{Config, first_generation, first_state, first_sto
 use Rattle.fr_run.specs.Turn.{Turn, Begun, CellTurn, LogTurn, SeqTurn, Submitted, ProxyHeard, RecHeard, StorageHeard, Gone, Crashed, Told}
 use Rattle.fr_run.specs.Nodes.{storage_hear, part_hear, storage_after, storage_at}
 use Rattle.fr_run.specs.Run.{IsTurn, IsRun, fault_of_log, fault_of, MayBreak}
-use Rattle.fr_run.specs.States.{state_of}
+use Rattle.fr_run.specs.States.{state_of, line_of}
 use Rattle.fr_run.specs.StateLaws.{IsConfig}
 use Rattle.fr_run.proofs.Cells.{Contains-here, Contains-none, Contains-cases}
 use Rattle.fr_run.proofs.States.{first_is}
@@ -28,7 +28,7 @@ use Rattle.fr_run_contents.proofs.Parts.{part_lasts}
 use Rattle.fr_run_contents.proofs.Stays.{top_rises}
 use Rattle.fr_run_contents.proofs.Truths.{peeks_are_true}
 use Rattle.fr_run_headline.specs.Agreement.{pieces_at}
-use Rattle.fr_run_headline.specs.Storages.{IsStorageOf, StoragesFollow, HearsAreTaken, EachHearIsTaken}
+use Rattle.fr_run_headline.specs.Storages.{IsSafeFloor, IsStorageOf, StoragesFollow, HearsAreTaken, EachHearIsTaken}
 use Rattle.fr_run_headline.specs.Laws.{Laws}
 use Rattle.fr_run.proofs.Chosen.{chosen_is_planned, chosen_lasts}
 use Rattle.fr_run_headline.proofs.Agreement.{parts_are_pieces}
@@ -68,7 +68,7 @@ lasts laws c h t config run is tag s k =
       state = k.state ∙ sym (planned_state_stays nodes c h t run is own g.0 g.1);
       follows = laws.on (pieces_at c h tag) (pieces_at c (t ∷ h) tag) s k.follows (sym (part_lasts nodes c h t config run is own g.0 g.1 tag 0 s.store.applied k.numbered));
       numbered = omega (arith, was, top);
-      floor = floor_later laws c h t run is s.state.gens s.store.floor k.floor;
+      floor = subst (λ (y : CoordinatedState). IsSafeFloor c (t ∷ h) y.gens s.store.floor) (sym (planned_state_stays nodes c h t run is own g.0 g.1)) (floor_later laws c h t run is (line_of c h own) s.store.floor k.floor);
     }
 
 -- ---- one hear

@@ -20,7 +20,7 @@ use Rattle.fr_run.specs.Config.{Config}
 use Rattle.fr_run.specs.Turn.{Turn}
 use Rattle.fr_run.specs.Nodes.{generation_at, logs_at, log_at}
 use Rattle.fr_run.specs.Run.{IsRun}
-use Rattle.fr_run.specs.States.{state_of, IsChosenEpoch}
+use Rattle.fr_run.specs.States.{state_of, line_of, IsChosenEpoch}
 use Rattle.fr_run.specs.StateLaws.{IsConfig}
 use Rattle.fr_run_versions.specs.Numbers.{top_at}
 use Rattle.fr_run_versions.specs.Bounds.{IsBelow}
@@ -50,7 +50,7 @@ true_mark laws c h config run tag s k e chosen =
         | inl lt ↦ inr (chosen_are_chain laws.contents.nodes c h config run e own chosen k.chosen (omega (arith, lt)))
         | inr ge ↦ inl (chosen_are_chain laws.contents.nodes c h config run own e k.chosen chosen ge)
       ]);
-      floor = floor_within_cut laws c h config run e own g.0 g.1 s.store.floor (subst (λ (x : CoordinatedState). IsSafeFloor c h x.gens s.store.floor) k.state k.floor);
+      floor = floor_within_cut laws c h config run e own g.0 g.1 s.store.floor k.floor;
     }
   where
     own : ℕ
@@ -70,14 +70,14 @@ after_mark laws c h config run tag s k e chosen = elim (cases_lt own e) [
       let top = seed_is_numbered laws c h run e g.0 g.1 in
       let low : (after_marked s x).store.applied ≤ top_at c h e = omega (arith, applied, cut, top) in
       let front = chosen_are_chain laws.contents.nodes c h config run own e k.chosen chosen (omega (arith, lt)) in
-      let floor : IsSafeFloor c h x.gens s.store.floor = floor_in_front c h (state_of c h own).gens x.gens s.store.floor front (subst (λ (y : CoordinatedState). IsSafeFloor c h y.gens s.store.floor) k.state k.floor) in
+      let floor : IsSafeFloor c h (line_of c h e) s.store.floor = floor_in_front c h (line_of c h own) (line_of c h e) s.store.floor front k.floor in
       record {
         tag_is = laws.keeps_tag s x ∙ k.tag_is;
         chosen = subst (IsChosenEpoch c h) (sym epoch) chosen;
         state = same ∙ ap (state_of c h) (sym epoch);
         follows = leads.follows;
         numbered = subst (λ y. (after_marked s x).store.applied ≤ top_at c h y) (sym epoch) low;
-        floor = subst (λ (y : CoordinatedState). IsSafeFloor c h y.gens (after_marked s x).store.floor) (sym same) (subst (IsSafeFloor c h x.gens) (sym leads.floor) floor);
+        floor = subst (λ y. IsSafeFloor c h (line_of c h y) (after_marked s x).store.floor) (sym epoch) (subst (IsSafeFloor c h (line_of c h e)) (sym leads.floor) floor);
       })
   | inr ge ↦ subst (IsStorageOf c h tag) (sym (leads.stays (omega (arith, ge, here)))) k
 ]
@@ -108,7 +108,7 @@ left_at c h tag s k version least most t left le = record {
   state = k.state;
   follows = left.follows;
   numbered = (let at = left.applied in omega (arith, at, le));
-  floor = subst (IsSafeFloor c h s.state.gens) (sym left.floor) k.floor;
+  floor = subst (IsSafeFloor c h (line_of c h (own_epoch s.state))) (sym left.floor) k.floor;
 }
 
 pub broken_mark : Laws → (c : Config) (h : List Turn) → IsConfig c → IsRun c h → (tag : ℕ) (s : StorageState) → IsStorageOf c h tag s → (e : ℕ) → IsChosenEpoch c h e → marked_fault s (state_of c h e) ≡ None
@@ -211,14 +211,14 @@ target_numbered laws c h config run tag s k e i p reached there taken = go (next
         omega (arith, le, low, in_own, same, seeded, numbered)
 
 -- the floor after records is safe
-floor_rises : Laws → (c : Config) (h : List Turn) → IsRun c h → (s : StorageState) → IsCoordinatedState s.state → (e i : ℕ) (p : PeekedContent) → i < logs_at c h e → p.known ≤ known_of (log_at c h e i)
-    → IsSafeFloor c h s.state.gens s.store.floor → peeked_fault s e p ≡ None → (upto : ℕ) → IsSafeFloor c h s.state.gens (max s.store.floor (min p.known upto))
-floor_rises laws c h run s is e i p there known safe taken upto = elim (cases_lt s.store.floor (min p.known upto)) [
+floor_rises : Laws → (c : Config) (h : List Turn) → IsRun c h → (s : StorageState) → IsCoordinatedState s.state → s.state ≡ state_of c h (own_epoch s.state) → (e i : ℕ) (p : PeekedContent) → i < logs_at c h e → p.known ≤ known_of (log_at c h e i)
+    → IsSafeFloor c h (line_of c h (own_epoch s.state)) s.store.floor → peeked_fault s e p ≡ None → (upto : ℕ) → IsSafeFloor c h (line_of c h (own_epoch s.state)) (max s.store.floor (min p.known upto))
+floor_rises laws c h run s is own e i p there known safe taken upto = elim (cases_lt s.store.floor (min p.known upto)) [
   | inl lt ↦ (
       let src = source_there laws s is e p taken in
       let below = log_known_below laws.contents.nodes c h run e i there in
-      record { generation = src.0; there = src.1; below = subst (λ y. IsBelow c h y (max s.store.floor (min p.known upto))) (sym src.2) (below_lower c h e (max s.store.floor (min p.known upto)) (known_of (log_at c h e i)) (omega (arith, lt, known)) below) })
-  | inr ge ↦ floor_lower c h s.state.gens (max s.store.floor (min p.known upto)) s.store.floor (omega (arith, ge)) safe
+      record { generation = src.0; there = subst (λ (y : CoordinatedState). Contains y.gens src.0) own src.1; below = subst (λ y. IsBelow c h y (max s.store.floor (min p.known upto))) (sym src.2) (below_lower c h e (max s.store.floor (min p.known upto)) (known_of (log_at c h e i)) (omega (arith, lt, known)) below) })
+  | inr ge ↦ floor_lower c h (line_of c h (own_epoch s.state)) (max s.store.floor (min p.known upto)) s.store.floor (omega (arith, ge)) safe
 ]
 
 pub after_peek : Laws → (c : Config) (h : List Turn) → IsConfig c → IsRun c h → (tag : ℕ) (s : StorageState) → IsStorageOf c h tag s → (e i : ℕ) (p : PeekedContent) → p.tag ≡ tag → tag < length c.begins → IsTrueTell c h e i p
@@ -243,14 +243,14 @@ after_peek laws c h config run tag s k e i p same inside told = go (peeked_fault
         let target = target_numbered laws c h config run tag s k e i p (told.upto (omega (arith, inside, same))) told.there at in
         let was = k.numbered in
         let low : n.store.applied ≤ top_at c h (own_epoch s.state) = omega (arith, applied, target, was) in
-        let floor = floor_rises laws c h run s k.follows.state e i p told.there told.known k.floor at (max s.store.applied (target_of s e p)) in
+        let floor = floor_rises laws c h run s k.follows.state k.state e i p told.there told.known k.floor at (max s.store.applied (target_of s e p)) in
         record {
           tag_is = tag_stays at;
           chosen = subst (IsChosenEpoch c h) (sym epoch) k.chosen;
           state = kept ∙ k.state ∙ ap (state_of c h) (sym epoch);
           follows = leads.follows;
           numbered = subst (λ y. n.store.applied ≤ top_at c h y) (sym epoch) low;
-          floor = subst (λ (y : CoordinatedState). IsSafeFloor c h y.gens n.store.floor) (sym kept) (subst (IsSafeFloor c h s.state.gens) (sym (leads.floor at)) floor);
+          floor = subst (λ (y : CoordinatedState). IsSafeFloor c h (line_of c h (own_epoch y)) n.store.floor) (sym kept) (subst (IsSafeFloor c h (line_of c h (own_epoch s.state))) (sym (leads.floor at)) floor);
         }
       where
         tag_stays : peeked_fault s e p ≡ None → (after_peeked s e p).tag ≡ tag

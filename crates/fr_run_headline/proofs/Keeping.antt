@@ -16,7 +16,7 @@ use Rattle.fr_run.specs.Config.{Config}
 use Rattle.fr_run.specs.Turn.{Turn}
 use Rattle.fr_run.specs.Nodes.{generation_at, mark_version}
 use Rattle.fr_run.specs.Run.{IsRun}
-use Rattle.fr_run.specs.States.{state_of, IsChosenEpoch}
+use Rattle.fr_run.specs.States.{state_of, line_of, IsChosenEpoch}
 use Rattle.fr_run.specs.StateLaws.{IsConfig}
 use Rattle.fr_run.proofs.Cells.{Contains-here, Contains-later, Contains-none, Contains-cases}
 use Rattle.fr_run_versions.specs.Numbers.{Numbering, numbers}
@@ -66,9 +66,9 @@ pub record HasIn (c : Config) (h : List Turn) (s : StorageState) (entry : Entry)
   pub applied : entry.version ≤ s.store.applied
 
 -- what it has applied is, as a floor, safe, if it is below in its epoch
-has_safe : (c : Config) (h : List Turn) (tag : ℕ) (s : StorageState) → IsStorageOf c h tag s → (entry : Entry) → IsBelow c h entry.origin entry.version → HasIn c h s entry → IsSafeFloor c h (state_of c h (own_epoch s.state)).gens entry.version
+has_safe : (c : Config) (h : List Turn) (tag : ℕ) (s : StorageState) → IsStorageOf c h tag s → (entry : Entry) → IsBelow c h entry.origin entry.version → HasIn c h s entry → IsSafeFloor c h (line_of c h (own_epoch s.state)) entry.version
 has_safe c h tag s k entry below has =
-    let from = issued_from c h (state_of c h (own_epoch s.state)).gens entry has.issued in
+    let from = issued_from c h (line_of c h (own_epoch s.state)) entry has.issued in
     record { generation = from.0; there = from.1; below = subst (λ x. IsBelow c h x entry.version) (sym from.2) below }
 
 -- ---- hears

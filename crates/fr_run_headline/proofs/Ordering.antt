@@ -11,7 +11,7 @@ use Rattle.fr_run.specs.Config.{Config}
 use Rattle.fr_run.specs.Turn.{Turn}
 use Rattle.fr_run.specs.Nodes.{log_at, storage_at}
 use Rattle.fr_run.specs.Run.{IsRun}
-use Rattle.fr_run.specs.States.{state_of}
+use Rattle.fr_run.specs.States.{state_of, line_of}
 use Rattle.fr_run.specs.StateLaws.{IsConfig}
 use Rattle.fr_run.proofs.Chosen.{open_is_chosen}
 use Rattle.fr_run_versions.specs.Bounds.{IsBelow, IsMarkOf}
@@ -30,10 +30,10 @@ use Rattle.fr_run_headline.proofs.Following.{storages_follow}
 use Rattle.fr_run_headline.proofs.Places.{last_place}
 
 -- what is below in a planned epoch is, as a floor, safe there
-below_is_safe : Laws → (c : Config) (h : List Turn) → IsConfig c → IsRun c h → (e v : ℕ) → IsBelow c h e v → IsSafeFloor c h (state_of c h e).gens v
+below_is_safe : Laws → (c : Config) (h : List Turn) → IsConfig c → IsRun c h → (e v : ℕ) → IsBelow c h e v → IsSafeFloor c h (line_of c h e) v
 below_is_safe laws c h config run e v k =
     let list = planned_list laws.contents.nodes c h config run e k.generation k.at in
-    let place = last_place (state_of c h e).gens k.generation list.last in
+    let place = last_place (line_of c h e) k.generation list.last in
     record {
       generation = k.generation;
       there = subst (λ (xs : List LogGeneration). Contains xs k.generation) (sym place.is) (Contains-push place.front k.generation);
@@ -55,14 +55,13 @@ pub floor_is_never_cut : Laws → FloorIsNeverCut
 floor_is_never_cut laws c h config run tag x g at =
     let s = storage_at c h tag in
     let k = storages_follow laws c h config run tag in
-    floor_within_cut laws c h config run x (own_epoch s.state) g at s.store.floor (subst (λ (y : CoordinatedState). IsSafeFloor c h y.gens s.store.floor) k.state k.floor)
+    floor_within_cut laws c h config run x (own_epoch s.state) g at s.store.floor k.floor
 
 pub floor_is_taken_over : Laws → FloorIsTakenOver
 floor_is_taken_over laws c h config run tag =
     let s = storage_at c h tag in
     let k = storages_follow laws c h config run tag in
-    let safe : IsSafeFloor c h (state_of c h (own_epoch s.state)).gens s.store.floor = subst (λ (y : CoordinatedState). IsSafeFloor c h y.gens s.store.floor) k.state k.floor in
-    below_is_recovered laws.contents.nodes c h config run (own_epoch s.state) k.chosen safe.generation safe.there s.store.floor safe.below
+    below_is_recovered laws.contents.nodes c h config run (own_epoch s.state) k.chosen k.floor.generation k.floor.there s.store.floor k.floor.below
 
 pub held_is_chosen : Laws → HeldIsChosen
 held_is_chosen laws c h config run e i q there held =

@@ -8,7 +8,7 @@ use Rattle.std.proofs.lemmas.List.{same_from_push}
 use Rattle.std.proofs.lemmas.List.Elements.{All-contains, All-weaker, Contains-append_left, Contains-append_right}
 use Rattle.fr_base.specs.declared.place.NodeId.{NodeId}
 use Rattle.fr_base.specs.declared.place.NodeId.TheVariants as node
-use Rattle.fr_state.specs.Generations.{LogGeneration, CoordinatedState, IsGeneration, IsCoordinatedState, last_of}
+use Rattle.fr_state.specs.Generations.{LogGeneration, IsGeneration, IsCoordinatedState, last_of}
 use Rattle.fr_state.specs.LookUp.{next_of, end_of, cut_of, source_of}
 use Rattle.fr_tags.specs.Placement.{is_held, log_count}
 use Rattle.fr_log.specs.Seed.{SeedContent}
@@ -21,16 +21,14 @@ use Rattle.fr_run.specs.Config.{Config, first_epoch, first_generation}
 use Rattle.fr_run.specs.Turn.{Turn, Begun, CellTurn, LogTurn, SeqTurn, Submitted, ProxyHeard, RecHeard, StorageHeard, Gone, Crashed}
 use Rattle.fr_run.specs.Nodes.{rec_at, generation_at, logs_at, log_at}
 use Rattle.fr_run.specs.Run.{IsRun}
-use Rattle.fr_run.specs.States.{state_of}
+use Rattle.fr_run.specs.States.{state_of, line_of}
 use Rattle.fr_run.specs.StateLaws.{IsConfig}
 use Rattle.fr_run.proofs.Cells.{Contains-here, Contains-later, Contains-none, Contains-cases}
-use Rattle.fr_run.proofs.Chosen.{first_is_chosen, chosen_is_planned, chosen_are_chain, state_planned}
-use Rattle.fr_run.proofs.Register.{has_found}
-use Rattle.fr_run.proofs.States.{last_more, recoverers_have_states, state_is}
+use Rattle.fr_run.proofs.Chosen.{first_is_chosen, chosen_is_planned, chosen_are_chain}
+use Rattle.fr_run.proofs.States.{last_more, state_is}
 use Rattle.fr_run_versions.specs.Bounds.{HasReached, AllReach, IsSeedAt}
 use Rattle.fr_run_versions.specs.LogLaws.{tally, StandsAt}
 use Rattle.fr_run_versions.specs.SeededLaws.{IsSeededEpoch}
-use Rattle.fr_run.specs.States.{line_of}
 use Rattle.fr_run.proofs.Parents.{parent_is, plan_line, planned_by}
 use Rattle.fr_run_versions.proofs.Behind.{front_is_state, behind_is_seeded}
 use Rattle.fr_run_versions.proofs.Ends.{end_is_of_replies}
@@ -87,7 +85,7 @@ gone_is_lost (t ∷ h) e i k = elim (Contains-cases t h (Gone (node.Log e i)) k)
 
 -- so each of its logs has come that far
 end_is_reached : Laws → (c : Config) (h : List Turn) → IsConfig c → IsRun c h → (e : ℕ) (g : LogGeneration) → generation_at c h e ≡ Some g
-    → (front : List LogGeneration) (own next : LogGeneration) (rest : List LogGeneration) → (state_of c h e).gens ≡ front ++ own ∷ next ∷ rest
+    → (front : List LogGeneration) (own next : LogGeneration) (rest : List LogGeneration) → line_of c h e ≡ front ++ own ∷ next ∷ rest
     → (i : ℕ) → i < logs_at c h own.epoch → IsSome (log_at c h own.epoch i).seed → next.first ≤ durable_of (log_at c h own.epoch i) + 1
 end_is_reached laws c h config run e g at front own next rest is i there seeded = elim (planned_by c h next.epoch next own_next) [
   | inl first ↦ absurd (no_first first.0)
@@ -97,19 +95,19 @@ end_is_reached laws c h config run e g at front own next rest is i there seeded 
     list : HasList c h e g
     list = planned_list laws.contents.nodes c h config run e g at
 
-    all : (state_of c h e).gens ≡ (front ++ own ∷ []) ++ next ∷ rest
+    all : line_of c h e ≡ (front ++ own ∷ []) ++ next ∷ rest
     all = is ∙ sym (append_assoc front (own ∷ []) (next ∷ rest))
 
     own_next : generation_at c h next.epoch ≡ Some next
-    own_next = All-contains (λ x. generation_at c h x.epoch ≡ Some x) (state_of c h e).gens next list.each (subst (λ xs. Contains xs next) (sym all) (Contains-append_right (front ++ own ∷ []) (next ∷ rest) next (Contains-here next rest)))
+    own_next = All-contains (λ x. generation_at c h x.epoch ≡ Some x) (line_of c h e) next list.each (subst (λ xs. Contains xs next) (sym all) (Contains-append_right (front ++ own ∷ []) (next ∷ rest) next (Contains-here next rest)))
 
-    mine : (state_of c h next.epoch).gens ≡ (front ++ own ∷ []) ++ next ∷ []
+    mine : line_of c h next.epoch ≡ (front ++ own ∷ []) ++ next ∷ []
     mine = front_is_state laws.contents.nodes c h config run e g at (front ++ own ∷ []) next rest all
 
     -- the first generation has none behind it
     no_first : next.epoch ≡ first_epoch → ⊥
     no_first first =
-        let one : (state_of c h next.epoch).gens ≡ first_generation c ∷ [] = ap (λ x. (state_of c h x).gens) first in
+        let one : line_of c h next.epoch ≡ first_generation c ∷ [] = ap (line_of c h) first in
         let same : (front ++ own ∷ []) ++ next ∷ [] ≡ first_generation c ∷ [] = sym mine ∙ one in
         let many = ap length same in
         let a = length-append (front ++ own ∷ []) (next ∷ []) in
@@ -181,7 +179,7 @@ log_has laws c h config run g at i tag version inside there held first durable (
     low = seed.first ∙ (let two : Some seed.generation ≡ Some g = sym seed.of ∙ at in let one : seed.generation ≡ g = cc in ap (λ (x : LogGeneration). x.first) one)
 
 -- a holder that is left serves the version
-served : Laws → (c : Config) (h : List Turn) → IsConfig c → IsRun c h → (e tag version : ℕ) → tag < length c.begins → (src : LogGeneration) → source_of (state_of c h e).gens version ≡ Some src → generation_at c h src.epoch ≡ Some src
+served : Laws → (c : Config) (h : List Turn) → IsConfig c → IsRun c h → (e tag version : ℕ) → tag < length c.begins → (src : LogGeneration) → source_of (line_of c h e) version ≡ Some src → generation_at c h src.epoch ≡ Some src
     → src.first ≤ version → src.k ≤ src.m → log_count src.m (lost_logs h src.epoch) < src.k → AllReach c h src.epoch src version
     → part_records c h src.epoch tag (version - 1) version ≡ part_records c h e tag (version - 1) version → IsRetrievable c h e tag version
 served laws c h config run e tag version inside src is at first le few all same =
@@ -206,7 +204,7 @@ pub committed_is_retrievable : Laws → CommittedIsRetrievable
 committed_is_retrievable laws c h config run e latest few tag inside version low high = go (source_of gens version) refl
   where
     gens : List LogGeneration
-    gens = (state_of c h e).gens
+    gens = line_of c h e
 
     is : IsCoordinatedState (state_of c h e)
     is = state_is laws.contents.nodes c h config run e

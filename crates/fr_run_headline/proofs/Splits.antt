@@ -8,7 +8,7 @@ use Rattle.fr_run.specs.Config.{Config}
 use Rattle.fr_run.specs.Turn.{Turn}
 use Rattle.fr_run.specs.Nodes.{generation_at}
 use Rattle.fr_run.specs.Run.{IsRun}
-use Rattle.fr_run.specs.States.{state_of, IsChosenEpoch}
+use Rattle.fr_run.specs.States.{line_of, IsChosenEpoch}
 use Rattle.fr_run.specs.StateLaws.{IsConfig, IsFrontOf}
 use Rattle.fr_run.proofs.Cells.{Contains-here}
 use Rattle.fr_run_versions.specs.Bounds.{IsBelow}
@@ -30,8 +30,8 @@ pub record IsLaterSplit (c : Config) (h : List Turn) (a e : ℕ) (g : LogGenerat
   pub rest : List LogGeneration
   pub of : generation_at c h a ≡ Some own
   pub epoch : own.epoch ≡ a
-  pub are : (state_of c h e).gens ≡ front ++ own ∷ next ∷ rest
-  pub cut : cut_of (state_of c h e).gens a ≡ Some next.seeded_to
+  pub are : line_of c h e ≡ front ++ own ∷ next ∷ rest
+  pub cut : cut_of (line_of c h e) a ≡ Some next.seeded_to
   pub low : own.seeded_to ≤ next.seeded_to
   pub high : next.seeded_to ≤ g.seeded_to
 
@@ -47,24 +47,24 @@ later_split laws c h config run a e g chosen new at lt = go front.0 front.1
     list : HasList c h e g
     list = planned_list laws.contents.nodes c h config run e g at
 
-    place : IsLast (state_of c h a).gens own.0
-    place = last_place (state_of c h a).gens own.0 mine.last
+    place : IsLast (line_of c h a) own.0
+    place = last_place (line_of c h a) own.0 mine.last
 
-    front : IsFrontOf (state_of c h a).gens (state_of c h e).gens
+    front : IsFrontOf (line_of c h a) (line_of c h e)
     front = chosen_are_chain laws.contents.nodes c h config run a e chosen new (omega (arith, lt))
 
-    go : (more : List LogGeneration) → (state_of c h a).gens ++ more ≡ (state_of c h e).gens → IsLaterSplit c h a e g
+    go : (more : List LogGeneration) → line_of c h a ++ more ≡ line_of c h e → IsLaterSplit c h a e g
     go [] is =
-        let same : Some own.0 ≡ Some g = sym mine.last ∙ ap last_of (sym (append-nil (state_of c h a).gens) ∙ is) ∙ list.last in
+        let same : Some own.0 ≡ Some g = sym mine.last ∙ ap last_of (sym (append-nil (line_of c h a)) ∙ is) ∙ list.last in
         let both : own.0 ≡ g = cc in
         let here : a ≡ e = sym mine.own ∙ ap (λ (x : LogGeneration). x.epoch) both ∙ list.own in
         absurd (omega (arith, lt, here))
     go (next ∷ rest) is =
-        let are : (state_of c h e).gens ≡ place.front ++ own.0 ∷ next ∷ rest = sym is ∙ ap (λ (xs : List LogGeneration). xs ++ next ∷ rest) place.is ∙ append_assoc place.front (own.0 ∷ []) (next ∷ rest) in
+        let are : line_of c h e ≡ place.front ++ own.0 ∷ next ∷ rest = sym is ∙ ap (λ (xs : List LogGeneration). xs ++ next ∷ rest) place.is ∙ append_assoc place.front (own.0 ∷ []) (next ∷ rest) in
         let ordered : AreOrdered (place.front ++ own.0 ∷ next ∷ rest) = subst AreOrdered are list.ordered in
         let tells = (laws.next_tells place.front rest own.0 next ordered).1 in
-        let cut : cut_of (state_of c h e).gens own.0.epoch ≡ Some next.seeded_to = ap (λ (xs : List LogGeneration). cut_of xs own.0.epoch) are ∙ tells in
-        let there : Contains (state_of c h e).gens own.0 = subst (λ (xs : List LogGeneration). Contains xs own.0) (sym are) (Contains-append_right place.front (own.0 ∷ next ∷ rest) own.0 (Contains-here own.0 (next ∷ rest))) in
+        let cut : cut_of (line_of c h e) own.0.epoch ≡ Some next.seeded_to = ap (λ (xs : List LogGeneration). cut_of xs own.0.epoch) are ∙ tells in
+        let there : Contains (line_of c h e) own.0 = subst (λ (xs : List LogGeneration). Contains xs own.0) (sym are) (Contains-append_right place.front (own.0 ∷ next ∷ rest) own.0 (Contains-here own.0 (next ∷ rest))) in
         record {
           front = place.front;
           own = own.0;
@@ -73,9 +73,9 @@ later_split laws c h config run a e g chosen new at lt = go front.0 front.1
           of = own.1;
           epoch = mine.own;
           are = are;
-          cut = ap (cut_of (state_of c h e).gens) (sym mine.own) ∙ cut;
-          low = laws.stores.above_seed (state_of c h e).gens own.0 next.seeded_to list.ordered there cut;
-          high = laws.stores.below_last (state_of c h e).gens g own.0.epoch next.seeded_to list.ordered list.last cut;
+          cut = ap (cut_of (line_of c h e)) (sym mine.own) ∙ cut;
+          low = laws.stores.above_seed (line_of c h e) own.0 next.seeded_to list.ordered there cut;
+          high = laws.stores.below_last (line_of c h e) g own.0.epoch next.seeded_to list.ordered list.last cut;
         }
 
 -- what is below in the earlier epoch is not above what the next generation was seeded to

@@ -7,7 +7,7 @@ use Rattle.fr_run.specs.Config.{Config}
 use Rattle.fr_run.specs.Turn.{Turn}
 use Rattle.fr_run.specs.Nodes.{generation_at, storage_at}
 use Rattle.fr_run.specs.Run.{IsRun}
-use Rattle.fr_run.specs.States.{state_of, IsChosenEpoch, IsLatest}
+use Rattle.fr_run.specs.States.{line_of, IsChosenEpoch, IsLatest}
 use Rattle.fr_run.specs.StateLaws.{IsConfig}
 use Rattle.fr_run_versions.specs.Numbers.{Numbering, numbers, top_at}
 use Rattle.fr_run_versions.specs.Bounds.{IsBelow}
@@ -35,7 +35,7 @@ use Rattle.fr_run_headline.proofs.Exact.{rolled_back_is_exact}
 own_commit : Laws → (c : Config) (h : List Turn) → IsConfig c → IsRun c h → (e : ℕ) (g : LogGeneration) → generation_at c h e ≡ Some g → (n : Numbering) → Contains (numbers h e) n → Contains (issued c h e) (entry_of h e n)
 own_commit laws c h config run e g at n k =
     let list = planned_list laws.contents.nodes c h config run e g at in
-    let place = last_place (state_of c h e).gens g list.last in
+    let place = last_place (line_of c h e) g list.last in
     let here : Contains (entries c h g.epoch) (entry_of h e n) = subst (λ x. Contains (entries c h x) (entry_of h e n)) (sym list.own) (entries_have c h e n k) in
     subst (λ gens. Contains (issued_of (entries c h) gens) (entry_of h e n)) (sym place.is) (issued_has (entries c h) place.front g [] (entry_of h e n) here tt)
 

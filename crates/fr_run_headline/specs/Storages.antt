@@ -11,7 +11,7 @@ use Rattle.fr_run.specs.Config.{Config}
 use Rattle.fr_run.specs.Turn.{Turn, StorageHeard}
 use Rattle.fr_run.specs.Nodes.{storage_at}
 use Rattle.fr_run.specs.Run.{IsRun}
-use Rattle.fr_run.specs.States.{state_of, IsChosenEpoch}
+use Rattle.fr_run.specs.States.{state_of, line_of, IsChosenEpoch}
 use Rattle.fr_run.specs.StateLaws.{IsConfig}
 use Rattle.fr_run_versions.specs.Numbers.{top_at}
 use Rattle.fr_run_versions.specs.Bounds.{IsBelow}
@@ -31,7 +31,7 @@ pub record IsStorageOf (c : Config) (h : List Turn) (tag : ℕ) (s : StorageStat
   pub state : s.state ≡ state_of c h (own_epoch s.state)
   pub follows : Follows (pieces_at c h tag) s
   pub numbered : s.store.applied ≤ top_at c h (own_epoch s.state)
-  pub floor : IsSafeFloor c h s.state.gens s.store.floor
+  pub floor : IsSafeFloor c h (line_of c h (own_epoch s.state)) s.store.floor
 
 -- at every moment each storage server is such a one, also one that ran ahead, that skipped epochs, or whose hear broke off
 abbrev pub StoragesFollow : Type 0

@@ -2,9 +2,9 @@
 use Rattle.std.proofs.Common.{◌≡◌, ℕ, zero, suc, ◌<◌, true, List, [], ◌∷◌, ◌++◌, append_assoc, Some, inl, inr, refl, sym, ◌∙◌, ap, subst, arith}
 use Rattle.std.specs.List.{All}
 use Rattle.std.proofs.lemmas.List.Elements.{All-nil, All-push, All-head, All-tail}
-use Rattle.fr_state.specs.Generations.{LogGeneration, CoordinatedState, AreOrdered, last_of}
+use Rattle.fr_state.specs.Generations.{LogGeneration, last_of}
 use Rattle.fr_epoch.specs.Recoverer.{RecState, Parent, Plan, is_written}
-use Rattle.fr_run.specs.Config.{Config, first_epoch, first_generation, first_state}
+use Rattle.fr_run.specs.Config.{Config, first_epoch, first_generation}
 use Rattle.fr_run.specs.Turn.{Turn}
 use Rattle.fr_run.specs.Nodes.{rec_at, generation_at}
 use Rattle.fr_run.specs.Run.{IsRun}
@@ -14,7 +14,6 @@ use Rattle.fr_run.specs.StateLaws.{IsConfig}
 use Rattle.fr_run.proofs.Growth.{rec_is}
 use Rattle.fr_run.proofs.States.{last_more}
 use Rattle.fr_run.proofs.States.{state_is as within}
-use Rattle.fr_run.proofs.Chosen.{state_planned}
 use Rattle.fr_run.proofs.Parents.{plan_is, parent_is_planned, plan_line, planned_by}
 use Rattle.fr_run_versions.specs.SeededLaws.{IsSeededEpoch}
 use Rattle.fr_run_versions.specs.BehindLaws.{HasGenerations, GenerationsAreOwn, FrontIsState, BehindIsSeeded}

@@ -160,18 +160,18 @@ seed_later : Laws → (c : Config) (h : List Turn) (t : Turn) → IsRun c h → 
 seed_later laws c h t run is e None k = tt
 seed_later laws c h t run is e (Some s) k = record { generation = k.generation; of = generation_stays laws c h t run is e k.generation k.of; first = k.first; seeded_to = k.seeded_to }
 
-asked : Laws → (c : Config) (h : List Turn) → IsRun c h → (e i : ℕ) (l : LogState) → IsKnowing c h e l → (from : NodeId) (a : LogAsk) → Sent h from (node.Log e i) (ask.Log a) ⊎ StorageMayAsk c from a → IsKnowing c h e (next_of l a)
+asked : Laws → (c : Config) (h : List Turn) → IsRun c h → (e i : ℕ) (l : LogState) → IsKnowing c h e l → (from : NodeId) (a : LogAsk) → Sent h from (node.Log e i) (ask.Log a) ⊎ StorageMayAsk c h from a → IsKnowing c h e (next_of l a)
 asked laws c h run e i l k from a came =
     log_change (IsKnowing c h e) l a k (λ s at none. record { seed = seed s at came; pushes = k.pushes })
     (λ q at took. record { seed = k.seed; pushes = All-push (λ q. IsBelow c h e q.known) l.pushes q k.pushes (push q at came) }) (record { seed = k.seed; pushes = k.pushes })
   where
-    seed : (s : SeedContent) → a ≡ Seed s → Sent h from (node.Log e i) (ask.Log a) ⊎ StorageMayAsk c from a → IsSeedAt c h e s
+    seed : (s : SeedContent) → a ≡ Seed s → Sent h from (node.Log e i) (ask.Log a) ⊎ StorageMayAsk c h from a → IsSeedAt c h e s
     seed s at (inl sent) = seeds_are_at laws c h run from e i s (subst (λ x. Sent h from (node.Log e i) (ask.Log x)) at sent)
-    seed s at (inr may) = absurd (no_seed c from s (subst (StorageMayAsk c from) at may))
+    seed s at (inr may) = absurd (no_seed c h from s (subst (StorageMayAsk c h from) at may))
 
-    push : (q : PushContent) → a ≡ Push q → Sent h from (node.Log e i) (ask.Log a) ⊎ StorageMayAsk c from a → IsBelow c h e q.known
+    push : (q : PushContent) → a ≡ Push q → Sent h from (node.Log e i) (ask.Log a) ⊎ StorageMayAsk c h from a → IsBelow c h e q.known
     push q at (inl sent) = push_known_below laws c h run from e i q (subst (λ x. Sent h from (node.Log e i) (ask.Log x)) at sent)
-    push q at (inr may) = absurd (no_push c from q (subst (StorageMayAsk c from) at may))
+    push q at (inr may) = absurd (no_push c h from q (subst (StorageMayAsk c h from) at may))
 
 made : (c : Config) (h : List Turn) (e i : ℕ) (o : Option Plan) → IsKnowing c h e (new_log_in o e i)
 made c h e i None = record { seed = tt; pushes = All-nil (λ q. IsBelow c h e q.known) }

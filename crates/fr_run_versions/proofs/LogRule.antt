@@ -32,7 +32,7 @@ made_now laws c h t run is e i Q made absent below =
 -- what is true of a log before a turn, at each ask that may be delivered then, and so later on, is true after it; a log that is new must have it
 pub log_step : Laws → (c : Config) (h : List Turn) (t : Turn) → IsRun c h → IsTurn c h t → (e i : ℕ) (P Q : LogState → Type 0) → (i < logs_at c h e → P (log_at c h e i))
     → ((o : Option Plan) → plan_at c (t ∷ h) e ≡ o → (e == first_epoch) ≡ false → i < logs_in o → Q (new_log_in o e i))
-    → (i < logs_at c h e → P (log_at c h e i) → (from : NodeId) (a : LogAsk) → Sent h from (node.Log e i) (ask.Log a) ⊎ StorageMayAsk c from a → P (next_of (log_at c h e i) a))
+    → (i < logs_at c h e → P (log_at c h e i) → (from : NodeId) (a : LogAsk) → Sent h from (node.Log e i) (ask.Log a) ⊎ StorageMayAsk c h from a → P (next_of (log_at c h e i) a))
     → (i < logs_at c h e → (l : LogState) → P l → Q l) → i < logs_at c (t ∷ h) e → Q (log_at c (t ∷ h) e i)
 log_step laws c h t run is e i P Q before made takes lasts below = go (nat_lt i (logs_at c h e)) refl
   where
@@ -51,7 +51,7 @@ pub record IsLogRule (c : Config) (P : List Turn → ℕ → ℕ → LogState �
   pub starts : (i : ℕ) → P [] first_epoch i (first_log c i)
   pub made : (h : List Turn) → IsRun c h → (e i : ℕ) (o : Option Plan) → plan_at c h e ≡ o → (e == first_epoch) ≡ false → i < logs_in o → P h e i (new_log_in o e i)
   pub lasts : (h : List Turn) (t : Turn) → IsRun c h → IsTurn c h t → (e i : ℕ) → i < logs_at c h e → (l : LogState) → P h e i l → P (t ∷ h) e i l
-  pub takes : (h : List Turn) → IsRun c h → (e i : ℕ) → i < logs_at c h e → P h e i (log_at c h e i) → (from : NodeId) (a : LogAsk) → Sent h from (node.Log e i) (ask.Log a) ⊎ StorageMayAsk c from a
+  pub takes : (h : List Turn) → IsRun c h → (e i : ℕ) → i < logs_at c h e → P h e i (log_at c h e i) → (from : NodeId) (a : LogAsk) → Sent h from (node.Log e i) (ask.Log a) ⊎ StorageMayAsk c h from a
       → P h e i (next_of (log_at c h e i) a)
 
 pub log_starts : (c : Config) (P : List Turn → ℕ → ℕ → LogState → Type 0) → ((i : ℕ) → P [] first_epoch i (first_log c i)) → (e i : ℕ) → i < logs_at c [] e → P [] e i (log_at c [] e i)

@@ -9,7 +9,7 @@ use Rattle.fr_base.specs.declared.place.NodeId.{NodeId}
 use Rattle.fr_base.specs.declared.place.NodeId.TheVariants as node
 use Rattle.fr_state.specs.Generations.{CoordinatedState}
 use Rattle.fr_log.specs.declared.ask.LogAsk.{LogAsk}
-use Rattle.fr_log.specs.declared.ask.LogAsk.TheVariants.{Seed, Push}
+use Rattle.fr_log.specs.declared.ask.LogAsk.TheVariants.{Seed, Push, Peek, MarkAsked}
 use Rattle.fr_log.specs.Seed.{SeedContent}
 use Rattle.fr_log.specs.Push.{PushContent}
 use Rattle.fr_log.specs.LogState.{LogState, durable_of, seeded_to_of}
@@ -39,7 +39,7 @@ use Rattle.fr_run_versions.proofs.Pushes.{pushes_are_own, seeds_are_own}
 
 -- what is true of a log stays so at a turn, if it does at each ask that was delivered to it
 pub log_by_own_turn : (c : Config) (h : List Turn) (t : Turn) → IsTurn c h t → (e i : ℕ) (l : LogState) (P : LogState → Type 0) → P l
-    → ((from : NodeId) (a : LogAsk) → Sent h from (node.Log e i) (ask.Log a) ⊎ StorageMayAsk c from a → P (next_of l a)) → P (log_after t e i l)
+    → ((from : NodeId) (a : LogAsk) → Sent h from (node.Log e i) (ask.Log a) ⊎ StorageMayAsk c h from a → P (next_of l a)) → P (log_after t e i l)
 log_by_own_turn c h (Begun b asks) is e i l P same takes = same
 log_by_own_turn c h (CellTurn from j a t) is e i l P same takes = same
 log_by_own_turn c h (LogTurn from x j a t) is e i l P same takes = go ((x == e) && (j == i)) refl
@@ -47,7 +47,7 @@ log_by_own_turn c h (LogTurn from x j a t) is e i l P same takes = go ((x == e) 
     go : (b : Bool) → ((x == e) && (j == i)) ≡ b → P (cond b (next_of l a) l)
     go true k =
         let parts = and_parts (x == e) (j == i) k in
-        takes from a (subst (λ n. Sent h from n (ask.Log a) ⊎ StorageMayAsk c from a) (ap (λ y. node.Log y j) (eqb-true x e parts.0) ∙ ap (λ y. node.Log e y) (eqb-true j i parts.1)) is.1)
+        takes from a (subst (λ n. Sent h from n (ask.Log a) ⊎ StorageMayAsk c h from a) (ap (λ y. node.Log y j) (eqb-true x e parts.0) ∙ ap (λ y. node.Log e y) (eqb-true j i parts.1)) is.1)
     go false k = same
 log_by_own_turn c h (SeqTurn from x a t) is e i l P same takes = same
 log_by_own_turn c h (Submitted x p step batch asks) is e i l P same takes = same
@@ -57,22 +57,28 @@ log_by_own_turn c h (StorageHeard tag from t taken fault) is e i l P same takes 
 log_by_own_turn c h (Gone who) is e i l P same takes = same
 log_by_own_turn c h (Crashed who) is e i l P same takes = same
 
--- no storage server seeds or pushes
-pub no_seed : (c : Config) (from : NodeId) (s : SeedContent) → StorageMayAsk c from (Seed s) → ⊥
-no_seed c (node.Cell i) s k = k
-no_seed c (node.Log e i) s k = k
-no_seed c (node.Sequencer e) s k = k
-no_seed c (node.Proxy e p) s k = k
-no_seed c (node.Recoverer b) s k = k
-no_seed c (node.Storage t) s k = k
+-- what a storage server may ask it may ask later on
+pub may_later : (c : Config) (h : List Turn) (t : Turn) (from : NodeId) (a : LogAsk) → StorageMayAsk c h from a → StorageMayAsk c (t ∷ h) from a
+may_later c h t (node.Storage tag) (Peek e u after most) k = k
+may_later c h t (node.Storage tag) (MarkAsked e) k = k
+may_later c h t from a k = absurd k
 
-pub no_push : (c : Config) (from : NodeId) (q : PushContent) → StorageMayAsk c from (Push q) → ⊥
-no_push c (node.Cell i) q k = k
-no_push c (node.Log e i) q k = k
-no_push c (node.Sequencer e) q k = k
-no_push c (node.Proxy e p) q k = k
-no_push c (node.Recoverer b) q k = k
-no_push c (node.Storage t) q k = k
+-- no storage server seeds or pushes
+pub no_seed : (c : Config) (h : List Turn) (from : NodeId) (s : SeedContent) → StorageMayAsk c h from (Seed s) → ⊥
+no_seed c h (node.Cell i) s k = k
+no_seed c h (node.Log e i) s k = k
+no_seed c h (node.Sequencer e) s k = k
+no_seed c h (node.Proxy e p) s k = k
+no_seed c h (node.Recoverer b) s k = k
+no_seed c h (node.Storage t) s k = k
+
+pub no_push : (c : Config) (h : List Turn) (from : NodeId) (q : PushContent) → StorageMayAsk c h from (Push q) → ⊥
+no_push c h (node.Cell i) q k = k
+no_push c h (node.Log e i) q k = k
+no_push c h (node.Sequencer e) q k = k
+no_push c h (node.Proxy e p) q k = k
+no_push c h (node.Recoverer b) q k = k
+no_push c h (node.Storage t) q k = k
 
 -- ---- numbers
 
@@ -236,17 +242,17 @@ pushed_log laws c h run e l k q took own = record {
         record { push = j.push; held = Contains-append_left l.pushes (q ∷ []) j.push j.held; at = j.at }
 
 -- a log after an ask that was delivered to it
-pub asked_log : Laws → (c : Config) (h : List Turn) → IsRun c h → (e i : ℕ) (l : LogState) → IsLogOf c h e l → (from : NodeId) (a : LogAsk) → Sent h from (node.Log e i) (ask.Log a) ⊎ StorageMayAsk c from a → IsLogOf c h e (next_of l a)
+pub asked_log : Laws → (c : Config) (h : List Turn) → IsRun c h → (e i : ℕ) (l : LogState) → IsLogOf c h e l → (from : NodeId) (a : LogAsk) → Sent h from (node.Log e i) (ask.Log a) ⊎ StorageMayAsk c h from a → IsLogOf c h e (next_of l a)
 asked_log laws c h run e i l k from a came =
     log_change (IsLogOf c h e) l a k (λ s at none. seeded_log laws c h run e l k s none (seed s at came)) (λ q at took. pushed_log laws c h run e l k q took (push q at came)) (stopped_log c h e l k)
   where
-    seed : (s : SeedContent) → a ≡ Seed s → Sent h from (node.Log e i) (ask.Log a) ⊎ StorageMayAsk c from a → IsSeedOf c h e s
+    seed : (s : SeedContent) → a ≡ Seed s → Sent h from (node.Log e i) (ask.Log a) ⊎ StorageMayAsk c h from a → IsSeedOf c h e s
     seed s at (inl sent) = seeds_are_own laws c h run from e i s (subst (λ x. Sent h from (node.Log e i) (ask.Log x)) at sent)
-    seed s at (inr may) = absurd (no_seed c from s (subst (StorageMayAsk c from) at may))
+    seed s at (inr may) = absurd (no_seed c h from s (subst (StorageMayAsk c h from) at may))
 
-    push : (q : PushContent) → a ≡ Push q → Sent h from (node.Log e i) (ask.Log a) ⊎ StorageMayAsk c from a → IsOfEpoch c h e q
+    push : (q : PushContent) → a ≡ Push q → Sent h from (node.Log e i) (ask.Log a) ⊎ StorageMayAsk c h from a → IsOfEpoch c h e q
     push q at (inl sent) = pushes_are_own laws c h run from e i q (subst (λ x. Sent h from (node.Log e i) (ask.Log x)) at sent)
-    push q at (inr may) = absurd (no_push c from q (subst (StorageMayAsk c from) at may))
+    push q at (inr may) = absurd (no_push c h from q (subst (StorageMayAsk c h from) at may))
 
 -- ---- runs
 
@@ -354,9 +360,9 @@ there_before laws c h t run is e i below k =
     subst (IsLogOf c (t ∷ h) e) (sym (log_stays laws c h t run is e i below))
     (log_by_own_turn c h t is e i l (IsLogOf c (t ∷ h) e) later (λ from a came. asked_log laws c (t ∷ h) (is, run) e i l later from a (lift from a came)))
   where
-    lift : (from : NodeId) (a : LogAsk) → Sent h from (node.Log e i) (ask.Log a) ⊎ StorageMayAsk c from a → Sent (t ∷ h) from (node.Log e i) (ask.Log a) ⊎ StorageMayAsk c from a
+    lift : (from : NodeId) (a : LogAsk) → Sent h from (node.Log e i) (ask.Log a) ⊎ StorageMayAsk c h from a → Sent (t ∷ h) from (node.Log e i) (ask.Log a) ⊎ StorageMayAsk c (t ∷ h) from a
     lift from a (inl s) = inl (inr s)
-    lift from a (inr m) = inr m
+    lift from a (inr m) = inr (may_later c h t from a m)
 
 log_next : Laws → (c : Config) (h : List Turn) (t : Turn) → IsRun c h → IsTurn c h t → (e i : ℕ) → (i < logs_at c h e → IsLogOf c h e (log_at c h e i)) → i < logs_at c (t ∷ h) e → IsLogOf c (t ∷ h) e (log_at c (t ∷ h) e i)
 log_next laws c h t run is e i before below = go (nat_lt i (logs_at c h e)) refl

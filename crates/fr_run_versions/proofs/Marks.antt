@@ -117,13 +117,13 @@ sent_mark laws c h run from e i q s = go from (sent_is_accounted laws c h run fr
 abbrev AreMarked : Config → List Turn → ℕ → LogState → Type 0
 AreMarked c h e l = All (λ (q : PushContent). IfSome q.mark (IsMarkOf c h e)) l.pushes
 
-asked : Laws → (c : Config) (h : List Turn) → IsRun c h → (e i : ℕ) (l : LogState) → AreMarked c h e l → (from : NodeId) (a : LogAsk) → Sent h from (node.Log e i) (ask.Log a) ⊎ StorageMayAsk c from a → AreMarked c h e (next_of l a)
+asked : Laws → (c : Config) (h : List Turn) → IsRun c h → (e i : ℕ) (l : LogState) → AreMarked c h e l → (from : NodeId) (a : LogAsk) → Sent h from (node.Log e i) (ask.Log a) ⊎ StorageMayAsk c h from a → AreMarked c h e (next_of l a)
 asked laws c h run e i l k from a came =
     log_change (AreMarked c h e) l a k (λ s at none. k) (λ q at took. All-push (λ (q : PushContent). IfSome q.mark (IsMarkOf c h e)) l.pushes q k (push q at came)) k
   where
-    push : (q : PushContent) → a ≡ Push q → Sent h from (node.Log e i) (ask.Log a) ⊎ StorageMayAsk c from a → IfSome q.mark (IsMarkOf c h e)
+    push : (q : PushContent) → a ≡ Push q → Sent h from (node.Log e i) (ask.Log a) ⊎ StorageMayAsk c h from a → IfSome q.mark (IsMarkOf c h e)
     push q at (inl sent) = sent_mark laws c h run from e i q (subst (λ x. Sent h from (node.Log e i) (ask.Log x)) at sent)
-    push q at (inr may) = absurd (no_push c from q (subst (StorageMayAsk c from) at may))
+    push q at (inr may) = absurd (no_push c h from q (subst (StorageMayAsk c h from) at may))
 
 made : (c : Config) (h : List Turn) (e i : ℕ) (o : Option Plan) → AreMarked c h e (new_log_in o e i)
 made c h e i None = All-nil (λ (q : PushContent). IfSome q.mark (IsMarkOf c h e))

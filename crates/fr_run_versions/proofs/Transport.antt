@@ -3,7 +3,7 @@ use Rattle.std.proofs.Common.{◌≡◌, ℕ, zero, suc, ◌<◌, ◌≤◌, tru
 use Rattle.std.specs.Prelude.{IfSome, IsSome, is_some}
 use Rattle.std.specs.List.{All, Contains}
 use Rattle.std.proofs.lemmas.List.Elements.{All-nil, All-push, All-weaker, All-contains, Contains-append_right}
-use Rattle.fr_state.specs.Generations.{LogGeneration, CoordinatedState, last_of}
+use Rattle.fr_state.specs.Generations.{LogGeneration, last_of}
 use Rattle.fr_log.specs.Seed.{SeedContent}
 use Rattle.fr_log.specs.LogState.{durable_of, seeded_to_of}
 use Rattle.fr_epoch.specs.Recoverer.{RecState, Parent, Plan}
@@ -20,8 +20,7 @@ use Rattle.fr_run_versions.specs.BoundLaws.{PlansAreLines, BelowIsHeldLater, Ack
 use Rattle.fr_run_versions.proofs.Acks.{acknowledged_is_safe}
 use Rattle.fr_run.proofs.Growth.{rec_is}
 use Rattle.fr_run.proofs.Cells.{Contains-later}
-use Rattle.fr_run.proofs.Register.{has_found}
-use Rattle.fr_run.proofs.States.{last_is, recoverers_have_states}
+use Rattle.fr_run.proofs.States.{last_is}
 use Rattle.fr_run.proofs.Chosen.{generation_planned}
 use Rattle.fr_run.proofs.Parents.{plan_is, parent_is, parent_is_planned, plan_line}
 use Rattle.fr_run_versions.proofs.Locks.{replies_stand_still}

@@ -23,7 +23,7 @@ MarkedIsChosen =
 pub record IsPeekAsked (c : Config) (h : List Turn) (e i : ℕ) (from : NodeId) (tag after : ℕ) : Type 0 where
   pub most : ℕ
   pub some : 1 ≤ most
-  pub asked : Sent h from (node.Log e i) (ask.Log (Peek e tag after most)) ⊎ StorageMayAsk c from (Peek e tag after most)
+  pub asked : Sent h from (node.Log e i) (ask.Log (Peek e tag after most)) ⊎ StorageMayAsk c h from (Peek e tag after most)
 
 -- records that a log told to a node were asked for by it
 abbrev pub PeekedIsAsked : Type 0
