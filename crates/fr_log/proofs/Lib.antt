@@ -8,3 +8,4 @@ pub mod Telling
 pub mod Going
 pub mod Seedings
 pub mod SeedKept
+pub mod Shelves

@@ -76,7 +76,7 @@ impl Pushes {
             .partition_point(|header| header.version < version);
         match self.headers.get(at) {
             Some(header) => {
-                push.is_headed(header) && have_bodies(&self.shelves, version, push.bodies())
+                push.is_headed(header) && have_bodies(&self.shelves, header.version, push.bodies())
             }
             None => false,
         }

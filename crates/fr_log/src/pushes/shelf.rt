@@ -1,5 +1,5 @@
 //! The batches of one tag, by their versions.
-ghost use Rattle.std.specs.Prelude.{◌≡◌, ◌≤◌, false, List, ◌∷◌, ◌++◌, [], nat_lt, length, take, map, filter, IsTrue, IfOk, OnOk, OnErr};
+ghost use Rattle.std.specs.Prelude.{◌≡◌, ◌<◌, ◌≤◌, false, List, ◌∷◌, ◌++◌, [], nat_lt, length, take, map, filter, IsTrue, IfOk, OnOk, OnErr};
 ghost use Rattle.std.specs.Option.{option_copied};
 ghost use Rattle.fr_log.specs.Pushes.{Shelved, batch_at, as_record, AreBelow, cut};
 
@@ -66,6 +66,7 @@ impl Shelf {
     /// Whether something stands at a version or above it.
     fn reaches(&self, version: Version) -> bool
         ensures yes { IsTrue result → (es : List Shelved) (e : Shelved) → self.now ≡ es ++ e ∷ [] → version ≤ e.0 }
+        ensures some { IsTrue result → 0 < length self.now }
         ensures no { result ≡ false → AreBelow version self.now }
     {
         match self.batches.last_key_value() {
