@@ -9,3 +9,4 @@ pub mod Going
 pub mod Seedings
 pub mod SeedKept
 pub mod Shelves
+pub mod Held

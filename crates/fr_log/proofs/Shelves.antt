@@ -1,6 +1,6 @@
 -- Batches on the shelves of their tags.
-use Rattle.std.proofs.Common.{◌≡◌, ℕ, zero, suc, ◌+◌, ◌-◌, ◌<◌, ◌≤◌, Bool, true, false, not, ◌&&◌, List, [], ◌∷◌, ◌++◌, length, take, get_or, map, cond, nat_lt, nat_le, eqb, Option, None, Some, refl, sym, ◌∙◌, ap, subst, inl, inr, arith}
-use Rattle.std.specs.Prelude.{filter, IsSome, IfSome}
+use Rattle.std.proofs.Common.{◌≡◌, ℕ, zero, suc, ◌+◌, ◌-◌, ◌<◌, ◌≤◌, Bool, true, false, not, ◌&&◌, List, [], ◌∷◌, ◌++◌, length, take, get_or, drop, map, cond, nat_lt, nat_le, eqb, Option, None, Some, refl, sym, ◌∙◌, ap, subst, inl, inr, arith}
+use Rattle.std.specs.Prelude.{filter, IsSome, IfSome, Result, Ok, Err, OnErr}
 use Rattle.std.specs.List.{AllByRecursion}
 use Rattle.std.specs.Map.{lookup, keys_of}
 use Rattle.std.specs.BTreeMap.{insert_entry, is_at}
@@ -8,11 +8,13 @@ use Rattle.std.specs.Ordering.{is_eq, is_lt, is_le, nat_cmp, match_ordering}
 use Rattle.std.specs.Cmp.{nat_cmp_is}
 use Rattle.std.specs.declared.cmp.Ordering.TheVariants.{Less, Equal, Greater}
 use Rattle.std.proofs.lemmas.Bool.{and_parts, and_from, ltb-false, lt-ltb, le-ltb, leb-true, le-leb, eqb-true, eqb-false, eq-eqb, ne_eqb, cases_order}
-use Rattle.std.proofs.lemmas.List.{append-nil, take_all, take_at}
+use Rattle.std.proofs.lemmas.List.{append-nil, take_all, take_at, drop_more, drop_all}
 use Rattle.std.proofs.lemmas.List.Elements.{filter-append}
+use Rattle.std.specs.Cmp.Lexicographic.{pointwise}
+use Rattle.fr_mutation.specs.Equal.{is_same_batch}
 use Rattle.fr_mutation.specs.declared.mutation.Mutation.{Mutation}
 use Rattle.fr_tags.specs.declared.body.Body.{Body}
-use Rattle.fr_tags.specs.Bodies.{batch_of, is_rising_from}
+use Rattle.fr_tags.specs.Bodies.{batch_of, is_rising_from, is_same_body}
 use Rattle.fr_log.specs.Fields.{two}
 use Rattle.fr_log.specs.Pushes.{Shelved, batch_at, at_version, AreBelow, cut, shelf_of, with_body, bodies_from}
 
@@ -237,6 +239,55 @@ same_bodies v tag [] (s ∷ ts) h = same_bodies v (tag + 1) [] ts (λ t. h (suc 
 same_bodies v tag (s ∷ ss) [] h = ap (λ o. with_body tag o (bodies_from v (tag + 1) ss)) (h 0) ∙ same_bodies v (tag + 1) ss [] (λ t. h (suc t))
 same_bodies v tag (s ∷ ss) (z ∷ ts) h =
     ap (λ o. with_body tag o (bodies_from v (tag + 1) ss)) (h 0) ∙ ap (λ xs. with_body tag (batch_at v z) xs) (same_bodies v (tag + 1) ss ts (λ t. h (suc t)))
+
+-- what holds holds where there is an error
+pub on_err : {T E P : Type 0} (r : Result T E) → P → OnErr r P
+on_err (Ok x) p = tt
+on_err (Err y) p = p
+
+-- ---- bodies compared with those that stand at a version, shelf after shelf
+
+bodies_next : (v n : ℕ) (ss : List (List Shelved)) (d : List Shelved) → n < length ss → bodies_from v n (drop n ss) ≡ with_body n (batch_at v (get_or ss n d)) (bodies_from v (n + 1) (drop (n + 1) ss))
+unfolding bodies_from
+bodies_next v n ss d within = ap (bodies_from v n) (drop_more ss n d within)
+
+-- a version at which this shelf has nothing
+pub bodies_same : (v n : ℕ) (ss : List (List Shelved)) (d : List Shelved) → n < length ss → batch_at v (get_or ss n d) ≡ None → bodies_from v n (drop n ss) ≡ bodies_from v (n + 1) (drop (n + 1) ss)
+bodies_same v n ss d within none = bodies_next v n ss d within ∙ ap (λ o. with_body n o (bodies_from v (n + 1) (drop (n + 1) ss))) none
+
+bodies_one : (v n : ℕ) (ss : List (List Shelved)) (d : List Shelved) (b : List Mutation) → n < length ss → batch_at v (get_or ss n d) ≡ Some b
+    → bodies_from v n (drop n ss) ≡ record { tag = n; batch = b } ∷ bodies_from v (n + 1) (drop (n + 1) ss)
+bodies_one v n ss d b within some = bodies_next v n ss d within ∙ ap (λ o. with_body n o (bodies_from v (n + 1) (drop (n + 1) ss))) some
+
+pub no_bodies : (v n : ℕ) (ss : List (List Shelved)) → length ss ≤ n → bodies_from v n (drop n ss) ≡ []
+unfolding bodies_from
+no_bodies v n ss past = ap (bodies_from v n) (drop_all n ss past)
+
+-- none is left to compare
+pub unmet : (v n : ℕ) (ss : List (List Shelved)) (d : List Shelved) (b : List Mutation) (left : List Body) → n < length ss → batch_at v (get_or ss n d) ≡ Some b → length left < 1
+    → pointwise is_same_body left (bodies_from v n (drop n ss)) ≡ false
+unmet v n ss d b [] within some none = ap (λ bs. pointwise is_same_body [] bs) (bodies_one v n ss d b within some)
+unmet v n ss d b (x ∷ left) within some none = absurd (omega (arith, none))
+
+-- the next one is compared with that of the shelf
+pub met : (v n : ℕ) (ss : List (List Shelved)) (d : List Shelved) (b : List Mutation) (left : List Body) (x : Body) → n < length ss → batch_at v (get_or ss n d) ≡ Some b → 1 ≤ length left → x ≡ get_or left 0 x
+    → pointwise is_same_body left (bodies_from v n (drop n ss)) ≡ (eqb x.tag n && is_same_batch x.batch b) && pointwise is_same_body (drop 1 left) (bodies_from v (n + 1) (drop (n + 1) ss))
+met v n ss d b [] x within some long is = absurd (omega (arith, long))
+met v n ss d b (y ∷ left) x within some long is =
+    ap (λ bs. pointwise is_same_body (y ∷ left) bs) (bodies_one v n ss d b within some)
+    ∙ ap (λ z. (eqb z.tag n && is_same_batch z.batch b) && pointwise is_same_body left (bodies_from v (n + 1) (drop (n + 1) ss))) (sym is)
+
+pub as_yes : (a : Bool) → false ≡ not a → a ≡ true
+as_yes true e = refl
+as_yes false e = absurd (cc)
+
+pub as_no : (a : Bool) → true ≡ not a → a ≡ false
+as_no true e = absurd (cc)
+as_no false e = refl
+
+pub met_last : (left : List Body) → eqb (length left) 0 ≡ pointwise is_same_body left []
+met_last [] = refl
+met_last (x ∷ left) = ne_eqb (length (x ∷ left)) 0 (λ e. absurd (omega (arith, e)))
 
 -- ---- what is gathered of a shelf
 

@@ -63,7 +63,10 @@ impl Pushes {
     pub(crate) fn mark(&self) -> Option<&CoordState>
         ensures { option_copied result ≡ mark_among self.now }
     {
-        self.headers.first()?.mark.as_ref()
+        match self.headers.first() {
+            Some(header) => header.mark.as_ref(),
+            None => None,
+        }
     }
 
     /// Whether a push is among them, whatever it tells of what is known. Its version is sought by halving.
