@@ -1,5 +1,5 @@
 -- The pushes of a log, held as a chain of headers and a shelf of batches for each tag.
-use Rattle.std.specs.Prelude.{◌≡◌, ℕ, ◌+◌, ◌<◌, ◌≤◌, Bool, false, nat_lt, ◌==◌, ◌&&◌, List, [], ◌∷◌, filter, slice_index_or, Option, None, Some, if◌then◌else◌}
+use Rattle.std.specs.Prelude.{◌≡◌, ℕ, ◌+◌, ◌<◌, ◌≤◌, Bool, nat_lt, ◌==◌, ◌&&◌, List, [], ◌∷◌, filter, slice_index_or, Option, None, Some, if◌then◌else◌}
 use Rattle.std.specs.List.{filter_map, AllByRecursion}
 use Rattle.std.specs.Option.{option_map}
 use Rattle.fr_mutation.specs.declared.mutation.Mutation.{Mutation}

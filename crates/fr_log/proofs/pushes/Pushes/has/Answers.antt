@@ -1,4 +1,4 @@
-use Rattle.std.proofs.Common.{◌≡◌, ◌&&◌, length, get_or, ltb, ltb-true, ltb-false, refl, sym, ◌∙◌, ap, subst, arith, rules}
+use Rattle.std.proofs.Common.{◌&&◌, length, get_or, ltb, ltb-true, ltb-false, sym, ◌∙◌, ap, subst, arith, rules}
 use Rattle.std.specs.Cmp.Lexicographic.{pointwise}
 use Rattle.std.proofs.lemmas.List.Sorted.{IsPartitionPoint-from_clause, IsPartitionedBy-ltb}
 use Rattle.fr_tags.specs.Bodies.{is_same_body}
