@@ -109,8 +109,8 @@ impl Pushes {
         ensures { self.new ≡ take left self.old }
     {
         if let Some(first) = self.headers.get(left) {
-            let version = first.version;
-            cut_all(&mut self.shelves, version);
+            let from = first.version;
+            cut_all(&mut self.shelves, from);
             self.headers.truncate(left);
         }
     }
