@@ -8,3 +8,5 @@ pub mod Telling
 pub mod Going
 pub mod Seedings
 pub mod SeedKept
+pub mod Shelves
+pub mod Held

@@ -9,6 +9,7 @@ use Rattle.std.specs.Ordering.{is_some_and, is_le, nat_cmp}
 use Rattle.fr_log.specs.declared.ask.LogRefusal.{LogRefusal}
 use Rattle.fr_log.specs.Push.{PushContent, IsPush}
 use Rattle.fr_log.specs.LogState.{LogState, headers, holds, durable_of, known_of, seeded_to_of, first_of, is_push_held}
+use Rattle.fr_log.specs.Pushes.{ArePushedBelow}
 use Rattle.fr_log.specs.Chain.{IsChain, BeginsWithMark, IsLog, IsKept, IsOwnPush}
 use Rattle.fr_log.specs.Refusal.{push_refusal, new_push_refusal}
 use Rattle.fr_log.specs.StepLaws.{passes}
@@ -144,3 +145,11 @@ above_from_test a b h = go (nat_lt a b) (eqb a b) refl refl
     go true t e d = let k = rw e at h in absurd (cc)
     go false true e d = let k = rw (e, d) at h in absurd (cc)
     go false false e d = let low = ltb-false a b e in let other = eqb-false a b d in omega arith
+
+reach_below : (version above : ℕ) (ps : List PushContent) → reach version ps < above → ArePushedBelow above ps
+reach_below version above [] less = tt
+reach_below version above (p ∷ ps) less = (let k = reach_above (max version p.version) ps in omega (arith, k, less), reach_below (max version p.version) above ps less)
+
+-- a push that is newly held is above those that are held
+pub held_below : (l : LogState) (p : PushContent) → push_refusal l p ≡ None → IsPush p → is_push_held l p ≡ false → ArePushedBelow p.version l.pushes
+held_below l p taken is other = reach_below (seeded_to_of l.seed) p.version l.pushes (unheld_is_high l p taken is other)

@@ -28,7 +28,7 @@ above_is_drop n after (suc i) (x ∷ xs) low high =
     rw is_low rest
 
 -- a push of another version is another push
-another : (p q : PushContent) → (q.version ≡ p.version → ⊥) → is_one_push p q ≡ false
+pub another : (p q : PushContent) → (q.version ≡ p.version → ⊥) → is_one_push p q ≡ false
 another p q apart = false_from_ne_true (is_one_push p q) (λ e. apart (sym (is_one_push-parts p q e).version))
 
 -- the place from which on versions are not below that of a push is the only one where the push can be

@@ -7,6 +7,7 @@ pub mod Peeked
 pub mod Same
 pub mod LogState
 pub mod Search
+pub mod Pushes
 pub mod Chain
 pub mod Refusal
 pub mod Lists

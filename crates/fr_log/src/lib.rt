@@ -6,6 +6,7 @@ pub mod laws;
 mod log;
 mod peeked;
 mod push;
+mod pushes;
 mod records;
 mod search;
 mod seed;

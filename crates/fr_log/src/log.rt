@@ -12,8 +12,8 @@ mod seeding;
 mod step;
 
 use crate::push::Push;
+use crate::pushes::Pushes;
 use crate::records::SeedRecord;
-use crate::search::is_found;
 use crate::seed::Seed;
 use fr_base::{LogId, Memory, Tag, Version};
 use fr_state::CoordState;
@@ -32,7 +32,7 @@ pub struct Log {
     m: u8,
     k: u8,
     seed: Option<Seed>,
-    pushes: Vec<Push>,
+    pushes: Pushes,
     durable: Version,
     known: Version,
     stopped: bool,
@@ -44,9 +44,9 @@ impl Model for Log {
 
     ghost Value = { LogState };
 
-    ghost view = { λ a. record { epoch = a.id.epoch; index = a.id.index; m = a.m; k = a.k; seed = a.seed; pushes = a.pushes.items; stopped = a.stopped } };
+    ghost view = { λ a. record { epoch = a.id.epoch; index = a.id.index; m = a.m; k = a.k; seed = a.seed; pushes = a.pushes; stopped = a.stopped } };
 
-    ghost invariant = { λ a. IsKept (record { epoch = a.id.epoch; index = a.id.index; m = a.m; k = a.k; seed = a.seed; pushes = a.pushes.items; stopped = a.stopped }) a.durable a.known };
+    ghost invariant = { λ a. IsKept (record { epoch = a.id.epoch; index = a.id.index; m = a.m; k = a.k; seed = a.seed; pushes = a.pushes; stopped = a.stopped }) a.durable a.known };
 }
 
 impl Log {
@@ -64,7 +64,7 @@ impl Log {
             m,
             k,
             seed: None,
-            pushes: Vec::new(alloc),
+            pushes: Pushes::new(alloc),
             durable: Version::ZERO,
             known: Version::ZERO,
             stopped: false,
@@ -156,13 +156,13 @@ impl Log {
     fn is_push_held(&self, push: &Push) -> bool
         ensures { result ≡ is_push_held self.now push.now }
     {
-        is_found(&self.pushes, push)
+        self.pushes.has(push)
     }
 
     fn mark(&self) -> Option<&CoordState>
         ensures { option_copied result ≡ mark_among self.now.pushes }
     {
-        self.pushes.first()?.marked()
+        self.pushes.mark()
     }
 
     fn seed_records(&self) -> &[SeedRecord]

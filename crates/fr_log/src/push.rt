@@ -4,8 +4,10 @@ ghost use Rattle.std.specs.Option.{option_copied};
 ghost use Rattle.std.specs.Cmp.{partial_equiv_from_equiv};
 ghost use Rattle.fr_base.specs.Same.{IsSameness-equivalence};
 ghost use Rattle.fr_tags.specs.Bodies.{is_rising_from};
+ghost use Rattle.fr_log.specs.Pushes.{header_of, is_headed};
 ghost use Rattle.fr_log.specs.Push.{IsPush, is_one_push, is_same_push, is_same_push-IsSameness};
 
+use crate::pushes::PushHeader;
 use fr_base::{Epoch, Memory, Step, Version};
 use fr_state::CoordState;
 use fr_tags::Body;
@@ -146,6 +148,32 @@ impl Push {
         ensures { result.items ≡ self.bodies }
     {
         self.bodies
+    }
+
+    /// Its header and its bodies. It takes no memory.
+    pub(crate) fn into_parts(self) -> (PushHeader, Vec<Body>)
+        ensures header { result.0 ≡ header_of self }
+        ensures bodies { result.1.items ≡ self.bodies }
+        ensures sound { IsPush self }
+    {
+        let header = PushHeader {
+            epoch: self.epoch,
+            prev: self.prev,
+            version: self.version,
+            known: self.known,
+            mark: self.mark,
+        };
+        (header, self.bodies)
+    }
+
+    /// Whether a header is its own, whatever that tells of what is known.
+    pub(crate) fn is_headed(&self, header: &PushHeader) -> bool
+        ensures { result ≡ is_headed self.now header.now }
+    {
+        self.epoch == header.epoch
+            && self.prev == header.prev
+            && self.version == header.version
+            && self.mark == header.mark
     }
 
     /// Whether the two are one push, whatever they tell of what is known.

@@ -11,6 +11,8 @@ mod made;
 #[cfg(test)]
 mod order;
 #[cfg(test)]
+mod shelves;
+#[cfg(test)]
 mod state;
 #[cfg(test)]
 mod table;

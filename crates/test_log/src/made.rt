@@ -125,9 +125,20 @@ pub(crate) fn peeked(
     alloc: Global,
     after: u64,
     all: &[(u64, u8)],
+    numbers: (u64, u64),
+) -> Result<Peeked, Fail> {
+    peeked_of(alloc, 0, after, all, numbers)
+}
+
+/// The same of any tag.
+pub(crate) fn peeked_of(
+    alloc: Global,
+    number: u8,
+    after: u64,
+    all: &[(u64, u8)],
     (upto, known): (u64, u64),
 ) -> Result<Peeked, Fail> {
-    let tag = tag(0)?;
+    let tag = tag(number)?;
     let (after, upto, known) = (at(after)?, at(upto)?, at(known)?);
     let peeked = Peeked::new(tag, after, peeked_records(alloc, all)?, upto, known);
     Ok(peeked.ok_or("an answer")?)

@@ -43,6 +43,6 @@ impl Log {
     fn is_seeding(&self, tag: Tag) -> bool
         ensures { result ≡ (not self.now.stopped && (is_empty self.now.pushes && holds self.now tag)) }
     {
-        !self.stopped && self.pushes.is_empty() && self.holds(tag)
+        !self.stopped && self.pushes.len() == 0 && self.holds(tag)
     }
 }

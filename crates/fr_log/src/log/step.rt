@@ -10,7 +10,7 @@ use super::Log;
 use crate::ask::{LogAsk, LogTell, Most};
 use crate::peeked::Peeked;
 use crate::push::Push;
-use crate::search::{gather, pushed_above, seeded_above, upto};
+use crate::search::{gather, seeded_above, upto};
 use crate::seed::Seed;
 use fr_base::{Epoch, Machine, Memory, Tag, Version};
 use std::alloc::Global;
@@ -33,7 +33,7 @@ impl Log {
     }
 
     /// Holds a push that it does not hold yet: it is moved in.
-    fn take_push(&mut self, push: Push) -> Result<LogTell, Memory>
+    fn take_push(&mut self, alloc: Global, push: Push) -> Result<LogTell, Memory>
         ensures told { IfOk result (λ tell. tell ≡ answer_of self.old (LogAsk.Push push)) }
         ensures after { IfOk result (λ _. self.new ≡ next_of self.old (LogAsk.Push push)) }
         ensures err { OnErr result (self.new ≡ self.old) }
@@ -41,12 +41,12 @@ impl Log {
     {
         match self.push_refusal(&push) {
             Some(why) => Ok(LogTell::Refused { why }),
-            None => self.take_granted(push),
+            None => self.take_granted(alloc, push),
         }
     }
 
     /// Takes a push that is not refused. It is held already exactly where it is not above `durable`.
-    fn take_granted(&mut self, push: Push) -> Result<LogTell, Memory>
+    fn take_granted(&mut self, alloc: Global, push: Push) -> Result<LogTell, Memory>
         requires { push_refusal self.old push ≡ None }
         ensures told { IfOk result (λ tell. tell ≡ LogTell.Held push.version) }
         ensures after { IfOk result (λ _. self.new ≡ granted_next self.old (LogAsk.Push push)) }
@@ -57,12 +57,12 @@ impl Log {
         if version <= self.durable {
             return Ok(LogTell::Held { version });
         }
-        self.hold(push)?;
+        self.hold(alloc, push)?;
         Ok(LogTell::Held { version })
     }
 
     /// Holds one more push.
-    fn hold(&mut self, push: Push) -> Result<(), Memory>
+    fn hold(&mut self, alloc: Global, push: Push) -> Result<(), Memory>
         requires taken { push_refusal self.old push ≡ None }
         requires other { is_push_held self.old push ≡ false }
         ensures after { OnOk result (self.new ≡ record self.old { pushes = self.old.pushes ++ push ∷ [] }) }
@@ -70,7 +70,7 @@ impl Log {
     {
         let version = push.version();
         let known = later(self.known, push.known());
-        self.pushes.push(push)?;
+        self.pushes.hold(alloc, push)?;
         self.durable = version;
         self.known = known;
         Ok(())
@@ -108,15 +108,14 @@ impl Log {
         Ok(LogTell::Peeked(peeked))
     }
 
-    /// The first records of a tag above a version. The first of them is found by its version, and no
-    /// record past those given is copied.
+    /// The first records of a tag above a version. The first of them is found by its version, no push of
+    /// other tags is read, and no record past those given is copied.
     fn peeked(&self, alloc: Global, tag: Tag, after: Version, most: Most) -> Result<Peeked, Memory>
         ensures { IfOk result (λ peeked. peeked ≡ peek_of self.now tag after most) }
     {
         let records = seeded_above(self.seed_records(), after);
-        let pushes = pushed_above(&self.pushes, after);
         let limit = usize::from(most.get());
-        let (given, more) = gather(alloc, records, pushes, tag, limit)?;
+        let (given, more) = gather(alloc, records, &self.pushes, tag, after, limit)?;
         let upto = upto(&given, more, self.durable);
         Ok(Peeked::from_ordered(tag, after, given, upto, self.known))
     }
@@ -174,7 +173,7 @@ impl Machine for Log {
     fn step(&mut self, alloc: Global, ask: LogAsk) -> Result<LogTell, Memory> {
         match ask {
             LogAsk::Seed(seed) => Ok(self.take_seed(seed)),
-            LogAsk::Push(push) => self.take_push(push),
+            LogAsk::Push(push) => self.take_push(alloc, push),
             LogAsk::Lock { epoch } => Ok(self.lock(epoch)),
             LogAsk::Peek {
                 epoch,

@@ -1,0 +1,266 @@
+-- The pushes that headers and shelves make.
+use Rattle.std.proofs.Common.{◌≡◌, ℕ, zero, suc, ◌+◌, ◌<◌, ◌≤◌, Bool, true, false, ◌&&◌, ◌||◌, List, [], ◌∷◌, ◌++◌, length, take, get_or, map, nat_lt, eqb, Option, None, Some, refl, sym, ◌∙◌, ap, subst, arith}
+use Rattle.std.specs.Prelude.{filter, IsTrue}
+use Rattle.std.specs.List.{AllByRecursion, slice_get}
+use Rattle.std.specs.List.Sorted.{IsNonDecreasingBy}
+use Rattle.std.specs.Cmp.Lexicographic.{pointwise}
+use Rattle.std.proofs.lemmas.Bool.{lt-ltb, le-ltb}
+use Rattle.std.proofs.lemmas.List.Elements.{filter_map-append}
+use Rattle.fr_mutation.specs.declared.mutation.Mutation.{Mutation}
+use Rattle.fr_tags.specs.Bodies.{batch_of, is_rising_from, is_same_body}
+use Rattle.fr_log.specs.declared.pushes.header.PushHeader.{PushHeader}
+use Rattle.fr_log.specs.Fields.{two}
+use Rattle.fr_log.specs.Push.{PushContent, is_one_push, is_same_mark}
+use Rattle.fr_log.specs.LogState.{mark_among}
+use Rattle.fr_log.specs.Search.{is_found, pushed_records}
+use Rattle.fr_log.specs.Pushes.{Shelved, batch_at, as_record, at_version, AreBelow, cut, shelf_of, bodies_from, push_at, pushes_in, pushed_batch, pushed_batches, RiseFrom, ArePushedBelow, IsIndexed, header_of, is_headed}
+use Rattle.fr_log.proofs.Searching.{another}
+use Rattle.fr_log.proofs.Shelves.{batch_new, batch_others, batch_cut, canonical, same_bodies}
+
+-- ---- the list of the pushes
+
+pub held_none : (ss : List (List Shelved)) → pushes_in ss [] ≡ []
+unfolding pushes_in
+held_none ss = refl
+
+pub none_indexed : IsIndexed [] []
+unfolding pushes_in
+none_indexed = record { rises = tt; agrees = λ t. no_shelf t }
+  where
+    no_shelf : (t : ℕ) → shelf_of [] t ≡ []
+    no_shelf zero = refl
+    no_shelf (suc t) = refl
+
+pub held_length : (ss : List (List Shelved)) (hs : List PushHeader) → length (pushes_in ss hs) ≡ length hs
+unfolding pushes_in
+held_length ss [] = refl
+held_length ss (h ∷ hs) = ap suc (held_length ss hs)
+
+pub held_mark : (ss : List (List Shelved)) (hs : List PushHeader) (h : PushHeader) → Some h ≡ slice_get hs 0 → h.mark ≡ mark_among (pushes_in ss hs)
+unfolding pushes_in
+held_mark ss [] h e = absurd (cc)
+held_mark ss (g ∷ hs) h e = let same : h ≡ g = cc in ap (λ x. x.mark) same
+
+pub held_no_mark : (ss : List (List Shelved)) (hs : List PushHeader) → None ≡ slice_get hs 0 → None ≡ mark_among (pushes_in ss hs)
+unfolding pushes_in
+held_no_mark ss [] e = refl
+held_no_mark ss (g ∷ hs) e = absurd (cc)
+
+held_push : (ss : List (List Shelved)) (hs : List PushHeader) (h : PushHeader) → pushes_in ss (hs ++ h ∷ []) ≡ pushes_in ss hs ++ push_at ss h ∷ []
+unfolding pushes_in
+held_push ss [] h = refl
+held_push ss (g ∷ hs) h = ap (λ ps. push_at ss g ∷ ps) (held_push ss hs h)
+
+held_take : (ss : List (List Shelved)) (hs : List PushHeader) (n : ℕ) → pushes_in ss (take n hs) ≡ take n (pushes_in ss hs)
+unfolding pushes_in
+held_take ss [] zero = refl
+held_take ss [] (suc n) = refl
+held_take ss (g ∷ hs) zero = refl
+held_take ss (g ∷ hs) (suc n) = ap (λ ps. push_at ss g ∷ ps) (held_take ss hs n)
+
+pub held_take_all : (ss : List (List Shelved)) (hs : List PushHeader) (n : ℕ) → length hs ≤ n → pushes_in ss hs ≡ take n (pushes_in ss hs)
+unfolding pushes_in
+held_take_all ss [] zero le = refl
+held_take_all ss [] (suc n) le = refl
+held_take_all ss (g ∷ hs) zero le = absurd (omega (arith, le))
+held_take_all ss (g ∷ hs) (suc n) le = ap (λ ps. push_at ss g ∷ ps) (held_take_all ss hs n (omega (arith, le)))
+
+-- shelves that have the same at the version of each header make the same pushes
+same_below : (w : ℕ) (ss ts : List (List Shelved)) (hs : List PushHeader) → AllByRecursion (λ h. h.version < w) hs
+    → ((v t : ℕ) → v < w → batch_at v (shelf_of ss t) ≡ batch_at v (shelf_of ts t)) → pushes_in ss hs ≡ pushes_in ts hs
+unfolding pushes_in
+same_below w ss ts [] below same = refl
+same_below w ss ts (h ∷ hs) (here, rest) same =
+    two (λ bs ps. record { epoch = h.epoch; prev = h.prev; version = h.version; known = h.known; bodies = bs; mark = h.mark } ∷ ps)
+    (same_bodies h.version 0 ss ts (λ t. same h.version t here)) (same_below w ss ts hs rest same)
+
+pub same_pushes : (ss ts : List (List Shelved)) (hs : List PushHeader) → ((t : ℕ) → shelf_of ss t ≡ shelf_of ts t) → pushes_in ss hs ≡ pushes_in ts hs
+unfolding pushes_in
+same_pushes ss ts [] same = refl
+same_pushes ss ts (h ∷ hs) same =
+    two (λ bs ps. record { epoch = h.epoch; prev = h.prev; version = h.version; known = h.known; bodies = bs; mark = h.mark } ∷ ps)
+    (same_bodies h.version 0 ss ts (λ t. ap (batch_at h.version) (same t))) (same_pushes ss ts hs same)
+
+pub same_indexed : (ss ts : List (List Shelved)) (hs : List PushHeader) → ((t : ℕ) → shelf_of ts t ≡ shelf_of ss t) → IsIndexed ss hs → IsIndexed ts hs
+same_indexed ss ts hs same is = record {
+  rises = is.rises;
+  agrees = λ t. same t ∙ is.agrees t ∙ ap (pushed_batches t) (same_pushes ss ts hs (λ k. sym (same k)));
+}
+
+-- ---- versions
+
+headers_below : (w : ℕ) (ss : List (List Shelved)) (hs : List PushHeader) → ArePushedBelow w (pushes_in ss hs) → AllByRecursion (λ h. h.version < w) hs
+unfolding pushes_in
+headers_below w ss [] h = tt
+headers_below w ss (g ∷ hs) h = (h.0, headers_below w ss hs h.1)
+
+batches_below : (w tag : ℕ) (ps : List PushContent) → ArePushedBelow w ps → AreBelow w (pushed_batches tag ps)
+batches_below w tag [] h = tt
+batches_below w tag (p ∷ ps) (here, rest) = go (batch_of tag p.bodies) refl (batches_below w tag ps rest)
+  where
+    go : (o : Option (List Mutation)) → batch_of tag p.bodies ≡ o → AreBelow w (pushed_batches tag ps) → AreBelow w (pushed_batches tag (p ∷ ps))
+    go None e more = rw e more
+    go (Some b) e more = rw e (here, more)
+
+-- the shelves have nothing at a version above all, or above that
+pub shelves_below : (w : ℕ) (ss : List (List Shelved)) (hs : List PushHeader) → IsIndexed ss hs → ArePushedBelow w (pushes_in ss hs) → (t : ℕ) → AreBelow w (shelf_of ss t)
+shelves_below w ss hs is below t = subst (AreBelow w) (sym (is.agrees t)) (batches_below w t (pushes_in ss hs) below)
+
+rise_at : (least : ℕ) (hs : List PushHeader) → RiseFrom least hs → (k : ℕ) (d : PushHeader) → k < length hs → least ≤ (get_or hs k d).version
+rise_at least [] r k d within = absurd (omega (arith, within))
+rise_at least (h ∷ hs) (low, rest) zero d within = low
+rise_at least (h ∷ hs) (low, rest) (suc k) d within = let up = rise_at (h.version + 1) hs rest k d (omega (arith, within)) in omega (arith, up, low)
+
+pub rise_sorted : (least : ℕ) (hs : List PushHeader) → RiseFrom least hs → IsNonDecreasingBy (λ h. h.version) hs
+rise_sorted least [] r i j d upto within = absurd (omega (arith, within))
+rise_sorted least (h ∷ hs) (low, rest) zero zero d upto within = omega arith
+rise_sorted least (h ∷ hs) (low, rest) zero (suc j) d upto within = let up = rise_at (h.version + 1) hs rest j d (omega (arith, within)) in omega (arith, up)
+rise_sorted least (h ∷ hs) (low, rest) (suc i) zero d upto within = absurd (omega (arith, upto))
+rise_sorted least (h ∷ hs) (low, rest) (suc i) (suc j) d upto within = rise_sorted (h.version + 1) hs rest i j d (omega (arith, upto)) (omega (arith, within))
+
+rise_more : (least : ℕ) (hs : List PushHeader) (h : PushHeader) → RiseFrom least hs → AllByRecursion (λ g. g.version < h.version) hs → least ≤ h.version → RiseFrom least (hs ++ h ∷ [])
+rise_more least [] h r below le = (le, tt)
+rise_more least (g ∷ hs) h (low, rest) (here, others) le = (low, rise_more (g.version + 1) hs h rest others (omega (arith, here)))
+
+-- ---- one push more
+
+batches_more : (tag : ℕ) (ps : List PushContent) (p : PushContent) → pushed_batches tag (ps ++ p ∷ []) ≡ pushed_batches tag ps ++ at_version p.version (batch_of tag p.bodies)
+batches_more tag ps p = filter_map-append (pushed_batch tag) ps (p ∷ []) ∙ ap (λ es. pushed_batches tag ps ++ es) (one (batch_of tag p.bodies) refl)
+  where
+    one : (o : Option (List Mutation)) → batch_of tag p.bodies ≡ o → pushed_batches tag (p ∷ []) ≡ at_version p.version (batch_of tag p.bodies)
+    one None e = rw e refl
+    one (Some b) e = rw e refl
+
+pub more_held : (ss ts : List (List Shelved)) (hs : List PushHeader) (p : PushContent) → IsIndexed ss hs → IsTrue (is_rising_from 0 p.bodies) → ArePushedBelow p.version (pushes_in ss hs)
+    → ((t : ℕ) → shelf_of ts t ≡ shelf_of ss t ++ at_version p.version (batch_of t p.bodies)) → pushes_in ts (hs ++ header_of p ∷ []) ≡ pushes_in ss hs ++ p ∷ []
+more_held ss ts hs p is rising below put =
+    held_push ts hs (header_of p)
+    ∙ two (λ (qs : List PushContent) (bs : List Rattle.fr_tags.specs.declared.body.Body.Body). qs ++ record { epoch = p.epoch; prev = p.prev; version = p.version; known = p.known; bodies = bs; mark = p.mark } ∷ [])
+    (same_below p.version ts ss hs (headers_below p.version ss hs below) (λ v t less. ap (batch_at v) (put t) ∙ batch_others v p.version (batch_of t p.bodies) (shelf_of ss t) less))
+    (canonical p.version 0 ts p.bodies rising (λ t.
+    ap (batch_at p.version) (put t) ∙ batch_new p.version (batch_of t p.bodies) (shelf_of ss t) (shelves_below p.version ss hs is below t)
+    ∙ ap (λ n. batch_of n p.bodies) (omega arith)))
+
+pub more_indexed : (ss ts : List (List Shelved)) (hs : List PushHeader) (p : PushContent) → IsIndexed ss hs → IsTrue (is_rising_from 0 p.bodies) → ArePushedBelow p.version (pushes_in ss hs)
+    → ((t : ℕ) → shelf_of ts t ≡ shelf_of ss t ++ at_version p.version (batch_of t p.bodies)) → IsIndexed ts (hs ++ header_of p ∷ [])
+more_indexed ss ts hs p is rising below put = record {
+  rises = rise_more 0 hs (header_of p) is.rises (headers_below p.version ss hs below) (omega arith);
+  agrees = λ t. put t ∙ ap (λ es. es ++ at_version p.version (batch_of t p.bodies)) (is.agrees t) ∙ sym (batches_more t (pushes_in ss hs) p)
+      ∙ ap (pushed_batches t) (sym (more_held ss ts hs p is rising below put));
+}
+
+-- ---- the first pushes alone
+
+taken_below : (least : ℕ) (hs : List PushHeader) (n : ℕ) (d : PushHeader) → RiseFrom least hs → n < length hs → AllByRecursion (λ h. h.version < (get_or hs n d).version) (take n hs)
+taken_below least [] n d r within = absurd (omega (arith, within))
+taken_below least (g ∷ hs) zero d r within = tt
+taken_below least (g ∷ hs) (suc n) d (low, rest) within =
+    (let up = rise_at (g.version + 1) hs rest n d (omega (arith, within)) in omega (arith, up), taken_below (g.version + 1) hs n d rest (omega (arith, within)))
+
+pub first_held : (ss ts : List (List Shelved)) (hs : List PushHeader) (n : ℕ) (d : PushHeader) → IsIndexed ss hs → n < length hs
+    → ((t : ℕ) → shelf_of ts t ≡ cut (get_or hs n d).version (shelf_of ss t)) → pushes_in ts (take n hs) ≡ take n (pushes_in ss hs)
+first_held ss ts hs n d is within cuts =
+    same_below (get_or hs n d).version ts ss (take n hs) (taken_below 0 hs n d is.rises within) (λ v t less. ap (batch_at v) (cuts t) ∙ batch_cut v (get_or hs n d).version (shelf_of ss t) less)
+    ∙ held_take ss hs n
+
+rise_taken : (least : ℕ) (hs : List PushHeader) (n : ℕ) → RiseFrom least hs → RiseFrom least (take n hs)
+rise_taken least [] zero r = tt
+rise_taken least [] (suc n) r = tt
+rise_taken least (g ∷ hs) zero r = tt
+rise_taken least (g ∷ hs) (suc n) (low, rest) = (low, rise_taken (g.version + 1) hs n rest)
+
+cut_gone : (tag w least : ℕ) (ss : List (List Shelved)) (hs : List PushHeader) → RiseFrom least hs → w ≤ least → cut w (pushed_batches tag (pushes_in ss hs)) ≡ []
+unfolding pushes_in
+cut_gone tag w least ss [] r le = refl
+cut_gone tag w least ss (g ∷ hs) (low, rest) le = go (batch_of tag (bodies_from g.version 0 ss)) refl (cut_gone tag w (g.version + 1) ss hs rest (omega (arith, low, le)))
+  where
+    go : (o : Option (List Mutation)) → batch_of tag (bodies_from g.version 0 ss) ≡ o → cut w (pushed_batches tag (pushes_in ss hs)) ≡ [] → cut w (pushed_batches tag (push_at ss g ∷ pushes_in ss hs)) ≡ []
+    go None e more = rw e more
+    go (Some b) e more = rw (e, le-ltb g.version w (omega (arith, low, le))) more
+
+cut_batches : (tag least : ℕ) (ss : List (List Shelved)) (hs : List PushHeader) (n : ℕ) (d : PushHeader) → RiseFrom least hs → n < length hs
+    → cut (get_or hs n d).version (pushed_batches tag (pushes_in ss hs)) ≡ pushed_batches tag (pushes_in ss (take n hs))
+unfolding pushes_in
+cut_batches tag least ss [] n d r within = absurd (omega (arith, within))
+cut_batches tag least ss (g ∷ hs) zero d (low, rest) within = cut_gone tag g.version g.version ss (g ∷ hs) (omega arith, rest) (omega arith)
+cut_batches tag least ss (g ∷ hs) (suc n) d (low, rest) within =
+    go (batch_of tag (bodies_from g.version 0 ss)) refl (rise_at (g.version + 1) hs rest n d (omega (arith, within))) (cut_batches tag (g.version + 1) ss hs n d rest (omega (arith, within)))
+  where
+    go : (o : Option (List Mutation)) → batch_of tag (bodies_from g.version 0 ss) ≡ o → g.version + 1 ≤ (get_or hs n d).version
+        → cut (get_or hs n d).version (pushed_batches tag (pushes_in ss hs)) ≡ pushed_batches tag (pushes_in ss (take n hs))
+        → cut (get_or hs n d).version (pushed_batches tag (push_at ss g ∷ pushes_in ss hs)) ≡ pushed_batches tag (push_at ss g ∷ pushes_in ss (take n hs))
+    go None e up more = rw e more
+    go (Some b) e up more = rw (e, lt-ltb g.version (get_or hs n d).version (omega (arith, up))) (ap (λ es. (g.version, b) ∷ es) more)
+
+pub first_indexed : (ss ts : List (List Shelved)) (hs : List PushHeader) (n : ℕ) (d : PushHeader) → IsIndexed ss hs → n < length hs
+    → ((t : ℕ) → shelf_of ts t ≡ cut (get_or hs n d).version (shelf_of ss t)) → IsIndexed ts (take n hs)
+first_indexed ss ts hs n d is within cuts = record {
+  rises = rise_taken 0 hs n is.rises;
+  agrees = λ t. cuts t ∙ ap (cut (get_or hs n d).version) (is.agrees t) ∙ cut_batches t 0 ss hs n d is.rises within ∙ ap (pushed_batches t) (held_take ss hs n ∙ sym (first_held ss ts hs n d is within cuts));
+}
+
+-- ---- a push is sought
+
+and_last : (a b c d m : Bool) → ((a && (b && (c && m))) && d) ≡ (a && (b && (c && (d && m))))
+and_last true true true true true = refl
+and_last true true true true false = refl
+and_last true true true false true = refl
+and_last true true true false false = refl
+and_last true true false d m = refl
+and_last true false c d m = refl
+and_last false b c d m = refl
+
+pub one_is : (p : PushContent) (ss : List (List Shelved)) (h : PushHeader) → (is_headed p h && pointwise is_same_body p.bodies (bodies_from h.version 0 ss)) ≡ is_one_push p (push_at ss h)
+one_is p ss h = and_last (eqb p.epoch h.epoch) (eqb p.prev h.prev) (eqb p.version h.version) (pointwise is_same_body p.bodies (bodies_from h.version 0 ss)) (is_same_mark p.mark h.mark)
+
+or_false : (a : Bool) → (a || false) ≡ a
+or_false true = refl
+or_false false = refl
+
+none_above : (p : PushContent) (ss : List (List Shelved)) (least : ℕ) (hs : List PushHeader) → RiseFrom least hs → p.version < least → is_found p (pushes_in ss hs) ≡ false
+unfolding pushes_in
+none_above p ss least [] r less = refl
+none_above p ss least (h ∷ hs) (low, rest) less =
+    ap (λ t. t || is_found p (pushes_in ss hs)) (another p (push_at ss h) (λ e. absurd (omega (arith, e, low, less)))) ∙ none_above p ss (h.version + 1) hs rest (omega (arith, low, less))
+
+-- it can only be the first that is not below its version
+pub found_in : (p : PushContent) (ss : List (List Shelved)) (least : ℕ) (hs : List PushHeader) (i : ℕ) (h : PushHeader) → RiseFrom least hs
+    → ((k : ℕ) (d : PushHeader) → k < i → (get_or hs k d).version < p.version) → ((k : ℕ) (d : PushHeader) → i ≤ k → k < length hs → p.version ≤ (get_or hs k d).version)
+    → i < length hs → h ≡ get_or hs i h → is_one_push p (push_at ss h) ≡ is_found p (pushes_in ss hs)
+unfolding pushes_in
+found_in p ss least [] i h r low high within is = absurd (omega (arith, within))
+found_in p ss least (g ∷ hs) zero h (from, rest) low high within is =
+    let up = high 0 g (omega arith) (omega arith) in
+    ap (λ x. is_one_push p (push_at ss x)) is
+    ∙ sym (ap (λ t. is_one_push p (push_at ss g) || t) (none_above p ss (g.version + 1) hs rest (omega (arith, up))) ∙ or_false (is_one_push p (push_at ss g)))
+found_in p ss least (g ∷ hs) (suc i) h (from, rest) low high within is =
+    let down = low 0 g (omega arith) in
+    found_in p ss (g.version + 1) hs i h rest (λ k d less. low (suc k) d (omega (arith, less))) (λ k d after inside. high (suc k) d (omega (arith, after)) (omega (arith, inside))) (omega (arith, within)) is
+    ∙ sym (ap (λ t. t || is_found p (pushes_in ss hs)) (another p (push_at ss g) (λ e. absurd (omega (arith, e, down)))))
+
+pub found_none : (p : PushContent) (ss : List (List Shelved)) (hs : List PushHeader) → ((k : ℕ) (d : PushHeader) → k < length hs → (get_or hs k d).version < p.version) → false ≡ is_found p (pushes_in ss hs)
+unfolding pushes_in
+found_none p ss [] low = refl
+found_none p ss (g ∷ hs) low =
+    let down = low 0 g (omega arith) in
+    found_none p ss hs (λ k d less. low (suc k) d (omega (arith, less)))
+    ∙ sym (ap (λ t. t || is_found p (pushes_in ss hs)) (another p (push_at ss g) (λ e. absurd (omega (arith, e, down)))))
+
+-- ---- the records of a tag
+
+-- what stands above a version on a tag's shelf is what the pushes above it have of the tag
+above_pushed : (tag after : ℕ) (ps : List PushContent) → map as_record (filter (λ e. nat_lt after e.0) (pushed_batches tag ps)) ≡ pushed_records tag (filter (λ p. nat_lt after p.version) ps)
+above_pushed tag after [] = refl
+above_pushed tag after (p ∷ ps) = go (batch_of tag p.bodies) (nat_lt after p.version) refl refl (above_pushed tag after ps)
+  where
+    go : (o : Option (List Mutation)) (t : Bool) → batch_of tag p.bodies ≡ o → nat_lt after p.version ≡ t
+        → map as_record (filter (λ e. nat_lt after e.0) (pushed_batches tag ps)) ≡ pushed_records tag (filter (λ q. nat_lt after q.version) ps)
+        → map as_record (filter (λ e. nat_lt after e.0) (pushed_batches tag (p ∷ ps))) ≡ pushed_records tag (filter (λ q. nat_lt after q.version) (p ∷ ps))
+    go (Some b) true e d more = rw (e, d) (rw e (ap (λ xs. record { version = p.version; batch = b } ∷ xs) more))
+    go (Some b) false e d more = rw (e, d) more
+    go None true e d more = rw (e, d) (rw e more)
+    go None false e d more = rw (e, d) more
+
+pub records_above : (tag after : ℕ) (ss : List (List Shelved)) (hs : List PushHeader) → IsIndexed ss hs
+    → map as_record (filter (λ e. nat_lt after e.0) (shelf_of ss tag)) ≡ pushed_records tag (filter (λ p. nat_lt after p.version) (pushes_in ss hs))
+records_above tag after ss hs is = ap (λ es. map as_record (filter (λ e. nat_lt after e.0) es)) (is.agrees tag) ∙ above_pushed tag after (pushes_in ss hs)

@@ -1,0 +1,220 @@
+//! The pushes that a log holds: a chain of headers, and for each tag a shelf of batches.
+ghost use Rattle.std.specs.Prelude.{◌≡◌, ℕ, ◌<◌, ◌≤◌, ◌∷◌, ◌++◌, [], false, nat_lt, ◌==◌, length, take, filter, IsTrue, IfOk, OnOk, OnErr};
+ghost use Rattle.std.specs.Option.{option_copied};
+ghost use Rattle.std.specs.Cmp.Lexicographic.{pointwise};
+ghost use Rattle.fr_tags.specs.Bodies.{batch_of, is_rising_from, is_same_body};
+ghost use Rattle.fr_log.specs.LogState.{mark_among};
+ghost use Rattle.fr_log.specs.Search.{is_found, pushed_records};
+ghost use Rattle.fr_log.specs.Pushes.{shelf_of, bodies_from, at_version, AreBelow, ArePushedBelow, cut};
+
+mod header;
+mod shelf;
+
+use crate::push::Push;
+use crate::records::PeekedRecord;
+use fr_base::{Memory, Tag, Version};
+use fr_state::CoordState;
+use fr_tags::Body;
+pub(crate) use header::PushHeader;
+use shelf::Shelf;
+use std::alloc::{AllocError, Global};
+use std::marker::Model;
+
+/// The pushes that a log holds, by rising versions. Their headers stand in one list, the oldest first, and
+/// their batches on shelves, one for each tag up to the greatest that was pushed, so that the records of a
+/// tag are found without a walk of what other tags were pushed. Contracts see the list of the pushes.
+#[derive(Debug, Drop)]
+pub(crate) struct Pushes {
+    headers: Vec<PushHeader>,
+    shelves: Vec<Shelf>,
+}
+
+impl Model for Pushes {
+    ghost use Rattle.std.specs.Prelude.{List};
+    ghost use Rattle.fr_log.specs.Push.{PushContent};
+    ghost use Rattle.fr_log.specs.Pushes.{pushes_in, IsIndexed};
+
+    ghost Value = { List PushContent };
+
+    ghost view = { λ p. pushes_in p.shelves.items p.headers.items };
+
+    ghost invariant = { λ p. IsIndexed p.shelves.items p.headers.items };
+}
+
+impl Pushes {
+    /// No pushes. It takes no memory.
+    pub(crate) fn new(alloc: Global) -> Self
+        ensures { result ≡ [] }
+    {
+        Pushes {
+            headers: Vec::new(alloc),
+            shelves: Vec::new(alloc),
+        }
+    }
+
+    /// How many there are.
+    pub(crate) fn len(&self) -> usize
+        ensures { result ≡ length self.now }
+    {
+        self.headers.len()
+    }
+
+    /// The coordinated state of the first push, where that is a mark.
+    pub(crate) fn mark(&self) -> Option<&CoordState>
+        ensures { option_copied result ≡ mark_among self.now }
+    {
+        match self.headers.first() {
+            Some(header) => header.mark.as_ref(),
+            None => None,
+        }
+    }
+
+    /// Whether a push is among them, whatever it tells of what is known. Its version is sought by halving.
+    pub(crate) fn has(&self, push: &Push) -> bool
+        ensures { result ≡ is_found push.now self.now }
+    {
+        let version = push.version();
+        let at = self
+            .headers
+            .partition_point(|header| header.version < version);
+        match self.headers.get(at) {
+            Some(header) => {
+                push.is_headed(header) && have_bodies(&self.shelves, header.version, push.bodies())
+            }
+            None => false,
+        }
+    }
+
+    /// Holds one more push, above all others: it is moved in. Want of memory changes nothing.
+    pub(crate) fn hold(&mut self, alloc: Global, push: Push) -> Result<(), Memory>
+        requires { ArePushedBelow push.version self.old }
+        ensures after { OnOk result (self.new ≡ self.old ++ push ∷ []) }
+        ensures err { OnErr result (self.new ≡ self.old) }
+    {
+        let version = push.version();
+        self.headers.reserve(1)?;
+        let (header, bodies) = push.into_parts();
+        if let Err(fault) = put_all(alloc, &mut self.shelves, version, bodies) {
+            cut_all(&mut self.shelves, version);
+            return Err(fault);
+        }
+        match self.headers.push(header) {
+            Ok(()) => Ok(()),
+            Err(_) => unreachable!(),
+        }
+    }
+
+    /// Lets all go but the first ones. It takes no memory.
+    pub(crate) fn truncate(&mut self, left: usize)
+        ensures { self.new ≡ take left self.old }
+    {
+        if let Some(first) = self.headers.get(left) {
+            let from = first.version;
+            cut_all(&mut self.shelves, from);
+            self.headers.truncate(left);
+        }
+    }
+
+    /// Appends the records of a tag above a version until there are `most`, and says whether more remain. It
+    /// reads that tag's shelf alone.
+    pub(crate) fn gather(
+        &self,
+        tag: Tag,
+        after: Version,
+        most: usize,
+        given: &mut Vec<PeekedRecord>,
+    ) -> Result<bool, Memory>
+        requires { length given.old.items ≤ most }
+        ensures given { IfOk result (λ _. given.new.items ≡ take most (given.old.items ++ pushed_records tag (filter (λ p. nat_lt after p.version) self.now))) }
+        ensures more { IfOk result (λ more. more ≡ nat_lt most (length (given.old.items ++ pushed_records tag (filter (λ p. nat_lt after p.version) self.now)))) }
+    {
+        match self.shelves.get(usize::from(tag.get())) {
+            Some(shelf) => shelf.gather(after, most, given),
+            None => Ok(false),
+        }
+    }
+}
+
+impl Clone for Pushes {
+    ghost use Rattle.std.specs.Prelude.{◌≡◌};
+
+    ghost is_clone = { λ pushes copy. copy ≡ pushes };
+
+    fn clone(&self) -> Result<Self, AllocError> {
+        Ok(Pushes {
+            headers: self.headers.clone()?,
+            shelves: self.shelves.clone()?,
+        })
+    }
+}
+
+/// Whether bodies are those that stand at a version.
+fn have_bodies(shelves: &[Shelf], version: Version, bodies: &[Body]) -> bool
+    ensures { result ≡ pointwise is_same_body bodies.now (bodies_from version 0 shelves.now) }
+{
+    let mut left = bodies;
+    for number in 0..shelves.len() {
+        if let Some(batch) = shelves[number].at(version) {
+            match left {
+                [body, rest @ ..] => {
+                    if usize::from(body.tag.get()) != number || body.batch != *batch {
+                        return false;
+                    }
+                    left = rest;
+                }
+                [] => return false,
+            }
+        }
+    }
+    left.is_empty()
+}
+
+/// Puts bodies on the shelves of their tags. Where memory is wanted, some of them stand there.
+fn put_all(
+    alloc: Global,
+    shelves: &mut Vec<Shelf>,
+    version: Version,
+    bodies: Vec<Body>,
+) -> Result<(), Memory>
+    requires rising { IsTrue (is_rising_from 0 bodies.items) }
+    requires fresh { (t : ℕ) → AreBelow version (shelf_of shelves.old.items t) }
+    ensures after { OnOk result ((t : ℕ) → shelf_of shelves.new.items t ≡ shelf_of shelves.old.items t ++ at_version version (batch_of t bodies.items)) }
+    ensures err { OnErr result ((t : ℕ) → cut version (shelf_of shelves.new.items t) ≡ shelf_of shelves.old.items t) }
+{
+    for body in bodies {
+        put(alloc, shelves, version, body)?;
+    }
+    Ok(())
+}
+
+/// Puts a body on the shelf of its tag.
+fn put(alloc: Global, shelves: &mut Vec<Shelf>, version: Version, body: Body) -> Result<(), Memory>
+    requires { AreBelow version (shelf_of shelves.old.items body.tag) }
+    ensures here { OnOk result (shelf_of shelves.new.items body.tag ≡ shelf_of shelves.old.items body.tag ++ (version, body.batch) ∷ []) }
+    ensures others { OnOk result ((t : ℕ) → (t == body.tag) ≡ false → shelf_of shelves.new.items t ≡ shelf_of shelves.old.items t) }
+    ensures err { OnErr result ((t : ℕ) → shelf_of shelves.new.items t ≡ shelf_of shelves.old.items t) }
+{
+    let number = usize::from(body.tag.get());
+    grow(alloc, shelves, number)?;
+    shelves[number].put(version, body.batch)
+}
+
+/// Adds empty shelves until there is one of this number.
+fn grow(alloc: Global, shelves: &mut Vec<Shelf>, number: usize) -> Result<(), Memory>
+    ensures room { OnOk result (number < length shelves.new.items) }
+    ensures same { (t : ℕ) → shelf_of shelves.new.items t ≡ shelf_of shelves.old.items t }
+{
+    while shelves.len() <= number {
+        shelves.push(Shelf::new(alloc))?;
+    }
+    Ok(())
+}
+
+/// Takes out of each shelf what stands at a version or above it.
+fn cut_all(shelves: &mut Vec<Shelf>, version: Version)
+    ensures { (t : ℕ) → shelf_of shelves.new.items t ≡ cut version (shelf_of shelves.old.items t) }
+{
+    for number in 0..shelves.len() {
+        shelves[number].cut_from(version);
+    }
+}
