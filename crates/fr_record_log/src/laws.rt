@@ -1,5 +1,5 @@
 //! The law of the files of logs.
-ghost use Rattle.fr_record_log.specs.Law.{RunIsRead, ReadIsRun};
+ghost use Rattle.fr_record_log.specs.Law.{RunIsRead, ReadIsRun, WrittenApart, ToldApart};
 
 use fr_mutation::spelling_is_read;
 use fr_state::spelling_law;
@@ -13,3 +13,10 @@ pub fn run_law()
     spelling_is_read();
     spelling_law();
 }
+
+/// Asks that are served at once do what they do one after another: they have the same records, so that the file has the
+/// same bytes, and are told the same.
+pub fn several_law()
+    ensures written { WrittenApart }
+    ensures told { ToldApart }
+{}

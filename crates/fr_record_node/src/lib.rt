@@ -6,7 +6,7 @@ mod fault;
 mod file_node;
 mod recorded;
 
-pub use cell_file::{CellNode, CellPlace};
+pub use cell_file::CellNode;
 pub use fault::ReadFault;
 pub use file_node::FileNode;
 pub use recorded::Recorded;
