@@ -1,7 +1,7 @@
 -- Asks one after another.
-use Rattle.std.proofs.Common.{◌≡◌, ℕ, zero, suc, ◌+◌, ◌<◌, ◌≤◌, List, [], ◌∷◌, ◌++◌, length, get_or, take, refl, sym, ap, ◌∙◌, arith, append_assoc, subst, ◌⊎◌, inl, inr}
+use Rattle.std.proofs.Common.{◌≡◌, ℕ, zero, suc, ◌+◌, ◌<◌, List, [], ◌∷◌, ◌++◌, length, get_or, take, refl, sym, ap, ◌∙◌, arith, append_assoc, subst, ◌⊎◌, inl, inr}
 use Rattle.std.specs.Prelude.{Option, Some, fold, All}
-use Rattle.std.proofs.lemmas.List.{append-nil, take_all, take_more}
+use Rattle.std.proofs.lemmas.List.{append-nil, take_more}
 use Rattle.std.proofs.lemmas.List.Sums.{fold-append}
 use Rattle.std.proofs.lemmas.List.Elements.{All-append, All-head, All-tail}
 use Rattle.fr_record_node.specs.Replay.{replayed, next_replayed}
@@ -39,18 +39,18 @@ pub all_fresh : {M A : Type 0} (after : M → A → M) (fresh : M → M) → ((m
 all_fresh after fresh same m [] = refl
 all_fresh after fresh same m (a ∷ asks) = all_fresh after fresh same (after m a) asks ∙ same m a
 
-all_cons : {A : Type 0} (P : A → Type 0) (a : A) (as : List A) → P a → All P as → All P (a ∷ as)
-all_cons P a as first others zero d h = first
-all_cons P a as first others (suc i) d h = others i d (omega (arith, h))
+all_cons : {A : Type 0} (P : A → Type 0) (a : A) (rest : List A) → P a → All P rest → All P (a ∷ rest)
+all_cons P a rest first others zero d h = first
+all_cons P a rest first others (suc i) d h = others i d (omega (arith, h))
+
+pub none_asked : {A : Type 0} (P : A → Type 0) → All P []
+none_asked P i d h = absurd (omega (arith, h))
 
 -- what is kept for the while changes nothing of what is told and written
 module _ {M A : Type 0} (after kept : M → A → M) (settled : M → M) (IsAsk : A → Type 0) where
   -- once it lets go, n is where the asks lead m, and so it stays
   abbrev pub Settles : M → M → Type 0
   Settles n m = (asks : List A) → All IsAsk asks → settled (after_all kept n asks) ≡ after_all after m asks
-
-  nothing : All IsAsk []
-  nothing i d h = absurd (omega (arith, h))
 
   settles_on : (n m : M) (a : A) → IsAsk a → Settles n m → Settles (kept n a) (after m a)
   settles_on n m a is_ask here asks within = here (a ∷ asks) (all_cons IsAsk a asks is_ask within)
@@ -59,14 +59,14 @@ module _ {M A : Type 0} (after kept : M → A → M) (settled : M → M) (IsAsk 
       → (n m : M) (asks : List A) → All IsAsk asks → Settles n m → told_all kept told n asks ≡ told_all after told m asks
   told_kept told same n m [] within here = refl
   told_kept told same n m (a ∷ asks) within here =
-      ap (λ t. t ∷ told_all kept told (kept n a) asks) (sym (same n a) ∙ ap (λ x. told x a) (here [] nothing))
+      ap (λ t. t ∷ told_all kept told (kept n a) asks) (sym (same n a) ∙ ap (λ x. told x a) (here [] (none_asked IsAsk)))
       ∙ ap (λ l. told m a ∷ l) (told_kept told same (kept n a) (after m a) asks (All-tail IsAsk a asks within) (settles_on n m a (All-head IsAsk a asks within) here))
 
   pub written_kept : (written : M → A → List (List ℕ)) → ((m : M) (a : A) → written (settled m) a ≡ written m a)
       → (n m : M) (asks : List A) → All IsAsk asks → Settles n m → written_all kept written n asks ≡ written_all after written m asks
   written_kept written same n m [] within here = refl
   written_kept written same n m (a ∷ asks) within here =
-      ap (λ r. r ++ written_all kept written (kept n a) asks) (sym (same n a) ∙ ap (λ x. written x a) (here [] nothing))
+      ap (λ r. r ++ written_all kept written (kept n a) asks) (sym (same n a) ∙ ap (λ x. written x a) (here [] (none_asked IsAsk)))
       ∙ ap (λ l. written m a ++ l) (written_kept written same (kept n a) (after m a) asks (All-tail IsAsk a asks within) (settles_on n m a (All-head IsAsk a asks within) here))
 
 -- a loop over asks, at one of them
@@ -90,7 +90,7 @@ module _ {M A : Type 0} (after : M → A → M) (first : M) (asks : List A) (i :
       ∙ sym (written_apart after written first (take i asks) (ask ∷ [])) ∙ ap (λ l. written_all after written first l) (sym one_more)
 
   pub asked_more : (IsAsk : A → Type 0) → All IsAsk (take i asks) → IsAsk ask → All IsAsk (take (i + 1) asks)
-  asked_more IsAsk within is_ask = subst (λ l. All IsAsk l) (sym one_more) (All-append IsAsk (take i asks) (ask ∷ []) within (all_cons IsAsk ask [] is_ask (λ k d lt. absurd (omega (arith, lt)))))
+  asked_more IsAsk within is_ask = subst (λ l. All IsAsk l) (sym one_more) (All-append IsAsk (take i asks) (ask ∷ []) within (all_cons IsAsk ask [] is_ask (none_asked IsAsk)))
 
   -- the asks that were taken where memory is wanting
   pub front_of : (n : M) → (n ≡ m) ⊎ (n ≡ after m ask) → (front : List A) × (n ≡ after_all after first front)

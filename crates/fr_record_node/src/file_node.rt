@@ -200,7 +200,10 @@ where
     ghost CanMeet = { λ fault. IsTrue (is_trouble fault) };
 
     fn serve(&mut self, alloc: Global, ask: M::Ask) -> Result<M::Tell, NodeFault> {
-        let asks = self.only(alloc, ask)?;
+        let asks = match self.only(alloc, ask) {
+            Ok(asks) => asks,
+            Err(fault) => return Err(fault),
+        };
         match self.serve_all(alloc, asks) {
             Ok(mut tells) => match tells.pop() {
                 Some(tell) => Ok(tell),

@@ -4,6 +4,7 @@
 mod cell_file;
 mod fault;
 mod file_node;
+pub mod laws;
 mod recorded;
 
 pub use cell_file::CellNode;

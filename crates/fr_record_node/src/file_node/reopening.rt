@@ -72,9 +72,12 @@ where
     let Ok(place) = machine.place(alloc) else {
         return Err(NodeFault::Memory);
     };
-    if take_all(machine, alloc, asks).is_err() {
-        machine.go_back(place);
-        return Err(NodeFault::Memory);
+    match take_all(machine, alloc, asks) {
+        Ok(_) => {}
+        Err(_) => {
+            machine.go_back(place);
+            return Err(NodeFault::Memory);
+        }
     }
     match file.reopen(alloc) {
         Ok(()) => {
