@@ -1,7 +1,9 @@
 //! The law of the files of logs.
-ghost use Rattle.fr_record_log.specs.Law.{RunIsRead, ReadIsRun};
+ghost use Rattle.fr_record_log.specs.Law.{RunIsRead, ReadIsRun, WrittenApart, ToldApart};
 
+use crate::log_file::FileLog;
 use fr_mutation::spelling_is_read;
+use fr_record_node::laws;
 use fr_state::spelling_law;
 
 /// The records of every list of asks lead a log where the asks do; and what the records of a file lead a log
@@ -12,4 +14,13 @@ pub fn run_law()
 {
     spelling_is_read();
     spelling_law();
+}
+
+/// Asks that are served at once do what they do one after another: they have the same records, so that the file has the
+/// same bytes, and are told the same.
+pub fn several_law()
+    ensures written { WrittenApart }
+    ensures told { ToldApart }
+{
+    laws::several_law::<FileLog>();
 }

@@ -79,13 +79,6 @@ impl Machine for FileLog {
     }
 }
 
-/// Where a log stood before an ask, and a copy of the ask.
-#[derive(Drop)]
-pub(crate) struct LogPlace {
-    place: Place,
-    ask: LogAsk,
-}
-
 /// Takes an ask that changes the log.
 fn take_ask(log: &mut Log, alloc: Global, ask: LogAsk) -> Result<(), ReadFault>
     ensures ok { OnOk result (taken log.old (Change.Asked ask) ≡ Some log.new) }
@@ -125,14 +118,15 @@ fn take_seeded(log: &mut Log, next: SeedRecord) -> Result<(), ReadFault>
 }
 
 impl Recorded for FileLog {
-    ghost use Rattle.std.specs.Prelude.{◌≡◌};
+    ghost use Rattle.std.specs.Prelude.{◌≡◌, refl};
+    ghost use Rattle.fr_log.specs.Step.{next_of};
     ghost use Rattle.fr_log.specs.Chain.{IsLog};
     ghost use Rattle.fr_log.specs.Place.{place_of};
     ghost use Rattle.fr_record_log.specs.Spelling.{written_log};
     ghost use Rattle.fr_record_log.specs.LogFile.{fresh_of, replay_log, IsSoundLog, LeadsBack};
     ghost use Rattle.fr_record_log.specs.LogFileLaws.{stays_sound, same_fresh, same_read};
 
-    type Place = LogPlace;
+    type Place = Place;
 
     ghost fresh = { fresh_of };
 
@@ -144,7 +138,11 @@ impl Recorded for FileLog {
 
     ghost IsAsk = { LeadsBack };
 
-    ghost IsPlaceOf = { λ l a p. IsLog l × (p.place ≡ place_of l) × (p.ask ≡ a) };
+    ghost kept = { next_of };
+
+    ghost settled = { λ l. l };
+
+    ghost IsPlaceOf = { λ l p. IsLog l × (p ≡ place_of l) };
 
     ghost replays = { λ l a sound leads. leads l sound };
 
@@ -153,6 +151,12 @@ impl Recorded for FileLog {
     ghost same_fresh = { same_fresh };
 
     ghost same_read = { same_read };
+
+    ghost settles = { λ l asks sound within. refl };
+
+    ghost told_settled = { λ l a. refl };
+
+    ghost written_settled = { λ l a. refl };
 
     fn records(&self, alloc: Global, ask: &LogAsk) -> Result<Vec<Vec<u8>>, Memory> {
         spelling_is_read();
@@ -166,17 +170,19 @@ impl Recorded for FileLog {
         }
     }
 
-    fn place(&self, _alloc: Global, ask: &LogAsk) -> Result<LogPlace, Memory> {
-        Ok(LogPlace {
-            place: self.log.place(),
-            ask: ask.copy()?,
-        })
+    fn place(&self, _alloc: Global) -> Result<Place, Memory> {
+        Ok(self.log.place())
     }
 
-    fn go_back(&mut self, place: LogPlace) -> LogAsk {
+    fn keep(&mut self, alloc: Global, ask: LogAsk) -> Result<LogTell, Memory> {
+        self.log.step(alloc, ask)
+    }
+
+    fn settle(&mut self) {}
+
+    fn go_back(&mut self, place: Place) {
         place_law();
-        self.log.go_back(place.place);
-        place.ask
+        self.log.go_back(place);
     }
 
     fn copy_ask(_alloc: Global, ask: &LogAsk) -> Result<LogAsk, Memory> {

@@ -1,11 +1,17 @@
 //! Logs over devices.
-ghost use Rattle.std.specs.Prelude.{◌≡◌, ◌≢◌, ◌⊎◌, ◌↔◌, ◌<◌, ◌≤◌, [], List, ℕ, None, Some, Err, IfOk, IfErr, false};
+ghost use Rattle.std.specs.Prelude.{◌≡◌, ◌≢◌, ◌⊎◌, ◌||◌, ◌↔◌, ◌<◌, ◌≤◌, ◌+◌, ◌-◌, ◌^◌, ◌++◌, min, [], List, ℕ, None, Some, Err, IsOk, IfOk, OnOk, OnErr, IfErr, IsTrue, false};
+ghost use Rattle.fr_base.specs.Faults.{met_device};
 ghost use Rattle.fr_log.specs.LogState.{fresh_log};
+ghost use Rattle.fr_log.specs.Step.{answer_of, next_of};
+ghost use Rattle.fr_log.specs.Law.{after_all};
 ghost use Rattle.fr_device.specs.Moments.{Throughout};
 ghost use Rattle.fr_record.specs.File.{StandsFor};
 ghost use Rattle.fr_record.specs.Failing.{FailsOnceMore};
+ghost use Rattle.fr_record_node.specs.Several.{told_all};
+ghost use Rattle.fr_record_node.specs.Node.{HasNoRoom, is_trouble};
 ghost use Rattle.fr_record_node.specs.Replay.{replayed, Opens};
 ghost use Rattle.fr_record_log.specs.LogFile.{fresh_of, replay_log};
+ghost use Rattle.fr_record_log.specs.Law.{written_all};
 
 use crate::limits::log_within_limits;
 use crate::log_file::FileLog;
@@ -93,6 +99,31 @@ impl<D: Device> LogNode<D> {
             Ok(node) => Ok(LogNode { node }),
             Err(fault) => Err(fault),
         }
+    }
+
+    /// Answers asks in order as the log does, with all their records in one group: two syncs, however many they
+    /// are. After a crash all of the group is there, or nothing; after a fault of the device `reopen` says which.
+    /// Where no ask changes anything, as in an empty list, no call of the device is made. The file has the bytes that it
+    /// would have had the asks been served apart. Memory holds the records of all asks at once, and a copy of each ask.
+    pub fn serve_all(&mut self, alloc: Global, asks: Vec<LogAsk>) -> Result<Vec<LogTell>, NodeFault>
+        ensures told { IfOk result (λ tells. tells.items ≡ told_all next_of answer_of self.old.machine asks.items) }
+        ensures after { OnOk result (self.new.machine ≡ after_all self.old.machine asks.items) }
+        ensures records { OnOk result (self.new.records ≡ self.old.records ++ written_all self.old.machine asks.items) }
+        ensures still { written_all self.old.machine asks.items ≡ [] → self.new.device ≡ self.old.device }
+        ensures none { asks.items ≡ [] → self.old.is_failed ≡ false → IsOk result × (self.new ≡ self.old) }
+        ensures err { OnErr result (self.new.machine ≡ self.old.machine) }
+        ensures err_records { OnErr result (self.new.records ≡ self.old.records) }
+        ensures failed { (result ≡ Err NodeFault.Failed) ↔ IsTrue self.old.is_failed }
+        ensures fails { self.new.is_failed ≡ (self.old.is_failed || met_device result) }
+        ensures device { (result ≡ Err NodeFault.Device) → D.failures_of self.new.device ≡ min (D.failures_of self.old.device + 1) (2 ^ 64 - 1) }
+        ensures full { (result ≡ Err NodeFault.Full) → HasNoRoom (D.capacity_of self.old.device) self.old.records (written_all self.old.machine asks.items) }
+        ensures owes { (result ≡ Err NodeFault.Device) → self.new.owed ≡ Some (after_all self.old.machine asks.items) }
+        ensures owes_still { result ≢ Err NodeFault.Device → self.new.owed ≡ self.old.owed }
+        ensures trouble { IfErr result (λ fault. fault ≢ NodeFault.Failed → IsTrue (is_trouble fault)) }
+        ensures any_moment { self.old.is_failed ≡ false → Throughout D.Led D.disk (Opens replay_log (fresh_of self.old.machine) (λ x. (x ≡ self.old.machine) ⊎ (x ≡ after_all self.old.machine asks.items))) self.old.device self.new.device }
+        ensures kept { OnOk result (Throughout D.Led D.disk (Opens replay_log (fresh_of self.new.machine) (λ x. x ≡ self.new.machine)) self.new.device self.new.device) }
+    {
+        self.node.serve_all(alloc, asks)
     }
 
     /// Gives the device back.

@@ -1,6 +1,6 @@
 -- What a file opens to, at rest and while a group is in flight.
 use Rattle.std.proofs.Common.{◌≡◌, ◌⊎◌, inl, inr, ℕ, ◌<◌, ◌≤◌, List, [], ◌∷◌, ◌++◌, length, refl, sym, ap, ◌∙◌, subst, arith, length-append, Vec}
-use Rattle.std.specs.Prelude.{◌^◌, Option, Some, fold, All, zero, suc, Result, Ok, Err, OnOk}
+use Rattle.std.specs.Prelude.{◌^◌, Option, Some, fold, All, zero, suc, Result, Ok, Err, OnOk, OnErr}
 use Rattle.std.specs.declared.alloc.Global.{Global}
 use Rattle.std.proofs.lemmas.List.{append-nil}
 use Rattle.std.proofs.lemmas.List.Sums.{fold-append}
@@ -97,6 +97,20 @@ module _ {M : Type 0} (replay : M → List ℕ → Option M) (fresh : M) (before
       | inr stands ↦ record { records = before ++ r ∷ rs; state = n; stands = stands; replays = replays_more (r ∷ rs) n goes; holds = there }
     ]
 
+-- a machine m at the records of a file, and n where asks lead it: what a crash leaves opens to one of the two
+module _ {D M : Type 0} (Led : D → D → Type 0) (disk : D → Disk) (replay : M → List ℕ → Option M) (fresh m n : M) (before : List (List ℕ)) (replays : replayed replay (Some fresh) before ≡ Some m) where
+  abbrev pub Claim : D → D → Type 0
+  Claim first last = Throughout Led disk (Opens replay fresh (λ x. (x ≡ m) ⊎ (x ≡ n))) first last
+
+  -- nothing was done yet
+  pub unmoved : RestStands → (device : D) → LeavesOnly Led disk (IsAtRest before) device → Claim device device
+  unmoved rest_stands device leaves = started Led disk _ device (λ left may. rest_opens replay fresh before m replays _ (inl refl) rest_stands left (leaves left may))
+
+  -- the records were put
+  pub moved : WholeOrNot → RestStands → (group : List (List ℕ)) → replayed replay (Some m) group ≡ Some n → (first last : D) → Throughout Led disk (InFlight before group) first last → Claim first last
+  moved whole_or_not rest_stands group goes first last moments =
+      weaker Led disk (InFlight before group) _ (flight_opens replay fresh before m replays _ (inl refl) whole_or_not rest_stands group n goes (inr refl)) first last moments
+
 all_first : (r : List ℕ) (rs : List (List ℕ)) → length r < 2 ^ 32 → AreShort rs → AreShort (r ∷ rs)
 all_first r rs first others zero d h = first
 all_first r rs first others (suc i) d h = others i d (omega (arith, h))
@@ -119,6 +133,10 @@ no_records (v ∷ vs) none = absurd (omega (arith, none))
 pub on_ok : {T E : Type 0} (r : Result T E) (P Q : Type 0) → (P → Q) → OnOk r P → OnOk r Q
 on_ok (Ok x) P Q f p = f p
 on_ok (Err e) P Q f p = p
+
+pub on_err : {T E : Type 0} (r : Result T E) (P : Type 0) → P → OnErr r P
+on_err (Ok x) P p = tt
+on_err (Err e) P p = p
 
 -- a node's file is no file of its format only where the file says so
 pub is_broken : (fault : RecordFault) → node_fault fault ≡ node.Broken → fault ≡ Broken

@@ -1,4 +1,5 @@
 mod Lemmas
+mod SeveralLemmas
 mod NodeLemmas
 mod ReadLemmas
 mod CellLemmas

@@ -1,13 +1,13 @@
 -- A node, before and after a call of its file.
-use Rattle.std.proofs.Common.{◌≡◌, ◌⊎◌, inl, inr, ℕ, Bool, true, false, List, [], ◌++◌, refl, sym, ap, ◌∙◌, subst}
+use Rattle.std.proofs.Common.{◌≡◌, ◌⊎◌, inl, inr, ℕ, Bool, true, false, List, refl, sym, ap, ◌∙◌, subst}
 use Rattle.std.specs.Prelude.{Option, None, Some}
 use Rattle.fr_device.specs.Disk.{Disk}
 use Rattle.fr_device.specs.Moments.{LeavesOnly, Throughout}
-use Rattle.fr_record.specs.File.{AreShort, IsLeft, IsAtRest}
+use Rattle.fr_record.specs.File.{IsAtRest}
 use Rattle.fr_record.specs.Laws.{WholeOrNot, RestStands}
 use Rattle.fr_record_node.specs.Replay.{replayed, Opens}
 use Rattle.fr_record_node.specs.Node.{NodeState, InFlight, group_of, owed_of, IsNode}
-use Rattle.fr_record_node.proofs.Lemmas.{started, weaker, at_last, put_flight, replays_more, rest_opens, flight_opens}
+use Rattle.fr_record_node.proofs.Lemmas.{started, weaker, at_last, rest_opens, flight_opens}
 
 module _ {D M A : Type 0} (Led : D → D → Type 0) (disk : D → Disk) (fresh : M → M) (replay : M → List ℕ → Option M) (written : M → A → List (List ℕ)) (IsAsk : A → Type 0) (IsSound : M → Type 0) (after : M → A → M) where
   abbrev pub IsNodeHere : Option A → NodeState D M → Type 0
@@ -15,9 +15,6 @@ module _ {D M A : Type 0} (Led : D → D → Type 0) (disk : D → Disk) (fresh 
 
   abbrev pub Replays : Type 0
   Replays = (s : M) (a : A) → IsSound s → IsAsk a → replayed replay (Some s) (written s a) ≡ Some (after s a)
-
-  abbrev pub SameFresh : Type 0
-  SameFresh = (s : M) (a : A) → fresh (after s a) ≡ fresh s
 
   -- a machine that its records bring back is there after a crash
   pub kept_now : RestStands → (m : M) (records : List (List ℕ)) (device : D) → replayed replay (Some (fresh m)) records ≡ Some m → LeavesOnly Led disk (IsAtRest records) device
@@ -33,26 +30,6 @@ module _ {D M A : Type 0} (Led : D → D → Type 0) (disk : D → Disk) (fresh 
     pub still : RestStands → (a : A) → LeavesOnly Led disk (IsAtRest n.records) n.device → Claim a n.device
     still rest_stands a leaves =
         started Led disk _ n.device (λ left may. rest_opens replay (fresh n.machine) n.records n.machine node.replays _ (inl refl) rest_stands left (leaves left may))
-
-    -- the records of an ask were put
-    pub flight : (a : A) (group : List (List ℕ)) → group ≡ written n.machine a → (group ≡ [] → ⊥) → AreShort group → LeavesOnly Led disk (IsAtRest n.records) n.device
-        → (last : D) → Throughout Led disk (IsLeft n.records group) n.device last → Throughout Led disk (InFlight n.records (written n.machine a)) n.device last
-    flight a group is some short leaves last moments =
-        subst (λ g. Throughout Led disk (InFlight n.records g) n.device last) is (put_flight Led disk n.device last n.records group some short leaves moments)
-
-    pub claimed : Replays → WholeOrNot → RestStands → (a : A) → IsAsk a → (last : D) → Throughout Led disk (InFlight n.records (written n.machine a)) n.device last → Claim a last
-    claimed law whole_or_not rest_stands a asks last moments =
-        weaker Led disk (InFlight n.records (written n.machine a)) _
-        (flight_opens replay (fresh n.machine) n.records n.machine node.replays _ (inl refl) whole_or_not rest_stands (written n.machine a) (after n.machine a) (law n.machine a node.sound asks) (inr refl))
-        n.device last moments
-
-    -- what the records and the machine are then
-    pub grown : Replays → SameFresh → (a : A) → IsAsk a → (m : M) (records : List (List ℕ)) → m ≡ after n.machine a → records ≡ n.records ++ written n.machine a → replayed replay (Some (fresh m)) records ≡ Some m
-    grown law same_fresh a asks m records m_is records_is =
-        ap (λ f. replayed replay (Some f) records) (ap fresh m_is ∙ same_fresh n.machine a)
-        ∙ ap (λ rs. replayed replay (Some (fresh n.machine)) rs) records_is
-        ∙ replays_more replay (fresh n.machine) n.records n.machine node.replays (written n.machine a) (after n.machine a) (law n.machine a node.sound asks)
-        ∙ ap (λ x. Some x) (sym m_is)
 
     pub same : (m : M) (records : List (List ℕ)) → m ≡ n.machine → records ≡ n.records → replayed replay (Some (fresh m)) records ≡ Some m
     same m records m_is records_is =
@@ -70,10 +47,10 @@ module _ {D M A : Type 0} (Led : D → D → Type 0) (disk : D → Disk) (fresh 
     }
 
     -- the node whose device failed in an ask
-    pub failing : (a : A) → IsAsk a → (device : D) → Throughout Led disk (InFlight n.records (written n.machine a)) n.device device
+    pub failing : (a : A) → IsAsk a → (device : D) → LeavesOnly Led disk (InFlight n.records (written n.machine a)) device
         → (records : List (List ℕ)) (is_failed : Bool) (m : M) (b : A) → records ≡ n.records → is_failed ≡ true → m ≡ n.machine → b ≡ a → IsSound m
         → IsNodeHere (Some b) (record { device = device; records = records; is_failed = is_failed; machine = m; owed = owed_of after m (Some b) })
-    failing a asks device moments records is_failed m b records_is fails m_is b_is sound = record {
+    failing a asks device leaves records is_failed m b records_is fails m_is b_is sound = record {
       replays = same m records m_is records_is;
       sound = sound;
       idle = λ works. absurd (cc (fails, works));
@@ -82,7 +59,7 @@ module _ {D M A : Type 0} (Led : D → D → Type 0) (disk : D → Disk) (fresh 
           subst (λ rs. LeavesOnly Led disk (InFlight rs (written m b)) device) (sym records_is)
           (subst (λ x. LeavesOnly Led disk (InFlight n.records (written x b)) device) (sym m_is)
           (subst (λ x. LeavesOnly Led disk (InFlight n.records (written n.machine x)) device) (sym b_is)
-          (at_last Led disk (InFlight n.records (written n.machine a)) n.device device moments)));
+          leaves));
     }
 
     -- a node in which no ask is held, opened again
@@ -116,7 +93,7 @@ module _ {D M A : Type 0} (Led : D → D → Type 0) (disk : D → Disk) (fresh 
           → IsNodeHere held (record { device = device; records = records; is_failed = is_failed; machine = m; owed = owed_of after m held })
       held_again device records is_failed m records_is m_is fails sound moments =
           subst (λ h. IsNodeHere h (record { device = device; records = records; is_failed = is_failed; machine = m; owed = owed_of after m h })) (sym held_is)
-          (failing ask (node.asked ask held_is) device moments records is_failed m ask records_is fails m_is refl sound)
+          (failing ask (node.asked ask held_is) device (at_last Led disk (InFlight n.records (written n.machine ask)) n.device device moments) records is_failed m ask records_is fails m_is refl sound)
 
       pub held_claim : Replays → WholeOrNot → RestStands → (last : D) → Throughout Led disk (InFlight n.records (written n.machine ask)) n.device last
           → Throughout Led disk (Opens replay (fresh n.machine) (λ x. (x ≡ n.machine) ⊎ (owed_of after n.machine held ≡ Some x))) n.device last

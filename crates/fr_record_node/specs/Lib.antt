@@ -1,3 +1,4 @@
+pub mod Several
 pub mod Replay
 pub mod Node
 pub mod CellFile

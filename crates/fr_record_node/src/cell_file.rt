@@ -6,7 +6,7 @@ use crate::fault::ReadFault;
 use crate::file_node::FileNode;
 use crate::recorded::Recorded;
 use fr_base::{Ballot, Machine, Memory};
-use fr_register::{Cell, CellAsk, CellValue};
+use fr_register::{Cell, CellAsk, CellTell, CellValue};
 use std::alloc::Global;
 
 /// The bytes of a record before the value.
@@ -17,13 +17,6 @@ const MOST: usize = FRONT + 4096;
 /// A coordinator's cell whose promises and writes outlast every crash. It is made by `FileNode::format` or
 /// `FileNode::open` with a cell that was never asked.
 pub type CellNode<D> = FileNode<Cell, D>;
-
-/// Where a cell stood before an ask: a copy of it, and of the ask.
-#[derive(Drop)]
-pub struct CellPlace {
-    cell: Cell,
-    ask: CellAsk,
-}
 
 /// The number that the 8 bytes at a place spell.
 fn number(bytes: &[u8], at: usize) -> u64
@@ -119,10 +112,11 @@ fn restored(alloc: Global, promised: Ballot, written: Ballot, value: &[u8]) -> R
 impl Recorded for Cell {
     ghost use Rattle.std.specs.Prelude.{◌≡◌, true, refl};
     ghost use Rattle.fr_register.specs.CellState.{fresh_cell};
+    ghost use Rattle.fr_register.specs.Cell.{next_of};
     ghost use Rattle.fr_record_node.specs.CellFile.{replay_cell, written_cell, is_sound, is_cell_ask};
     ghost use Rattle.fr_record_node.specs.CellFileLaws.{cell_replays, cell_stays_sound};
 
-    type Place = CellPlace;
+    type Place = Cell;
 
     ghost fresh = { λ c. fresh_cell };
 
@@ -134,7 +128,11 @@ impl Recorded for Cell {
 
     ghost IsAsk = { λ a. is_cell_ask a ≡ true };
 
-    ghost IsPlaceOf = { λ c a place. (place.cell ≡ c) × (place.ask ≡ a) };
+    ghost kept = { next_of };
+
+    ghost settled = { λ c. c };
+
+    ghost IsPlaceOf = { λ c place. place ≡ c };
 
     ghost replays = { cell_replays };
 
@@ -143,6 +141,12 @@ impl Recorded for Cell {
     ghost same_fresh = { λ c a. refl };
 
     ghost same_read = { λ c n change reads. refl };
+
+    ghost settles = { λ c asks sound within. refl };
+
+    ghost told_settled = { λ c a. refl };
+
+    ghost written_settled = { λ c a. refl };
 
     fn records(&self, alloc: Global, ask: &CellAsk) -> Result<Vec<Vec<u8>>, Memory> {
         let mut group = Vec::new(alloc);
@@ -164,16 +168,18 @@ impl Recorded for Cell {
         Ok(group)
     }
 
-    fn place(&self, _alloc: Global, ask: &CellAsk) -> Result<CellPlace, Memory> {
-        Ok(CellPlace {
-            cell: self.copy()?,
-            ask: ask.copy()?,
-        })
+    fn place(&self, _alloc: Global) -> Result<Cell, Memory> {
+        self.copy()
     }
 
-    fn go_back(&mut self, place: CellPlace) -> CellAsk {
-        *self = place.cell;
-        place.ask
+    fn keep(&mut self, alloc: Global, ask: CellAsk) -> Result<CellTell, Memory> {
+        self.step(alloc, ask)
+    }
+
+    fn settle(&mut self) {}
+
+    fn go_back(&mut self, place: Cell) {
+        *self = place;
     }
 
     fn copy_ask(_alloc: Global, ask: &CellAsk) -> Result<CellAsk, Memory> {

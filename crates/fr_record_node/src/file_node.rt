@@ -1,20 +1,25 @@
 //! A machine over a record file.
-ghost use Rattle.std.specs.Prelude.{◌≡◌, ◌≢◌, ◌⊎◌, ◌||◌, ◌↔◌, ◌<◌, ◌+◌, ◌-◌, ◌^◌, min, [], ◌∷◌, Ok, Err, Some, None, List, ℕ, IfOk, OnOk, OnErr, IfErr, IsTrue, false};
+ghost use Rattle.std.specs.Prelude.{◌≡◌, ◌≢◌, ◌⊎◌, ◌||◌, ◌↔◌, ◌<◌, ◌+◌, ◌-◌, ◌^◌, ◌++◌, min, [], ◌∷◌, Ok, Err, Some, None, List, ℕ, IsOk, IfOk, OnOk, OnErr, IfErr, IsTrue, false};
+ghost use Rattle.fr_base.specs.Faults.{met_device};
 ghost use Rattle.fr_device.specs.Moments.{Throughout};
 ghost use Rattle.fr_record.specs.File.{StandsFor};
 ghost use Rattle.fr_record.specs.Failing.{FailsOnceMore};
+ghost use Rattle.fr_record_node.specs.Several.{after_all, told_all, written_all};
 ghost use Rattle.fr_record_node.specs.Replay.{replayed, Opens};
+ghost use Rattle.fr_record_node.specs.Node.{HasNoRoom, is_trouble};
 
 mod reading;
 mod reopening;
+mod serving;
 
 use crate::fault::node_fault;
 use crate::recorded::Recorded;
 use fr_base::{Machine, Node, NodeFault, Reopened};
 use fr_device::Device;
-use fr_record::{RecordFault, Records, left_law};
+use fr_record::{Records, left_law};
 use reading::read_all;
 use reopening::{reopen_held, reopen_idle};
+use serving::put_all;
 use std::alloc::Global;
 use std::marker::Model;
 
@@ -24,23 +29,24 @@ use std::marker::Model;
 pub struct FileNode<M: Recorded, D: Device> {
     file: Records<D>,
     machine: M,
-    /// The ask that met the device's fault.
-    held: Option<M::Ask>,
+    /// The asks that met the device's fault.
+    held: Option<Vec<M::Ask>>,
 }
 
 impl<M: Recorded, D: Device> Model for FileNode<M, D> {
-    ghost use Rattle.fr_record_node.specs.Node.{NodeState, owed_of, IsNode};
+    ghost use Rattle.fr_record_node.specs.Node.{NodeState, owed_of, after_held, written_held, AreAsks, IsNode};
 
     ghost Value = { NodeState D M };
 
-    ghost view = { λ n. record { device = n.file.device; records = n.file.records; is_failed = n.file.is_failed; machine = n.machine; owed = owed_of M.after n.machine n.held } };
+    ghost view = { λ n. record { device = n.file.device; records = n.file.records; is_failed = n.file.is_failed; machine = n.machine; owed = owed_of (after_held M.after) n.machine n.held } };
 
-    ghost invariant = { λ n. IsNode D.Led D.disk M.fresh M.replay M.written M.IsAsk M.IsSound n.held (record { device = n.file.device; records = n.file.records; is_failed = n.file.is_failed; machine = n.machine; owed = owed_of M.after n.machine n.held }) };
+    ghost invariant = { λ n. IsNode D.Led D.disk M.fresh M.replay (written_held M.after M.written) (AreAsks M.IsAsk) M.IsSound n.held (record { device = n.file.device; records = n.file.records; is_failed = n.file.is_failed; machine = n.machine; owed = owed_of (after_held M.after) n.machine n.held }) };
 }
 
 impl<M: Recorded, D: Device> FileNode<M, D>
 where
     M::Ask: Drop,
+    M::Tell: Drop,
 {
     /// A node whose machine was never asked, over a device that it is the only one to use.
     pub fn format(alloc: Global, device: D, machine: M) -> Result<Self, NodeFault>
@@ -103,6 +109,62 @@ where
         })
     }
 
+    /// Answers asks in order as the plain machine does, with all their records in one group: after a crash all of it
+    /// is there, or nothing. Where no ask changes anything, as in an empty list, no call of the device is made.
+    /// Memory holds the records of all asks at once, and a copy of each ask.
+    pub fn serve_all(&mut self, alloc: Global, asks: Vec<M::Ask>) -> Result<Vec<M::Tell>, NodeFault>
+        ensures told { IfOk result (λ tells. tells.items ≡ told_all M.after M.told self.old.machine asks.items) }
+        ensures after { OnOk result (self.new.machine ≡ after_all M.after self.old.machine asks.items) }
+        ensures records { OnOk result (self.new.records ≡ self.old.records ++ written_all M.after M.written self.old.machine asks.items) }
+        ensures still { written_all M.after M.written self.old.machine asks.items ≡ [] → self.new.device ≡ self.old.device }
+        ensures none { asks.items ≡ [] → self.old.is_failed ≡ false → IsOk result × (self.new ≡ self.old) }
+        ensures err { OnErr result (self.new.machine ≡ self.old.machine) }
+        ensures err_records { OnErr result (self.new.records ≡ self.old.records) }
+        ensures failed { (result ≡ Err NodeFault.Failed) ↔ IsTrue self.old.is_failed }
+        ensures fails { self.new.is_failed ≡ (self.old.is_failed || met_device result) }
+        ensures device { (result ≡ Err NodeFault.Device) → D.failures_of self.new.device ≡ min (D.failures_of self.old.device + 1) (2 ^ 64 - 1) }
+        ensures full { (result ≡ Err NodeFault.Full) → HasNoRoom (D.capacity_of self.old.device) self.old.records (written_all M.after M.written self.old.machine asks.items) }
+        ensures owes { (result ≡ Err NodeFault.Device) → self.new.owed ≡ Some (after_all M.after self.old.machine asks.items) }
+        ensures owes_still { result ≢ Err NodeFault.Device → self.new.owed ≡ self.old.owed }
+        ensures trouble { IfErr result (λ fault. fault ≢ NodeFault.Failed → IsTrue (is_trouble fault)) }
+        ensures any_moment { self.old.is_failed ≡ false → Throughout D.Led D.disk (Opens M.replay (M.fresh self.old.machine) (λ x. (x ≡ self.old.machine) ⊎ (x ≡ after_all M.after self.old.machine asks.items))) self.old.device self.new.device }
+        ensures kept { OnOk result (Throughout D.Led D.disk (Opens M.replay (M.fresh self.new.machine) (λ x. x ≡ self.new.machine)) self.new.device self.new.device) }
+    {
+        left_law();
+        if self.file.is_failed() {
+            return Err(NodeFault::Failed);
+        }
+        if asks.is_empty() {
+            return Ok(Vec::new(alloc));
+        }
+        match put_all(&mut self.file, &mut self.machine, alloc, asks.as_slice()) {
+            Ok(tells) => Ok(tells),
+            Err(NodeFault::Device) => {
+                self.held = Some(asks);
+                Err(NodeFault::Device)
+            }
+            Err(fault) => Err(fault),
+        }
+    }
+
+    /// A list of one ask.
+    fn only(&self, alloc: Global, ask: M::Ask) -> Result<Vec<M::Ask>, NodeFault>
+        ensures ok { IfOk result (λ asks. asks.items ≡ ask ∷ []) }
+        ensures failed { (result ≡ Err NodeFault.Failed) ↔ IsTrue self.now.is_failed }
+        ensures err { IfErr result (λ fault. (fault ≡ NodeFault.Failed) ⊎ (fault ≡ NodeFault.Memory)) }
+        ensures still { self.now.is_failed ≡ false → Throughout D.Led D.disk (Opens M.replay (M.fresh self.now.machine) (λ x. (x ≡ self.now.machine) ⊎ (x ≡ M.after self.now.machine ask))) self.now.device self.now.device }
+    {
+        left_law();
+        if self.file.is_failed() {
+            return Err(NodeFault::Failed);
+        }
+        let mut asks = Vec::new(alloc);
+        match asks.push(ask) {
+            Ok(()) => Ok(asks),
+            Err(_) => Err(NodeFault::Memory),
+        }
+    }
+
     /// Gives the device back.
     pub fn into_device(self) -> D
         ensures { result ≡ self.device }
@@ -138,55 +200,26 @@ where
     ghost CanMeet = { λ fault. IsTrue (is_trouble fault) };
 
     fn serve(&mut self, alloc: Global, ask: M::Ask) -> Result<M::Tell, NodeFault> {
-        left_law();
-        if self.file.is_failed() {
-            return Err(NodeFault::Failed);
-        }
-        let group = match self.machine.records(alloc, &ask) {
-            Ok(group) => group,
-            Err(_) => return Err(NodeFault::Memory),
+        let asks = match self.only(alloc, ask) {
+            Ok(asks) => asks,
+            Err(fault) => return Err(fault),
         };
-        if group.is_empty() {
-            match self.machine.step(alloc, ask) {
-                Ok(tell) => return Ok(tell),
-                Err(_) => return Err(NodeFault::Memory),
-            }
-        }
-        let place = match self.machine.place(alloc, &ask) {
-            Ok(place) => place,
-            Err(_) => return Err(NodeFault::Memory),
-        };
-        let tell = match self.machine.step(alloc, ask) {
-            Ok(tell) => tell,
-            Err(_) => return Err(NodeFault::Memory),
-        };
-        match self.file.append_group(alloc, &group) {
-            Ok(()) => Ok(tell),
-            Err(RecordFault::Device) => {
-                let ask = self.machine.go_back(place);
-                self.held = Some(ask);
-                Err(NodeFault::Device)
-            }
-            Err(RecordFault::Full) => {
-                let _ask = self.machine.go_back(place);
-                Err(NodeFault::Full)
-            }
-            Err(RecordFault::Memory) => {
-                let _ask = self.machine.go_back(place);
-                Err(NodeFault::Memory)
-            }
-            Err(RecordFault::Failed) => unreachable!(),
-            Err(RecordFault::Broken) => unreachable!(),
+        match self.serve_all(alloc, asks) {
+            Ok(mut tells) => match tells.pop() {
+                Some(tell) => Ok(tell),
+                None => unreachable!(),
+            },
+            Err(fault) => Err(fault),
         }
     }
 
     fn reopen(&mut self, alloc: Global) -> Result<Reopened, NodeFault> {
         left_law();
-        let Some(ask) = &self.held else {
+        let Some(asks) = &self.held else {
             let _is_failed = self.file.is_failed();
             return reopen_idle(&mut self.file, alloc);
         };
-        match reopen_held(&mut self.file, &mut self.machine, alloc, ask) {
+        match reopen_held(&mut self.file, &mut self.machine, alloc, asks.as_slice()) {
             Ok(reopened) => {
                 self.held = None;
                 Ok(reopened)

@@ -4,9 +4,10 @@
 mod cell_file;
 mod fault;
 mod file_node;
+pub mod laws;
 mod recorded;
 
-pub use cell_file::{CellNode, CellPlace};
+pub use cell_file::CellNode;
 pub use fault::ReadFault;
 pub use file_node::FileNode;
 pub use recorded::Recorded;

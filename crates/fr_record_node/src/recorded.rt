@@ -1,6 +1,7 @@
 //! Machines whose changes are records of a file.
 ghost use Rattle.std.specs.Prelude.{◌≡◌, ◌<◌, ◌^◌, [], None, Some, Err, All, length, IfOk, OnOk, OnErr};
 ghost use Rattle.fr_record.specs.Group.{records_of};
+ghost use Rattle.fr_record_node.specs.Several.{after_all};
 ghost use Rattle.fr_record_node.specs.Replay.{replayed};
 
 use crate::fault::ReadFault;
@@ -9,11 +10,16 @@ use std::alloc::Global;
 
 /// A machine whose changes are records of a file. Each ask that changes it has records, and from these
 /// records alone the machine is brought back.
+///
+/// An ask may let go of what the machine has. It goes only once the records of the ask are on the device,
+/// since nothing brings it back: `keep` answers asks and lets nothing go, `go_back` undoes them, and `settle`
+/// lets go.
 pub trait Recorded: Machine + Drop {
-    ghost use Rattle.std.specs.Prelude.{◌≡◌, ℕ, List, Option, Some};
+    ghost use Rattle.std.specs.Prelude.{◌≡◌, ℕ, List, Option, Some, All};
+    ghost use Rattle.fr_record_node.specs.Several.{after_all};
     ghost use Rattle.fr_record_node.specs.Replay.{replayed};
 
-    /// What brings a machine back to where it was before an ask.
+    /// What brings a machine back to where it was before some asks.
     type Place: Drop;
 
     /// This machine as it was before it was asked anything.
@@ -25,14 +31,20 @@ pub trait Recorded: Machine + Drop {
     /// The records of an ask; none where the ask changes nothing.
     ghost written: { Self → Self.Ask → List (List ℕ) };
 
+    /// The machine after an ask, with what the ask lets go.
+    ghost kept: { Self → Self.Ask → Self };
+
+    /// The machine without what its asks let go.
+    ghost settled: { Self → Self };
+
     /// A machine within its limits.
     ghost IsSound: { Self → Type 0 };
 
     /// An ask within its limits.
     ghost IsAsk: { Self.Ask → Type 0 };
 
-    /// The place leads back to this machine from where this ask brings it.
-    ghost IsPlaceOf: { Self → Self.Ask → Self.Place → Type 0 };
+    /// The place leads back to this machine from where asks bring it.
+    ghost IsPlaceOf: { Self → Self.Place → Type 0 };
 
     /// The records of an ask.
     fn records(&self, alloc: Global, ask: &Self::Ask) -> Result<Vec<Vec<u8>>, Memory>
@@ -41,15 +53,24 @@ pub trait Recorded: Machine + Drop {
         ensures ask { IsAsk ask.now }
         ensures sound { IsSound self.now };
 
-    /// Where the machine stands before an ask.
-    fn place(&self, alloc: Global, ask: &Self::Ask) -> Result<Self::Place, Memory>
-        ensures { IfOk result (λ place. IsPlaceOf self.now ask.now place) };
+    /// Where the machine stands.
+    fn place(&self, alloc: Global) -> Result<Self::Place, Memory>
+        ensures { IfOk result (λ place. IsPlaceOf self.now place) };
 
-    /// Goes back before an ask, and gives the ask back.
-    fn go_back(&mut self, place: Self::Place) -> Self::Ask
-        requires { (s : Self) × (a : Self.Ask) × IsPlaceOf s a place × (self.old ≡ Self.after s a) }
-        ensures back { (s : Self) (a : Self.Ask) → IsPlaceOf s a place → self.old ≡ Self.after s a → self.new ≡ s }
-        ensures ask { (s : Self) (a : Self.Ask) → IsPlaceOf s a place → self.old ≡ Self.after s a → result ≡ a };
+    /// Answers an ask, and keeps what the ask lets go. Want of memory changes nothing.
+    fn keep(&mut self, alloc: Global, ask: Self::Ask) -> Result<Self::Tell, Memory>
+        ensures told { IfOk result (λ tell. tell ≡ Self.told self.old ask) }
+        ensures after { OnOk result (self.new ≡ kept self.old ask) }
+        ensures err { OnErr result (self.new ≡ self.old) };
+
+    /// Lets go of what the asks so far let go. It takes no memory.
+    fn settle(&mut self)
+        ensures { self.new ≡ settled self.old };
+
+    /// Goes back before asks that were kept. It takes no memory.
+    fn go_back(&mut self, place: Self::Place)
+        requires { (s : Self) × (asks : List Self.Ask) × IsPlaceOf s place × (self.old ≡ after_all kept s asks) }
+        ensures { (s : Self) (asks : List Self.Ask) → IsPlaceOf s place → self.old ≡ after_all kept s asks → self.new ≡ s };
 
     /// An equal ask.
     fn copy_ask(alloc: Global, ask: &Self::Ask) -> Result<Self::Ask, Memory>
@@ -73,4 +94,13 @@ pub trait Recorded: Machine + Drop {
 
     /// A record makes no other machine of it.
     ghost same_read: { (s n : Self) (change : List ℕ) → replay s change ≡ Some n → fresh n ≡ fresh s };
+
+    /// Asks that were kept, and what they let go let go at their end, lead where the asks do.
+    ghost settles: { (s : Self) (asks : List Self.Ask) → IsSound s → All IsAsk asks → settled (after_all kept s asks) ≡ after_all Self.after s asks };
+
+    /// What asks let go changes nothing of what the next one is told.
+    ghost told_settled: { (s : Self) (a : Self.Ask) → Self.told (settled s) a ≡ Self.told s a };
+
+    /// Nor of its records.
+    ghost written_settled: { (s : Self) (a : Self.Ask) → written (settled s) a ≡ written s a };
 }

@@ -6,10 +6,14 @@ mod broken;
 #[cfg(test)]
 mod bytes;
 #[cfg(test)]
+mod counting;
+#[cfg(test)]
 mod crash;
 #[cfg(test)]
 mod faults;
 #[cfg(test)]
 mod made;
+#[cfg(test)]
+mod several;
 #[cfg(test)]
 mod tells;

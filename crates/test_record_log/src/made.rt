@@ -91,6 +91,8 @@ pub(crate) enum Tell {
     Locked(u64, u64),
     Gap(u64),
     TooEarly(u64),
+    /// How many records, and through which version.
+    Peeked(usize, u64),
     Refused(LogRefusal),
     Other,
 }
@@ -164,7 +166,7 @@ fn peek(epoch: Epoch, number: u8, after: u64) -> Result<LogAsk, Fail> {
 }
 
 /// The ask to the log of this epoch.
-fn ask_of(alloc: Global, epoch: Epoch, ask: Ask) -> Result<LogAsk, Fail> {
+pub(crate) fn ask_of(alloc: Global, epoch: Epoch, ask: Ask) -> Result<LogAsk, Fail> {
     match ask {
         Ask::Seed(first, to) => seed(epoch, span(first, to)?, Vec::new(alloc)),
         Ask::FullSeed => seed(epoch, span(5, 7)?, full_records(alloc)?),
@@ -186,11 +188,12 @@ fn refused(why: LogRefusal) -> Tell {
     }
 }
 
-fn tell_of(tell: &LogTell) -> Tell {
+pub(crate) fn tell_of(tell: &LogTell) -> Tell {
     match tell {
         LogTell::Seeded => Tell::Seeded,
         LogTell::Held { version } => Tell::Held(version.get()),
         LogTell::Locked { durable, known } => Tell::Locked(durable.get(), known.get()),
+        LogTell::Peeked(peeked) => Tell::Peeked(peeked.records().len(), peeked.upto().get()),
         LogTell::Refused { why } => refused(*why),
         _ => Tell::Other,
     }
@@ -308,3 +311,10 @@ pub(crate) fn crashed(device: MemoryDevice, fill: u8) -> MemoryDevice {
     left.crash(fill);
     left
 }
+
+/// Of a log at durable 7: what is repeated or refused.
+pub(crate) const NOTHING: [Row; 3] = [
+    (Ask::Push(1, 7, 1, Some(1)), Tell::Held(7)),
+    (Ask::Seed(1, 0), Tell::Seeded),
+    (Ask::Push(9, 10, 1, None), Tell::Gap(7)),
+];

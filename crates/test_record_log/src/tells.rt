@@ -1,7 +1,9 @@
 //! What logs over files tell: what plain logs do, after crashes too.
 use crate::made::Ask::{Lock, MarkAsked, Peek, Push, Seed};
 use crate::made::Tell::{Gap, Held, Locked, Refused, Seeded, TooEarly};
-use crate::made::{ROOM, Row, SEVEN, at_seven, crashed, epoch, file, in_memory, opened, plays};
+use crate::made::{
+    NOTHING, ROOM, Row, SEVEN, at_seven, crashed, epoch, file, in_memory, opened, plays,
+};
 use fr_base::Node;
 use fr_device::{Device, FaultyDevice, MemoryDevice};
 use fr_log::LogRefusal::{NoMark, NotMine, Stale, Stopped, Unseeded};
@@ -73,13 +75,6 @@ fn what_a_log_refuses(rt: HostRuntime) -> Result<(), Fail> {
     let mut node = in_memory(rt.alloc(), ROOM, 513)?;
     plays(&rt, rt.alloc(), &mut node, &REFUSALS)
 }
-
-/// Of a log at durable 7: what is repeated or refused.
-const NOTHING: [Row; 3] = [
-    (Push(1, 7, 1, Some(1)), Held(7)),
-    (Seed(1, 0), Seeded),
-    (Push(9, 10, 1, None), Gap(7)),
-];
 
 fn changes_nothing(
     rt: &impl Abort,

@@ -1,12 +1,14 @@
 //! Opening a node again.
-ghost use Rattle.std.specs.Prelude.{◌≡◌, ◌≢◌, ◌⊎◌, ◌||◌, ◌+◌, ◌-◌, ◌^◌, min, [], Ok, Err, Some, None, OnOk, OnErr, IfErr, IsTrue, false};
+ghost use Rattle.std.specs.Prelude.{◌≡◌, ◌≢◌, ◌⊎◌, ◌||◌, ◌+◌, ◌-◌, ◌^◌, min, [], All, Ok, Err, Some, None, OnOk, OnErr, IfErr, IsTrue, false};
 ghost use Rattle.fr_device.specs.Moments.{Throughout, LeavesOnly};
 ghost use Rattle.fr_base.specs.Faults.{met_device};
 ghost use Rattle.fr_record.specs.File.{IsAtRest};
+ghost use Rattle.fr_record_node.specs.Several.{after_all, written_all};
 ghost use Rattle.fr_record_node.specs.Replay.{replayed, Opens};
 ghost use Rattle.fr_record_node.specs.Node.{InFlight, is_trouble};
 
 use crate::fault::node_fault;
+use crate::file_node::serving::take_all;
 use crate::recorded::Recorded;
 use fr_base::{Machine, NodeFault, Reopened};
 use fr_device::Device;
@@ -36,23 +38,23 @@ pub(super) fn reopen_idle<D: Device>(
     }
 }
 
-/// Opens a file again in which the records of an ask may be in flight. The machine takes the ask first, since
+/// Opens a file again in which the records of asks may be in flight. The machine takes the asks first, since
 /// that can want memory, and goes back where the file is found without them.
 pub(super) fn reopen_held<M: Recorded, D: Device>(
     file: &mut Records<D>,
     machine: &mut M,
     alloc: Global,
-    ask: &M::Ask,
+    asks: &[M::Ask],
 ) -> Result<Reopened, NodeFault>
 where
     M::Ask: Drop,
     M::Tell: Drop,
-    requires owed { LeavesOnly D.Led D.disk (InFlight file.old.records (M.written machine.old ask.now)) file.old.device }
+    requires owed { LeavesOnly D.Led D.disk (InFlight file.old.records (written_all M.after M.written machine.old asks.now)) file.old.device }
     requires replays { replayed M.replay (Some (M.fresh machine.old)) file.old.records ≡ Some machine.old }
     requires sound { M.IsSound machine.old }
-    requires asked { M.IsAsk ask.now }
+    requires asked { All M.IsAsk asks.now }
     ensures before { (result ≡ Ok Reopened.Before) → machine.new ≡ machine.old }
-    ensures after { (result ≡ Ok Reopened.After) → machine.new ≡ M.after machine.old ask.now }
+    ensures after { (result ≡ Ok Reopened.After) → machine.new ≡ after_all M.after machine.old asks.now }
     ensures replays { replayed M.replay (Some (M.fresh machine.new)) file.new.records ≡ Some machine.new }
     ensures sound { M.IsSound machine.new }
     ensures works { OnOk result (file.new.is_failed ≡ false) }
@@ -62,32 +64,32 @@ where
     ensures device { (result ≡ Err NodeFault.Device) → D.failures_of file.new.device ≡ min (D.failures_of file.old.device + 1) (2 ^ 64 - 1) }
     ensures never_full { result ≢ Err NodeFault.Full }
     ensures trouble { IfErr result (λ fault. IsTrue (is_trouble fault)) }
-    ensures any_moment { Throughout D.Led D.disk (InFlight file.old.records (M.written machine.old ask.now)) file.old.device file.new.device }
+    ensures any_moment { Throughout D.Led D.disk (InFlight file.old.records (written_all M.after M.written machine.old asks.now)) file.old.device file.new.device }
     ensures kept { OnOk result (LeavesOnly D.Led D.disk (IsAtRest file.new.records) file.new.device) }
 {
     left_law();
     let before = file.len();
-    let place = match machine.place(alloc, ask) {
-        Ok(place) => place,
-        Err(_) => return Err(NodeFault::Memory),
-    };
-    let copy = match M::copy_ask(alloc, ask) {
-        Ok(copy) => copy,
-        Err(_) => return Err(NodeFault::Memory),
-    };
-    if machine.step(alloc, copy).is_err() {
+    let Ok(place) = machine.place(alloc) else {
         return Err(NodeFault::Memory);
+    };
+    match take_all(machine, alloc, asks) {
+        Ok(_) => {}
+        Err(_) => {
+            machine.go_back(place);
+            return Err(NodeFault::Memory);
+        }
     }
     match file.reopen(alloc) {
         Ok(()) => {
             if file.len() > before {
+                machine.settle();
                 return Ok(Reopened::After);
             }
-            let _ask = machine.go_back(place);
+            machine.go_back(place);
             Ok(Reopened::Before)
         }
         Err(fault) => {
-            let _ask = machine.go_back(place);
+            machine.go_back(place);
             Err(node_fault(fault))
         }
     }

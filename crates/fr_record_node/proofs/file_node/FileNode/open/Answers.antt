@@ -1,6 +1,6 @@
 use Rattle.std.proofs.Common.{◌≡◌, Some, Err, ap, sym, ◌∙◌}
 use Rattle.fr_base.specs.declared.node.NodeFault.TheVariants as node
-use Rattle.fr_record_node.specs.Node.{node_fault}
+use Rattle.fr_record_node.specs.Node.{node_fault, after_held, written_held, AreAsks}
 use Rattle.fr_record_node.specs.Replay.{replayed}
 use Rattle.fr_record_node.proofs.Lemmas.{is_broken}
 use Rattle.fr_record_node.proofs.NodeLemmas.{kept_now}
@@ -25,5 +25,5 @@ returns-clause-kept g c =
     ap (λ f. replayed g.M.Recorded.replay (Some f) records) (c.read_all.ensures.same ∙ c.requires.fresh)
     ∙ ap (λ l. replayed g.M.Recorded.replay (Some c.args.machine) l) c.read_all.ensures.records
     ∙ c.in-Ok-read_all.ensures.ok in
-    kept_now g.D.Device.Led g.D.Device.disk g.M.Recorded.fresh g.M.Recorded.replay g.M.Recorded.written g.M.Recorded.IsAsk g.M.Recorded.IsSound g.M.Machine.after c.left_law.ensures.at_rest machine records c.read_all.new.file.device replays
+    kept_now g.D.Device.Led g.D.Device.disk g.M.Recorded.fresh g.M.Recorded.replay (written_held g.M.Machine.after g.M.Recorded.written) (AreAsks g.M.Recorded.IsAsk) g.M.Recorded.IsSound (after_held g.M.Machine.after) c.left_law.ensures.at_rest machine records c.read_all.new.file.device replays
     (c.is_failed-is_failed.ensures.kept c.in-Ok-read_all.ensures.works)
