@@ -26,4 +26,4 @@ pub use nodes::{read_node, write_node};
 pub use outcomes::{read_outcome, write_outcome};
 pub use sequencers::{read_seq_ask, read_step, write_seq_tell};
 pub use states::{read_state, write_state};
-pub use values::{read_batch, read_shards, write_batch, write_shards};
+pub use values::{read_batch, read_shards, write_batch, write_rows, write_shards};

@@ -75,7 +75,8 @@ fn read_row(alloc: Global, item: Value) -> Result<(Bytes, Bytes), ScriptFault> {
     Ok((key, read_bytes(alloc, Some(&value))?))
 }
 
-pub(crate) fn write_rows(alloc: Global, rows: &Rows) -> Result<Value, Memory> {
+/// The form of rows.
+pub fn write_rows(alloc: Global, rows: &Rows) -> Result<Value, Memory> {
     let mut items = Vec::with_capacity(alloc, rows.len())?;
     for (key, value) in rows.as_slice() {
         items.push(write_row(alloc, key, value)?)?;

@@ -6,7 +6,7 @@ use crate::proxies::play_proxy;
 use crate::recoverers::play_recoverer;
 use crate::report::Report;
 use crate::rows::{Row, Scenario, json_or_null};
-use crate::storages::play_storage;
+use crate::storages::{play_failing_storage, play_storage};
 use crate::wrong::Wrong;
 use fr_base::Memory;
 use std::alloc::Global;
@@ -94,7 +94,8 @@ fn play_whole(
 }
 
 /// What a scenario can be about.
-const SUBJECTS: &str = "a scenario begins with: cell, log, proxy, recoverer, sequencer or storage";
+const SUBJECTS: &str =
+    "a scenario begins with: cell, log, proxy, recoverer, sequencer, storage, failing_storage";
 
 /// Plays the first row, which makes the subject, and with it the others.
 fn play_all(alloc: Global, rows: &[Row], at: &mut usize) -> Result<(), Wrong> {
@@ -113,6 +114,7 @@ fn play_all(alloc: Global, rows: &[Row], at: &mut usize) -> Result<(), Wrong> {
         "proxy" => play_proxy(alloc, made, rows, at),
         "recoverer" => play_recoverer(alloc, made, rows, at),
         "sequencer" => play_sequencer(alloc, made, rows, at),
+        "failing_storage" => play_failing_storage(alloc, made, rows, at),
         "storage" => play_storage(alloc, made, rows, at),
         _ => Err(Wrong::Form(SUBJECTS)),
     }
