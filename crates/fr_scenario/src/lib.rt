@@ -12,6 +12,7 @@ mod report;
 mod rows;
 mod storages;
 mod subject;
+mod tallies;
 mod wrong;
 
 pub use play::play_file;

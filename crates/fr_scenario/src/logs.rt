@@ -1,15 +1,18 @@
 //! Cells, logs and sequencers: what they are asked is told at once.
+ghost use Rattle.std.specs.Prelude.{◌≡◌, OnOk};
+
 use crate::nodes::{read_sizes, write_state_of};
 use crate::rows::Row;
 use crate::subject::{Subject, no_such_word, play_rows};
 use crate::wrong::{NO_FORM, Wrong};
 use fr_ask::Named;
-use fr_base::{LogId, Machine, Version};
+use fr_base::{LogId, Machine, Memory};
 use fr_forms::fields::Fields;
 use fr_forms::{
     read_cell_ask, read_log_ask, read_seq_ask, write_cell_tell, write_log_tell, write_seq_tell,
 };
-use fr_log::Log;
+use fr_log::laws::place_law;
+use fr_log::{Log, LogAsk, LogTell};
 use fr_proxy::Sequencer;
 use fr_register::Cell;
 use serde_json::Value;
@@ -79,12 +82,21 @@ impl Subject for Log {
 }
 
 /// What a log tells, which then goes back to where it stood, as one does whose records could not be kept.
-fn take_back(alloc: Global, log: &mut Log, given: Value) -> Result<Value, Wrong> {
-    let ask = read_log_ask(alloc, given)?;
-    let place = log.place();
-    let told = log.step(alloc, ask)?;
-    log.go_back(place);
+fn take_back(alloc: Global, log: &mut Log, given: Value) -> Result<Value, Wrong>
+    ensures { OnOk result (log.new ≡ log.old) }
+{
+    let told = ask_and_go_back(alloc, log, read_log_ask(alloc, given)?)?;
     Ok(write_log_tell(alloc, &told)?)
+}
+
+fn ask_and_go_back(alloc: Global, log: &mut Log, ask: LogAsk) -> Result<LogTell, Memory>
+    ensures { OnOk result (log.new ≡ log.old) }
+{
+    let place = log.place();
+    let tell = log.step(alloc, ask)?;
+    place_law();
+    log.go_back(place);
+    Ok(tell)
 }
 
 /// Plays rows with a sequencer that gave nothing yet.

@@ -1,4 +1,6 @@
 //! What several subjects are made of, hear and ask.
+ghost use Rattle.std.specs.Prelude.{◌≤◌, IfOk};
+
 use crate::wrong::{NO_FORM, Wrong};
 use fr_ask::{Ask, Last, Tell};
 use fr_base::NodeId;
@@ -10,10 +12,14 @@ use serde_json::Value;
 use std::alloc::Global;
 
 /// How many logs a generation has, and on how many of them each tag stands.
-pub(crate) fn read_sizes(fields: &Fields) -> Result<(u8, u8), Wrong> {
+pub(crate) fn read_sizes(fields: &Fields) -> Result<(u8, u8), Wrong>
+    ensures some { IfOk result (λ sizes. 1 ≤ sizes.1) }
+    ensures fits { IfOk result (λ sizes. sizes.1 ≤ sizes.0) }
+    ensures limit { IfOk result (λ sizes. sizes.0 ≤ MAX_LOGS) }
+{
     let m = fields.index("m", MAX_LOGS)?;
     let k = fields.index("k", MAX_LOGS)?;
-    if 1 <= k && k <= m {
+    if 1 <= k && k <= m && m <= MAX_LOGS {
         Ok((m, k))
     } else {
         Err(NO_FORM)

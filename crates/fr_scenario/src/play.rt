@@ -1,4 +1,6 @@
 //! Files of scenarios, played.
+ghost use Rattle.std.specs.Prelude.{IsTrue};
+
 use crate::lines::{Line, line_of};
 use crate::logs::{play_cell, play_log, play_sequencer};
 use crate::names::Names;
@@ -7,12 +9,15 @@ use crate::recoverers::play_recoverer;
 use crate::report::Report;
 use crate::rows::{Row, Scenario, json_or_null};
 use crate::storages::{play_failing_storage, play_storage};
+use crate::tallies::play_tally;
 use crate::wrong::Wrong;
 use fr_base::Memory;
 use std::alloc::Global;
 
 /// Plays each scenario of a text, and says of each in the report, by the name of its file, whether it holds.
-pub fn play_file(alloc: Global, file: &str, text: &str, report: &mut Report) -> Result<(), Memory> {
+pub fn play_file(alloc: Global, file: &str, text: &str, report: &mut Report) -> Result<(), Memory>
+    ensures { IsTrue report.new → IsTrue report.old }
+{
     let mut names = Names::new(alloc);
     let mut scenario = Scenario::new(alloc, 0, "")?;
     for (number, line) in text.lines().enumerate() {
@@ -50,7 +55,9 @@ fn end(
     scenario: &Scenario,
     names: &mut Names,
     report: &mut Report,
-) -> Result<(), Memory> {
+) -> Result<(), Memory>
+    ensures { IsTrue report.new → IsTrue report.old }
+{
     if scenario.line == 0 {
         define_all(alloc, file, scenario.rows.as_slice(), names, report)
     } else {
@@ -65,7 +72,9 @@ fn define_all(
     rows: &[Row],
     names: &mut Names,
     report: &mut Report,
-) -> Result<(), Memory> {
+) -> Result<(), Memory>
+    ensures { IsTrue report.new → IsTrue report.old }
+{
     for row in rows {
         if let Err(wrong) = names.define(alloc, row.text.as_str()) {
             report.miss(alloc, file, row.line, &wrong)?;
@@ -80,7 +89,9 @@ fn play_whole(
     file: &str,
     scenario: &Scenario,
     report: &mut Report,
-) -> Result<(), Memory> {
+) -> Result<(), Memory>
+    ensures { IsTrue report.new → IsTrue report.old }
+{
     let rows = scenario.rows.as_slice();
     let mut at = scenario.line;
     match play_all(alloc, rows, &mut at) {
@@ -95,7 +106,7 @@ fn play_whole(
 
 /// What a scenario can be about.
 const SUBJECTS: &str =
-    "a scenario begins with: cell, log, proxy, recoverer, sequencer, storage, failing_storage";
+    "a scenario begins with: cell, end_tally, log, proxy, recoverer, sequencer, storage, failing_storage";
 
 /// Plays the first row, which makes the subject, and with it the others.
 fn play_all(alloc: Global, rows: &[Row], at: &mut usize) -> Result<(), Wrong> {
@@ -110,6 +121,7 @@ fn play_all(alloc: Global, rows: &[Row], at: &mut usize) -> Result<(), Wrong> {
     let made = json_or_null(alloc, parts.given)?;
     match parts.word {
         "cell" => play_cell(alloc, made, rows, at),
+        "end_tally" => play_tally(alloc, made, rows, at),
         "log" => play_log(alloc, made, rows, at),
         "proxy" => play_proxy(alloc, made, rows, at),
         "recoverer" => play_recoverer(alloc, made, rows, at),

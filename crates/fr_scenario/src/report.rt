@@ -1,17 +1,30 @@
 //! What is printed of scenarios.
+ghost use Rattle.std.specs.Prelude.{◌≡◌, true, false};
+
 use crate::wrong::Wrong;
 use std::alloc::{AllocError, Global};
+use std::marker::Model;
 
-/// What is printed of scenarios that were played, and whether all of them hold.
+/// What is printed of scenarios that were played, and whether all of them hold; a contract sees the latter.
 #[derive(Drop)]
 pub struct Report {
     text: String,
     holds: bool,
 }
 
+impl Model for Report {
+    ghost use Rattle.std.specs.Prelude.{Bool};
+
+    ghost Value = { Bool };
+
+    ghost view = { λ r. r.holds };
+}
+
 impl Report {
     /// Of no scenario.
-    pub fn new(alloc: Global) -> Self {
+    pub fn new(alloc: Global) -> Self
+        ensures { result ≡ true }
+    {
         Report {
             text: String::new(alloc),
             holds: true,
@@ -24,7 +37,9 @@ impl Report {
     }
 
     /// Whether all scenarios hold.
-    pub fn holds(&self) -> bool {
+    pub fn holds(&self) -> bool
+        ensures { result ≡ self.now }
+    {
         self.holds
     }
 
@@ -35,7 +50,9 @@ impl Report {
         file: &str,
         name: &str,
         rows: usize,
-    ) -> Result<(), AllocError> {
+    ) -> Result<(), AllocError>
+        ensures { self.new ≡ self.old }
+    {
         let line = format!(in alloc; "{file}: {name}: {rows} rows\n")?;
         self.text.push_str(line.as_str())
     }
@@ -47,7 +64,9 @@ impl Report {
         file: &str,
         line: usize,
         wrong: &Wrong,
-    ) -> Result<(), AllocError> {
+    ) -> Result<(), AllocError>
+        ensures { self.new ≡ false }
+    {
         self.holds = false;
         let place = format!(in alloc; "{file}:{line}: ")?;
         self.text.push_str(place.as_str())?;

@@ -43,7 +43,7 @@ pub(crate) fn play_failing_storage(
     play_over(alloc, store, &mut fields, rows, at)
 }
 
-fn play_over<S: ShardStore>(
+fn play_over<S: ShardStore + Drop>(
     alloc: Global,
     store: S,
     fields: &mut Fields,
@@ -59,7 +59,7 @@ fn play_over<S: ShardStore>(
     }
 }
 
-impl<S: ShardStore> Subject for Storage<S> {
+impl<S: ShardStore + Drop> Subject for Storage<S> {
     fn play(&mut self, alloc: Global, word: &str, given: Value) -> Result<Value, Wrong> {
         match word {
             "hear" => {
@@ -148,7 +148,7 @@ fn write_store_fault(alloc: Global, name: &str, fault: StoreFault) -> Result<Val
 }
 
 /// Where the server stands.
-fn position<S: ShardStore>(alloc: Global, storage: &Storage<S>) -> Result<Value, Wrong> {
+fn position<S: ShardStore + Drop>(alloc: Global, storage: &Storage<S>) -> Result<Value, Wrong> {
     let (epoch, version) = storage.position();
     let numbers = [
         ("epoch", epoch.get()),
@@ -159,7 +159,7 @@ fn position<S: ShardStore>(alloc: Global, storage: &Storage<S>) -> Result<Value,
 }
 
 /// What the server holds.
-fn rows_of<S: ShardStore>(alloc: Global, storage: &mut Storage<S>) -> Result<Value, Wrong> {
+fn rows_of<S: ShardStore + Drop>(alloc: Global, storage: &mut Storage<S>) -> Result<Value, Wrong> {
     match storage.dump(alloc) {
         Ok(rows) => Ok(write_rows(alloc, &Rows::from_vec(rows))?),
         Err(fault) => write_fault(alloc, fault),

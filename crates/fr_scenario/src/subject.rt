@@ -1,4 +1,6 @@
 //! What scenarios are about, and how their rows are played.
+ghost use Rattle.std.specs.Prelude.{◌≡◌, ◌↔◌, IsOk};
+
 use crate::rows::{Parts, Row, json_of, json_or_null};
 use crate::wrong::Wrong;
 use serde_json::Value;
@@ -42,7 +44,9 @@ fn play_row<S: Subject>(alloc: Global, subject: &mut S, parts: &Parts) -> Result
 }
 
 /// Whether what was told is what is wanted, both written in one way.
-fn compare(told: Vec<u8>, wanted: Vec<u8>) -> Result<(), Wrong> {
+fn compare(told: Vec<u8>, wanted: Vec<u8>) -> Result<(), Wrong>
+    ensures { IsOk result ↔ (told.items ≡ wanted.items) }
+{
     if told.as_slice() == wanted.as_slice() {
         Ok(())
     } else {

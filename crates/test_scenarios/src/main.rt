@@ -28,8 +28,8 @@ fn names_of(rt: &HostRuntime, alloc: Global) -> io::Result<Vec<String>> {
     for entry in fs::read_dir(rt, ".")? {
         let entry = entry?;
         let file = entry.file_name();
-        if file.ends_with(".md") && file.as_str() != "README.md" {
-            names.push(String::from_str(alloc, file.as_str())?)?;
+        if file.ends_with(".md") && file != "README.md" {
+            names.push(String::from_str(alloc, file)?)?;
         }
     }
     names.sort()?;
