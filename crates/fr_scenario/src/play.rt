@@ -118,6 +118,9 @@ fn play_all(alloc: Global, rows: &[Row], at: &mut usize) -> Result<(), Wrong> {
     if parts.wanted.is_some() {
         return Err(Wrong::Form(SUBJECTS));
     }
+    if rows.is_empty() {
+        return Err(Wrong::Form("no row follows that compares anything"));
+    }
     let made = json_or_null(alloc, parts.given)?;
     match parts.word {
         "cell" => play_cell(alloc, made, rows, at),
