@@ -42,7 +42,7 @@ pub fn bare<T: Drop>(content: &Value, made: T) -> Result<T, ScriptFault> {
 }
 
 /// A number, at most so great, written in digits alone.
-pub(crate) fn index_of(value: &Value, last: u8) -> Result<u8, ScriptFault> {
+pub fn index_of(value: &Value, last: u8) -> Result<u8, ScriptFault> {
     match value.as_u64() {
         Some(number) => match u8::try_from(number) {
             Ok(index) if index <= last => Ok(index),
@@ -60,8 +60,16 @@ pub fn version_of(value: &Value) -> Result<Version, ScriptFault> {
         .ok_or(ScriptFault::BadScript)
 }
 
+/// An epoch, written in digits alone.
+pub fn epoch_of(value: &Value) -> Result<Epoch, ScriptFault> {
+    value
+        .as_u64()
+        .and_then(Epoch::new)
+        .ok_or(ScriptFault::BadScript)
+}
+
 /// A tag, written in digits alone.
-pub(crate) fn tag_of(value: &Value) -> Result<Tag, ScriptFault> {
+pub fn tag_of(value: &Value) -> Result<Tag, ScriptFault> {
     Tag::new(index_of(value, u8::MAX)?).ok_or(ScriptFault::BadScript)
 }
 
@@ -115,7 +123,7 @@ impl Fields {
 
     /// The epoch under a name.
     pub fn epoch(&self, name: &str) -> Result<Epoch, ScriptFault> {
-        Epoch::new(self.number(name)?).ok_or(ScriptFault::BadScript)
+        epoch_of(self.value(name)?)
     }
 
     /// The tag under a name.

@@ -24,6 +24,7 @@ pub use lasts::{read_last, write_last};
 pub use logs::{read_log_ask, write_log_tell};
 pub use nodes::{read_node, write_node};
 pub use outcomes::{read_outcome, write_outcome};
+pub use records::write_bodies;
 pub use sequencers::{read_seq_ask, read_step, write_seq_tell};
 pub use states::{read_state, write_state};
 pub use values::{read_batch, read_shards, write_batch, write_rows, write_shards};

@@ -10,6 +10,8 @@ mod proxies;
 mod recoverers;
 mod report;
 mod rows;
+mod shards;
+mod states;
 mod storages;
 mod subject;
 mod tallies;

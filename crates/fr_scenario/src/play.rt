@@ -8,6 +8,8 @@ use crate::proxies::play_proxy;
 use crate::recoverers::play_recoverer;
 use crate::report::Report;
 use crate::rows::{Row, Scenario, json_or_null};
+use crate::shards::play_shards;
+use crate::states::play_state;
 use crate::storages::{play_failing_storage, play_storage};
 use crate::tallies::play_tally;
 use crate::wrong::Wrong;
@@ -106,7 +108,8 @@ fn play_whole(
 
 /// What a scenario can be about.
 const SUBJECTS: &str =
-    "a scenario begins with: cell, end_tally, log, proxy, recoverer, sequencer, storage, failing_storage";
+    "a scenario begins with: cell, coordinated_state, end_tally, log, proxy, recoverer, sequencer, \
+     shards, storage, failing_storage";
 
 /// Plays the first row, which makes the subject, and with it the others.
 fn play_all(alloc: Global, rows: &[Row], at: &mut usize) -> Result<(), Wrong> {
@@ -124,12 +127,14 @@ fn play_all(alloc: Global, rows: &[Row], at: &mut usize) -> Result<(), Wrong> {
     let made = json_or_null(alloc, parts.given)?;
     match parts.word {
         "cell" => play_cell(alloc, made, rows, at),
+        "coordinated_state" => play_state(alloc, made, rows, at),
         "end_tally" => play_tally(alloc, made, rows, at),
         "log" => play_log(alloc, made, rows, at),
         "proxy" => play_proxy(alloc, made, rows, at),
         "recoverer" => play_recoverer(alloc, made, rows, at),
         "sequencer" => play_sequencer(alloc, made, rows, at),
         "failing_storage" => play_failing_storage(alloc, made, rows, at),
+        "shards" => play_shards(alloc, made, rows, at),
         "storage" => play_storage(alloc, made, rows, at),
         _ => Err(Wrong::Form(SUBJECTS)),
     }
