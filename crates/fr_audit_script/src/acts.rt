@@ -1,16 +1,13 @@
 //! What nodes do.
-use crate::asks::{read_ask, read_tell, write_ask, write_tell};
-use crate::fault::ScriptFault;
-use crate::fields::{Fields, bare, variant, version_of};
-use crate::names;
-use crate::nodes::{read_node, write_node};
-use crate::object::{Object, bare_named, numbered};
-use crate::sequencers::read_step;
-use crate::values::{read_batch, write_batch};
 use fr_ask::{Ask, Tell};
 use fr_audit_journal::Act;
 use fr_base::{Memory, NodeId, Version};
-use fr_proxy::Outcome;
+use fr_forms::fields::{Fields, bare, variant, version_of};
+use fr_forms::object::{Object, bare_named};
+use fr_forms::{
+    ScriptFault, names, read_ask, read_batch, read_node, read_outcome, read_step, read_tell,
+    write_ask, write_batch, write_node, write_outcome, write_tell,
+};
 use serde_json::Value;
 use std::alloc::Global;
 
@@ -61,23 +58,6 @@ fn read_taken(value: &Value) -> Result<Option<Version>, ScriptFault> {
     Ok(Some(version_of(value)?))
 }
 
-/// An outcome, or null.
-fn read_outcome(value: Value) -> Result<Option<Outcome>, ScriptFault> {
-    if value.is_null() {
-        return Ok(None);
-    }
-    let (name, content) = variant(value)?;
-    match name.as_str() {
-        names::WAITING => bare(&content, Some(Outcome::Waiting)),
-        names::COMMITTED => {
-            let version = Fields::new(content, 1).version(names::VERSION)?;
-            Ok(Some(Outcome::Committed { version }))
-        }
-        names::ENDED => bare(&content, Some(Outcome::Ended)),
-        _ => Err(ScriptFault::BadScript),
-    }
-}
-
 pub(crate) fn write_act(alloc: Global, act: &Act) -> Result<Value, Memory> {
     match act {
         Act::Asked { from, ask, tell } => write_asked(alloc, from, ask, tell),
@@ -113,20 +93,5 @@ fn write_taken(taken: &Option<Version>) -> Value {
     match taken {
         Some(version) => Value::from(version.get()),
         None => Value::Null,
-    }
-}
-
-fn write_outcome(alloc: Global, outcome: &Option<Outcome>) -> Result<Value, Memory> {
-    let Some(outcome) = outcome else {
-        return Ok(Value::Null);
-    };
-    match outcome {
-        Outcome::Waiting => bare_named(alloc, names::WAITING),
-        Outcome::Committed { version } => numbered(
-            alloc,
-            names::COMMITTED,
-            &[(names::VERSION, version.get())],
-        ),
-        Outcome::Ended => bare_named(alloc, names::ENDED),
     }
 }

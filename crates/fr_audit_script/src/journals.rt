@@ -1,13 +1,10 @@
 //! Journals.
 use crate::acts::{read_act, write_act};
-use crate::fault::ScriptFault;
-use crate::fields::{Fields, items};
-use crate::lasts::{read_last, write_last};
-use crate::names;
-use crate::nodes::{read_node, write_node};
-use crate::object::Object;
 use fr_audit_journal::{Entry, Journal, JournalFault};
 use fr_base::{Memory, Stamp};
+use fr_forms::fields::{Fields, items};
+use fr_forms::object::Object;
+use fr_forms::{ScriptFault, names, read_last, read_node, write_last, write_node};
 use serde_json::Value;
 use std::alloc::Global;
 

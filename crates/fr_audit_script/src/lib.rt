@@ -2,22 +2,9 @@
 #![tactic(auto)]
 
 mod acts;
-mod asks;
-mod cells;
-mod fault;
-mod fields;
 mod journals;
-mod lasts;
-mod logs;
-mod names;
-mod nodes;
-mod object;
-mod records;
 mod script;
-mod sequencers;
 mod setting;
-mod states;
-mod values;
 
-pub use fault::ScriptFault;
+pub use fr_forms::ScriptFault;
 pub use script::{read_script, write_script};

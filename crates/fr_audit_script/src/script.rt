@@ -6,14 +6,13 @@ ghost use Rattle.serde_json.specs.Data.{Data};
 ghost use Rattle.serde_json.specs.Read.{read};
 ghost use Rattle.serde_json.specs.Written.{IsInOrder};
 
-use crate::fault::ScriptFault;
-use crate::fields::{Fields, items};
 use crate::journals::{read_journal, write_journal};
-use crate::names;
-use crate::object::Object;
 use crate::setting::{read_config, write_config};
 use fr_audit_journal::Journal;
 use fr_base::Memory;
+use fr_forms::fields::{Fields, items};
+use fr_forms::object::Object;
+use fr_forms::{ScriptFault, names};
 use fr_run_event::Config;
 use serde_json::Value;
 use std::alloc::Global;

@@ -1,10 +1,8 @@
 //! Configs.
-use crate::fault::ScriptFault;
-use crate::fields::{Fields, items};
-use crate::names;
-use crate::object::{Object, hex_value};
-use fr_base::{Bytes, Memory};
-use fr_cli_json::tree::read_bytes;
+use fr_base::Memory;
+use fr_forms::fields::Fields;
+use fr_forms::object::Object;
+use fr_forms::{ScriptFault, names, read_shards, write_shards};
 use fr_run_event::{Config, ConfigFault};
 use serde_json::Value;
 use std::alloc::Global;
@@ -23,15 +21,6 @@ pub(crate) fn read_config(alloc: Global, fields: &mut Fields) -> Result<Config, 
     }
 }
 
-fn read_shards(alloc: Global, value: Value) -> Result<Vec<Bytes>, ScriptFault> {
-    let items = items(value)?;
-    let mut shards = Vec::with_capacity(alloc, items.len())?;
-    for item in items {
-        shards.push(read_bytes(alloc, Some(&item))?)?;
-    }
-    Ok(shards)
-}
-
 pub(crate) fn write_config(alloc: Global, config: &Config) -> Result<Value, Memory> {
     let numbers = [
         (names::COORDINATORS, config.coordinators() as u64),
@@ -45,12 +34,4 @@ pub(crate) fn write_config(alloc: Global, config: &Config) -> Result<Value, Memo
             .with(names::SHARDS, shards)?
             .value(),
     )
-}
-
-fn write_shards(alloc: Global, begins: &[Bytes]) -> Result<Value, Memory> {
-    let mut shards = Vec::with_capacity(alloc, begins.len())?;
-    for begin in begins {
-        shards.push(hex_value(alloc, begin.as_slice())?)?;
-    }
-    Ok(Value::Array(shards))
 }

@@ -144,7 +144,8 @@ fn write_mark(alloc: Global, push: &Push) -> Result<Value, Memory> {
     }
 }
 
-fn write_bodies(alloc: Global, bodies: &[Body]) -> Result<Value, Memory> {
+/// The form of bodies: an array of a tag and a batch each.
+pub fn write_bodies(alloc: Global, bodies: &[Body]) -> Result<Value, Memory> {
     let mut items = Vec::with_capacity(alloc, bodies.len())?;
     for body in bodies {
         items.push(write_body(alloc, body)?)?;

@@ -7,7 +7,8 @@ use fr_base::{Memory, NodeId};
 use serde_json::Value;
 use std::alloc::Global;
 
-pub(crate) fn read_node(value: Value) -> Result<NodeId, ScriptFault> {
+/// Reads a node.
+pub fn read_node(value: Value) -> Result<NodeId, ScriptFault> {
     let (name, content) = variant(value)?;
     match name.as_str() {
         names::CELL => {
@@ -46,7 +47,8 @@ fn read_proxy(fields: &Fields) -> Result<NodeId, ScriptFault> {
     })
 }
 
-pub(crate) fn write_node(alloc: Global, node: &NodeId) -> Result<Value, Memory> {
+/// The form of a node.
+pub fn write_node(alloc: Global, node: &NodeId) -> Result<Value, Memory> {
     match node {
         NodeId::Cell { index } => numbered(alloc, names::CELL, &[(names::INDEX, *index as u64)]),
         NodeId::Log { epoch, index } => numbered(

@@ -11,7 +11,8 @@ use std::alloc::Global;
 /// No request has this number, or a greater one.
 const NO_REQUEST: u64 = 1 << 62;
 
-pub(crate) fn read_seq_ask(value: Value) -> Result<SeqAsk, ScriptFault> {
+/// Reads what a sequencer is asked.
+pub fn read_seq_ask(value: Value) -> Result<SeqAsk, ScriptFault> {
     let (name, content) = variant(value)?;
     if name.as_str() != names::NEXT {
         return Err(ScriptFault::BadScript);
@@ -64,7 +65,8 @@ fn read_numbered(fields: &Fields) -> Result<SeqTell, ScriptFault> {
     })
 }
 
-pub(crate) fn write_seq_tell(alloc: Global, tell: &SeqTell) -> Result<Value, Memory> {
+/// The form of what a sequencer tells.
+pub fn write_seq_tell(alloc: Global, tell: &SeqTell) -> Result<Value, Memory> {
     match tell {
         SeqTell::Numbered {
             request,
@@ -111,6 +113,6 @@ fn read_request(fields: &Fields) -> Result<u64, ScriptFault> {
 }
 
 /// The step under the name `step`.
-pub(crate) fn read_step(fields: &Fields) -> Result<Step, ScriptFault> {
+pub fn read_step(fields: &Fields) -> Result<Step, ScriptFault> {
     Step::new(fields.number(names::STEP)?).ok_or(ScriptFault::BadScript)
 }

@@ -1,4 +1,4 @@
-//! Values taken out of the tree of a script's JSON.
+//! Values taken out of the tree of JSON.
 use crate::fault::ScriptFault;
 use fr_base::{Ballot, Bytes, Epoch, Tag, Version};
 use fr_cli_json::tree::{into_items, into_one_member, member_of, read_bytes, take_member};
@@ -15,12 +15,12 @@ pub(crate) const LAST_LOG: u8 = 15;
 pub(crate) const LAST_PROXY: u8 = 15;
 
 /// The name of a variant, and its content: an object of one member.
-pub(crate) fn variant(value: Value) -> Result<(String, Value), ScriptFault> {
+pub fn variant(value: Value) -> Result<(String, Value), ScriptFault> {
     into_one_member(value).ok_or(ScriptFault::BadScript)
 }
 
 /// The items of an array.
-pub(crate) fn items(value: Value) -> Result<Vec<Value>, ScriptFault> {
+pub fn items(value: Value) -> Result<Vec<Value>, ScriptFault> {
     into_items(value).ok_or(ScriptFault::BadScript)
 }
 
@@ -34,7 +34,7 @@ pub(crate) fn pair(value: Value) -> Result<(Value, Value), ScriptFault> {
 }
 
 /// What a value is made of an object without members.
-pub(crate) fn bare<T: Drop>(content: &Value, made: T) -> Result<T, ScriptFault> {
+pub fn bare<T: Drop>(content: &Value, made: T) -> Result<T, ScriptFault> {
     match content.as_object() {
         Some(members) if members.is_empty() => Ok(made),
         _ => Err(ScriptFault::BadScript),
@@ -42,7 +42,7 @@ pub(crate) fn bare<T: Drop>(content: &Value, made: T) -> Result<T, ScriptFault> 
 }
 
 /// A number, at most so great, written in digits alone.
-pub(crate) fn index_of(value: &Value, last: u8) -> Result<u8, ScriptFault> {
+pub fn index_of(value: &Value, last: u8) -> Result<u8, ScriptFault> {
     match value.as_u64() {
         Some(number) => match u8::try_from(number) {
             Ok(index) if index <= last => Ok(index),
@@ -53,78 +53,86 @@ pub(crate) fn index_of(value: &Value, last: u8) -> Result<u8, ScriptFault> {
 }
 
 /// A version, written in digits alone.
-pub(crate) fn version_of(value: &Value) -> Result<Version, ScriptFault> {
+pub fn version_of(value: &Value) -> Result<Version, ScriptFault> {
     value
         .as_u64()
         .and_then(Version::new)
         .ok_or(ScriptFault::BadScript)
 }
 
+/// An epoch, written in digits alone.
+pub fn epoch_of(value: &Value) -> Result<Epoch, ScriptFault> {
+    value
+        .as_u64()
+        .and_then(Epoch::new)
+        .ok_or(ScriptFault::BadScript)
+}
+
 /// A tag, written in digits alone.
-pub(crate) fn tag_of(value: &Value) -> Result<Tag, ScriptFault> {
+pub fn tag_of(value: &Value) -> Result<Tag, ScriptFault> {
     Tag::new(index_of(value, u8::MAX)?).ok_or(ScriptFault::BadScript)
 }
 
-/// An object of this many members.
+/// An object of this many members, each of which is taken by its name.
 #[derive(Drop)]
-pub(crate) struct Fields {
+pub struct Fields {
     value: Value,
     count: usize,
 }
 
 impl Fields {
     /// A value, which is to be an object of this many members.
-    pub(crate) fn new(value: Value, count: usize) -> Self {
+    pub fn new(value: Value, count: usize) -> Self {
         Fields { value, count }
     }
 
     /// Takes the value under a name out.
-    pub(crate) fn take(&mut self, name: &str) -> Result<Value, ScriptFault> {
+    pub fn take(&mut self, name: &str) -> Result<Value, ScriptFault> {
         take_member(&mut self.value, self.count, name).ok_or(ScriptFault::BadScript)
     }
 
     /// The value under a name.
-    pub(crate) fn value(&self, name: &str) -> Result<&Value, ScriptFault> {
+    pub fn value(&self, name: &str) -> Result<&Value, ScriptFault> {
         member_of(&self.value, self.count, name).ok_or(ScriptFault::BadScript)
     }
 
     /// The number under a name, written in digits alone.
-    pub(crate) fn number(&self, name: &str) -> Result<u64, ScriptFault> {
+    pub fn number(&self, name: &str) -> Result<u64, ScriptFault> {
         self.value(name)?.as_u64().ok_or(ScriptFault::BadScript)
     }
 
     /// The number under a name, at most so great.
-    pub(crate) fn index(&self, name: &str, last: u8) -> Result<u8, ScriptFault> {
+    pub fn index(&self, name: &str, last: u8) -> Result<u8, ScriptFault> {
         index_of(self.value(name)?, last)
     }
 
     /// The truth value under a name.
-    pub(crate) fn flag(&self, name: &str) -> Result<bool, ScriptFault> {
+    pub fn flag(&self, name: &str) -> Result<bool, ScriptFault> {
         self.value(name)?.as_bool().ok_or(ScriptFault::BadScript)
     }
 
     /// The version under a name.
-    pub(crate) fn version(&self, name: &str) -> Result<Version, ScriptFault> {
+    pub fn version(&self, name: &str) -> Result<Version, ScriptFault> {
         version_of(self.value(name)?)
     }
 
     /// The ballot under a name.
-    pub(crate) fn ballot(&self, name: &str) -> Result<Ballot, ScriptFault> {
+    pub fn ballot(&self, name: &str) -> Result<Ballot, ScriptFault> {
         Ballot::new(self.number(name)?).ok_or(ScriptFault::BadScript)
     }
 
     /// The epoch under a name.
-    pub(crate) fn epoch(&self, name: &str) -> Result<Epoch, ScriptFault> {
-        Epoch::new(self.number(name)?).ok_or(ScriptFault::BadScript)
+    pub fn epoch(&self, name: &str) -> Result<Epoch, ScriptFault> {
+        epoch_of(self.value(name)?)
     }
 
     /// The tag under a name.
-    pub(crate) fn tag(&self, name: &str) -> Result<Tag, ScriptFault> {
+    pub fn tag(&self, name: &str) -> Result<Tag, ScriptFault> {
         tag_of(self.value(name)?)
     }
 
     /// The bytes under a name, a text of lower case hex.
-    pub(crate) fn bytes(&self, alloc: Global, name: &str) -> Result<Bytes, ScriptFault> {
+    pub fn bytes(&self, alloc: Global, name: &str) -> Result<Bytes, ScriptFault> {
         Ok(read_bytes(alloc, Some(self.value(name)?))?)
     }
 }

@@ -9,7 +9,7 @@ use serde_json::Value;
 use std::alloc::Global;
 
 /// The list of a state's generations.
-pub(crate) fn read_state(alloc: Global, value: Value) -> Result<CoordState, ScriptFault> {
+pub fn read_state(alloc: Global, value: Value) -> Result<CoordState, ScriptFault> {
     let mut state = None;
     for item in items(value)? {
         let generation = read_generation(&Fields::new(item, 5))?;
@@ -43,7 +43,8 @@ fn read_generation(fields: &Fields) -> Result<Generation, ScriptFault> {
     Generation::new(epoch, m, k, first, seeded_to).ok_or(ScriptFault::BadScript)
 }
 
-pub(crate) fn write_state(alloc: Global, state: &CoordState) -> Result<Value, Memory> {
+/// The form of a coordinated state: the list of its generations.
+pub fn write_state(alloc: Global, state: &CoordState) -> Result<Value, Memory> {
     let mut items = Vec::with_capacity(alloc, state.gens().len())?;
     for generation in state.gens() {
         items.push(write_generation(alloc, *generation)?)?;

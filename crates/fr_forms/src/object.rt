@@ -1,18 +1,18 @@
-//! Objects of a script's JSON, made member by member.
+//! Objects of JSON, made member by member.
 use fr_base::Memory;
 use serde_json::{Map, Value};
 use std::alloc::Global;
 
 /// An object under way. Its text has its members in the order of their names' bytes.
 #[derive(Drop)]
-pub(crate) struct Object {
+pub struct Object {
     alloc: Global,
     members: Map<String, Value>,
 }
 
 impl Object {
     /// Without members.
-    pub(crate) fn new(alloc: Global) -> Self {
+    pub fn new(alloc: Global) -> Self {
         Object {
             alloc,
             members: Map::new(alloc),
@@ -20,14 +20,14 @@ impl Object {
     }
 
     /// With one member more.
-    pub(crate) fn with(self, name: &str, value: Value) -> Result<Self, Memory> {
+    pub fn with(self, name: &str, value: Value) -> Result<Self, Memory> {
         let Object { alloc, mut members } = self;
         members.insert(String::from_str(alloc, name)?, value)?;
         Ok(Object { alloc, members })
     }
 
     /// With these numbers.
-    pub(crate) fn of(alloc: Global, numbers: &[(&str, u64)]) -> Result<Self, Memory> {
+    pub fn of(alloc: Global, numbers: &[(&str, u64)]) -> Result<Self, Memory> {
         let mut object = Object::new(alloc);
         for (name, number) in numbers {
             object = object.with(name, Value::from(*number))?;
@@ -36,29 +36,25 @@ impl Object {
     }
 
     /// With bytes more, as a text of lower case hex.
-    pub(crate) fn bytes(self, name: &str, bytes: &[u8]) -> Result<Self, Memory> {
+    pub fn bytes(self, name: &str, bytes: &[u8]) -> Result<Self, Memory> {
         let alloc = self.alloc;
         self.with(name, hex_value(alloc, bytes)?)
     }
 
     /// The object.
-    pub(crate) fn value(self) -> Value {
+    pub fn value(self) -> Value {
         Value::Object(self.members)
     }
 
     /// The object as the content of a variant.
-    pub(crate) fn named(self, name: &str) -> Result<Value, Memory> {
+    pub fn named(self, name: &str) -> Result<Value, Memory> {
         let alloc = self.alloc;
         named(alloc, name, self.value())
     }
 }
 
 /// A variant that has these numbers alone.
-pub(crate) fn numbered(
-    alloc: Global,
-    name: &str,
-    numbers: &[(&str, u64)],
-) -> Result<Value, Memory> {
+pub fn numbered(alloc: Global, name: &str, numbers: &[(&str, u64)]) -> Result<Value, Memory> {
     Object::of(alloc, numbers)?.named(name)
 }
 
@@ -73,7 +69,7 @@ pub(crate) fn with_one(
 }
 
 /// A variant without content.
-pub(crate) fn bare_named(alloc: Global, name: &str) -> Result<Value, Memory> {
+pub fn bare_named(alloc: Global, name: &str) -> Result<Value, Memory> {
     Object::new(alloc).named(name)
 }
 
@@ -83,7 +79,7 @@ pub(crate) fn named(alloc: Global, name: &str, content: Value) -> Result<Value, 
 }
 
 /// Bytes as a text of lower case hex.
-pub(crate) fn hex_value(alloc: Global, bytes: &[u8]) -> Result<Value, Memory> {
+pub fn hex_value(alloc: Global, bytes: &[u8]) -> Result<Value, Memory> {
     Ok(Value::String(hex::encode(alloc, bytes)?))
 }
 

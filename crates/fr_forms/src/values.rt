@@ -1,4 +1,4 @@
-//! Batches, and rows.
+//! Batches, rows, and the keys at which shards begin.
 use crate::fault::ScriptFault;
 use crate::fields::{items, pair};
 use crate::names;
@@ -11,7 +11,7 @@ use serde_json::Value;
 use std::alloc::Global;
 
 /// A batch within its limits.
-pub(crate) fn read_batch(alloc: Global, value: Value) -> Result<Batch, ScriptFault> {
+pub fn read_batch(alloc: Global, value: Value) -> Result<Batch, ScriptFault> {
     match Batch::new(read_mutations(alloc, value)?.into_vec()) {
         Ok(batch) => Ok(batch),
         Err(BatchFault::Memory) => Err(ScriptFault::Memory),
@@ -19,7 +19,8 @@ pub(crate) fn read_batch(alloc: Global, value: Value) -> Result<Batch, ScriptFau
     }
 }
 
-pub(crate) fn write_batch(alloc: Global, batch: &Batch) -> Result<Value, Memory> {
+/// The form of a batch.
+pub fn write_batch(alloc: Global, batch: &Batch) -> Result<Value, Memory> {
     let mut items = Vec::with_capacity(alloc, batch.mutations().len())?;
     for mutation in batch.mutations() {
         items.push(write_mutation(alloc, mutation)?)?;
@@ -74,7 +75,8 @@ fn read_row(alloc: Global, item: Value) -> Result<(Bytes, Bytes), ScriptFault> {
     Ok((key, read_bytes(alloc, Some(&value))?))
 }
 
-pub(crate) fn write_rows(alloc: Global, rows: &Rows) -> Result<Value, Memory> {
+/// The form of rows.
+pub fn write_rows(alloc: Global, rows: &Rows) -> Result<Value, Memory> {
     let mut items = Vec::with_capacity(alloc, rows.len())?;
     for (key, value) in rows.as_slice() {
         items.push(write_row(alloc, key, value)?)?;
@@ -86,4 +88,23 @@ fn write_row(alloc: Global, key: &Bytes, value: &Bytes) -> Result<Value, Memory>
     let key = hex_value(alloc, key.as_slice())?;
     let value = hex_value(alloc, value.as_slice())?;
     pair_value(alloc, key, value)
+}
+
+/// Reads the keys at which shards begin.
+pub fn read_shards(alloc: Global, value: Value) -> Result<Vec<Bytes>, ScriptFault> {
+    let items = items(value)?;
+    let mut shards = Vec::with_capacity(alloc, items.len())?;
+    for item in items {
+        shards.push(read_bytes(alloc, Some(&item))?)?;
+    }
+    Ok(shards)
+}
+
+/// The form of the keys at which shards begin.
+pub fn write_shards(alloc: Global, begins: &[Bytes]) -> Result<Value, Memory> {
+    let mut shards = Vec::with_capacity(alloc, begins.len())?;
+    for begin in begins {
+        shards.push(hex_value(alloc, begin.as_slice())?)?;
+    }
+    Ok(Value::Array(shards))
 }

@@ -11,7 +11,7 @@ use serde_json::Value;
 use std::alloc::Global;
 
 /// A last state, or null.
-pub(crate) fn read_last(alloc: Global, value: Value) -> Result<Option<Last>, ScriptFault> {
+pub fn read_last(alloc: Global, value: Value) -> Result<Option<Last>, ScriptFault> {
     if value.is_null() {
         return Ok(None);
     }
@@ -71,7 +71,7 @@ fn read_storage(alloc: Global, fields: &mut Fields) -> Result<Option<Last>, Scri
 }
 
 /// A last state. A phase that is no text, which no world gives, is written as the empty one.
-pub(crate) fn write_last(alloc: Global, last: &Last) -> Result<Value, Memory> {
+pub fn write_last(alloc: Global, last: &Last) -> Result<Value, Memory> {
     match last {
         Last::Cell {
             promised,

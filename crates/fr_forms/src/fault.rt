@@ -1,13 +1,13 @@
-//! Why a text is no script.
+//! Why JSON is not in its form.
 use fr_base::Memory as NoMemory;
 use fr_cli_json::CliFault;
 use std::alloc::{AllocError, AllocFailed};
 use thiserror::Error;
 
-/// Why no script was read. Their numbers are 1 and 2, in the order of these variants.
+/// Why no value was read. Their numbers are 1 and 2, in the order of these variants.
 #[derive(Clone, Copy, Debug, PartialEq, Eq, Error)]
 pub enum ScriptFault {
-    /// The text is no JSON, or no script of an audit.
+    /// The text is no JSON, or is not in the form that is read.
     #[error("bad script")]
     BadScript,
     /// There is no memory.

@@ -10,7 +10,8 @@ use fr_log::{LogAsk, LogRefusal, LogTell, Most};
 use serde_json::Value;
 use std::alloc::Global;
 
-pub(crate) fn read_log_ask(alloc: Global, value: Value) -> Result<LogAsk, ScriptFault> {
+/// Reads what a log is asked.
+pub fn read_log_ask(alloc: Global, value: Value) -> Result<LogAsk, ScriptFault> {
     let (name, content) = variant(value)?;
     match name.as_str() {
         names::SEED => Ok(LogAsk::Seed(read_seed(alloc, &mut Fields::new(content, 4))?)),
@@ -95,7 +96,8 @@ fn read_locked(fields: &Fields) -> Result<LogTell, ScriptFault> {
     })
 }
 
-pub(crate) fn write_log_tell(alloc: Global, tell: &LogTell) -> Result<Value, Memory> {
+/// The form of what a log tells.
+pub fn write_log_tell(alloc: Global, tell: &LogTell) -> Result<Value, Memory> {
     match tell {
         LogTell::Seeded => bare_named(alloc, names::SEEDED),
         LogTell::Held { version } => numbered(

@@ -8,7 +8,8 @@ use fr_register::{CellAsk, CellTell, CellValue};
 use serde_json::Value;
 use std::alloc::Global;
 
-pub(crate) fn read_cell_ask(alloc: Global, value: Value) -> Result<CellAsk, ScriptFault> {
+/// Reads what a cell is asked.
+pub fn read_cell_ask(alloc: Global, value: Value) -> Result<CellAsk, ScriptFault> {
     let (name, content) = variant(value)?;
     match name.as_str() {
         names::READ => {
@@ -52,7 +53,8 @@ pub(crate) fn read_cell_tell(alloc: Global, value: Value) -> Result<CellTell, Sc
     }
 }
 
-pub(crate) fn write_cell_tell(alloc: Global, tell: &CellTell) -> Result<Value, Memory> {
+/// The form of what a cell tells.
+pub fn write_cell_tell(alloc: Global, tell: &CellTell) -> Result<Value, Memory> {
     match tell {
         CellTell::Promise { written, value } => {
             holding(

@@ -11,7 +11,8 @@ use fr_base::Memory;
 use serde_json::Value;
 use std::alloc::Global;
 
-pub(crate) fn read_ask(alloc: Global, value: Value) -> Result<Ask, ScriptFault> {
+/// Reads what a node of any kind is asked.
+pub fn read_ask(alloc: Global, value: Value) -> Result<Ask, ScriptFault> {
     let (name, content) = variant(value)?;
     match name.as_str() {
         names::CELL => Ok(Ask::Cell(read_cell_ask(alloc, content)?)),
@@ -21,7 +22,8 @@ pub(crate) fn read_ask(alloc: Global, value: Value) -> Result<Ask, ScriptFault> 
     }
 }
 
-pub(crate) fn write_ask(alloc: Global, ask: &Ask) -> Result<Value, Memory> {
+/// The form of what a node of any kind is asked.
+pub fn write_ask(alloc: Global, ask: &Ask) -> Result<Value, Memory> {
     match ask {
         Ask::Cell(ask) => named(alloc, names::CELL, write_cell_ask(alloc, ask)?),
         Ask::Log(ask) => named(alloc, names::LOG, write_log_ask(alloc, ask)?),
@@ -29,7 +31,8 @@ pub(crate) fn write_ask(alloc: Global, ask: &Ask) -> Result<Value, Memory> {
     }
 }
 
-pub(crate) fn read_tell(alloc: Global, value: Value) -> Result<Tell, ScriptFault> {
+/// Reads what a node of any kind tells.
+pub fn read_tell(alloc: Global, value: Value) -> Result<Tell, ScriptFault> {
     let (name, content) = variant(value)?;
     match name.as_str() {
         names::CELL => Ok(Tell::Cell(read_cell_tell(alloc, content)?)),
@@ -39,7 +42,8 @@ pub(crate) fn read_tell(alloc: Global, value: Value) -> Result<Tell, ScriptFault
     }
 }
 
-pub(crate) fn write_tell(alloc: Global, tell: &Tell) -> Result<Value, Memory> {
+/// The form of what a node of any kind tells.
+pub fn write_tell(alloc: Global, tell: &Tell) -> Result<Value, Memory> {
     match tell {
         Tell::Cell(tell) => named(alloc, names::CELL, write_cell_tell(alloc, tell)?),
         Tell::Log(tell) => named(alloc, names::LOG, write_log_tell(alloc, tell)?),

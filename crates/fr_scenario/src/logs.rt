@@ -1,0 +1,125 @@
+//! Cells, logs and sequencers: what they are asked is told at once.
+ghost use Rattle.std.specs.Prelude.{◌≡◌, OnOk};
+
+use crate::nodes::{read_sizes, write_state_of};
+use crate::rows::Row;
+use crate::subject::{Subject, no_such_word, play_rows};
+use crate::wrong::{NO_FORM, Wrong};
+use fr_ask::Named;
+use fr_base::{LogId, Machine, Memory};
+use fr_forms::fields::Fields;
+use fr_forms::{
+    read_cell_ask, read_log_ask, read_seq_ask, write_cell_tell, write_log_tell, write_seq_tell,
+};
+use fr_log::laws::place_law;
+use fr_log::{Log, LogAsk, LogTell};
+use fr_proxy::Sequencer;
+use fr_register::Cell;
+use serde_json::Value;
+use std::alloc::Global;
+
+/// Plays rows with a cell that was never asked.
+pub(crate) fn play_cell(
+    alloc: Global,
+    made: Value,
+    rows: &[Row],
+    at: &mut usize,
+) -> Result<(), Wrong> {
+    if !made.is_null() {
+        return Err(Wrong::Form("a cell is made of nothing"));
+    }
+    let mut cell = Cell::new(alloc);
+    play_rows(alloc, &mut cell, rows, at)
+}
+
+impl Subject for Cell {
+    fn play(&mut self, alloc: Global, word: &str, given: Value) -> Result<Value, Wrong> {
+        match word {
+            "ask" => {
+                let told = self.step(alloc, read_cell_ask(alloc, given)?)?;
+                Ok(write_cell_tell(alloc, &told)?)
+            }
+            "state" => write_state_of(alloc, &self.copy()?.last(alloc)?),
+            _ => no_such_word("rows of a cell: ask, state"),
+        }
+    }
+}
+
+/// Plays rows with a log that was never asked.
+pub(crate) fn play_log(
+    alloc: Global,
+    made: Value,
+    rows: &[Row],
+    at: &mut usize,
+) -> Result<(), Wrong> {
+    let mut log = read_log(alloc, &Fields::new(made, 4))?;
+    play_rows(alloc, &mut log, rows, at)
+}
+
+fn read_log(alloc: Global, fields: &Fields) -> Result<Log, Wrong> {
+    let epoch = fields.epoch("epoch")?;
+    let index = fields.index("index", u8::MAX)?;
+    let (m, k) = read_sizes(fields)?;
+    if index < m {
+        Ok(Log::new(alloc, LogId { epoch, index }, m, k))
+    } else {
+        Err(NO_FORM)
+    }
+}
+
+impl Subject for Log {
+    fn play(&mut self, alloc: Global, word: &str, given: Value) -> Result<Value, Wrong> {
+        match word {
+            "ask" => {
+                let told = self.step(alloc, read_log_ask(alloc, given)?)?;
+                Ok(write_log_tell(alloc, &told)?)
+            }
+            "take_back" => take_back(alloc, self, given),
+            "state" => write_state_of(alloc, &self.copy()?.last(alloc)?),
+            _ => no_such_word("rows of a log: ask, take_back, state"),
+        }
+    }
+}
+
+/// What a log tells, which then goes back to where it stood, as one does whose records could not be kept.
+fn take_back(alloc: Global, log: &mut Log, given: Value) -> Result<Value, Wrong>
+    ensures { OnOk result (log.new ≡ log.old) }
+{
+    let told = ask_and_go_back(alloc, log, read_log_ask(alloc, given)?)?;
+    Ok(write_log_tell(alloc, &told)?)
+}
+
+fn ask_and_go_back(alloc: Global, log: &mut Log, ask: LogAsk) -> Result<LogTell, Memory>
+    ensures { OnOk result (log.new ≡ log.old) }
+{
+    let place = log.place();
+    let tell = log.step(alloc, ask)?;
+    place_law();
+    log.go_back(place);
+    Ok(tell)
+}
+
+/// Plays rows with a sequencer that gave nothing yet.
+pub(crate) fn play_sequencer(
+    alloc: Global,
+    made: Value,
+    rows: &[Row],
+    at: &mut usize,
+) -> Result<(), Wrong> {
+    let fields = Fields::new(made, 2);
+    let mut sequencer = Sequencer::new(alloc, fields.epoch("epoch")?, fields.version("last")?);
+    play_rows(alloc, &mut sequencer, rows, at)
+}
+
+impl Subject for Sequencer {
+    fn play(&mut self, alloc: Global, word: &str, given: Value) -> Result<Value, Wrong> {
+        match word {
+            "ask" => {
+                let told = self.step(alloc, read_seq_ask(given)?)?;
+                Ok(write_seq_tell(alloc, &told)?)
+            }
+            "state" => write_state_of(alloc, &Named::last(&self.copy()?, alloc)?),
+            _ => no_such_word("rows of a sequencer: ask, state"),
+        }
+    }
+}

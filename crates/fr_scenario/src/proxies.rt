@@ -1,0 +1,75 @@
+//! Proxies.
+use crate::nodes::{read_map, read_sizes, read_told, write_asks, write_name, write_state_of};
+use crate::rows::Row;
+use crate::subject::{Subject, no_such_word, play_rows};
+use crate::wrong::Wrong;
+use fr_ask::{Ask, Last};
+use fr_base::{NodeId, Step};
+use fr_forms::fields::Fields;
+use fr_forms::object::Object;
+use fr_forms::{read_batch, write_ask, write_outcome};
+use fr_proxy::{Outcome, Proxy, SubmitFault};
+use serde_json::Value;
+use std::alloc::Global;
+
+/// Plays rows with a proxy that took nothing yet.
+pub(crate) fn play_proxy(
+    alloc: Global,
+    made: Value,
+    rows: &[Row],
+    at: &mut usize,
+) -> Result<(), Wrong> {
+    let mut proxy = read_proxy(alloc, &mut Fields::new(made, 6))?;
+    play_rows(alloc, &mut proxy, rows, at)
+}
+
+fn read_proxy(alloc: Global, fields: &mut Fields) -> Result<Proxy, Wrong> {
+    let epoch = fields.epoch("epoch")?;
+    let number = fields.index("number", u8::MAX)?;
+    let known = fields.version("known")?;
+    let (m, k) = read_sizes(fields)?;
+    let map = read_map(alloc, fields)?;
+    Ok(Proxy::new(epoch, number, m, k, map, known))
+}
+
+impl Subject for Proxy {
+    fn play(&mut self, alloc: Global, word: &str, given: Value) -> Result<Value, Wrong> {
+        match word {
+            "submit" => submit(alloc, self, &mut Fields::new(given, 2)),
+            "hear" => {
+                let (from, tell) = read_told(alloc, given)?;
+                let (outcome, asks) = self.hear(alloc, from, &tell)?;
+                write_heard(alloc, outcome, asks.as_slice())
+            }
+            "pending" => write_asks(alloc, self.pending(alloc)?.as_slice()),
+            "state" => {
+                let known = self.copy()?.known();
+                write_state_of(alloc, &Last::Proxy { known })
+            }
+            _ => no_such_word("rows of a proxy: submit, hear, pending, state"),
+        }
+    }
+}
+
+/// What a proxy asks for a batch, or the name of why it does not take it.
+fn submit(alloc: Global, proxy: &mut Proxy, fields: &mut Fields) -> Result<Value, Wrong> {
+    let step = Step::new(fields.number("step")?).ok_or(Wrong::Form("no step"))?;
+    let batch = read_batch(alloc, fields.take("batch")?)?;
+    match proxy.submit(step, batch) {
+        Ok(ask) => Ok(write_ask(alloc, &ask)?),
+        Err(SubmitFault::TwoOpen) => write_name(alloc, "TwoOpen"),
+        Err(SubmitFault::Over) => write_name(alloc, "Over"),
+        Err(SubmitFault::Memory) => Err(Wrong::Memory),
+    }
+}
+
+fn write_heard(alloc: Global, outcome: Outcome, asks: &[(NodeId, Ask)]) -> Result<Value, Wrong> {
+    let asks = write_asks(alloc, asks)?;
+    let outcome = write_outcome(alloc, &Some(outcome))?;
+    Ok(
+        Object::new(alloc)
+            .with("asks", asks)?
+            .with("outcome", outcome)?
+            .value(),
+    )
+}

@@ -1,0 +1,74 @@
+//! Recoverers.
+use crate::nodes::{read_map, read_told, write_asks, write_state_of};
+use crate::rows::Row;
+use crate::subject::{Subject, no_such_word, play_rows};
+use crate::wrong::Wrong;
+use fr_ask::Last;
+use fr_base::Bytes;
+use fr_epoch::{Phase, Recoverer};
+use fr_forms::fields::Fields;
+use fr_forms::write_state;
+use fr_state::CoordState;
+use serde_json::Value;
+use std::alloc::Global;
+
+/// Plays rows with a recoverer that heard nothing.
+pub(crate) fn play_recoverer(
+    alloc: Global,
+    made: Value,
+    rows: &[Row],
+    at: &mut usize,
+) -> Result<(), Wrong> {
+    let mut recoverer = read_recoverer(alloc, &mut Fields::new(made, 3))?;
+    play_rows(alloc, &mut recoverer, rows, at)
+}
+
+fn read_recoverer(alloc: Global, fields: &mut Fields) -> Result<Recoverer, Wrong> {
+    let ballot = fields.epoch("ballot")?;
+    let _above = ballot.get();
+    let coordinators = fields.index("coordinators", u8::MAX)?;
+    let map = read_map(alloc, fields)?;
+    Ok(Recoverer::begin(alloc, ballot.ballot(), coordinators, map))
+}
+
+impl Subject for Recoverer {
+    fn play(&mut self, alloc: Global, word: &str, given: Value) -> Result<Value, Wrong> {
+        match word {
+            "hear" => {
+                let (from, tell) = read_told(alloc, given)?;
+                write_asks(alloc, self.hear(alloc, from, tell)?.as_slice())
+            }
+            "pending" => write_asks(alloc, self.pending(alloc)?.as_slice()),
+            "state" => {
+                let phase = phase_text(alloc, self.copy(alloc)?.phase())?;
+                write_state_of(alloc, &Last::Recoverer { phase })
+            }
+            "generation" => generation(alloc, self),
+            _ => no_such_word("rows of a recoverer: hear, pending, state, generation"),
+        }
+    }
+}
+
+/// The generation that a recoverer is going to open, as the state of this one alone; null where there is none.
+fn generation(alloc: Global, recoverer: &Recoverer) -> Result<Value, Wrong> {
+    match recoverer.generation() {
+        Some(generation) => Ok(write_state(alloc, &CoordState::new(alloc, generation)?)?),
+        None => Ok(Value::Null),
+    }
+}
+
+/// The phase of a recoverer as text.
+fn phase_text(alloc: Global, phase: Phase) -> Result<Bytes, Wrong> {
+    let text = match phase {
+        Phase::Reading => String::from_str(alloc, "reading")?,
+        Phase::Locking => String::from_str(alloc, "locking")?,
+        Phase::Copying => String::from_str(alloc, "copying")?,
+        Phase::Writing => String::from_str(alloc, "writing")?,
+        Phase::Chosen { pev, rv } => {
+            let (pev, rv) = (pev.get(), rv.get());
+            format!(in alloc; "chosen pev {pev} rv {rv}")?
+        }
+        Phase::Lost { why } => format!(in alloc; "lost {why}")?,
+    };
+    Ok(Bytes::from_vec(text.into_bytes()))
+}

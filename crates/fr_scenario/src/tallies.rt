@@ -1,0 +1,54 @@
+//! The end of an epoch, as the replies of its logs tell it.
+use crate::nodes::{read_sizes, write_name};
+use crate::rows::Row;
+use crate::subject::{Subject, no_such_word, play_rows};
+use crate::wrong::Wrong;
+use fr_epoch::{EndTally, EpochEnd, Inconsistent, ReplyFault};
+use fr_forms::fields::Fields;
+use fr_forms::object::Object;
+use serde_json::Value;
+use std::alloc::Global;
+
+/// Plays rows with a tally that no log replied to.
+pub(crate) fn play_tally(
+    alloc: Global,
+    made: Value,
+    rows: &[Row],
+    at: &mut usize,
+) -> Result<(), Wrong> {
+    let (m, k) = read_sizes(&Fields::new(made, 2))?;
+    let mut tally = EndTally::new(m, k);
+    play_rows(alloc, &mut tally, rows, at)
+}
+
+impl Subject for EndTally {
+    fn play(&mut self, alloc: Global, word: &str, given: Value) -> Result<Value, Wrong> {
+        match word {
+            "reply" => reply(alloc, self, &Fields::new(given, 3)),
+            "state" => write_end(alloc, self.copy().end()),
+            _ => no_such_word("rows of an end_tally: reply, state"),
+        }
+    }
+}
+
+/// The end after a reply, or why the reply does not count.
+fn reply(alloc: Global, tally: &mut EndTally, fields: &Fields) -> Result<Value, Wrong> {
+    let log = fields.index("log", u8::MAX)?;
+    match tally.hear(log, fields.version("durable")?, fields.version("known")?) {
+        Ok(()) => write_end(alloc, tally.end()),
+        Err(ReplyFault::Stranger) => write_name(alloc, "Stranger"),
+        Err(ReplyFault::Differs) => write_name(alloc, "Differs"),
+    }
+}
+
+/// Null while the replies do not cover.
+fn write_end(alloc: Global, end: Result<Option<EpochEnd>, Inconsistent>) -> Result<Value, Wrong> {
+    match end {
+        Ok(None) => Ok(Value::Null),
+        Ok(Some(EpochEnd { pev, rv })) => {
+            let numbers = [("pev", pev.get()), ("rv", rv.get())];
+            Ok(Object::of(alloc, &numbers)?.value())
+        }
+        Err(Inconsistent) => write_name(alloc, "Inconsistent"),
+    }
+}

@@ -1,0 +1,37 @@
+//! Plays the scenarios of the folder, each file `NAME.md` but README.md, and prints a line for each scenario. It ends
+//! with status 1 where one does not hold.
+#![tactic(auto)]
+
+use fr_scenario::{Report, play_file};
+use std::alloc::Global;
+use std::process::ExitCode;
+use std::{fs, io};
+
+fn main(rt: HostRuntime) -> anyhow::Result<ExitCode> {
+    let alloc = rt.alloc();
+    let mut report = Report::new(alloc);
+    for name in &names_of(&rt, alloc)? {
+        let text = fs::read_to_string(&rt, name.as_str())?;
+        play_file(alloc, name.as_str(), text.as_str(), &mut report)?;
+    }
+    print!(rt; "{}", report.text())?;
+    Ok(if report.holds() {
+        ExitCode::SUCCESS
+    } else {
+        ExitCode::FAILURE
+    })
+}
+
+/// The names of the files, in order.
+fn names_of(rt: &HostRuntime, alloc: Global) -> io::Result<Vec<String>> {
+    let mut names = Vec::new(alloc);
+    for entry in fs::read_dir(rt, ".")? {
+        let entry = entry?;
+        let file = entry.file_name();
+        if file.ends_with(".md") && file != "README.md" {
+            names.push(String::from_str(alloc, file)?)?;
+        }
+    }
+    names.sort()?;
+    Ok(names)
+}
