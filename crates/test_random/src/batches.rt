@@ -8,7 +8,7 @@ use std::alloc::Global;
 fn key(alloc: Global, dice: &mut Dice) -> Result<Bytes, Memory> {
     let mut bytes = Vec::new(alloc);
     for _ in 0..dice.below(3) {
-        bytes.push(97 + dice.byte(4))?;
+        bytes.push(dice.byte(4).saturating_add(b'a'))?;
     }
     Ok(Bytes::from_vec(bytes))
 }

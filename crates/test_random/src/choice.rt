@@ -5,7 +5,7 @@ use fr_world::Event;
 /// Of which kind a chosen event is.
 #[derive(Clone, Copy, Debug, PartialEq, Eq)]
 pub(crate) enum Kind {
-    /// An ask that was not delivered yet, and its hear.
+    /// An ask that was not delivered yet.
     Ask,
     /// A tell that was not heard yet.
     Tell,

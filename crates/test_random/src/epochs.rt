@@ -80,7 +80,7 @@ pub(crate) fn log(dice: &mut Dice, world: &World, epoch: Epoch) -> LogId {
 /// A storage server.
 pub(crate) fn tag(dice: &mut Dice, world: &World) -> Option<Tag> {
     let shards = world.config().map().begins().len();
-    Tag::new(dice.place(shards) as u8)
+    Tag::new(u8::try_from(dice.place(shards)).ok()?)
 }
 
 /// A proxy of an epoch, sometimes one that it has not.

@@ -3,7 +3,9 @@ use anyhow::{Context, bail};
 use fr_ask::{Ask, Tell};
 use fr_audit_journal::{Act, Entry, Journal};
 use fr_audit_script::write_script;
-use fr_base::{Memory, NodeId, Stamp, Tag};
+use fr_base::{Memory, NodeId, Stamp, Step, Tag, Version};
+use fr_mutation::Batch;
+use fr_proxy::Outcome;
 use fr_world::{Turn, World};
 use std::alloc::Global;
 use std::collections::BTreeMap;
@@ -97,31 +99,60 @@ fn act_of(turn: &Turn) -> Result<Act, Memory> {
             ask,
             tell,
             ..
-        } => Ok(asked(*from, Ask::Cell(ask.copy()?), Tell::Cell(tell.copy()?))),
+        } => asked(*from, Ask::Cell(ask.copy()?), Tell::Cell(tell.copy()?)),
         Turn::Log {
             from,
             ask,
             tell,
             ..
-        } => Ok(asked(*from, Ask::Log(ask.copy()?), Tell::Log(tell.copy()?))),
+        } => asked(*from, Ask::Log(ask.copy()?), Tell::Log(tell.copy()?)),
         Turn::Sequencer {
             from,
             ask,
             tell,
             ..
-        } => Ok(asked(*from, Ask::Seq(*ask), Tell::Seq(*tell))),
-        Turn::Submitted { step, batch, .. } => Ok(Act::Submitted {
-            step: *step,
-            batch: batch.copy()?,
-        }),
+        } => asked(*from, Ask::Seq(*ask), Tell::Seq(*tell)),
+        Turn::Submitted { step, batch, .. } => submitted(*step, batch),
+        Turn::Proxy {
+            from,
+            tell,
+            outcome,
+            ..
+        } => heard(*from, tell, None, Some(*outcome)),
+        Turn::Recoverer { from, tell, .. } => heard(*from, tell, None, None),
+        Turn::Storage {
+            from,
+            tell,
+            taken,
+            ..
+        } => heard(*from, tell, *taken, None),
         Turn::Gone { node } => Ok(gone(node)),
         Turn::Crashed { .. } => Ok(Act::Crashed),
-        _ => heard_in(turn),
     }
 }
 
-fn asked(from: NodeId, ask: Ask, tell: Tell) -> Act {
-    Act::Asked { from, ask, tell }
+fn asked(from: NodeId, ask: Ask, tell: Tell) -> Result<Act, Memory> {
+    Ok(Act::Asked { from, ask, tell })
+}
+
+fn submitted(step: Step, batch: &Batch) -> Result<Act, Memory> {
+    let batch = batch.copy()?;
+    Ok(Act::Submitted { step, batch })
+}
+
+fn heard(
+    from: NodeId,
+    tell: &Tell,
+    taken: Option<Version>,
+    outcome: Option<Outcome>,
+) -> Result<Act, Memory> {
+    let tell = tell.copy()?;
+    Ok(Act::Heard {
+        from,
+        tell,
+        taken,
+        outcome,
+    })
 }
 
 /// A log that is gone is lost, another node crashed.
@@ -129,40 +160,5 @@ fn gone(node: &NodeId) -> Act {
     match node {
         NodeId::Log { .. } => Act::Lost,
         _ => Act::Crashed,
-    }
-}
-
-/// What a node heard in a turn.
-fn heard_in(turn: &Turn) -> Result<Act, Memory> {
-    match turn {
-        Turn::Proxy {
-            from,
-            tell,
-            outcome,
-            ..
-        } => Ok(Act::Heard {
-            from: *from,
-            tell: tell.copy()?,
-            taken: None,
-            outcome: Some(*outcome),
-        }),
-        Turn::Storage {
-            from,
-            tell,
-            taken,
-            ..
-        } => Ok(Act::Heard {
-            from: *from,
-            tell: tell.copy()?,
-            taken: *taken,
-            outcome: None,
-        }),
-        Turn::Recoverer { from, tell, .. } => Ok(Act::Heard {
-            from: *from,
-            tell: tell.copy()?,
-            taken: None,
-            outcome: None,
-        }),
-        _ => Ok(Act::Begun),
     }
 }
