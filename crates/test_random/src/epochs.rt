@@ -120,9 +120,10 @@ fn log_node(dice: &mut Dice, world: &World, epoch: Epoch) -> NodeId {
     NodeId::Log { epoch, index }
 }
 
-/// The recoverer of a ballot that was used.
+/// The recoverer of a ballot that was used: that of the greatest, or any.
 pub(crate) fn recoverer(dice: &mut Dice, seen: &Seen) -> Option<NodeId> {
-    let ballot = any_epoch(dice, seen)?.ballot();
+    let epoch = if dice.is_one_of(2) { newest(seen)? } else { any_epoch(dice, seen)? };
+    let ballot = epoch.ballot();
     Some(NodeId::Recoverer { ballot })
 }
 

@@ -25,11 +25,24 @@ fn coordinators(dice: &mut Dice) -> u8 {
     }
 }
 
+/// 1 to 16 logs: mostly 2 to 4.
+fn logs(dice: &mut Dice) -> u8 {
+    match dice.below(16) {
+        0 => 1,
+        1..=4 => 2,
+        5..=8 => 3,
+        9..=11 => 4,
+        12 => 5,
+        13 => 6,
+        _ => dice.byte(16).saturating_add(1),
+    }
+}
+
 /// The config of a seed.
 pub(crate) fn config(alloc: Global, seed: u64) -> anyhow::Result<Config> {
     let mut dice = Dice::new(seed, u64::MAX);
     let coordinators = coordinators(&mut dice);
-    let logs = few(&mut dice, 16);
+    let logs = logs(&mut dice);
     let degree = dice.byte(logs).saturating_add(1);
     let shards = few(&mut dice, 6);
     let proxies = few(&mut dice, 16);
