@@ -2,7 +2,7 @@
 
 import json
 
-from . import batches
+from . import batches, player
 from .rules import Fault
 from .run import Run, played
 
@@ -145,8 +145,28 @@ def passed_over(worlds, seeds):
     return False
 
 
+def turned(seeds, events, wrong):
+    """Whether a run in which nodes keep a wrong rule is named by the promises in some seed."""
+    for seed in seeds:
+        fault = found(player.text_of(seed, events, wrong), "promises")
+        if fault:
+            print(f"{wrong.__name__}, by promises, in played seed {seed}: {fault}")
+            return True
+    print(f"{wrong.__name__}: not found")
+    return False
+
+
+def is_right(seeds, events):
+    """Whether the readings find nothing where nodes keep the rules."""
+    faults = [found(player.text_of(seed, events), checks) for seed in seeds for checks in ("rules", "promises")]
+    print(f"{len(faults)} readings of what is played by the rules, {len(faults) - faults.count(None)} with a fault")
+    return faults.count(None) == len(faults)
+
+
 def test(worlds, seeds):
     """The status: 0 where each is found."""
-    good = [spoiled(worlds, seeds, *each) for each in SPOILS] + [passed_over(worlds, seeds)]
-    print(f"{sum(good)} of {len(good)} found")
+    good = [is_right(seeds[:10], worlds.events)]
+    good += [turned(seeds, worlds.events, wrong) for wrong in player.WRONG]
+    good += [spoiled(worlds, seeds, *each) for each in SPOILS] + [passed_over(worlds, seeds)]
+    print(f"{sum(good)} of {len(good)} as it is to be")
     return 0 if all(good) else 1
