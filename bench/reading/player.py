@@ -18,12 +18,13 @@ def commit_by_half(proxy, node, tell):
     return outcome
 
 
-def greatest_held(recoverer):
-    """The next epoch takes over through the greatest version that a reply names."""
-    if len(recoverer.replies) > recoverer.m - recoverer.k:
-        most = max(durable for durable, _ in recoverer.replies.values())
-        recoverer.replies = {at: (most, known) for at, (_, known) in recoverer.replies.items()}
+def known_alone(recoverer):
+    """The next epoch takes over what is known to be committed, and not all that may be."""
+    replies = recoverer.replies
+    pev = max(known for _, known in replies.values())
+    recoverer.replies = {at: (pev, known) for at, (_, known) in replies.items()}
     RIGHT[rules.Recoverer, "plan"](recoverer)
+    recoverer.replies = replies
 
 
 def below_promise(cell, name, what):
@@ -56,7 +57,7 @@ def past_the_end(storage, epoch, peeked, taken):
 
 WRONG = {
     commit_by_half: (rules.Proxy, "hear"),
-    greatest_held: (rules.Recoverer, "plan"),
+    known_alone: (rules.Recoverer, "plan"),
     below_promise: (rules.Cell, "ask"),
     never_stopped: (rules.Log, "lock"),
     newest_cut: (rules.Storage, "hear_marked"),
@@ -82,6 +83,7 @@ class Player:
         self.nodes = nodes.Nodes(self.config)
         self.sent, self.told, self.lines, self.journals = [], [], [], {}
         self.rows = [[(0, {})] for _ in self.config["shards"]]
+        self.weights = {**self.WEIGHTS, "pull": dice.choice([30, 120]), "begin": dice.choice([2, 4, 8])}
         self.round = 1
         self.stamp = 0
 
@@ -211,16 +213,13 @@ class Player:
 
     def event(self, number):
         """One event of a kind that is drawn; nothing where there is none of it."""
-        kinds, weights = zip(*self.WEIGHTS.items())
-        getattr(self, self.dice.choices(kinds, weights)[0])(number)
+        getattr(self, self.dice.choices(list(self.weights), self.weights.values())[0])(number)
 
     WEIGHTS = {
         "ask": 350,
         "tell": 350,
         "submit": 80,
-        "pull": 120,
         "mark": 40,
-        "begin": 3,
         "again": 20,
         "drop": 20,
     }

@@ -33,6 +33,28 @@ pub(crate) enum Kind {
     Lose,
 }
 
+/// What a world is like.
+#[derive(Clone, Copy, Debug, PartialEq, Eq)]
+pub(crate) enum Weather {
+    /// Little goes wrong.
+    Quiet,
+    /// Storage servers ask seldom.
+    Slow,
+    /// There are many recoverers, strays, losses and crashes.
+    Stormy,
+}
+
+impl Weather {
+    /// That of a seed: the three by turns.
+    pub(crate) fn of(seed: u64) -> Weather {
+        match seed % 3 {
+            0 => Weather::Stormy,
+            1 => Weather::Quiet,
+            _ => Weather::Slow,
+        }
+    }
+}
+
 impl Kind {
     /// The name in a line.
     pub(crate) fn name(self) -> &'static str {
@@ -55,13 +77,13 @@ impl Kind {
         }
     }
 
-    /// A kind, by the weights of a quiet world or of a stormy one.
-    pub(crate) fn draw(dice: &mut Dice, is_stormy: bool) -> Kind {
+    /// A kind, by the weights of a world.
+    pub(crate) fn draw(dice: &mut Dice, weather: Weather) -> Kind {
         let number = dice.below(1000);
-        if is_stormy {
-            stormy(number)
-        } else {
-            quiet(number)
+        match weather {
+            Weather::Quiet => quiet(number),
+            Weather::Slow => slow(number),
+            Weather::Stormy => stormy(number),
         }
     }
 }
@@ -82,6 +104,26 @@ fn quiet(number: u32) -> Kind {
         972..=976 => Kind::StrayTell,
         977..=996 => Kind::Drop,
         997 | 998 => Kind::Crash,
+        _ => Kind::Lose,
+    }
+}
+
+/// The kind of a number below 1,000 in a world whose storage servers are slow: they often lag behind.
+fn slow(number: u32) -> Kind {
+    match number {
+        0..=349 => Kind::Ask,
+        350..=699 => Kind::Tell,
+        700..=799 => Kind::Submit,
+        800..=829 => Kind::Pull,
+        830..=869 => Kind::Mark,
+        870..=959 => Kind::Again,
+        960..=963 => Kind::Begin,
+        964..=968 => Kind::LateAsk,
+        969..=973 => Kind::LateTell,
+        974..=976 => Kind::StrayAsk,
+        977..=979 => Kind::StrayTell,
+        980..=997 => Kind::Drop,
+        998 => Kind::Crash,
         _ => Kind::Lose,
     }
 }

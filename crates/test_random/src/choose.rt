@@ -1,5 +1,5 @@
 //! The next event.
-use crate::choice::{Choice, Kind};
+use crate::choice::{Choice, Kind, Weather};
 use crate::dice::Dice;
 use crate::seen::Seen;
 use crate::{chosen, messages};
@@ -11,11 +11,11 @@ use std::alloc::Global;
 pub(crate) fn choose(
     alloc: Global,
     dice: &mut Dice,
-    is_stormy: bool,
+    weather: Weather,
     world: &World,
     seen: &mut Seen,
 ) -> anyhow::Result<Choice> {
-    match Kind::draw(dice, is_stormy) {
+    match Kind::draw(dice, weather) {
         Kind::Submit => chosen::submit(alloc, dice, world, seen),
         Kind::Again => Ok(chosen::again(alloc, dice, world, seen)?),
         Kind::Pull => Ok(chosen::pull(dice, world, seen)),

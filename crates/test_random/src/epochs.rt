@@ -122,7 +122,11 @@ fn log_node(dice: &mut Dice, world: &World, epoch: Epoch) -> NodeId {
 
 /// The recoverer of a ballot that was used: that of the greatest, or any.
 pub(crate) fn recoverer(dice: &mut Dice, seen: &Seen) -> Option<NodeId> {
-    let epoch = if dice.is_one_of(2) { newest(seen)? } else { any_epoch(dice, seen)? };
+    let epoch = if dice.is_one_of(2) {
+        newest(seen)?
+    } else {
+        any_epoch(dice, seen)?
+    };
     let ballot = epoch.ballot();
     Some(NodeId::Recoverer { ballot })
 }

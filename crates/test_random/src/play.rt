@@ -1,5 +1,5 @@
 //! A world is played.
-use crate::choice::Choice;
+use crate::choice::{Choice, Weather};
 use crate::choose::choose;
 use crate::dice::Dice;
 use crate::journals::put_script;
@@ -40,11 +40,11 @@ fn put_events<W: Write>(
 ) -> anyhow::Result<()> {
     let first = Epoch::new(257).context("no epoch")?;
     let mut seen = Seen::new(alloc, first)?;
-    let is_stormy = plan.seed % 3 == 0;
+    let weather = Weather::of(plan.seed);
     for number in 0..plan.events {
         if !plan.is_without(number) {
             let mut dice = Dice::new(plan.seed, number);
-            let choice = choose(alloc, &mut dice, is_stormy, world, &mut seen)?;
+            let choice = choose(alloc, &mut dice, weather, world, &mut seen)?;
             put_event(alloc, world, &mut seen, number, &choice, writer)?;
         }
     }

@@ -110,14 +110,14 @@ pub(crate) fn tell_at(world: &World, number: usize) -> Result<Option<Letter<Tell
 
 fn tell_in(turn: &Turn) -> Result<Option<Letter<Tell>>, Memory> {
     match turn {
-        Turn::Cell { from, tell, .. } => letter(turn, *from, Tell::Cell(tell.copy()?)),
-        Turn::Log { from, tell, .. } => letter(turn, *from, Tell::Log(tell.copy()?)),
-        Turn::Sequencer { from, tell, .. } => letter(turn, *from, Tell::Seq(*tell)),
+        Turn::Cell { from, tell, .. } => told_in(turn, *from, Tell::Cell(tell.copy()?)),
+        Turn::Log { from, tell, .. } => told_in(turn, *from, Tell::Log(tell.copy()?)),
+        Turn::Sequencer { from, tell, .. } => told_in(turn, *from, Tell::Seq(*tell)),
         _ => Ok(None),
     }
 }
 
-fn letter(turn: &Turn, to: NodeId, what: Tell) -> Result<Option<Letter<Tell>>, Memory> {
+fn told_in(turn: &Turn, to: NodeId, what: Tell) -> Result<Option<Letter<Tell>>, Memory> {
     Ok(Some(Letter {
         from: turn.node(),
         to,
