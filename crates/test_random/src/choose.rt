@@ -15,7 +15,7 @@ pub(crate) fn choose(
     world: &World,
     seen: &mut Seen,
 ) -> anyhow::Result<Choice> {
-    match Kind::draw(dice, weather) {
+    match possible(Kind::draw(dice, weather), seen) {
         Kind::Submit => chosen::submit(alloc, dice, world, seen),
         Kind::Again => Ok(chosen::again(alloc, dice, world, seen)?),
         Kind::Pull => Ok(chosen::pull(dice, world, seen)),
@@ -24,6 +24,15 @@ pub(crate) fn choose(
         Kind::Crash => Ok(chosen::crash(dice, world, seen)),
         Kind::Lose => Ok(chosen::lose(dice, world, seen)),
         kind => Ok(message(dice, kind, world, seen)?),
+    }
+}
+
+/// The kind that was drawn; where no ask is under way a node asks again, and where no tell is a storage server pulls.
+fn possible(kind: Kind, seen: &Seen) -> Kind {
+    match kind {
+        Kind::Ask if seen.new_asks.is_empty() => Kind::Again,
+        Kind::Tell if seen.new_tells.is_empty() => Kind::Pull,
+        _ => kind,
     }
 }
 

@@ -122,10 +122,10 @@ fn log_node(dice: &mut Dice, world: &World, epoch: Epoch) -> NodeId {
 
 /// The recoverer of a ballot that was used: that of the greatest, or any.
 pub(crate) fn recoverer(dice: &mut Dice, seen: &Seen) -> Option<NodeId> {
-    let epoch = if dice.is_one_of(2) {
-        newest(seen)?
-    } else {
+    let epoch = if dice.is_one_of(4) {
         any_epoch(dice, seen)?
+    } else {
+        newest(seen)?
     };
     let ballot = epoch.ballot();
     Some(NodeId::Recoverer { ballot })
