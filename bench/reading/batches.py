@@ -1,0 +1,132 @@
+"""Mutations, batches and shards, and the coordinated state, by docs/PROTOCOL.md and docs/FORMATS.md: maps are dicts of
+bytes, a batch is the list of its mutations as the JSON of a script has them."""
+
+
+def hexed(text):
+    return bytes.fromhex(text)
+
+
+def fitted(old, length):
+    """The value before, cut or filled up with zeros at its end."""
+    return (old or b"")[:length].ljust(length, b"\0")
+
+
+def combined(name, old, param):
+    """The value after a combination."""
+    size = len(param)
+    if name == "and" and old is None:
+        return param
+    a, b = int.from_bytes(fitted(old, size), "little"), int.from_bytes(param, "little")
+    number = {
+        "add": (a + b) % 256**size,
+        "and": a & b,
+        "or": a | b,
+        "xor": a ^ b,
+        "max": max(a, b),
+        "min": b if old is None else min(a, b),
+    }[name]
+    return number.to_bytes(size, "little")
+
+
+class Shard:
+    """The keys from a begin up to an end; no end is above all keys."""
+
+    def __init__(self, begin, end):
+        self.begin, self.end = begin, end
+
+    def has(self, key):
+        return self.begin <= key and (self.end is None or key < self.end)
+
+    def touches(self, mutation):
+        """Whether a mutation acts on some key of the shard."""
+        ((name, what),) = mutation.items()
+        if name != "clear":
+            return self.has(hexed(what["key"]))
+        begin, end = max(hexed(what["begin"]), self.begin), hexed(what["end"])
+        return begin < (end if self.end is None else min(end, self.end))
+
+    def clip(self, batch):
+        """The part of a batch that acts on the shard, as a log holds it."""
+        found = []
+        for mutation in batch:
+            if not self.touches(mutation):
+                continue
+            if "clear" in mutation:
+                begin, end = hexed(mutation["clear"]["begin"]), hexed(mutation["clear"]["end"])
+                end = end if self.end is None else min(end, self.end)
+                mutation = {"clear": {"begin": max(begin, self.begin).hex(), "end": end.hex()}}
+            found.append(mutation)
+        return found
+
+
+def shards(begins):
+    """The shards that begin at these keys, in hex."""
+    keys = [hexed(each) for each in begins]
+    return [Shard(begin, end) for begin, end in zip(keys, keys[1:] + [None])]
+
+
+def after(contents, batch, shard):
+    """What a batch makes of the contents of a shard. It is read off the whole batch, and not off its clipped part."""
+    made = dict(contents)
+    for mutation in batch:
+        ((name, what),) = mutation.items()
+        if name == "clear":
+            begin, end = hexed(what["begin"]), hexed(what["end"])
+            for key in [key for key in made if begin <= key < end]:
+                del made[key]
+            continue
+        key = hexed(what["key"])
+        if shard.has(key):
+            made[key] = hexed(what["value"]) if name == "set" else combined(name, made.get(key), hexed(what["param"]))
+    return made
+
+
+def state_of(text):
+    """The generations that a value of a cell spells, each (epoch, m, k, first, seeded_to)."""
+    data = hexed(text)
+    if len(data) < 2 or data[0] != 1 or len(data) != 2 + 26 * data[1]:
+        raise ValueError("no coordinated state")
+    found = []
+    for at in range(2, len(data), 26):
+        number = lambda a, b: int.from_bytes(data[at + a : at + b], "big")
+        found.append((number(0, 8), number(8, 9), number(9, 10), number(10, 18), number(18, 26)))
+    return found
+
+
+def bytes_of(state):
+    """The bytes of generations, in hex."""
+    parts = [bytes([1, len(state)])]
+    for epoch, m, k, first, seeded_to in state:
+        parts.append(epoch.to_bytes(8, "big") + bytes([m, k]) + first.to_bytes(8, "big") + seeded_to.to_bytes(8, "big"))
+    return b"".join(parts).hex()
+
+
+def state_in(items):
+    """The generations of a state in a script's JSON."""
+    return [(it["epoch"], it["m"], it["k"], it["first"], it["seeded_to"]) for it in items]
+
+
+def json_of(state):
+    return [{"epoch": e, "m": m, "k": k, "first": f, "seeded_to": s} for e, m, k, f, s in state]
+
+
+def cut_of(state, epoch):
+    """The version through which the generation after an epoch took over; none of the last one."""
+    places = [at for at, gen in enumerate(state) if gen[0] == epoch]
+    if not places or places[0] + 1 == len(state):
+        return None
+    return state[places[0] + 1][4]
+
+
+def end_of(state, epoch):
+    """The last version of a generation's own: that before the next one's first."""
+    places = [at for at, gen in enumerate(state) if gen[0] == epoch]
+    if not places or places[0] + 1 == len(state):
+        return None
+    return state[places[0] + 1][3] - 1
+
+
+def source_of(state, version):
+    """The last generation that starts at or below a version."""
+    found = [gen for gen in state if gen[3] <= version]
+    return found[-1][0] if found else None

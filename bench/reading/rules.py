@@ -1,0 +1,329 @@
+"""The nodes by the rules of docs/PROTOCOL.md: what each tells, and where it then stands. A reading of its own, which
+shares nothing with the crates but the rules. `Rules.take` makes one act, and complains where what is told, the outcome
+or the fault is another than the rules say."""
+
+from . import batches
+
+FIRST = 257
+
+
+class Fault(Exception):
+    """What the rules or the promises do not allow."""
+
+
+def want(is_so, *what):
+    if not is_so:
+        raise Fault(" ".join(str(each) for each in what))
+
+
+def refused(name, **what):
+    return {"refused": {"why": {name: what}}}
+
+
+class Log:
+    """A log of a generation."""
+
+    def __init__(self, epoch, index, m, k):
+        self.epoch, self.index, self.m, self.k = epoch, index, m, k
+        self.seed = None
+        self.pushes = {}
+        self.records = {}
+        self.durable = self.known = 0
+        self.stopped = False
+
+    def holds(self, tag):
+        return (self.index - tag) % self.m < self.k
+
+    def start(self, state):
+        """As at the start of a world: seeded, with the mark at version 1."""
+        self.take_seed({"epoch": self.epoch, "first": 1, "seeded_to": 0, "records": []})
+        mark = {"bodies": [], "epoch": self.epoch, "known": 0, "prev": 0, "version": 1, "mark": batches.json_of(state)}
+        self.ask("push", mark)
+
+    def take_seed(self, seed):
+        self.seed = seed
+        self.durable, self.known = seed["seeded_to"], seed["first"] - 1
+        for record in seed["records"]:
+            self.records.setdefault(record["tag"], []).append((record["version"], record["batch"]))
+
+    def ask(self, name, what):
+        if what["epoch"] != self.epoch:
+            return refused("wrong_epoch")
+        if name == "seed":
+            return self.seeded(what)
+        if self.seed is None:
+            return refused("unseeded")
+        return getattr(self, name)(what)
+
+    def seeded(self, seed):
+        if any(not self.holds(record["tag"]) for record in seed["records"]):
+            return refused("not_mine")
+        if self.seed is None:
+            self.take_seed(seed)
+        return {"seeded": {}} if self.seed == seed else refused("seed_differs")
+
+    def push(self, push):
+        held = self.pushes.get(push["version"])
+        if held is not None and all(held[name] == push[name] for name in ("prev", "bodies", "mark")):
+            return {"held": {"version": push["version"]}}
+        if self.stopped:
+            return refused("stopped")
+        seeded_to = self.seed["seeded_to"]
+        if push["prev"] < self.durable or push["mark"] is not None and push["prev"] != seeded_to:
+            return refused("stale")
+        if push["prev"] > self.durable:
+            return refused("gap", durable=self.durable)
+        if any(not self.holds(tag) for tag, _ in push["bodies"]):
+            return refused("not_mine")
+        if push["mark"] is None and self.durable == seeded_to:
+            return refused("no_mark")
+        self.pushes[push["version"]] = push
+        self.durable, self.known = push["version"], max(self.known, push["known"])
+        for tag, batch in push["bodies"]:
+            self.records.setdefault(tag, []).append((push["version"], batch))
+        return {"held": {"version": push["version"]}}
+
+    def lock(self, _):
+        self.stopped = True
+        return {"locked": {"durable": self.durable, "known": self.known}}
+
+    def peek(self, peek):
+        if not self.holds(peek["tag"]):
+            return refused("not_mine")
+        first = self.seed["first"]
+        if peek["after"] < first - 1:
+            return refused("too_early", first=first)
+        above = [each for each in self.records.get(peek["tag"], []) if each[0] > peek["after"]]
+        given = above[: peek["most"]]
+        upto = given[-1][0] if len(above) > len(given) else self.durable
+        records = [{"batch": batch, "version": version} for version, batch in given]
+        return {"peeked": {"after": peek["after"], "known": self.known, "records": records, "tag": peek["tag"], "upto": upto}}
+
+    def mark_asked(self, _):
+        for push in self.pushes.values():
+            if push["mark"] is not None:
+                return {"marked": {"state": push["mark"]}}
+        return refused("no_mark")
+
+    def last(self):
+        seeded = self.seed is not None
+        return {"durable": self.durable, "known": self.known, "seeded": seeded, "stopped": self.stopped}
+
+
+class Cell:
+    """A coordinator's cell."""
+
+    def __init__(self, value):
+        self.promised = self.written = FIRST
+        self.value = value
+
+    def ask(self, name, what):
+        ballot = what["ballot"]
+        if ballot < self.promised:
+            return {"refused": {"promised": self.promised}}
+        if name == "read":
+            self.promised = ballot
+            return {"promise": {"value": self.value, "written": self.written}}
+        if self.written == ballot and self.value != what["value"]:
+            return {"two_values": {}}
+        self.promised = self.written = ballot
+        self.value = what["value"]
+        return {"written": {"ballot": ballot}}
+
+    def last(self):
+        return {"promised": self.promised, "value": self.value, "written": self.written}
+
+
+class Sequencer:
+    """The one that numbers the batches of an epoch."""
+
+    def __init__(self, last):
+        self.latest = last
+        self.given = {}
+
+    def ask(self, _, what):
+        given = self.given.get(what["proxy"], {"request": 0})
+        if what["request"] == given["request"]:
+            return {"numbered": given}
+        if what["request"] != given["request"] + 1:
+            return refused("out_of_turn")
+        if self.latest + what["step"] >= 2**62:
+            return refused("spent")
+        given = {"prev": self.latest, "request": what["request"], "version": self.latest + what["step"]}
+        self.given[what["proxy"]], self.latest = given, given["version"]
+        return {"numbered": given}
+
+    def last(self):
+        return {"last": self.latest}
+
+
+class Proxy:
+    """One of those that commit batches."""
+
+    def __init__(self, epoch, m, known):
+        self.epoch, self.m, self.known = epoch, m, known
+        self.request = 0
+        self.open = self.ended = False
+        self.place = None
+        self.held = set()
+
+    def submit(self):
+        want(not self.open and not self.ended, "a proxy took a batch while one was under way, or after its end")
+        self.open, self.place, self.held = True, None, set()
+        self.request += 1
+
+    def hear(self, node, tell):
+        ((kind, what),) = tell.items()
+        ((name, said),) = what.items()
+        why = next(iter(said["why"])) if name == "refused" and "why" in said else None
+        is_sequencer = node == {"sequencer": {"epoch": self.epoch}}
+        is_log = "log" in node and node["log"]["epoch"] == self.epoch and node["log"]["index"] < self.m
+        if not self.open:
+            return {"waiting": {}}
+        if is_sequencer and name == "numbered" and self.place is None and said["request"] == self.request:
+            if self.known <= said["prev"] < said["version"] <= said["prev"] + 1000000:
+                self.place = said["version"]
+        elif is_sequencer and why == "spent" or is_log and kind == "log" and why == "stopped":
+            self.open, self.ended = False, True
+            return {"ended": {}}
+        elif is_log and name == "held" and self.place is not None and said["version"] == self.place:
+            self.held.add(node["log"]["index"])
+            if len(self.held) == self.m:
+                self.open, self.known = False, self.place
+                return {"committed": {"version": self.place}}
+        return {"waiting": {}}
+
+    def last(self):
+        return {"known": self.known}
+
+
+class Recoverer:
+    """One attempt to open the next epoch."""
+
+    def __init__(self, ballot, config):
+        self.ballot, self.cells = ballot, config["coordinators"]
+        self.m, self.k, self.tags = config["logs"], config["degree"], len(config["shards"])
+        self.phase = "reading"
+        self.reads, self.replies, self.written, self.seeded = {}, {}, set(), set()
+        self.refused_reads = set()
+        self.parent = self.state = self.pev = self.rv = None
+        self.reached = []
+
+    def is_majority(self, heard):
+        return 2 * len(heard) > self.cells
+
+    def is_copied(self):
+        return self.rv is not None and all(each >= self.rv for each in self.reached)
+
+    def hear(self, node, tell):
+        ((kind, what),) = tell.items()
+        ((name, said),) = what.items()
+        ((place, where),) = node.items()
+        if kind == "cell" and place == "cell" and where["index"] < self.cells:
+            self.hear_cell(where["index"], name, said)
+        elif kind == "log" and place == "log":
+            self.hear_log(where["epoch"], where["index"], name, said)
+
+    def hear_cell(self, index, name, said):
+        if self.phase not in ("reading", "writing"):
+            return
+        if name in ("refused", "two_values"):
+            if self.phase == "writing" and index in self.written:
+                return
+            if self.phase == "reading" and index in self.reads:
+                return
+            self.phase = "lost " + ("Outballoted" if name == "refused" else "TwoValues")
+        elif self.phase == "reading" and name == "promise" and index not in self.reads:
+            self.reads[index] = (said["written"], said["value"])
+            if self.is_majority(self.reads):
+                self.parent = batches.state_of(max(self.reads.values(), key=lambda each: each[0])[1])
+                self.phase = "locking"
+        elif self.phase == "writing" and name == "written" and said["ballot"] == self.ballot:
+            self.written.add(index)
+            if self.is_majority(self.written):
+                self.phase = f"chosen pev {self.pev} rv {self.rv}"
+
+    def hear_log(self, epoch, index, name, said):
+        old = self.parent[-1][0] if self.parent else None
+        if self.phase == "locking" and name == "locked" and epoch == old and index < self.m:
+            self.replies.setdefault(index, (said["durable"], said["known"]))
+            if len(self.replies) > self.m - self.k:
+                self.plan()
+        elif self.phase == "copying" and name == "peeked" and epoch == old and index in self.replies:
+            tag = said["tag"]
+            if (index - tag) % self.m < self.k and said["after"] == self.reached[tag]:
+                self.reached[tag] = max(self.reached[tag], min(said["upto"], self.rv))
+        elif self.phase == "copying" and name == "seeded" and epoch == self.ballot and self.is_copied():
+            self.seeded.add(index)
+            if len(self.seeded) == self.m:
+                self.phase = "writing"
+
+    def plan(self):
+        """What the replies say, once they cover."""
+        self.pev = max(known for _, known in self.replies.values())
+        self.rv = min(durable for durable, _ in self.replies.values())
+        want(self.pev <= self.rv, "the replies of one epoch's logs are inconsistent")
+        if self.rv + 1 >= 2**62:
+            self.phase = "lost Spent"
+        elif self.ballot <= self.parent[-1][0]:
+            self.phase = "lost NotLater"
+        elif len(self.parent) == 64:
+            self.phase = "lost TooMany"
+        else:
+            self.phase = "copying"
+            self.state = self.parent + [(self.ballot, self.m, self.k, self.pev + 1, self.rv)]
+            self.reached = [self.pev] * self.tags
+
+    def last(self):
+        return {"phase": self.phase}
+
+
+class Storage:
+    """Where a storage server stands, without its rows."""
+
+    def __init__(self, state):
+        self.state = state
+        self.version = self.floor = 0
+
+    def hear(self, node, tell, taken):
+        """Why it does not take it."""
+        ((_, what),) = tell.items()
+        ((name, said),) = what.items()
+        if "log" not in node or name not in ("peeked", "marked"):
+            return None
+        if name == "marked":
+            return self.hear_marked(batches.state_in(said["state"]), taken)
+        return self.hear_peeked(node["log"]["epoch"], said, taken)
+
+    def hear_marked(self, state, taken):
+        own = self.state[-1][0]
+        if state[-1][0] < own:
+            return "Older"
+        if state[: len(self.state)] != self.state:
+            return "Stranger"
+        cut = batches.cut_of(state, own)
+        if cut is not None and cut < self.floor:
+            return "BelowFloor"
+        if cut is not None:
+            undone = min(self.version, cut)
+            want(taken is None or taken in (self.version, undone), "a mark's hear broke off elsewhere")
+            if taken is None:
+                self.state = state
+            self.version = undone if taken is None else taken
+        return None
+
+    def hear_peeked(self, epoch, peeked, taken):
+        if epoch != batches.source_of(self.state, self.version + 1):
+            return "NotMyGeneration"
+        if peeked["after"] > self.version:
+            return "Hole"
+        end = batches.end_of(self.state, epoch)
+        within = lambda version: version if end is None else min(version, end)
+        stops = [self.version]
+        stops += [each["version"] for each in peeked["records"] if self.version < each["version"] == within(each["version"])]
+        stops.append(max(stops[-1], within(peeked["upto"])))
+        want(taken is None or taken in stops, "a peek's hear broke off elsewhere")
+        self.version = stops[-1] if taken is None else taken
+        if taken is None:
+            self.floor = max(self.floor, min(peeked["known"], self.version))
+        return None

@@ -1,0 +1,50 @@
+//! The next event.
+use crate::choice::{Choice, Kind, Weather};
+use crate::dice::Dice;
+use crate::seen::Seen;
+use crate::{chosen, messages};
+use fr_base::Memory;
+use fr_world::World;
+use std::alloc::Global;
+
+/// Chooses what is to happen next in a world.
+pub(crate) fn choose(
+    alloc: Global,
+    dice: &mut Dice,
+    weather: Weather,
+    world: &World,
+    seen: &mut Seen,
+) -> anyhow::Result<Choice> {
+    match possible(Kind::draw(dice, weather), seen) {
+        Kind::Submit => chosen::submit(alloc, dice, world, seen),
+        Kind::Again => Ok(chosen::again(alloc, dice, world, seen)?),
+        Kind::Pull => Ok(chosen::pull(dice, world, seen)),
+        Kind::Mark => Ok(chosen::mark(dice, world, seen)),
+        Kind::Begin => Ok(chosen::begin(dice, seen)),
+        Kind::Crash => Ok(chosen::crash(dice, world, seen)),
+        Kind::Lose => Ok(chosen::lose(dice, world, seen)),
+        kind => Ok(message(dice, kind, world, seen)?),
+    }
+}
+
+/// The kind that was drawn; where no ask is under way a node asks again, and where no tell is a storage server pulls.
+fn possible(kind: Kind, seen: &Seen) -> Kind {
+    match kind {
+        Kind::Ask if seen.new_asks.is_empty() => Kind::Again,
+        Kind::Tell if seen.new_tells.is_empty() => Kind::Pull,
+        _ => kind,
+    }
+}
+
+/// A message of a kind.
+fn message(dice: &mut Dice, kind: Kind, world: &World, seen: &mut Seen) -> Result<Choice, Memory> {
+    match kind {
+        Kind::Ask => messages::new_ask(dice, world, seen),
+        Kind::LateAsk => messages::late_ask(dice, world, seen),
+        Kind::StrayAsk => messages::stray_ask(dice, world, seen),
+        Kind::LateTell => messages::late_tell(dice, world, seen),
+        Kind::StrayTell => messages::stray_tell(dice, world, seen),
+        Kind::Drop => Ok(messages::lost(dice, seen)),
+        _ => messages::new_tell(dice, world, seen),
+    }
+}
