@@ -80,7 +80,8 @@ macro_rules! object {
                         f.write_str(concat!("an object that is a ", stringify!($Name)))
                     }
 
-                    #[allow(unused_mut, unused_variables)]
+                    // An object without members uses neither.
+                    #[allow(unused_imports, unused_variables)]
                     fn visit_map<A: serde::de::MapAccess<'de>>(self, mut map: A) -> Result<$Name, A::Error> {
                         use serde::de::Error;
                         const NAMES: &[&str] = &[$(stringify!($field)),*];

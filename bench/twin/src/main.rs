@@ -16,9 +16,12 @@ mod simulate;
 mod state;
 mod storage;
 mod store;
+mod world;
+
+#[cfg(test)]
+mod example_tests;
 #[cfg(test)]
 mod tests;
-mod world;
 
 use std::env;
 use std::ffi::OsString;

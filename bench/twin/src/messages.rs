@@ -370,10 +370,10 @@ pub enum SequencerTell {
     OutOfTurn,
 }
 
-struct SequencerAsk(Next);
+pub struct SequencerAsk(Next);
 
 #[derive(Clone, Copy)]
-enum SequencerRefusal {
+pub enum SequencerRefusal {
     Spent,
     OutOfTurn,
 }

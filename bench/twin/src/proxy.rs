@@ -80,10 +80,6 @@ impl Proxy {
         Some(self.open.as_ref()?.pushes.first()?.version)
     }
 
-    pub fn is_open(&self) -> bool {
-        self.open.is_some()
-    }
-
     /// Takes a batch, and asks the sequencer for its number.
     pub fn submit(&mut self, step: u64, batch: Rc<Batch>) -> Result<Next, SubmitFault> {
         if self.open.is_some() {
@@ -111,13 +107,15 @@ impl Proxy {
         let is_sequencer = from == NodeId::Sequencer(self.generation.epoch);
         match (tell, log) {
             (Tell::Sequencer(SequencerTell::Numbered { request, prev, version }), None) if is_sequencer => {
-                let is_wanted = open.pushes.is_empty() && *request == open.request.request;
-                let pushes = pushes_of(&self.generation, &self.shards, self.known, open, *prev, *version);
-                if is_wanted && pushes[0].is_right() {
-                    open.pushes = pushes;
-                    return (Outcome::Waiting, true);
+                if !open.pushes.is_empty() || *request != open.request.request {
+                    return (Outcome::Waiting, false);
                 }
-                (Outcome::Waiting, false)
+                let pushes = pushes_of(&self.generation, &self.shards, self.known, open, *prev, *version);
+                let is_numbered = pushes[0].is_right();
+                if is_numbered {
+                    open.pushes = pushes;
+                }
+                (Outcome::Waiting, is_numbered)
             }
             (Tell::Sequencer(SequencerTell::Spent), None) if is_sequencer => self.end(),
             (Tell::Log(LogTell::Refused(LogRefusal::Stopped)), Some(_)) => self.end(),

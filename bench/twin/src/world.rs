@@ -193,16 +193,6 @@ impl World {
         self.storages.get(usize::from(tag))
     }
 
-    pub fn is_gone(&self, node: NodeId) -> bool {
-        match node {
-            NodeId::Cell(_) | NodeId::Storage(_) => false,
-            NodeId::Log(id) => self.logs.get(&id).is_some_and(|node| node.gone),
-            NodeId::Sequencer(epoch) => self.sequencers.get(&epoch).is_some_and(|node| node.gone),
-            NodeId::Proxy(epoch, number) => self.proxies.get(&(epoch, number)).is_some_and(|node| node.gone),
-            NodeId::Recoverer(ballot) => self.recoverers.get(&ballot).is_some_and(|node| node.gone),
-        }
-    }
-
     /// A recoverer begins. Ballot 0 is nobody's, and that of the first epoch was used before the start.
     pub fn begin(&mut self, ballot: u64) -> Result<(), NotEnabled> {
         if ballot == 0 || ballot == FIRST_EPOCH || self.recoverers.contains_key(&ballot) {
