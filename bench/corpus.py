@@ -1,12 +1,13 @@
 """The scripts that stand in the repository, and made ones, for bench/fuzz and bench/twins."""
+import importlib.machinery
+import importlib.util
 import os
-import re
 import subprocess
 import tempfile
 
 BENCH = os.path.dirname(os.path.realpath(__file__))
 TOP = os.path.dirname(BENCH)
-MEMBERS = {"apply": b'"ops"', "end": b'"replies"', "simulate": b'"steps"', "audit": b'"journals"'}
+COMMANDS = ("apply", "end", "simulate", "audit")
 # Scripts that are made: by what, with which words, for which command.
 MADE = [("scripts", [kind, "30", "1"], "apply") for kind in ("small", "undos", "forgets")]
 MADE += [("steps", ["chaos", "40", str(seed)], "simulate") for seed in range(1, 9)]
@@ -16,7 +17,7 @@ MADE += [("journals", ["60"], "audit")]
 
 def corpus(made=()):
     """Of each command that reads: the words of examples, and scripts of the examples, of tests, and made ones."""
-    found = {name: ([], []) for name in MEMBERS}
+    found = {name: ([], []) for name in COMMANDS}
     data = os.path.join(TOP, "crates", "example_scripts", "data")
     for name in sorted(os.listdir(data)):
         if not name.endswith(".json"):
@@ -26,10 +27,9 @@ def corpus(made=()):
         if words[0] in found:
             found[words[0]][0].append(words)
             found[words[0]][1].append(bytes_of(os.path.join(data, name)))
-    for script in test_texts():
-        for name, member in MEMBERS.items():
-            if member in script:
-                found[name][1].append(script)
+    for name, _, script in forms():
+        if name in found:
+            found[name][1].append(script)
     with tempfile.TemporaryDirectory() as folder:
         path = os.path.join(folder, "script")
         for maker, words, name in made:
@@ -43,13 +43,11 @@ def bytes_of(path):
         return file.read()
 
 
-def test_texts():
-    """The raw texts of the crates of tests that begin as a script does."""
-    for crate in sorted(os.listdir(os.path.join(TOP, "crates"))):
-        source = os.path.join(TOP, "crates", crate, "src")
-        if crate.startswith("test_") and os.path.isdir(source):
-            for name in sorted(os.listdir(source)):
-                text = bytes_of(os.path.join(source, name)).decode()
-                for raw in re.findall(r'r(#+)"(.*?)"\1', text, re.S):
-                    if raw[1].lstrip().startswith("{"):
-                        yield raw[1].encode()
+def forms():
+    """Each script that the tests take or call bad: its command, whether it is taken, and its bytes."""
+    path = os.path.join(TOP, "docs", "schema", "validate")
+    loader = importlib.machinery.SourceFileLoader("validate", path)
+    module = importlib.util.module_from_spec(importlib.util.spec_from_loader("validate", loader))
+    loader.exec_module(module)
+    for command, is_taken, script in module.tested():
+        yield command, is_taken, script.encode()
