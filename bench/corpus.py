@@ -16,8 +16,9 @@ MADE += [("journals", ["60"], "audit")]
 
 
 def corpus(made=()):
-    """Of each command that reads: the words of examples, and scripts of the examples, of tests, and made ones."""
-    found = {name: ([], []) for name in COMMANDS}
+    """Of each command that reads: the words of examples; scripts of the examples, of tests, and made ones; and what the
+    tests call bad."""
+    found = {name: ([], [], []) for name in COMMANDS}
     data = os.path.join(TOP, "crates", "example_scripts", "data")
     for name in sorted(os.listdir(data)):
         if not name.endswith(".json"):
@@ -27,9 +28,9 @@ def corpus(made=()):
         if words[0] in found:
             found[words[0]][0].append(words)
             found[words[0]][1].append(bytes_of(os.path.join(data, name)))
-    for name, _, script in forms():
+    for name, is_taken, script in forms():
         if name in found:
-            found[name][1].append(script)
+            found[name][1 if is_taken else 2].append(script)
     with tempfile.TemporaryDirectory() as folder:
         path = os.path.join(folder, "script")
         for maker, words, name in made:

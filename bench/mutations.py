@@ -112,9 +112,9 @@ class Mutator:
     def mutated(self, script):
         """A script with one to some changes in its tree, or in its bytes, or in both."""
         kind = self.random.random()
-        if kind < 0.75:
+        if kind < 0.85:
             script = self.tree_mutated(script)
-        if kind > 0.6:
+        if kind > 0.8:
             for _ in range(1 + self.below(3)):
                 script = self.bytes_mutated(script)
         return script
@@ -132,6 +132,8 @@ class Mutator:
         return text_of(root[0])
 
     def change_tree(self, root):
+        if self.chance(0.5) and self.change_gently(root):
+            return
         holder, at = self.pick(places(root))
         value = holder[at]
         if isinstance(value, Raw) and self.chance(0.8):
@@ -144,6 +146,31 @@ class Mutator:
             self.change_members(value[1])
         else:
             self.replace(root, holder, at)
+
+    def change_gently(self, root):
+        """What often leaves a script: a member's value from another member of its name, a number beside it, an item out
+        or moved. Whether there was anything to change."""
+        found = places(root)
+        kind = self.below(3)
+        if kind == 0:
+            members = [holder for holder, at in found if at == 1 and len(holder) == 2 and isinstance(holder[0], str)]
+            if members:
+                member = self.pick(members)
+                member[1] = copied(self.pick([each for each in members if each[0] == member[0]])[1])
+            return bool(members)
+        if kind == 1:
+            numbers = [(holder, at) for holder, at in found if isinstance(holder[at], Raw) and holder[at].text.isdigit()]
+            if numbers:
+                holder, at = self.pick(numbers)
+                holder[at] = Raw(str(max(0, int(holder[at].text) + self.pick((-1, 1, 1, 2)))))
+            return bool(numbers)
+        lists = [holder[at] for holder, at in found if isinstance(holder[at], list) and len(holder[at]) > 1]
+        if lists:
+            values = self.pick(lists)
+            value = values.pop(self.below(len(values)))
+            if self.chance(0.5):
+                values.insert(self.below(len(values) + 1), value)
+        return bool(lists)
 
     def replace(self, root, holder, at):
         """Another value in a value's place: of another type, from elsewhere, or the value deep in others."""
