@@ -6,6 +6,7 @@ mod batch;
 mod cell;
 mod end;
 mod forms;
+mod journal;
 mod lines;
 mod log;
 mod messages;
@@ -75,6 +76,8 @@ enum Command {
     Apply,
     End(end::Options),
     Simulate,
+    /// The script of an audit of what `simulate` would do; a word of the twin alone.
+    Journal,
     Audit,
 }
 
@@ -83,6 +86,7 @@ fn command_of(words: &[OsString]) -> Option<Command> {
     match words[..] {
         ["apply"] | ["apply", "--store", "map"] | ["apply", "--store=map"] => Some(Command::Apply),
         ["simulate"] => Some(Command::Simulate),
+        ["simulate", "--journal"] => Some(Command::Journal),
         ["audit"] => Some(Command::Audit),
         ["end", "--logs", logs, "--degree", degree] | ["end", "--degree", degree, "--logs", logs] => {
             let (logs, degree) = (logs.parse().ok()?, degree.parse().ok()?);
@@ -113,6 +117,12 @@ fn run(words: &[OsString], mut input: impl Read, output: impl Write) -> Result<u
             drop(text);
             let config = config.config().ok_or(Fault::BadScript)?;
             simulate::print(config, steps, &mut output).map(|()| 0)
+        }
+        Command::Journal => {
+            let script: serde_json::Value = script::read_form(&text).ok_or(Fault::BadScript)?;
+            let simulate::Script { config, steps } = script::read_form(&text).ok_or(Fault::BadScript)?;
+            let config = config.config().ok_or(Fault::BadScript)?;
+            simulate::print_journals(config, script["config"].clone(), steps, &mut output).map(|()| 0)
         }
         Command::Audit => {
             let script: audit::Script = script::read_form(&text).ok_or(Fault::BadScript)?;

@@ -1,12 +1,14 @@
 //! `simulate`: steps in a world of all nodes.
 
 use crate::batch::{Batch, BatchFault};
+use crate::journal::Journals;
 use crate::forms::{object, variants, Ballot, CellPlace, Epoch, Place, Step, Tag};
 use crate::lines::push_row;
-use crate::messages::{Ask, CellAsk, LogAsk, LogId, LogTell, NodeId, Peek, Tell};
+use crate::messages::{Ask, CellAsk, LogAsk, LogId, LogTell, NodeId, Tell};
 use crate::proxy::Outcome;
 use crate::script::Mutations;
 use crate::world::{ConfigForm, Heard, NotEnabled, World};
+use serde_json::Value;
 use std::io::{self, Write};
 use std::rc::Rc;
 
@@ -60,14 +62,38 @@ variants! {
     }
 }
 
+/// A world, and what is entered of it where journals are wanted.
+struct Play {
+    world: World,
+    journals: Option<Journals>,
+}
+
 /// Prints a line for each step, and then what each storage server has.
 pub fn print(config: crate::world::Config, steps: Vec<StepForm>, output: &mut impl Write) -> io::Result<()> {
-    let mut world = World::start(config);
+    let mut play = Play { world: World::start(config), journals: None };
+    take_steps(&mut play, steps, output)?;
+    print_storages(&play.world, output)
+}
+
+/// Prints the journals of these steps as a script of `audit`. The config is given in its own form too.
+pub fn print_journals(
+    config: crate::world::Config,
+    form: Value,
+    steps: Vec<StepForm>,
+    output: &mut impl Write,
+) -> io::Result<()> {
+    let mut play = Play { world: World::start(config), journals: Some(Journals::default()) };
+    take_steps(&mut play, steps, &mut io::sink())?;
+    let journals = play.journals.take().unwrap_or_default();
+    writeln!(output, "{}", journals.script(form, &play.world))
+}
+
+fn take_steps(play: &mut Play, steps: Vec<StepForm>, output: &mut impl Write) -> io::Result<()> {
     for step in steps {
         match step {
             StepForm::Commit { epoch, proxy, step, batch, logs } => {
                 write!(output, "commit {epoch} {proxy} ")?;
-                match commit(&mut world, (epoch, proxy), step, batch, &logs) {
+                match play.commit((epoch, proxy), step, batch, &logs) {
                     Ok(Some((version, outcome))) => writeln!(output, "{version} {outcome}")?,
                     Ok(None) => writeln!(output, "ended")?,
                     Err(name) => writeln!(output, "refused {name}")?,
@@ -75,34 +101,33 @@ pub fn print(config: crate::world::Config, steps: Vec<StepForm>, output: &mut im
             }
             StepForm::Push(PushForm { epoch, proxy, logs }) => {
                 write!(output, "push {epoch} {proxy} ")?;
-                match world.proxy(epoch, proxy).and_then(|proxy| proxy.open_version()) {
-                    Some(version) => writeln!(output, "{version} {}", push(&mut world, (epoch, proxy), &logs))?,
+                match play.world.proxy(epoch, proxy).and_then(|proxy| proxy.open_version()) {
+                    Some(version) => writeln!(output, "{version} {}", play.push((epoch, proxy), &logs))?,
                     None => writeln!(output, "refused NotOpen")?,
                 }
             }
             StepForm::Pull(StorageForm { storage, epoch, log }) => {
-                let peek = |peek: Peek| LogAsk::Peek(peek);
-                let ask = world.storage(storage).map(|storage| peek(storage.peek_of(epoch)));
-                write_storage("pull", &mut world, storage, LogId { epoch, index: log }, ask, output)?;
+                let ask = play.world.storage(storage).map(|storage| LogAsk::Peek(storage.peek_of(epoch)));
+                write_storage("pull", storage, play.ask_log(storage, LogId { epoch, index: log }, ask), output)?;
             }
             StepForm::Mark(StorageForm { storage, epoch, log }) => {
                 let ask = Some(LogAsk::MarkAsked { epoch });
-                write_storage("mark", &mut world, storage, LogId { epoch, index: log }, ask, output)?;
+                write_storage("mark", storage, play.ask_log(storage, LogId { epoch, index: log }, ask), output)?;
             }
-            StepForm::Recover(step) => match recover(&mut world, &step) {
+            StepForm::Recover(step) => match play.recover(&step) {
                 Ok(()) => {
-                    let phase = world.recoverer(step.ballot).expect("it has begun").phase;
+                    let phase = play.world.recoverer(step.ballot).expect("it has begun").phase;
                     writeln!(output, "recover {} {phase}", step.ballot)?;
                 }
                 Err(name) => writeln!(output, "recover {} refused {}", step.ballot, name.name())?,
             },
-            StepForm::Lose(log) => match world.lose(log) {
+            StepForm::Lose(log) => match play.lose(log) {
                 Ok(()) => writeln!(output, "lose {} {}", log.epoch, log.index)?,
                 Err(name) => writeln!(output, "lose refused {}", name.name())?,
             },
         }
     }
-    print_storages(&world, output)
+    Ok(())
 }
 
 fn print_storages(world: &World, output: &mut impl Write) -> io::Result<()> {
@@ -121,111 +146,143 @@ fn print_storages(world: &World, output: &mut impl Write) -> io::Result<()> {
     Ok(())
 }
 
-/// An ask comes to its node, and what is told is heard at once by who asked. None where it cannot come.
-fn exchange(world: &mut World, by: NodeId, to: NodeId, ask: &Ask) -> Option<Heard> {
-    let tell = world.deliver(to, ask).ok()?;
-    world.hear(by, to, &tell, None).ok()
-}
-
-/// The version of a batch with what became of it, or none where it was given no version.
-fn commit(
-    world: &mut World,
-    (epoch, number): (u64, u8),
-    step: u64,
-    batch: Result<Rc<Batch>, BatchFault>,
-    logs: &[Place],
-) -> Result<Option<(u64, &'static str)>, &'static str> {
-    let batch = batch.map_err(BatchFault::name)?;
-    let ask = world.submit(epoch, number, step, batch).map_err(NotEnabled::name)?;
-    exchange(world, NodeId::Proxy(epoch, number), NodeId::Sequencer(epoch), &ask);
-    let version = world.proxy(epoch, number).and_then(|proxy| proxy.open_version());
-    Ok(version.map(|version| (version, push(world, (epoch, number), logs))))
-}
-
-fn push(world: &mut World, (epoch, number): (u64, u8), logs: &[Place]) -> &'static str {
-    let mut said = "waiting";
-    for log in logs {
-        let ask = world.proxy(epoch, number).and_then(|proxy| proxy.push_to(log.0));
-        let heard = ask.and_then(|(to, ask)| exchange(world, NodeId::Proxy(epoch, number), to, &ask));
-        match heard {
-            Some(Heard::Proxy(Outcome::Committed(_), _)) => said = "committed",
-            Some(Heard::Proxy(Outcome::Ended, _)) if said == "waiting" => said = "ended",
-            _ => {}
-        }
-    }
-    said
-}
-
 fn write_storage(
     name: &str,
-    world: &mut World,
     tag: u8,
-    log: LogId,
-    ask: Option<LogAsk>,
+    stands: Result<(u64, u64), &'static str>,
     output: &mut impl Write,
 ) -> io::Result<()> {
-    match ask_log(world, tag, log, ask) {
+    match stands {
         Ok((epoch, version)) => writeln!(output, "{name} {tag} {epoch} {version}"),
         Err(fault) => writeln!(output, "{name} {tag} refused {fault}"),
     }
 }
 
-/// A storage server asks a log and hears what it tells. Where it then stands.
-fn ask_log(world: &mut World, tag: u8, log: LogId, ask: Option<LogAsk>) -> Result<(u64, u64), &'static str> {
-    world.storage(tag).ok_or("NoSuchNode")?;
-    let ask = ask.ok_or("NoSuchNode")?;
-    let tell = world.deliver(NodeId::Log(log), &Ask::Log(ask)).map_err(NotEnabled::name)?;
-    let heard = world.hear(NodeId::Storage(tag), NodeId::Log(log), &tell, None).map_err(NotEnabled::name)?;
-    if let Tell::Log(LogTell::Refused(why)) = tell {
-        return Err(why.name());
-    }
-    if let Heard::Storage(Err(fault)) = heard {
-        return Err(fault.name());
-    }
-    let storage = world.storage(tag).expect("it was there before");
-    Ok((storage.epoch(), storage.store.applied()))
-}
-
-fn recover(world: &mut World, step: &RecoverForm) -> Result<(), NotEnabled> {
-    if world.recoverer(step.ballot).is_none() {
-        world.begin(step.ballot)?;
-    }
-    let by = NodeId::Recoverer(step.ballot);
-    let is_read = |ask: &Ask| matches!(ask, Ask::Cell(CellAsk::Read { .. }));
-    let is_write = |ask: &Ask| matches!(ask, Ask::Cell(CellAsk::Write { .. }));
-    let is_lock = |ask: &Ask| matches!(ask, Ask::Log(LogAsk::Lock { .. }));
-    let is_peek = |ask: &Ask| matches!(ask, Ask::Log(LogAsk::Peek(_)));
-    let is_seed = |ask: &Ask| matches!(ask, Ask::Log(LogAsk::Seed { .. }));
-    let is_mark = |ask: &Ask| matches!(ask, Ask::Log(LogAsk::Push(_)));
-    let is_cell = |to: NodeId, index: u8| to == NodeId::Cell(index);
-    let is_log = |to: NodeId, index: u8| matches!(to, NodeId::Log(id) if id.index == index);
-    for cell in &step.read {
-        send(world, by, |to, ask| is_read(ask) && is_cell(to, cell.0));
-    }
-    for log in &step.lock {
-        send(world, by, |to, ask| is_lock(ask) && is_log(to, log.0));
-    }
-    while send(world, by, |_, ask| is_peek(ask)) {}
-    send(world, by, |_, ask| is_seed(ask));
-    for cell in &step.write {
-        send(world, by, |to, ask| is_write(ask) && is_cell(to, cell.0));
-    }
-    for log in &step.mark {
-        send(world, by, |to, ask| is_mark(ask) && is_log(to, log.0));
-    }
-    Ok(())
-}
-
-/// Sends those asks of a node that are pending and wanted; one that is no longer pending when its turn
-/// comes is passed over. Whether any of them brought something new.
-fn send(world: &mut World, by: NodeId, wanted: impl Fn(NodeId, &Ask) -> bool) -> bool {
-    let mut has_new = false;
-    let asks = world.pending(by);
-    for (at, (to, ask)) in asks.iter().enumerate() {
-        if wanted(*to, ask) && (at == 0 || !has_new || world.pending(by).contains(&(*to, ask.clone()))) {
-            let heard = exchange(world, by, *to, ask);
-            has_new |= heard == Some(Heard::Recoverer(true));
+impl Play {
+    /// An ask comes to a node, which tells.
+    fn deliver(&mut self, by: NodeId, to: NodeId, ask: &Ask) -> Result<Tell, NotEnabled> {
+        let tell = self.world.deliver(to, ask)?;
+        if let Some(journals) = &mut self.journals {
+            journals.asked(to, by, ask, &tell);
         }
+        Ok(tell)
     }
-    has_new
+
+    fn hear(&mut self, by: NodeId, from: NodeId, tell: &Tell) -> Result<Heard, NotEnabled> {
+        let heard = self.world.hear(by, from, tell, None)?;
+        if let Some(journals) = &mut self.journals {
+            journals.heard(by, from, tell, &heard);
+        }
+        Ok(heard)
+    }
+
+    /// An ask comes to its node, and what is told is heard at once by who asked. None where it cannot come.
+    fn exchange(&mut self, by: NodeId, to: NodeId, ask: &Ask) -> Option<Heard> {
+        let tell = self.deliver(by, to, ask).ok()?;
+        self.hear(by, to, &tell).ok()
+    }
+
+    fn lose(&mut self, log: LogId) -> Result<(), NotEnabled> {
+        self.world.lose(log)?;
+        if let Some(journals) = &mut self.journals {
+            journals.lost(NodeId::Log(log));
+        }
+        Ok(())
+    }
+
+    /// The version of a batch with what became of it, or none where it was given no version.
+    fn commit(
+        &mut self,
+        (epoch, number): (u64, u8),
+        step: u64,
+        batch: Result<Rc<Batch>, BatchFault>,
+        logs: &[Place],
+    ) -> Result<Option<(u64, &'static str)>, &'static str> {
+        let batch = batch.map_err(BatchFault::name)?;
+        let proxy = NodeId::Proxy(epoch, number);
+        let ask = self.world.submit(epoch, number, step, batch.clone()).map_err(NotEnabled::name)?;
+        if let Some(journals) = &mut self.journals {
+            journals.submitted(proxy, step, &batch);
+        }
+        self.exchange(proxy, NodeId::Sequencer(epoch), &ask);
+        let version = self.world.proxy(epoch, number).and_then(|proxy| proxy.open_version());
+        Ok(version.map(|version| (version, self.push((epoch, number), logs))))
+    }
+
+    fn push(&mut self, (epoch, number): (u64, u8), logs: &[Place]) -> &'static str {
+        let mut said = "waiting";
+        for log in logs {
+            let ask = self.world.proxy(epoch, number).and_then(|proxy| proxy.push_to(log.0));
+            let heard = ask.and_then(|(to, ask)| self.exchange(NodeId::Proxy(epoch, number), to, &ask));
+            match heard {
+                Some(Heard::Proxy(Outcome::Committed(_), _)) => said = "committed",
+                Some(Heard::Proxy(Outcome::Ended, _)) if said == "waiting" => said = "ended",
+                _ => {}
+            }
+        }
+        said
+    }
+
+    /// A storage server asks a log and hears what it tells. Where it then stands.
+    fn ask_log(&mut self, tag: u8, log: LogId, ask: Option<LogAsk>) -> Result<(u64, u64), &'static str> {
+        self.world.storage(tag).ok_or("NoSuchNode")?;
+        let ask = ask.ok_or("NoSuchNode")?;
+        let (by, to) = (NodeId::Storage(tag), NodeId::Log(log));
+        let tell = self.deliver(by, to, &Ask::Log(ask)).map_err(NotEnabled::name)?;
+        let heard = self.hear(by, to, &tell).map_err(NotEnabled::name)?;
+        if let Tell::Log(LogTell::Refused(why)) = tell {
+            return Err(why.name());
+        }
+        if let Heard::Storage(Err(fault)) = heard {
+            return Err(fault.name());
+        }
+        let storage = self.world.storage(tag).expect("it was there before");
+        Ok((storage.epoch(), storage.store.applied()))
+    }
+
+    fn recover(&mut self, step: &RecoverForm) -> Result<(), NotEnabled> {
+        let by = NodeId::Recoverer(step.ballot);
+        if self.world.recoverer(step.ballot).is_none() {
+            self.world.begin(step.ballot)?;
+            if let Some(journals) = &mut self.journals {
+                journals.begun(by);
+            }
+        }
+        let is_read = |ask: &Ask| matches!(ask, Ask::Cell(CellAsk::Read { .. }));
+        let is_write = |ask: &Ask| matches!(ask, Ask::Cell(CellAsk::Write { .. }));
+        let is_lock = |ask: &Ask| matches!(ask, Ask::Log(LogAsk::Lock { .. }));
+        let is_peek = |ask: &Ask| matches!(ask, Ask::Log(LogAsk::Peek(_)));
+        let is_seed = |ask: &Ask| matches!(ask, Ask::Log(LogAsk::Seed { .. }));
+        let is_mark = |ask: &Ask| matches!(ask, Ask::Log(LogAsk::Push(_)));
+        let is_cell = |to: NodeId, index: u8| to == NodeId::Cell(index);
+        let is_log = |to: NodeId, index: u8| matches!(to, NodeId::Log(id) if id.index == index);
+        for cell in &step.read {
+            self.send(by, |to, ask| is_read(ask) && is_cell(to, cell.0));
+        }
+        for log in &step.lock {
+            self.send(by, |to, ask| is_lock(ask) && is_log(to, log.0));
+        }
+        while self.send(by, |_, ask| is_peek(ask)) {}
+        self.send(by, |_, ask| is_seed(ask));
+        for cell in &step.write {
+            self.send(by, |to, ask| is_write(ask) && is_cell(to, cell.0));
+        }
+        for log in &step.mark {
+            self.send(by, |to, ask| is_mark(ask) && is_log(to, log.0));
+        }
+        Ok(())
+    }
+
+    /// Sends those asks of a node that are pending and wanted; one that is no longer pending when its turn
+    /// comes is passed over. Whether any of them brought something new.
+    fn send(&mut self, by: NodeId, wanted: impl Fn(NodeId, &Ask) -> bool) -> bool {
+        let mut has_new = false;
+        for message in self.world.pending(by) {
+            if wanted(message.0, &message.1) && (!has_new || self.world.pending(by).contains(&message)) {
+                let heard = self.exchange(by, message.0, &message.1);
+                has_new |= heard == Some(Heard::Recoverer(true));
+            }
+        }
+        has_new
+    }
 }

@@ -58,6 +58,10 @@ impl State {
         &self.0[self.0.len() - 1]
     }
 
+    pub fn generations(&self) -> &[Generation] {
+        &self.0
+    }
+
     pub fn extended(&self, generation: Generation) -> Result<State, ExtendFault> {
         if !generation.may_follow(self.last()) {
             return Err(ExtendFault::NotLater);
