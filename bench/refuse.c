@@ -1,5 +1,5 @@
-/* A library that refuses one allocation of a program: the one of the number that REFUSE says, counted from 1. At its end
- * the program says on its third stream how many there were. See bench/memory. */
+/* A library that refuses one allocation of a program: the one of the number that REFUSE says, counted from 1, whichever
+ * thread makes it. At its end the program says on its third stream how many there were. See bench/memory. */
 #include <stdio.h>
 #include <stdlib.h>
 #include <unistd.h>
@@ -10,11 +10,14 @@ extern void *__libc_realloc(void *place, size_t size);
 static long made, refused = -1;
 
 static int refuses(void) {
-    if (refused < 0) {
-        const char *number = getenv("REFUSE");
-        refused = number ? atol(number) : 0;
+    long number = __atomic_load_n(&refused, __ATOMIC_RELAXED);
+    if (number < 0) {
+        /* Two threads that come here at once find the same number. */
+        const char *text = getenv("REFUSE");
+        number = text ? atol(text) : 0;
+        __atomic_store_n(&refused, number, __ATOMIC_RELAXED);
     }
-    return ++made == refused;
+    return __atomic_add_fetch(&made, 1, __ATOMIC_RELAXED) == number;
 }
 
 void *malloc(size_t size) {

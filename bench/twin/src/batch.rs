@@ -1,11 +1,14 @@
-//! Mutations, batches and their limits.
+//! Mutations, batches and their limits, and what each shard has of a batch.
 
 use std::cmp::Ordering;
+use std::hash::{Hash, Hasher};
+use std::rc::Rc;
 
 const MOST_MUTATIONS: usize = 1_000;
 const LONGEST_KEY: usize = 10_000;
 const LONGEST_VALUE: usize = 100_000;
 
+#[derive(Clone, Debug, PartialEq, Eq)]
 pub enum Mutation {
     Set {
         key: Vec<u8>,
@@ -23,7 +26,7 @@ pub enum Mutation {
 }
 
 /// How a parameter is put together with the value that stands.
-#[derive(Clone, Copy)]
+#[derive(Clone, Copy, Debug, PartialEq, Eq)]
 pub enum Combine {
     Add,
     And,
@@ -34,6 +37,7 @@ pub enum Combine {
 }
 
 /// Mutations within the limits, applied from first to last.
+#[derive(Clone, Debug, PartialEq, Eq)]
 pub struct Batch(Box<[Mutation]>);
 
 /// The first limit that a list of mutations breaks.
@@ -68,9 +72,74 @@ impl Batch {
     pub fn into_mutations(self) -> Box<[Mutation]> {
         self.0
     }
+
+    pub fn mutations(&self) -> &[Mutation] {
+        &self.0
+    }
+}
+
+// Batches are hashed beside their versions, which tell them apart nearly always.
+impl Hash for Batch {
+    fn hash<H: Hasher>(&self, hasher: &mut H) {
+        self.0.len().hash(hasher);
+    }
+}
+
+/// Where the shards begin, in rising order; the first one begins at the empty key.
+#[derive(Debug)]
+pub struct Shards(Vec<Vec<u8>>);
+
+impl Shards {
+    pub fn new(begins: Vec<Vec<u8>>) -> Option<Self> {
+        let are_few = (1..=32).contains(&begins.len());
+        let are_keys = begins.iter().all(|begin| begin.len() <= LONGEST_KEY);
+        let are_rising = begins.windows(2).all(|pair| pair[0] < pair[1]);
+        (are_few && are_keys && are_rising && begins[0].is_empty()).then_some(Shards(begins))
+    }
+
+    pub fn number(&self) -> u8 {
+        self.0.len() as u8
+    }
+
+    /// The shard of a key.
+    fn of(&self, key: &[u8]) -> usize {
+        self.0.partition_point(|begin| begin.as_slice() <= key) - 1
+    }
+
+    /// What each shard has of a batch, by rising tags; one that has nothing is left out.
+    pub fn bodies_of(&self, batch: &Rc<Batch>) -> Vec<(u8, Rc<Batch>)> {
+        if self.0.len() == 1 && !batch.mutations().iter().any(Mutation::is_empty) {
+            let body = (0, batch.clone());
+            return if batch.mutations().is_empty() { Vec::new() } else { vec![body] };
+        }
+        let mut bodies: Vec<Vec<Mutation>> = vec![Vec::new(); self.0.len()];
+        for mutation in batch.mutations() {
+            match mutation {
+                Mutation::Set { key, .. } | Mutation::Combine { key, .. } => bodies[self.of(key)].push(mutation.clone()),
+                Mutation::Clear { begin, end } if begin < end => {
+                    for tag in self.of(begin)..self.0.len() {
+                        if self.0[tag] >= *end {
+                            break;
+                        }
+                        let begin = begin.max(&self.0[tag]).clone();
+                        let end = self.0.get(tag + 1).map_or(end, |next| next.min(end)).clone();
+                        bodies[tag].push(Mutation::Clear { begin, end });
+                    }
+                }
+                Mutation::Clear { .. } => {}
+            }
+        }
+        let bodies = bodies.into_iter().zip(0..).filter(|(body, _)| !body.is_empty());
+        bodies.map(|(body, tag)| (tag, Rc::new(Batch(body.into_boxed_slice())))).collect()
+    }
 }
 
 impl Mutation {
+    /// Whether it is a clear of no keys.
+    fn is_empty(&self) -> bool {
+        matches!(self, Mutation::Clear { begin, end } if begin == end)
+    }
+
     fn check(&self) -> Result<(), BatchFault> {
         match self {
             Mutation::Set { key, value: text }

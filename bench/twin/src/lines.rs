@@ -22,10 +22,7 @@ pub fn print(operations: Vec<Operation>, output: &mut impl Write) -> io::Result<
     let mut digits = Vec::new();
     for (key, value) in store.values() {
         digits.clear();
-        push_text(&mut digits, key);
-        digits.push(b' ');
-        push_text(&mut digits, value);
-        digits.push(b'\n');
+        push_row(&mut digits, key, value);
         output.write_all(&digits)?;
     }
     // The process is about to end, which gives the memory back sooner than row by row.
@@ -45,6 +42,14 @@ fn run(store: &mut Store, operation: Operation) -> Result<(), &'static str> {
         Operation::Advance { version } => store.advance(version),
     }
     .map_err(|fault| fault.name())
+}
+
+/// The line of a key and its value.
+pub fn push_row(line: &mut Vec<u8>, key: &[u8], value: &[u8]) {
+    push_text(line, key);
+    line.push(b' ');
+    push_text(line, value);
+    line.push(b'\n');
 }
 
 /// Lower-case hex, or `-` for no bytes.

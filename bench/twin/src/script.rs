@@ -1,7 +1,7 @@
 //! Reads a script: `{"ops":[..]}`.
 
 use crate::batch::{Batch, BatchFault, Combine, Mutation};
-use serde::de::{self, Deserialize, DeserializeSeed, Deserializer, IgnoredAny, MapAccess, Visitor};
+use serde::de::{self, Deserialize, DeserializeOwned, DeserializeSeed, Deserializer, IgnoredAny, MapAccess, Visitor};
 use std::fmt;
 use std::marker::PhantomData;
 
@@ -27,11 +27,16 @@ pub enum Operation {
 /// It is read straight into its types. An object that has two members of one name is refused there, so a
 /// text that fails is read again through a tree, in which the last of them stands.
 pub fn read(text: &[u8]) -> Option<Vec<Operation>> {
-    let script = serde_json::from_slice(text).or_else(|_| {
+    read_form(text).map(|Script(operations)| operations)
+}
+
+/// What a script of this form says, or none where it is not one.
+pub fn read_form<T: DeserializeOwned>(text: &[u8]) -> Option<T> {
+    let form = serde_json::from_slice(text).or_else(|_| {
         let tree: serde_json::Value = serde_json::from_slice(text)?;
-        Script::deserialize(tree)
+        T::deserialize(tree)
     });
-    script.ok().map(|Script(operations)| operations)
+    form.ok()
 }
 
 struct Script(Vec<Operation>);
@@ -85,7 +90,7 @@ impl<'de> Visitor<'de> for OperationVisitor {
     }
 }
 
-struct Mutations(Vec<Mutation>);
+pub(crate) struct Mutations(pub Vec<Mutation>);
 
 impl<'de> Deserialize<'de> for Mutations {
     fn deserialize<D: Deserializer<'de>>(deserializer: D) -> Result<Self, D::Error> {
@@ -140,8 +145,15 @@ impl<'de> Visitor<'de> for MutationVisitor {
     }
 }
 
+impl<'de> Deserialize<'de> for Batch {
+    fn deserialize<D: Deserializer<'de>>(deserializer: D) -> Result<Self, D::Error> {
+        let mutations = Vec::deserialize(deserializer)?;
+        Batch::new(mutations).map_err(|fault| de::Error::custom(fault.name()))
+    }
+}
+
 /// Refuses a further member.
-fn end<'de, A: MapAccess<'de>>(map: &mut A) -> Result<(), A::Error> {
+pub(crate) fn end<'de, A: MapAccess<'de>>(map: &mut A) -> Result<(), A::Error> {
     match map.next_key::<IgnoredAny>()? {
         None => Ok(()),
         Some(_) => Err(de::Error::custom("a second member")),
@@ -162,7 +174,7 @@ impl<'de> Deserialize<'de> for Version {
 }
 
 /// Bytes as lower-case hex.
-struct Bytes(Vec<u8>);
+pub(crate) struct Bytes(pub Vec<u8>);
 
 impl<'de> Deserialize<'de> for Bytes {
     fn deserialize<D: Deserializer<'de>>(deserializer: D) -> Result<Self, D::Error> {
@@ -195,7 +207,7 @@ impl Visitor<'_> for BytesVisitor {
 }
 
 /// A member's name, read as its place in a list of names.
-struct Name(&'static [&'static str]);
+pub(crate) struct Name(pub &'static [&'static str]);
 
 impl<'de> DeserializeSeed<'de> for Name {
     type Value = usize;

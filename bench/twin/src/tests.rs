@@ -311,7 +311,7 @@ fn scripts_that_are_bad() {
 fn words() {
     let words = |text: &str| text.split(' ').map(OsString::from).collect::<Vec<_>>();
     let script = br#"{"ops":[]}"#.as_slice();
-    assert_eq!(run(&words("apply --store map"), script, Vec::new()), Ok(()));
+    assert_eq!(run(&words("apply --store map"), script, Vec::new()), Ok(0));
     assert_eq!(
         run(&words("apply --store"), script, Vec::new()),
         Err(Fault::BadWords)

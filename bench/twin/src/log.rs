@@ -1,0 +1,135 @@
+//! Logs.
+
+use crate::messages::{LogAsk, LogId, LogRefusal, LogTell, Peek, Peeked, Push, Record, Seed};
+use crate::state::Generation;
+use std::collections::BTreeMap;
+use std::rc::Rc;
+
+/// A log holds pushes in one chain, the first of which is the mark of its generation.
+pub struct Log {
+    id: LogId,
+    m: u8,
+    k: u8,
+    seed: Option<Rc<Seed>>,
+    pushes: Vec<Rc<Push>>,
+    /// What a tag has, the records of the seed and those of the pushes, in rising versions.
+    records: BTreeMap<u8, Vec<Record>>,
+    pub durable: u64,
+    pub known: u64,
+    pub stopped: bool,
+}
+
+impl Log {
+    pub fn new(id: LogId, m: u8, k: u8) -> Self {
+        let (pushes, records) = (Vec::new(), BTreeMap::new());
+        Log { id, m, k, seed: None, pushes, records, durable: 0, known: 0, stopped: false }
+    }
+
+    pub fn is_seeded(&self) -> bool {
+        self.seed.is_some()
+    }
+
+    fn holds(&self, tag: u8) -> bool {
+        Generation { epoch: self.id.epoch, m: self.m, k: self.k, first: 1, seeded_to: 0 }.holds(self.id.index, tag)
+    }
+
+    pub fn ask(&mut self, ask: &LogAsk) -> LogTell {
+        let (epoch, is_seed) = match ask {
+            LogAsk::Seed { epoch, .. } => (*epoch, true),
+            LogAsk::Push(push) => (push.epoch, false),
+            LogAsk::Peek(peek) => (peek.epoch, false),
+            LogAsk::Lock { epoch } | LogAsk::MarkAsked { epoch } => (*epoch, false),
+        };
+        if epoch != self.id.epoch {
+            return LogTell::Refused(LogRefusal::WrongEpoch);
+        }
+        if !is_seed && self.seed.is_none() {
+            return LogTell::Refused(LogRefusal::Unseeded);
+        }
+        match ask {
+            LogAsk::Seed { seed, .. } => self.take_seed(seed),
+            LogAsk::Push(push) => self.take_push(push),
+            LogAsk::Lock { .. } => {
+                self.stopped = true;
+                Ok(LogTell::Locked { durable: self.durable, known: self.known })
+            }
+            LogAsk::Peek(peek) => self.peek(peek),
+            LogAsk::MarkAsked { .. } => self.mark(),
+        }
+        .unwrap_or_else(LogTell::Refused)
+    }
+
+    fn take_seed(&mut self, seed: &Rc<Seed>) -> Result<LogTell, LogRefusal> {
+        if !seed.records.iter().all(|record| self.holds(record.tag)) {
+            return Err(LogRefusal::NotMine);
+        }
+        if let Some(held) = &self.seed {
+            return if held == seed { Ok(LogTell::Seeded) } else { Err(LogRefusal::SeedDiffers) };
+        }
+        for record in &seed.records {
+            let batch = record.batch.clone();
+            self.records.entry(record.tag).or_default().push(Record { batch, version: record.version });
+        }
+        self.durable = seed.seeded_to;
+        self.known = seed.first - 1;
+        self.seed = Some(seed.clone());
+        Ok(LogTell::Seeded)
+    }
+
+    fn take_push(&mut self, push: &Rc<Push>) -> Result<LogTell, LogRefusal> {
+        let held = LogTell::Held { version: push.version };
+        let seeded_to = self.seed.as_ref().map_or(0, |seed| seed.seeded_to);
+        if let Ok(place) = self.pushes.binary_search_by_key(&push.version, |held| held.version) {
+            if push.is_again(&self.pushes[place]) {
+                return Ok(held);
+            }
+        }
+        if self.stopped {
+            return Err(LogRefusal::Stopped);
+        }
+        if push.prev < self.durable || push.mark.is_some() && push.prev != seeded_to {
+            return Err(LogRefusal::Stale);
+        }
+        if push.prev > self.durable {
+            return Err(LogRefusal::Gap { durable: self.durable });
+        }
+        if !push.bodies.iter().all(|(tag, _)| self.holds(*tag)) {
+            return Err(LogRefusal::NotMine);
+        }
+        if push.mark.is_none() && self.durable == seeded_to {
+            return Err(LogRefusal::NoMark);
+        }
+        for (tag, batch) in &push.bodies {
+            let record = Record { batch: batch.clone(), version: push.version };
+            self.records.entry(*tag).or_default().push(record);
+        }
+        self.durable = push.version;
+        self.known = self.known.max(push.known);
+        self.pushes.push(push.clone());
+        Ok(held)
+    }
+
+    fn peek(&self, peek: &Peek) -> Result<LogTell, LogRefusal> {
+        if !self.holds(peek.tag) {
+            return Err(LogRefusal::NotMine);
+        }
+        let first = self.seed.as_ref().map_or(0, |seed| seed.first);
+        if peek.after + 1 < first {
+            return Err(LogRefusal::TooEarly { first });
+        }
+        let all = self.records.get(&peek.tag).map_or(&[][..], Vec::as_slice);
+        let above = &all[all.partition_point(|record| record.version <= peek.after)..];
+        let given = &above[..above.len().min(peek.most.into())];
+        let upto = match given.last() {
+            Some(last) if given.len() < above.len() => last.version,
+            _ => self.durable,
+        };
+        let (after, known, records, tag) = (peek.after, self.known, given.to_vec(), peek.tag);
+        Ok(LogTell::Peeked(Rc::new(Peeked { after, known, records, tag, upto })))
+    }
+
+    fn mark(&self) -> Result<LogTell, LogRefusal> {
+        let mark = self.pushes.first().and_then(|push| push.mark.clone());
+        mark.map(|state| LogTell::Marked { state }).ok_or(LogRefusal::NoMark)
+    }
+}

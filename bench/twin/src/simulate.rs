@@ -1,0 +1,288 @@
+//! `simulate`: steps in a world of all nodes.
+
+use crate::batch::{Batch, BatchFault};
+use crate::journal::Journals;
+use crate::forms::{object, variants, Ballot, CellPlace, Epoch, Place, Step, Tag};
+use crate::lines::push_row;
+use crate::messages::{Ask, CellAsk, LogAsk, LogId, LogTell, NodeId, Tell};
+use crate::proxy::Outcome;
+use crate::script::Mutations;
+use crate::world::{ConfigForm, Heard, NotEnabled, World};
+use serde_json::Value;
+use std::io::{self, Write};
+use std::rc::Rc;
+
+object! { Script { config: ConfigForm as ConfigForm, steps: Vec<StepForm> as Vec<StepForm> } }
+
+object! {
+    CommitForm {
+        epoch: u64 as Epoch,
+        proxy: u8 as Place,
+        step: u64 as Step,
+        batch: Mutations as Mutations,
+        logs: Vec<Place> as Vec<Place>,
+    }
+}
+object! { PushForm { epoch: u64 as Epoch, proxy: u8 as Place, logs: Vec<Place> as Vec<Place> } }
+object! { StorageForm { storage: u8 as Tag, epoch: u64 as Epoch, log: u8 as Place } }
+object! { LoseForm { epoch: u64 as Epoch, log: u8 as Place } }
+object! {
+    RecoverForm {
+        ballot: u64 as Ballot,
+        read: Vec<CellPlace> as Vec<CellPlace>,
+        lock: Vec<Place> as Vec<Place>,
+        write: Vec<CellPlace> as Vec<CellPlace>,
+        mark: Vec<Place> as Vec<Place>,
+    }
+}
+
+pub enum StepForm {
+    Commit { epoch: u64, proxy: u8, step: u64, batch: Result<Rc<Batch>, BatchFault>, logs: Vec<Place> },
+    Push(PushForm),
+    Pull(StorageForm),
+    Mark(StorageForm),
+    Recover(RecoverForm),
+    Lose(LogId),
+}
+
+variants! {
+    StepForm {
+        "commit": CommitForm => |it| Some(StepForm::Commit {
+            epoch: it.epoch,
+            proxy: it.proxy,
+            step: it.step,
+            batch: Batch::new(it.batch.0).map(Rc::new),
+            logs: it.logs,
+        }),
+        "push": PushForm => |it| Some(StepForm::Push(it)),
+        "pull": StorageForm => |it| Some(StepForm::Pull(it)),
+        "mark": StorageForm => |it| Some(StepForm::Mark(it)),
+        "recover": RecoverForm => |it| Some(StepForm::Recover(it)),
+        "lose": LoseForm => |it| Some(StepForm::Lose(LogId { epoch: it.epoch, index: it.log })),
+    }
+}
+
+/// A world, and what is entered of it where journals are wanted.
+struct Play {
+    world: World,
+    journals: Option<Journals>,
+}
+
+/// Prints a line for each step, and then what each storage server has.
+pub fn print(config: crate::world::Config, steps: Vec<StepForm>, output: &mut impl Write) -> io::Result<()> {
+    let mut play = Play { world: World::start(config), journals: None };
+    take_steps(&mut play, steps, output)?;
+    print_storages(&play.world, output)
+}
+
+/// Prints the journals of these steps as a script of `audit`. The config is given in its own form too.
+pub fn print_journals(
+    config: crate::world::Config,
+    form: Value,
+    steps: Vec<StepForm>,
+    output: &mut impl Write,
+) -> io::Result<()> {
+    let mut play = Play { world: World::start(config), journals: Some(Journals::default()) };
+    take_steps(&mut play, steps, &mut io::sink())?;
+    let journals = play.journals.take().unwrap_or_default();
+    writeln!(output, "{}", journals.script(form, &play.world))
+}
+
+fn take_steps(play: &mut Play, steps: Vec<StepForm>, output: &mut impl Write) -> io::Result<()> {
+    for step in steps {
+        match step {
+            StepForm::Commit { epoch, proxy, step, batch, logs } => {
+                write!(output, "commit {epoch} {proxy} ")?;
+                match play.commit((epoch, proxy), step, batch, &logs) {
+                    Ok(Some((version, outcome))) => writeln!(output, "{version} {outcome}")?,
+                    Ok(None) => writeln!(output, "ended")?,
+                    Err(name) => writeln!(output, "refused {name}")?,
+                }
+            }
+            StepForm::Push(PushForm { epoch, proxy, logs }) => {
+                write!(output, "push {epoch} {proxy} ")?;
+                match play.world.proxy(epoch, proxy).and_then(|proxy| proxy.open_version()) {
+                    Some(version) => writeln!(output, "{version} {}", play.push((epoch, proxy), &logs))?,
+                    None => writeln!(output, "refused NotOpen")?,
+                }
+            }
+            StepForm::Pull(StorageForm { storage, epoch, log }) => {
+                let ask = play.world.storage(storage).map(|storage| LogAsk::Peek(storage.peek_of(epoch)));
+                write_storage("pull", storage, play.ask_log(storage, LogId { epoch, index: log }, ask), output)?;
+            }
+            StepForm::Mark(StorageForm { storage, epoch, log }) => {
+                let ask = Some(LogAsk::MarkAsked { epoch });
+                write_storage("mark", storage, play.ask_log(storage, LogId { epoch, index: log }, ask), output)?;
+            }
+            StepForm::Recover(step) => match play.recover(&step) {
+                Ok(()) => {
+                    let phase = play.world.recoverer(step.ballot).expect("it has begun").phase;
+                    writeln!(output, "recover {} {phase}", step.ballot)?;
+                }
+                Err(name) => writeln!(output, "recover {} refused {}", step.ballot, name.name())?,
+            },
+            StepForm::Lose(log) => match play.lose(log) {
+                Ok(()) => writeln!(output, "lose {} {}", log.epoch, log.index)?,
+                Err(name) => writeln!(output, "lose refused {}", name.name())?,
+            },
+        }
+    }
+    Ok(())
+}
+
+fn print_storages(world: &World, output: &mut impl Write) -> io::Result<()> {
+    let mut line = Vec::new();
+    for storage in world.storages() {
+        let store = &storage.store;
+        let rows = store.values().count();
+        let (epoch, version, floor) = (storage.epoch(), store.applied(), store.floor());
+        writeln!(output, "storage {} {epoch} {version} floor {floor} rows {rows}", storage.tag)?;
+        for (key, value) in store.values() {
+            line.clear();
+            push_row(&mut line, key, value);
+            output.write_all(&line)?;
+        }
+    }
+    Ok(())
+}
+
+fn write_storage(
+    name: &str,
+    tag: u8,
+    stands: Result<(u64, u64), &'static str>,
+    output: &mut impl Write,
+) -> io::Result<()> {
+    match stands {
+        Ok((epoch, version)) => writeln!(output, "{name} {tag} {epoch} {version}"),
+        Err(fault) => writeln!(output, "{name} {tag} refused {fault}"),
+    }
+}
+
+impl Play {
+    /// An ask comes to a node, which tells.
+    fn deliver(&mut self, by: NodeId, to: NodeId, ask: &Ask) -> Result<Tell, NotEnabled> {
+        let tell = self.world.deliver(to, ask)?;
+        if let Some(journals) = &mut self.journals {
+            journals.asked(to, by, ask, &tell);
+        }
+        Ok(tell)
+    }
+
+    fn hear(&mut self, by: NodeId, from: NodeId, tell: &Tell) -> Result<Heard, NotEnabled> {
+        let heard = self.world.hear(by, from, tell, None)?;
+        if let Some(journals) = &mut self.journals {
+            journals.heard(by, from, tell, &heard);
+        }
+        Ok(heard)
+    }
+
+    /// An ask comes to its node, and what is told is heard at once by who asked. None where it cannot come.
+    fn exchange(&mut self, by: NodeId, to: NodeId, ask: &Ask) -> Option<Heard> {
+        let tell = self.deliver(by, to, ask).ok()?;
+        self.hear(by, to, &tell).ok()
+    }
+
+    fn lose(&mut self, log: LogId) -> Result<(), NotEnabled> {
+        self.world.lose(log)?;
+        if let Some(journals) = &mut self.journals {
+            journals.lost(NodeId::Log(log));
+        }
+        Ok(())
+    }
+
+    /// The version of a batch with what became of it, or none where it was given no version.
+    fn commit(
+        &mut self,
+        (epoch, number): (u64, u8),
+        step: u64,
+        batch: Result<Rc<Batch>, BatchFault>,
+        logs: &[Place],
+    ) -> Result<Option<(u64, &'static str)>, &'static str> {
+        let batch = batch.map_err(BatchFault::name)?;
+        let proxy = NodeId::Proxy(epoch, number);
+        let ask = self.world.submit(epoch, number, step, batch.clone()).map_err(NotEnabled::name)?;
+        if let Some(journals) = &mut self.journals {
+            journals.submitted(proxy, step, &batch);
+        }
+        self.exchange(proxy, NodeId::Sequencer(epoch), &ask);
+        let version = self.world.proxy(epoch, number).and_then(|proxy| proxy.open_version());
+        Ok(version.map(|version| (version, self.push((epoch, number), logs))))
+    }
+
+    fn push(&mut self, (epoch, number): (u64, u8), logs: &[Place]) -> &'static str {
+        let mut said = "waiting";
+        for log in logs {
+            let ask = self.world.proxy(epoch, number).and_then(|proxy| proxy.push_to(log.0));
+            let heard = ask.and_then(|(to, ask)| self.exchange(NodeId::Proxy(epoch, number), to, &ask));
+            match heard {
+                Some(Heard::Proxy(Outcome::Committed(_), _)) => said = "committed",
+                Some(Heard::Proxy(Outcome::Ended, _)) if said == "waiting" => said = "ended",
+                _ => {}
+            }
+        }
+        said
+    }
+
+    /// A storage server asks a log and hears what it tells. Where it then stands.
+    fn ask_log(&mut self, tag: u8, log: LogId, ask: Option<LogAsk>) -> Result<(u64, u64), &'static str> {
+        self.world.storage(tag).ok_or("NoSuchNode")?;
+        let ask = ask.ok_or("NoSuchNode")?;
+        let (by, to) = (NodeId::Storage(tag), NodeId::Log(log));
+        let tell = self.deliver(by, to, &Ask::Log(ask)).map_err(NotEnabled::name)?;
+        let heard = self.hear(by, to, &tell).map_err(NotEnabled::name)?;
+        if let Tell::Log(LogTell::Refused(why)) = tell {
+            return Err(why.name());
+        }
+        if let Heard::Storage(Err(fault)) = heard {
+            return Err(fault.name());
+        }
+        let storage = self.world.storage(tag).expect("it was there before");
+        Ok((storage.epoch(), storage.store.applied()))
+    }
+
+    fn recover(&mut self, step: &RecoverForm) -> Result<(), NotEnabled> {
+        let by = NodeId::Recoverer(step.ballot);
+        if self.world.recoverer(step.ballot).is_none() {
+            self.world.begin(step.ballot)?;
+            if let Some(journals) = &mut self.journals {
+                journals.begun(by);
+            }
+        }
+        let is_read = |ask: &Ask| matches!(ask, Ask::Cell(CellAsk::Read { .. }));
+        let is_write = |ask: &Ask| matches!(ask, Ask::Cell(CellAsk::Write { .. }));
+        let is_lock = |ask: &Ask| matches!(ask, Ask::Log(LogAsk::Lock { .. }));
+        let is_peek = |ask: &Ask| matches!(ask, Ask::Log(LogAsk::Peek(_)));
+        let is_seed = |ask: &Ask| matches!(ask, Ask::Log(LogAsk::Seed { .. }));
+        let is_mark = |ask: &Ask| matches!(ask, Ask::Log(LogAsk::Push(_)));
+        let is_cell = |to: NodeId, index: u8| to == NodeId::Cell(index);
+        let is_log = |to: NodeId, index: u8| matches!(to, NodeId::Log(id) if id.index == index);
+        for cell in &step.read {
+            self.send(by, |to, ask| is_read(ask) && is_cell(to, cell.0));
+        }
+        for log in &step.lock {
+            self.send(by, |to, ask| is_lock(ask) && is_log(to, log.0));
+        }
+        while self.send(by, |_, ask| is_peek(ask)) {}
+        self.send(by, |_, ask| is_seed(ask));
+        for cell in &step.write {
+            self.send(by, |to, ask| is_write(ask) && is_cell(to, cell.0));
+        }
+        for log in &step.mark {
+            self.send(by, |to, ask| is_mark(ask) && is_log(to, log.0));
+        }
+        Ok(())
+    }
+
+    /// Sends those asks of a node that are pending and wanted; one that is no longer pending when its turn
+    /// comes is passed over. Whether any of them brought something new.
+    fn send(&mut self, by: NodeId, wanted: impl Fn(NodeId, &Ask) -> bool) -> bool {
+        let mut has_new = false;
+        for message in self.world.pending(by) {
+            if wanted(message.0, &message.1) && (!has_new || self.world.pending(by).contains(&message)) {
+                let heard = self.exchange(by, message.0, &message.1);
+                has_new |= heard == Some(Heard::Recoverer(true));
+            }
+        }
+        has_new
+    }
+}

@@ -1,0 +1,132 @@
+//! Storage servers.
+
+use crate::messages::{Peek, Peeked};
+use crate::state::State;
+use crate::store::Store;
+use std::rc::Rc;
+
+pub struct Storage {
+    pub tag: u8,
+    state: Rc<State>,
+    pub store: Store,
+}
+
+#[derive(Clone, Copy, Debug, PartialEq)]
+pub enum StorageFault {
+    Older,
+    Stranger,
+    BelowFloor,
+    NotMyGeneration,
+    Hole,
+}
+
+impl StorageFault {
+    pub fn name(self) -> &'static str {
+        match self {
+            StorageFault::Older => "Older",
+            StorageFault::Stranger => "Stranger",
+            StorageFault::BelowFloor => "BelowFloor",
+            StorageFault::NotMyGeneration => "NotMyGeneration",
+            StorageFault::Hole => "Hole",
+        }
+    }
+}
+
+/// Why a hear was not made.
+#[derive(Clone, Copy, Debug, PartialEq)]
+pub enum Unheard {
+    Refused(StorageFault),
+    /// It cannot break off at that version.
+    NoStop,
+}
+
+impl Storage {
+    pub fn new(tag: u8, state: Rc<State>) -> Self {
+        Storage { tag, state, store: Store::default() }
+    }
+
+    pub fn epoch(&self) -> u64 {
+        self.state.last().epoch
+    }
+
+    /// The ask for the records after the version applied, of a log of any epoch.
+    pub fn peek_of(&self, epoch: u64) -> Peek {
+        Peek { after: self.store.applied(), epoch, most: 100, tag: self.tag }
+    }
+
+    /// Goes over to the state of a later epoch, or breaks that off at a version.
+    pub fn hear_marked(&mut self, state: &Rc<State>, taken: Option<u64>) -> Result<(), Unheard> {
+        let own = self.epoch();
+        if state.last().epoch < own {
+            return Err(Unheard::Refused(StorageFault::Older));
+        }
+        if *state == self.state {
+            return self.stop_here(taken);
+        }
+        if !state.begins_with(&self.state) {
+            return Err(Unheard::Refused(StorageFault::Stranger));
+        }
+        let cut = state.cut_of(own).expect("a longer list has a generation after the own one");
+        if cut < self.store.floor() {
+            return Err(Unheard::Refused(StorageFault::BelowFloor));
+        }
+        match taken {
+            Some(version) if version != cut || version >= self.store.applied() => self.stop_here(taken),
+            _ => {
+                self.store.undo_to(cut).expect("the cut is not below the floor");
+                if taken.is_none() {
+                    self.state = state.clone();
+                }
+                Ok(())
+            }
+        }
+    }
+
+    /// Where a hear changes nothing it can break off at the version applied alone.
+    fn stop_here(&self, taken: Option<u64>) -> Result<(), Unheard> {
+        match taken {
+            Some(version) if version != self.store.applied() => Err(Unheard::NoStop),
+            _ => Ok(()),
+        }
+    }
+
+    pub fn hear_refused(&self, taken: Option<u64>) -> Result<(), Unheard> {
+        self.stop_here(taken)
+    }
+
+    /// Takes records of an epoch, or some of them, where that breaks off at a version.
+    pub fn hear_peeked(&mut self, epoch: u64, peeked: &Peeked, taken: Option<u64>) -> Result<(), Unheard> {
+        let applied = self.store.applied();
+        let source = self.state.source_of(applied + 1);
+        if source.is_none_or(|source| source.epoch != epoch) {
+            return Err(Unheard::Refused(StorageFault::NotMyGeneration));
+        }
+        if peeked.after > applied {
+            return Err(Unheard::Refused(StorageFault::Hole));
+        }
+        let end = self.state.end_of(epoch).unwrap_or(u64::MAX);
+        let is_new = |version: u64| applied < version && version <= end;
+        let upto = peeked.upto.min(end);
+        if let Some(stop) = taken {
+            let is_record = peeked.records.iter().any(|record| record.version == stop && is_new(stop));
+            if stop != applied && !is_record && !(stop == upto && upto > applied) {
+                return Err(Unheard::NoStop);
+            }
+        }
+        let last = taken.unwrap_or(u64::MAX);
+        for record in &peeked.records {
+            if is_new(record.version) && record.version <= last {
+                let batch = (*record.batch).clone();
+                self.store.apply(record.version, batch).expect("records rise above the version applied");
+            }
+        }
+        if upto > self.store.applied() && upto <= last {
+            self.store.advance(upto).expect("it is above the version applied");
+        }
+        let known = peeked.known.min(self.store.applied());
+        if taken.is_none() && known > self.store.floor() {
+            self.store.forget_through(known).expect("it is not above the version applied");
+        }
+        Ok(())
+    }
+}
