@@ -1,6 +1,6 @@
 -- The records of an ask lead a log where the ask does.
-use Rattle.std.proofs.Common.{◌≡◌, ℕ, ◌+◌, Bool, true, false, List, [], ◌∷◌, ◌++◌, map, All, Option, Some, None, refl, sym, ap, subst, ◌∙◌, append_assoc, cond}
-use Rattle.std.specs.Prelude.{◌==◌, ◌&&◌, ◌||◌, not, nat_lt, nat_le, fold, is_none, is_some}
+use Rattle.std.proofs.Common.{◌≡◌, ℕ, ◌+◌, Bool, true, false, List, [], ◌∷◌, ◌++◌, map, All, Option, Some, None, refl, sym, ap, ◌∙◌, append_assoc, cond}
+use Rattle.std.specs.Prelude.{◌==◌, ◌&&◌, ◌||◌, not, nat_lt, nat_le, is_none, is_some}
 use Rattle.std.specs.List.{list_all}
 use Rattle.std.proofs.lemmas.Bool.{and_parts, eqb-true, eq-eqb}
 use Rattle.std.proofs.lemmas.List.{append-nil}
@@ -12,21 +12,20 @@ use Rattle.fr_log.specs.declared.records.SeedRecord.{SeedRecord}
 use Rattle.fr_log.specs.declared.ask.LogAsk.{LogAsk}
 use Rattle.fr_log.specs.declared.ask.LogAsk.TheVariants.{Seed, Push, Lock, Peek, MarkAsked}
 use Rattle.fr_log.specs.declared.ask.LogRefusal.{LogRefusal}
-use Rattle.fr_log.specs.declared.ask.LogRefusal.TheVariants.{WrongEpoch, Unseeded, NotMine, SeedDiffers}
+use Rattle.fr_log.specs.declared.ask.LogRefusal.TheVariants.{WrongEpoch, NotMine}
 use Rattle.fr_log.specs.Seed.{SeedContent, is_within, is_rising_from}
 use Rattle.fr_log.specs.Push.{PushContent}
 use Rattle.fr_log.specs.LogState.{LogState, holds, is_push_held}
-use Rattle.fr_log.specs.Refusal.{has_other_seed, seed_refusal, push_refusal, lock_refusal, peek_refusal, mark_refusal}
+use Rattle.fr_log.specs.Refusal.{seed_refusal, push_refusal, lock_refusal, peek_refusal, mark_refusal}
 use Rattle.fr_log.specs.Step.{next_of, next_unless, granted_next}
-use Rattle.fr_log.specs.Seeding.{changes, is_empty, takes_seeded, with_seeded}
+use Rattle.fr_log.specs.Seeding.{changes, takes_seeded}
 use Rattle.fr_record_node.specs.Replay.{replayed, next_replayed}
 use Rattle.fr_record_log.specs.Law.{written_all, RunIsRead}
 use Rattle.fr_record_log.specs.LogFileLaws.{stays_sound}
-use Rattle.fr_record_log.specs.declared.change.Change.{Change}
-use Rattle.fr_record_log.specs.declared.change.Change.TheVariants.{Asked, Seeded}
+use Rattle.fr_record_log.specs.declared.change.Change.TheVariants.{Asked}
 use Rattle.fr_record_log.specs.Limits.{IsSoundRecord, IsSoundSeed, IsSoundPush, IsSoundAsk}
-use Rattle.fr_record_log.specs.Spelling.{spelled_head, spelled_seeded, spelled_push, spelled_ask, written_log}
-use Rattle.fr_record_log.specs.Reading.{◌>>=◌, change_at}
+use Rattle.fr_record_log.specs.Spelling.{spelled_head, spelled_seeded, spelled_ask, written_log}
+use Rattle.fr_record_log.specs.Reading.{◌>>=◌}
 use Rattle.fr_record_log.specs.LogFile.{taken, replay_log, IsSoundLog, LeadsBack}
 use Rattle.fr_record_log.proofs.Records.{without_records, push_is_read, record_is_read, head_is_read, lock_is_read}
 

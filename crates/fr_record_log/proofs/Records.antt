@@ -1,5 +1,5 @@
 -- What was written as a record of a log is read as it.
-use Rattle.std.proofs.Common.{◌≡◌, ℕ, ◌+◌, ◌<◌, ◌≤◌, Bool, true, false, nat_lt, nat_le, List, [], ◌∷◌, ◌++◌, length, Option, Some, None, Ok, Err, refl, sym, ap, ◌∙◌, arith, append_assoc, subst, Result, Vec, Global}
+use Rattle.std.proofs.Common.{◌≡◌, ℕ, ◌+◌, ◌<◌, ◌≤◌, Bool, true, nat_lt, nat_le, List, [], ◌∷◌, ◌++◌, length, Option, Some, None, Ok, Err, refl, sym, ap, ◌∙◌, arith, append_assoc, subst, Result, Vec, Global}
 use Rattle.std.specs.Prelude.{◌^◌, ◌==◌, ◌&&◌, is_some, IfSome, IfOk}
 use Rattle.std.specs.Int.{w64, to_be_bytes}
 use Rattle.std.proofs.lemmas.Bool.{lt-ltb, le-leb, eq-eqb, ne_eqb}
@@ -14,7 +14,7 @@ use Rattle.fr_state.specs.Laws.{SpelledIsRead}
 use Rattle.fr_log.specs.declared.records.SeedRecord.{SeedRecord}
 use Rattle.fr_log.specs.declared.ask.LogAsk.TheVariants.{Seed, Push, Lock}
 use Rattle.fr_log.specs.Seed.{SeedContent}
-use Rattle.fr_log.specs.Push.{PushContent, IsPush}
+use Rattle.fr_log.specs.Push.{PushContent}
 use Rattle.fr_log.specs.LogState.{LogState}
 use Rattle.fr_record_log.specs.declared.reading.Numbers.{Numbers}
 use Rattle.fr_record_log.specs.declared.change.Change.TheVariants.{Asked, Seeded}

@@ -1,6 +1,6 @@
 -- What a file is read as, some asks make of a log that was never asked.
 use Rattle.std.proofs.Common.{◌≡◌, ℕ, Bool, true, false, List, [], ◌∷◌, ◌++◌, Option, Some, None, cond, refl, sym, ap, subst, ◌∙◌}
-use Rattle.std.specs.Prelude.{◌&&◌, ◌==◌, not, is_none, is_some, fold, IfSome}
+use Rattle.std.specs.Prelude.{not, is_none, IfSome}
 use Rattle.std.specs.List.{list_all}
 use Rattle.std.proofs.lemmas.Bool.{and_parts, not-true, eq-eqb}
 use Rattle.std.proofs.lemmas.List.Sums.{fold-append}
@@ -11,15 +11,15 @@ use Rattle.fr_log.specs.Seed.{SeedContent}
 use Rattle.fr_log.specs.Push.{PushContent}
 use Rattle.fr_log.specs.LogState.{LogState, fresh_log, holds, is_push_held}
 use Rattle.fr_log.specs.Refusal.{seed_refusal, push_refusal, lock_refusal}
-use Rattle.fr_log.specs.Step.{next_of, next_unless, granted_next}
-use Rattle.fr_log.specs.Seeding.{changes, is_empty, may_take, with_record, more_seeded, takes_seeded, with_seeded}
+use Rattle.fr_log.specs.Step.{next_of}
+use Rattle.fr_log.specs.Seeding.{changes, is_empty, may_take, with_record, takes_seeded, with_seeded}
 use Rattle.fr_log.specs.Law.{after_all}
-use Rattle.fr_record_node.specs.Replay.{replayed, next_replayed}
+use Rattle.fr_record_node.specs.Replay.{replayed}
 use Rattle.fr_record_log.specs.declared.change.Change.{Change}
 use Rattle.fr_record_log.specs.declared.change.Change.TheVariants.{Asked, Seeded}
 use Rattle.fr_record_log.specs.Reading.{◌>>=◌, change_at}
 use Rattle.fr_record_log.specs.LogFile.{fresh_of, taken, replay_log}
-use Rattle.fr_record_log.specs.LogFileLaws.{same_fresh, same_read}
+use Rattle.fr_record_log.specs.LogFileLaws.{same_fresh}
 use Rattle.fr_record_log.specs.Law.{ReadIsRun}
 use Rattle.fr_record_log.proofs.Group.{none_is, seed_granted}
 

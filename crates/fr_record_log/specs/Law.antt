@@ -1,5 +1,5 @@
 -- The file of a run of asks.
-use Rattle.std.specs.Prelude.{◌≡◌, ℕ, List, [], ◌∷◌, ◌++◌, All, Some}
+use Rattle.std.specs.Prelude.{◌≡◌, ℕ, List, ◌++◌, All, Some}
 use Rattle.fr_log.specs.declared.ask.LogAsk.{LogAsk}
 use Rattle.fr_log.specs.LogState.{LogState, fresh_log}
 use Rattle.fr_log.specs.Step.{answer_of, next_of}

@@ -1,5 +1,5 @@
 -- Asks of a log whose numbers are within their limits.
-use Rattle.std.specs.Prelude.{◌≡◌, ℕ, ◌<◌, ◌≤◌, ◌^◌, None, IfSome, All, length}
+use Rattle.std.specs.Prelude.{◌≡◌, ◌<◌, ◌≤◌, ◌^◌, None, IfSome, All, length}
 use Rattle.fr_mutation.specs.Limits.{batch_fault}
 use Rattle.fr_tags.specs.declared.body.Body.{Body}
 use Rattle.fr_state.specs.Generations.{IsCoordinatedState}
@@ -8,7 +8,6 @@ use Rattle.fr_log.specs.declared.ask.LogAsk.{LogAsk}
 use Rattle.fr_log.specs.declared.ask.LogAsk.TheVariants.{Seed, Push, Lock, Peek, MarkAsked}
 use Rattle.fr_log.specs.Seed.{SeedContent, IsSeed}
 use Rattle.fr_log.specs.Push.{PushContent, IsPush}
-use Rattle.fr_log.specs.LogState.{LogState}
 
 pub record IsSoundRecord (r : SeedRecord) : Type 0 where
   pub version : r.version < 2 ^ 62

@@ -1,9 +1,7 @@
 -- A log that is brought back from the records of its file.
-use Rattle.std.specs.Prelude.{◌≡◌, ℕ, ◌<◌, ◌^◌, Bool, false, List, [], Option, None, Some, if◌then◌else◌}
+use Rattle.std.specs.Prelude.{◌≡◌, ℕ, ◌<◌, ◌^◌, false, List, [], Option, None, Some, if◌then◌else◌}
 use Rattle.fr_log.specs.declared.ask.LogAsk.{LogAsk}
 use Rattle.fr_log.specs.LogState.{LogState, fresh_log}
-use Rattle.fr_log.specs.Place.{LogPlace, place_of}
-use Rattle.fr_log.specs.Chain.{IsLog}
 use Rattle.fr_log.specs.Step.{next_of}
 use Rattle.fr_log.specs.Seeding.{changes, takes_seeded, with_seeded}
 use Rattle.fr_record_log.specs.declared.change.Change.{Change}

@@ -5,8 +5,6 @@ use Rattle.fr_log.specs.declared.ask.LogAsk.{LogAsk}
 use Rattle.fr_log.specs.declared.ask.LogAsk.TheVariants.{Seed, Push, Lock, Peek, MarkAsked}
 use Rattle.fr_log.specs.declared.ask.LogRefusal.{LogRefusal}
 use Rattle.fr_log.specs.declared.ask.LogRefusal.TheVariants.{WrongEpoch, Unseeded}
-use Rattle.fr_log.specs.declared.records.SeedRecord.{SeedRecord}
-use Rattle.fr_log.specs.Seed.{SeedContent}
 use Rattle.fr_log.specs.Push.{PushContent}
 use Rattle.fr_log.specs.LogState.{LogState, is_push_held}
 use Rattle.fr_log.specs.Refusal.{refusal_of, push_refusal, new_push_refusal, lock_refusal}

@@ -2,7 +2,6 @@
 use Rattle.std.specs.Prelude.{ℕ, List, [], ◌∷◌, ◌++◌, length, map, Option, None, Some, if◌then◌else◌}
 use Rattle.std.specs.List.{flat_map}
 use Rattle.std.specs.Int.{w32, w64, to_be_bytes}
-use Rattle.fr_mutation.specs.declared.mutation.Mutation.{Mutation}
 use Rattle.fr_mutation.specs.CodecSpelling.{spelled}
 use Rattle.fr_tags.specs.declared.body.Body.{Body}
 use Rattle.fr_state.specs.Generations.{CoordinatedState}
