@@ -2,7 +2,7 @@
 //! with status 1 where one does not hold.
 #![tactic(auto)]
 
-use fr_scenario::{Report, play_file};
+use test_player::{Report, play_file};
 use std::alloc::Global;
 use std::process::ExitCode;
 use std::{fs, io};
