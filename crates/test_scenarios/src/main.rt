@@ -2,10 +2,10 @@
 //! with status 1 where one does not hold.
 #![tactic(auto)]
 
-use test_player::{Report, play_file};
 use std::alloc::Global;
 use std::process::ExitCode;
 use std::{fs, io};
+use test_player::{Report, play_file};
 
 fn main(rt: HostRuntime) -> anyhow::Result<ExitCode> {
     let alloc = rt.alloc();
