@@ -11,3 +11,5 @@ mod devices;
 mod files;
 #[cfg(test)]
 mod scene;
+#[cfg(test)]
+mod several;
