@@ -117,8 +117,7 @@ fn holder(
 /// One of the logs of an epoch that hold a tag.
 fn holder_of(dice: &mut Dice, world: &World, tag: Tag, epoch: Epoch) -> NodeId {
     let place = tag.get().saturating_add(dice.byte(world.config().degree()));
-    let logs = world.config().logs();
-    let index = if logs == 0 { 0 } else { place % logs };
+    let index = around(place, world.config().logs());
     NodeId::Log { epoch, index }
 }
 
@@ -239,13 +238,19 @@ fn again_of_proxies(
     };
     let proxies = world.config().proxies();
     let first = dice.byte(proxies);
-    for number in (first..proxies).chain(0..first) {
+    for step in 0..proxies {
+        let number = around(first.saturating_add(step), proxies);
         let from = NodeId::Proxy { epoch, number };
         if let Some(event) = again_from(alloc, dice, world, from)? {
             return Ok(Some(event));
         }
     }
     Ok(None)
+}
+
+/// What is left of a number once it is cut down below a bound; 0 where the bound is.
+fn around(number: u8, bound: u8) -> u8 {
+    if bound == 0 { 0 } else { number % bound }
 }
 
 /// One of the asks that a node has pending.
