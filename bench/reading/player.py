@@ -47,12 +47,12 @@ def newest_cut(storage, state, taken):
     return RIGHT[rules.Storage, "hear_marked"](storage, state, taken)
 
 
-def past_the_end(storage, epoch, peeked, taken):
-    """A server takes what a generation has after its end."""
-    if epoch == batches.source_of(storage.state, storage.version + 1) and peeked["after"] <= storage.version:
-        storage.version = max(storage.version, peeked["upto"]) if taken is None else taken
+def never_undone(storage, state, taken):
+    """A server keeps the state that it hears, and undoes nothing."""
+    if state[: len(storage.state)] == storage.state and taken is None:
+        storage.state = state
         return None
-    return RIGHT[rules.Storage, "hear_peeked"](storage, epoch, peeked, taken)
+    return RIGHT[rules.Storage, "hear_marked"](storage, state, taken)
 
 
 WRONG = {
@@ -61,7 +61,7 @@ WRONG = {
     below_promise: (rules.Cell, "ask"),
     never_stopped: (rules.Log, "lock"),
     newest_cut: (rules.Storage, "hear_marked"),
-    past_the_end: (rules.Storage, "hear_peeked"),
+    never_undone: (rules.Storage, "hear_marked"),
 }
 RIGHT = {place: getattr(*place) for place in WRONG.values()}
 
@@ -70,7 +70,8 @@ class Player:
     """A world that is played."""
 
     def __init__(self, seed):
-        self.dice = dice = random.Random(seed)
+        self.number = seed
+        dice = random.Random(seed)
         few = lambda most: dice.randint(1, dice.choice([most, 3, 3, 3]))
         m = dice.choice([1, 2, 2, 2, 3, 3, 3, 4, 4, 5, 6, 9])
         self.config = {
@@ -83,7 +84,7 @@ class Player:
         self.nodes = nodes.Nodes(self.config)
         self.sent, self.told, self.lines, self.journals = [], [], [], {}
         self.rows = [[(0, {})] for _ in self.config["shards"]]
-        self.weights = {**self.WEIGHTS, "pull": dice.choice([30, 120]), "begin": dice.choice([2, 4, 8])}
+        self.weights = {**self.WEIGHTS, "pull": dice.choice([10, 40, 120]), "begin": dice.choice([2, 4, 8])}
         self.round = 1
         self.stamp = 0
 
@@ -212,7 +213,8 @@ class Player:
         return messages[at] if self.dice.random() < 0.2 else messages.pop(at)
 
     def event(self, number):
-        """One event of a kind that is drawn; nothing where there is none of it."""
+        """One event of a kind that is drawn; nothing where there is none of it. Each has draws of its own."""
+        self.dice = random.Random(f"{self.number} {number}")
         getattr(self, self.dice.choices(list(self.weights), self.weights.values())[0])(number)
 
     WEIGHTS = {
@@ -269,10 +271,11 @@ class Player:
         for name in [{"recoverer": {"ballot": each}} for each in self.nodes.recoverers][-3:]:
             self.sent += [(name, *each) for each in self.lacks(name)]
 
-    def text(self, events):
-        """What is printed of so many events."""
+    def text(self, events, without):
+        """What is printed of so many events but for those of some ranges."""
         for number in range(events):
-            self.event(number)
+            if not any(first <= number <= last for first, last in without):
+                self.event(number)
         for tag in range(len(self.config["shards"])):
             self.journals.setdefault(json.dumps({"storage": {"tag": tag}}), [])
         found = []
@@ -286,12 +289,12 @@ class Player:
         return "\n".join(self.lines + [json.dumps({"config": self.config, "journals": found})])
 
 
-def text_of(seed, events, wrong=None):
+def text_of(seed, events, without=(), wrong=None):
     """What is printed of a seed; with a wrong rule in place of the right one."""
     if wrong:
         setattr(*WRONG[wrong], lambda *words: wrong(*words))
     try:
-        return Player(seed).text(events)
+        return Player(seed).text(events, without)
     finally:
         for place, right in RIGHT.items():
             setattr(*place, right)

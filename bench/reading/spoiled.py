@@ -1,10 +1,12 @@
 """Runs that are spoiled on purpose, in a copy of what the program printed: each must be found, by its name."""
 
+import copy
+import functools
 import json
 
 from . import batches, player
 from .rules import Fault
-from .run import Run, played
+from .run import Run
 
 
 def acts_of(script, kind):
@@ -121,7 +123,7 @@ def found(text, checks, skip=None):
 def spoiled(worlds, seeds, spoil, checks, name):
     """Whether a run that is spoiled so is found to be so, in the first seed that can be."""
     for seed in seeds:
-        text = played(worlds.program, seed, worlds.events)
+        text = worlds.text(seed, worlds.events, ())
         *lines, script = text.splitlines()
         script = json.loads(script)
         if spoil(lines, script):
@@ -134,24 +136,29 @@ def spoiled(worlds, seeds, spoil, checks, name):
 
 def passed_over(worlds, seeds):
     """Whether a reading that passes over a batch is named in some seed; the events by which it is are made few."""
+    worlds = copy.copy(worlds)
     worlds.skip, worlds.checks, worlds.audit = 3, ("promises",), None
     for seed in seeds:
         fault = worlds.fault(seed, list(range(worlds.events)))
         if fault:
             kept = worlds.shrunk(seed)
             print(f"version 3 passed over, in seed {seed}: {fault}")
-            print(f"the same by {len(kept)} events: {worlds.fault(seed, kept)}")
+            print(f"    the same by {len(kept)} events: {worlds.fault(seed, kept)}")
             return len(kept) < worlds.events // 4
     return False
 
 
-def turned(seeds, events, wrong):
-    """Whether a run in which nodes keep a wrong rule is named by the promises in some seed."""
+def turned(worlds, seeds, wrong):
+    """Whether a run in which nodes keep a wrong rule is named by the promises in some seed, and by few events."""
+    worlds = copy.copy(worlds)
+    worlds.text, worlds.checks, worlds.audit = functools.partial(player.text_of, wrong=wrong), ("promises",), None
     for seed in seeds:
-        fault = found(player.text_of(seed, events, wrong), "promises")
+        fault = worlds.fault(seed, list(range(worlds.events)))
         if fault:
-            print(f"{wrong.__name__}, by promises, in played seed {seed}: {fault}")
-            return True
+            kept = worlds.shrunk(seed)
+            print(f"{wrong.__name__}, in played seed {seed}: {fault}")
+            print(f"    the same by {len(kept)} events: {worlds.fault(seed, kept)}")
+            return len(kept) < worlds.events // 4
     print(f"{wrong.__name__}: not found")
     return False
 
@@ -166,7 +173,7 @@ def is_right(seeds, events):
 def test(worlds, seeds):
     """The status: 0 where each is found."""
     good = [is_right(seeds[:10], worlds.events)]
-    good += [turned(seeds, worlds.events, wrong) for wrong in player.WRONG]
+    good += [turned(worlds, seeds, wrong) for wrong in player.WRONG]
     good += [spoiled(worlds, seeds, *each) for each in SPOILS] + [passed_over(worlds, seeds)]
     print(f"{sum(good)} of {len(good)} as it is to be")
     return 0 if all(good) else 1

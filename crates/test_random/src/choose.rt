@@ -15,10 +15,11 @@ pub(crate) fn choose(
     world: &World,
     seen: &mut Seen,
 ) -> anyhow::Result<Choice> {
-    match possible(Kind::draw(dice, weather), seen) {
+    let kind = Kind::draw(dice, weather);
+    match possible(dice, kind, seen) {
         Kind::Submit => chosen::submit(alloc, dice, world, seen),
-        Kind::Again => Ok(chosen::again(alloc, dice, world, seen)?),
-        Kind::Pull => Ok(chosen::pull(dice, world, seen)),
+        Kind::Again => again_or_submit(alloc, dice, world, seen),
+        Kind::Pull => Ok(chosen::pull(alloc, dice, world, seen)?),
         Kind::Mark => Ok(chosen::mark(dice, world, seen)),
         Kind::Begin => Ok(chosen::begin(dice, seen)),
         Kind::Crash => Ok(chosen::crash(dice, world, seen)),
@@ -28,11 +29,27 @@ pub(crate) fn choose(
 }
 
 /// The kind that was drawn; where no ask is under way a node asks again, and where no tell is a storage server pulls.
-fn possible(kind: Kind, seen: &Seen) -> Kind {
+/// Logs are lost seldom.
+fn possible(dice: &mut Dice, kind: Kind, seen: &Seen) -> Kind {
     match kind {
         Kind::Ask if seen.new_asks.is_empty() => Kind::Again,
         Kind::Tell if seen.new_tells.is_empty() => Kind::Pull,
+        Kind::Lose if !dice.is_one_of(3) => Kind::Pull,
         _ => kind,
+    }
+}
+
+/// A node asks again, or where none lacks anything a proxy takes a batch.
+fn again_or_submit(
+    alloc: Global,
+    dice: &mut Dice,
+    world: &World,
+    seen: &Seen,
+) -> anyhow::Result<Choice> {
+    let choice = chosen::again(alloc, dice, world, seen)?;
+    match choice.event {
+        Some(_) => Ok(choice),
+        None => chosen::submit(alloc, dice, world, seen),
     }
 }
 

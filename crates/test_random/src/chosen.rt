@@ -4,8 +4,9 @@ use crate::choice::{Choice, Kind};
 use crate::dice::Dice;
 use crate::epochs;
 use crate::seen::Seen;
-use fr_ask::Ask;
-use fr_base::{Epoch, LogId, Memory, NodeId, Step, Tag};
+use fr_ask::{Ask, Last};
+use fr_base::{Ballot, Epoch, LogId, Memory, NodeId, Step, Tag};
+use fr_epoch::Phase;
 use fr_log::{LogAsk, Most};
 use fr_world::{Event, World};
 use std::alloc::Global;
@@ -44,23 +45,33 @@ fn step(dice: &mut Dice) -> Option<Step> {
 }
 
 /// A storage server asks a log for records: mostly for what it wants next.
-pub(crate) fn pull(dice: &mut Dice, world: &World, seen: &Seen) -> Choice {
-    of(Kind::Pull, pull_of(dice, world, seen))
+pub(crate) fn pull(
+    alloc: Global,
+    dice: &mut Dice,
+    world: &World,
+    seen: &Seen,
+) -> Result<Choice, Memory> {
+    let event = match wanted(dice, world, seen) {
+        Some((tag, epoch, ask)) => Some(Event::Deliver {
+            from: NodeId::Storage { tag },
+            to: holder(alloc, dice, world, tag, epoch)?,
+            ask: Ask::Log(ask),
+        }),
+        None => None,
+    };
+    Ok(of(Kind::Pull, event))
 }
 
-fn pull_of(dice: &mut Dice, world: &World, seen: &Seen) -> Option<Event> {
+/// What a storage server asks, and of the logs of which epoch.
+fn wanted(dice: &mut Dice, world: &World, seen: &Seen) -> Option<(Tag, Epoch, LogAsk)> {
     let tag = epochs::tag(dice, world)?;
-    let (wanted, ask) = world.storage(tag)?.next_ask();
+    let (source, ask) = world.storage(tag)?.next_ask();
     let epoch = if dice.is_one_of(10) {
         epochs::epoch(dice, world, seen)?
     } else {
-        wanted
+        source
     };
-    Some(Event::Deliver {
-        from: NodeId::Storage { tag },
-        to: holder(dice, world, tag, epoch),
-        ask: Ask::Log(asked(dice, epoch, ask)?),
-    })
+    Some((tag, epoch, asked(dice, epoch, ask)?))
 }
 
 /// What a storage server asks of the logs of an epoch; sometimes for few records.
@@ -82,15 +93,40 @@ fn asked(dice: &mut Dice, epoch: Epoch, ask: LogAsk) -> Option<LogAsk> {
     }
 }
 
-/// A log of an epoch, mostly one that holds the tag.
-fn holder(dice: &mut Dice, world: &World, tag: Tag, epoch: Epoch) -> NodeId {
-    let logs = world.config().logs();
-    let index = if logs == 0 || dice.is_one_of(10) {
-        epochs::log(dice, world, epoch).index
+/// A log of an epoch: mostly one that holds the tag, and of two of these the one that holds more.
+fn holder(
+    alloc: Global,
+    dice: &mut Dice,
+    world: &World,
+    tag: Tag,
+    epoch: Epoch,
+) -> Result<NodeId, Memory> {
+    if dice.is_one_of(10) {
+        let LogId { epoch, index } = epochs::log(dice, world, epoch);
+        return Ok(NodeId::Log { epoch, index });
+    }
+    let one = holder_of(dice, world, tag, epoch);
+    let other = holder_of(dice, world, tag, epoch);
+    if held(alloc, world, one)? < held(alloc, world, other)? {
+        Ok(other)
     } else {
-        tag.get().saturating_add(dice.byte(world.config().degree())) % logs
-    };
+        Ok(one)
+    }
+}
+
+/// One of the logs of an epoch that hold a tag.
+fn holder_of(dice: &mut Dice, world: &World, tag: Tag, epoch: Epoch) -> NodeId {
+    let place = tag.get().saturating_add(dice.byte(world.config().degree()));
+    let index = around(place, world.config().logs());
     NodeId::Log { epoch, index }
+}
+
+/// The last version that a log holds.
+fn held(alloc: Global, world: &World, log: NodeId) -> Result<u64, Memory> {
+    match world.last_of(alloc, log)? {
+        Some(Last::Log { durable, .. }) => Ok(durable.get()),
+        _ => Ok(0),
+    }
 }
 
 /// A storage server asks a log for the mark of its epoch.
@@ -139,20 +175,82 @@ pub(crate) fn again(
     world: &World,
     seen: &Seen,
 ) -> Result<Choice, Memory> {
-    let event = match asker(dice, world, seen) {
-        Some(from) => again_from(alloc, dice, world, from)?,
-        None => None,
+    let event = if dice.is_one_of(2) {
+        again_of_recoverers(alloc, dice, world, seen)?
+    } else {
+        again_of_proxies(alloc, dice, world, seen)?
     };
     Ok(of(Kind::Again, event))
 }
 
-fn asker(dice: &mut Dice, world: &World, seen: &Seen) -> Option<NodeId> {
-    if dice.is_one_of(2) {
-        return epochs::recoverer(dice, seen);
+/// Mostly the last recoverer that is on its way.
+fn again_of_recoverers(
+    alloc: Global,
+    dice: &mut Dice,
+    world: &World,
+    seen: &Seen,
+) -> Result<Option<Event>, Memory> {
+    let any = epochs::recoverer(dice, seen);
+    let from = if dice.is_one_of(4) {
+        any
+    } else {
+        first_of(on_its_way(world, seen), any)
+    };
+    match from {
+        Some(from) => again_from(alloc, dice, world, from),
+        None => Ok(None),
     }
-    let epoch = epochs::epoch(dice, world, seen)?;
-    let number = epochs::proxy(dice, world);
-    Some(NodeId::Proxy { epoch, number })
+}
+
+/// The first of two, where it is there.
+fn first_of(one: Option<NodeId>, other: Option<NodeId>) -> Option<NodeId> {
+    match one {
+        Some(one) => Some(one),
+        None => other,
+    }
+}
+
+/// The last recoverer that began and is neither lost nor chosen.
+fn on_its_way(world: &World, seen: &Seen) -> Option<NodeId> {
+    let mut found = None;
+    for epoch in seen.epochs.iter() {
+        found = first_of(on_its_way_at(world, epoch.ballot()), found);
+    }
+    found
+}
+
+fn on_its_way_at(world: &World, ballot: Ballot) -> Option<NodeId> {
+    match world.recoverer(ballot)?.phase() {
+        Phase::Chosen { .. } | Phase::Lost { .. } => None,
+        _ => Some(NodeId::Recoverer { ballot }),
+    }
+}
+
+/// The first proxy of an epoch, from any on, that has something pending.
+fn again_of_proxies(
+    alloc: Global,
+    dice: &mut Dice,
+    world: &World,
+    seen: &Seen,
+) -> Result<Option<Event>, Memory> {
+    let Some(epoch) = epochs::epoch(dice, world, seen) else {
+        return Ok(None);
+    };
+    let proxies = world.config().proxies();
+    let first = dice.byte(proxies);
+    for step in 0..proxies {
+        let number = around(first.saturating_add(step), proxies);
+        let from = NodeId::Proxy { epoch, number };
+        if let Some(event) = again_from(alloc, dice, world, from)? {
+            return Ok(Some(event));
+        }
+    }
+    Ok(None)
+}
+
+/// What is left of a number once it is cut down below a bound; 0 where the bound is.
+fn around(number: u8, bound: u8) -> u8 {
+    if bound == 0 { 0 } else { number % bound }
 }
 
 /// One of the asks that a node has pending.

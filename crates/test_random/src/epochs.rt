@@ -8,22 +8,26 @@ use fr_world::World;
 fn newest_open(world: &World, seen: &Seen) -> Option<Epoch> {
     let mut newest = None;
     for epoch in seen.epochs.iter() {
-        if is_open(world, *epoch) && is_above(*epoch, newest) {
-            newest = Some(*epoch);
-        }
+        newest = newer(newest, open(world, *epoch));
     }
     newest
 }
 
-/// Whether an epoch has its sequencer.
-fn is_open(world: &World, epoch: Epoch) -> bool {
-    world.is_there(NodeId::Sequencer { epoch })
+/// An epoch, where it has its sequencer.
+fn open(world: &World, epoch: Epoch) -> Option<Epoch> {
+    if world.is_there(NodeId::Sequencer { epoch }) {
+        Some(epoch)
+    } else {
+        None
+    }
 }
 
-fn is_above(epoch: Epoch, other: Option<Epoch>) -> bool {
-    match other {
-        Some(other) => other < epoch,
-        None => true,
+/// The greater of two epochs.
+fn newer(one: Option<Epoch>, other: Option<Epoch>) -> Option<Epoch> {
+    match (one, other) {
+        (Some(one), Some(other)) if one < other => Some(other),
+        (None, other) => other,
+        _ => one,
     }
 }
 
@@ -31,9 +35,7 @@ fn is_above(epoch: Epoch, other: Option<Epoch>) -> bool {
 fn newest(seen: &Seen) -> Option<Epoch> {
     let mut newest = None;
     for epoch in seen.epochs.iter() {
-        if is_above(*epoch, newest) {
-            newest = Some(*epoch);
-        }
+        newest = newer(newest, Some(*epoch));
     }
     newest
 }

@@ -10,7 +10,7 @@ const BEGINS: [&[u8]; 6] = [b"", b"a", b"ab", b"b", b"c", b"ca"];
 
 /// How many of a kind there are: mostly few.
 fn few(dice: &mut Dice, most: u8) -> u8 {
-    let bound = if dice.is_one_of(4) { most } else { most.min(3) };
+    let bound = if dice.is_one_of(8) { most } else { most.min(4) };
     dice.byte(bound).saturating_add(1)
 }
 
