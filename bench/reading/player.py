@@ -144,8 +144,8 @@ class Player:
             log = self.nodes.logs[node.parent[-1][0], index]
             for tag, records in log.records.items():
                 if (at - tag) % node.m < node.k:
-                    found.update({(tag, version): batch for version, batch in records if node.pev < version <= node.rv})
-        records = [{"batch": batch, "tag": tag, "version": version} for (tag, version), batch in sorted(found.items())]
+                    found.update({(version, tag): batch for version, batch in records if node.pev < version <= node.rv})
+        records = [{"batch": batch, "tag": tag, "version": version} for (version, tag), batch in sorted(found.items())]
         return {"epoch": node.ballot, "first": node.pev + 1, "records": records, "seeded_to": node.rv}
 
     # what happens
