@@ -10,7 +10,7 @@ use std::alloc::Global;
 use std::process::Abort;
 use std::test::Fail;
 
-pub(crate) const ROOM: usize = 8192;
+const ROOM: usize = 8192;
 
 /// What a cell is asked.
 #[derive(Clone, Copy)]
@@ -22,7 +22,7 @@ enum Ask {
 
 /// What comes of it.
 #[derive(Clone, Copy)]
-pub(crate) enum Said {
+enum Said {
     /// The ballot that was written, and its value.
     Promise(u64, &'static [u8]),
     Written(u64),
@@ -43,12 +43,12 @@ fn value(alloc: Global, bytes: &[u8]) -> Result<CellValue, Fail> {
     Ok(CellValue::new(Vec::from_slice(alloc, bytes)?).ok_or("no value")?)
 }
 
-pub(crate) fn read(number: u64) -> Result<CellAsk, Fail> {
+fn read(number: u64) -> Result<CellAsk, Fail> {
     let ballot = ballot(number)?;
     Ok(CellAsk::Read { ballot })
 }
 
-pub(crate) fn write(alloc: Global, number: u64, bytes: &[u8]) -> Result<CellAsk, Fail> {
+fn write(alloc: Global, number: u64, bytes: &[u8]) -> Result<CellAsk, Fail> {
     let ballot = ballot(number)?;
     let value = value(alloc, bytes)?;
     Ok(CellAsk::Write { ballot, value })
@@ -75,7 +75,7 @@ fn is_refused(promised: u64, said: Said) -> bool {
     }
 }
 
-pub(crate) fn is_told(tell: &CellTell, said: Said) -> bool {
+fn is_told(tell: &CellTell, said: Said) -> bool {
     match tell {
         CellTell::Promise { written, value } => is_promise(written.get(), value.as_slice(), said),
         CellTell::Written { ballot } => is_written(ballot.get(), said),

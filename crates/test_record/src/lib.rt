@@ -11,5 +11,3 @@ mod devices;
 mod files;
 #[cfg(test)]
 mod scene;
-#[cfg(test)]
-mod several;
