@@ -123,9 +123,15 @@ fn holder_of(dice: &mut Dice, world: &World, tag: Tag, epoch: Epoch) -> NodeId {
 
 /// The last version that a log holds.
 fn held(alloc: Global, world: &World, log: NodeId) -> Result<u64, Memory> {
-    match world.last_of(alloc, log)? {
-        Some(Last::Log { durable, .. }) => Ok(durable.get()),
-        _ => Ok(0),
+    let last = world.last_of(alloc, log)?;
+    Ok(durable_of(&last))
+}
+
+/// The last version that a log holds, by what others see of it; 0 where it is no log.
+fn durable_of(last: &Option<Last>) -> u64 {
+    match last {
+        Some(Last::Log { durable, .. }) => durable.get(),
+        _ => 0,
     }
 }
 

@@ -24,10 +24,16 @@ fn open(world: &World, epoch: Epoch) -> Option<Epoch> {
 
 /// The greater of two epochs.
 fn newer(one: Option<Epoch>, other: Option<Epoch>) -> Option<Epoch> {
-    match (one, other) {
-        (Some(one), Some(other)) if one < other => Some(other),
-        (None, other) => other,
-        _ => one,
+    let Some(first) = one else {
+        return other;
+    };
+    let Some(second) = other else {
+        return Some(first);
+    };
+    if first < second {
+        Some(second)
+    } else {
+        Some(first)
     }
 }
 
