@@ -86,7 +86,8 @@ class Promises:
         want(rows == wanted, "rows: the server of tag", tag, "at", epoch, version, "holds", rows, "and not", wanted)
         if version < old:
             for at in range(version + 1, old + 1):
-                held = self.kept.get(at, [])
+                # (what a later epoch has committed at this version may be an equal batch: it is not what is undone)
+                held = [it for of, it in self.kept.get(at, []) if of <= old_epoch]
                 want(all(it not in self.issued(old_epoch) for it in held), "kept: version", at, "is undone by tag", tag)
         if epoch != old_epoch:
             self.rolled_back(tag, old_epoch, epoch, version, rows)
@@ -119,7 +120,7 @@ class Promises:
         """The batch that a proxy has under way is acknowledged at a version."""
         batch = self.submitted[proxy["epoch"], proxy["number"]][-1]
         want(self.is_committed(version, batch), "kept: version", version, "of", proxy, "is acknowledged and not committed")
-        self.kept.setdefault(version, []).append((version, batch))
+        self.kept.setdefault(version, []).append((proxy["epoch"], (version, batch)))
 
     def asked(self, name, what):
         ((kind, ask),) = what["ask"].items()
@@ -196,7 +197,7 @@ class Promises:
     def end(self):
         """All that was acknowledged stands, and what servers lack can be had where fewer than k logs are lost."""
         for version, held in self.kept.items():
-            want(all(self.is_committed(*it) for it in held), "kept: version", version, "was acknowledged, and is lost")
+            want(all(self.is_committed(*it) for _, it in held), "kept: version", version, "was acknowledged, and is lost")
         state = self.states[self.chosen[-1]]
         if any(sum(1 for it in self.lost if it[0] == gen[0]) >= self.k for gen in state):
             return
