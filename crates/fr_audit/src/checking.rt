@@ -41,7 +41,8 @@ pub fn audit(alloc: Global, config: Config, journals: &[Journal]) -> Result<Worl
 fn enter_all(alloc: Global, world: World, entries: &[NodeEntry]) -> Result<World, AuditFault>
     ensures config { IfOk result (λ after. after.config ≡ world.config) }
     ensures turns { IfOk result (λ after. rule.after_entries world.config world.turns None 0 (map placed_of entries.now) ≡ Ok after.turns) }
-    ensures fault { IfErr result (λ fault. fault ≢ AuditFault.Memory → rule.after_entries world.config world.turns None 0 (map placed_of entries.now) ≡ Err fault) }
+    ensures fault { IfErr result (λ fault. fault ≢ AuditFault.Memory
+        → rule.after_entries world.config world.turns None 0 (map placed_of entries.now) ≡ Err fault) }
 {
     let mut world = world;
     for (number, entry) in entries.iter().enumerate() {
@@ -87,7 +88,8 @@ fn enter(
 ) -> Result<(), AuditFault>
     ensures config { world.new.config ≡ world.old.config }
     ensures turns { OnOk result (after_this world.old.config world.old.turns repeated number (placed_of entry.now) ≡ Ok world.new.turns) }
-    ensures fault { IfErr result (λ fault. fault ≢ AuditFault.Memory → after_this world.old.config world.old.turns repeated number (placed_of entry.now) ≡ Err fault) }
+    ensures fault { IfErr result (λ fault. fault ≢ AuditFault.Memory
+        → after_this world.old.config world.old.turns repeated number (placed_of entry.now) ≡ Err fault) }
 {
     if repeated {
         return Err(AuditFault::NotARun { at: number });

@@ -95,7 +95,8 @@ pub trait Node {
         ensures owes { (result ≡ Err NodeFault.Device) → owed self.new ≡ Some (Self.Plain.after (state self.old) ask) }
         ensures owes_still { result ≢ Err NodeFault.Device → owed self.new ≡ owed self.old }
         ensures trouble { IfErr result (λ fault. fault ≢ NodeFault.Failed → CanMeet fault) }
-        ensures any_moment { is_failed self.old ≡ false → Throughout (λ x. (x ≡ state self.old) ⊎ (x ≡ Self.Plain.after (state self.old) ask)) self.old self.new }
+        ensures any_moment { is_failed self.old ≡ false
+            → Throughout (λ x. (x ≡ state self.old) ⊎ (x ≡ Self.Plain.after (state self.old) ask)) self.old self.new }
         ensures kept { OnOk result (Throughout (λ x. x ≡ state self.new) self.new self.new) };
 
     /// Opens the node again, failed or not, and says where it then stands. A fault leaves the state.

@@ -57,7 +57,8 @@ fn run_operations<S: ShardStore, W: Write>(
     calls: &mut CallCounts,
     writer: &mut W,
 ) -> Result<(), CliFault>
-    ensures ok { OnOk result (Owes (W.contents writer.old) (W.contents writer.new) (row_lines (map.entries (S.state store.new).contents)) (plan_lines (S.state store.old) operations.items)) }
+    ensures ok { OnOk result (Owes (W.contents writer.old) (W.contents writer.new)
+        (row_lines (map.entries (S.state store.new).contents)) (plan_lines (S.state store.old) operations.items)) }
     ensures front { GainsFront (W.contents writer.old) (W.contents writer.new) (plan_lines (S.state store.old) operations.items) }
     ensures fault { IfErr result (λ e. IsWriteFault calls.new e) }
     ensures done { OnOk result (calls.new ≡ calls.old) }

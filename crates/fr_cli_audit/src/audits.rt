@@ -26,7 +26,9 @@ pub fn run_audit<R: Read, W: Write>(
     reader: &mut R,
     writer: &mut W,
 ) -> Result<u8, CliFault>
-    ensures line { IfOk result (λ status. (c : history.Config) × (js : List JournalState) × (status ≡ status_of (audited c js)) × Appends (W.contents writer.old) (W.contents writer.new) (line_of (audited c js))) }
+    ensures line { IfOk result (λ status. (c : history.Config) × (js : List JournalState)
+        × (status ≡ status_of (audited c js))
+        × Appends (W.contents writer.old) (W.contents writer.new) (line_of (audited c js))) }
     ensures unwritten { (result ≡ Err CliFault.BadScript) ⊎ (result ≡ Err CliFault.Input)
         → writer.new ≡ writer.old }
 {
@@ -44,7 +46,9 @@ pub fn audit_counted<R: Read, W: Write>(
     writer: &mut W,
 ) -> Result<u8, CliFault>
     requires fresh { calls.old ≡ no_calls }
-    ensures line { IfOk result (λ status. (c : history.Config) × (js : List JournalState) × (status ≡ status_of (audited c js)) × Appends (W.contents writer.old) (W.contents writer.new) (line_of (audited c js))) }
+    ensures line { IfOk result (λ status. (c : history.Config) × (js : List JournalState)
+        × (status ≡ status_of (audited c js))
+        × Appends (W.contents writer.old) (W.contents writer.new) (line_of (audited c js))) }
     ensures unwritten { (result ≡ Err CliFault.BadScript) ⊎ (result ≡ Err CliFault.Input)
         → writer.new ≡ writer.old }
     ensures no_input { result ≡ Err CliFault.Input → HasNoInput calls.new }

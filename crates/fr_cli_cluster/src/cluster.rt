@@ -34,7 +34,9 @@ pub fn run_cluster<R: Threads + Wait + Sync, W: Write>(
     options: ClusterOptions,
     writer: &mut W,
 ) -> Result<u8, CliFault>
-    ensures report { IfOk result (λ status. (text : List ℕ) × IsReport (config_of options) options.journal status text × Appends (W.contents writer.old) (W.contents writer.new) text) }
+    ensures report { IfOk result (λ status. (text : List ℕ)
+        × IsReport (config_of options) options.journal status text
+        × Appends (W.contents writer.old) (W.contents writer.new) text) }
     ensures unwritten { result ≡ Err CliFault.Memory → writer.new ≡ writer.old }
 {
     let mut calls = CallCounts::new();
@@ -53,7 +55,9 @@ pub fn cluster_counted<R: Threads + Wait + Sync, F: Faults + Sync, W: Write>(
     writer: &mut W,
 ) -> Result<u8, CliFault>
     requires fresh { calls.old ≡ no_calls }
-    ensures report { IfOk result (λ status. (text : List ℕ) × IsReport (config_of options) options.journal status text × Appends (W.contents writer.old) (W.contents writer.new) text) }
+    ensures report { IfOk result (λ status. (text : List ℕ)
+        × IsReport (config_of options) options.journal status text
+        × Appends (W.contents writer.old) (W.contents writer.new) text) }
     ensures unwritten { result ≡ Err CliFault.Memory → writer.new ≡ writer.old }
     ensures fault { IfErr result (λ e. IsWriteFault calls.new e) }
     ensures done { OnOk result (HasNotFailed calls.new) }
@@ -111,8 +115,11 @@ fn put_report<W: Write>(
     requires run { IfOk ran (λ report. IsRunOf (config_of words.now) report.journals.items report.world.turns) }
     requires handed { IfOk ran (λ report. IsHanded (config_of words.now) report.journals.items report.world.turns) }
     ensures taken { OnOk ran (IfOk result (λ status. status ≡ 0)) }
-    ensures refused { IfErr ran (λ fault. IfOk result (λ status. (status ≡ 1) × Appends (W.contents writer.old) (W.contents writer.new) (fault_line fault))) }
-    ensures report { IfOk result (λ status. (text : List ℕ) × IsReport (config_of words.now) words.now.journal status text × Appends (W.contents writer.old) (W.contents writer.new) text) }
+    ensures refused { IfErr ran (λ fault. IfOk result (λ status. (status ≡ 1)
+        × Appends (W.contents writer.old) (W.contents writer.new) (fault_line fault))) }
+    ensures report { IfOk result (λ status. (text : List ℕ)
+        × IsReport (config_of words.now) words.now.journal status text
+        × Appends (W.contents writer.old) (W.contents writer.new) text) }
     ensures unwritten { result ≡ Err CliFault.Memory → writer.new ≡ writer.old }
     ensures fault { IfErr result (λ e. IsWriteFault calls.new e) }
     ensures done { OnOk result (calls.new ≡ calls.old) }

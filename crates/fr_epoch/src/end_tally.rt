@@ -80,7 +80,9 @@ impl EndTally {
     pub fn hear(&mut self, index: u8, durable: Version, known: Version) -> Result<(), ReplyFault>
         ensures ok { IfOk result (λ _. heard_reply self.old (record { log = index; durable = durable; known = known }) ≡ Ok self.new) }
         ensures stranger { (result ≡ Err ReplyFault.Stranger) ↔ (self.old.m ≤ index) }
-        ensures differs { (result ≡ Err ReplyFault.Differs) ↔ ((index < self.old.m) × (differs self.old (record { log = index; durable = durable; known = known }) ≡ true)) }
+        ensures differs { (result ≡ Err ReplyFault.Differs)
+            ↔ ((index < self.old.m) × (differs self.old (record { log = index; durable = durable; known = known })
+            ≡ true)) }
         ensures kept { OnErr result (self.new ≡ self.old) }
         ensures counted { self.new ≡ with_reply self.old (record { log = index; durable = durable; known = known }) }
     {

@@ -50,8 +50,24 @@ impl Push {
         known: Version,
         bodies: Vec<Body>,
     ) -> Option<Self>
-        ensures within { IsSome result ↔ IsPush (record { epoch = epoch; prev = prev; version = version; known = known; bodies = bodies.items; mark = None }) }
-        ensures value { IfSome result (λ p. p ≡ record { epoch = epoch; prev = prev; version = version; known = known; bodies = bodies.items; mark = None }) }
+        ensures within { IsSome result ↔ IsPush
+            (record {
+              epoch = epoch;
+              prev = prev;
+              version = version;
+              known = known;
+              bodies = bodies.items;
+              mark = None;
+            }) }
+        ensures value { IfSome result (λ p. p
+            ≡ record {
+              epoch = epoch;
+              prev = prev;
+              version = version;
+              known = known;
+              bodies = bodies.items;
+              mark = None;
+            }) }
     {
         let is_step = Step::between(prev, version).is_some();
         if is_step && known <= prev && is_rising(&bodies) {

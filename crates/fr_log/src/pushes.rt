@@ -125,8 +125,11 @@ impl Pushes {
         given: &mut Vec<PeekedRecord>,
     ) -> Result<bool, Memory>
         requires { length given.old.items ≤ most }
-        ensures given { IfOk result (λ _. given.new.items ≡ take most (given.old.items ++ pushed_records tag (filter (λ p. nat_lt after p.version) self.now))) }
-        ensures more { IfOk result (λ more. more ≡ nat_lt most (length (given.old.items ++ pushed_records tag (filter (λ p. nat_lt after p.version) self.now)))) }
+        ensures given { IfOk result (λ _. given.new.items
+            ≡ take most (given.old.items ++ pushed_records tag (filter (λ p. nat_lt after p.version) self.now))) }
+        ensures more { IfOk result (λ more. more
+            ≡ nat_lt most (length
+            (given.old.items ++ pushed_records tag (filter (λ p. nat_lt after p.version) self.now)))) }
     {
         match self.shelves.get(usize::from(tag.get())) {
             Some(shelf) => shelf.gather(after, most, given),
@@ -178,7 +181,9 @@ fn put_all(
 ) -> Result<(), Memory>
     requires rising { IsTrue (is_rising_from 0 bodies.items) }
     requires fresh { (t : ℕ) → AreBelow version (shelf_of shelves.old.items t) }
-    ensures after { OnOk result ((t : ℕ) → shelf_of shelves.new.items t ≡ shelf_of shelves.old.items t ++ at_version version (batch_of t bodies.items)) }
+    ensures after { OnOk result ((t : ℕ)
+        → shelf_of shelves.new.items t ≡ shelf_of shelves.old.items t ++ at_version version
+        (batch_of t bodies.items)) }
     ensures err { OnErr result ((t : ℕ) → cut version (shelf_of shelves.new.items t) ≡ shelf_of shelves.old.items t) }
 {
     for body in bodies {

@@ -27,8 +27,12 @@ pub(crate) fn gather(
     after: Version,
     most: usize,
 ) -> Result<(Vec<PeekedRecord>, bool), Memory>
-    ensures given { IfOk result (λ found. found.0.items ≡ take most (seeded_records tag records.now ++ pushed_records tag (filter (λ p. nat_lt after p.version) pushes.now))) }
-    ensures more { IfOk result (λ found. found.1 ≡ nat_lt most (length (seeded_records tag records.now ++ pushed_records tag (filter (λ p. nat_lt after p.version) pushes.now)))) }
+    ensures given { IfOk result (λ found. found.0.items
+        ≡ take most (seeded_records tag records.now ++ pushed_records tag
+        (filter (λ p. nat_lt after p.version) pushes.now))) }
+    ensures more { IfOk result (λ found. found.1
+        ≡ nat_lt most (length (seeded_records tag records.now ++ pushed_records tag
+        (filter (λ p. nat_lt after p.version) pushes.now)))) }
 {
     let mut given = Vec::new(alloc);
     if gather_seeded(alloc, records, tag, most, &mut given)? {

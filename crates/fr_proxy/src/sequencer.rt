@@ -135,7 +135,12 @@ impl Sequencer {
     fn give(&mut self, proxy: u8, request: u64, step: Step) -> Result<SeqTell, Memory>
         requires { self.old.last + step < 2 ^ 62 }
         ensures tell { IfOk result (λ tell. tell ≡ told (new_number self.old request step)) }
-        ensures state { OnOk result (self.new ≡ record self.old { last = self.old.last + step; given = insert self.old.given proxy (new_number self.old request step) }) }
+        ensures state { OnOk result (self.new
+            ≡ record self.old {
+              last = self.old.last + step;
+              given = insert self.old.given proxy
+                  (new_number self.old request step);
+            }) }
         ensures err { OnErr result (self.new ≡ self.old) }
         ensures free { IsSome (get self.old.given proxy) → IsOk result }
     {

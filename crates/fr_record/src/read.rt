@@ -95,7 +95,8 @@ pub(crate) fn read_file<D: Device>(
     ensures any_moment { (before : List (List ℕ)) (first : List ℕ) (others : List (List ℕ)) → AreShort (before ++ first ∷ others)
         → LeavesOnly D.Led D.disk (IsLeft before (first ∷ others)) device.old
         → Throughout D.Led D.disk (IsLeft before (first ∷ others)) device.old device.new }
-    ensures at_rest { (before : List (List ℕ)) → LeavesOnly D.Led D.disk (IsAtRest before) device.old → Throughout D.Led D.disk (IsAtRest before) device.old device.new }
+    ensures at_rest { (before : List (List ℕ)) → LeavesOnly D.Led D.disk (IsAtRest before) device.old
+        → Throughout D.Led D.disk (IsAtRest before) device.old device.new }
 {
     let bytes = match load(alloc, device) {
         Ok(bytes) => bytes,

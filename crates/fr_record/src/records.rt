@@ -105,9 +105,12 @@ impl<D: Device> Records<D> {
         ensures err { OnErr result (self.new.records ≡ self.old.records) }
         ensures fails { self.new.is_failed ≡ (self.old.is_failed || met_device result) }
         ensures device { (result ≡ Err RecordFault.Device) → D.failures_of self.new.device ≡ min (D.failures_of self.old.device + 1) (2 ^ 64 - 1) }
-        ensures full { (result ≡ Err RecordFault.Full) ↔ ((self.old.is_failed ≡ false) × (D.capacity_of self.old.device < length (frames self.old.records) + length payload.now + 6)) }
+        ensures full { (result ≡ Err RecordFault.Full)
+            ↔ ((self.old.is_failed ≡ false)
+            × (D.capacity_of self.old.device < length (frames self.old.records) + length payload.now + 6)) }
         ensures capacity { D.capacity_of self.new.device ≡ D.capacity_of self.old.device }
-        ensures any_moment { self.old.is_failed ≡ false → Throughout D.Led D.disk (IsLeft self.old.records (payload.now ∷ [])) self.old.device self.new.device }
+        ensures any_moment { self.old.is_failed ≡ false
+            → Throughout D.Led D.disk (IsLeft self.old.records (payload.now ∷ [])) self.old.device self.new.device }
     {
         if self.is_failed {
             return Err(RecordFault::Failed);
@@ -148,9 +151,14 @@ impl<D: Device> Records<D> {
         ensures err { OnErr result (self.new.records ≡ self.old.records) }
         ensures fails { self.new.is_failed ≡ (self.old.is_failed || met_device result) }
         ensures device { (result ≡ Err RecordFault.Device) → D.failures_of self.new.device ≡ min (D.failures_of self.old.device + 1) (2 ^ 64 - 1) }
-        ensures full { (result ≡ Err RecordFault.Full) ↔ ((self.old.is_failed ≡ false) × (D.capacity_of self.old.device < length (frames self.old.records) + length (frames (records_of group.now)) + 1)) }
+        ensures full { (result ≡ Err RecordFault.Full)
+            ↔ ((self.old.is_failed ≡ false)
+            × (D.capacity_of self.old.device < length (frames self.old.records) + length
+            (frames (records_of group.now)) + 1)) }
         ensures capacity { D.capacity_of self.new.device ≡ D.capacity_of self.old.device }
-        ensures any_moment { self.old.is_failed ≡ false → Throughout D.Led D.disk (IsLeft self.old.records (records_of group.now)) self.old.device self.new.device }
+        ensures any_moment { self.old.is_failed ≡ false
+            → Throughout D.Led D.disk (IsLeft self.old.records (records_of group.now)) self.old.device
+            self.new.device }
     {
         if self.is_failed {
             return Err(RecordFault::Failed);
@@ -206,10 +214,13 @@ impl<D: Device> Records<D> {
     /// The file that a device holds, whatever a crash made of it.
     pub fn open(alloc: Global, device: D) -> Result<Self, RecordFault>
         ensures records { IfOk result (λ file. StandsFor (D.disk device).content file.records) }
-        ensures any_moment { IfOk result (λ file. (before : List (List ℕ)) (first : List ℕ) (others : List (List ℕ)) → AreShort (before ++ first ∷ others)
+        ensures any_moment { IfOk result (λ file. (before : List (List ℕ)) (first : List ℕ) (others : List (List ℕ))
+            → AreShort (before ++ first ∷ others)
             → LeavesOnly D.Led D.disk (IsLeft before (first ∷ others)) device
             → Throughout D.Led D.disk (IsLeft before (first ∷ others)) device file.device) }
-        ensures at_rest { IfOk result (λ file. (before : List (List ℕ)) → LeavesOnly D.Led D.disk (IsAtRest before) device → Throughout D.Led D.disk (IsAtRest before) device file.device) }
+        ensures at_rest { IfOk result (λ file. (before : List (List ℕ))
+            → LeavesOnly D.Led D.disk (IsAtRest before) device
+            → Throughout D.Led D.disk (IsAtRest before) device file.device) }
         ensures works { IfOk result (λ file. file.is_failed ≡ false) }
         ensures kept { IfOk result (λ file. LeavesOnly D.Led D.disk (IsAtRest file.records) file.device) }
         ensures capacity { IfOk result (λ file. D.capacity_of file.device ≡ D.capacity_of device) }
@@ -247,7 +258,8 @@ impl<D: Device> Records<D> {
         ensures any_moment { (before : List (List ℕ)) (first : List ℕ) (others : List (List ℕ)) → AreShort (before ++ first ∷ others)
             → LeavesOnly D.Led D.disk (IsLeft before (first ∷ others)) self.old.device
             → Throughout D.Led D.disk (IsLeft before (first ∷ others)) self.old.device self.new.device }
-        ensures at_rest { (before : List (List ℕ)) → LeavesOnly D.Led D.disk (IsAtRest before) self.old.device → Throughout D.Led D.disk (IsAtRest before) self.old.device self.new.device }
+        ensures at_rest { (before : List (List ℕ)) → LeavesOnly D.Led D.disk (IsAtRest before) self.old.device
+            → Throughout D.Led D.disk (IsAtRest before) self.old.device self.new.device }
     {
         match read_file(alloc, &mut self.device) {
             Ok((table, end)) => {

@@ -63,7 +63,8 @@ impl<D: Device> LogNode<D> {
         ensures records { IfOk result (λ node. node.records ≡ []) }
         ensures works { IfOk result (λ node. node.is_failed ≡ false) }
         ensures free { IfOk result (λ node. node.owed ≡ None) }
-        ensures kept { IfOk result (λ node. Throughout D.Led D.disk (Opens replay_log (fresh_of node.machine) (λ x. x ≡ node.machine)) node.device node.device) }
+        ensures kept { IfOk result (λ node. Throughout D.Led D.disk (Opens replay_log (fresh_of node.machine) (λ x. x
+            ≡ node.machine)) node.device node.device) }
         ensures full { (result ≡ Err NodeFault.Full) ↔ (D.capacity_of device < 1) }
         ensures only_device { IfErr result (λ fault. (fault ≡ NodeFault.Device) ⊎ (fault ≡ NodeFault.Full)) }
         ensures device { (result ≡ Err NodeFault.Device) → FailsOnceMore D.failures_of device }
@@ -87,8 +88,11 @@ impl<D: Device> LogNode<D> {
         ensures replays { IfOk result (λ node. replayed replay_log (Some (fresh_log id.epoch id.index m k)) node.records ≡ Some node.machine) }
         ensures works { IfOk result (λ node. node.is_failed ≡ false) }
         ensures free { IfOk result (λ node. node.owed ≡ None) }
-        ensures kept { IfOk result (λ node. Throughout D.Led D.disk (Opens replay_log (fresh_of node.machine) (λ x. x ≡ node.machine)) node.device node.device) }
-        ensures broken { (result ≡ Err NodeFault.Broken) → (records : List (List ℕ)) → StandsFor (D.disk device).content records → replayed replay_log (Some (fresh_log id.epoch id.index m k)) records ≡ None }
+        ensures kept { IfOk result (λ node. Throughout D.Led D.disk (Opens replay_log (fresh_of node.machine) (λ x. x
+            ≡ node.machine)) node.device node.device) }
+        ensures broken { (result ≡ Err NodeFault.Broken) → (records : List (List ℕ))
+            → StandsFor (D.disk device).content records
+            → replayed replay_log (Some (fresh_log id.epoch id.index m k)) records ≡ None }
         ensures device { (result ≡ Err NodeFault.Device) → FailsOnceMore D.failures_of device }
         ensures never_full { result ≢ Err NodeFault.Full }
         ensures never_failed { result ≢ Err NodeFault.Failed }
@@ -116,12 +120,16 @@ impl<D: Device> LogNode<D> {
         ensures failed { (result ≡ Err NodeFault.Failed) ↔ IsTrue self.old.is_failed }
         ensures fails { self.new.is_failed ≡ (self.old.is_failed || met_device result) }
         ensures device { (result ≡ Err NodeFault.Device) → D.failures_of self.new.device ≡ min (D.failures_of self.old.device + 1) (2 ^ 64 - 1) }
-        ensures full { (result ≡ Err NodeFault.Full) → HasNoRoom (D.capacity_of self.old.device) self.old.records (written_all self.old.machine asks.items) }
+        ensures full { (result ≡ Err NodeFault.Full)
+            → HasNoRoom (D.capacity_of self.old.device) self.old.records (written_all self.old.machine asks.items) }
         ensures owes { (result ≡ Err NodeFault.Device) → self.new.owed ≡ Some (after_all self.old.machine asks.items) }
         ensures owes_still { result ≢ Err NodeFault.Device → self.new.owed ≡ self.old.owed }
         ensures trouble { IfErr result (λ fault. fault ≢ NodeFault.Failed → IsTrue (is_trouble fault)) }
-        ensures any_moment { self.old.is_failed ≡ false → Throughout D.Led D.disk (Opens replay_log (fresh_of self.old.machine) (λ x. (x ≡ self.old.machine) ⊎ (x ≡ after_all self.old.machine asks.items))) self.old.device self.new.device }
-        ensures kept { OnOk result (Throughout D.Led D.disk (Opens replay_log (fresh_of self.new.machine) (λ x. x ≡ self.new.machine)) self.new.device self.new.device) }
+        ensures any_moment { self.old.is_failed ≡ false
+            → Throughout D.Led D.disk (Opens replay_log (fresh_of self.old.machine) (λ x. (x ≡ self.old.machine)
+            ⊎ (x ≡ after_all self.old.machine asks.items))) self.old.device self.new.device }
+        ensures kept { OnOk result (Throughout D.Led D.disk (Opens replay_log (fresh_of self.new.machine) (λ x. x
+            ≡ self.new.machine)) self.new.device self.new.device) }
     {
         self.node.serve_all(alloc, asks)
     }

@@ -56,7 +56,8 @@ where
         ensures records { IfOk result (λ node. node.records ≡ []) }
         ensures works { IfOk result (λ node. node.is_failed ≡ false) }
         ensures free { IfOk result (λ node. node.owed ≡ None) }
-        ensures kept { IfOk result (λ node. Throughout D.Led D.disk (Opens M.replay (M.fresh node.machine) (λ x. x ≡ node.machine)) node.device node.device) }
+        ensures kept { IfOk result (λ node. Throughout D.Led D.disk (Opens M.replay (M.fresh node.machine) (λ x. x
+            ≡ node.machine)) node.device node.device) }
         ensures full { (result ≡ Err NodeFault.Full) ↔ (D.capacity_of device < 1) }
         ensures only_device { IfErr result (λ fault. (fault ≡ NodeFault.Device) ⊎ (fault ≡ NodeFault.Full)) }
         ensures device { (result ≡ Err NodeFault.Device) → FailsOnceMore D.failures_of device }
@@ -85,8 +86,10 @@ where
         ensures replays { IfOk result (λ node. replayed M.replay (Some machine) node.records ≡ Some node.machine) }
         ensures works { IfOk result (λ node. node.is_failed ≡ false) }
         ensures free { IfOk result (λ node. node.owed ≡ None) }
-        ensures kept { IfOk result (λ node. Throughout D.Led D.disk (Opens M.replay (M.fresh node.machine) (λ x. x ≡ node.machine)) node.device node.device) }
-        ensures broken { (result ≡ Err NodeFault.Broken) → (records : List (List ℕ)) → StandsFor (D.disk device).content records → replayed M.replay (Some machine) records ≡ None }
+        ensures kept { IfOk result (λ node. Throughout D.Led D.disk (Opens M.replay (M.fresh node.machine) (λ x. x
+            ≡ node.machine)) node.device node.device) }
+        ensures broken { (result ≡ Err NodeFault.Broken) → (records : List (List ℕ))
+            → StandsFor (D.disk device).content records → replayed M.replay (Some machine) records ≡ None }
         ensures device { (result ≡ Err NodeFault.Device) → FailsOnceMore D.failures_of device }
         ensures never_full { result ≢ Err NodeFault.Full }
         ensures never_failed { result ≢ Err NodeFault.Failed }
@@ -123,12 +126,17 @@ where
         ensures failed { (result ≡ Err NodeFault.Failed) ↔ IsTrue self.old.is_failed }
         ensures fails { self.new.is_failed ≡ (self.old.is_failed || met_device result) }
         ensures device { (result ≡ Err NodeFault.Device) → D.failures_of self.new.device ≡ min (D.failures_of self.old.device + 1) (2 ^ 64 - 1) }
-        ensures full { (result ≡ Err NodeFault.Full) → HasNoRoom (D.capacity_of self.old.device) self.old.records (written_all M.after M.written self.old.machine asks.items) }
+        ensures full { (result ≡ Err NodeFault.Full)
+            → HasNoRoom (D.capacity_of self.old.device) self.old.records
+            (written_all M.after M.written self.old.machine asks.items) }
         ensures owes { (result ≡ Err NodeFault.Device) → self.new.owed ≡ Some (after_all M.after self.old.machine asks.items) }
         ensures owes_still { result ≢ Err NodeFault.Device → self.new.owed ≡ self.old.owed }
         ensures trouble { IfErr result (λ fault. fault ≢ NodeFault.Failed → IsTrue (is_trouble fault)) }
-        ensures any_moment { self.old.is_failed ≡ false → Throughout D.Led D.disk (Opens M.replay (M.fresh self.old.machine) (λ x. (x ≡ self.old.machine) ⊎ (x ≡ after_all M.after self.old.machine asks.items))) self.old.device self.new.device }
-        ensures kept { OnOk result (Throughout D.Led D.disk (Opens M.replay (M.fresh self.new.machine) (λ x. x ≡ self.new.machine)) self.new.device self.new.device) }
+        ensures any_moment { self.old.is_failed ≡ false
+            → Throughout D.Led D.disk (Opens M.replay (M.fresh self.old.machine) (λ x. (x ≡ self.old.machine)
+            ⊎ (x ≡ after_all M.after self.old.machine asks.items))) self.old.device self.new.device }
+        ensures kept { OnOk result (Throughout D.Led D.disk (Opens M.replay (M.fresh self.new.machine) (λ x. x
+            ≡ self.new.machine)) self.new.device self.new.device) }
     {
         left_law();
         if self.file.is_failed() {
@@ -152,7 +160,9 @@ where
         ensures ok { IfOk result (λ asks. asks.items ≡ ask ∷ []) }
         ensures failed { (result ≡ Err NodeFault.Failed) ↔ IsTrue self.now.is_failed }
         ensures err { IfErr result (λ fault. (fault ≡ NodeFault.Failed) ⊎ (fault ≡ NodeFault.Memory)) }
-        ensures still { self.now.is_failed ≡ false → Throughout D.Led D.disk (Opens M.replay (M.fresh self.now.machine) (λ x. (x ≡ self.now.machine) ⊎ (x ≡ M.after self.now.machine ask))) self.now.device self.now.device }
+        ensures still { self.now.is_failed ≡ false
+            → Throughout D.Led D.disk (Opens M.replay (M.fresh self.now.machine) (λ x. (x ≡ self.now.machine)
+            ⊎ (x ≡ M.after self.now.machine ask))) self.now.device self.now.device }
     {
         left_law();
         if self.file.is_failed() {

@@ -57,7 +57,8 @@ fn jobs<W: Drop, T: Drop>(
     ballots: &[Ballot],
     stores: Vec<T>,
 ) -> Result<Vec<Job<W, T>>, Memory>
-    ensures { IfOk result (λ all. all.items ≡ serve_jobs 0 workloads.items ++ (recover_jobs ballots.now ++ (pull_jobs stores.items ++ job_of.Crash ∷ []))) }
+    ensures { IfOk result (λ all. all.items ≡ serve_jobs 0 workloads.items
+        ++ (recover_jobs ballots.now ++ (pull_jobs stores.items ++ job_of.Crash ∷ []))) }
 {
     let mut all = Vec::new(alloc);
     add_serving(&mut all, workloads)?;
@@ -204,7 +205,9 @@ fn run_jobs<
     jobs: Vec<Job<W, Storage<S>>>,
 ) -> Result<Vec<Result<Done<W>, TurnFault>>, Memory>
     ensures len { IfOk result (λ done. length done.items ≡ length jobs.items) }
-    ensures did { IfOk result (λ done. (i : ℕ) (j : _) (d : _) → i < length jobs.items → IfOk (slice_index_or done.items i d) (Did W.given W.heard (F.begun faults.now) turns (slice_index_or jobs.items i j))) }
+    ensures did { IfOk result (λ done. (i : ℕ) (j : _) (d : _) → i < length jobs.items
+        → IfOk (slice_index_or done.items i d) (Did W.given W.heard (F.begun faults.now) turns
+        (slice_index_or jobs.items i j))) }
 {
     let one = move |job: Job<W, Storage<S>>| -> Result<Done<W>, TurnFault>
         ensures { IfOk result (λ done. Did W.given W.heard (F.begun faults.entry.now) turns job done) }
@@ -249,7 +252,8 @@ pub(crate) fn run_threads<
     workloads: Vec<W>,
     stores: Vec<Storage<S>>,
 ) -> Result<Vec<Done<W>>, RunFault>
-    ensures { IfOk result (λ done. AllDid W.given W.heard (F.begun faults.now) turns (serve_jobs 0 workloads.items ++ (recover_jobs ballots.now ++ (pull_jobs stores.items ++ job_of.Crash ∷ []))) done.items) }
+    ensures { IfOk result (λ done. AllDid W.given W.heard (F.begun faults.now) turns (serve_jobs 0 workloads.items
+        ++ (recover_jobs ballots.now ++ (pull_jobs stores.items ++ job_of.Crash ∷ []))) done.items) }
 {
     let jobs = jobs(alloc, workloads, ballots, stores)?;
     let threads = run_jobs(rt, alloc, config, directory, faults, turns, jobs)?;

@@ -83,8 +83,13 @@ where
     pub fn journal(&self) -> &Journal
         ensures place { result.now.node ≡ self.now.place }
         ensures entries { result.now.entries ≡ self.now.entries }
-        ensures replays { Replays (steps N.Plain.wrapped N.Plain.unwrapped N.Plain.wrapped_tell N.Plain.told N.Plain.after) self.now.place self.now.first result.now.entries (before (steps N.Plain.wrapped N.Plain.unwrapped N.Plain.wrapped_tell N.Plain.told N.Plain.after) self.now) }
-        ensures works { self.now.kept ≡ None → self.now.state ≡ before (steps N.Plain.wrapped N.Plain.unwrapped N.Plain.wrapped_tell N.Plain.told N.Plain.after) self.now }
+        ensures replays { Replays (steps N.Plain.wrapped N.Plain.unwrapped N.Plain.wrapped_tell N.Plain.told
+            N.Plain.after) self.now.place self.now.first result.now.entries
+            (before (steps N.Plain.wrapped N.Plain.unwrapped N.Plain.wrapped_tell N.Plain.told N.Plain.after)
+            self.now) }
+        ensures works { self.now.kept ≡ None
+            → self.now.state ≡ before
+            (steps N.Plain.wrapped N.Plain.unwrapped N.Plain.wrapped_tell N.Plain.told N.Plain.after) self.now }
     {
         let _ = self.journal.entries();
         &self.journal
@@ -149,11 +154,21 @@ where
         ensures first { self.new.first ≡ self.old.first }
         ensures lost { (result ≡ Err CallFault.Lost) ↔ (refusal_of self.old stamp ≡ Some CallFault.Lost) }
         ensures spent { (result ≡ Err CallFault.StampsSpent) ↔ (refusal_of self.old stamp ≡ Some CallFault.StampsSpent) }
-        ensures entered { IfOk result (λ got. Asks (steps N.Plain.wrapped N.Plain.unwrapped N.Plain.wrapped_tell N.Plain.told N.Plain.after) self.old self.new stamp from ask (got.0, got.1)) }
+        ensures entered { IfOk result (λ got. Asks
+            (steps N.Plain.wrapped N.Plain.unwrapped N.Plain.wrapped_tell N.Plain.told N.Plain.after) self.old
+            self.new stamp from ask (got.0, got.1)) }
         ensures works { OnOk result (Works self.new) }
-        ensures err { IfErr result (λ fault. Leaves (steps N.Plain.wrapped N.Plain.unwrapped N.Plain.wrapped_tell N.Plain.told N.Plain.after) self.old self.new ⊎ ((fault ≡ CallFault.Node NodeFault.Memory) × ((got : ℕ × Tell) × Asks (steps N.Plain.wrapped N.Plain.unwrapped N.Plain.wrapped_tell N.Plain.told N.Plain.after) self.old self.new stamp from ask got))) }
-        ensures kept { (result ≡ Err (CallFault.Node NodeFault.Device)) → Keeps (steps N.Plain.wrapped N.Plain.unwrapped N.Plain.wrapped_tell N.Plain.told N.Plain.after) self.old self.new stamp from ask }
-        ensures device { (result ≡ Err (CallFault.Node NodeFault.Device)) → Works self.old → N.failures self.new.node ≡ min (N.failures self.old.node + 1) (2 ^ 64 - 1) }
+        ensures err { IfErr result (λ fault.
+            Leaves (steps N.Plain.wrapped N.Plain.unwrapped N.Plain.wrapped_tell N.Plain.told N.Plain.after) self.old
+            self.new ⊎ ((fault ≡ CallFault.Node NodeFault.Memory)
+            × ((got : ℕ × Tell) × Asks
+            (steps N.Plain.wrapped N.Plain.unwrapped N.Plain.wrapped_tell N.Plain.told N.Plain.after) self.old
+            self.new stamp from ask got))) }
+        ensures kept { (result ≡ Err (CallFault.Node NodeFault.Device))
+            → Keeps (steps N.Plain.wrapped N.Plain.unwrapped N.Plain.wrapped_tell N.Plain.told N.Plain.after)
+            self.old self.new stamp from ask }
+        ensures device { (result ≡ Err (CallFault.Node NodeFault.Device)) → Works self.old
+            → N.failures self.new.node ≡ min (N.failures self.old.node + 1) (2 ^ 64 - 1) }
         ensures full { (result ≡ Err (CallFault.Node NodeFault.Full)) → Works self.old → N.LacksRoom self.old.node ask }
         ensures trouble { IfErr result (IsTrouble N.CanMeet) }
     {
@@ -179,7 +194,9 @@ where
         ensures first { self.new.first ≡ self.old.first }
         ensures lost { (result ≡ Err CallFault.Lost) ↔ (refusal_of self.old stamp ≡ Some CallFault.Lost) }
         ensures spent { (result ≡ Err CallFault.StampsSpent) ↔ (refusal_of self.old stamp ≡ Some CallFault.StampsSpent) }
-        ensures entered { IfOk result (λ at. Enters (steps N.Plain.wrapped N.Plain.unwrapped N.Plain.wrapped_tell N.Plain.told N.Plain.after) self.old self.new stamp at Act.Crashed) }
+        ensures entered { IfOk result (λ at. Enters
+            (steps N.Plain.wrapped N.Plain.unwrapped N.Plain.wrapped_tell N.Plain.told N.Plain.after) self.old
+            self.new stamp at Act.Crashed) }
         ensures works { OnOk result (Works self.new) }
         ensures err { OnErr result (Leaves (steps N.Plain.wrapped N.Plain.unwrapped N.Plain.wrapped_tell N.Plain.told N.Plain.after) self.old self.new) }
         ensures trouble { IfErr result (IsTrouble N.CanMeet) }
@@ -205,7 +222,9 @@ where
         ensures first { self.new.first ≡ self.old.first }
         ensures lost { (result ≡ Err CallFault.Lost) ↔ (refusal_of self.old stamp ≡ Some CallFault.Lost) }
         ensures spent { (result ≡ Err CallFault.StampsSpent) ↔ (refusal_of self.old stamp ≡ Some CallFault.StampsSpent) }
-        ensures entered { IfOk result (λ at. Enters (steps N.Plain.wrapped N.Plain.unwrapped N.Plain.wrapped_tell N.Plain.told N.Plain.after) self.old self.new stamp at Act.Lost) }
+        ensures entered { IfOk result (λ at. Enters
+            (steps N.Plain.wrapped N.Plain.unwrapped N.Plain.wrapped_tell N.Plain.told N.Plain.after) self.old
+            self.new stamp at Act.Lost) }
         ensures works { OnOk result (Works self.new) }
         ensures err { OnErr result (Leaves (steps N.Plain.wrapped N.Plain.unwrapped N.Plain.wrapped_tell N.Plain.told N.Plain.after) self.old self.new) }
         ensures trouble { IfErr result (IsTrouble N.CanMeet) }
@@ -231,9 +250,15 @@ where
     where
         N: Drop,
         ensures place { IfOk result (λ journal. journal.node ≡ self.place) }
-        ensures settled { IfOk result (λ journal. IsSettled (steps N.Plain.wrapped N.Plain.unwrapped N.Plain.wrapped_tell N.Plain.told N.Plain.after) self journal.entries) }
-        ensures last { IfOk result (λ journal. journal.last ≡ Some (N.Plain.last_of (state_after (steps N.Plain.wrapped N.Plain.unwrapped N.Plain.wrapped_tell N.Plain.told N.Plain.after) self.first journal.entries))) }
-        ensures trouble { IfErr result (λ fault. (fault ≡ NodeFault.Memory) ⊎ N.CanMeet fault ⊎ ((fault ≡ NodeFault.Failed) × (is_gone self ≡ true))) }
+        ensures settled { IfOk result (λ journal.
+            IsSettled (steps N.Plain.wrapped N.Plain.unwrapped N.Plain.wrapped_tell N.Plain.told N.Plain.after) self
+            journal.entries) }
+        ensures last { IfOk result (λ journal. journal.last
+            ≡ Some (N.Plain.last_of
+            (state_after (steps N.Plain.wrapped N.Plain.unwrapped N.Plain.wrapped_tell N.Plain.told N.Plain.after)
+            self.first journal.entries))) }
+        ensures trouble { IfErr result (λ fault. (fault ≡ NodeFault.Memory) ⊎ N.CanMeet fault
+            ⊎ ((fault ≡ NodeFault.Failed) × (is_gone self ≡ true))) }
     {
         let mut housed = self;
         if housed.is_gone {

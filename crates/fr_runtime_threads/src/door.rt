@@ -117,7 +117,8 @@ impl Door {
         requires shut { self.old.under_way ≡ UnderWay.Nothing }
         ensures place { self.new.notes.journal.node ≡ self.old.notes.journal.node }
         ensures told { self.new.told.items ≡ self.old.told.items }
-        ensures given { (account self.new.notes.journal.entries).given ++ left_over kept.new ≡ (account self.old.notes.journal.entries).given ++ left_over kept.old }
+        ensures given { (account self.new.notes.journal.entries).given ++ left_over kept.new
+            ≡ (account self.old.notes.journal.entries).given ++ left_over kept.old }
     {
         let (step, taken) = match kept.as_ref() {
             Some(order) => (order.step, order.batch.copy()?),

@@ -200,7 +200,8 @@ pub fn recover<R: Wait, C: Node<Plain = Cell> + Drop, L: Node<Plain = Log> + Dro
 ) -> Result<Option<Journal>, TurnFault>
     ensures place { IfOk result (λ done. IfSome done (λ journal. journal.node ≡ NodeId.Recoverer ballot)) }
     ensures begun { IfOk result (λ done. IfSome done (λ journal. starts_with_begun journal.entries ≡ true)) }
-    ensures begins { ballot ≢ 0 → (turn : ℕ) → 1 ≤ turn → turn ≤ turns → F.begun faults.now ballot turn ≡ true → IfOk result (λ done. IsSome done) }
+    ensures begins { ballot ≢ 0 → (turn : ℕ) → 1 ≤ turn → turn ≤ turns → F.begun faults.now ballot turn ≡ true
+        → IfOk result (λ done. IsSome done) }
 {
     if ballot.epoch().is_none() {
         return Ok(None);

@@ -54,7 +54,9 @@ pub fn between<'x, S: Backing>(
 ) -> Result<Vec<(Bytes, Bytes)>, Error>
     requires rest { IsAtRest (state S.Store conn.old) }
     requires laid { IsLaidOut (state S.Store conn.old).now }
-    ensures rows { IfOk result (λ rows. rows.items ≡ map.entries (map.retain_keys (contents_in ((state S.Store conn.old).now.trees 0)) (is_between begin.now end.now))) }
+    ensures rows { IfOk result (λ rows. rows.items
+        ≡ map.entries (map.retain_keys (contents_in ((state S.Store conn.old).now.trees 0))
+        (is_between begin.now end.now))) }
     ensures open { OnOk result (IsTrue (state S.Store conn.new).is_open) }
     ensures keeps { KeepsIfOpen (state S.Store conn.old) (state S.Store conn.new) }
     ensures survives { CommitsNothing (state S.Store conn.old) (state S.Store conn.new) }
@@ -74,7 +76,9 @@ pub fn from<S: Backing>(
 ) -> Result<Vec<(Bytes, Bytes)>, Error>
     requires rest { IsAtRest (state S.Store conn.old) }
     requires laid { IsLaidOut (state S.Store conn.old).now }
-    ensures rows { IfOk result (λ rows. rows.items ≡ map.entries (map.retain_keys (contents_in ((state S.Store conn.old).now.trees 0)) (λ q. is_le (bytes_cmp begin.now q)))) }
+    ensures rows { IfOk result (λ rows. rows.items
+        ≡ map.entries (map.retain_keys (contents_in ((state S.Store conn.old).now.trees 0))
+        (λ q. is_le (bytes_cmp begin.now q)))) }
     ensures open { OnOk result (IsTrue (state S.Store conn.new).is_open) }
     ensures keeps { KeepsIfOpen (state S.Store conn.old) (state S.Store conn.new) }
     ensures survives { CommitsNothing (state S.Store conn.old) (state S.Store conn.new) }

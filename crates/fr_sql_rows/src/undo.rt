@@ -62,7 +62,8 @@ pub fn drop_above<S: Backing>(tx: &mut Transaction<'_, S>, version: Version) -> 
     requires laid { IsLaidOut (state S.Store tx.old.conn.now).now }
     ensures same_reference { tx.new.conn.ghost_name ≡ tx.old.conn.ghost_name }
     ensures ok { OnOk result (Retains (λ p. nat_le p.0 version) (state S.Store tx.old.conn.now).now (state S.Store tx.new.conn.now).now) }
-    ensures count { IfOk result (λ gone. gone + length ((state S.Store tx.new.conn.now).now.trees 2) ≡ length ((state S.Store tx.old.conn.now).now.trees 2)) }
+    ensures count { IfOk result (λ gone. gone + length ((state S.Store tx.new.conn.now).now.trees 2)
+        ≡ length ((state S.Store tx.old.conn.now).now.trees 2)) }
     ensures inside { OnOk result (IsInside (state S.Store tx.new.conn.now)) }
     ensures stays { Stays (state S.Store tx.old.conn.now) (state S.Store tx.new.conn.now) }
     ensures survives { CommitsNothing (state S.Store tx.old.conn.now) (state S.Store tx.new.conn.now) }
@@ -82,7 +83,8 @@ pub fn drop_through<S: Backing>(
     requires laid { IsLaidOut (state S.Store tx.old.conn.now).now }
     ensures same_reference { tx.new.conn.ghost_name ≡ tx.old.conn.ghost_name }
     ensures ok { OnOk result (Retains (λ p. nat_lt version p.0) (state S.Store tx.old.conn.now).now (state S.Store tx.new.conn.now).now) }
-    ensures count { IfOk result (λ gone. gone + length ((state S.Store tx.new.conn.now).now.trees 2) ≡ length ((state S.Store tx.old.conn.now).now.trees 2)) }
+    ensures count { IfOk result (λ gone. gone + length ((state S.Store tx.new.conn.now).now.trees 2)
+        ≡ length ((state S.Store tx.old.conn.now).now.trees 2)) }
     ensures inside { OnOk result (IsInside (state S.Store tx.new.conn.now)) }
     ensures stays { Stays (state S.Store tx.old.conn.now) (state S.Store tx.new.conn.now) }
     ensures survives { CommitsNothing (state S.Store tx.old.conn.now) (state S.Store tx.new.conn.now) }
@@ -139,7 +141,9 @@ pub fn above<S: Backing>(
 ) -> Result<Vec<((Version, Bytes), Option<Bytes>)>, Error>
     requires rest { IsAtRest (state S.Store conn.old) }
     requires laid { IsLaidOut (state S.Store conn.old).now }
-    ensures rows { IfOk result (λ rows. (p : Place) → find place_cmp p rows.items ≡ cond (nat_le p.0 version) None (before_in ((state S.Store conn.old).now.trees 2) p)) }
+    ensures rows { IfOk result (λ rows. (p : Place)
+        → find place_cmp p rows.items
+        ≡ cond (nat_le p.0 version) None (before_in ((state S.Store conn.old).now.trees 2) p)) }
     ensures order { IfOk result (λ rows. IsSorted newest_first rows.items) }
     ensures open { OnOk result (IsTrue (state S.Store conn.new).is_open) }
     ensures keeps { KeepsIfOpen (state S.Store conn.old) (state S.Store conn.new) }

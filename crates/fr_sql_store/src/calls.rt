@@ -26,7 +26,8 @@ fn write<S: Backing>(
 ) -> Result<usize, StoreFault>
     requires stands { Stands (state S.Store conn.old) marks.now.applied marks.now.floor marks.now.rows }
     requires fits { Fits work.now (state S.Store conn.old).now }
-    ensures makes { (after : StoreState) → LeadsTo work.now (state S.Store conn.old).now after → Makes after (state S.Store conn.old) (state S.Store conn.new) result }
+    ensures makes { (after : StoreState) → LeadsTo work.now (state S.Store conn.old).now after
+        → Makes after (state S.Store conn.old) (state S.Store conn.new) result }
 {
     make(conn, work, marks.rows)
 }
@@ -41,7 +42,8 @@ pub(crate) fn apply<S: Backing>(
 ) -> Result<usize, StoreFault>
     requires stands { Stands (state S.Store conn.old) marks.now.applied marks.now.floor marks.now.rows }
     requires later { marks.now.applied < version }
-    ensures makes { Makes (extended (state_in (state S.Store conn.old).now.trees) version batch.now) (state S.Store conn.old) (state S.Store conn.new) result }
+    ensures makes { Makes (extended (state_in (state S.Store conn.old).now.trees) version batch.now)
+        (state S.Store conn.old) (state S.Store conn.new) result }
 {
     let work = plan_apply(alloc, conn, marks, version, batch)?;
     write(conn, marks, &work)

@@ -53,7 +53,9 @@ fn look_key<S: Backing>(
 
 /// Adds one row, if its key is not known yet.
 fn add_pair(known: &mut BTreeMap<Bytes, Bytes>, key: Bytes, held: Bytes) -> Result<(), Memory>
-    ensures { OnOk result ((q : List ℕ) → tree.get bytes_cmp known.new q ≡ option_or (tree.get bytes_cmp known.old q) (cond (is_same key q) (Some held) None)) }
+    ensures { OnOk result ((q : List ℕ)
+        → tree.get bytes_cmp known.new q ≡ option_or (tree.get bytes_cmp known.old q)
+        (cond (is_same key q) (Some held) None)) }
 {
     if !known.contains_key(&key) {
         known.insert(key, held)?;
@@ -132,7 +134,9 @@ fn add_row(
     place: (Version, Bytes),
     before: Option<Bytes>,
 ) -> Result<(), Memory>
-    ensures { OnOk result ((p : Place) → tree.get place_cmp rows.new p ≡ option_or (tree.get place_cmp rows.old p) (cond (tree.is_at (place_cmp place) p) (Some before) None)) }
+    ensures { OnOk result ((p : Place)
+        → tree.get place_cmp rows.new p ≡ option_or (tree.get place_cmp rows.old p)
+        (cond (tree.is_at (place_cmp place) p) (Some before) None)) }
 {
     if !rows.contains_key(&place) {
         rows.insert(place, before)?;
@@ -162,7 +166,9 @@ pub(crate) fn rows_above<S: Backing>(
 ) -> Result<BTreeMap<(Version, Bytes), Option<Bytes>>, StoreFault>
     requires rest { IsAtRest (state S.Store conn.old) }
     requires laid { IsLaidOut (state S.Store conn.old).now }
-    ensures rows { IfOk result (λ rows. (p : Place) → tree.get place_cmp rows p ≡ cond (nat_le p.0 version) None (before_in ((state S.Store conn.old).now.trees 2) p)) }
+    ensures rows { IfOk result (λ rows. (p : Place)
+        → tree.get place_cmp rows p
+        ≡ cond (nat_le p.0 version) None (before_in ((state S.Store conn.old).now.trees 2) p)) }
     ensures looks { Looks (state S.Store conn.old) (state S.Store conn.new) result }
 {
     let rows = above(alloc, conn, version)?;

@@ -26,7 +26,8 @@ pub(crate) fn plan_apply<S: Backing>(
 ) -> Result<Work, StoreFault>
     requires stands { Stands (state S.Store conn.old) marks.now.applied marks.now.floor marks.now.rows }
     requires later { marks.now.applied < version }
-    ensures leads { IfOk result (λ work. LeadsTo work (state S.Store conn.old).now (extended (state_in (state S.Store conn.old).now.trees) version batch.now)) }
+    ensures leads { IfOk result (λ work. LeadsTo work (state S.Store conn.old).now
+        (extended (state_in (state S.Store conn.old).now.trees) version batch.now)) }
     ensures looks { Looks (state S.Store conn.old) (state S.Store conn.new) result }
 {
     let known = held_by(alloc, conn, batch)?;

@@ -76,7 +76,8 @@ pub(crate) fn store_over<D: FaithfulDisk>(
 ) -> Result<FileStore<D>, (StoreFault, Kept<D>)>
     ensures fresh { IfOk result (λ store. IsFresh (view store)) }
     ensures leaves { IfOk result (λ store. (x : StoreState) → StoreLeaves D.Disk store x → FilesLeave D.Disk (bytes_of kept.size) kept.files x) }
-    ensures still { IfErr result (λ e. (x : StoreState) → FilesLeave D.Disk (bytes_of e.1.size) e.1.files x → FilesLeave D.Disk (bytes_of kept.size) kept.files x) }
+    ensures still { IfErr result (λ e. (x : StoreState) → FilesLeave D.Disk (bytes_of e.1.size) e.1.files x
+        → FilesLeave D.Disk (bytes_of kept.size) kept.files x) }
     ensures trouble { IfErr result (λ e. IsTrouble MeetsAll e.0) }
 {
     let Kept { files, size } = kept;

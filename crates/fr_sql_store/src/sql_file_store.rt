@@ -79,7 +79,8 @@ fn again<D: FaithfulDisk + Drop>(
     ensures found { IfOk result (λ store. MayLeave link (⟦<SqlStore<FileStore<D>> as ShardStore>⟧.state store)) }
     ensures works { IfOk result (λ store. ⟦<SqlStore<FileStore<D>> as ShardStore>⟧.is_failed store ≡ false) }
     ensures sound { IfOk result (λ store. IsStoreState (⟦<SqlStore<FileStore<D>> as ShardStore>⟧.state store)) }
-    ensures left_as_is { IfOk result (λ store. LeftAsIs false (⟦<SqlStore<FileStore<D>> as ShardStore>⟧.state store) (⟦<SqlStore<FileStore<D>> as ShardStore>⟧.MayLeave store)) }
+    ensures left_as_is { IfOk result (λ store. LeftAsIs false (⟦<SqlStore<FileStore<D>> as ShardStore>⟧.state store)
+        (⟦<SqlStore<FileStore<D>> as ShardStore>⟧.MayLeave store)) }
     ensures still { IfErr result (λ e. LeavesNoMore (MayLeave link) (MayLeave e.1)) }
     ensures shut { IfErr result (λ e. IsShut e.1) }
     ensures trouble { IfErr result (λ e. IsTrouble MeetsAll e.0) }

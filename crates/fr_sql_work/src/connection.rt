@@ -130,7 +130,9 @@ pub fn between<'x, S: Backing>(
 ) -> Result<Vec<(Bytes, Bytes)>, StoreFault>
     requires rest { IsAtRest (state S.Store conn.old) }
     requires laid { IsLaidOut (state S.Store conn.old).now }
-    ensures rows { IfOk result (λ rows. rows.items ≡ map.entries (map.retain_keys (contents_in ((state S.Store conn.old).now.trees 0)) (is_between begin.now end.now))) }
+    ensures rows { IfOk result (λ rows. rows.items
+        ≡ map.entries (map.retain_keys (contents_in ((state S.Store conn.old).now.trees 0))
+        (is_between begin.now end.now))) }
     ensures looks { Looks (state S.Store conn.old) (state S.Store conn.new) result }
 {
     match kv::between(alloc, conn, begin, end) {
@@ -147,7 +149,9 @@ pub fn above<S: Backing>(
 ) -> Result<Vec<((Version, Bytes), Option<Bytes>)>, StoreFault>
     requires rest { IsAtRest (state S.Store conn.old) }
     requires laid { IsLaidOut (state S.Store conn.old).now }
-    ensures rows { IfOk result (λ rows. (p : Place) → map.find place_cmp p rows.items ≡ cond (nat_le p.0 version) None (before_in ((state S.Store conn.old).now.trees 2) p)) }
+    ensures rows { IfOk result (λ rows. (p : Place)
+        → map.find place_cmp p rows.items
+        ≡ cond (nat_le p.0 version) None (before_in ((state S.Store conn.old).now.trees 2) p)) }
     ensures order { IfOk result (λ rows. IsSorted newest_first rows.items) }
     ensures looks { Looks (state S.Store conn.old) (state S.Store conn.new) result }
 {
@@ -175,7 +179,8 @@ fn attempt<S: Backing>(conn: &mut Connection<S>, work: &Work, rows: usize) -> Re
     requires rest { IsAtRest (state S.Store conn.old) }
     requires fits { Fits work.now (state S.Store conn.old).now }
     ensures done { OnOk result (IsDone (Does work.now) (state S.Store conn.old) (state S.Store conn.new)) }
-    ensures rows { IfOk result (λ more. rows ≡ map.len (undo_in ((state S.Store conn.old).now.trees 2)) → more ≡ map.len (undo_in ((state S.Store conn.new).now.trees 2))) }
+    ensures rows { IfOk result (λ more. rows ≡ map.len (undo_in ((state S.Store conn.old).now.trees 2))
+        → more ≡ map.len (undo_in ((state S.Store conn.new).now.trees 2))) }
     ensures keeps { OnErr result (KeepsIfOpen (state S.Store conn.old) (state S.Store conn.new)) }
     ensures survives { Survives (state S.Store conn.old) (state S.Store conn.new) (MayMake (Does work.now) (state S.Store conn.old)) }
 {
@@ -195,7 +200,8 @@ pub fn make<S: Backing>(
     requires rest { IsAtRest (state S.Store conn.old) }
     requires fits { Fits work.now (state S.Store conn.old).now }
     ensures done { OnOk result (IsDone (Does work.now) (state S.Store conn.old) (state S.Store conn.new)) }
-    ensures rows { IfOk result (λ more. rows ≡ map.len (undo_in ((state S.Store conn.old).now.trees 2)) → more ≡ map.len (undo_in ((state S.Store conn.new).now.trees 2))) }
+    ensures rows { IfOk result (λ more. rows ≡ map.len (undo_in ((state S.Store conn.old).now.trees 2))
+        → more ≡ map.len (undo_in ((state S.Store conn.new).now.trees 2))) }
     ensures keeps { OnErr result (KeepsIfOpen (state S.Store conn.old) (state S.Store conn.new)) }
     ensures opened { IfErr result (λ fault. fault ≢ StoreFault.Device → IsTrue (state S.Store conn.new).is_open) }
     ensures survives { Survives (state S.Store conn.old) (state S.Store conn.new) (MayMake (Does work.now) (state S.Store conn.old)) }

@@ -164,7 +164,8 @@ fn note_one<S: Backing>(
     requires absent { before_in ((state S.Store tx.old.conn.now).now.trees 2) (version, key.now) ≡ None }
     ensures same_reference { tx.new.conn.ghost_name ≡ tx.old.conn.ghost_name }
     ensures ok { OnOk result (NotesOne version key.now change.now (state S.Store tx.old.conn.now).now (state S.Store tx.new.conn.now).now) }
-    ensures rows { IfOk result (λ more. rows ≡ map.len (undo_in ((state S.Store tx.old.conn.now).now.trees 2)) → more ≡ map.len (undo_in ((state S.Store tx.new.conn.now).now.trees 2))) }
+    ensures rows { IfOk result (λ more. rows ≡ map.len (undo_in ((state S.Store tx.old.conn.now).now.trees 2))
+        → more ≡ map.len (undo_in ((state S.Store tx.new.conn.now).now.trees 2))) }
     ensures inside { OnOk result (IsInside (state S.Store tx.new.conn.now)) }
     ensures stays { Stays (state S.Store tx.old.conn.now) (state S.Store tx.new.conn.now) }
     ensures survives { CommitsNothing (state S.Store tx.old.conn.now) (state S.Store tx.new.conn.now) }
@@ -189,7 +190,8 @@ fn note_all<S: Backing>(
     requires room { HasRoom (RowWork.Note version) (state S.Store tx.old.conn.now).now }
     ensures same_reference { tx.new.conn.ghost_name ≡ tx.old.conn.ghost_name }
     ensures ok { OnOk result (Rows changes.now (RowWork.Note version) (state S.Store tx.old.conn.now).now (state S.Store tx.new.conn.now).now) }
-    ensures rows { IfOk result (λ more. rows ≡ map.len (undo_in ((state S.Store tx.old.conn.now).now.trees 2)) → more ≡ map.len (undo_in ((state S.Store tx.new.conn.now).now.trees 2))) }
+    ensures rows { IfOk result (λ more. rows ≡ map.len (undo_in ((state S.Store tx.old.conn.now).now.trees 2))
+        → more ≡ map.len (undo_in ((state S.Store tx.new.conn.now).now.trees 2))) }
     ensures inside { OnOk result (IsInside (state S.Store tx.new.conn.now)) }
     ensures stays { Stays (state S.Store tx.old.conn.now) (state S.Store tx.new.conn.now) }
     ensures survives { CommitsNothing (state S.Store tx.old.conn.now) (state S.Store tx.new.conn.now) }
@@ -214,7 +216,8 @@ fn fill_rows<S: Backing>(
     requires room { HasRoom work.now (state S.Store tx.old.conn.now).now }
     ensures same_reference { tx.new.conn.ghost_name ≡ tx.old.conn.ghost_name }
     ensures ok { OnOk result (Rows changes.now work.now (state S.Store tx.old.conn.now).now (state S.Store tx.new.conn.now).now) }
-    ensures rows { IfOk result (λ more. rows ≡ map.len (undo_in ((state S.Store tx.old.conn.now).now.trees 2)) → more ≡ map.len (undo_in ((state S.Store tx.new.conn.now).now.trees 2))) }
+    ensures rows { IfOk result (λ more. rows ≡ map.len (undo_in ((state S.Store tx.old.conn.now).now.trees 2))
+        → more ≡ map.len (undo_in ((state S.Store tx.new.conn.now).now.trees 2))) }
     ensures inside { OnOk result (IsInside (state S.Store tx.new.conn.now)) }
     ensures stays { Stays (state S.Store tx.old.conn.now) (state S.Store tx.new.conn.now) }
     ensures survives { CommitsNothing (state S.Store tx.old.conn.now) (state S.Store tx.new.conn.now) }
@@ -259,7 +262,8 @@ pub(crate) fn fill<S: Backing>(
     requires fits { Fits work.now (state S.Store tx.old.conn.now).now }
     ensures same_reference { tx.new.conn.ghost_name ≡ tx.old.conn.ghost_name }
     ensures ok { OnOk result (Does work.now (state S.Store tx.old.conn.now).now (state S.Store tx.new.conn.now).now) }
-    ensures rows { IfOk result (λ more. rows ≡ map.len (undo_in ((state S.Store tx.old.conn.now).now.trees 2)) → more ≡ map.len (undo_in ((state S.Store tx.new.conn.now).now.trees 2))) }
+    ensures rows { IfOk result (λ more. rows ≡ map.len (undo_in ((state S.Store tx.old.conn.now).now.trees 2))
+        → more ≡ map.len (undo_in ((state S.Store tx.new.conn.now).now.trees 2))) }
     ensures inside { OnOk result (IsInside (state S.Store tx.new.conn.now)) }
     ensures stays { Stays (state S.Store tx.old.conn.now) (state S.Store tx.new.conn.now) }
     ensures survives { CommitsNothing (state S.Store tx.old.conn.now) (state S.Store tx.new.conn.now) }

@@ -63,7 +63,8 @@ impl ShardMap {
 
     /// Which shards have a key on which a mutation of the batch acts.
     fn met(&self, batch: &Batch) -> [bool; MAX_SHARDS]
-        ensures { (t : ℕ) → t < length self.now → slice_index_or result t false ≡ list_any (λ mutation. meets mutation (shard_at self.now t)) batch.now }
+        ensures { (t : ℕ) → t < length self.now
+            → slice_index_or result t false ≡ list_any (λ mutation. meets mutation (shard_at self.now t)) batch.now }
     {
         let mut is_met = [false; MAX_SHARDS];
         for mutation in batch.mutations() {

@@ -49,7 +49,10 @@ fn put(
     requires know { KnowBefore changes.old (held_outside cleared.now (tree.get bytes_cmp contents.now)) }
     requires named { key_of mutation.now ≡ Some key.now }
     ensures know { OnOk result (KnowBefore changes.new (held_outside cleared.now (tree.get bytes_cmp contents.now))) }
-    ensures values { OnOk result ((q : List ℕ) → value_written changes.new (held_outside cleared.now (tree.get bytes_cmp contents.now)) q ≡ value_after mutation.now q (value_written changes.old (held_outside cleared.now (tree.get bytes_cmp contents.now)) q)) }
+    ensures values { OnOk result ((q : List ℕ)
+        → value_written changes.new (held_outside cleared.now (tree.get bytes_cmp contents.now)) q
+        ≡ value_after mutation.now q
+        (value_written changes.old (held_outside cleared.now (tree.get bytes_cmp contents.now)) q)) }
 {
     match changes.entry(key.copy()?)? {
         Entry::Occupied(mut entry) => {
@@ -73,7 +76,9 @@ fn keys_between(
     end: &Bytes,
 ) -> Result<Vec<Bytes>, Memory>
     requires { is_lt (bytes_cmp begin.now end.now) ≡ true }
-    ensures { IfOk result (λ keys. (q : List ℕ) → list_any (λ k. is_same k q) keys.items ≡ (is_between begin.now end.now q && is_some (tree.get bytes_cmp changes.now q))) }
+    ensures { IfOk result (λ keys. (q : List ℕ)
+        → list_any (λ k. is_same k q) keys.items ≡ (is_between begin.now end.now q
+        && is_some (tree.get bytes_cmp changes.now q))) }
 {
     let mut keys = Vec::new(alloc);
     for (key, _) in changes.range(begin..end) {
@@ -90,7 +95,9 @@ fn drop_changes(
     end: &Bytes,
 ) -> Result<(), Memory>
     requires { is_lt (bytes_cmp begin.now end.now) ≡ true }
-    ensures { OnOk result ((q : List ℕ) → tree.get bytes_cmp changes.new q ≡ cond (is_between begin.now end.now q) None (tree.get bytes_cmp changes.old q)) }
+    ensures { OnOk result ((q : List ℕ)
+        → tree.get bytes_cmp changes.new q ≡ cond (is_between begin.now end.now q) None
+        (tree.get bytes_cmp changes.old q)) }
 {
     let keys = keys_between(alloc, changes, begin, end)?;
     for key in keys.as_slice() {
@@ -111,7 +118,10 @@ fn clear(
 ) -> Result<Vec<(Bytes, Bytes)>, Memory>
     requires { KnowBefore changes.old (held_outside cleared.items (tree.get bytes_cmp contents.now)) }
     ensures know { IfOk result (λ ranges. KnowBefore changes.new (held_outside ranges.items (tree.get bytes_cmp contents.now))) }
-    ensures values { IfOk result (λ ranges. (q : List ℕ) → value_written changes.new (held_outside ranges.items (tree.get bytes_cmp contents.now)) q ≡ value_after (Clear begin.now end.now) q (value_written changes.old (held_outside cleared.items (tree.get bytes_cmp contents.now)) q)) }
+    ensures values { IfOk result (λ ranges. (q : List ℕ)
+        → value_written changes.new (held_outside ranges.items (tree.get bytes_cmp contents.now)) q
+        ≡ value_after (Clear begin.now end.now) q
+        (value_written changes.old (held_outside cleared.items (tree.get bytes_cmp contents.now)) q)) }
 {
     if begin < end {
         let ranges = with_range(alloc, cleared, begin, end)?;
@@ -131,7 +141,10 @@ fn act(
 ) -> Result<Vec<(Bytes, Bytes)>, Memory>
     requires { KnowBefore changes.old (held_outside cleared.items (tree.get bytes_cmp contents.now)) }
     ensures know { IfOk result (λ ranges. KnowBefore changes.new (held_outside ranges.items (tree.get bytes_cmp contents.now))) }
-    ensures values { IfOk result (λ ranges. (q : List ℕ) → value_written changes.new (held_outside ranges.items (tree.get bytes_cmp contents.now)) q ≡ value_after mutation.now q (value_written changes.old (held_outside cleared.items (tree.get bytes_cmp contents.now)) q)) }
+    ensures values { IfOk result (λ ranges. (q : List ℕ)
+        → value_written changes.new (held_outside ranges.items (tree.get bytes_cmp contents.now)) q
+        ≡ value_after mutation.now q
+        (value_written changes.old (held_outside cleared.items (tree.get bytes_cmp contents.now)) q)) }
 {
     if let Mutation::Clear { begin, end } = mutation {
         return clear(alloc, contents, changes, cleared, begin, end);
@@ -145,7 +158,10 @@ fn act(
 /// Notes what a key of a cleared range held: in its change, if it has one, and else in one that takes its
 /// value.
 fn note_key(changes: &mut BTreeMap<Bytes, Change>, key: &Bytes, value: &Bytes) -> Result<(), Memory>
-    ensures { OnOk result ((q : List ℕ) → tree.get bytes_cmp changes.new q ≡ cond (is_same key.now q) (Some (noted (Some value.now) (tree.get bytes_cmp changes.old q))) (tree.get bytes_cmp changes.old q)) }
+    ensures { OnOk result ((q : List ℕ)
+        → tree.get bytes_cmp changes.new q
+        ≡ cond (is_same key.now q) (Some (noted (Some value.now) (tree.get bytes_cmp changes.old q)))
+        (tree.get bytes_cmp changes.old q)) }
 {
     let before = Some(value.copy()?);
     match changes.entry(key.copy()?)? {
@@ -170,7 +186,11 @@ fn note_range(
     begin: &Bytes,
     end: &Bytes,
 ) -> Result<(), Memory>
-    ensures { OnOk result ((q : List ℕ) → tree.get bytes_cmp changes.new q ≡ cond (is_between begin.now end.now q && is_some (tree.get bytes_cmp contents.now q)) (Some (noted (tree.get bytes_cmp contents.now q) (tree.get bytes_cmp changes.old q))) (tree.get bytes_cmp changes.old q)) }
+    ensures { OnOk result ((q : List ℕ)
+        → tree.get bytes_cmp changes.new q ≡ cond (is_between begin.now end.now q
+        && is_some (tree.get bytes_cmp contents.now q))
+        (Some (noted (tree.get bytes_cmp contents.now q) (tree.get bytes_cmp changes.old q)))
+        (tree.get bytes_cmp changes.old q)) }
 {
     if begin < end {
         for (key, value) in contents.range(begin..end) {
@@ -188,7 +208,8 @@ fn note_all(
 ) -> Result<(), Memory>
     requires { KnowBefore changes.old (held_outside cleared.now (tree.get bytes_cmp contents.now)) }
     ensures know { OnOk result (KnowBefore changes.new (tree.get bytes_cmp contents.now)) }
-    ensures values { OnOk result ((q : List ℕ) → value_written changes.new (tree.get bytes_cmp contents.now) q ≡ value_written changes.old (held_outside cleared.now (tree.get bytes_cmp contents.now)) q) }
+    ensures values { OnOk result ((q : List ℕ) → value_written changes.new (tree.get bytes_cmp contents.now) q
+        ≡ value_written changes.old (held_outside cleared.now (tree.get bytes_cmp contents.now)) q) }
 {
     for range in cleared {
         note_range(contents, changes, &range.0, &range.1)?;
@@ -209,7 +230,8 @@ pub fn changes_of(
     batch: &Batch,
 ) -> Result<BTreeMap<Bytes, Change>, Memory>
     ensures know { IfOk result (λ changes. KnowBefore changes (tree.get bytes_cmp contents.now)) }
-    ensures values { IfOk result (λ changes. (q : List ℕ) → value_written changes (tree.get bytes_cmp contents.now) q ≡ value_after_all batch.now q (tree.get bytes_cmp contents.now q)) }
+    ensures values { IfOk result (λ changes. (q : List ℕ) → value_written changes (tree.get bytes_cmp contents.now) q
+        ≡ value_after_all batch.now q (tree.get bytes_cmp contents.now q)) }
 {
     let mut changes = BTreeMap::new(alloc);
     let mut cleared = Vec::new(alloc);

@@ -55,7 +55,8 @@ fn between_copy(
     end: Bound<&Bytes>,
 ) -> Result<Vec<(Bytes, Bytes)>, Memory>
     requires { IsForward (IsLeBy bytes_cmp) (IsLtBy bytes_cmp) (Included begin.now) (bound_map (λ x. x.now) end) }
-    ensures { IfOk result (λ entries. entries.items ≡ entries_between bytes_cmp (Included begin.now) (bound_map (λ x. x.now) end.entry) (map.entries {R = bytes_cmp} (map_of contents.now))) }
+    ensures { IfOk result (λ entries. entries.items ≡ entries_between bytes_cmp (Included begin.now)
+        (bound_map (λ x. x.now) end.entry) (map.entries {R = bytes_cmp} (map_of contents.now))) }
 {
     let mut entries = Vec::new(alloc);
     for (key, value) in contents.range((Bound::Included(begin), end)) {

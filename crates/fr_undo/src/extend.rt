@@ -36,9 +36,11 @@ fn settle(
     version: Version,
     changes: BTreeMap<Bytes, Change>,
 )
-    requires held { (q : List ℕ) → IfSome (tree.get bytes_cmp changes q) (λ change. IsSome change.before → IsSome (tree.get bytes_cmp contents.old q)) }
+    requires held { (q : List ℕ) → IfSome (tree.get bytes_cmp changes q) (λ change. IsSome change.before
+        → IsSome (tree.get bytes_cmp contents.old q)) }
     requires room { length rows.old.items + length changes.entries ≤ deque_capacity rows.old }
-    ensures values { (q : List ℕ) → tree.get bytes_cmp contents.new q ≡ written_if is_held (tree.get bytes_cmp changes q) (tree.get bytes_cmp contents.old q) }
+    ensures values { (q : List ℕ) → tree.get bytes_cmp contents.new q
+        ≡ written_if is_held (tree.get bytes_cmp changes q) (tree.get bytes_cmp contents.old q) }
     ensures rows { rows.new.items ≡ rows.old.items ++ rows_made version changes.entries }
 {
     for (key, change) in changes {
@@ -60,7 +62,9 @@ pub(crate) fn extend(
     requires upto { AreThrough rows.old.items applied }
     requires later { applied < version }
     ensures values { OnOk result ((q : List ℕ) → tree.get bytes_cmp contents.new q ≡ value_after_all batch.now q (tree.get bytes_cmp contents.old q)) }
-    ensures rows { OnOk result ((p : Place) → row_in rows.new.items p ≡ option_or (row_in rows.old.items p) (row_made (tree.get bytes_cmp contents.old) (λ q. value_after_all batch.now q (tree.get bytes_cmp contents.old q)) version p)) }
+    ensures rows { OnOk result ((p : Place)
+        → row_in rows.new.items p ≡ option_or (row_in rows.old.items p) (row_made (tree.get bytes_cmp contents.old)
+        (λ q. value_after_all batch.now q (tree.get bytes_cmp contents.old q)) version p)) }
     ensures order { OnOk result (IsInOrder rows.new.items) }
     ensures same_values { OnErr result ((q : List ℕ) → tree.get bytes_cmp contents.new q ≡ tree.get bytes_cmp contents.old q) }
     ensures same_rows { OnErr result (rows.new.items ≡ rows.old.items) }

@@ -56,7 +56,8 @@ fn add(
     merged: (Bytes, Bytes),
     range: (Bytes, Bytes),
 ) -> Result<(Bytes, Bytes), Memory>
-    ensures { IfOk result (λ next. (q : List ℕ) → (covers apart.new.items q || is_between next.0 next.1 q) ≡ ((covers apart.old.items q || is_between merged.0 merged.1 q) || is_between range.0 range.1 q)) }
+    ensures { IfOk result (λ next. (q : List ℕ) → (covers apart.new.items q || is_between next.0 next.1 q)
+        ≡ ((covers apart.old.items q || is_between merged.0 merged.1 q) || is_between range.0 range.1 q)) }
 {
     if meet(&merged, &range) {
         return Ok(hull(merged, range));

@@ -88,7 +88,9 @@ pub(crate) fn restore_one(
 ) -> Result<(), Memory>
     requires { KnowBefore changes.old (tree.get bytes_cmp contents.now) }
     ensures know { OnOk result (KnowBefore changes.new (tree.get bytes_cmp contents.now)) }
-    ensures kept { OnOk result ((q : List ℕ) → after_of (tree.get bytes_cmp changes.new q) ≡ option_or (after_of (tree.get bytes_cmp changes.old q)) (cond (is_same key.now q) (Some before.now) None)) }
+    ensures kept { OnOk result ((q : List ℕ)
+        → after_of (tree.get bytes_cmp changes.new q) ≡ option_or (after_of (tree.get bytes_cmp changes.old q))
+        (cond (is_same key.now q) (Some before.now) None)) }
 {
     if !changes.contains_key(key) {
         let held = value_copy(contents, key)?;
@@ -118,7 +120,8 @@ pub fn changes_above(
 ) -> Result<BTreeMap<Bytes, Change>, Memory>
     requires { version < applied }
     ensures know { IfOk result (λ changes. KnowBefore changes (tree.get bytes_cmp contents.now)) }
-    ensures value { IfOk result (λ changes. (n : ℕ) → IsUpTo rows.now (version + n) → (q : List ℕ) → after_of (tree.get bytes_cmp changes q) ≡ least_row (map_of rows.now) q version n) }
+    ensures value { IfOk result (λ changes. (n : ℕ) → IsUpTo rows.now (version + n) → (q : List ℕ)
+        → after_of (tree.get bytes_cmp changes q) ≡ least_row (map_of rows.now) q version n) }
 {
     let mut changes = BTreeMap::new(alloc);
     let first = (next(version, applied), Bytes::empty(alloc));

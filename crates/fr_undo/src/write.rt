@@ -15,7 +15,10 @@ fn add_one(
     key: &Bytes,
     change: &Change,
 ) -> Result<(), Memory>
-    ensures ok { OnOk result ((q : List ℕ) → tree.get bytes_cmp contents.new q ≡ cond (is_same key.now q) (written_if is_added (Some change.now) (tree.get bytes_cmp contents.old q)) (tree.get bytes_cmp contents.old q)) }
+    ensures ok { OnOk result ((q : List ℕ)
+        → tree.get bytes_cmp contents.new q
+        ≡ cond (is_same key.now q) (written_if is_added (Some change.now) (tree.get bytes_cmp contents.old q))
+        (tree.get bytes_cmp contents.old q)) }
     ensures err { OnErr result ((q : List ℕ) → tree.get bytes_cmp contents.new q ≡ tree.get bytes_cmp contents.old q) }
 {
     match (&change.before, &change.after) {
@@ -33,8 +36,11 @@ fn add_new(
     contents: &mut BTreeMap<Bytes, Bytes>,
     changes: &BTreeMap<Bytes, Change>,
 ) -> Result<(), Memory>
-    ensures others { (q : List ℕ) → passes is_new_one (tree.get bytes_cmp changes.now q) ≡ false → tree.get bytes_cmp contents.new q ≡ tree.get bytes_cmp contents.old q }
-    ensures added { OnOk result ((q : List ℕ) → tree.get bytes_cmp contents.new q ≡ written_if is_added (tree.get bytes_cmp changes.now q) (tree.get bytes_cmp contents.old q)) }
+    ensures others { (q : List ℕ) → passes is_new_one (tree.get bytes_cmp changes.now q) ≡ false
+        → tree.get bytes_cmp contents.new q ≡ tree.get bytes_cmp contents.old q }
+    ensures added { OnOk result ((q : List ℕ)
+        → tree.get bytes_cmp contents.new q ≡ written_if is_added (tree.get bytes_cmp changes.now q)
+        (tree.get bytes_cmp contents.old q)) }
 {
     for (key, change) in changes.iter() {
         add_one(contents, key, change)?;
@@ -44,7 +50,8 @@ fn add_new(
 
 /// Removes the keys that are new.
 fn remove_new(contents: &mut BTreeMap<Bytes, Bytes>, changes: &BTreeMap<Bytes, Change>)
-    ensures { (q : List ℕ) → tree.get bytes_cmp contents.new q ≡ cond (passes is_new_one (tree.get bytes_cmp changes.now q)) None (tree.get bytes_cmp contents.old q) }
+    ensures { (q : List ℕ) → tree.get bytes_cmp contents.new q
+        ≡ cond (passes is_new_one (tree.get bytes_cmp changes.now q)) None (tree.get bytes_cmp contents.old q) }
 {
     for (key, change) in changes.iter() {
         if change.before.is_none() {
@@ -72,7 +79,9 @@ pub(crate) fn replace(
     change: Change,
 ) -> Option<Option<Bytes>>
     requires { IsSome change.before → IsSome (tree.get bytes_cmp contents.old key.now) }
-    ensures values { (q : List ℕ) → tree.get bytes_cmp contents.new q ≡ cond (is_same key.now q) (written_if is_held (Some change) (tree.get bytes_cmp contents.old q)) (tree.get bytes_cmp contents.old q) }
+    ensures values { (q : List ℕ) → tree.get bytes_cmp contents.new q
+        ≡ cond (is_same key.now q) (written_if is_held (Some change) (tree.get bytes_cmp contents.old q))
+        (tree.get bytes_cmp contents.old q) }
     ensures row { result ≡ before_if_changed change.before change.after }
 {
     let (before, after) = (change.before, change.after);
@@ -107,7 +116,9 @@ pub(crate) fn add_all(
     changes: &BTreeMap<Bytes, Change>,
 ) -> Result<(), Memory>
     requires { KnowBefore changes.now (tree.get bytes_cmp contents.old) }
-    ensures ok { OnOk result ((q : List ℕ) → tree.get bytes_cmp contents.new q ≡ written_if is_added (tree.get bytes_cmp changes.now q) (tree.get bytes_cmp contents.old q)) }
+    ensures ok { OnOk result ((q : List ℕ)
+        → tree.get bytes_cmp contents.new q ≡ written_if is_added (tree.get bytes_cmp changes.now q)
+        (tree.get bytes_cmp contents.old q)) }
     ensures err { OnErr result ((q : List ℕ) → tree.get bytes_cmp contents.new q ≡ tree.get bytes_cmp contents.old q) }
 {
     match add_new(contents, changes) {
@@ -125,7 +136,9 @@ pub(crate) fn write(
     changes: BTreeMap<Bytes, Change>,
 ) -> Result<(), Memory>
     requires { KnowBefore changes (tree.get bytes_cmp contents.old) }
-    ensures ok { OnOk result ((q : List ℕ) → tree.get bytes_cmp contents.new q ≡ written (tree.get bytes_cmp changes q) (tree.get bytes_cmp contents.old q)) }
+    ensures ok { OnOk result ((q : List ℕ)
+        → tree.get bytes_cmp contents.new q ≡ written (tree.get bytes_cmp changes q)
+        (tree.get bytes_cmp contents.old q)) }
     ensures err { OnErr result ((q : List ℕ) → tree.get bytes_cmp contents.new q ≡ tree.get bytes_cmp contents.old q) }
 {
     add_all(contents, &changes)?;

@@ -18,7 +18,8 @@ pub fn keep_log(
     new: Log,
 ) -> Result<(), Memory>
     requires { tree.get pair_cmp logs.old id ≡ None }
-    ensures after { OnOk result ((p : ℕ × ℕ) → tree.get pair_cmp logs.new p ≡ cond (tree.is_at (pair_cmp id) p) (Some new) (tree.get pair_cmp logs.old p)) }
+    ensures after { OnOk result ((p : ℕ × ℕ)
+        → tree.get pair_cmp logs.new p ≡ cond (tree.is_at (pair_cmp id) p) (Some new) (tree.get pair_cmp logs.old p)) }
     ensures err { OnErr result ((p : ℕ × ℕ) → tree.get pair_cmp logs.new p ≡ tree.get pair_cmp logs.old p) }
 {
     match logs.insert(id, new) {
@@ -37,7 +38,10 @@ pub fn ask_log(
     requires { IsSome (tree.get pair_cmp logs.old id) }
     ensures kept { IfOk result (λ told. IfSome (tree.get pair_cmp logs.old id) (λ l. told.kept ≡ answer_of l asked)) }
     ensures handed { IfOk result (λ told. IfSome (tree.get pair_cmp logs.old id) (λ l. told.handed ≡ answer_of l asked)) }
-    ensures after { OnOk result ((p : ℕ × ℕ) → tree.get pair_cmp logs.new p ≡ cond (tree.is_at (pair_cmp id) p) (option_map (λ l. next_of l asked) (tree.get pair_cmp logs.old id)) (tree.get pair_cmp logs.old p)) }
+    ensures after { OnOk result ((p : ℕ × ℕ)
+        → tree.get pair_cmp logs.new p
+        ≡ cond (tree.is_at (pair_cmp id) p) (option_map (λ l. next_of l asked) (tree.get pair_cmp logs.old id))
+        (tree.get pair_cmp logs.old p)) }
     ensures err { OnErr result ((p : ℕ × ℕ) → tree.get pair_cmp logs.new p ≡ tree.get pair_cmp logs.old p) }
 {
     match logs.get_mut(&id) {

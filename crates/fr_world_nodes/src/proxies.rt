@@ -21,7 +21,9 @@ pub fn keep_proxy(
     new: Proxy,
 ) -> Result<(), Memory>
     requires { tree.get pair_cmp proxies.old id ≡ None }
-    ensures after { OnOk result ((q : ℕ × ℕ) → tree.get pair_cmp proxies.new q ≡ cond (tree.is_at (pair_cmp id) q) (Some new) (tree.get pair_cmp proxies.old q)) }
+    ensures after { OnOk result ((q : ℕ × ℕ)
+        → tree.get pair_cmp proxies.new q ≡ cond (tree.is_at (pair_cmp id) q) (Some new)
+        (tree.get pair_cmp proxies.old q)) }
     ensures err { OnErr result ((q : ℕ × ℕ) → tree.get pair_cmp proxies.new q ≡ tree.get pair_cmp proxies.old q) }
 {
     match proxies.insert(id, new) {
@@ -41,7 +43,10 @@ pub fn submit(
     ensures ask { IfOk result (λ ask. IfSome (tree.get pair_cmp proxies.old id) (λ p. ask ≡ (number_ask p (opened p step batch)).1)) }
     ensures taken { OnOk result (IfSome (tree.get pair_cmp proxies.old id) (λ p. submit_fault p ≡ None)) }
     ensures fault { IfErr result (λ fault. IfSome (tree.get pair_cmp proxies.old id) (λ p. submit_fault p ≡ Some fault)) }
-    ensures after { OnOk result ((q : ℕ × ℕ) → tree.get pair_cmp proxies.new q ≡ cond (tree.is_at (pair_cmp id) q) (option_map (λ p. submitted p step batch) (tree.get pair_cmp proxies.old id)) (tree.get pair_cmp proxies.old q)) }
+    ensures after { OnOk result ((q : ℕ × ℕ)
+        → tree.get pair_cmp proxies.new q
+        ≡ cond (tree.is_at (pair_cmp id) q) (option_map (λ p. submitted p step batch)
+        (tree.get pair_cmp proxies.old id)) (tree.get pair_cmp proxies.old q)) }
     ensures err { OnErr result ((q : ℕ × ℕ) → tree.get pair_cmp proxies.new q ≡ tree.get pair_cmp proxies.old q) }
 {
     match proxies.get_mut(&id) {
@@ -61,7 +66,10 @@ pub fn tell_proxy(
     requires { IsSome (tree.get pair_cmp proxies.old id) }
     ensures outcome { IfOk result (λ answer. IfSome (tree.get pair_cmp proxies.old id) (λ p. answer.0 ≡ outcome_of p from tell.now)) }
     ensures asks { IfOk result (λ answer. IfSome (tree.get pair_cmp proxies.old id) (λ p. answer.1.items ≡ new_asks p from tell.now)) }
-    ensures after { OnOk result ((q : ℕ × ℕ) → tree.get pair_cmp proxies.new q ≡ cond (tree.is_at (pair_cmp id) q) (option_map (λ p. after_hear p from tell.now) (tree.get pair_cmp proxies.old id)) (tree.get pair_cmp proxies.old q)) }
+    ensures after { OnOk result ((q : ℕ × ℕ)
+        → tree.get pair_cmp proxies.new q
+        ≡ cond (tree.is_at (pair_cmp id) q) (option_map (λ p. after_hear p from tell.now)
+        (tree.get pair_cmp proxies.old id)) (tree.get pair_cmp proxies.old q)) }
     ensures err { OnErr result ((q : ℕ × ℕ) → tree.get pair_cmp proxies.new q ≡ tree.get pair_cmp proxies.old q) }
 {
     match proxies.get_mut(&id) {

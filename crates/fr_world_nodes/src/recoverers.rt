@@ -19,7 +19,9 @@ pub fn keep_recoverer(
     new: Recoverer,
 ) -> Result<(), Memory>
     requires { tree.get nat_cmp recoverers.old ballot ≡ None }
-    ensures after { OnOk result ((b : ℕ) → tree.get nat_cmp recoverers.new b ≡ cond (tree.is_at (nat_cmp ballot) b) (Some new) (tree.get nat_cmp recoverers.old b)) }
+    ensures after { OnOk result ((b : ℕ)
+        → tree.get nat_cmp recoverers.new b ≡ cond (tree.is_at (nat_cmp ballot) b) (Some new)
+        (tree.get nat_cmp recoverers.old b)) }
     ensures err { OnErr result ((b : ℕ) → tree.get nat_cmp recoverers.new b ≡ tree.get nat_cmp recoverers.old b) }
 {
     match recoverers.insert(ballot, new) {
@@ -38,7 +40,10 @@ pub fn tell_recoverer(
 ) -> Result<Vec<(NodeId, Ask)>, Memory>
     requires { IsSome (tree.get nat_cmp recoverers.old ballot) }
     ensures asks { IfOk result (λ asks. IfSome (tree.get nat_cmp recoverers.old ballot) (λ r. asks.items ≡ new_asks r from tell)) }
-    ensures after { OnOk result ((b : ℕ) → tree.get nat_cmp recoverers.new b ≡ cond (tree.is_at (nat_cmp ballot) b) (option_map (λ r. after_hear r from tell) (tree.get nat_cmp recoverers.old ballot)) (tree.get nat_cmp recoverers.old b)) }
+    ensures after { OnOk result ((b : ℕ)
+        → tree.get nat_cmp recoverers.new b
+        ≡ cond (tree.is_at (nat_cmp ballot) b) (option_map (λ r. after_hear r from tell)
+        (tree.get nat_cmp recoverers.old ballot)) (tree.get nat_cmp recoverers.old b)) }
     ensures err { OnErr result ((b : ℕ) → tree.get nat_cmp recoverers.new b ≡ tree.get nat_cmp recoverers.old b) }
 {
     match recoverers.get_mut(&ballot) {

@@ -20,7 +20,11 @@ pub fn ask_sequencer(
     ask: SeqAsk,
 ) -> Result<SeqTell, Memory>
     ensures told { IfOk result (λ told. told ≡ answer_of (unwrap_or (tree.get nat_cmp sequencers.old epoch) (new_sequencer epoch last)) ask) }
-    ensures after { OnOk result ((e : ℕ) → tree.get nat_cmp sequencers.new e ≡ cond (tree.is_at (nat_cmp epoch) e) (Some (next_of (unwrap_or (tree.get nat_cmp sequencers.old epoch) (new_sequencer epoch last)) ask)) (tree.get nat_cmp sequencers.old e)) }
+    ensures after { OnOk result ((e : ℕ)
+        → tree.get nat_cmp sequencers.new e
+        ≡ cond (tree.is_at (nat_cmp epoch) e)
+        (Some (next_of (unwrap_or (tree.get nat_cmp sequencers.old epoch) (new_sequencer epoch last)) ask))
+        (tree.get nat_cmp sequencers.old e)) }
     ensures err { OnErr result ((e : ℕ) → tree.get nat_cmp sequencers.new e ≡ tree.get nat_cmp sequencers.old e) }
 {
     let mut sequencer = sequencer_of(alloc, sequencers, epoch, last)?;

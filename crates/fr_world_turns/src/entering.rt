@@ -109,7 +109,8 @@ fn enter_ask(
 ) -> Result<(), Memory>
     requires { at_place turns.now (tests.gives from.now sent.now.0 sent.now.1) place ≡ true }
     ensures grows { Grows places.old places.new }
-    ensures found { OnOk result (some_under turns.now places.new (tests.gives from.now sent.now.0 sent.now.1) (keys.ask_key from.now sent.now.0 sent.now.1) ≡ true) }
+    ensures found { OnOk result (some_under turns.now places.new (tests.gives from.now sent.now.0 sent.now.1)
+        (keys.ask_key from.now sent.now.0 sent.now.1) ≡ true) }
 {
     if has_ask(turns, places, from, &sent.0, &sent.1) {
         return Ok(());

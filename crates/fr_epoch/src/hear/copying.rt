@@ -68,7 +68,8 @@ impl Standing {
 
     /// Its copy goes on by an answer.
     fn go_on(&mut self, index: u8, peeked: Peeked) -> Result<(), Memory>
-        ensures ok { OnOk result ((draft : Draft) → self.old.plan ≡ Some draft → state_of self.new ≡ with_tail (state_of self.old) (plan_in draft) index peeked) }
+        ensures ok { OnOk result ((draft : Draft) → self.old.plan ≡ Some draft
+            → state_of self.new ≡ with_tail (state_of self.old) (plan_in draft) index peeked) }
         ensures err { OnErr result (state_of self.new ≡ state_of self.old) }
     {
         if let Some(mut draft) = self.plan.take() {

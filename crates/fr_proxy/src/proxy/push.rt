@@ -100,7 +100,11 @@ impl Proxy {
     ) -> Result<(), Memory>
         requires place { IsPlace self.now.known place.now }
         requires rising { IsTrue (is_rising_from 0 bodies.items) }
-        ensures { OnOk result (asks.new.items ≡ asks.old.items ++ (if is_in under_way.now.held.items log then [] else (NodeId.Log self.now.epoch log, push_with self.now place.now bodies.items) ∷ [])) }
+        ensures { OnOk result (asks.new.items
+            ≡ asks.old.items ++ (if is_in under_way.now.held.items log then [] else (
+              NodeId.Log self.now.epoch log,
+              push_with self.now place.now bodies.items,
+            ) ∷ [])) }
     {
         if under_way.is_held_by(log) {
             return Ok(());

@@ -64,7 +64,9 @@ where
     ensures device { (result ≡ Err NodeFault.Device) → D.failures_of file.new.device ≡ min (D.failures_of file.old.device + 1) (2 ^ 64 - 1) }
     ensures never_full { result ≢ Err NodeFault.Full }
     ensures trouble { IfErr result (λ fault. IsTrue (is_trouble fault)) }
-    ensures any_moment { Throughout D.Led D.disk (InFlight file.old.records (written_all M.after M.written machine.old asks.now)) file.old.device file.new.device }
+    ensures any_moment { Throughout D.Led D.disk
+        (InFlight file.old.records (written_all M.after M.written machine.old asks.now)) file.old.device
+        file.new.device }
     ensures kept { OnOk result (LeavesOnly D.Led D.disk (IsAtRest file.new.records) file.new.device) }
 {
     left_law();

@@ -128,11 +128,16 @@ where
     ensures err_records { OnErr result (file.new.records ≡ file.old.records) }
     ensures fails { file.new.is_failed ≡ met_device result }
     ensures device { (result ≡ Err NodeFault.Device) → D.failures_of file.new.device ≡ min (D.failures_of file.old.device + 1) (2 ^ 64 - 1) }
-    ensures full { (result ≡ Err NodeFault.Full) → HasNoRoom (D.capacity_of file.old.device) file.old.records (written_all M.after M.written machine.old asks.now) }
+    ensures full { (result ≡ Err NodeFault.Full)
+        → HasNoRoom (D.capacity_of file.old.device) file.old.records
+        (written_all M.after M.written machine.old asks.now) }
     ensures trouble { IfErr result (λ fault. IsTrue (is_trouble fault)) }
     ensures asked { (result ≡ Err NodeFault.Device) → All M.IsAsk asks.now }
-    ensures left { (result ≡ Err NodeFault.Device) → LeavesOnly D.Led D.disk (InFlight file.old.records (written_all M.after M.written machine.old asks.now)) file.new.device }
-    ensures any_moment { Throughout D.Led D.disk (Opens M.replay (M.fresh machine.old) (λ x. (x ≡ machine.old) ⊎ (x ≡ after_all M.after machine.old asks.now))) file.old.device file.new.device }
+    ensures left { (result ≡ Err NodeFault.Device)
+        → LeavesOnly D.Led D.disk (InFlight file.old.records (written_all M.after M.written machine.old asks.now))
+        file.new.device }
+    ensures any_moment { Throughout D.Led D.disk (Opens M.replay (M.fresh machine.old) (λ x. (x ≡ machine.old)
+        ⊎ (x ≡ after_all M.after machine.old asks.now))) file.old.device file.new.device }
 {
     left_law();
     let _is_failed = file.is_failed();

@@ -33,10 +33,22 @@ where
         ensures place { self.new.place ≡ self.old.place }
         ensures first { self.new.first ≡ self.old.first }
         ensures told { IfOk result (λ tell. tell ≡ N.Plain.wrapped_tell (N.Plain.told self.old.state ask)) }
-        ensures entered { OnOk result (self.new.entries ≡ self.old.entries ++ record { stamp = stamp; act = Act.Asked from (N.Plain.wrapped ask) (N.Plain.wrapped_tell (N.Plain.told self.old.state ask)) } ∷ []) }
+        ensures entered { OnOk result (self.new.entries
+            ≡ self.old.entries ++ record {
+              stamp = stamp;
+              act = Act.Asked from (N.Plain.wrapped ask)
+                  (N.Plain.wrapped_tell (N.Plain.told self.old.state ask));
+            } ∷ []) }
         ensures state { OnOk result (self.new.state ≡ N.Plain.after self.old.state ask) }
         ensures works { OnOk result (Works self.new) }
-        ensures err { IfErr result (λ fault. (self.new.entries ≡ self.old.entries) ⊎ ((fault ≡ NodeFault.Memory) × (self.new.entries ≡ self.old.entries ++ record { stamp = stamp; act = Act.Asked from (N.Plain.wrapped ask) (N.Plain.wrapped_tell (N.Plain.told self.old.state ask)) } ∷ []))) }
+        ensures err { IfErr result (λ fault. (self.new.entries ≡ self.old.entries)
+            ⊎ ((fault ≡ NodeFault.Memory)
+            × (self.new.entries ≡ self.old.entries
+            ++ record {
+              stamp = stamp;
+              act = Act.Asked from (N.Plain.wrapped ask)
+                  (N.Plain.wrapped_tell (N.Plain.told self.old.state ask));
+            } ∷ []))) }
         ensures kept { (result ≡ Err NodeFault.Device) → self.new.kept ≡ Some (record { stamp = stamp; from = from; ask = ask; found = false }) }
         ensures device { (result ≡ Err NodeFault.Device) → N.failures self.new.node ≡ min (N.failures self.old.node + 1) (2 ^ 64 - 1) }
         ensures full { (result ≡ Err NodeFault.Full) → N.LacksRoom self.old.node ask }

@@ -55,7 +55,10 @@ where
         requires there { is_gone self.old ≡ false }
         ensures place { self.new.place ≡ self.old.place }
         ensures first { self.new.first ≡ self.old.first }
-        ensures entries { OnOk result (self.new.entries ≡ with_found (steps N.Plain.wrapped N.Plain.unwrapped N.Plain.wrapped_tell N.Plain.told N.Plain.after) (before (steps N.Plain.wrapped N.Plain.unwrapped N.Plain.wrapped_tell N.Plain.told N.Plain.after) self.old) self.old.entries self.old.kept) }
+        ensures entries { OnOk result (self.new.entries
+            ≡ with_found (steps N.Plain.wrapped N.Plain.unwrapped N.Plain.wrapped_tell N.Plain.told N.Plain.after)
+            (before (steps N.Plain.wrapped N.Plain.unwrapped N.Plain.wrapped_tell N.Plain.told N.Plain.after)
+            self.old) self.old.entries self.old.kept) }
         ensures there { OnOk result (is_gone self.new ≡ false) }
         ensures works { OnOk result (Works self.new) }
         ensures idle { self.old.kept ≡ None → OnErr result ⊥ × (self.new.node ≡ self.old.node) }
@@ -96,10 +99,14 @@ where
         requires there { is_gone self.old ≡ false }
         ensures place { self.new.place ≡ self.old.place }
         ensures first { self.new.first ≡ self.old.first }
-        ensures settled { OnOk result (IsSettled (steps N.Plain.wrapped N.Plain.unwrapped N.Plain.wrapped_tell N.Plain.told N.Plain.after) self.old self.new.entries) }
+        ensures settled { OnOk result (IsSettled
+            (steps N.Plain.wrapped N.Plain.unwrapped N.Plain.wrapped_tell N.Plain.told N.Plain.after) self.old
+            self.new.entries) }
         ensures there { OnOk result (is_gone self.new ≡ false) }
         ensures works { OnOk result (Works self.new) }
-        ensures stands { OnOk result (self.new.state ≡ before (steps N.Plain.wrapped N.Plain.unwrapped N.Plain.wrapped_tell N.Plain.told N.Plain.after) self.new) }
+        ensures stands { OnOk result (self.new.state
+            ≡ before (steps N.Plain.wrapped N.Plain.unwrapped N.Plain.wrapped_tell N.Plain.told N.Plain.after)
+            self.new) }
         ensures idle { Works self.old → OnErr result ⊥ × (self.new.node ≡ self.old.node) }
         ensures err { OnErr result (self.new.entries ≡ self.old.entries) }
         ensures err_kept { OnErr result ((self.new.kept ≡ self.old.kept) ⊎ (self.new.kept ≡ found_kept self.old.kept)) }
@@ -125,10 +132,14 @@ where
         requires there { is_gone self.old ≡ false }
         ensures place { self.new.place ≡ self.old.place }
         ensures first { self.new.first ≡ self.old.first }
-        ensures settled { OnOk result (IsSettled (steps N.Plain.wrapped N.Plain.unwrapped N.Plain.wrapped_tell N.Plain.told N.Plain.after) self.old self.new.entries) }
+        ensures settled { OnOk result (IsSettled
+            (steps N.Plain.wrapped N.Plain.unwrapped N.Plain.wrapped_tell N.Plain.told N.Plain.after) self.old
+            self.new.entries) }
         ensures there { OnOk result (is_gone self.new ≡ false) }
         ensures works { OnOk result (Works self.new) }
-        ensures stands { OnOk result (self.new.state ≡ before (steps N.Plain.wrapped N.Plain.unwrapped N.Plain.wrapped_tell N.Plain.told N.Plain.after) self.new) }
+        ensures stands { OnOk result (self.new.state
+            ≡ before (steps N.Plain.wrapped N.Plain.unwrapped N.Plain.wrapped_tell N.Plain.told N.Plain.after)
+            self.new) }
         ensures err { OnErr result (self.new.entries ≡ self.old.entries) }
         ensures trouble { IfErr result (λ fault. (fault ≡ NodeFault.Memory) ⊎ N.CanMeet fault) }
     {

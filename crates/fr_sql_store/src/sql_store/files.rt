@@ -128,7 +128,8 @@ impl<D: FaithfulDisk + Drop> SqlStore<FileStore<D>> {
     ///
     /// `Device`: the files failed, or hold no store. `Full`: they have no room. `Memory`: a growth was refused.
     pub(crate) fn open(alloc: Global, files: Files<D>) -> Result<Self, StoreFault>
-        ensures found { IfOk result (λ store. (x : StoreState) → HoldStore D.Disk files x → ⟦<SqlStore<FileStore<D>> as ShardStore>⟧.state store ≡ x) }
+        ensures found { IfOk result (λ store. (x : StoreState) → HoldStore D.Disk files x
+            → ⟦<SqlStore<FileStore<D>> as ShardStore>⟧.state store ≡ x) }
         ensures works { IfOk result (λ store. ⟦<SqlStore<FileStore<D>> as ShardStore>⟧.is_failed store ≡ false) }
         ensures trouble { IfErr result (IsTrouble MeetsAll) }
     {
@@ -166,7 +167,8 @@ impl<D: FaithfulDisk + Drop> SqlStore<FileStore<D>> {
         ensures state { ⟦<SqlStore<FileStore<D>> as ShardStore>⟧.state result ≡ state_in (file_state conn).now.trees }
         ensures works { ⟦<SqlStore<FileStore<D>> as ShardStore>⟧.is_failed result ≡ false }
         ensures sound { IsStoreState (⟦<SqlStore<FileStore<D>> as ShardStore>⟧.state result) }
-        ensures left_as_is { LeftAsIs false (⟦<SqlStore<FileStore<D>> as ShardStore>⟧.state result) (⟦<SqlStore<FileStore<D>> as ShardStore>⟧.MayLeave result) }
+        ensures left_as_is { LeftAsIs false (⟦<SqlStore<FileStore<D>> as ShardStore>⟧.state result)
+            (⟦<SqlStore<FileStore<D>> as ShardStore>⟧.MayLeave result) }
     {
         SqlStore {
             conn,

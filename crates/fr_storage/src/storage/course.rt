@@ -21,10 +21,13 @@ impl<S: ShardStore> Storage<S> {
         ensures refused { self.old.failed ≡ false → refusal_of result ≡ fault_of (storage_of S.state self.old) (heard_of answer) }
         ensures same { met_store result ≡ false → OnErr result (self.new ≡ self.old) }
         ensures trouble { IfSome (store_fault result) (λ fault. fault ≢ StoreFault.Failed → IsMarkTrouble S.CanMeet S.CanMeetInPlace fault) }
-        ensures idle { self.old.failed ≡ false → fault_of (storage_of S.state self.old) (heard_of answer) ≡ None → calls_of (storage_of S.state self.old) (heard_of answer) ≡ [] → IsOk result }
+        ensures idle { self.old.failed ≡ false → fault_of (storage_of S.state self.old) (heard_of answer) ≡ None
+            → calls_of (storage_of S.state self.old) (heard_of answer) ≡ [] → IsOk result }
         ensures err { OnErr result (kept_of self.new ≡ kept_of self.old) }
         ensures fails { self.new.failed ≡ (self.old.failed || met_store result) }
-        ensures leaves { self.old.failed ≡ false → LeavesStages (S.MayLeave self.new.store) (S.state self.old.store) (calls_of (storage_of S.state self.old) (heard_of answer)) }
+        ensures leaves { self.old.failed ≡ false
+            → LeavesStages (S.MayLeave self.new.store) (S.state self.old.store)
+            (calls_of (storage_of S.state self.old) (heard_of answer)) }
         ensures still { IsTrue self.old.failed → self.new ≡ self.old }
         ensures stands { StaysStanding S.state S.MayLeave (heard_of answer ∷ []) self.old self.new (refusal_of result) }
     {
@@ -46,10 +49,12 @@ impl<S: ShardStore> Storage<S> {
         ensures ok { OnOk result (storage_of S.state self.new ≡ after_hear (storage_of S.state self.old) (heard_of answer)) }
         ensures refused { self.old.failed ≡ false → refusal_of result ≡ fault_of (storage_of S.state self.old) (heard_of answer) }
         ensures same { met_store result ≡ false → OnErr result (self.new ≡ self.old) }
-        ensures after { self.old.failed ≡ false → self.new.failed ≡ false → IsAfter (storage_of S.state self.old) (heard_of answer) (storage_of S.state self.new) }
+        ensures after { self.old.failed ≡ false → self.new.failed ≡ false
+            → IsAfter (storage_of S.state self.old) (heard_of answer) (storage_of S.state self.new) }
         ensures failed { (result ≡ Err (StorageFault.Store StoreFault.Failed)) → IsTrue self.old.failed }
         ensures trouble { IfSome (store_fault result) (λ fault. fault ≢ StoreFault.Failed → IsMarkTrouble S.CanMeet S.CanMeetInPlace fault) }
-        ensures idle { self.old.failed ≡ false → fault_of (storage_of S.state self.old) (heard_of answer) ≡ None → calls_of (storage_of S.state self.old) (heard_of answer) ≡ [] → IsOk result }
+        ensures idle { self.old.failed ≡ false → fault_of (storage_of S.state self.old) (heard_of answer) ≡ None
+            → calls_of (storage_of S.state self.old) (heard_of answer) ≡ [] → IsOk result }
         ensures met { IsTrue self.old.failed → IsTrue (met_store result) }
         ensures works { met_store result ≡ false → self.new.failed ≡ false }
         ensures unopened { IsTrue self.new.failed → IfSome (store_fault result) (IsOpeningTrouble S.CanMeet S.CanMeetInPlace) }
@@ -78,7 +83,8 @@ impl<S: ShardStore> Storage<S> {
         ensures whole { (result ≡ Ok None) → storage_of S.state self.new ≡ after_hears (storage_of S.state self.old) answers.items }
         ensures course { self.old.failed ≡ false → OnOk result (LeadTo (storage_of S.state self.old) answers.items (storage_of S.state self.new)) }
         ensures works { self.old.failed ≡ false → OnOk result (self.new.failed ≡ false) }
-        ensures stops { self.old.failed ≡ false → IfSome (refusal_of result) (λ fault. (is_untimely fault ≡ false) × RefusesOne (storage_of S.state self.new) answers.items fault) }
+        ensures stops { self.old.failed ≡ false → IfSome (refusal_of result) (λ fault. (is_untimely fault ≡ false)
+            × RefusesOne (storage_of S.state self.new) answers.items fault) }
         ensures fails { IsTrue (met_store result) → IsTrue self.new.failed }
         ensures unopened { IfSome (store_fault result) (IsOpeningTrouble S.CanMeet S.CanMeetInPlace) }
         ensures met { IfOk result (λ met. IfSome met (λ fault. fault ≢ StoreFault.Failed → IsMarkTrouble S.CanMeet S.CanMeetInPlace fault)) }

@@ -28,10 +28,13 @@ impl<S: ShardStore> Storage<S> {
         ensures refused { self.old.failed ≡ false → refusal_of result ≡ marked_fault (storage_of S.state self.old) state }
         ensures same { met_store result ≡ false → OnErr result (self.new ≡ self.old) }
         ensures trouble { IfSome (store_fault result) (λ fault. fault ≢ StoreFault.Failed → IsMarkTrouble S.CanMeet S.CanMeetInPlace fault) }
-        ensures idle { self.old.failed ≡ false → marked_fault (storage_of S.state self.old) state ≡ None → marked_calls (storage_of S.state self.old) state ≡ [] → IsOk result }
+        ensures idle { self.old.failed ≡ false → marked_fault (storage_of S.state self.old) state ≡ None
+            → marked_calls (storage_of S.state self.old) state ≡ [] → IsOk result }
         ensures err { OnErr result (kept_of self.new ≡ kept_of self.old) }
         ensures fails { self.new.failed ≡ (self.old.failed || met_store result) }
-        ensures leaves { self.old.failed ≡ false → LeavesStages (S.MayLeave self.new.store) (S.state self.old.store) (marked_calls (storage_of S.state self.old) state) }
+        ensures leaves { self.old.failed ≡ false
+            → LeavesStages (S.MayLeave self.new.store) (S.state self.old.store)
+            (marked_calls (storage_of S.state self.old) state) }
         ensures still { IsTrue self.old.failed → self.new ≡ self.old }
     {
         if self.failed {

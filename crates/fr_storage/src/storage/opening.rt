@@ -29,7 +29,8 @@ impl<S: ShardStore + Drop> Storage<S> {
         ensures works { IfOk result (λ s. s.failed ≡ false) }
         ensures store { refusal_of result ≡ None }
         ensures failed { (result ≡ Err (StorageFault.Store StoreFault.Failed)) ↔ IsTrue (S.is_failed store) }
-        ensures trouble { IfSome (store_fault result) (λ fault. fault ≢ StoreFault.Failed → IsTrouble S.CanMeetInPlace fault ⊎ (fault ≡ StoreFault.Memory)) }
+        ensures trouble { IfSome (store_fault result) (λ fault. fault ≢ StoreFault.Failed
+            → IsTrouble S.CanMeetInPlace fault ⊎ (fault ≡ StoreFault.Memory)) }
         ensures stands { IfOk result (λ s. S.state store ≡ fresh → BeginsStanding S.state S.MayLeave state s) }
     {
         storage_law();

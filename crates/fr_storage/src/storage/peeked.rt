@@ -35,11 +35,15 @@ impl<S: ShardStore> Storage<S> {
         ensures refused { self.old.failed ≡ false → refusal_of result ≡ peeked_fault (storage_of S.state self.old) epoch peeked.now }
         ensures same { met_store result ≡ false → OnErr result (self.new ≡ self.old) }
         ensures trouble { IfSome (store_fault result) (λ fault. fault ≢ StoreFault.Failed → IsCallTrouble S.CanMeet S.CanMeetInPlace fault) }
-        ensures in_place { new_records (storage_of S.state self.old) epoch peeked.now ≡ [] → IfSome (store_fault result) (λ fault. fault ≢ StoreFault.Failed → IsTrouble S.CanMeetInPlace fault) }
-        ensures idle { self.old.failed ≡ false → peeked_fault (storage_of S.state self.old) epoch peeked.now ≡ None → peeked_calls (storage_of S.state self.old) epoch peeked.now ≡ [] → IsOk result }
+        ensures in_place { new_records (storage_of S.state self.old) epoch peeked.now ≡ []
+            → IfSome (store_fault result) (λ fault. fault ≢ StoreFault.Failed → IsTrouble S.CanMeetInPlace fault) }
+        ensures idle { self.old.failed ≡ false → peeked_fault (storage_of S.state self.old) epoch peeked.now ≡ None
+            → peeked_calls (storage_of S.state self.old) epoch peeked.now ≡ [] → IsOk result }
         ensures err { OnErr result (kept_of self.new ≡ kept_of self.old) }
         ensures fails { self.new.failed ≡ (self.old.failed || met_store result) }
-        ensures leaves { self.old.failed ≡ false → LeavesStages (S.MayLeave self.new.store) (S.state self.old.store) (peeked_calls (storage_of S.state self.old) epoch peeked.now) }
+        ensures leaves { self.old.failed ≡ false
+            → LeavesStages (S.MayLeave self.new.store) (S.state self.old.store)
+            (peeked_calls (storage_of S.state self.old) epoch peeked.now) }
         ensures still { IsTrue self.old.failed → self.new ≡ self.old }
     {
         if self.failed {
@@ -146,11 +150,14 @@ fn apply_new<S: ShardStore>(
     requires whole { IsWhole S.state S.is_failed S.MayLeave store.old }
     requires applied { reach.now.applied ≡ (S.state store.old).applied }
     requires rise { IsTrue (is_rising_from 0 records.now) }
-    ensures ok { OnOk result (S.state store.new ≡ after_calls (S.state store.old) (map apply_of (records_between reach.now.applied reach.now.end records.now))) }
+    ensures ok { OnOk result (S.state store.new
+        ≡ after_calls (S.state store.old)
+        (map apply_of (records_between reach.now.applied reach.now.end records.now))) }
     ensures whole { OnOk result (IsWhole S.state S.is_failed S.MayLeave store.new) }
     ensures trouble { IfErr result (IsTrouble S.CanMeet) }
     ensures idle { records_between reach.now.applied reach.now.end records.now ≡ [] → IsOk result }
-    ensures leaves { OnErr result (LeavesStages (S.MayLeave store.new) (S.state store.old) (map apply_of (records_between reach.now.applied reach.now.end records.now))) }
+    ensures leaves { OnErr result (LeavesStages (S.MayLeave store.new) (S.state store.old)
+        (map apply_of (records_between reach.now.applied reach.now.end records.now))) }
 {
     for record in records {
         if reach.takes(record.version) {
@@ -183,11 +190,14 @@ fn forget_known<S: ShardStore>(
     known: Version,
 ) -> Result<(), StoreFault>
     requires whole { IsWhole S.state S.is_failed S.MayLeave store.old }
-    ensures ok { OnOk result (S.state store.new ≡ after_calls (S.state store.old) (forget_calls (S.state store.old).floor (min known (S.state store.old).applied))) }
+    ensures ok { OnOk result (S.state store.new
+        ≡ after_calls (S.state store.old) (forget_calls (S.state store.old).floor
+        (min known (S.state store.old).applied))) }
     ensures whole { OnOk result (IsWhole S.state S.is_failed S.MayLeave store.new) }
     ensures trouble { IfErr result (IsTrouble S.CanMeetInPlace) }
     ensures idle { forget_calls (S.state store.old).floor (min known (S.state store.old).applied) ≡ [] → IsOk result }
-    ensures leaves { OnErr result (LeavesStages (S.MayLeave store.new) (S.state store.old) (forget_calls (S.state store.old).floor (min known (S.state store.old).applied))) }
+    ensures leaves { OnErr result (LeavesStages (S.MayLeave store.new) (S.state store.old)
+        (forget_calls (S.state store.old).floor (min known (S.state store.old).applied))) }
 {
     let through = known.min(store.applied());
     if store.floor() < through {

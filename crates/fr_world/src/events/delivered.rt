@@ -73,9 +73,17 @@ impl Nodes {
         sent: bool,
     ) -> Result<Answer, NotEnabled>
         requires kept { IsKept self.old }
-        requires turn { sent ≡ true → IsTurn (state_of self.old).config (state_of self.old).turns (history.CellTurn from index ask.now (cell.answer_of (nodes.cell_at (state_of self.old).config (state_of self.old).turns index) ask.now)) }
-        ensures turn { IfOk result (λ answer. stepped_by (state_of self.old) (if_sent sent (history.CellTurn from index ask.now (cell.answer_of (nodes.cell_at (state_of self.old).config (state_of self.old).turns index) ask.now))) ≡ Ok (state_of self.new, answer)) }
-        ensures refused { IfErr result (λ why. why ≢ not_enabled.Memory → if_sent sent (history.CellTurn from index ask.now (cell.answer_of (nodes.cell_at (state_of self.old).config (state_of self.old).turns index) ask.now)) ≡ Err why) }
+        requires turn { sent ≡ true → IsTurn (state_of self.old).config (state_of self.old).turns
+            (history.CellTurn from index ask.now
+            (cell.answer_of (nodes.cell_at (state_of self.old).config (state_of self.old).turns index) ask.now)) }
+        ensures turn { IfOk result (λ answer. stepped_by (state_of self.old)
+            (if_sent sent (history.CellTurn from index ask.now
+            (cell.answer_of (nodes.cell_at (state_of self.old).config (state_of self.old).turns index) ask.now)))
+            ≡ Ok (state_of self.new, answer)) }
+        ensures refused { IfErr result (λ why. why ≢ not_enabled.Memory
+            → if_sent sent (history.CellTurn from index ask.now
+            (cell.answer_of (nodes.cell_at (state_of self.old).config (state_of self.old).turns index) ask.now))
+            ≡ Err why) }
         ensures err { OnErr result (state_of self.new ≡ state_of self.old) }
         ensures stays { IsKept self.new }
     {
@@ -96,9 +104,18 @@ impl Nodes {
         sent: bool,
     ) -> Result<Answer, NotEnabled>
         requires kept { IsKept self.old }
-        requires turn { sent ≡ true → IsTurn (state_of self.old).config (state_of self.old).turns (history.LogTurn from id.epoch id.index ask.now (log.answer_of (nodes.log_at (state_of self.old).config (state_of self.old).turns id.epoch id.index) ask.now)) }
-        ensures turn { IfOk result (λ answer. stepped_by (state_of self.old) (if_sent sent (history.LogTurn from id.epoch id.index ask.now (log.answer_of (nodes.log_at (state_of self.old).config (state_of self.old).turns id.epoch id.index) ask.now))) ≡ Ok (state_of self.new, answer)) }
-        ensures refused { IfErr result (λ why. why ≢ not_enabled.Memory → if_sent sent (history.LogTurn from id.epoch id.index ask.now (log.answer_of (nodes.log_at (state_of self.old).config (state_of self.old).turns id.epoch id.index) ask.now)) ≡ Err why) }
+        requires turn { sent ≡ true → IsTurn (state_of self.old).config (state_of self.old).turns
+            (history.LogTurn from id.epoch id.index ask.now
+            (log.answer_of (nodes.log_at (state_of self.old).config (state_of self.old).turns id.epoch id.index)
+            ask.now)) }
+        ensures turn { IfOk result (λ answer. stepped_by (state_of self.old)
+            (if_sent sent (history.LogTurn from id.epoch id.index ask.now
+            (log.answer_of (nodes.log_at (state_of self.old).config (state_of self.old).turns id.epoch id.index)
+            ask.now))) ≡ Ok (state_of self.new, answer)) }
+        ensures refused { IfErr result (λ why. why ≢ not_enabled.Memory
+            → if_sent sent (history.LogTurn from id.epoch id.index ask.now
+            (log.answer_of (nodes.log_at (state_of self.old).config (state_of self.old).turns id.epoch id.index)
+            ask.now)) ≡ Err why) }
         ensures err { OnErr result (state_of self.new ≡ state_of self.old) }
         ensures stays { IsKept self.new }
     {
@@ -119,9 +136,17 @@ impl Nodes {
         sent: bool,
     ) -> Result<Answer, NotEnabled>
         requires kept { IsKept self.old }
-        requires turn { sent ≡ true → IsTurn (state_of self.old).config (state_of self.old).turns (history.SeqTurn from epoch ask (seq.answer_of (nodes.seq_at (state_of self.old).config (state_of self.old).turns epoch) ask)) }
-        ensures turn { IfOk result (λ answer. stepped_by (state_of self.old) (if_sent sent (history.SeqTurn from epoch ask (seq.answer_of (nodes.seq_at (state_of self.old).config (state_of self.old).turns epoch) ask))) ≡ Ok (state_of self.new, answer)) }
-        ensures refused { IfErr result (λ why. why ≢ not_enabled.Memory → if_sent sent (history.SeqTurn from epoch ask (seq.answer_of (nodes.seq_at (state_of self.old).config (state_of self.old).turns epoch) ask)) ≡ Err why) }
+        requires turn { sent ≡ true → IsTurn (state_of self.old).config (state_of self.old).turns
+            (history.SeqTurn from epoch ask
+            (seq.answer_of (nodes.seq_at (state_of self.old).config (state_of self.old).turns epoch) ask)) }
+        ensures turn { IfOk result (λ answer. stepped_by (state_of self.old)
+            (if_sent sent (history.SeqTurn from epoch ask
+            (seq.answer_of (nodes.seq_at (state_of self.old).config (state_of self.old).turns epoch) ask)))
+            ≡ Ok (state_of self.new, answer)) }
+        ensures refused { IfErr result (λ why. why ≢ not_enabled.Memory
+            → if_sent sent (history.SeqTurn from epoch ask
+            (seq.answer_of (nodes.seq_at (state_of self.old).config (state_of self.old).turns epoch) ask))
+            ≡ Err why) }
         ensures err { OnErr result (state_of self.new ≡ state_of self.old) }
         ensures stays { IsKept self.new }
     {

@@ -57,7 +57,9 @@ impl Nodes {
     ) -> Result<Answer, NotEnabled>
         requires kept { IsKept self.old }
         requires heard { IsHeardBy (state_of self.old).config (state_of self.old).turns (node.Storage tag) from tell.now }
-        ensures turn { IfOk result (λ answer. stepped_by (state_of self.old) (heard_by_storage (nodes.storage_at (state_of self.old).config (state_of self.old).turns tag) tag from tell.now None) ≡ Ok (state_of self.new, answer)) }
+        ensures turn { IfOk result (λ answer. stepped_by (state_of self.old)
+            (heard_by_storage (nodes.storage_at (state_of self.old).config (state_of self.old).turns tag) tag from
+            tell.now None) ≡ Ok (state_of self.new, answer)) }
         ensures refused { IfErr result (λ why. why ≡ not_enabled.Memory) }
         ensures err { OnErr result (state_of self.new ≡ state_of self.old) }
         ensures stays { IsKept self.new }
@@ -79,8 +81,12 @@ impl Nodes {
     ) -> Result<Answer, NotEnabled>
         requires kept { IsKept self.old }
         requires heard { IsHeardBy (state_of self.old).config (state_of self.old).turns (node.Storage tag) from tell.now }
-        ensures turn { IfOk result (λ answer. stepped_by (state_of self.old) (heard_by_storage (nodes.storage_at (state_of self.old).config (state_of self.old).turns tag) tag from tell.now (Some version)) ≡ Ok (state_of self.new, answer)) }
-        ensures refused { IfErr result (λ why. why ≢ not_enabled.Memory → heard_by_storage (nodes.storage_at (state_of self.old).config (state_of self.old).turns tag) tag from tell.now (Some version) ≡ Err why) }
+        ensures turn { IfOk result (λ answer. stepped_by (state_of self.old)
+            (heard_by_storage (nodes.storage_at (state_of self.old).config (state_of self.old).turns tag) tag from
+            tell.now (Some version)) ≡ Ok (state_of self.new, answer)) }
+        ensures refused { IfErr result (λ why. why ≢ not_enabled.Memory
+            → heard_by_storage (nodes.storage_at (state_of self.old).config (state_of self.old).turns tag) tag from
+            tell.now (Some version) ≡ Err why) }
         ensures err { OnErr result (state_of self.new ≡ state_of self.old) }
         ensures stays { IsKept self.new }
     {

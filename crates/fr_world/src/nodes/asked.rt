@@ -35,9 +35,14 @@ impl Nodes {
         ask: &CellAsk,
     ) -> Result<CellTell, Memory>
         requires kept { IsKept self.old }
-        requires turn { IsTurn (state_of self.old).config (state_of self.old).turns (history.CellTurn from index ask.now (cell.answer_of (nodes.cell_at (state_of self.old).config (state_of self.old).turns index) ask.now)) }
+        requires turn { IsTurn (state_of self.old).config (state_of self.old).turns
+            (history.CellTurn from index ask.now
+            (cell.answer_of (nodes.cell_at (state_of self.old).config (state_of self.old).turns index) ask.now)) }
         ensures told { IfOk result (λ told. told ≡ cell.answer_of (nodes.cell_at (state_of self.old).config (state_of self.old).turns index) ask.now) }
-        ensures world { OnOk result (state_of self.new ≡ with_turn (state_of self.old) (history.CellTurn from index ask.now (cell.answer_of (nodes.cell_at (state_of self.old).config (state_of self.old).turns index) ask.now))) }
+        ensures world { OnOk result (state_of self.new
+            ≡ with_turn (state_of self.old)
+            (history.CellTurn from index ask.now
+            (cell.answer_of (nodes.cell_at (state_of self.old).config (state_of self.old).turns index) ask.now))) }
         ensures err { OnErr result (state_of self.new ≡ state_of self.old) }
         ensures stays { IsKept self.new }
     {
@@ -63,9 +68,17 @@ impl Nodes {
         ask: &LogAsk,
     ) -> Result<LogTell, Memory>
         requires kept { IsKept self.old }
-        requires turn { IsTurn (state_of self.old).config (state_of self.old).turns (history.LogTurn from id.epoch id.index ask.now (log.answer_of (nodes.log_at (state_of self.old).config (state_of self.old).turns id.epoch id.index) ask.now)) }
-        ensures told { IfOk result (λ told. told ≡ log.answer_of (nodes.log_at (state_of self.old).config (state_of self.old).turns id.epoch id.index) ask.now) }
-        ensures world { OnOk result (state_of self.new ≡ with_turn (state_of self.old) (history.LogTurn from id.epoch id.index ask.now (log.answer_of (nodes.log_at (state_of self.old).config (state_of self.old).turns id.epoch id.index) ask.now))) }
+        requires turn { IsTurn (state_of self.old).config (state_of self.old).turns
+            (history.LogTurn from id.epoch id.index ask.now
+            (log.answer_of (nodes.log_at (state_of self.old).config (state_of self.old).turns id.epoch id.index)
+            ask.now)) }
+        ensures told { IfOk result (λ told. told
+            ≡ log.answer_of (nodes.log_at (state_of self.old).config (state_of self.old).turns id.epoch id.index)
+            ask.now) }
+        ensures world { OnOk result (state_of self.new
+            ≡ with_turn (state_of self.old) (history.LogTurn from id.epoch id.index ask.now
+            (log.answer_of (nodes.log_at (state_of self.old).config (state_of self.old).turns id.epoch id.index)
+            ask.now))) }
         ensures err { OnErr result (state_of self.new ≡ state_of self.old) }
         ensures stays { IsKept self.new }
     {
@@ -123,9 +136,14 @@ impl Nodes {
         ask: SeqAsk,
     ) -> Result<SeqTell, Memory>
         requires kept { IsKept self.old }
-        requires turn { IsTurn (state_of self.old).config (state_of self.old).turns (history.SeqTurn from epoch ask (seq.answer_of (nodes.seq_at (state_of self.old).config (state_of self.old).turns epoch) ask)) }
+        requires turn { IsTurn (state_of self.old).config (state_of self.old).turns
+            (history.SeqTurn from epoch ask
+            (seq.answer_of (nodes.seq_at (state_of self.old).config (state_of self.old).turns epoch) ask)) }
         ensures told { IfOk result (λ told. told ≡ seq.answer_of (nodes.seq_at (state_of self.old).config (state_of self.old).turns epoch) ask) }
-        ensures world { OnOk result (state_of self.new ≡ with_turn (state_of self.old) (history.SeqTurn from epoch ask (seq.answer_of (nodes.seq_at (state_of self.old).config (state_of self.old).turns epoch) ask))) }
+        ensures world { OnOk result (state_of self.new
+            ≡ with_turn (state_of self.old)
+            (history.SeqTurn from epoch ask
+            (seq.answer_of (nodes.seq_at (state_of self.old).config (state_of self.old).turns epoch) ask))) }
         ensures err { OnErr result (state_of self.new ≡ state_of self.old) }
         ensures stays { IsKept self.new }
     {

@@ -34,9 +34,19 @@ impl Nodes {
         tell: &Tell,
     ) -> Result<Outcome, Memory>
         requires kept { IsKept self.old }
-        requires turn { IsTurn (state_of self.old).config (state_of self.old).turns (history.ProxyHeard epoch proxy from tell.now (outcome_of (nodes.proxy_at (state_of self.old).config (state_of self.old).turns epoch proxy) from tell.now) (new_asks (nodes.proxy_at (state_of self.old).config (state_of self.old).turns epoch proxy) from tell.now)) }
-        ensures outcome { IfOk result (λ outcome. outcome ≡ outcome_of (nodes.proxy_at (state_of self.old).config (state_of self.old).turns epoch proxy) from tell.now) }
-        ensures world { OnOk result (state_of self.new ≡ with_turn (state_of self.old) (history.ProxyHeard epoch proxy from tell.now (outcome_of (nodes.proxy_at (state_of self.old).config (state_of self.old).turns epoch proxy) from tell.now) (new_asks (nodes.proxy_at (state_of self.old).config (state_of self.old).turns epoch proxy) from tell.now))) }
+        requires turn { IsTurn (state_of self.old).config (state_of self.old).turns
+            (history.ProxyHeard epoch proxy from tell.now
+            (outcome_of (nodes.proxy_at (state_of self.old).config (state_of self.old).turns epoch proxy) from
+            tell.now) (new_asks (nodes.proxy_at (state_of self.old).config (state_of self.old).turns epoch proxy)
+            from tell.now)) }
+        ensures outcome { IfOk result (λ outcome. outcome
+            ≡ outcome_of (nodes.proxy_at (state_of self.old).config (state_of self.old).turns epoch proxy) from
+            tell.now) }
+        ensures world { OnOk result (state_of self.new
+            ≡ with_turn (state_of self.old) (history.ProxyHeard epoch proxy from tell.now
+            (outcome_of (nodes.proxy_at (state_of self.old).config (state_of self.old).turns epoch proxy) from
+            tell.now) (new_asks (nodes.proxy_at (state_of self.old).config (state_of self.old).turns epoch proxy)
+            from tell.now))) }
         ensures err { OnErr result (state_of self.new ≡ state_of self.old) }
         ensures stays { IsKept self.new }
     {
@@ -64,8 +74,14 @@ impl Nodes {
         requires up { IsUp (state_of self.old).config (state_of self.old).turns (node.Proxy epoch proxy) }
         requires step { 1 ≤ step }
         ensures taken { OnOk result (submit_fault (nodes.proxy_at (state_of self.old).config (state_of self.old).turns epoch proxy) ≡ None) }
-        ensures world { OnOk result (state_of self.new ≡ with_turn (state_of self.old) (history.Submitted epoch proxy step batch.now (number_ask (nodes.proxy_at (state_of self.old).config (state_of self.old).turns epoch proxy) (opened (nodes.proxy_at (state_of self.old).config (state_of self.old).turns epoch proxy) step batch.now) ∷ []))) }
-        ensures fault { IfErr result (λ fault. fault ≢ SubmitFault.Memory → submit_fault (nodes.proxy_at (state_of self.old).config (state_of self.old).turns epoch proxy) ≡ Some fault) }
+        ensures world { OnOk result (state_of self.new
+            ≡ with_turn (state_of self.old) (history.Submitted epoch proxy step batch.now
+            (number_ask (nodes.proxy_at (state_of self.old).config (state_of self.old).turns epoch proxy)
+            (opened (nodes.proxy_at (state_of self.old).config (state_of self.old).turns epoch proxy) step batch.now)
+            ∷ []))) }
+        ensures fault { IfErr result (λ fault. fault ≢ SubmitFault.Memory
+            → submit_fault (nodes.proxy_at (state_of self.old).config (state_of self.old).turns epoch proxy)
+            ≡ Some fault) }
         ensures err { OnErr result (state_of self.new ≡ state_of self.old) }
         ensures stays { IsKept self.new }
     {

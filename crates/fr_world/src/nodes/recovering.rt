@@ -20,8 +20,13 @@ impl Nodes {
     /// A recoverer begins, with a ballot that none had. Its first asks are those pending.
     pub(crate) fn begin(&mut self, alloc: Global, ballot: Ballot) -> Result<(), Memory>
         requires kept { IsKept self.old }
-        requires turn { IsTurn (state_of self.old).config (state_of self.old).turns (history.Begun ballot (pending (new_recoverer ballot (state_of self.old).config.cells (state_of self.old).config.begins))) }
-        ensures world { OnOk result (state_of self.new ≡ with_turn (state_of self.old) (history.Begun ballot (pending (new_recoverer ballot (state_of self.old).config.cells (state_of self.old).config.begins)))) }
+        requires turn { IsTurn (state_of self.old).config (state_of self.old).turns
+            (history.Begun ballot
+            (pending (new_recoverer ballot (state_of self.old).config.cells (state_of self.old).config.begins))) }
+        ensures world { OnOk result (state_of self.new
+            ≡ with_turn (state_of self.old)
+            (history.Begun ballot
+            (pending (new_recoverer ballot (state_of self.old).config.cells (state_of self.old).config.begins)))) }
         ensures err { OnErr result (state_of self.new ≡ state_of self.old) }
         ensures stays { IsKept self.new }
     {
@@ -45,8 +50,12 @@ impl Nodes {
     ) -> Result<(), Memory>
         requires kept { IsKept self.old }
         requires there { IsSome (rec_at (state_of self.old).config (state_of self.old).turns ballot) }
-        requires turn { IfSome (rec_at (state_of self.old).config (state_of self.old).turns ballot) (λ r. IsTurn (state_of self.old).config (state_of self.old).turns (history.RecHeard ballot from tell.now (new_asks r from tell.now))) }
-        ensures world { OnOk result (IfSome (rec_at (state_of self.old).config (state_of self.old).turns ballot) (λ r. state_of self.new ≡ with_turn (state_of self.old) (history.RecHeard ballot from tell.now (new_asks r from tell.now)))) }
+        requires turn { IfSome (rec_at (state_of self.old).config (state_of self.old).turns ballot)
+            (λ r. IsTurn (state_of self.old).config (state_of self.old).turns
+            (history.RecHeard ballot from tell.now (new_asks r from tell.now))) }
+        ensures world { OnOk result (IfSome (rec_at (state_of self.old).config (state_of self.old).turns ballot)
+            (λ r. state_of self.new
+            ≡ with_turn (state_of self.old) (history.RecHeard ballot from tell.now (new_asks r from tell.now)))) }
         ensures err { OnErr result (state_of self.new ≡ state_of self.old) }
         ensures stays { IsKept self.new }
     {

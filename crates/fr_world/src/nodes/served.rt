@@ -26,9 +26,13 @@ impl Nodes {
         tell: &Tell,
     ) -> Result<Option<StorageFault>, Memory>
         requires kept { IsKept self.old }
-        requires turn { IsTurn (state_of self.old).config (state_of self.old).turns (history.StorageHeard tag from tell.now None (fault_of (nodes.storage_at (state_of self.old).config (state_of self.old).turns tag) from tell.now)) }
+        requires turn { IsTurn (state_of self.old).config (state_of self.old).turns
+            (history.StorageHeard tag from tell.now None
+            (fault_of (nodes.storage_at (state_of self.old).config (state_of self.old).turns tag) from tell.now)) }
         ensures fault { IfOk result (λ fault. fault ≡ fault_of (nodes.storage_at (state_of self.old).config (state_of self.old).turns tag) from tell.now) }
-        ensures world { OnOk result (state_of self.new ≡ with_turn (state_of self.old) (history.StorageHeard tag from tell.now None (fault_of (nodes.storage_at (state_of self.old).config (state_of self.old).turns tag) from tell.now))) }
+        ensures world { OnOk result (state_of self.new
+            ≡ with_turn (state_of self.old) (history.StorageHeard tag from tell.now None
+            (fault_of (nodes.storage_at (state_of self.old).config (state_of self.old).turns tag) from tell.now))) }
         ensures err { OnErr result (state_of self.new ≡ state_of self.old) }
         ensures stays { IsKept self.new }
     {
@@ -60,8 +64,13 @@ impl Nodes {
     ) -> Result<bool, Memory>
         requires kept { IsKept self.old }
         requires heard { IsHeardBy (state_of self.old).config (state_of self.old).turns (node.Storage tag) from tell.now }
-        ensures found { IfOk result (λ found. found ≡ may_break (nodes.storage_at (state_of self.old).config (state_of self.old).turns tag) from tell.now version) }
-        ensures world { IfOk result (λ found. IsTrue found → state_of self.new ≡ with_turn (state_of self.old) (history.StorageHeard tag from tell.now (Some version) (fault_of (nodes.storage_at (state_of self.old).config (state_of self.old).turns tag) from tell.now))) }
+        ensures found { IfOk result (λ found. found
+            ≡ may_break (nodes.storage_at (state_of self.old).config (state_of self.old).turns tag) from tell.now
+            version) }
+        ensures world { IfOk result (λ found. IsTrue found
+            → state_of self.new ≡ with_turn (state_of self.old) (history.StorageHeard tag from tell.now
+            (Some version) (fault_of (nodes.storage_at (state_of self.old).config (state_of self.old).turns tag) from
+            tell.now))) }
         ensures unfound { IfOk result (λ found. found ≡ false → state_of self.new ≡ state_of self.old) }
         ensures err { OnErr result (state_of self.new ≡ state_of self.old) }
         ensures stays { IsKept self.new }

@@ -26,20 +26,28 @@ impl<S: ShardStore> Storage<S> {
         state: &CoordState,
         version: Version,
     ) -> Result<bool, StorageFault>
-        ensures found { IfOk result (λ found. found ≡ is_some (broken_at (S.state self.old.store) (marked_calls (storage_of S.state self.old) state.now) version)) }
-        ensures ok { OnOk result (storage_of S.state self.new ≡ after_broken (storage_of S.state self.old) (marked_calls (storage_of S.state self.old) state.now) version) }
+        ensures found { IfOk result (λ found. found
+            ≡ is_some (broken_at (S.state self.old.store) (marked_calls (storage_of S.state self.old) state.now)
+            version)) }
+        ensures ok { OnOk result (storage_of S.state self.new ≡ after_broken (storage_of S.state self.old)
+            (marked_calls (storage_of S.state self.old) state.now) version) }
         ensures position { IfOk result (λ found. IsTrue found → self.new.applied ≡ version) }
         ensures floor { self.new.floor ≡ self.old.floor }
         ensures unfound { IfOk result (λ found. found ≡ false → self.new ≡ self.old) }
-        ensures never { self.old.failed ≡ false → marked_fault (storage_of S.state self.old) state.now ≡ None → broken_at (S.state self.old.store) (marked_calls (storage_of S.state self.old) state.now) version ≡ None → result ≡ Ok false }
-        ensures idle { self.old.failed ≡ false → marked_fault (storage_of S.state self.old) state.now ≡ None → marked_calls (storage_of S.state self.old) state.now ≡ [] → self.new ≡ self.old × IsOk result }
+        ensures never { self.old.failed ≡ false → marked_fault (storage_of S.state self.old) state.now ≡ None
+            → broken_at (S.state self.old.store) (marked_calls (storage_of S.state self.old) state.now) version
+            ≡ None → result ≡ Ok false }
+        ensures idle { self.old.failed ≡ false → marked_fault (storage_of S.state self.old) state.now ≡ None
+            → marked_calls (storage_of S.state self.old) state.now ≡ [] → self.new ≡ self.old × IsOk result }
         ensures failed { (result ≡ Err (StorageFault.Store StoreFault.Failed)) ↔ IsTrue self.old.failed }
         ensures refused { self.old.failed ≡ false → refusal_of result ≡ marked_fault (storage_of S.state self.old) state.now }
         ensures same { met_store result ≡ false → OnErr result (self.new ≡ self.old) }
         ensures trouble { IfSome (store_fault result) (λ fault. fault ≢ StoreFault.Failed → IsTrouble S.CanMeet fault) }
         ensures err { OnErr result (kept_of self.new ≡ kept_of self.old) }
         ensures fails { self.new.failed ≡ (self.old.failed || met_store result) }
-        ensures leaves { self.old.failed ≡ false → LeavesStages (S.MayLeave self.new.store) (S.state self.old.store) (marked_calls (storage_of S.state self.old) state.now) }
+        ensures leaves { self.old.failed ≡ false
+            → LeavesStages (S.MayLeave self.new.store) (S.state self.old.store)
+            (marked_calls (storage_of S.state self.old) state.now) }
         ensures still { IsTrue self.old.failed → self.new ≡ self.old }
     {
         if self.failed {

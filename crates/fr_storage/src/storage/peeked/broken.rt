@@ -29,21 +29,30 @@ impl<S: ShardStore> Storage<S> {
         peeked: &Peeked,
         version: Version,
     ) -> Result<bool, StorageFault>
-        ensures found { IfOk result (λ found. found ≡ is_some (broken_at (S.state self.old.store) (peeked_calls (storage_of S.state self.old) epoch peeked.now) version)) }
-        ensures ok { OnOk result (storage_of S.state self.new ≡ after_broken (storage_of S.state self.old) (peeked_calls (storage_of S.state self.old) epoch peeked.now) version) }
+        ensures found { IfOk result (λ found. found
+            ≡ is_some (broken_at (S.state self.old.store)
+            (peeked_calls (storage_of S.state self.old) epoch peeked.now) version)) }
+        ensures ok { OnOk result (storage_of S.state self.new ≡ after_broken (storage_of S.state self.old)
+            (peeked_calls (storage_of S.state self.old) epoch peeked.now) version) }
         ensures position { IfOk result (λ found. IsTrue found → self.new.applied ≡ version) }
         ensures floor { self.new.floor ≡ self.old.floor }
         ensures unfound { IfOk result (λ found. found ≡ false → self.new ≡ self.old) }
-        ensures never { self.old.failed ≡ false → peeked_fault (storage_of S.state self.old) epoch peeked.now ≡ None → broken_at (S.state self.old.store) (peeked_calls (storage_of S.state self.old) epoch peeked.now) version ≡ None → result ≡ Ok false }
-        ensures idle { self.old.failed ≡ false → peeked_fault (storage_of S.state self.old) epoch peeked.now ≡ None → version ≡ self.old.applied → self.new ≡ self.old × IsOk result }
+        ensures never { self.old.failed ≡ false → peeked_fault (storage_of S.state self.old) epoch peeked.now ≡ None
+            → broken_at (S.state self.old.store) (peeked_calls (storage_of S.state self.old) epoch peeked.now)
+            version ≡ None → result ≡ Ok false }
+        ensures idle { self.old.failed ≡ false → peeked_fault (storage_of S.state self.old) epoch peeked.now ≡ None
+            → version ≡ self.old.applied → self.new ≡ self.old × IsOk result }
         ensures failed { (result ≡ Err (StorageFault.Store StoreFault.Failed)) ↔ IsTrue self.old.failed }
         ensures refused { self.old.failed ≡ false → refusal_of result ≡ peeked_fault (storage_of S.state self.old) epoch peeked.now }
         ensures same { met_store result ≡ false → OnErr result (self.new ≡ self.old) }
         ensures trouble { IfSome (store_fault result) (λ fault. fault ≢ StoreFault.Failed → IsCallTrouble S.CanMeet S.CanMeetInPlace fault) }
-        ensures in_place { new_records (storage_of S.state self.old) epoch peeked.now ≡ [] → IfSome (store_fault result) (λ fault. fault ≢ StoreFault.Failed → IsTrouble S.CanMeetInPlace fault) }
+        ensures in_place { new_records (storage_of S.state self.old) epoch peeked.now ≡ []
+            → IfSome (store_fault result) (λ fault. fault ≢ StoreFault.Failed → IsTrouble S.CanMeetInPlace fault) }
         ensures err { OnErr result (kept_of self.new ≡ kept_of self.old) }
         ensures fails { self.new.failed ≡ (self.old.failed || met_store result) }
-        ensures leaves { self.old.failed ≡ false → LeavesStages (S.MayLeave self.new.store) (S.state self.old.store) (peeked_calls (storage_of S.state self.old) epoch peeked.now) }
+        ensures leaves { self.old.failed ≡ false
+            → LeavesStages (S.MayLeave self.new.store) (S.state self.old.store)
+            (peeked_calls (storage_of S.state self.old) epoch peeked.now) }
         ensures still { IsTrue self.old.failed → self.new ≡ self.old }
     {
         if self.failed {
