@@ -24,12 +24,7 @@ pub(crate) fn run_program<R: Read, W: Write>(
 
 /// Reads the words, the first of which is the program's name. A store in tables is refused.
 fn read_words(alloc: Global, words: &[String]) -> Result<ApplyOptions, Error> {
-    let matches = command(alloc)?.try_get_matches_from(words)?;
-    let kind = match matches.subcommand_matches("apply") {
-        Some(apply) => read_store(apply),
-        None => StoreKind::Map,
-    };
-    match kind {
+    match read_kind(alloc, words)? {
         StoreKind::Map => Ok(ApplyOptions {
             store: fr_cli_apply::StoreKind::Map,
         }),
@@ -37,6 +32,15 @@ fn read_words(alloc: Global, words: &[String]) -> Result<ApplyOptions, Error> {
             let message = "this program has no store in tables: the whole program has";
             Err(command(alloc)?.error(ErrorKind::InvalidValue, message)?)
         }
+    }
+}
+
+/// The kind of store that the words name, else a map.
+fn read_kind(alloc: Global, words: &[String]) -> Result<StoreKind, Error> {
+    let matches = command(alloc)?.try_get_matches_from(words)?;
+    match matches.subcommand_matches("apply") {
+        Some(apply) => Ok(read_store(apply)),
+        None => Ok(StoreKind::Map),
     }
 }
 
