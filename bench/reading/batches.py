@@ -28,6 +28,15 @@ def combined(name, old, param):
     return number.to_bytes(size, "little")
 
 
+def value_of(name, what, old):
+    """The value of its key after a mutation that is no clear; none where it is cleared."""
+    if name == "set":
+        return hexed(what["value"])
+    if name == "compare_and_clear":
+        return None if old == hexed(what["value"]) else old
+    return combined(name, old, hexed(what["param"]))
+
+
 class Shard:
     """The keys from a begin up to an end; no end is above all keys."""
 
@@ -77,7 +86,11 @@ def after(contents, batch, shard):
             continue
         key = hexed(what["key"])
         if shard.has(key):
-            made[key] = hexed(what["value"]) if name == "set" else combined(name, made.get(key), hexed(what["param"]))
+            value = value_of(name, what, made.get(key))
+            if value is None:
+                made.pop(key, None)
+            else:
+                made[key] = value
     return made
 
 

@@ -23,6 +23,11 @@ pub enum Mutation {
         key: Vec<u8>,
         param: Vec<u8>,
     },
+    /// The key loses its value where it is this one.
+    CompareAndClear {
+        key: Vec<u8>,
+        value: Vec<u8>,
+    },
 }
 
 /// How a parameter is put together with the value that stands.
@@ -115,7 +120,9 @@ impl Shards {
         let mut bodies: Vec<Vec<Mutation>> = vec![Vec::new(); self.0.len()];
         for mutation in batch.mutations() {
             match mutation {
-                Mutation::Set { key, .. } | Mutation::Combine { key, .. } => bodies[self.of(key)].push(mutation.clone()),
+                Mutation::Set { key, .. }
+                | Mutation::Combine { key, .. }
+                | Mutation::CompareAndClear { key, .. } => bodies[self.of(key)].push(mutation.clone()),
                 Mutation::Clear { begin, end } if begin < end => {
                     for tag in self.of(begin)..self.0.len() {
                         if self.0[tag] >= *end {
@@ -143,6 +150,7 @@ impl Mutation {
     fn check(&self) -> Result<(), BatchFault> {
         match self {
             Mutation::Set { key, value: text }
+            | Mutation::CompareAndClear { key, value: text }
             | Mutation::Combine {
                 key, param: text, ..
             } => {

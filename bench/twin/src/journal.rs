@@ -175,6 +175,9 @@ fn batch_of(batch: &Batch) -> Value {
             };
             json!({name: {"key": hex::encode(key), "param": hex::encode(param)}})
         }
+        Mutation::CompareAndClear { key, value } => {
+            json!({"compare_and_clear": {"key": hex::encode(key), "value": hex::encode(value)}})
+        }
     };
     batch.mutations().iter().map(mutation).collect()
 }

@@ -114,7 +114,7 @@ impl<'de> Visitor<'de> for MutationVisitor {
     }
 
     fn visit_map<A: MapAccess<'de>>(self, mut map: A) -> Result<Mutation, A::Error> {
-        let names = &["set", "clear", "add", "and", "or", "xor", "max", "min"];
+        let names = &["set", "clear", "add", "and", "or", "xor", "max", "min", "compare_and_clear"];
         let how = match map.next_key_seed(Name(names))? {
             Some(0) => {
                 let fields = Pair::new(&["key", "value"]);
@@ -136,7 +136,13 @@ impl<'de> Visitor<'de> for MutationVisitor {
             Some(4) => Combine::Or,
             Some(5) => Combine::Xor,
             Some(6) => Combine::Max,
-            Some(_) => Combine::Min,
+            Some(7) => Combine::Min,
+            Some(_) => {
+                let fields = Pair::new(&["key", "value"]);
+                let (Bytes(key), Bytes(value)) = map.next_value_seed(fields)?;
+                end(&mut map)?;
+                return Ok(Mutation::CompareAndClear { key, value });
+            }
             None => return Err(de::Error::custom("no mutation")),
         };
         let (Bytes(key), Bytes(param)) = map.next_value_seed(Pair::new(&["key", "param"]))?;

@@ -71,6 +71,12 @@ impl Store {
                 Mutation::Combine { how, key, param } => {
                     self.write(key, &mut changes, |old| how.apply(old, param))
                 }
+                Mutation::CompareAndClear { key, value } => {
+                    if self.values.get(&key) == Some(&value) {
+                        self.values.remove(&key);
+                        changes.push((key, Some(value)));
+                    }
+                }
                 Mutation::Clear { begin, end } => {
                     let gone = self.values.extract_if(begin..end, |_, _| true);
                     changes.extend(gone.map(|(key, value)| (key, Some(value))));

@@ -43,6 +43,23 @@ fn an_empty_batch_and_an_undo() {
 }
 
 #[test]
+fn an_equal_value_is_cleared_and_put_back() {
+    prints(
+        r#"{"apply":{"version":1,"batch":[{"set":{"key":"61","value":"01"}},{"set":{"key":"62","value":"02"}}]}},
+           {"apply":{"version":2,"batch":[{"compare_and_clear":{"key":"61","value":"01"}},
+            {"compare_and_clear":{"key":"62","value":"01"}},{"compare_and_clear":{"key":"63","value":""}}]}},
+           {"undo":{"to":1}}"#,
+        &[
+            "ok 1 floor 0 undo 2",
+            "ok 2 floor 0 undo 3",
+            "ok 1 floor 0 undo 2",
+            "61 01",
+            "62 02",
+        ],
+    );
+}
+
+#[test]
 fn an_undo_gives_the_value_before() {
     prints(
         r#"{"apply":{"version":5,"batch":[{"set":{"key":"61","value":"01"}}]}},

@@ -3,13 +3,15 @@
 
 mod memory_file;
 
+ghost use Rattle.std.specs.Prelude.{◌≡◌};
+ghost use Rattle.fr_cli_json.specs.Calls.{no_calls, HasCause};
 ghost use Rattle.fr_cli_json.specs.Command.{Prints};
 ghost use Rattle.fr_cli_apply.specs.Script.{script_of};
 ghost use Rattle.fr_cli_apply.specs.Lines.{lines_of};
 
 use crate::memory_file::blank_files;
-use fr_cli_apply::run_apply_on;
-use fr_cli_json::CliFault;
+use fr_cli_apply::apply_counted_on;
+use fr_cli_json::{CallCounts, CliFault};
 use fr_sql_store::SqlFileStore;
 use std::alloc::Global;
 use std::io::{Read, Write};
@@ -27,11 +29,29 @@ pub fn run_apply_sql<R: Read, W: Write>(
     ensures prints { Prints script_of lines_of (R.remaining reader.old) (R.remaining reader.new)
         W.contents writer.old writer.new result }
 {
+    let mut calls = CallCounts::new();
+    apply_sql_counted(alloc, &mut calls, reader, writer)
+}
+
+/// As [`run_apply_sql`], with the calls of the reader and of the writer counted in `calls`, which has none yet:
+/// `Input` is answered only where a read failed or 2^30 of them found no end, `Output` only where a write or a flush
+/// failed.
+pub fn apply_sql_counted<R: Read, W: Write>(
+    alloc: Global,
+    calls: &mut CallCounts,
+    reader: &mut R,
+    writer: &mut W,
+) -> Result<u8, CliFault>
+    requires fresh { calls.old ≡ no_calls }
+    ensures prints { Prints script_of lines_of (R.remaining reader.old) (R.remaining reader.new)
+        W.contents writer.old writer.new result }
+    ensures cause { HasCause calls.new result }
+{
     let Ok(files) = blank_files(alloc) else {
         return Err(CliFault::Memory);
     };
     match SqlFileStore::create(alloc, files) {
-        Ok(mut store) => run_apply_on(alloc, &mut store, reader, writer),
+        Ok(mut store) => apply_counted_on(alloc, &mut store, calls, reader, writer),
         Err(_) => Err(CliFault::Memory),
     }
 }

@@ -55,6 +55,8 @@ A batch is a list of mutations:
   {\"clear\":{\"begin\":K,\"end\":K}}       the keys from begin up to, but without, end go
   {\"add\":{\"key\":K,\"param\":X}}         the key takes the sum of its value and X; so for
                                         and, or, xor, max and min
+  {\"compare_and_clear\":{\"key\":K,\"value\":X}}
+                                        the key goes where its value is X
 
 It prints a line for each operation, and then the rows of the store:
 

@@ -160,8 +160,6 @@ pub const NUMBER: &str = "number";
 
 pub const OUTCOME: &str = "outcome";
 
-pub const PARAM: &str = "param";
-
 pub const PHASE: &str = "phase";
 
 pub const PREV: &str = "prev";

@@ -42,7 +42,8 @@ fn write_mutation(alloc: Global, mutation: &Mutation) -> Result<Value, Memory> {
             )
         }
         Mutation::Atomic { op, key, param } => {
-            two_texts(alloc, op.name(), (names::KEY, key), (names::PARAM, param))
+            let operand = op.operand_name();
+            two_texts(alloc, op.name(), (names::KEY, key), (operand, param))
         }
     }
 }

@@ -1,15 +1,18 @@
 -- Reading a batch from left to right, up to the first fault that is met. Each field is a value and the bytes after it.
-use Rattle.std.specs.Prelude.{◌≡◌, ℕ, zero, suc, ◌-◌, ◌==◌, List, [], ◌∷◌, length, take, drop, nat_lt, Option, None, Some, Result, Ok, Err, if◌then◌else◌}
+use Rattle.std.specs.Prelude.{◌≡◌, ℕ, zero, suc, ◌-◌, Bool, List, [], ◌∷◌, length, take, drop, nat_lt, Option, None, Some, Result, Ok, Err, if◌then◌else◌}
 use Rattle.std.specs.Int.{Width, w16, w32, byte_len, from_be_bytes}
+use Rattle.std.specs.List.{list_any}
 use Rattle.std.specs.Ordering.{is_lt}
 use Rattle.fr_base.specs.Bytes.{bytes_cmp}
 use Rattle.fr_mutation.specs.declared.codec.fault.DecodeFault.{DecodeFault}
-use Rattle.fr_mutation.specs.declared.codec.fault.DecodeFault.TheVariants.{Short, UnknownKind, OverLimit, Inverted}
+use Rattle.fr_mutation.specs.declared.codec.fault.DecodeFault.TheVariants.{Short, UnknownKind, OverLimit, Inverted, NeedlessFormat}
 use Rattle.fr_mutation.specs.declared.codec.kind.Kind.{Kind}
 use Rattle.fr_mutation.specs.declared.codec.kind.Kind.TheVariants as kinds
 use Rattle.fr_mutation.specs.declared.mutation.Mutation.{Mutation}
 use Rattle.fr_mutation.specs.declared.mutation.Mutation.TheVariants.{Clear}
+use Rattle.fr_mutation.specs.declared.codec.format.Format.{Format}
 use Rattle.fr_mutation.specs.CodecKind.{kind_of, mutation_of}
+use Rattle.fr_mutation.specs.CodecFormat.{format_with, is_compare_and_clear, has_kind, is_needless}
 
 -- a value goes on to the next step, a fault ends the reading
 infixl 10 ◌>>=◌
@@ -46,17 +49,17 @@ key_at = field_at w16 10000
 abbrev pub operand_at : List ℕ → Result (List ℕ × List ℕ) DecodeFault
 operand_at = field_at w32 100000
 
--- a byte that stands for no kind is a fault
-abbrev pub known : Option Kind → Result Kind DecodeFault
+-- a byte that stands for no format or for no kind is a fault
+abbrev pub known : {A : Type 0} → Option A → Result A DecodeFault
 known None = Err UnknownKind
-known (Some kind) = Ok kind
+known (Some x) = Ok x
 
--- the byte of a mutation's kind
-unfoldable pub kind_at : List ℕ → Result (Kind × List ℕ) DecodeFault
-kind_at bytes = do
+-- the byte of a mutation's kind, which the format has
+unfoldable pub kind_at : Format → List ℕ → Result (Kind × List ℕ) DecodeFault
+kind_at format bytes = do
   byte ← byte_at bytes
   kind ← known (kind_of byte.0)
-  Ok (kind, byte.1)
+  if has_kind format kind then Ok (kind, byte.1) else Err UnknownKind
 
 -- the two ends of a clear, which are compared once both are read
 unfoldable pub clear_at : List ℕ → Result (Mutation × List ℕ) DecodeFault
@@ -78,30 +81,46 @@ fields_at kinds.Clear bytes = clear_at bytes
 fields_at kind bytes = keyed_at kind bytes
 
 -- one mutation
-unfoldable pub mutation_at : List ℕ → Result (Mutation × List ℕ) DecodeFault
-mutation_at bytes = do
-  kind ← kind_at bytes
+unfoldable pub mutation_at : Format → List ℕ → Result (Mutation × List ℕ) DecodeFault
+mutation_at format bytes = do
+  kind ← kind_at format bytes
   fields_at kind.0 kind.1
 
 -- that many mutations, one after the other
-unfoldable pub mutations_at : ℕ → List ℕ → Result (List Mutation × List ℕ) DecodeFault
-mutations_at zero bytes = Ok ([], bytes)
-mutations_at (suc n) bytes = do
-  first ← mutation_at bytes
-  others ← mutations_at n first.1
+unfoldable pub mutations_at : Format → ℕ → List ℕ → Result (List Mutation × List ℕ) DecodeFault
+mutations_at format zero bytes = Ok ([], bytes)
+mutations_at format (suc n) bytes = do
+  first ← mutation_at format bytes
+  others ← mutations_at format n first.1
   Ok (first.0 ∷ others.0, others.1)
 
+-- mutations that were written in the second format without need are a fault
+abbrev pub checked : Format → List Mutation × List ℕ → Result (List Mutation × List ℕ) DecodeFault
+checked format read = if is_needless format (list_any is_compare_and_clear read.0) then Err NeedlessFormat else Ok read
+
+-- that many mutations, which are looked at together once all were read
+abbrev pub checked_at : Format → ℕ → List ℕ → Result (List Mutation × List ℕ) DecodeFault
+checked_at format n bytes = do
+  read ← mutations_at format n bytes
+  checked format read
+
 -- the byte of the format
-abbrev pub format_at : List ℕ → Result (List ℕ) DecodeFault
+unfoldable pub format_at : List ℕ → Result (Format × List ℕ) DecodeFault
 format_at bytes = do
-  format ← byte_at bytes
-  if format.0 == 1 then Ok format.1 else Err UnknownKind
+  byte ← byte_at bytes
+  format ← known (format_with byte.0)
+  Ok (format, byte.1)
 
 -- the format, and how many mutations follow: at most 1,000
-unfoldable pub header_at : List ℕ → Result (ℕ × List ℕ) DecodeFault
+unfoldable pub header_at : List ℕ → Result (Format × ℕ × List ℕ) DecodeFault
 header_at bytes = do
-  rest ← format_at bytes
-  number_at w16 1000 rest
+  format ← format_at bytes
+  count ← number_at w16 1000 format.1
+  Ok (format.0, count.0, count.1)
+
+-- whether a compare-and-clear was read, and the bytes after what was read
+abbrev pub found_in : Result (List Mutation × List ℕ) DecodeFault → Result (Bool × List ℕ) DecodeFault
+found_in read = read >>= λ x. Ok (list_any is_compare_and_clear x.0, x.1)
 
 -- the bytes after what was read
 abbrev pub rest_of : Result (List Mutation × List ℕ) DecodeFault → Result (List ℕ) DecodeFault
@@ -114,8 +133,8 @@ items_of read = read >>= λ x. Ok x.0
 -- a batch, and the bytes after it
 unfoldable pub read_batch : List ℕ → Result (List Mutation × List ℕ) DecodeFault
 read_batch bytes = do
-  count ← header_at bytes
-  mutations_at count.0 count.1
+  header ← header_at bytes
+  checked_at header.0 header.1 header.2
 
 -- a batch, and how many bytes it took: what `decode` answers
 unfoldable pub decoded : List ℕ → Result (List Mutation × ℕ) DecodeFault

@@ -1,4 +1,4 @@
--- The bytes of a batch, its one spelling: format 1. Numbers stand with their most significant byte first.
+-- The bytes of a batch, its one spelling: format 1 where that does, else format 2. Numbers stand with their most significant byte first.
 use Rattle.std.specs.Prelude.{ℕ, List, ◌∷◌, ◌++◌, length}
 use Rattle.std.specs.List.{flat_map}
 use Rattle.std.specs.Int.{w16, w32, to_be_bytes}
@@ -7,6 +7,7 @@ use Rattle.fr_mutation.specs.declared.codec.kind.Kind.TheVariants as kinds
 use Rattle.fr_mutation.specs.declared.mutation.Mutation.{Mutation}
 use Rattle.fr_mutation.specs.declared.mutation.Mutation.TheVariants.{Set, Clear, Atomic}
 use Rattle.fr_mutation.specs.CodecKind.{kind_byte}
+use Rattle.fr_mutation.specs.CodecFormat.{format_byte, format_of}
 
 -- a key, or an end of a clear: its length in two bytes, and its bytes
 abbrev pub spelled_key : List ℕ → List ℕ
@@ -32,4 +33,4 @@ spelled_mutation (Atomic op key param) = spelled_keyed (kinds.Atomic op) key par
 
 -- the byte of the format, how many mutations there are in two bytes, and one mutation after the other
 unfoldable pub spelled : List Mutation → List ℕ
-spelled mutations = 1 ∷ (to_be_bytes w16 (length mutations) ++ flat_map spelled_mutation mutations)
+spelled mutations = format_byte (format_of mutations) ∷ (to_be_bytes w16 (length mutations) ++ flat_map spelled_mutation mutations)

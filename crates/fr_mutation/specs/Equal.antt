@@ -34,6 +34,7 @@ found_by_byte ops.Or = refl
 found_by_byte ops.Xor = refl
 found_by_byte ops.Max = refl
 found_by_byte ops.Min = refl
+found_by_byte ops.CompareAndClear = refl
 
 pub is_same_op-IsSameness : IsSameness is_same_op
 is_same_op-IsSameness = record {

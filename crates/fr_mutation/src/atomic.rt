@@ -1,7 +1,7 @@
-//! Operations that make the new value of a key of its old one and a parameter.
+//! Operations that make the new value of a key, or none, of its old one and a parameter.
 ghost use Rattle.std.specs.Prelude.{◌≡◌, IfOk, unwrap_or, []};
 ghost use Rattle.std.specs.Option.{option_copied};
-ghost use Rattle.fr_mutation.specs.Atomic.{atomic_value, op_name, op_named, op_byte, op_with};
+ghost use Rattle.fr_mutation.specs.Atomic.{unless_equal, atomic_value, op_name, operand_name, op_named, op_byte, is_compare_and_clear_op, op_with};
 
 use crate::bitwise::Bitwise;
 use crate::number::{greater, smaller, sum};
@@ -24,17 +24,20 @@ pub enum AtomicOp {
     Max,
     /// The smaller number; the parameter where there is no value.
     Min,
+    /// No value where there is one that equals the parameter byte for byte; else nothing changes.
+    CompareAndClear,
 }
 
 impl AtomicOp {
     /// Every operation.
-    pub const ALL: [AtomicOp; 6] = [
+    pub const ALL: [AtomicOp; 7] = [
         AtomicOp::Add,
         AtomicOp::And,
         AtomicOp::Or,
         AtomicOp::Xor,
         AtomicOp::Max,
         AtomicOp::Min,
+        AtomicOp::CompareAndClear,
     ];
 
     /// The name of the operation, as scripts write it.
@@ -48,6 +51,17 @@ impl AtomicOp {
             AtomicOp::Xor => "xor",
             AtomicOp::Max => "max",
             AtomicOp::Min => "min",
+            AtomicOp::CompareAndClear => "compare_and_clear",
+        }
+    }
+
+    /// The name of the operand beside the key, as scripts write it.
+    pub fn operand_name(self) -> &'static str
+        ensures { result.now ≡ operand_name self }
+    {
+        match self {
+            AtomicOp::CompareAndClear => "value",
+            _ => "param",
         }
     }
 
@@ -70,6 +84,17 @@ impl AtomicOp {
             AtomicOp::Xor => 6,
             AtomicOp::Max => 7,
             AtomicOp::Min => 8,
+            AtomicOp::CompareAndClear => 9,
+        }
+    }
+
+    /// Whether it is the operation that may clear its key.
+    pub(crate) fn is_compare_and_clear(self) -> bool
+        ensures { result ≡ is_compare_and_clear_op self }
+    {
+        match self {
+            AtomicOp::CompareAndClear => true,
+            _ => false,
         }
     }
 
@@ -80,17 +105,20 @@ impl AtomicOp {
         AtomicOp::ALL.iter().copied().find(|op| op.byte() == byte)
     }
 
-    /// The value that a key takes, of its old value and the parameter.
+    /// The value that a key has afterwards, of its old value and the parameter: none where it is cleared.
     pub(crate) fn value(
         self,
         alloc: Global,
         old: Option<&Bytes>,
         param: &Bytes,
-    ) -> Result<Bytes, Memory>
+    ) -> Result<Option<Bytes>, Memory>
         ensures { IfOk result (λ value. value ≡ atomic_value self (option_copied old.entry) param.now) }
     {
         let bytes = match (self, old) {
-            (AtomicOp::And | AtomicOp::Max | AtomicOp::Min, None) => return param.copy(),
+            (AtomicOp::CompareAndClear, _) => return unless_equal(old, param),
+            (AtomicOp::And | AtomicOp::Max | AtomicOp::Min, None) => {
+                return Ok(Some(param.copy()?));
+            }
             (AtomicOp::Add, _) => sum(alloc, or_empty(old), param.as_slice())?,
             (AtomicOp::Or, _) => Bitwise::Or.bytes(alloc, or_empty(old), param.as_slice())?,
             (AtomicOp::Xor, _) => Bitwise::Xor.bytes(alloc, or_empty(old), param.as_slice())?,
@@ -100,7 +128,23 @@ impl AtomicOp {
             (AtomicOp::Max, Some(old)) => greater(alloc, old.as_slice(), param.as_slice())?,
             (AtomicOp::Min, Some(old)) => smaller(alloc, old.as_slice(), param.as_slice())?,
         };
-        Ok(Bytes::from_vec(bytes))
+        Ok(Some(Bytes::from_vec(bytes)))
+    }
+}
+
+/// The old value, and none where it equals the parameter.
+fn unless_equal(old: Option<&Bytes>, param: &Bytes) -> Result<Option<Bytes>, Memory>
+    ensures { IfOk result (λ value. value ≡ unless_equal (option_copied old.entry) param.now) }
+{
+    match old {
+        None => Ok(None),
+        Some(old) => {
+            if old == param {
+                Ok(None)
+            } else {
+                Ok(Some(old.copy()?))
+            }
+        }
     }
 }
 

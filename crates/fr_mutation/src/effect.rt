@@ -37,8 +37,13 @@ fn act(alloc: Global, rows: &mut BTreeMap<Bytes, Bytes>, mutation: &Mutation) ->
         return clear(alloc, rows, begin, end);
     }
     if let Some(key) = mutation.key() {
-        if let Some(value) = mutation.new_value(alloc, rows.get(key))? {
-            rows.insert(key.copy()?, value)?;
+        match mutation.new_value(alloc, rows.get(key))? {
+            Some(value) => {
+                rows.insert(key.copy()?, value)?;
+            }
+            None => {
+                rows.remove(key);
+            }
         }
     }
     Ok(())

@@ -123,6 +123,7 @@ fn batch_of(alloc: Global, bytes: &[u8]) -> Result<Batch, ReadFault>
         Err(DecodeFault::UnknownKind) => Err(ReadFault::Broken),
         Err(DecodeFault::OverLimit) => Err(ReadFault::Broken),
         Err(DecodeFault::Inverted) => Err(ReadFault::Broken),
+        Err(DecodeFault::NeedlessFormat) => Err(ReadFault::Broken),
     }
 }
 

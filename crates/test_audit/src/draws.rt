@@ -92,7 +92,7 @@ impl Draws {
     }
 
     fn atomic(&mut self) -> Result<Mutation, Fail> {
-        let op = AtomicOp::ALL[self.number(6) as usize];
+        let op = AtomicOp::ALL[self.number(7) as usize];
         let key = self.bytes()?;
         let param = self.bytes()?;
         Ok(Mutation::Atomic { op, key, param })

@@ -1,7 +1,7 @@
 //! Worked rows of the bytes of batches.
 use crate::batch_bytes::Read::{Atomic, Clear, Empty, Set};
-use fr_mutation::AtomicOp::{self, Add, And, Max, Min, Or, Xor};
-use fr_mutation::DecodeFault::{self, Inverted, OverLimit, Short, UnknownKind};
+use fr_mutation::AtomicOp::{self, Add, And, CompareAndClear, Max, Min, Or, Xor};
+use fr_mutation::DecodeFault::{self, Inverted, NeedlessFormat, OverLimit, Short, UnknownKind};
 use fr_mutation::{Batch, Mutation, decode, encode};
 use std::alloc::Global;
 use std::process::Abort;
@@ -17,6 +17,17 @@ const SET: [u8; 12] = [
 
 /// Clear `a` up to `c`.
 const CLEAR: [u8; 10] = [0x01, 0x00, 0x01, 0x02, 0x00, 0x01, 0x61, 0x00, 0x01, 0x63];
+
+/// Compare-and-clear `a` with 01: of format 2, and else as a set.
+const COMPARED: [u8; 12] = [
+    0x02, 0x00, 0x01, 0x09, 0x00, 0x01, 0x61, 0x00, 0x00, 0x00, 0x01, 0x01,
+];
+
+/// Set `a` to 01, then compare-and-clear `b` with no byte.
+const SET_AND_COMPARED: [u8; 20] = [
+    0x02, 0x00, 0x02, 0x01, 0x00, 0x01, 0x61, 0x00, 0x00, 0x00, 0x01, 0x01, 0x09, 0x00, 0x01, 0x62,
+    0x00, 0x00, 0x00, 0x00,
+];
 
 /// What is read: no mutation, or this one alone.
 #[derive(Clone, Copy)]
@@ -81,6 +92,13 @@ fn reads_kind(alloc: Global, kind: u8, wanted: Read) -> bool {
 fn worked_batches(rt: HostRuntime) {
     assert!(rt; reads(rt.alloc(), &EMPTY, Empty));
     assert!(rt; reads(rt.alloc(), &CLEAR, Clear(b"a", b"c")));
+    assert!(rt;
+        reads(
+            rt.alloc(),
+            &COMPARED,
+            Atomic(CompareAndClear, b"a", b"\x01")
+        )
+    );
     for (kind, wanted) in KINDS {
         assert!(rt; reads_kind(rt.alloc(), kind, wanted), "{kind}");
     }
@@ -96,9 +114,16 @@ fn are_refused(rt: &impl Abort, alloc: Global, rows: &[Refused]) {
     }
 }
 
-const REFUSED: [Refused; 6] = [
+const REFUSED: [Refused; 8] = [
     (&[0x01, 0x00], Short),
-    (&[0x02, 0x00, 0x00], UnknownKind),
+    (&[0x02, 0x00, 0x00], NeedlessFormat),
+    (
+        &[
+            0x02, 0x00, 0x01, 0x01, 0x00, 0x01, 0x61, 0x00, 0x00, 0x00, 0x01, 0x01,
+        ],
+        NeedlessFormat,
+    ),
+    (&[0x03, 0x00, 0x00], UnknownKind),
     (&[0x01, 0x00, 0x01, 0x09], UnknownKind),
     (&[0x01, 0x03, 0xe9], OverLimit),
     (&[0x01, 0x00, 0x01, 0x02, 0x27, 0x11], OverLimit),
@@ -114,11 +139,27 @@ fn refused_bytes(rt: HostRuntime) {
 }
 
 /// Bytes with two faults: the one that is met first from the left is answered.
-const TWO_FAULTS: [Refused; 8] = [
+const TWO_FAULTS: [Refused; 12] = [
     // Another format, and no number of mutations.
-    (&[0x02], UnknownKind),
+    (&[0x03], UnknownKind),
     // Another format, and 1,001 mutations.
-    (&[0x02, 0x03, 0xe9], UnknownKind),
+    (&[0x03, 0x03, 0xe9], UnknownKind),
+    // Format 2 without need, as far as it is there, and a mutation that is cut off.
+    (&[0x02, 0x00, 0x01, 0x01, 0x00, 0x01, 0x61], Short),
+    // Format 2 without need, and 1,001 mutations.
+    (&[0x02, 0x03, 0xe9], OverLimit),
+    // Format 2 without need, and a clear that begins after its end.
+    (
+        &[0x02, 0x00, 0x01, 0x02, 0x00, 0x01, 0x62, 0x00, 0x01, 0x61],
+        Inverted,
+    ),
+    // Format 2 without need, and a second mutation of no kind.
+    (
+        &[
+            0x02, 0x00, 0x02, 0x02, 0x00, 0x01, 0x61, 0x00, 0x01, 0x63, 0x0a,
+        ],
+        UnknownKind,
+    ),
     // 1,001 mutations, and the first of no kind.
     (&[0x01, 0x03, 0xe9, 0x09], OverLimit),
     // A mutation of no kind, and a length of 10,001.
@@ -154,6 +195,7 @@ fn is_called(fault: DecodeFault, name: &str) -> bool {
 #[test]
 fn a_fault_has_a_name(rt: HostRuntime) {
     assert!(rt; is_called(UnknownKind, "UnknownKind"));
+    assert!(rt; is_called(NeedlessFormat, "NeedlessFormat"));
 }
 
 /// Asserts that each front of a row is short.
@@ -195,7 +237,7 @@ fn is_batch_when_changed<const N: usize>(rt: &impl Abort, alloc: Global, row: [u
 
 #[test]
 fn cut_bytes(rt: HostRuntime) {
-    let rows: [&[u8]; 3] = [&EMPTY, &SET, &CLEAR];
+    let rows: [&[u8]; 4] = [&EMPTY, &SET, &CLEAR, &COMPARED];
     for row in rows {
         is_short_in_front(&rt, rt.alloc(), row);
     }
@@ -206,4 +248,6 @@ fn changed_bytes(rt: HostRuntime) {
     is_batch_when_changed(&rt, rt.alloc(), EMPTY);
     is_batch_when_changed(&rt, rt.alloc(), SET);
     is_batch_when_changed(&rt, rt.alloc(), CLEAR);
+    is_batch_when_changed(&rt, rt.alloc(), COMPARED);
+    is_batch_when_changed(&rt, rt.alloc(), SET_AND_COMPARED);
 }

@@ -5,7 +5,7 @@ ghost use Rattle.fr_mutation.specs.Shard.{EndsFit};
 use crate::mutation::Change::{Atomic, Clear, Set};
 use crate::mutation::Text::{Many, Of};
 use fr_base::{Bytes, Memory};
-use fr_mutation::AtomicOp::{self, Add, And, Max, Min, Or, Xor};
+use fr_mutation::AtomicOp::{self, Add, And, CompareAndClear, Max, Min, Or, Xor};
 use fr_mutation::{
     Batch, BatchFault, MAX_KEY, MAX_MUTATIONS, MAX_VALUE, Mutation, Shard, apply, clip,
 };
@@ -177,6 +177,84 @@ fn old_values_are_fitted(rt: HostRuntime) -> Result<(), Fail> {
     Ok(())
 }
 
+/// Mutations, and the rows after them, in an empty map.
+type Compared = (&'static [Change], &'static [(&'static [u8], &'static [u8])]);
+
+const COMPARED: [Compared; 8] = [
+    // The value is the parameter: the key loses it.
+    (
+        &[
+            Set(Of(b"a"), Of(&[1])),
+            Atomic(CompareAndClear, Of(b"a"), Of(&[1])),
+        ],
+        &[],
+    ),
+    // Another value, and one that only begins as the parameter does, or as which the parameter begins.
+    (
+        &[
+            Set(Of(b"a"), Of(&[1])),
+            Atomic(CompareAndClear, Of(b"a"), Of(&[2])),
+        ],
+        &[(b"a", &[1])],
+    ),
+    (
+        &[
+            Set(Of(b"a"), Of(&[1, 0])),
+            Atomic(CompareAndClear, Of(b"a"), Of(&[1])),
+        ],
+        &[(b"a", &[1, 0])],
+    ),
+    (
+        &[
+            Set(Of(b"a"), Of(&[1])),
+            Atomic(CompareAndClear, Of(b"a"), Of(&[1, 0])),
+        ],
+        &[(b"a", &[1])],
+    ),
+    // An empty value is a value, and none is no empty one.
+    (
+        &[
+            Set(Of(b"a"), Of(&[])),
+            Atomic(CompareAndClear, Of(b"a"), Of(&[])),
+        ],
+        &[],
+    ),
+    (&[Atomic(CompareAndClear, Of(b"a"), Of(&[]))], &[]),
+    // Another key of the same value stays.
+    (
+        &[
+            Set(Of(b"a"), Of(&[1])),
+            Set(Of(b"b"), Of(&[1])),
+            Atomic(CompareAndClear, Of(b"a"), Of(&[1])),
+        ],
+        &[(b"b", &[1])],
+    ),
+    // What follows finds no value.
+    (
+        &[
+            Set(Of(b"a"), Of(&[7])),
+            Atomic(CompareAndClear, Of(b"a"), Of(&[7])),
+            Atomic(Add, Of(b"a"), Of(&[2])),
+        ],
+        &[(b"a", &[2])],
+    ),
+];
+
+/// Whether the rows are these once the mutations acted.
+fn is_compared(alloc: Global, rows: &mut Rows, (changes, wanted): Compared) -> Result<bool, Fail> {
+    acts(alloc, rows, changes)?;
+    Ok(are(rows, wanted))
+}
+
+#[test]
+fn equal_values_are_cleared(rt: HostRuntime) -> Result<(), Fail> {
+    for (number, case) in COMPARED.iter().enumerate() {
+        let is_so = is_compared(rt.alloc(), &mut BTreeMap::new(rt.alloc()), *case)?;
+        assert!(rt; is_so, "in row {number}");
+    }
+    Ok(())
+}
+
 const LONG_KEY: Text = Many(0x62, 10_001);
 
 const LONG_VALUE: Text = Many(0, 100_001);
@@ -205,7 +283,7 @@ const LIMITS: [Limit; 4] = [
 
 /// Two limits that mutations break: the number of mutations is tested first, then one mutation after the other, a key
 /// before a value, and a key before the order of a clear's ends.
-const TWO_LIMITS: [Limit; 7] = [
+const TWO_LIMITS: [Limit; 8] = [
     (
         1,
         &[Set(LONG_KEY, LONG_VALUE)],
@@ -215,6 +293,14 @@ const TWO_LIMITS: [Limit; 7] = [
         1,
         &[Atomic(Add, LONG_KEY, LONG_VALUE)],
         Some(BatchFault::KeyTooLong),
+    ),
+    (
+        1,
+        &[
+            Atomic(CompareAndClear, Of(b"a"), LONG_VALUE),
+            Set(LONG_KEY, Of(b"")),
+        ],
+        Some(BatchFault::ValueTooLong),
     ),
     (
         1,
@@ -274,13 +360,14 @@ fn the_first_limit_is_answered(rt: HostRuntime) -> Result<(), Fail> {
 }
 
 /// A name, and the operation of it.
-const NAMES: [(&str, Option<AtomicOp>); 7] = [
+const NAMES: [(&str, Option<AtomicOp>); 8] = [
     ("add", Some(Add)),
     ("and", Some(And)),
     ("or", Some(Or)),
     ("xor", Some(Xor)),
     ("max", Some(Max)),
     ("min", Some(Min)),
+    ("compare_and_clear", Some(CompareAndClear)),
     ("set", None),
 ];
 

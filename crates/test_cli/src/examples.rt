@@ -46,6 +46,24 @@ pub const EACH_MUTATION: Example = Example {
     lines: "ok 1 floor 0 undo 2\nok 2 floor 0 undo 6\n61 0001\n62 ff01\n63 0f\n64 0f\n",
 };
 
+/// A key that holds the value loses it; one of another value, and one of none, change nothing and have no undo row.
+pub const COMPARED: Example = Example {
+    script: r#"{"ops":[
+        {"apply":{"version":1,"batch":[{"set":{"key":"61","value":"01"}},{"set":{"key":"62","value":"02"}}]}},
+        {"apply":{"version":2,"batch":[{"compare_and_clear":{"key":"61","value":"01"}},
+            {"compare_and_clear":{"key":"62","value":"01"}},{"compare_and_clear":{"key":"63","value":""}}]}}]}"#,
+    lines: "ok 1 floor 0 undo 2\nok 2 floor 0 undo 3\n62 02\n",
+};
+
+pub const COMPARED_UNDONE: Example = Example {
+    script: r#"{"ops":[
+        {"apply":{"version":1,"batch":[{"set":{"key":"61","value":"01"}},{"set":{"key":"62","value":"02"}}]}},
+        {"apply":{"version":2,"batch":[{"compare_and_clear":{"key":"61","value":"01"}},
+            {"compare_and_clear":{"key":"62","value":"01"}},{"compare_and_clear":{"key":"63","value":""}}]}},
+        {"undo":{"to":1}}]}"#,
+    lines: "ok 1 floor 0 undo 2\nok 2 floor 0 undo 3\nok 1 floor 0 undo 2\n61 01\n62 02\n",
+};
+
 pub const REFUSED: Example = Example {
     script: r#"{"ops":[
         {"apply":{"version":1,"batch":[{"clear":{"begin":"62","end":"61"}}]}},

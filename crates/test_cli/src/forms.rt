@@ -14,7 +14,7 @@ const EACH: &str =
 
 /// The other kinds, with an escape, spaces and members in the other order.
 const OTHERS: &str =
-    r#"{ "o\u0070s":[{"apply":{"batch":[{"add":{"key":"00","param":"ff00"}}],"version":12}},{"advance":{"version" : 13}},{"forget":{"through":0}}]}"#;
+    r#"{ "o\u0070s":[{"apply":{"batch":[{"add":{"key":"00","param":"ff00"}},{"compare_and_clear":{"value":"7f","key":"00"}}],"version":12}},{"advance":{"version" : 13}},{"forget":{"through":0}}]}"#;
 
 /// Short scripts, of which each byte is changed to each other.
 const CHANGED: [&str; 2] = [

@@ -1,17 +1,19 @@
 use crate::examples::{
-    BEFORE_UNDO, EACH_MUTATION, EMPTY, Example, FORGET, LIMIT_FIRST, NO_KEY, NOTHING, REFUSED,
-    UNDO, answers, prints, run,
+    BEFORE_UNDO, COMPARED, COMPARED_UNDONE, EACH_MUTATION, EMPTY, Example, FORGET, LIMIT_FIRST,
+    NO_KEY, NOTHING, REFUSED, UNDO, answers, prints, run,
 };
 use fr_cli_json::CliFault;
 use std::alloc::{AllocError, Global};
 use std::process::Abort;
 use std::test::Fail;
 
-const EXAMPLES: [Example; 9] = [
+const EXAMPLES: [Example; 11] = [
     NO_KEY,
     UNDO,
     BEFORE_UNDO,
     EACH_MUTATION,
+    COMPARED,
+    COMPARED_UNDONE,
     REFUSED,
     LIMIT_FIRST,
     FORGET,
@@ -34,7 +36,7 @@ fn prints_the_lines(rt: HostRuntime) {
     are_printed(&rt, rt.alloc(), &EXAMPLES);
 }
 
-const NO_SCRIPTS: [&str; 37] = [
+const NO_SCRIPTS: [&str; 39] = [
     "",
     "{",
     "{}",
@@ -70,6 +72,8 @@ const NO_SCRIPTS: [&str; 37] = [
     r#"{"ops":[{"apply":{"version":1,"batch":[{"set":{"key":"61"}}]}}]}"#,
     r#"{"ops":[{"apply":{"version":1,"batch":[{"set":{"key":"61","param":"01"}}]}}]}"#,
     r#"{"ops":[{"apply":{"version":1,"batch":[{"add":{"key":"61","value":"01"}}]}}]}"#,
+    r#"{"ops":[{"apply":{"version":1,"batch":[{"compare_and_clear":{"key":"61","param":"01"}}]}}]}"#,
+    r#"{"ops":[{"apply":{"version":1,"batch":[{"compare_and_clear":{"key":"61"}}]}}]}"#,
     r#"{"ops":[{"apply":{"version":1,"batch":[{"clear":{"begin":"61","end":"62","key":"61"}}]}}]}"#,
     r#"{"ops":[{"apply":{"version":1,"batch":[{"append":{"key":"61","param":"01"}}]}}]}"#,
 ];

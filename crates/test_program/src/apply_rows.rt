@@ -5,7 +5,7 @@ use std::sync::Wait;
 use std::test::Fail;
 use std::thread::Threads;
 
-const ROWS: [(&str, &str); 5] = [
+const ROWS: [(&str, &str); 7] = [
     (
         "{\"ops\":[{\"advance\":{\"version\":4}},{\"apply\":{\"version\":5,\"batch\":[]}},{\"undo\":{\"to\":4}}]}",
         "ok 4 floor 0 undo 0\nok 5 floor 0 undo 0\nok 4 floor 0 undo 0\n",
@@ -17,6 +17,14 @@ const ROWS: [(&str, &str); 5] = [
     (
         "{\"ops\":[{\"apply\":{\"version\":1,\"batch\":[{\"set\":{\"key\":\"61\",\"value\":\"ff\"}},{\"set\":{\"key\":\"62\",\"value\":\"ff\"}}]}},{\"apply\":{\"version\":2,\"batch\":[{\"add\":{\"key\":\"61\",\"param\":\"02\"}},{\"add\":{\"key\":\"62\",\"param\":\"0001\"}},{\"and\":{\"key\":\"63\",\"param\":\"0f\"}},{\"or\":{\"key\":\"64\",\"param\":\"0f\"}},{\"max\":{\"key\":\"61\",\"param\":\"0001\"}},{\"min\":{\"key\":\"62\",\"param\":\"0002\"}}]}}]}",
         "ok 1 floor 0 undo 2\nok 2 floor 0 undo 6\n61 0001\n62 ff01\n63 0f\n64 0f\n",
+    ),
+    (
+        "{\"ops\":[{\"apply\":{\"version\":1,\"batch\":[{\"set\":{\"key\":\"61\",\"value\":\"01\"}},{\"set\":{\"key\":\"62\",\"value\":\"02\"}}]}},{\"apply\":{\"version\":2,\"batch\":[{\"compare_and_clear\":{\"key\":\"61\",\"value\":\"01\"}},{\"compare_and_clear\":{\"key\":\"62\",\"value\":\"01\"}},{\"compare_and_clear\":{\"key\":\"63\",\"value\":\"\"}}]}}]}",
+        "ok 1 floor 0 undo 2\nok 2 floor 0 undo 3\n62 02\n",
+    ),
+    (
+        "{\"ops\":[{\"apply\":{\"version\":1,\"batch\":[{\"set\":{\"key\":\"61\",\"value\":\"01\"}},{\"set\":{\"key\":\"62\",\"value\":\"02\"}}]}},{\"apply\":{\"version\":2,\"batch\":[{\"compare_and_clear\":{\"key\":\"61\",\"value\":\"01\"}},{\"compare_and_clear\":{\"key\":\"62\",\"value\":\"01\"}},{\"compare_and_clear\":{\"key\":\"63\",\"value\":\"\"}}]}},{\"undo\":{\"to\":1}}]}",
+        "ok 1 floor 0 undo 2\nok 2 floor 0 undo 3\nok 1 floor 0 undo 2\n61 01\n62 02\n",
     ),
     (
         "{\"ops\":[{\"apply\":{\"version\":1,\"batch\":[{\"clear\":{\"begin\":\"62\",\"end\":\"61\"}}]}},{\"apply\":{\"version\":1,\"batch\":[{\"clear\":{\"begin\":\"61\",\"end\":\"61\"}}]}},{\"apply\":{\"version\":1,\"batch\":[]}}]}",

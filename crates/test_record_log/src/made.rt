@@ -2,7 +2,7 @@
 use fr_base::{Bytes, Epoch, LogId, Node, NodeFault, Tag, Version};
 use fr_device::{Device, MemoryDevice};
 use fr_log::{LogAsk, LogRefusal, LogTell, Most, Push, Seed, SeedRecord};
-use fr_mutation::{Batch, Mutation};
+use fr_mutation::{AtomicOp, Batch, Mutation};
 use fr_record_log::LogNode;
 use fr_state::{CoordState, Generation};
 use fr_tags::Body;
@@ -30,33 +30,43 @@ fn set(alloc: Global, value: u8) -> Result<Mutation, Fail> {
     Ok(Mutation::Set { key, value })
 }
 
-/// The batch that sets the key 61.
-fn batch(alloc: Global, value: u8) -> Result<Batch, Fail> {
-    let set = set(alloc, value)?;
+fn compare(alloc: Global, value: u8) -> Result<Mutation, Fail> {
+    let op = AtomicOp::CompareAndClear;
+    let key = Bytes::from_slice(alloc, &[0x61])?;
+    let param = Bytes::from_slice(alloc, &[value])?;
+    Ok(Mutation::Atomic { op, key, param })
+}
+
+fn batch_of(alloc: Global, mutation: Mutation) -> Result<Batch, Fail> {
     let mut mutations = Vec::new(alloc);
-    mutations.push(set)?;
+    mutations.push(mutation)?;
     Ok(Batch::new(mutations)?)
 }
 
-fn body(alloc: Global, value: u8) -> Result<Body, Fail> {
-    let tag = tag(0)?;
-    let batch = batch(alloc, value)?;
-    Ok(Body { tag, batch })
+/// The batch that sets the key 61.
+fn batch(alloc: Global, value: u8) -> Result<Batch, Fail> {
+    batch_of(alloc, set(alloc, value)?)
 }
 
-fn one_body(alloc: Global, value: u8) -> Result<Vec<Body>, Fail> {
-    let body = body(alloc, value)?;
+/// The body of tag 0 with this batch.
+fn one_body(alloc: Global, batch: Batch) -> Result<Vec<Body>, Fail> {
+    let tag = tag(0)?;
     let mut bodies = Vec::new(alloc);
-    bodies.push(body)?;
+    bodies.push(Body { tag, batch })?;
     Ok(bodies)
 }
 
 /// A body of tag 0 with this value, or none.
 fn bodies(alloc: Global, value: Option<u8>) -> Result<Vec<Body>, Fail> {
     match value {
-        Some(value) => one_body(alloc, value),
+        Some(value) => one_body(alloc, batch(alloc, value)?),
         None => Ok(Vec::new(alloc)),
     }
+}
+
+/// A body of tag 0 that compares the key 61 with this value.
+fn compared(alloc: Global, value: u8) -> Result<Vec<Body>, Fail> {
+    one_body(alloc, batch_of(alloc, compare(alloc, value)?)?)
 }
 
 /// The coordinated state of the start.
@@ -74,6 +84,8 @@ pub(crate) enum Ask {
     FullSeed,
     /// The version before, the version, the known one, and the value of a body of tag 0.
     Push(u64, u64, u64, Option<u8>),
+    /// The same with a body that compares the key 61 with this value, and clears it where it is equal.
+    Compare(u64, u64, u64, u8),
     /// The mark after this version.
     Mark(u64),
     Lock,
@@ -172,6 +184,9 @@ pub(crate) fn ask_of(alloc: Global, epoch: Epoch, ask: Ask) -> Result<LogAsk, Fa
         Ask::FullSeed => seed(epoch, span(5, 7)?, full_records(alloc)?),
         Ask::Push(prev, version, known, value) => {
             push(epoch, chain(prev, version, known)?, bodies(alloc, value)?)
+        }
+        Ask::Compare(prev, version, known, value) => {
+            push(epoch, chain(prev, version, known)?, compared(alloc, value)?)
         }
         Ask::Mark(prev) => mark(alloc, epoch, prev),
         Ask::Lock => Ok(LogAsk::Lock { epoch }),

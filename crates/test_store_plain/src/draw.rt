@@ -31,14 +31,15 @@ fn atomic(op: AtomicOp, key: Bytes, param: Bytes) -> Mutation {
 fn mutation(alloc: Global, rng: &mut Pcg32) -> Result<Mutation, Memory> {
     let key = key(alloc, rng)?;
     let param = word(alloc, rng)?;
-    Ok(match rng.next_u32() % 9 {
+    Ok(match rng.next_u32() % 10 {
         0 => atomic(AtomicOp::Add, key, param),
         1 => atomic(AtomicOp::And, key, param),
         2 => atomic(AtomicOp::Or, key, param),
         3 => atomic(AtomicOp::Xor, key, param),
         4 => atomic(AtomicOp::Max, key, param),
         5 => atomic(AtomicOp::Min, key, param),
-        6 => {
+        6 => atomic(AtomicOp::CompareAndClear, key, param),
+        7 => {
             let other = self::key(alloc, rng)?;
             if key <= other {
                 Mutation::Clear {

@@ -65,8 +65,23 @@ fn each(alloc: Global, a: &[u8], b: &[u8], op: AtomicOp) -> Result<Vec<u8>, Allo
     Ok(bytes)
 }
 
-/// The value that a key takes by an operation with a parameter, of its value before.
+/// The value that a key has after an operation with a parameter, of its value before.
 fn taken(
+    alloc: Global,
+    op: AtomicOp,
+    old: Option<&[u8]>,
+    param: &[u8],
+) -> Result<Option<Vec<u8>>, AllocError> {
+    match (op, old) {
+        (AtomicOp::CompareAndClear, None) => Ok(None),
+        (AtomicOp::CompareAndClear, Some(old)) if old == param => Ok(None),
+        (AtomicOp::CompareAndClear, Some(old)) => Ok(Some(old.to_vec(alloc)?)),
+        _ => Ok(Some(combined(alloc, op, old, param)?)),
+    }
+}
+
+/// The value that an operation makes of a value, or of none, and its parameter.
+fn combined(
     alloc: Global,
     op: AtomicOp,
     old: Option<&[u8]>,
@@ -129,13 +144,13 @@ fn act(
             });
             return Ok(());
         }
-        Mutation::Set { key, value } => (key, value.as_slice().to_vec(alloc)?),
+        Mutation::Set { key, value } => (key, Some(value.as_slice().to_vec(alloc)?)),
         Mutation::Atomic { op, key, param } => {
             let old = find(data.as_slice(), key.as_slice());
             (key, taken(alloc, *op, old, param.as_slice())?)
         }
     };
-    put(alloc, data, key.as_slice(), Some(value))
+    put(alloc, data, key.as_slice(), value)
 }
 
 impl SlowStore {

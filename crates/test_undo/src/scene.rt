@@ -13,6 +13,8 @@ pub(crate) enum Change {
     /// From a key up to another one.
     Clear(u8, u8),
     Add(u8, u8),
+    /// A compare-and-clear of a key, with a value.
+    Compare(u8, u8),
 }
 
 /// A call of a store.
@@ -72,8 +74,7 @@ fn clear(alloc: Global, begin: u8, end: u8) -> Result<Mutation, Memory> {
     Ok(Mutation::Clear { begin, end })
 }
 
-fn add(alloc: Global, key: u8, param: u8) -> Result<Mutation, Memory> {
-    let op = AtomicOp::Add;
+fn atomic(alloc: Global, op: AtomicOp, key: u8, param: u8) -> Result<Mutation, Memory> {
     let key = bytes(alloc, &[key])?;
     let param = bytes(alloc, &[param])?;
     Ok(Mutation::Atomic { op, key, param })
@@ -83,7 +84,8 @@ fn mutation(alloc: Global, change: Change) -> Result<Mutation, Memory> {
     match change {
         Change::Set(key, value) => set(alloc, key, value),
         Change::Clear(begin, end) => clear(alloc, begin, end),
-        Change::Add(key, param) => add(alloc, key, param),
+        Change::Add(key, param) => atomic(alloc, AtomicOp::Add, key, param),
+        Change::Compare(key, value) => atomic(alloc, AtomicOp::CompareAndClear, key, value),
     }
 }
 

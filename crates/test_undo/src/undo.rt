@@ -3,7 +3,7 @@ use crate::scene::Call::{
     self, Advance, Applied, Apply, Below, Floor, Forget, Get, HasState, Holds, IsFailed, Reopen,
     SetState, Undo, UndoRows,
 };
-use crate::scene::Change::{self, Add, Clear, Set};
+use crate::scene::Change::{self, Add, Clear, Compare, Set};
 use crate::scene::Said::{self, Absent, Count, Done, Is, No, Value};
 use crate::scene::{Row, answer, byte_of, bytes, plays};
 use fr_undo::StoreFault::{Device, Failed};
@@ -40,6 +40,35 @@ const UNDOES: [Row; 14] = [
     (UndoRows, Count(2)),
     (Applied, Count(4)),
 ];
+
+/// Of `a`, `b` and `c`, of which the last has no value, `a` alone holds the value with which it is compared: it loses
+/// it, and it alone has an undo row. One that gets its value back in the batch has none.
+const COMPARES: [Row; 13] = [
+    (Apply(1, &[Set(b'a', 1), Set(b'b', 2)]), Done),
+    (
+        Apply(2, &[Compare(b'a', 1), Compare(b'b', 1), Compare(b'c', 1)]),
+        Done,
+    ),
+    (UndoRows, Count(2 + 1)),
+    (Holds(&[(b'b', 2)]), Is(true)),
+    (Apply(3, &[Compare(b'b', 2), Set(b'b', 2)]), Done),
+    (UndoRows, Count(2 + 1)),
+    (Apply(4, &[Set(b'c', 3), Compare(b'c', 3)]), Done),
+    (UndoRows, Count(2 + 1)),
+    (Get(b'c'), Absent),
+    (Undo(2), Done),
+    (Undo(1), Done),
+    (UndoRows, Count(2)),
+    (Holds(&[(b'a', 1), (b'b', 2)]), Is(true)),
+];
+
+#[test]
+fn a_cleared_value_is_restored(rt: HostRuntime) -> Result<(), Fail> {
+    let mut store = MapStore::new(rt.alloc());
+    plays(&rt, rt.alloc(), &mut store, &COMPARES)?;
+    let mut store = FailsOnce::new(rt.alloc(), 100, false);
+    plays(&rt, rt.alloc(), &mut store, &COMPARES)
+}
 
 /// The value that a store lends of a key.
 fn lent(alloc: Global, store: &MapStore, key: &[u8]) -> Result<Said, Fail> {

@@ -53,7 +53,7 @@ fn read_named(alloc: Global, reader: &mut Reader<'_>, name: &str) -> Result<Muta
         }
         _ => match AtomicOp::from_name(name) {
             Some(op) => {
-                let (key, param) = read_pair(alloc, reader, "key", "param")?;
+                let (key, param) = read_pair(alloc, reader, "key", op.operand_name())?;
                 Ok(Mutation::Atomic { op, key, param })
             }
             None => Err(Unread::Unusual),

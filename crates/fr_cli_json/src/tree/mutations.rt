@@ -1,7 +1,7 @@
 //! The mutations of a script, read from the tree of its JSON.
 ghost use Rattle.std.specs.Prelude.{◌≡◌, ◌⊎◌, None, Some, IfOk, IfErr};
 ghost use Rattle.serde_json.specs.View.{view};
-ghost use Rattle.fr_cli_json.specs.Mutations.{param_of, mutation_named, mutation_of, batch_of};
+ghost use Rattle.fr_cli_json.specs.Mutations.{operand_of, mutation_named, mutation_of, batch_of};
 
 use super::{into_items, into_one_member, read_pair};
 use crate::fault::CliFault;
@@ -56,7 +56,7 @@ fn read_named(alloc: Global, name: &str, fields: &Value) -> Result<Mutation, Cli
         }
         _ => match AtomicOp::from_name(name) {
             Some(op) => {
-                let (key, param) = read_param(alloc, fields)?;
+                let (key, param) = read_operand(alloc, op, fields)?;
                 Ok(Mutation::Atomic { op, key, param })
             }
             None => Err(CliFault::BadScript),
@@ -64,11 +64,11 @@ fn read_named(alloc: Global, name: &str, fields: &Value) -> Result<Mutation, Cli
     }
 }
 
-/// Reads the key and the parameter of an atomic operation.
-fn read_param(alloc: Global, fields: &Value) -> Result<(Bytes, Bytes), CliFault>
-    ensures ok { IfOk result (λ pair. param_of (view fields.now) ≡ Some pair) }
-    ensures bad { result ≡ Err CliFault.BadScript → param_of (view fields.now) ≡ None }
+/// Reads the key and the operand of an atomic operation.
+fn read_operand(alloc: Global, op: AtomicOp, fields: &Value) -> Result<(Bytes, Bytes), CliFault>
+    ensures ok { IfOk result (λ pair. operand_of op (view fields.now) ≡ Some pair) }
+    ensures bad { result ≡ Err CliFault.BadScript → operand_of op (view fields.now) ≡ None }
     ensures fault { IfErr result (λ e. (e ≡ CliFault.BadScript) ⊎ (e ≡ CliFault.Memory)) }
 {
-    read_pair(alloc, fields, "key", "param")
+    read_pair(alloc, fields, "key", op.operand_name())
 }

@@ -20,6 +20,9 @@ pub enum DecodeFault {
     Inverted,
     /// There is no memory. It is answered only for bytes in which there is no other fault.
     Memory,
+    /// A batch of format 2 has no compare-and-clear, so that its bytes would have been those of format 1.
+    /// It is answered once all its mutations were read.
+    NeedlessFormat,
 }
 
 impl DecodeFault {
@@ -33,6 +36,7 @@ impl DecodeFault {
             DecodeFault::OverLimit => "OverLimit",
             DecodeFault::Inverted => "Inverted",
             DecodeFault::Memory => "Memory",
+            DecodeFault::NeedlessFormat => "NeedlessFormat",
         }
     }
 }

@@ -1,6 +1,7 @@
 //! The kinds of mutation in the bytes of a batch.
 ghost use Rattle.std.specs.Prelude.{◌≡◌};
 ghost use Rattle.fr_mutation.specs.CodecKind.{kind_byte, kind_of, mutation_of};
+ghost use Rattle.fr_mutation.specs.CodecFormat.{is_compare_and_clear_kind};
 
 use crate::atomic::AtomicOp;
 use crate::mutation::Mutation;
@@ -34,6 +35,16 @@ impl Kind {
             1 => Some(Kind::Set),
             2 => Some(Kind::Clear),
             _ => AtomicOp::from_byte(byte).map(|op| Kind::Atomic(op)),
+        }
+    }
+
+    /// Whether it is the kind that format 1 does not have.
+    pub(super) fn is_compare_and_clear(self) -> bool
+        ensures { result ≡ is_compare_and_clear_kind self }
+    {
+        match self {
+            Kind::Atomic(op) => op.is_compare_and_clear(),
+            _ => false,
         }
     }
 

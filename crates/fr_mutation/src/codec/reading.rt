@@ -4,12 +4,12 @@ ghost use Rattle.std.specs.Int.{w16, w32};
 ghost use Rattle.fr_mutation.specs.declared.codec.fault.DecodeFault.{DecodeFault};
 ghost use Rattle.fr_mutation.specs.CodecFields.{lent_mutation};
 ghost use Rattle.fr_mutation.specs.CodecSpelling.{spelled};
-ghost use Rattle.fr_mutation.specs.CodecReading.{Reads, byte_at, bytes_at, number_at, key_at, operand_at, kind_at, clear_at, keyed_at, mutation_at, mutations_at, header_at, rest_of, items_of, decoded};
+ghost use Rattle.fr_mutation.specs.CodecReading.{Reads, byte_at, bytes_at, number_at, key_at, operand_at, kind_at, clear_at, keyed_at, mutation_at, mutations_at, checked_at, format_at, header_at, found_in, rest_of, items_of, decoded};
 
 use crate::batch::{Batch, MAX_MUTATIONS};
-use crate::codec::FORMAT;
 use crate::codec::fault::DecodeFault;
 use crate::codec::fields::Fields;
+use crate::codec::format::Format;
 use crate::codec::kind::Kind;
 use crate::mutation::{MAX_KEY, MAX_VALUE, Mutation};
 use fr_base::Memory;
@@ -76,16 +76,17 @@ fn operand_at(bytes: &[u8]) -> Result<(&[u8], &[u8]), DecodeFault>
     bytes_at(rest, len)
 }
 
-/// The kind of a mutation, and what follows its byte.
+/// The kind of a mutation, which the format has, and what follows its byte.
 #[tactic(auto, unfolding(crate::specs::CodecReading::kind_at))]
-fn kind_at(bytes: &[u8]) -> Result<(Kind, &[u8]), DecodeFault>
-    ensures { Reads (λ x. (x.0, x.1.now)) result (kind_at bytes.now) }
+fn kind_at(format: Format, bytes: &[u8]) -> Result<(Kind, &[u8]), DecodeFault>
+    ensures { Reads (λ x. (x.0, x.1.now)) result (kind_at format bytes.now) }
 {
     let (byte, rest) = byte_at(bytes)?;
-    match Kind::from_byte(byte) {
-        None => Err(DecodeFault::UnknownKind),
-        Some(kind) => Ok((kind, rest)),
+    let kind = Kind::from_byte(byte).ok_or(DecodeFault::UnknownKind)?;
+    if !format.has(kind) {
+        return Err(DecodeFault::UnknownKind);
     }
+    Ok((kind, rest))
 }
 
 /// The ends of a clear, and what follows them.
@@ -128,36 +129,54 @@ fn keyed_at(kind: Kind, bytes: &[u8]) -> Result<(Fields<'_>, &[u8]), DecodeFault
 
 /// A mutation, and what follows it.
 #[tactic(auto, unfolding(crate::specs::CodecReading::mutation_at))]
-fn mutation_at(bytes: &[u8]) -> Result<(Fields<'_>, &[u8]), DecodeFault>
-    ensures { Reads (λ x. (lent_mutation x.0, x.1.now)) result (mutation_at bytes.now) }
+fn mutation_at(format: Format, bytes: &[u8]) -> Result<(Fields<'_>, &[u8]), DecodeFault>
+    ensures { Reads (λ x. (lent_mutation x.0, x.1.now)) result (mutation_at format bytes.now) }
 {
-    match kind_at(bytes)? {
+    match kind_at(format, bytes)? {
         (Kind::Clear, rest) => clear_at(rest),
         (kind, rest) => keyed_at(kind, rest),
     }
 }
 
-/// What follows so many mutations.
-fn skip_mutations(count: usize, bytes: &[u8]) -> Result<&[u8], DecodeFault>
-    ensures { Reads (λ x. x.now) result (rest_of (mutations_at count bytes.now)) }
+/// Whether one of so many mutations is a compare-and-clear, and what follows them.
+fn skip_mutations(format: Format, count: usize, bytes: &[u8]) -> Result<(bool, &[u8]), DecodeFault>
+    ensures { Reads (λ x. (x.0, x.1.now)) result (found_in (mutations_at format count bytes.now)) }
 {
+    let mut found = false;
     let mut rest = bytes;
     for _ in 0..count {
-        let (_, after) = mutation_at(rest)?;
+        let (fields, after) = mutation_at(format, rest)?;
+        found = found || fields.kind.is_compare_and_clear();
         rest = after;
+    }
+    Ok((found, rest))
+}
+
+/// What follows so many mutations, for which the format is needed.
+fn skip_checked(format: Format, count: usize, bytes: &[u8]) -> Result<&[u8], DecodeFault>
+    ensures { Reads (λ x. x.now) result (rest_of (checked_at format count bytes.now)) }
+{
+    let (found, rest) = skip_mutations(format, count, bytes)?;
+    if format.is_needless(found) {
+        return Err(DecodeFault::NeedlessFormat);
     }
     Ok(rest)
 }
 
 /// Copies so many mutations, which are known to stand in front.
-fn copy_mutations(alloc: Global, count: usize, bytes: &[u8]) -> Result<Vec<Mutation>, Memory>
-    requires { IsOk (mutations_at count bytes.now) }
-    ensures { IfOk result (λ mutations. items_of (mutations_at count bytes.now) ≡ Ok mutations.items) }
+fn copy_mutations(
+    alloc: Global,
+    format: Format,
+    count: usize,
+    bytes: &[u8],
+) -> Result<Vec<Mutation>, Memory>
+    requires { IsOk (mutations_at format count bytes.now) }
+    ensures { IfOk result (λ mutations. items_of (mutations_at format count bytes.now) ≡ Ok mutations.items) }
 {
     let mut mutations = Vec::with_capacity(alloc, count)?;
     let mut rest = bytes;
     for _ in 0..count {
-        let Ok((fields, after)) = mutation_at(rest) else {
+        let Ok((fields, after)) = mutation_at(format, rest) else {
             unreachable!()
         };
         mutations.push(fields.to_mutation(alloc)?)?;
@@ -166,21 +185,30 @@ fn copy_mutations(alloc: Global, count: usize, bytes: &[u8]) -> Result<Vec<Mutat
     Ok(mutations)
 }
 
-/// The number of mutations, and what follows it.
-#[tactic(auto, unfolding(crate::specs::CodecReading::header_at))]
-fn header_at(bytes: &[u8]) -> Result<(usize, &[u8]), DecodeFault>
-    ensures { Reads (λ x. (x.0, x.1.now)) result (header_at bytes.now) }
+/// The format, and what follows its byte.
+#[tactic(auto, unfolding(crate::specs::CodecReading::format_at))]
+fn format_at(bytes: &[u8]) -> Result<(Format, &[u8]), DecodeFault>
+    ensures { Reads (λ x. (x.0, x.1.now)) result (format_at bytes.now) }
 {
-    let (format, rest) = byte_at(bytes)?;
-    if format != FORMAT {
-        return Err(DecodeFault::UnknownKind);
-    }
-    u16_at(rest, MAX_MUTATIONS)
+    let (byte, rest) = byte_at(bytes)?;
+    let format = Format::from_byte(byte).ok_or(DecodeFault::UnknownKind)?;
+    Ok((format, rest))
 }
 
-/// Reads a batch of format 1 from the front of the bytes, and says how many of them it took; what
-/// follows is left. It answers the first fault from the left. The bytes are looked through before any
-/// is copied, so want of memory is answered only where there is no other fault.
+/// The format, the number of mutations, and what follows them.
+#[tactic(auto, unfolding(crate::specs::CodecReading::header_at))]
+fn header_at(bytes: &[u8]) -> Result<(Format, usize, &[u8]), DecodeFault>
+    ensures { Reads (λ x. (x.0, x.1, x.2.now)) result (header_at bytes.now) }
+{
+    let (format, rest) = format_at(bytes)?;
+    let (count, rest) = u16_at(rest, MAX_MUTATIONS)?;
+    Ok((format, count, rest))
+}
+
+/// Reads a batch from the front of the bytes, and says how many of them it took; what follows is left.
+/// It answers the first fault from the left, and after those that its mutations are in format 2 without
+/// need. The bytes are looked through before any is copied, so want of memory is answered only where
+/// there is no other fault.
 pub fn decode(alloc: Global, bytes: &[u8]) -> Result<(Batch, usize), DecodeFault>
     ensures ok { IfOk result (λ found. decoded bytes.now ≡ Ok found) }
     ensures spelled { IfOk result (λ found. (found.1 ≤ length bytes.now) × (take found.1 bytes.now ≡ spelled found.0)) }
@@ -189,9 +217,9 @@ pub fn decode(alloc: Global, bytes: &[u8]) -> Result<(Batch, usize), DecodeFault
     ensures refused { (fault : DecodeFault) → fault ≢ DecodeFault.Memory → ((result ≡ Err fault) ↔ (decoded bytes.now ≡ Err fault)) }
     ensures memory { result ≡ Err DecodeFault.Memory → IsOk (decoded bytes.now) }
 {
-    let (count, front) = header_at(bytes)?;
-    let rest = skip_mutations(count, front)?;
-    let mutations = copy_mutations(alloc, count, front)?;
+    let (format, count, front) = header_at(bytes)?;
+    let rest = skip_checked(format, count, front)?;
+    let mutations = copy_mutations(alloc, format, count, front)?;
     // Each limit was tested on the way.
     Ok((Batch::within(mutations), bytes.len() - rest.len()))
 }

@@ -4,8 +4,8 @@ ghost use Rattle.fr_mutation.specs.Limits.{mutation_fault, batch_fault};
 ghost use Rattle.fr_mutation.specs.CodecSpelling.{spelled_key, spelled_operand, spelled_mutation, spelled};
 
 use crate::batch::Batch;
-use crate::codec::FORMAT;
 use crate::codec::fields::Fields;
+use crate::codec::format::Format;
 use crate::codec::kind::Kind;
 use crate::mutation::Mutation;
 use fr_base::Memory;
@@ -18,7 +18,7 @@ pub fn encode(alloc: Global, batch: &Batch) -> Result<Vec<u8>, Memory>
 {
     let mutations = batch.mutations();
     let mut out = Vec::with_capacity(alloc, spelled_len(mutations))?;
-    out.push(FORMAT)?;
+    out.push(Format::of(mutations).byte())?;
     out.extend_from_slice(&(mutations.len() as u16).to_be_bytes())?;
     for mutation in mutations {
         put_mutation(&mut out, mutation)?;

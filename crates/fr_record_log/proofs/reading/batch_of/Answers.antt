@@ -1,5 +1,5 @@
 use Rattle.std.proofs.Common.{length, ap, ◌∙◌, Err}
-use Rattle.fr_mutation.specs.declared.codec.fault.DecodeFault.TheVariants.{Short, UnknownKind, OverLimit, Inverted}
+use Rattle.fr_mutation.specs.declared.codec.fault.DecodeFault.TheVariants.{Short, UnknownKind, OverLimit, Inverted, NeedlessFormat}
 use Rattle.fr_record_log.specs.Reading.{whole}
 use Rattle.fr_record_log.proofs.reading.batch_of.Goals as goal
 
@@ -14,3 +14,6 @@ returns-in-Err-OverLimit c = λ _. ap (whole (length c.args.bytes.now)) ((c.deco
 
 pub returns-in-Err-Inverted : goal.returns-in-Err-Inverted
 returns-in-Err-Inverted c = λ _. ap (whole (length c.args.bytes.now)) ((c.decode.ensures.refused Inverted (λ e. absurd (cc e))).0 (c.in-Err-Inverted.is ∙ ap (λ f. Err f) c.in-Err-Inverted.field-0-is))
+
+pub returns-in-Err-NeedlessFormat : goal.returns-in-Err-NeedlessFormat
+returns-in-Err-NeedlessFormat c = λ _. ap (whole (length c.args.bytes.now)) ((c.decode.ensures.refused NeedlessFormat (λ e. absurd (cc e))).0 (c.in-Err-NeedlessFormat.is ∙ ap (λ f. Err f) c.in-Err-NeedlessFormat.field-0-is))
