@@ -11,13 +11,13 @@ use Rattle.fr_epoch.specs.Words.{Word, word_of}
 use Rattle.fr_epoch.specs.Hear.{after_hear}
 use Rattle.fr_epoch.specs.declared.why.LostWhy.{LostWhy}
 use Rattle.fr_epoch.specs.Change.{replied, Change, Stands, LosesReads, Reads, Finds, Locks, LosesLocks, Plans, Copies, Seeds, SeedsAll, Writes, LosesWrites, Chooses, Marks}
-use Rattle.fr_epoch.specs.Law.{IsShape, IsRecoverer, HearLeavesRecoverer, PlanGrows, RecGrows, HearGrows}
+use Rattle.fr_epoch.specs.Law.{HasComeBy, IsRecoverer, HearLeavesRecoverer, PlanGrows, RecGrows, HearGrows}
 use Rattle.fr_epoch.proofs.Changes.{hear_is_change}
 
--- ---- shapes
+-- ---- what each phase has come by
 
-lost_shape : (ph : Phase) (parent : Option Parent) (end : Option EndState) (plan : Option Plan) (seeded : List ℕ) (why : LostWhy) → IsShape ph parent end plan seeded → IsShape (Lost why) parent end plan seeded
-lost_shape ph parent end plan seeded why h = record {
+lost_has : (ph : Phase) (parent : Option Parent) (end : Option EndState) (plan : Option Plan) (seeded : List ℕ) (why : LostWhy) → HasComeBy ph parent end plan seeded → HasComeBy (Lost why) parent end plan seeded
+lost_has ph parent end plan seeded why h = record {
   reading = λ e. absurd (cc);
   locking = λ e. absurd (cc);
   writing = λ e. absurd (cc);
@@ -52,11 +52,11 @@ still_tallied r p end i durable known h at tally q is =
     let same = replied_same end i durable known in
     (replied end i durable known, refl, same.0 ∙ sym (ap (λ (x : EndState). x.m) d) ∙ t.2, same.1 ∙ sym (ap (λ (x : EndState). x.k) d) ∙ t.3)
 
-shape : (w : Word) (r n : RecState) → Change r w n → IsRecoverer r → IsRecoverer n
-shape w r n Stands h = h
-shape w r n (LosesReads i t why at) h = lost_shape r.phase r.parent r.end r.plan r.seeded why h
-shape w r n (Reads i t at) h = h
-shape w r n (Finds i t s g at is) h = record {
+comes_by : (w : Word) (r n : RecState) → Change r w n → IsRecoverer r → IsRecoverer n
+comes_by w r n Stands h = h
+comes_by w r n (LosesReads i t why at) h = lost_has r.phase r.parent r.end r.plan r.seeded why h
+comes_by w r n (Reads i t at) h = h
+comes_by w r n (Finds i t s g at is) h = record {
   reading = λ e. absurd (cc);
   locking = λ e. h.parentless (h.reading at.phase);
   writing = λ e. absurd (cc);
@@ -65,7 +65,7 @@ shape w r n (Finds i t s g at is) h = record {
   tallied = λ q e. (let k : Some (let p : Parent = record { state = s; last = g } in p) ≡ Some q = e in let d : (let p : Parent = record { state = s; last = g } in p) ≡ q = cc in
       (new_end g.m g.k, refl, ap (λ (p : Parent). p.last.m) d, ap (λ (p : Parent). p.last.k) d));
 }
-shape w r n (Locks p end i durable known at) h = record {
+comes_by w r n (Locks p end i durable known at) h = record {
   reading = h.reading;
   locking = h.locking;
   writing = h.writing;
@@ -73,7 +73,7 @@ shape w r n (Locks p end i durable known at) h = record {
   parentless = h.parentless;
   tallied = still_tallied r p end i durable known h at.parent at.tally;
 }
-shape w r n (LosesLocks p end i durable known why at) h = record {
+comes_by w r n (LosesLocks p end i durable known why at) h = record {
   reading = λ e. absurd (cc);
   locking = λ e. absurd (cc);
   writing = λ e. absurd (cc);
@@ -81,7 +81,7 @@ shape w r n (LosesLocks p end i durable known why at) h = record {
   parentless = h.parentless;
   tallied = still_tallied r p end i durable known h at.parent at.tally;
 }
-shape w r n (Plans p end i durable known s at is) h = record {
+comes_by w r n (Plans p end i durable known s at is) h = record {
   reading = λ e. absurd (cc);
   locking = λ e. absurd (cc);
   writing = λ e. absurd (cc);
@@ -89,7 +89,7 @@ shape w r n (Plans p end i durable known s at is) h = record {
   parentless = λ e. let k : Some p ≡ None = sym at.parent ∙ e in absurd (cc);
   tallied = still_tallied r p end i durable known h at.parent at.tally;
 }
-shape w r n (Copies parent p i peeked at) h = record {
+comes_by w r n (Copies parent p i peeked at) h = record {
   reading = λ e. let k : Copying ≡ Reading = sym at.phase ∙ e in absurd (cc);
   locking = λ e. let k : Copying ≡ Locking = sym at.phase ∙ e in absurd (cc);
   writing = λ e. let k : Copying ≡ Writing = sym at.phase ∙ e in absurd (cc);
@@ -97,7 +97,7 @@ shape w r n (Copies parent p i peeked at) h = record {
   parentless = λ e. let k : Some p ≡ None = sym at.plan ∙ h.parentless e in absurd (cc);
   tallied = h.tallied;
 }
-shape w r n (Seeds p i at k) h = record {
+comes_by w r n (Seeds p i at k) h = record {
   reading = h.reading;
   locking = h.locking;
   writing = λ e. written_more r.plan i r.seeded (h.writing e);
@@ -105,7 +105,7 @@ shape w r n (Seeds p i at k) h = record {
   parentless = h.parentless;
   tallied = h.tallied;
 }
-shape w r n (SeedsAll p i at k) h = record {
+comes_by w r n (SeedsAll p i at k) h = record {
   reading = λ e. absurd (cc);
   locking = λ e. absurd (cc);
   writing = λ e. k;
@@ -113,9 +113,9 @@ shape w r n (SeedsAll p i at k) h = record {
   parentless = h.parentless;
   tallied = h.tallied;
 }
-shape w r n (Writes i t at) h = h
-shape w r n (LosesWrites i t why at) h = lost_shape r.phase r.parent r.end r.plan r.seeded why h
-shape w r n (Chooses i t at m) h = record {
+comes_by w r n (Writes i t at) h = h
+comes_by w r n (LosesWrites i t why at) h = lost_has r.phase r.parent r.end r.plan r.seeded why h
+comes_by w r n (Chooses i t at m) h = record {
   reading = λ e. absurd (cc);
   locking = λ e. absurd (cc);
   writing = λ e. absurd (cc);
@@ -123,10 +123,10 @@ shape w r n (Chooses i t at m) h = record {
   parentless = h.parentless;
   tallied = h.tallied;
 }
-shape w r n (Marks p i at) h = h
+comes_by w r n (Marks p i at) h = h
 
 pub hear_leaves : HearLeavesRecoverer
-hear_leaves r from t h = shape (word_of from t) r (after_hear r from t) (hear_is_change r from t) h
+hear_leaves r from t h = comes_by (word_of from t) r (after_hear r from t) (hear_is_change r from t) h
 
 -- ---- growth
 
@@ -146,11 +146,12 @@ same_plan : (p : Plan) → PlanGrows p p
 same_plan p = record { state = refl; generation = refl; complete = λ c. refl }
 
 -- the plan stands, and what is read, found and seeded as it must
-stands : (r n : RecState) → n.ballot ≡ r.ballot → n.begins ≡ r.begins → (IsSome r.parent → n.reads ≡ r.reads) → (IsSome r.parent → n.parent ≡ r.parent) → n.plan ≡ r.plan
+stands : (r n : RecState) → n.ballot ≡ r.ballot → n.begins ≡ r.begins → n.shape ≡ r.shape → (IsSome r.parent → n.reads ≡ r.reads) → (IsSome r.parent → n.parent ≡ r.parent) → n.plan ≡ r.plan
     → (is_written r ≡ true → is_written n ≡ true) → (r.phase ≡ Chosen → n.phase ≡ Chosen) → RecGrows r n
-stands r n ballot begins reads parent plan written chosen = record {
+stands r n ballot begins shape reads parent plan written chosen = record {
   ballot = ballot;
   begins = begins;
+  shape = shape;
   reads = reads;
   parent = parent;
   plan = λ p e. (p, plan ∙ e, same_plan p);
@@ -169,19 +170,20 @@ written_still p t seeded still e =
     rw (still parts.0) e
 
 grows : CompleteStays → (w : Word) (r n : RecState) → Change r w n → IsRecoverer r → RecGrows r n
-grows complete w r n Stands h = stands r r refl refl (λ e. refl) (λ e. refl) refl (λ e. e) (λ e. e)
+grows complete w r n Stands h = stands r r refl refl refl (λ e. refl) (λ e. refl) refl (λ e. e) (λ e. e)
 grows complete w r n (LosesReads i t why at) h =
-    stands r n refl refl (λ s. absurd (no_parent r.parent (h.reading at.phase) s)) (λ e. refl) refl (λ e. e) (λ e. let k : Reading ≡ Chosen = sym at.phase ∙ e in absurd (cc))
-grows complete w r n (Reads i t at) h = stands r n refl refl (λ s. absurd (no_parent r.parent (h.reading at.phase) s)) (λ e. refl) refl (λ e. e) (λ e. e)
+    stands r n refl refl refl (λ s. absurd (no_parent r.parent (h.reading at.phase) s)) (λ e. refl) refl (λ e. e) (λ e. let k : Reading ≡ Chosen = sym at.phase ∙ e in absurd (cc))
+grows complete w r n (Reads i t at) h = stands r n refl refl refl (λ s. absurd (no_parent r.parent (h.reading at.phase) s)) (λ e. refl) refl (λ e. e) (λ e. e)
 grows complete w r n (Finds i t s g at is) h =
-    stands r n refl refl (λ s. absurd (no_parent r.parent (h.reading at.phase) s)) (λ s. absurd (no_parent r.parent (h.reading at.phase) s)) refl (λ e. e)
+    stands r n refl refl refl (λ s. absurd (no_parent r.parent (h.reading at.phase) s)) (λ s. absurd (no_parent r.parent (h.reading at.phase) s)) refl (λ e. e)
     (λ e. let k : Reading ≡ Chosen = sym at.phase ∙ e in absurd (cc))
-grows complete w r n (Locks p end i durable known at) h = stands r n refl refl (λ e. refl) (λ e. refl) refl (λ e. e) (λ e. e)
+grows complete w r n (Locks p end i durable known at) h = stands r n refl refl refl (λ e. refl) (λ e. refl) refl (λ e. e) (λ e. e)
 grows complete w r n (LosesLocks p end i durable known why at) h =
-    stands r n refl refl (λ e. refl) (λ e. refl) refl (λ e. e) (λ e. let k : Locking ≡ Chosen = sym at.phase ∙ e in absurd (cc))
+    stands r n refl refl refl (λ e. refl) (λ e. refl) refl (λ e. e) (λ e. let k : Locking ≡ Chosen = sym at.phase ∙ e in absurd (cc))
 grows complete w r n (Plans p end i durable known s at is) h = record {
   ballot = refl;
   begins = refl;
+  shape = refl;
   reads = λ e. refl;
   parent = λ e. refl;
   plan = λ q e. let k : None ≡ Some q = sym (h.locking at.phase) ∙ e in absurd (cc);
@@ -195,6 +197,7 @@ grows complete w r n (Copies parent p i peeked at) h =
     record {
       ballot = refl;
       begins = refl;
+      shape = refl;
       reads = λ e. refl;
       parent = λ e. refl;
       plan = λ q e. let k : Some p ≡ Some q = sym at.plan ∙ e in let s : p ≡ q = cc in (record p { tail = t }, refl, subst (λ x. PlanGrows x (record p { tail = t })) s (copies complete p i t still));
@@ -202,14 +205,14 @@ grows complete w r n (Copies parent p i peeked at) h =
       written = λ c. written_still p t r.seeded still (subst (λ o. is_written_in o r.seeded ≡ true) at.plan c);
       chosen = λ e. e;
     }
-grows complete w r n (Seeds p i at k) h = stands r n refl refl (λ e. refl) (λ e. refl) refl (λ e. written_more r.plan i r.seeded e) (λ e. e)
+grows complete w r n (Seeds p i at k) h = stands r n refl refl refl (λ e. refl) (λ e. refl) refl (λ e. written_more r.plan i r.seeded e) (λ e. e)
 grows complete w r n (SeedsAll p i at k) h =
-    stands r n refl refl (λ e. refl) (λ e. refl) refl (λ e. k) (λ e. let j : Copying ≡ Chosen = sym at.phase ∙ e in absurd (cc))
-grows complete w r n (Writes i t at) h = stands r n refl refl (λ e. refl) (λ e. refl) refl (λ e. e) (λ e. e)
+    stands r n refl refl refl (λ e. refl) (λ e. refl) refl (λ e. k) (λ e. let j : Copying ≡ Chosen = sym at.phase ∙ e in absurd (cc))
+grows complete w r n (Writes i t at) h = stands r n refl refl refl (λ e. refl) (λ e. refl) refl (λ e. e) (λ e. e)
 grows complete w r n (LosesWrites i t why at) h =
-    stands r n refl refl (λ e. refl) (λ e. refl) refl (λ e. e) (λ e. let k : Writing ≡ Chosen = sym at.phase ∙ e in absurd (cc))
-grows complete w r n (Chooses i t at m) h = stands r n refl refl (λ e. refl) (λ e. refl) refl (λ e. e) (λ e. refl)
-grows complete w r n (Marks p i at) h = stands r n refl refl (λ e. refl) (λ e. refl) refl (λ e. e) (λ e. e)
+    stands r n refl refl refl (λ e. refl) (λ e. refl) refl (λ e. e) (λ e. let k : Writing ≡ Chosen = sym at.phase ∙ e in absurd (cc))
+grows complete w r n (Chooses i t at m) h = stands r n refl refl refl (λ e. refl) (λ e. refl) refl (λ e. e) (λ e. refl)
+grows complete w r n (Marks p i at) h = stands r n refl refl refl (λ e. refl) (λ e. refl) refl (λ e. e) (λ e. e)
 
 pub hear_grows : CompleteStays → HearGrows
 hear_grows complete r from t h = grows complete (word_of from t) r (after_hear r from t) (hear_is_change r from t) h

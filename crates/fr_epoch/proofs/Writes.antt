@@ -7,7 +7,7 @@ use Rattle.std.proofs.lemmas.Map.Steps.{length-le_from_distinct_below}
 use Rattle.fr_tail.specs.Tail.{TailState, is_complete, seed_for, after_hear as after_peeked}
 use Rattle.fr_epoch.specs.Recoverer.{RecState, Plan, is_written_in, mark_of}
 use Rattle.fr_epoch.specs.Words.{Word, word_of, is_in}
-use Rattle.fr_epoch.specs.Hear.{plan_of, after_hear}
+use Rattle.fr_epoch.specs.Hear.{shape_after, plan_of, after_hear}
 use Rattle.fr_epoch.specs.Change.{replied, Change, Stands, LosesReads, Reads, Finds, Locks, LosesLocks, Plans, Copies, Seeds, SeedsAll, Writes, LosesWrites, Chooses, Marks}
 use Rattle.fr_epoch.specs.Law.{IsRecoverer}
 use Rattle.fr_epoch.specs.WriteLaw.{IsMadeOf, HasMadePlan, AreSeeded, HearKeepsMade, HearKeepsSeeded, WrittenIsSeeded, WriteIsParentExtended, MarkIsChosen, MarksAreOne, SeedIsOfCopied, SeedsAreOne}
@@ -17,6 +17,27 @@ use Rattle.fr_epoch.proofs.Changes.{hear_is_change}
 
 none_made : (r n : RecState) → r.plan ≡ None → n.plan ≡ r.plan → HasMadePlan n
 none_made r n none same p e = let k : None ≡ Some p = sym none ∙ sym same ∙ e in absurd (cc)
+
+-- it stands, and what it comes from
+still : (r n : RecState) → n.shape ≡ r.shape → n.parent ≡ r.parent → n.end ≡ r.end → n.plan ≡ r.plan → HasMadePlan r → HasMadePlan n
+still r n shape parent end plan k q e =
+    let was = k q (sym plan ∙ e) in
+    let is = was.2 in (
+      was.0,
+      was.1,
+      record {
+        parent = parent ∙ is.parent;
+        tally = end ∙ is.tally;
+        covered = is.covered;
+        within = is.within;
+        below = is.below;
+        m = is.m ∙ ap (λ o. (shape_after o was.0.last).m) (sym shape);
+        k = is.k ∙ ap (λ o. (shape_after o was.0.last).k) (sym shape);
+        first = is.first;
+        seeded_to = is.seeded_to;
+        state = is.state;
+      },
+    )
 
 made : (w : Word) (r n : RecState) → Change r w n → IsRecoverer r → HasMadePlan r → HasMadePlan n
 made w r n Stands h k = k
@@ -30,7 +51,7 @@ made w r n (Plans p end i durable known s at is) h k = λ q e. (
       p,
       replied end i durable known,
       subst (λ x. IsMadeOf n x p (replied end i durable known)) d
-          (record { parent = at.parent; tally = refl; covered = is.covered; within = is.within; below = is.below; first = refl; seeded_to = refl; state = is.state }),
+          (record { parent = at.parent; tally = refl; covered = is.covered; within = is.within; below = is.below; m = refl; k = refl; first = refl; seeded_to = refl; state = is.state }),
     ))
 made w r n (Copies parent p i peeked at) h k = λ q e. (
     let t : TailState = after_peeked p.tail i peeked.tag peeked in
@@ -41,14 +62,14 @@ made w r n (Copies parent p i peeked at) h k = λ q e. (
       was.0,
       was.1,
       subst (λ x. IsMadeOf n x was.0 was.1) d
-          (record { parent = is.parent; tally = is.tally; covered = is.covered; within = is.within; below = is.below; first = is.first; seeded_to = is.seeded_to; state = is.state }),
+          (record { parent = is.parent; tally = is.tally; covered = is.covered; within = is.within; below = is.below; m = is.m; k = is.k; first = is.first; seeded_to = is.seeded_to; state = is.state }),
     ))
-made w r n (Seeds p i at l) h k = λ q e. (let was = k q e in let is = was.2 in (was.0, was.1, record { parent = is.parent; tally = is.tally; covered = is.covered; within = is.within; below = is.below; first = is.first; seeded_to = is.seeded_to; state = is.state }))
-made w r n (SeedsAll p i at l) h k = λ q e. (let was = k q e in let is = was.2 in (was.0, was.1, record { parent = is.parent; tally = is.tally; covered = is.covered; within = is.within; below = is.below; first = is.first; seeded_to = is.seeded_to; state = is.state }))
-made w r n (Writes i t at) h k = λ q e. (let was = k q e in let is = was.2 in (was.0, was.1, record { parent = is.parent; tally = is.tally; covered = is.covered; within = is.within; below = is.below; first = is.first; seeded_to = is.seeded_to; state = is.state }))
-made w r n (LosesWrites i t why at) h k = λ q e. (let was = k q e in let is = was.2 in (was.0, was.1, record { parent = is.parent; tally = is.tally; covered = is.covered; within = is.within; below = is.below; first = is.first; seeded_to = is.seeded_to; state = is.state }))
-made w r n (Chooses i t at l) h k = λ q e. (let was = k q e in let is = was.2 in (was.0, was.1, record { parent = is.parent; tally = is.tally; covered = is.covered; within = is.within; below = is.below; first = is.first; seeded_to = is.seeded_to; state = is.state }))
-made w r n (Marks p i at) h k = λ q e. (let was = k q e in let is = was.2 in (was.0, was.1, record { parent = is.parent; tally = is.tally; covered = is.covered; within = is.within; below = is.below; first = is.first; seeded_to = is.seeded_to; state = is.state }))
+made w r n (Seeds p i at l) h k = still r n refl refl refl refl k
+made w r n (SeedsAll p i at l) h k = still r n refl refl refl refl k
+made w r n (Writes i t at) h k = still r n refl refl refl refl k
+made w r n (LosesWrites i t why at) h k = still r n refl refl refl refl k
+made w r n (Chooses i t at l) h k = still r n refl refl refl refl k
+made w r n (Marks p i at) h k = still r n refl refl refl refl k
 
 pub hear_keeps_made : HearKeepsMade
 hear_keeps_made r from t h k = made (word_of from t) r (after_hear r from t) (hear_is_change r from t) h k

@@ -1,5 +1,6 @@
 -- What a recoverer finds in what it read, and what it makes of the replies once they cover.
 use Rattle.std.specs.Prelude.{ℕ, ◌+◌, ◌^◌, nat_lt, nat_le, List, [], map, Option, None, Some, Result, Ok, Err, if◌then◌else◌}
+use Rattle.fr_base.specs.Shape.{ShapeContent}
 use Rattle.fr_base.specs.declared.place.NodeId.{NodeId}
 use Rattle.fr_state.specs.Generations.{LogGeneration, CoordinatedState, last_of}
 use Rattle.fr_state.specs.Order.{extended}
@@ -10,7 +11,7 @@ use Rattle.fr_ask.specs.declared.ask.Ask.{Ask}
 use Rattle.fr_tail.specs.Tail.{new_tail, is_complete}
 use Rattle.fr_epoch.specs.EndTally.{EndState, new_end, responders, pev_of, rv_of}
 use Rattle.fr_epoch.specs.Recoverer.{RecState, Locking, Copying, Parent, Plan}
-use Rattle.fr_epoch.specs.Hear.{lost}
+use Rattle.fr_epoch.specs.Hear.{lost, shape_after}
 use Rattle.fr_epoch.specs.Lists.{lock_ask, unlocked, seed_ask, others, peeks_below}
 use Rattle.fr_epoch.specs.Standing.{plan_in}
 use Rattle.fr_epoch.specs.declared.standing.Draft.{Draft}
@@ -40,35 +41,42 @@ found_asks (Some p) = map (lock_ask p.last.epoch) (unlocked (new_end p.last.m p.
 
 -- ---- the plan
 
--- the generation of a ballot behind a parent's last one, from these replies
-abbrev pub generation_after : ℕ → Parent → EndState → LogGeneration
-generation_after ballot p end = record { epoch = ballot; m = p.last.m; k = p.last.k; first = pev_of end + 1; seeded_to = rv_of end }
+-- the generation of a ballot behind a parent's last one, from these replies: of the shape that is given, or of that one's
+abbrev pub generation_after : ℕ → Option ShapeContent → Parent → EndState → LogGeneration
+generation_after ballot shape p end = record {
+  epoch = ballot;
+  m = (shape_after shape p.last).m;
+  k = (shape_after shape p.last).k;
+  first = pev_of end + 1;
+  seeded_to = rv_of end;
+}
 
-abbrev pub plan_after : ℕ → ℕ → Parent → EndState → CoordinatedState → Plan
-plan_after ballot tags p end s = record {
+-- the copy reads the logs of the parent's last generation, by that one's shape
+abbrev pub plan_after : ℕ → Option ShapeContent → ℕ → Parent → EndState → CoordinatedState → Plan
+plan_after ballot shape tags p end s = record {
   state = s;
-  generation = generation_after ballot p end;
+  generation = generation_after ballot shape p end;
   tail = new_tail tags p.last.m p.last.k (responders end) (pev_of end) (rv_of end);
 }
 
 -- the plan of the state with that generation, or why there is none; extending answers no want of memory
-abbrev pub drafted : ℕ → ℕ → Parent → EndState → Result CoordinatedState StateFault → Result Plan LostWhy
-drafted ballot tags p end (Ok s) = Ok (plan_after ballot tags p end s)
-drafted ballot tags p end (Err fault.NotLater) = Err why.NotLater
-drafted ballot tags p end (Err fault.TooMany) = Err why.TooMany
-drafted ballot tags p end (Err fault.Memory) = Err why.TooMany
+abbrev pub drafted : ℕ → Option ShapeContent → ℕ → Parent → EndState → Result CoordinatedState StateFault → Result Plan LostWhy
+drafted ballot shape tags p end (Ok s) = Ok (plan_after ballot shape tags p end s)
+drafted ballot shape tags p end (Err fault.NotLater) = Err why.NotLater
+drafted ballot shape tags p end (Err fault.TooMany) = Err why.TooMany
+drafted ballot shape tags p end (Err fault.Memory) = Err why.TooMany
 
 -- the first reason why replies that cover give no plan, or the plan
-abbrev pub draft_of : ℕ → ℕ → Parent → EndState → Result Plan LostWhy
-draft_of ballot tags p end =
+abbrev pub draft_of : ℕ → Option ShapeContent → ℕ → Parent → EndState → Result Plan LostWhy
+draft_of ballot shape tags p end =
     if nat_lt (rv_of end) (pev_of end) then Err why.Inconsistent
     else if nat_le (2 ^ 62) (rv_of end + 1) then Err why.Spent
-    else drafted ballot tags p end (extended p.state (generation_after ballot p end))
+    else drafted ballot shape tags p end (extended p.state (generation_after ballot shape p end))
 
 -- the same of a parent that may not be there: then what was read is no state
-abbrev pub draft_in : ℕ → ℕ → Option Parent → EndState → Result Plan LostWhy
-draft_in ballot tags None end = Err why.BadState
-draft_in ballot tags (Some p) end = draft_of ballot tags p end
+abbrev pub draft_in : ℕ → Option ShapeContent → ℕ → Option Parent → EndState → Result Plan LostWhy
+draft_in ballot shape tags None end = Err why.BadState
+draft_in ballot shape tags (Some p) end = draft_of ballot shape tags p end
 
 -- a plan as it is kept
 abbrev pub plan_result : Result Draft LostWhy → Result Plan LostWhy

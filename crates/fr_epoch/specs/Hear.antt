@@ -1,5 +1,6 @@
 -- What a recoverer is after one more tell: first its tallies and its copy absorb it, and then it advances, if it may.
-use Rattle.std.specs.Prelude.{ℕ, ◌+◌, ◌^◌, nat_lt, nat_le, ◌∷◌, [], ◌++◌, length, Option, None, Some, Result, Ok, Err, if◌then◌else◌}
+use Rattle.std.specs.Prelude.{ℕ, ◌+◌, ◌^◌, nat_lt, nat_le, ◌∷◌, [], ◌++◌, length, Option, None, Some, Result, Ok, Err, if◌then◌else◌, unwrap_or}
+use Rattle.fr_base.specs.Shape.{ShapeContent}
 use Rattle.fr_base.specs.declared.place.NodeId.{NodeId}
 use Rattle.fr_register.specs.Tally.{hear_read, hear_write, progress_of}
 use Rattle.fr_register.specs.declared.ask.CellTell.{CellTell}
@@ -79,12 +80,17 @@ after_reads r t poll.Waiting = r
 after_reads r t poll.Majority = with_parent r (reading r.reads.greatest.value)
 after_reads r t (poll.Lost promised) = lost r (why_of t)
 
--- how many logs the next generation has, and on how many of them each tag stands: as in the parent's last generation
+-- the shape of the generation behind another: the one that is given, or that of the one before
+abbrev pub shape_after : Option ShapeContent → LogGeneration → ShapeContent
+shape_after shape g = unwrap_or shape (record { m = g.m; k = g.k })
+
+-- how many logs the next generation has, and on how many of them each tag stands: by the shape that the recoverer was begun with, or as
+-- in the parent's last generation
 abbrev pub next_m : RecState → Parent → ℕ
-next_m r p = p.last.m
+next_m r p = (shape_after r.shape p.last).m
 
 abbrev pub next_k : RecState → Parent → ℕ
-next_k r p = p.last.k
+next_k r p = (shape_after r.shape p.last).k
 
 -- the generation that the recoverer is going to open
 abbrev pub next_generation : RecState → Parent → EndState → LogGeneration

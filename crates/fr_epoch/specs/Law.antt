@@ -23,7 +23,7 @@ abbrev pub HearIsChange : Type 0
 HearIsChange = (r : RecState) (from : NodeId) (t : Tell) → Change r (word_of from t) (after_hear r from t)
 
 -- what each phase has come by
-pub record IsShape (phase : Phase) (parent : Option Parent) (end : Option EndState) (plan : Option Plan) (seeded : List ℕ) : Type 0 where
+pub record HasComeBy (phase : Phase) (parent : Option Parent) (end : Option EndState) (plan : Option Plan) (seeded : List ℕ) : Type 0 where
   pub reading : phase ≡ Reading → parent ≡ None
   pub locking : phase ≡ Locking → plan ≡ None
   pub writing : phase ≡ Writing → is_written_in plan seeded ≡ true
@@ -32,7 +32,7 @@ pub record IsShape (phase : Phase) (parent : Option Parent) (end : Option EndSta
   pub tallied : (p : Parent) → parent ≡ Some p → (e : EndState) × (end ≡ Some e) × (e.m ≡ p.last.m) × (e.k ≡ p.last.k)
 
 abbrev pub IsRecoverer : RecState → Type 0
-IsRecoverer r = IsShape r.phase r.parent r.end r.plan r.seeded
+IsRecoverer r = HasComeBy r.phase r.parent r.end r.plan r.seeded
 
 abbrev pub HearLeavesRecoverer : Type 0
 HearLeavesRecoverer = (r : RecState) (from : NodeId) (t : Tell) → IsRecoverer r → IsRecoverer (after_hear r from t)
@@ -47,6 +47,7 @@ pub record PlanGrows (p q : Plan) : Type 0 where
 pub record RecGrows (r n : RecState) : Type 0 where
   pub ballot : n.ballot ≡ r.ballot
   pub begins : n.begins ≡ r.begins
+  pub shape : n.shape ≡ r.shape
   pub reads : IsSome r.parent → n.reads ≡ r.reads
   pub parent : IsSome r.parent → n.parent ≡ r.parent
   pub plan : (p : Plan) → r.plan ≡ Some p → (q : Plan) × (n.plan ≡ Some q) × PlanGrows p q

@@ -1,5 +1,6 @@
 -- The state of a recoverer.
 use Rattle.std.specs.Prelude.{ℕ, ◌+◌, Bool, false, ◌&&◌, nat_le, List, [], length, Option, None, Some}
+use Rattle.fr_base.specs.Shape.{ShapeContent}
 use Rattle.fr_register.specs.Poll.{ReadState, WriteState}
 use Rattle.fr_register.specs.Tally.{new_read, new_write}
 use Rattle.fr_state.specs.Generations.{LogGeneration, CoordinatedState}
@@ -29,12 +30,13 @@ pub record Plan : Type 0 where
   pub generation : LogGeneration
   pub tail : TailState
 
--- a recoverer: its ballot, where the shards begin, how far it is, its tally of promises, what they told, the replies to its locks from
--- the moment that it has a parent, its plan, the new logs that are seeded, its tally of writes, and the new logs that hold the mark.
--- One that is lost keeps all but its phase
+-- a recoverer: its ballot, where the shards begin, the shape that the next generation is to have where one was given, how far it is, its
+-- tally of promises, what they told, the replies to its locks from the moment that it has a parent, its plan, the new logs that are
+-- seeded, its tally of writes, and the new logs that hold the mark. One that is lost keeps all but its phase
 pub record RecState : Type 0 where
   pub ballot : ℕ
   pub begins : List (List ℕ)
+  pub shape : Option ShapeContent
   pub phase : Phase
   pub reads : ReadState
   pub parent : Option Parent
@@ -45,10 +47,11 @@ pub record RecState : Type 0 where
   pub marked : List ℕ
 
 -- a recoverer that heard nothing, over so many cells
-abbrev pub new_recoverer : ℕ → ℕ → List (List ℕ) → RecState
-new_recoverer ballot cells begins = record {
+abbrev pub new_recoverer : ℕ → ℕ → List (List ℕ) → Option ShapeContent → RecState
+new_recoverer ballot cells begins shape = record {
   ballot = ballot;
   begins = begins;
+  shape = shape;
   phase = Reading;
   reads = new_read cells ballot;
   parent = None;

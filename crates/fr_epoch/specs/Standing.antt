@@ -29,6 +29,7 @@ abbrev pub state_of : Standing → RecState
 state_of s = record {
   ballot = s.epoch;
   begins = s.map;
+  shape = s.shape;
   phase = phase_of s.stage;
   reads = s.reads;
   parent = option_map parent_of s.parent;

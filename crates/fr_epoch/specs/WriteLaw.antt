@@ -14,16 +14,19 @@ use Rattle.fr_state.specs.Spelling.{spelling}
 use Rattle.fr_epoch.specs.EndTally.{EndState, is_covered, pev_of, rv_of}
 use Rattle.fr_epoch.specs.Recoverer.{RecState, Parent, Plan, Chosen, is_copied, is_written}
 use Rattle.fr_epoch.specs.Words.{is_in}
-use Rattle.fr_epoch.specs.Hear.{after_hear}
+use Rattle.fr_epoch.specs.Hear.{shape_after, after_hear}
 use Rattle.fr_epoch.specs.Law.{IsRecoverer, AccountsFor}
 
--- what a plan comes from: the parent and the replies, which cover, and the parent's state with the new generation behind it
+-- what a plan comes from: the parent and the replies, which cover, and the parent's state with the new generation behind it, which has
+-- the shape that the recoverer was begun with, or else that of the parent's last one
 pub record IsMadeOf (r : RecState) (p : Plan) (q : Parent) (e : EndState) : Type 0 where
   pub parent : r.parent ≡ Some q
   pub tally : r.end ≡ Some e
   pub covered : is_covered e ≡ true
   pub within : pev_of e ≤ rv_of e
   pub below : rv_of e + 1 < 2 ^ 62
+  pub m : p.generation.m ≡ (shape_after r.shape q.last).m
+  pub k : p.generation.k ≡ (shape_after r.shape q.last).k
   pub first : p.generation.first ≡ pev_of e + 1
   pub seeded_to : p.generation.seeded_to ≡ rv_of e
   pub state : extended q.state p.generation ≡ Ok p.state

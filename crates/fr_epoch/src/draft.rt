@@ -1,18 +1,21 @@
 //! What a recoverer finds in what it read, and what it makes of the replies once they cover.
 ghost use Rattle.std.specs.Prelude.{◌≡◌, ◌≤◌, ◌+◌, ◌<◌, ◌^◌, true, map, Some, IfOk, IfSome};
 ghost use Rattle.std.specs.Option.{option_map};
+ghost use Rattle.fr_base.specs.Shape.{IsShape};
 ghost use Rattle.fr_state.specs.Generations.{IsGeneration};
 ghost use Rattle.fr_state.specs.Reading.{reading};
 ghost use Rattle.fr_epoch.specs.EndTally.{responders, is_covered, pev_of, rv_of};
+ghost use Rattle.fr_epoch.specs.Hear.{shape_after};
 ghost use Rattle.fr_epoch.specs.Standing.{parent_of, plan_in};
 ghost use Rattle.fr_epoch.specs.Drafting.{parent_read, generation_after, draft_of, plan_result, copy_asks};
 
 use crate::asks::{peeks, seeds};
+use crate::end::EpochEnd;
 use crate::end_tally::EndTally;
 use crate::standing::{Draft, Found};
 use crate::why::LostWhy;
 use fr_ask::Ask;
-use fr_base::{Epoch, Memory, NodeId, Version};
+use fr_base::{Epoch, Memory, NodeId, Shape, Version};
 use fr_register::CellValue;
 use fr_state::{DecodeFault, Generation, StateFault, decode, extend_law, next_law};
 use fr_tags::MAX_SHARDS;
@@ -37,54 +40,58 @@ pub(crate) fn parent_in(alloc: Global, value: &CellValue) -> Result<Option<Found
     }
 }
 
-/// The plan of an epoch behind this parent, once the replies to its locks cover; or the first reason why
-/// there is none.
+/// The plan of an epoch behind this parent, with a generation of this shape or else of the last one's,
+/// once the replies to its locks cover; or the first reason why there is none.
 pub(crate) fn draft(
     alloc: Global,
     epoch: Epoch,
+    shape: Option<Shape>,
     tags: u8,
     found: &Found,
     end: &EndTally,
 ) -> Result<Result<Draft, LostWhy>, Memory>
+    requires shape { IfSome shape IsShape }
     requires tags { tags ≤ MAX_SHARDS }
     requires limits { IsGeneration found.now.last }
     requires covered { is_covered end.now ≡ true }
-    ensures plan { IfOk result (λ drafted. plan_result drafted ≡ draft_of epoch tags (parent_of found.now) end.now) }
+    ensures plan { IfOk result (λ drafted. plan_result drafted ≡ draft_of epoch shape tags (parent_of found.now) end.now) }
     ensures limits { IfOk result (λ drafted. IfOk drafted (λ draft. IsGeneration draft.generation)) }
 {
-    let (pev, rv) = match end.end() {
-        Ok(Some(ends)) => (ends.pev, ends.rv),
+    let ends = match end.end() {
+        Ok(Some(ends)) => ends,
         Ok(None) => unreachable!(),
         Err(_) => return Ok(Err(LostWhy::Inconsistent)),
     };
-    if rv.after().is_none() {
+    if ends.rv.after().is_none() {
         return Ok(Err(LostWhy::Spent));
     }
-    drafted(alloc, epoch, tags, found, end, pev, rv)
+    drafted(alloc, epoch, shape, tags, found, end, ends)
 }
 
-/// The plan from an end that is fixed.
+/// The plan from an end that is fixed. The copy reads the logs of the last generation.
 fn drafted(
     alloc: Global,
     epoch: Epoch,
+    shape: Option<Shape>,
     tags: u8,
     found: &Found,
     end: &EndTally,
-    pev: Version,
-    rv: Version,
+    ends: EpochEnd,
 ) -> Result<Result<Draft, LostWhy>, Memory>
+    requires shape { IfSome shape IsShape }
     requires tags { tags ≤ MAX_SHARDS }
     requires limits { IsGeneration found.now.last }
-    requires pev { pev ≡ pev_of end.now }
-    requires rv { rv ≡ rv_of end.now }
-    requires order { pev ≤ rv }
-    requires room { rv + 1 < 2 ^ 62 }
-    ensures plan { IfOk result (λ drafted. plan_result drafted ≡ draft_of epoch tags (parent_of found.now) end.now) }
+    requires pev { ends.pev ≡ pev_of end.now }
+    requires rv { ends.rv ≡ rv_of end.now }
+    requires order { ends.pev ≤ ends.rv }
+    requires room { ends.rv + 1 < 2 ^ 62 }
+    ensures plan { IfOk result (λ drafted. plan_result drafted ≡ draft_of epoch shape tags (parent_of found.now) end.now) }
     ensures limits { IfOk result (λ drafted. IfOk drafted (λ draft. IsGeneration draft.generation)) }
 {
     extend_law();
     let last = found.last;
-    let generation = generation_of(epoch, last, pev, rv);
+    let EpochEnd { pev, rv } = ends;
+    let generation = generation_of(epoch, shape, last, pev, rv);
     let mut state = found.state.copy()?;
     match state.extend(generation) {
         Ok(()) => {
@@ -102,19 +109,36 @@ fn drafted(
     }
 }
 
-/// The generation of an epoch that starts after `pev` and is seeded through `rv`, with as many logs, and
-/// each tag on as many of them, as the last one.
-fn generation_of(epoch: Epoch, last: Generation, pev: Version, rv: Version) -> Generation
+/// The generation of an epoch that starts after `pev` and is seeded through `rv`, of this shape, or
+/// where none is given of the last one's.
+fn generation_of(
+    epoch: Epoch,
+    shape: Option<Shape>,
+    last: Generation,
+    pev: Version,
+    rv: Version,
+) -> Generation
+    requires shape { IfSome shape IsShape }
     requires limits { IsGeneration last }
     requires order { pev ≤ rv }
     requires room { rv + 1 < 2 ^ 62 }
-    ensures value { result ≡ record { epoch = epoch; m = last.m; k = last.k; first = pev + 1; seeded_to = rv } }
+    ensures value { result ≡ record {
+      epoch = epoch;
+      m = (shape_after shape last).m;
+      k = (shape_after shape last).k;
+      first = pev + 1;
+      seeded_to = rv;
+    } }
     ensures limits { IsGeneration result }
 {
+    let (m, k) = match shape {
+        Some(shape) => (shape.m(), shape.k()),
+        None => (last.m(), last.k()),
+    };
     let Some(first) = pev.after() else {
         unreachable!();
     };
-    match Generation::new(epoch, last.m(), last.k(), first, rv) {
+    match Generation::new(epoch, m, k, first, rv) {
         Some(generation) => generation,
         None => unreachable!(),
     }

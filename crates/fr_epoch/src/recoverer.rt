@@ -12,7 +12,7 @@ use crate::laws::kept_law;
 use crate::phase::{Phase, Stage};
 use crate::standing::{Draft, Found, Standing};
 use fr_ask::{Ask, Tell};
-use fr_base::{Ballot, Memory, NodeId};
+use fr_base::{Ballot, Memory, NodeId, Shape};
 use fr_register::{ReadTally, WriteTally};
 use fr_state::Generation;
 use fr_tags::ShardMap;
@@ -26,7 +26,9 @@ use std::marker::Model;
 /// of the cells holds that, pushes the mark to the new logs. Its asks may be sent again, and what it is
 /// told may come late, repeated or out of order. It is FoundationDB's recovery (Zhou et al., SIGMOD
 /// 2021, section 2.4) over a disk Paxos group of coordinators (Gafni and Lamport, 2003). The next
-/// generation has as many logs, and each tag on as many of them, as the one before.
+/// generation has the shape that the recoverer is begun with, or else that of the one before: how many
+/// logs it has, and on how many of them each tag stands. The locks, and the copy, go by the shape of the
+/// one before, seeds and marks by that of the next.
 #[derive(Debug, Drop)]
 pub struct Recoverer {
     standing: Standing,
@@ -47,20 +49,31 @@ impl Model for Recoverer {
 
 impl Recoverer {
     /// A recoverer that heard nothing, with a ballot other than 0, over this many coordinators' cells,
-    /// of keys that are cut into shards as the map says. It takes no memory; its first asks are those
-    /// pending.
-    pub fn begin(alloc: Global, ballot: Ballot, coordinators: u8, map: ShardMap) -> Self
+    /// of keys that are cut into shards as the map says, to open a generation of this shape, or where
+    /// none is given one of the shape that the one before has. It takes no memory; its first asks are
+    /// those pending.
+    pub fn begin(
+        alloc: Global,
+        ballot: Ballot,
+        coordinators: u8,
+        map: ShardMap,
+        shape: Option<Shape>,
+    ) -> Self
         requires used { ballot ≢ 0 }
-        ensures { result ≡ new_recoverer ballot coordinators map }
+        ensures { result ≡ new_recoverer ballot coordinators map shape }
     {
         let Some(epoch) = ballot.epoch() else {
             unreachable!();
         };
         let _within = epoch.get();
+        if let Some(shape) = shape {
+            let _within = shape.k();
+        }
         Recoverer {
             standing: Standing {
                 epoch,
                 map,
+                shape,
                 stage: Stage::Reading,
                 reads: ReadTally::new(alloc, coordinators, ballot),
                 parent: None,
@@ -196,6 +209,7 @@ impl Standing {
         Ok(Standing {
             epoch: self.epoch,
             map: self.map.copy()?,
+            shape: self.shape,
             stage: self.stage,
             reads: self.reads.copy()?,
             parent: copy_found(&self.parent)?,

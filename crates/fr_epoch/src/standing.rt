@@ -1,7 +1,7 @@
 //! How a recoverer stands.
 use crate::end_tally::EndTally;
 use crate::phase::Stage;
-use fr_base::Epoch;
+use fr_base::{Epoch, Shape};
 use fr_register::{ReadTally, WriteTally};
 use fr_state::{CoordState, Generation};
 use fr_tags::ShardMap;
@@ -23,13 +23,15 @@ pub(crate) struct Draft {
     pub(crate) tail: Tail,
 }
 
-/// How a recoverer stands: its epoch, how the keys are cut into shards, how far it is, its tally of
-/// promises, what they told, the replies to its locks, its plan, the new logs that are seeded, its tally
-/// of writes, and the new logs that hold the mark.
+/// How a recoverer stands: its epoch, how the keys are cut into shards, the shape that the next generation
+/// is to have where one was given, how far it is, its tally of promises, what they told, the replies to
+/// its locks, its plan, the new logs that are seeded, its tally of writes, and the new logs that hold the
+/// mark.
 #[derive(Debug, Drop)]
 pub(crate) struct Standing {
     pub(crate) epoch: Epoch,
     pub(crate) map: ShardMap,
+    pub(crate) shape: Option<Shape>,
     pub(crate) stage: Stage,
     pub(crate) reads: ReadTally,
     pub(crate) parent: Option<Found>,

@@ -1,9 +1,11 @@
 -- The present state of its sender accounts for each ask that was ever sent.
-use Rattle.std.proofs.Common.{◌≡◌, ℕ, nat_lt, List, [], ◌∷◌, Some, inl, inr, refl, sym, ◌∙◌, ap, subst, arith}
+use Rattle.std.proofs.Common.{◌≡◌, ℕ, nat_lt, List, [], ◌∷◌, Option, Some, inl, inr, refl, sym, ◌∙◌, ap, subst, arith}
+use Rattle.std.specs.Prelude.{IfSome}
 use Rattle.std.specs.List.{Contains}
 use Rattle.std.specs.Option.{option_map}
 use Rattle.std.proofs.lemmas.Bool.{and_parts, eq-eqb}
 use Rattle.std.proofs.lemmas.List.Elements.{All-contains}
+use Rattle.fr_base.specs.Shape.{ShapeContent, IsShape}
 use Rattle.fr_base.specs.declared.place.NodeId.{NodeId}
 use Rattle.fr_base.specs.declared.place.NodeId.TheVariants as node
 use Rattle.fr_mutation.specs.declared.mutation.Mutation.{Mutation}
@@ -45,13 +47,13 @@ stays laws c h t run is (node.Storage tag) to a k = k
 
 -- ---- new asks
 
-begun : Laws → (c : Config) (h : List Turn) (b : ℕ) (asks : List Sending) → MayBegin b → asks ≡ rec_asks.pending (new_recoverer b c.cells c.begins) → (to : NodeId) (a : Ask) → Contains asks (to, a)
-    → SenderAccounts c (Begun b asks ∷ h) (node.Recoverer b) to a
-begun laws c h b asks other e to a k = (
-  new_recoverer b c.cells c.begins,
+begun : Laws → (c : Config) (h : List Turn) (b : ℕ) (shape : Option ShapeContent) (asks : List Sending) → MayBegin b → IfSome shape IsShape → asks ≡ rec_asks.pending (new_recoverer b c.cells c.begins shape)
+    → (to : NodeId) (a : Ask) → Contains asks (to, a) → SenderAccounts c (Begun b shape asks ∷ h) (node.Recoverer b) to a
+begun laws c h b shape asks other is e to a k = (
+  new_recoverer b c.cells c.begins shape,
   rw (eq-eqb b b refl) refl,
-  All-contains (λ s. rec_law.AccountsFor (new_recoverer b c.cells c.begins) s.0 s.1) (rec_asks.pending (new_recoverer b c.cells c.begins)) (to, a)
-      (laws.rec_pending (new_recoverer b c.cells c.begins) (new_is c b other).shape) (subst (λ xs. Contains xs (to, a)) e k),
+  All-contains (λ s. rec_law.AccountsFor (new_recoverer b c.cells c.begins shape) s.0 s.1) (rec_asks.pending (new_recoverer b c.cells c.begins shape)) (to, a)
+      (laws.rec_pending (new_recoverer b c.cells c.begins shape) (new_is laws c b shape other is).kept.come_by) (subst (λ xs. Contains xs (to, a)) e k),
 )
 
 rec_heard : Laws → (c : Config) (h : List Turn) → IsRun c h → (b : ℕ) (from : NodeId) (t : Tell) (asks : List Sending) (r : RecState) → rec_at c h b ≡ Some r → asks ≡ rec_asks.new_asks r from t
@@ -60,7 +62,7 @@ rec_heard laws c h run b from t asks r at e to a k = (
   rec.after_hear r from t,
   rw (eq-eqb b b refl) (ap (λ o. option_map (λ s. rec.after_hear s from t) o) at),
   All-contains (λ s. rec_law.AccountsFor (rec.after_hear r from t) s.0 s.1) (rec_asks.new_asks r from t) (to, a)
-      (laws.rec_accounted r from t (rec_is laws c h run b r at).shape) (subst (λ xs. Contains xs (to, a)) e k),
+      (laws.rec_accounted r from t (rec_is laws c h run b r at).kept.come_by) (subst (λ xs. Contains xs (to, a)) e k),
 )
 
 submitted : Laws → (c : Config) (h : List Turn) → IsRun c h → (e p step : ℕ) (batch : List Mutation) (asks : List Sending) → (is : IsTurn c h (Submitted e p step batch asks))
@@ -86,7 +88,7 @@ proxy_heard laws c h run e p from t outcome asks is to a k =
     )
 
 fresh : Laws → (c : Config) (h : List Turn) (t : Turn) → IsRun c h → IsTurn c h t → (to : NodeId) (a : Ask) → Contains (asks_of t) (to, a) → SenderAccounts c (t ∷ h) (actor_of t) to a
-fresh laws c h (Begun b asks) run is to a k = begun laws c h b asks is.1 is.2 to a k
+fresh laws c h (Begun b shape asks) run is to a k = begun laws c h b shape asks is.1 is.2 is.3 to a k
 fresh laws c h (CellTurn from i a t) run is to b k = absurd (none_sent (to, b) k)
 fresh laws c h (LogTurn from e i a t) run is to b k = absurd (none_sent (to, b) k)
 fresh laws c h (SeqTurn from e a t) run is to b k = absurd (none_sent (to, b) k)

@@ -51,7 +51,7 @@ cell_did i a t = record { cell = i; ask = a; tell = t }
 -- the turns of the cells stand, or have one more
 pub cells_by_turn : (c : Config) (h : List Turn) (t : Turn) → IsTurn c h t → (P : List register.Turn → Type 0) → P (cell_turns h)
     → ((from : NodeId) (i : ℕ) (a : CellAsk) (told : CellTell) → t ≡ CellTurn from i a told → IsTurn c h (CellTurn from i a told) → P (cell_did i a told ∷ cell_turns h)) → P (cell_turns (t ∷ h))
-cells_by_turn c h (Begun b asks) is P same takes = same
+cells_by_turn c h (Begun b shape asks) is P same takes = same
 cells_by_turn c h (CellTurn from i a told) is P same takes = takes from i a told refl is
 cells_by_turn c h (LogTurn from e i a t) is P same takes = same
 cells_by_turn c h (SeqTurn from e a t) is P same takes = same
@@ -162,7 +162,7 @@ told_by_cell c (t ∷ h) run i to told (inr k) =
 told_by_cell c (t ∷ h) run i to told (inl k) = now t run.0 k
   where
     now : (t : Turn) → IsTurn c h t → TellsBy t (node.Cell i) to (tell.Cell told) → IsTellOf (t ∷ h) i to told
-    now (Begun b asks) is k = absurd k
+    now (Begun b shape asks) is k = absurd k
     now (CellTurn from j a u) is (at, own, says) =
         let e : j ≡ i = cc in
         let d : u ≡ told = cc in

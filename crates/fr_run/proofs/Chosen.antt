@@ -64,7 +64,7 @@ open_is_chosen laws c h run e op = go (e == first_epoch) refl op
     go true k l = subst (IsChosenEpoch c h) (sym (eqb-true e first_epoch k)) (first_is_chosen c h)
     go false k l =
         let o = opener c h e l in
-        chosen_by laws c h run e o.recoverer o.at o.chosen o.recoverer.plan refl ((rec_is laws c h run e o.recoverer o.at).shape.chosen o.chosen)
+        chosen_by laws c h run e o.recoverer o.at o.chosen o.recoverer.plan refl ((rec_is laws c h run e o.recoverer o.at).kept.come_by.chosen o.chosen)
 
 pub first_is_least : Laws → FirstIsLeast
 first_is_least laws c h run e chosen = laws.start_least c.cells (first_cell c) (parent_at c h) (cell_turns h) (pair_of c h e) (run_has_parents laws c h run) chosen

@@ -1,6 +1,7 @@
 -- At each turn of a run every node that is there grows.
 use Rattle.std.proofs.Common.{◌≡◌, ◌≢◌, ℕ, ◌<◌, ◌≤◌, ◌^◌, Bool, true, false, cond, ◌==◌, ◌||◌, List, [], ◌∷◌, Option, None, Some, refl, sym, ◌∙◌, ap, subst, arith}
 use Rattle.std.specs.Prelude.{IfSome}
+use Rattle.fr_base.specs.Shape.{ShapeContent, IsShape}
 use Rattle.fr_state.specs.Generations.{LogGeneration}
 use Rattle.fr_log.specs.Law.{Grows}
 use Rattle.fr_proxy.specs.Proxy as proxy
@@ -8,7 +9,8 @@ use Rattle.fr_proxy.specs.Law.{ProxyGrows}
 use Rattle.fr_tail.specs.Tail.{is_complete}
 use Rattle.fr_epoch.specs.Recoverer.{RecState, Phase, Plan, Reading, Locking, Copying, Writing, Chosen, Lost, new_recoverer, is_copied_in, is_written_in}
 use Rattle.fr_epoch.specs.Hear as rec
-use Rattle.fr_epoch.specs.Law.{IsRecoverer, RecGrows, PlanGrows}
+use Rattle.fr_epoch.specs.Kept.{IsKept}
+use Rattle.fr_epoch.specs.Law.{RecGrows, PlanGrows}
 use Rattle.fr_run.specs.Config.{Config, first_epoch, first_generation, first_log}
 use Rattle.fr_run.specs.Turn.{Turn}
 use Rattle.fr_run.specs.Nodes.{rec_at, plan_in, plan_at, generation_in, generation_at, is_chosen_phase, is_open_in, is_open, logs_in, logs_at, new_log_in, new_log, log_after, log_from, log_at, proxy_after, proxy_from, new_proxy_in, proxy_at}
@@ -19,28 +21,34 @@ use Rattle.fr_run.proofs.ByTurn.{rec_by_turn, log_by_turn, proxy_by_turn}
 -- ---- recoverers
 
 pub record IsRecOf (b : ℕ) (r : RecState) : Type 0 where
-  pub shape : IsRecoverer r
+  pub kept : IsKept r
   pub ballot : r.ballot ≡ b
   pub other : b ≢ first_epoch
   pub low : 256 ≤ b
   pub high : b < 2 ^ 48
 
-pub new_is : (c : Config) (b : ℕ) → MayBegin b → IsRecOf b (new_recoverer b c.cells c.begins)
-new_is c b may = record {
-  shape = record { reading = λ e. refl; locking = λ e. absurd (cc); writing = λ e. absurd (cc); chosen = λ e. absurd (cc); parentless = λ e. refl; tallied = λ p e. absurd (cc) };
+pub new_is : Laws → (c : Config) (b : ℕ) (shape : Option ShapeContent) → MayBegin b → IfSome shape IsShape → IsRecOf b (new_recoverer b c.cells c.begins shape)
+new_is laws c b shape may is = record {
+  kept = laws.rec_new b c.cells c.begins shape may.1.0 may.1.1 is;
   ballot = refl;
   other = may.0;
   low = may.1.0;
   high = may.1.1;
 }
 
--- each recoverer is sound, and of its ballot
+-- each recoverer is kept as it must be, and of its ballot
 pub recs_are : Laws → (c : Config) (h : List Turn) → IsRun c h → (b : ℕ) → IfSome (rec_at c h b) (IsRecOf b)
 recs_are laws c [] run b = tt
 recs_are laws c (t ∷ h) run b =
-    rec_by_turn c h t run.0 b (λ o. IfSome o (IsRecOf b)) (recs_are laws c h run.1 b) (λ none unused. new_is c b unused) (λ r from tell at told.
+    rec_by_turn c h t run.0 b (λ o. IfSome o (IsRecOf b)) (recs_are laws c h run.1 b) (λ shape none may is. new_is laws c b shape may is) (λ r from tell at told.
     let is : IsRecOf b r = subst (λ o. IfSome o (IsRecOf b)) at (recs_are laws c h run.1 b) in
-    record { shape = laws.rec_leaves r from tell is.shape; ballot = (laws.rec_grows r from tell is.shape).ballot ∙ is.ballot; other = is.other; low = is.low; high = is.high })
+    record {
+      kept = laws.rec_kept r from tell is.kept;
+      ballot = (laws.rec_grows r from tell is.kept.come_by).ballot ∙ is.ballot;
+      other = is.other;
+      low = is.low;
+      high = is.high;
+    })
 
 pub rec_is : Laws → (c : Config) (h : List Turn) → IsRun c h → (b : ℕ) (r : RecState) → rec_at c h b ≡ Some r → IsRecOf b r
 rec_is laws c h run b r at = subst (λ o. IfSome o (IsRecOf b)) at (recs_are laws c h run b)
@@ -49,6 +57,7 @@ grows_itself : (r : RecState) → RecGrows r r
 grows_itself r = record {
   ballot = refl;
   begins = refl;
+  shape = refl;
   reads = λ e. refl;
   parent = λ e. refl;
   plan = λ p e. (p, e, record { state = refl; generation = refl; complete = λ k. refl });
@@ -65,9 +74,9 @@ pub record IsLater (r : RecState) (o : Option RecState) : Type 0 where
 
 pub rec_grows : Laws → (c : Config) (h : List Turn) (t : Turn) → IsRun c h → IsTurn c h t → (b : ℕ) (r : RecState) → rec_at c h b ≡ Some r → IsLater r (rec_at c (t ∷ h) b)
 rec_grows laws c h t run is b r at =
-    rec_by_turn c h t is b (IsLater r) (record { later = r; is = at; grows = grows_itself r }) (λ none unused. let k : None ≡ Some r = sym none ∙ at in absurd (cc))
+    rec_by_turn c h t is b (IsLater r) (record { later = r; is = at; grows = grows_itself r }) (λ shape none unused is. let k : None ≡ Some r = sym none ∙ at in absurd (cc))
     (λ s from tell at' told. let k : Some r ≡ Some s = sym at ∙ at' in let j : r ≡ s = cc in
-    record { later = rec.after_hear s from tell; is = refl; grows = subst (λ x. RecGrows x (rec.after_hear s from tell)) (sym j) (laws.rec_grows s from tell (rec_is laws c h run b s at').shape) })
+    record { later = rec.after_hear s from tell; is = refl; grows = subst (λ x. RecGrows x (rec.after_hear s from tell)) (sym j) (laws.rec_grows s from tell (rec_is laws c h run b s at').kept.come_by) })
 
 -- ---- plans, generations, and which epochs are open
 
@@ -154,7 +163,7 @@ open_generation laws c h run e is = go (e == first_epoch) refl is
     go true first k = record { generation = first_generation c; is = ap (λ s. cond s (Some (first_generation c)) (generation_in (plan_at c h e))) first }
     go false other k =
         let o = opener c h e k in
-        planned o.recoverer o.at o.recoverer.plan refl ((rec_is laws c h run e o.recoverer o.at).shape.chosen o.chosen) other
+        planned o.recoverer o.at o.recoverer.plan refl ((rec_is laws c h run e o.recoverer o.at).kept.come_by.chosen o.chosen) other
 
 -- ---- proxies
 

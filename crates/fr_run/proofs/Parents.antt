@@ -1,13 +1,12 @@
 -- Where the state that a recoverer took over comes from: it is that of the epoch that it ends.
 use Rattle.std.proofs.Common.{◌≡◌, ℕ, ◌<◌, Bool, true, false, cond, ◌==◌, List, [], ◌∷◌, ◌++◌, Option, None, Some, inl, inr, ◌⊎◌, refl, sym, ◌∙◌, ap, subst}
-use Rattle.std.specs.Prelude.{IfSome}
 use Rattle.std.proofs.lemmas.Bool.{eqb-true}
 use Rattle.fr_register.specs.Poll.{Stamped}
 use Rattle.fr_register.specs.Chosen.{IsKept, IsReady}
 use Rattle.fr_state.specs.Generations.{LogGeneration, CoordinatedState, IsCoordinatedState, last_of}
 use Rattle.fr_state.specs.Spelling.{spelling}
-use Rattle.fr_epoch.specs.Recoverer.{RecState, Parent, Plan, new_recoverer, is_written}
-use Rattle.fr_epoch.specs.Law as rec_law
+use Rattle.fr_epoch.specs.Recoverer.{RecState, Parent, Plan, is_written}
+use Rattle.fr_epoch.specs.Law.{IsPlanOf}
 use Rattle.fr_run.specs.Config.{Config, first_epoch, first_generation, first_state, first_cell}
 use Rattle.fr_run.specs.Turn.{Turn, cell_turns}
 use Rattle.fr_run.specs.Nodes.{rec_at, plan_in, plan_at, generation_in, generation_at}
@@ -17,7 +16,6 @@ use Rattle.fr_run.specs.States.{state_of, line_of}
 use Rattle.fr_run.specs.StateLaws.{IsConfig, IsFrontOf, ChosenIsFront}
 use Rattle.fr_run.specs.LineLaws.{IsOfParent, ParentIsOfEpoch, ParentIsPlanned, LineOfPlan}
 use Rattle.fr_run.specs.ParentLaws.{greatest_in, parent_at}
-use Rattle.fr_run.proofs.ByTurn.{rec_by_turn}
 use Rattle.fr_run.proofs.Growth.{rec_is}
 use Rattle.fr_run.proofs.Cells.{cells_have_history, first_within, written_is_state}
 use Rattle.fr_run.proofs.Register.{has_found, parent_is_greatest}
@@ -26,18 +24,9 @@ use Rattle.fr_run.proofs.Chosen.{state_planned, generation_planned}
 
 -- ---- plans
 
-new_has_sound_plan : (c : Config) (b : ℕ) → rec_law.HasSoundPlan (new_recoverer b c.cells c.begins)
-new_has_sound_plan c b p e = absurd (cc)
-
-plans_are : Laws → (c : Config) (h : List Turn) → IsRun c h → (b : ℕ) → IfSome (rec_at c h b) rec_law.HasSoundPlan
-plans_are laws c [] run b = tt
-plans_are laws c (t ∷ h) run b =
-    rec_by_turn c h t run.0 b (λ o. IfSome o rec_law.HasSoundPlan) (plans_are laws c h run.1 b) (λ none unused. new_has_sound_plan c b) (λ r from u at told.
-    laws.rec_plans r from u (subst (λ o. IfSome o rec_law.HasSoundPlan) at (plans_are laws c h run.1 b)))
-
 -- the plan of a ballot is of its epoch
-pub plan_is : Laws → (c : Config) (h : List Turn) → IsRun c h → (b : ℕ) (r : RecState) → rec_at c h b ≡ Some r → (p : Plan) → r.plan ≡ Some p → rec_law.IsPlanOf r.ballot p
-plan_is laws c h run b r at p e = (let k : rec_law.HasSoundPlan r = subst (λ o. IfSome o rec_law.HasSoundPlan) at (plans_are laws c h run b) in k p e)
+pub plan_is : Laws → (c : Config) (h : List Turn) → IsRun c h → (b : ℕ) (r : RecState) → rec_at c h b ≡ Some r → (p : Plan) → r.plan ≡ Some p → IsPlanOf r.ballot p
+plan_is laws c h run b r at p e = (rec_is laws c h run b r at).kept.plan p e
 
 -- ---- where a parent comes from
 

@@ -110,11 +110,11 @@ reads_below laws c h run b r at ph reads k majority = go kept.holds
     kept : IsKept (first_cell c) (cell_turns h) own.found.0 b reads.greatest
     kept = laws.promises_kept (first_cell c) (cell_turns h) own.found.0 b reads.greatest (first_within c) (cells_have_history c h run) turn
 
-    shape : IsRecoverer r
-    shape = (rec_is laws c h run b r at).shape
+    come_by : IsRecoverer r
+    come_by = (rec_is laws c h run b r at).kept.come_by
 
     unwritten : is_written r ≡ true → ⊥
-    unwritten w = not_written r.plan r.seeded (shape.parentless (shape.reading ph)) w
+    unwritten w = not_written r.plan r.seeded (come_by.parentless (come_by.reading ph)) w
 
     own_write : reads.greatest.ballot ≡ b → Contains (cell_turns h) (register.written_turn own.found.0 reads.greatest) → ⊥
     own_write e w =
@@ -139,38 +139,38 @@ still r n q e k = record {
 }
 
 pub no_parent : (r : RecState) → IsRecoverer r → r.phase ≡ Reading → (p : Parent) → r.parent ≡ Some p → ⊥
-no_parent r shape ph p e = let k : None ≡ Some p = sym (shape.reading ph) ∙ e in absurd (cc)
+no_parent r come_by ph p e = let k : None ≡ Some p = sym (come_by.reading ph) ∙ e in absurd (cc)
 
 change : Laws → (c : Config) (h : List Turn) → IsRun c h → (b : ℕ) (from : NodeId) (t : Tell) → Told h from (node.Recoverer b) t → (r : RecState) → rec_at c h b ≡ Some r → IsRecoverer r → HasFound c h b r
     → (n : RecState) → Change r (word_of from t) n → HasFound c h b n
-change laws c h run b from t told r at shape k n Stands = k
-change laws c h run b from t told r at shape k n (LosesReads i u why is) = record {
+change laws c h run b from t told r at come_by k n Stands = k
+change laws c h run b from t told r at come_by k n (LosesReads i u why is) = record {
   reads = reads_more laws c h run b i u r.reads (cell_told h b from t i u told is.word) k.reads;
-  found = λ p e. absurd (no_parent r shape is.phase p e);
-  below = λ p e. absurd (no_parent r shape is.phase p e);
+  found = λ p e. absurd (no_parent r come_by is.phase p e);
+  below = λ p e. absurd (no_parent r come_by is.phase p e);
 }
-change laws c h run b from t told r at shape k n (Reads i u is) = record {
+change laws c h run b from t told r at come_by k n (Reads i u is) = record {
   reads = reads_more laws c h run b i u r.reads (cell_told h b from t i u told is.word) k.reads;
-  found = λ p e. absurd (no_parent r shape is.phase p e);
-  below = λ p e. absurd (no_parent r shape is.phase p e);
+  found = λ p e. absurd (no_parent r come_by is.phase p e);
+  below = λ p e. absurd (no_parent r come_by is.phase p e);
 }
-change laws c h run b from t told r at shape k n (Finds i u s g heard is) =
+change laws c h run b from t told r at come_by k n (Finds i u s g heard is) =
     let reads = reads_more laws c h run b i u r.reads (cell_told h b from t i u told heard.word) k.reads in
     record {
       reads = reads;
       found = λ p e. let d : record { state = s; last = g } ≡ p = cc in subst (λ (x : Parent). IsFound (with_last (with_read r i u) s (Some g)) x.state x.last) d (record { majority = is.majority; value = is.value; last = is.last });
       below = λ p e. reads_below laws c h run b r at heard.phase (hear_read r.reads i u) reads is.majority;
     }
-change laws c h run b from t told r at shape k n (Locks p end i durable known is) = record { reads = k.reads; found = λ q d. still r n q refl (k.found q d); below = k.below }
-change laws c h run b from t told r at shape k n (LosesLocks p end i durable known why is) = record { reads = k.reads; found = λ q d. still r n q refl (k.found q d); below = k.below }
-change laws c h run b from t told r at shape k n (Plans p end i durable known s heard is) = record { reads = k.reads; found = λ q d. still r n q refl (k.found q d); below = k.below }
-change laws c h run b from t told r at shape k n (Copies parent p i peeked is) = record { reads = k.reads; found = λ q d. still r n q refl (k.found q d); below = k.below }
-change laws c h run b from t told r at shape k n (Seeds p i is w) = record { reads = k.reads; found = λ q d. still r n q refl (k.found q d); below = k.below }
-change laws c h run b from t told r at shape k n (SeedsAll p i is w) = record { reads = k.reads; found = λ q d. still r n q refl (k.found q d); below = k.below }
-change laws c h run b from t told r at shape k n (Writes i u is) = record { reads = k.reads; found = λ q d. still r n q refl (k.found q d); below = k.below }
-change laws c h run b from t told r at shape k n (LosesWrites i u why is) = record { reads = k.reads; found = λ q d. still r n q refl (k.found q d); below = k.below }
-change laws c h run b from t told r at shape k n (Chooses i u is m) = record { reads = k.reads; found = λ q d. still r n q refl (k.found q d); below = k.below }
-change laws c h run b from t told r at shape k n (Marks p i is) = record { reads = k.reads; found = λ q d. still r n q refl (k.found q d); below = k.below }
+change laws c h run b from t told r at come_by k n (Locks p end i durable known is) = record { reads = k.reads; found = λ q d. still r n q refl (k.found q d); below = k.below }
+change laws c h run b from t told r at come_by k n (LosesLocks p end i durable known why is) = record { reads = k.reads; found = λ q d. still r n q refl (k.found q d); below = k.below }
+change laws c h run b from t told r at come_by k n (Plans p end i durable known s heard is) = record { reads = k.reads; found = λ q d. still r n q refl (k.found q d); below = k.below }
+change laws c h run b from t told r at come_by k n (Copies parent p i peeked is) = record { reads = k.reads; found = λ q d. still r n q refl (k.found q d); below = k.below }
+change laws c h run b from t told r at come_by k n (Seeds p i is w) = record { reads = k.reads; found = λ q d. still r n q refl (k.found q d); below = k.below }
+change laws c h run b from t told r at come_by k n (SeedsAll p i is w) = record { reads = k.reads; found = λ q d. still r n q refl (k.found q d); below = k.below }
+change laws c h run b from t told r at come_by k n (Writes i u is) = record { reads = k.reads; found = λ q d. still r n q refl (k.found q d); below = k.below }
+change laws c h run b from t told r at come_by k n (LosesWrites i u why is) = record { reads = k.reads; found = λ q d. still r n q refl (k.found q d); below = k.below }
+change laws c h run b from t told r at come_by k n (Chooses i u is m) = record { reads = k.reads; found = λ q d. still r n q refl (k.found q d); below = k.below }
+change laws c h run b from t told r at come_by k n (Marks p i is) = record { reads = k.reads; found = λ q d. still r n q refl (k.found q d); below = k.below }
 
 later : (c : Config) (h : List Turn) (t : Turn) → IsTurn c h t → (b : ℕ) (o : Option RecState) → IfSome o (HasFound c h b) → IfSome o (HasFound c (t ∷ h) b)
 later c h t is b None k = tt
@@ -183,10 +183,10 @@ have_found : Laws → (c : Config) (h : List Turn) → IsRun c h → (b : ℕ) �
 have_found laws c [] run b = tt
 have_found laws c (t ∷ h) run b =
     rec_by_turn c h t run.0 b (λ o. IfSome o (HasFound c (t ∷ h) b)) (later c h t run.0 b (rec_at c h b) (have_found laws c h run.1 b))
-    (λ none unused. record { reads = begun c (t ∷ h) b; found = λ p e. absurd (cc); below = λ p e. absurd (cc) })
+    (λ shape none may is. record { reads = begun c (t ∷ h) b; found = λ p e. absurd (cc); below = λ p e. absurd (cc) })
     (λ r from u at told.
     let k : HasFound c h b r = subst (λ o. IfSome o (HasFound c h b)) at (have_found laws c h run.1 b) in
-    later c h t run.0 b (Some (rec.after_hear r from u)) (change laws c h run.1 b from u told r at (rec_is laws c h run.1 b r at).shape k (rec.after_hear r from u) (laws.rec_change r from u)))
+    later c h t run.0 b (Some (rec.after_hear r from u)) (change laws c h run.1 b from u told r at (rec_is laws c h run.1 b r at).kept.come_by k (rec.after_hear r from u) (laws.rec_change r from u)))
 
 pub has_found : Laws → (c : Config) (h : List Turn) → IsRun c h → (b : ℕ) (r : RecState) → rec_at c h b ≡ Some r → HasFound c h b r
 has_found laws c h run b r at = subst (λ o. IfSome o (HasFound c h b)) at (have_found laws c h run b)
@@ -210,7 +210,7 @@ parent_is_greatest laws c h run b r p at e =
 -- a ballot that may write has a parent
 writer_has_parent : Laws → (c : Config) (h : List Turn) → IsRun c h → (b : ℕ) (r : RecState) → rec_at c h b ≡ Some r → is_written r ≡ true → (o : Option Parent) → r.parent ≡ o
     → IsReady c.cells (first_cell c) (cell_turns h) b (parent_at c h b)
-writer_has_parent laws c h run b r at w None e = absurd (not_written r.plan r.seeded ((rec_is laws c h run b r at).shape.parentless e) w)
+writer_has_parent laws c h run b r at w None e = absurd (not_written r.plan r.seeded ((rec_is laws c h run b r at).kept.come_by.parentless e) w)
 writer_has_parent laws c h run b r at w (Some p) e = parent_is_greatest laws c h run b r p at e
 
 stamped : (p q : Stamped) → p.ballot ≡ q.ballot → p.value ≡ q.value → p ≡ q

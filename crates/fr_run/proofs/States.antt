@@ -1,8 +1,9 @@
 -- The states that recoverers take over and plan, and that the chosen ones are one chain.
-use Rattle.std.proofs.Common.{◌≡◌, ℕ, ◌+◌, ◌<◌, ◌≤◌, ◌^◌, Bool, true, false, cond, ◌==◌, List, [], ◌∷◌, ◌++◌, append-nil, append_assoc, Option, None, Some, inl, inr, refl, sym, ◌∙◌, ap, subst, arith}
+use Rattle.std.proofs.Common.{◌≡◌, ℕ, ◌<◌, Bool, true, false, cond, ◌==◌, List, [], ◌∷◌, ◌++◌, append-nil, append_assoc, Option, None, Some, inl, inr, refl, sym, ◌∙◌, ap, subst, arith}
 use Rattle.std.specs.List.{All, Contains}
 use Rattle.std.specs.Prelude.{IfSome, Ok}
 use Rattle.std.proofs.lemmas.List.Elements.{All-nil, All-push, All-head, All-tail}
+use Rattle.fr_base.specs.Shape.{ShapeContent}
 use Rattle.fr_base.specs.declared.place.NodeId.{NodeId}
 use Rattle.fr_base.specs.declared.place.NodeId.TheVariants as node
 use Rattle.fr_register.specs.declared.poll.Progress.TheVariants.{Majority}
@@ -15,13 +16,13 @@ use Rattle.fr_state.specs.Generations.{LogGeneration, CoordinatedState, IsGenera
 use Rattle.fr_state.specs.Reading.{reading}
 use Rattle.fr_state.specs.Spelling.{spelling}
 use Rattle.fr_ask.specs.declared.tell.Tell.{Tell}
-use Rattle.fr_epoch.specs.EndTally.{EndState, pev_of, rv_of}
 use Rattle.fr_tail.specs.Tail.{after_hear as after_peeked}
 use Rattle.fr_epoch.specs.Recoverer.{RecState, Parent, Plan, Reading, new_recoverer}
 use Rattle.fr_epoch.specs.Hear as rec
 use Rattle.fr_epoch.specs.Hear.{with_lock, next_generation, plan_of}
 use Rattle.fr_epoch.specs.Words.{word_of}
 use Rattle.fr_epoch.specs.Change.{replied, Change, Stands, LosesReads, Reads, Finds, Locks, LosesLocks, Plans, Copies, Seeds, SeedsAll, Writes, LosesWrites, Chooses, Marks}
+use Rattle.fr_epoch.specs.Kept as rec_kept
 use Rattle.fr_epoch.specs.Law.{IsRecoverer}
 use Rattle.fr_run.specs.Config.{Config, first_epoch, first_generation, first_state, first_cell}
 use Rattle.fr_run.specs.Turn.{Turn, Told, cell_turns}
@@ -68,20 +69,6 @@ last_more [] n = refl
 last_more (x ∷ []) n = refl
 last_more (x ∷ y ∷ gens) n = last_more (y ∷ gens) n
 
--- the next generation is within the limits
-next_is : (r : RecState) (p : Parent) (end : EndState) → IsGeneration p.last → 256 ≤ r.ballot → r.ballot < 2 ^ 48 → pev_of end ≤ rv_of end → rv_of end + 1 < 2 ^ 62 → IsGeneration (next_generation r p end)
-next_is r p end k low high le below = record {
-  epoch_low = low;
-  epoch_high = high;
-  k_low = k.k_low;
-  k_high = k.k_high;
-  m_high = k.m_high;
-  first_low = omega arith;
-  first_high = omega (arith, le, below);
-  seeded_to_low = omega (arith, le);
-  seeded_to_high = omega (arith, below);
-}
-
 -- two states with one spelling are one
 pub one_spelling : Laws → (x y : CoordinatedState) → IsCoordinatedState x → IsCoordinatedState y → spelling x ≡ spelling y → x ≡ y
 one_spelling laws x y i j e =
@@ -117,24 +104,24 @@ read_spells laws c h config run all b reads k majority = held_spells laws c h co
 
 -- ---- one more tell
 
-new_has_states : (c : Config) (b : ℕ) → HasStates (new_recoverer b c.cells c.begins)
-new_has_states c b = record { parent = λ p e. absurd (cc); plan = λ q e. absurd (cc) }
+new_has_states : (c : Config) (b : ℕ) (shape : Option ShapeContent) → HasStates (new_recoverer b c.cells c.begins shape)
+new_has_states c b shape = record { parent = λ p e. absurd (cc); plan = λ q e. absurd (cc) }
 
 no_plan : (r : RecState) → IsRecoverer r → r.phase ≡ Reading → (q : Plan) → r.plan ≡ Some q → ⊥
-no_plan r shape ph q e = let k : None ≡ Some q = sym (shape.parentless (shape.reading ph)) ∙ e in absurd (cc)
+no_plan r come_by ph q e = let k : None ≡ Some q = sym (come_by.parentless (come_by.reading ph)) ∙ e in absurd (cc)
 
 change : Laws → (c : Config) (h : List Turn) → IsConfig c → IsRun c h → ((b : ℕ) → IfSome (rec_at c h b) HasStates) → (b : ℕ) (from : NodeId) (t : Tell) → Told h from (node.Recoverer b) t → (r : RecState) → rec_at c h b ≡ Some r → HasStates r
-    → (n : RecState) → Change r (word_of from t) n → HasStates n
-change laws c h config run all b from t told r at k n Stands = k
-change laws c h config run all b from t told r at k n (LosesReads i u why is) = record {
-  parent = λ p e. absurd (no_parent r (rec_is laws c h run b r at).shape is.phase p e);
+    → (n : RecState) → Change r (word_of from t) n → rec_kept.IsKept n → HasStates n
+change laws c h config run all b from t told r at k n Stands kept = k
+change laws c h config run all b from t told r at k n (LosesReads i u why is) kept = record {
+  parent = λ p e. absurd (no_parent r (rec_is laws c h run b r at).kept.come_by is.phase p e);
   plan = k.plan;
 }
-change laws c h config run all b from t told r at k n (Reads i u is) = record {
-  parent = λ p e. absurd (no_parent r (rec_is laws c h run b r at).shape is.phase p e);
+change laws c h config run all b from t told r at k n (Reads i u is) kept = record {
+  parent = λ p e. absurd (no_parent r (rec_is laws c h run b r at).kept.come_by is.phase p e);
   plan = k.plan;
 }
-change laws c h config run all b from t told r at k n (Finds i u s g heard is) =
+change laws c h config run all b from t told r at k n (Finds i u s g heard is) kept =
     let reads = reads_more laws c h run b i u r.reads (cell_told h b from t i u told heard.word) (has_found laws c h run b r at).reads in
     let z = read_spells laws c h config run all b (hear_read r.reads i u) reads is.majority in
     let same : Ok z.state ≡ Ok s = sym (laws.spelled_is_read z.state z.within) ∙ (ap reading (sym z.is) ∙ is.value) in
@@ -143,19 +130,15 @@ change laws c h config run all b from t told r at k n (Finds i u s g heard is) =
       parent = λ p e. (
           let m : record { state = s; last = g } ≡ p = cc in
           subst (λ (x : Parent). IsCoordinatedState x.state × ((hear_read r.reads i u).greatest.value ≡ spelling x.state)) m (subst (λ x. IsCoordinatedState x × ((hear_read r.reads i u).greatest.value ≡ spelling x)) d (z.within, z.is)));
-      plan = λ q e. absurd (no_plan r (rec_is laws c h run b r at).shape heard.phase q e);
+      plan = λ q e. absurd (no_plan r (rec_is laws c h run b r at).kept.come_by heard.phase q e);
     }
-change laws c h config run all b from t told r at k n (Locks p end i durable known is) = record { parent = k.parent; plan = k.plan }
-change laws c h config run all b from t told r at k n (LosesLocks p end i durable known why is) = record { parent = k.parent; plan = k.plan }
-change laws c h config run all b from t told r at k n (Plans p end i durable known s heard is) =
-    let own = rec_is laws c h run b r at in
+change laws c h config run all b from t told r at k n (Locks p end i durable known is) kept = record { parent = k.parent; plan = k.plan }
+change laws c h config run all b from t told r at k n (LosesLocks p end i durable known why is) kept = record { parent = k.parent; plan = k.plan }
+change laws c h config run all b from t told r at k n (Plans p end i durable known s heard is) kept =
     let e = heard.parent in
     let par = k.parent p e in
-    let last : IsGeneration p.last = last_is IsGeneration p.state.gens p.last ((has_found laws c h run b r at).found p e).last par.0.limits in
-    let low : 256 ≤ r.ballot = omega (arith, own.ballot, own.low) in
-    let high : r.ballot < 2 ^ 48 = subst (λ x. x < 2 ^ 48) (sym own.ballot) own.high in
     let m = replied end i durable known in
-    let x = laws.extension p.state s (next_generation r p m) par.0 (next_is r p m last low high is.within is.below) is.state in
+    let x = laws.extension p.state s (next_generation r p m) par.0 (kept.generation (plan_of r p m s) refl) is.state in
     record {
       parent = k.parent;
       plan = λ q d. (
@@ -163,25 +146,26 @@ change laws c h config run all b from t told r at k n (Plans p end i durable kno
           subst (λ (y : Plan). IsCoordinatedState y.state × ((o : Parent) × (r.parent ≡ Some o) × (y.state.gens ≡ o.state.gens ++ y.generation ∷ []))) f
           (x.0, (p, e, ap (λ (y : CoordinatedState). y.gens) x.1)));
     }
-change laws c h config run all b from t told r at k n (Copies parent p i peeked is) = record {
+change laws c h config run all b from t told r at k n (Copies parent p i peeked is) kept = record {
   parent = k.parent;
   plan = λ q d. (
       let m : Plan = record { state = p.state; generation = p.generation; tail = after_peeked p.tail i peeked.tag peeked } in
       let f : m ≡ q = cc in
       subst (λ (y : Plan). IsCoordinatedState y.state × ((o : Parent) × (r.parent ≡ Some o) × (y.state.gens ≡ o.state.gens ++ y.generation ∷ []))) f (k.plan p is.plan));
 }
-change laws c h config run all b from t told r at k n (Seeds p i is w) = record { parent = k.parent; plan = k.plan }
-change laws c h config run all b from t told r at k n (SeedsAll p i is w) = record { parent = k.parent; plan = k.plan }
-change laws c h config run all b from t told r at k n (Writes i u is) = record { parent = k.parent; plan = k.plan }
-change laws c h config run all b from t told r at k n (LosesWrites i u why is) = record { parent = k.parent; plan = k.plan }
-change laws c h config run all b from t told r at k n (Chooses i u is m) = record { parent = k.parent; plan = k.plan }
-change laws c h config run all b from t told r at k n (Marks p i is) = record { parent = k.parent; plan = k.plan }
+change laws c h config run all b from t told r at k n (Seeds p i is w) kept = record { parent = k.parent; plan = k.plan }
+change laws c h config run all b from t told r at k n (SeedsAll p i is w) kept = record { parent = k.parent; plan = k.plan }
+change laws c h config run all b from t told r at k n (Writes i u is) kept = record { parent = k.parent; plan = k.plan }
+change laws c h config run all b from t told r at k n (LosesWrites i u why is) kept = record { parent = k.parent; plan = k.plan }
+change laws c h config run all b from t told r at k n (Chooses i u is m) kept = record { parent = k.parent; plan = k.plan }
+change laws c h config run all b from t told r at k n (Marks p i is) kept = record { parent = k.parent; plan = k.plan }
 
 have_states : Laws → (c : Config) (h : List Turn) → IsConfig c → IsRun c h → (b : ℕ) → IfSome (rec_at c h b) HasStates
 have_states laws c [] config run b = tt
 have_states laws c (t ∷ h) config run b =
-    rec_by_turn c h t run.0 b (λ o. IfSome o HasStates) (have_states laws c h config run.1 b) (λ none may. new_has_states c b) (λ r from u at told.
-    change laws c h config run.1 (have_states laws c h config run.1) b from u told r at (subst (λ o. IfSome o HasStates) at (have_states laws c h config run.1 b)) (rec.after_hear r from u) (laws.rec_change r from u))
+    rec_by_turn c h t run.0 b (λ o. IfSome o HasStates) (have_states laws c h config run.1 b) (λ shape none may is. new_has_states c b shape) (λ r from u at told.
+    change laws c h config run.1 (have_states laws c h config run.1) b from u told r at (subst (λ o. IfSome o HasStates) at (have_states laws c h config run.1 b)) (rec.after_hear r from u) (laws.rec_change r from u)
+    (laws.rec_kept r from u (rec_is laws c h run.1 b r at).kept))
 
 pub recoverers_have_states : Laws → RecoverersHaveStates
 recoverers_have_states laws c h config run b r at = subst (λ o. IfSome o HasStates) at (have_states laws c h config run b)

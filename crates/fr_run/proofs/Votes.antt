@@ -83,22 +83,22 @@ one_more laws c h run b from t told r at k i u is q e =
 
 -- one that writes has a plan
 no_vote : (r : RecState) (w : Word) (i : ℕ) (u : CellTell) → IsRecoverer r → IsVoted r w i u → r.plan ≡ None → ⊥
-no_vote r w i u shape is e = not_written r.plan r.seeded e (shape.writing is.phase)
+no_vote r w i u come_by is e = not_written r.plan r.seeded e (come_by.writing is.phase)
 
 change : Laws → (c : Config) (h : List Turn) → IsRun c h → (b : ℕ) (from : NodeId) (t : Tell) → Told h from (node.Recoverer b) t → (r : RecState) → rec_at c h b ≡ Some r → IsRecoverer r → HasHeardVotes c h b r
     → (n : RecState) → Change r (word_of from t) n → HasHeardVotes c h b n
-change laws c h run b from t told r at shape k n Stands = k
-change laws c h run b from t told r at shape k n (LosesReads i u why is) = record { unplanned = k.unplanned; planned = k.planned; majority = λ e. absurd (cc) }
-change laws c h run b from t told r at shape k n (Reads i u is) = k
-change laws c h run b from t told r at shape k n (Finds i u s g heard is) = record { unplanned = k.unplanned; planned = k.planned; majority = λ e. absurd (cc) }
-change laws c h run b from t told r at shape k n (Locks p end i durable known is) = k
-change laws c h run b from t told r at shape k n (LosesLocks p end i durable known why is) = record { unplanned = k.unplanned; planned = k.planned; majority = λ e. absurd (cc) }
-change laws c h run b from t told r at shape k n (Plans p end i durable known s heard is) = record {
+change laws c h run b from t told r at come_by k n Stands = k
+change laws c h run b from t told r at come_by k n (LosesReads i u why is) = record { unplanned = k.unplanned; planned = k.planned; majority = λ e. absurd (cc) }
+change laws c h run b from t told r at come_by k n (Reads i u is) = k
+change laws c h run b from t told r at come_by k n (Finds i u s g heard is) = record { unplanned = k.unplanned; planned = k.planned; majority = λ e. absurd (cc) }
+change laws c h run b from t told r at come_by k n (Locks p end i durable known is) = k
+change laws c h run b from t told r at come_by k n (LosesLocks p end i durable known why is) = record { unplanned = k.unplanned; planned = k.planned; majority = λ e. absurd (cc) }
+change laws c h run b from t told r at come_by k n (Plans p end i durable known s heard is) = record {
   unplanned = λ e. absurd (cc);
-  planned = λ q e. subst (IsFaithfulWrite c.cells (cell_turns h) (pair_in b q)) (sym (k.unplanned (shape.locking heard.phase))) (laws.new_write c.cells (cell_turns h) (pair_in b q));
+  planned = λ q e. subst (IsFaithfulWrite c.cells (cell_turns h) (pair_in b q)) (sym (k.unplanned (come_by.locking heard.phase))) (laws.new_write c.cells (cell_turns h) (pair_in b q));
   majority = λ e. absurd (cc);
 }
-change laws c h run b from t told r at shape k n (Copies parent p i peeked is) = record {
+change laws c h run b from t told r at come_by k n (Copies parent p i peeked is) = record {
   unplanned = λ e. absurd (cc);
   planned = λ q e. (
       let m : Plan = record { state = p.state; generation = p.generation; tail = after_peeked p.tail i peeked.tag peeked } in
@@ -106,24 +106,24 @@ change laws c h run b from t told r at shape k n (Copies parent p i peeked is) =
       subst (λ (x : Plan). IsFaithfulWrite c.cells (cell_turns h) (pair_in b x) r.writes) d (k.planned p is.plan));
   majority = k.majority;
 }
-change laws c h run b from t told r at shape k n (Seeds p i is w) = k
-change laws c h run b from t told r at shape k n (SeedsAll p i is w) = record { unplanned = k.unplanned; planned = k.planned; majority = λ e. absurd (cc) }
-change laws c h run b from t told r at shape k n (Writes i u is) = record {
-  unplanned = λ e. absurd (no_vote r (word_of from t) i u shape is e);
+change laws c h run b from t told r at come_by k n (Seeds p i is w) = k
+change laws c h run b from t told r at come_by k n (SeedsAll p i is w) = record { unplanned = k.unplanned; planned = k.planned; majority = λ e. absurd (cc) }
+change laws c h run b from t told r at come_by k n (Writes i u is) = record {
+  unplanned = λ e. absurd (no_vote r (word_of from t) i u come_by is e);
   planned = one_more laws c h run b from t told r at k i u is;
   majority = λ e. (let d = sym is.phase ∙ e in absurd (cc));
 }
-change laws c h run b from t told r at shape k n (LosesWrites i u why is) = record {
-  unplanned = λ e. absurd (no_vote r (word_of from t) i u shape is e);
+change laws c h run b from t told r at come_by k n (LosesWrites i u why is) = record {
+  unplanned = λ e. absurd (no_vote r (word_of from t) i u come_by is e);
   planned = one_more laws c h run b from t told r at k i u is;
   majority = λ e. absurd (cc);
 }
-change laws c h run b from t told r at shape k n (Chooses i u is m) = record {
-  unplanned = λ e. absurd (no_vote r (word_of from t) i u shape is e);
+change laws c h run b from t told r at come_by k n (Chooses i u is m) = record {
+  unplanned = λ e. absurd (no_vote r (word_of from t) i u come_by is e);
   planned = one_more laws c h run b from t told r at k i u is;
   majority = λ e. m;
 }
-change laws c h run b from t told r at shape k n (Marks p i is) = k
+change laws c h run b from t told r at come_by k n (Marks p i is) = k
 
 -- ---- runs
 
@@ -140,10 +140,10 @@ have_votes : Laws → (c : Config) (h : List Turn) → IsRun c h → (b : ℕ) �
 have_votes laws c [] run b = tt
 have_votes laws c (t ∷ h) run b =
     rec_by_turn c h t run.0 b (λ o. IfSome o (HasHeardVotes c (t ∷ h) b)) (later laws c h t run.0 b (rec_at c h b) (have_votes laws c h run.1 b))
-    (λ none may. record { unplanned = λ e. refl; planned = λ q e. absurd (cc); majority = λ e. absurd (cc) })
+    (λ shape none may is. record { unplanned = λ e. refl; planned = λ q e. absurd (cc); majority = λ e. absurd (cc) })
     (λ r from u at told.
     let k : HasHeardVotes c h b r = subst (λ o. IfSome o (HasHeardVotes c h b)) at (have_votes laws c h run.1 b) in
-    later laws c h t run.0 b (Some (rec.after_hear r from u)) (change laws c h run.1 b from u told r at (rec_is laws c h run.1 b r at).shape k (rec.after_hear r from u) (laws.rec_change r from u)))
+    later laws c h t run.0 b (Some (rec.after_hear r from u)) (change laws c h run.1 b from u told r at (rec_is laws c h run.1 b r at).kept.come_by k (rec.after_hear r from u) (laws.rec_change r from u)))
 
 -- a recoverer's tally of writes counts cells that took what it plans
 pub has_votes : Laws → (c : Config) (h : List Turn) → IsRun c h → (b : ℕ) (r : RecState) → rec_at c h b ≡ Some r → HasHeardVotes c h b r

@@ -7,7 +7,7 @@ use Rattle.fr_proxy.specs.declared.outcome.Outcome.TheVariants.{Committed}
 use Rattle.fr_run.specs.Turn.{Turn, Sending, Begun, CellTurn, LogTurn, SeqTurn, Submitted, ProxyHeard, RecHeard, StorageHeard, Gone, Crashed}
 
 abbrev pub batches_after : Turn → ℕ → ℕ → List (List Mutation) → List (List Mutation)
-batches_after (Begun b asks) epoch proxy bs = bs
+batches_after (Begun b shape asks) epoch proxy bs = bs
 batches_after (CellTurn from i a t) epoch proxy bs = bs
 batches_after (LogTurn from e i a t) epoch proxy bs = bs
 batches_after (SeqTurn from e a t) epoch proxy bs = bs

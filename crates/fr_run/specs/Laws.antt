@@ -4,6 +4,7 @@ use Rattle.fr_state.specs.Laws as state
 use Rattle.fr_log.specs.Law as log
 use Rattle.fr_proxy.specs.Law as proxy
 use Rattle.fr_proxy.specs.Heard as heard
+use Rattle.fr_epoch.specs.Kept as kept
 use Rattle.fr_epoch.specs.Law as rec
 use Rattle.fr_epoch.specs.WriteLaw as writes
 
@@ -25,8 +26,8 @@ pub record Laws : Type 0 where
   pub ready_descends : register.ReadyDescends
   pub later_descends : register.LaterDescends
   pub rec_change : rec.HearIsChange
-  pub rec_leaves : rec.HearLeavesRecoverer
-  pub rec_plans : rec.HearLeavesPlan
+  pub rec_new : kept.NewIsKept
+  pub rec_kept : kept.HearKeepsKept
   pub rec_grows : rec.HearGrows
   pub rec_pending : rec.PendingIsAccounted
   pub rec_accounted : rec.NewIsAccounted

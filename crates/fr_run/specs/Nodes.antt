@@ -29,7 +29,7 @@ cell_at c h i = register.cell_at (first_cell c) (cell_turns h) i
 
 -- what a turn makes of the recoverer of a ballot
 abbrev pub rec_after : Config → Turn → ℕ → Option RecState → Option RecState
-rec_after c (Begun b asks) ballot r = if b == ballot then Some (new_recoverer b c.cells c.begins) else r
+rec_after c (Begun b shape asks) ballot r = if b == ballot then Some (new_recoverer b c.cells c.begins shape) else r
 rec_after c (CellTurn from i a t) ballot r = r
 rec_after c (LogTurn from e i a t) ballot r = r
 rec_after c (SeqTurn from e a t) ballot r = r
@@ -97,7 +97,7 @@ new_log c h e i = if e == first_epoch then first_log c i else new_log_in (plan_a
 
 -- what a turn makes of a log
 abbrev pub log_after : Turn → ℕ → ℕ → LogState → LogState
-log_after (Begun b asks) epoch index l = l
+log_after (Begun b shape asks) epoch index l = l
 log_after (CellTurn from i a t) epoch index l = l
 log_after (LogTurn from e i a t) epoch index l = if (e == epoch) && (i == index) then log.next_of l a else l
 log_after (SeqTurn from e a t) epoch index l = l
@@ -120,7 +120,7 @@ log_at c h epoch index = log_from (new_log c h epoch index) h epoch index
 -- ---- sequencers and proxies
 
 abbrev pub seq_after : Turn → ℕ → seq.SeqState → seq.SeqState
-seq_after (Begun b asks) epoch s = s
+seq_after (Begun b shape asks) epoch s = s
 seq_after (CellTurn from i a t) epoch s = s
 seq_after (LogTurn from e i a t) epoch s = s
 seq_after (SeqTurn from e a t) epoch s = if e == epoch then seq.next_of s a else s
@@ -145,7 +145,7 @@ abbrev pub seq_at : Config → List Turn → ℕ → seq.SeqState
 seq_at c h epoch = seq_from (seq.new_sequencer epoch (mark_version (generation_at c h epoch))) h epoch
 
 abbrev pub proxy_after : Turn → ℕ → ℕ → proxy.ProxyState → proxy.ProxyState
-proxy_after (Begun b asks) epoch number s = s
+proxy_after (Begun b shape asks) epoch number s = s
 proxy_after (CellTurn from i a t) epoch number s = s
 proxy_after (LogTurn from e i a t) epoch number s = s
 proxy_after (SeqTurn from e a t) epoch number s = s
@@ -198,7 +198,7 @@ storage_hear taken s (node.Log e i) (tell.Log t) = part_hear taken s e t
 storage_hear taken s from t = s
 
 abbrev pub storage_after : Turn → ℕ → StorageState → StorageState
-storage_after (Begun b asks) tag s = s
+storage_after (Begun b shape asks) tag s = s
 storage_after (CellTurn from i a t) tag s = s
 storage_after (LogTurn from e i a t) tag s = s
 storage_after (SeqTurn from e a t) tag s = s

@@ -1,5 +1,6 @@
 -- Which turns may come next, and runs: lists of turns each of which may come after those before it.
-use Rattle.std.specs.Prelude.{◌≡◌, ◌≢◌, ◌⊎◌, ◌<◌, ◌≤◌, ◌^◌, ℕ, true, length, List, [], ◌∷◌, Option, None, Some, IsSome, Contains}
+use Rattle.std.specs.Prelude.{◌≡◌, ◌≢◌, ◌⊎◌, ◌<◌, ◌≤◌, ◌^◌, ℕ, true, length, List, [], ◌∷◌, Option, None, Some, IsSome, IfSome, Contains}
+use Rattle.fr_base.specs.Shape.{IsShape}
 use Rattle.fr_base.specs.declared.place.NodeId.{NodeId}
 use Rattle.fr_base.specs.declared.place.NodeId.TheVariants as node
 use Rattle.fr_register.specs.Cell as cell
@@ -90,8 +91,8 @@ MayBegin b = (b ≢ first_epoch) × ((256 ≤ b) × (b < 2 ^ 48))
 
 -- what is true of a turn that comes after h, by its kind
 abbrev pub IsTurn : Config → List Turn → Turn → Type 0
-IsTurn c h (Begun b asks) =
-    (rec_at c h b ≡ None) × MayBegin b × (asks ≡ rec.pending (new_recoverer b c.cells c.begins))
+IsTurn c h (Begun b shape asks) =
+    (rec_at c h b ≡ None) × MayBegin b × IfSome shape IsShape × (asks ≡ rec.pending (new_recoverer b c.cells c.begins shape))
 IsTurn c h (CellTurn from i a t) = (i < c.cells) × Sent h from (node.Cell i) (ask.Cell a) × (t ≡ cell.answer_of (cell_at c h i) a)
 IsTurn c h (LogTurn from e i a t) =
     IsUp c h (node.Log e i) × (Sent h from (node.Log e i) (ask.Log a) ⊎ StorageMayAsk c h from a) × (t ≡ log.answer_of (log_at c h e i) a) × WantsSome a

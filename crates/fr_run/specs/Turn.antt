@@ -1,5 +1,6 @@
 -- The turns of a world: what happened, with what it gave. A list of turns has the newest first.
 use Rattle.std.specs.Prelude.{◌≡◌, ◌⊎◌, ℕ, List, [], ◌∷◌, Option, Contains}
+use Rattle.fr_base.specs.Shape.{ShapeContent}
 use Rattle.fr_base.specs.declared.place.NodeId.{NodeId}
 use Rattle.fr_base.specs.declared.place.NodeId.TheVariants as node
 use Rattle.fr_mutation.specs.declared.mutation.Mutation.{Mutation}
@@ -21,8 +22,8 @@ abbrev pub Sending : Type 0
 Sending = NodeId × Ask
 
 pub data Turn : Type 0 where
-  -- a recoverer begins
-  Begun : (ballot : ℕ) (asks : List Sending) → Turn
+  -- a recoverer begins, to open a generation of a shape, or where none is given one of the shape that the one before has
+  Begun : (ballot : ℕ) (shape : Option ShapeContent) (asks : List Sending) → Turn
   -- an ask comes to a cell, a log or a sequencer, which tells
   CellTurn : (from : NodeId) (cell : ℕ) (ask : CellAsk) (tell : CellTell) → Turn
   LogTurn : (from : NodeId) (epoch log : ℕ) (ask : LogAsk) (tell : LogTell) → Turn
@@ -40,7 +41,7 @@ pub data Turn : Type 0 where
 
 -- the node whose turn it is
 abbrev pub actor_of : Turn → NodeId
-actor_of (Begun b asks) = node.Recoverer b
+actor_of (Begun b shape asks) = node.Recoverer b
 actor_of (CellTurn from i a t) = node.Cell i
 actor_of (LogTurn from e i a t) = node.Log e i
 actor_of (SeqTurn from e a t) = node.Sequencer e
@@ -53,7 +54,7 @@ actor_of (Crashed who) = who
 
 -- the asks that a turn gave
 abbrev pub asks_of : Turn → List Sending
-asks_of (Begun b asks) = asks
+asks_of (Begun b shape asks) = asks
 asks_of (CellTurn from i a t) = []
 asks_of (LogTurn from e i a t) = []
 asks_of (SeqTurn from e a t) = []
@@ -73,7 +74,7 @@ Sent (t ∷ h) from to a = ((actor_of t ≡ from) × Contains (asks_of t) (to, a
 
 -- a turn told this to a node
 abbrev pub TellsBy : Turn → NodeId → NodeId → Tell → Type 0
-TellsBy (Begun b asks) by to t = ⊥
+TellsBy (Begun b shape asks) by to t = ⊥
 TellsBy (CellTurn from i a told) by to t = (node.Cell i ≡ by) × (from ≡ to) × (tell.Cell told ≡ t)
 TellsBy (LogTurn from e i a told) by to t = (node.Log e i ≡ by) × (from ≡ to) × (tell.Log told ≡ t)
 TellsBy (SeqTurn from e a told) by to t = (node.Sequencer e ≡ by) × (from ≡ to) × (tell.Seq told ≡ t)
@@ -92,7 +93,7 @@ Told (turn ∷ h) by to t = TellsBy turn by to t ⊎ Told h by to t
 -- ---- the turns of the cells, as the register has them
 
 abbrev pub cell_turn : Turn → List register.Turn → List register.Turn
-cell_turn (Begun b asks) ts = ts
+cell_turn (Begun b shape asks) ts = ts
 cell_turn (CellTurn from i a t) ts = record { cell = i; ask = a; tell = t } ∷ ts
 cell_turn (LogTurn from e i a t) ts = ts
 cell_turn (SeqTurn from e a t) ts = ts

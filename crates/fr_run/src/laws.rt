@@ -9,7 +9,7 @@ ghost use Rattle.fr_run.specs.LineLaws.{LineOfPlan, ParentIsOfEpoch, ParentIsPla
 ghost use Rattle.fr_run.specs.ParentLaws.{ParentIsGreatest, ParentIsRead, ParentsDescend, RunHasParents};
 ghost use Rattle.fr_run.specs.StateLaws.{ChosenIsFront, RecoverersHaveStates};
 
-use fr_epoch::laws::{recovery_law, write_law};
+use fr_epoch::laws::{kept_law, recovery_law, write_law};
 use fr_log::laws::{growth_law as log_growth_law, raise_law, tell_law};
 use fr_proxy::{account_law, growth_law as proxy_growth_law, heard_law};
 use fr_register::{answer_law, cell_law, faithful_law, parent_law, register_law};
@@ -32,6 +32,7 @@ pub fn node_laws()
     proxy_growth_law();
     account_law();
     heard_law();
+    kept_law();
     recovery_law();
     write_law();
 }

@@ -105,16 +105,16 @@ same_copy c h r n b a d k = record { begins = b ∙ k.begins; copy = λ p q e f.
 
 change : Laws → (c : Config) (h : List Turn) → IsConfig c → IsRun c h → TellsAreTrue c h → (b : ℕ) (from : NodeId) (t : Tell) → Told h from (node.Recoverer b) t → (r : RecState) → rec_at c h b ≡ Some r → IsRecoverer r → CopiesTrue c h r
     → (n : RecState) → Change r (word_of from t) n → CopiesTrue c h n
-change laws c h config run tells b from t told r at shape k n Stands = k
-change laws c h config run tells b from t told r at shape k n (LosesReads i u why is) = same_copy c h r n refl refl refl k
-change laws c h config run tells b from t told r at shape k n (Reads i u is) = same_copy c h r n refl refl refl k
-change laws c h config run tells b from t told r at shape k n (Finds i u s g heard is) = record {
+change laws c h config run tells b from t told r at come_by k n Stands = k
+change laws c h config run tells b from t told r at come_by k n (LosesReads i u why is) = same_copy c h r n refl refl refl k
+change laws c h config run tells b from t told r at come_by k n (Reads i u is) = same_copy c h r n refl refl refl k
+change laws c h config run tells b from t told r at come_by k n (Finds i u s g heard is) = record {
   begins = k.begins;
-  copy = λ p q e f. absurd (let none : None ≡ Some q = sym (shape.parentless (shape.reading heard.phase)) ∙ f in absurd (cc));
+  copy = λ p q e f. absurd (let none : None ≡ Some q = sym (come_by.parentless (come_by.reading heard.phase)) ∙ f in absurd (cc));
 }
-change laws c h config run tells b from t told r at shape k n (Locks p end i durable known is) = same_copy c h r n refl refl refl k
-change laws c h config run tells b from t told r at shape k n (LosesLocks p end i durable known why is) = same_copy c h r n refl refl refl k
-change laws c h config run tells b from t told r at shape k n (Plans p' end i durable known s heard is) = record {
+change laws c h config run tells b from t told r at come_by k n (Locks p end i durable known is) = same_copy c h r n refl refl refl k
+change laws c h config run tells b from t told r at come_by k n (LosesLocks p end i durable known why is) = same_copy c h r n refl refl refl k
+change laws c h config run tells b from t told r at come_by k n (Plans p' end i durable known s heard is) = record {
   begins = k.begins;
   copy = λ p q e f. (
       let m = replied end i durable known in
@@ -137,7 +137,7 @@ change laws c h config run tells b from t told r at shape k n (Plans p' end i du
   where
     all_stand_at : (r : RecState) → rec_at c h b ≡ Some r → AllStand c h r
     all_stand_at r at = subst (λ o. IfSome o (AllStand c h)) at (all_stand laws.nodes c h run b)
-change laws c h config run tells b from t told r at shape k n (Copies p' q' i peeked is) = record {
+change laws c h config run tells b from t told r at come_by k n (Copies p' q' i peeked is) = record {
   begins = k.begins;
   copy = λ p q e f. (
       let two : Some p' ≡ Some p = sym is.parent_is ∙ e in
@@ -162,12 +162,12 @@ change laws c h config run tells b from t told r at shape k n (Copies p' q' i pe
       let all : CopyIs c h p' m = record { is = copy; of = before.of; reached = omega (arith, ends, limit) } in
       subst (λ x. CopyIs c h x q) same (subst (CopyIs c h p') mine all));
 }
-change laws c h config run tells b from t told r at shape k n (Seeds p i is w) = same_copy c h r n refl refl refl k
-change laws c h config run tells b from t told r at shape k n (SeedsAll p i is w) = same_copy c h r n refl refl refl k
-change laws c h config run tells b from t told r at shape k n (Writes i u is) = same_copy c h r n refl refl refl k
-change laws c h config run tells b from t told r at shape k n (LosesWrites i u why is) = same_copy c h r n refl refl refl k
-change laws c h config run tells b from t told r at shape k n (Chooses i u is m) = same_copy c h r n refl refl refl k
-change laws c h config run tells b from t told r at shape k n (Marks p i is) = same_copy c h r n refl refl refl k
+change laws c h config run tells b from t told r at come_by k n (Seeds p i is w) = same_copy c h r n refl refl refl k
+change laws c h config run tells b from t told r at come_by k n (SeedsAll p i is w) = same_copy c h r n refl refl refl k
+change laws c h config run tells b from t told r at come_by k n (Writes i u is) = same_copy c h r n refl refl refl k
+change laws c h config run tells b from t told r at come_by k n (LosesWrites i u why is) = same_copy c h r n refl refl refl k
+change laws c h config run tells b from t told r at come_by k n (Chooses i u is m) = same_copy c h r n refl refl refl k
+change laws c h config run tells b from t told r at come_by k n (Marks p i is) = same_copy c h r n refl refl refl k
 
 -- ---- later on
 
@@ -199,8 +199,8 @@ lift laws c h t config run is (Some r) k = record { begins = k.begins; copy = λ
 pub copies_next : Laws → (c : Config) (h : List Turn) (t : Turn) → IsConfig c → IsRun c h → IsTurn c h t → TellsAreTrue c h → (b : ℕ) → IfSome (rec_at c h b) (CopiesTrue c h) → IfSome (rec_at c (t ∷ h) b) (CopiesTrue c (t ∷ h))
 copies_next laws c h t config run is tells b k =
     rec_by_turn c h t is b (λ o. IfSome o (CopiesTrue c (t ∷ h))) (lift laws c h t config run is (rec_at c h b) k)
-    (λ none may. record { begins = refl; copy = λ p q e f. absurd (cc) })
+    (λ shape none may is. record { begins = refl; copy = λ p q e f. absurd (cc) })
     (λ r from u at told.
     let before : CopiesTrue c h r = subst (λ o. IfSome o (CopiesTrue c h)) at k in
     lift laws c h t config run is (Some (rec.after_hear r from u))
-    (change laws c h config run tells b from u told r at (rec_is laws.nodes c h run b r at).shape before (rec.after_hear r from u) (laws.nodes.rec_change r from u)))
+    (change laws c h config run tells b from u told r at (rec_is laws.nodes c h run b r at).kept.come_by before (rec.after_hear r from u) (laws.nodes.rec_change r from u)))

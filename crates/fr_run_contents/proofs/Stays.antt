@@ -52,7 +52,7 @@ with_number_adds p (stell.Numbered r prev v) ns = go (is_above v ns)
 with_number_adds p (stell.Refused why) ns = inl refl
 
 adds : (c : Config) (h : List Turn) (t : Turn) → IsTurn c h t → (e : ℕ) → (numbers (t ∷ h) e ≡ numbers h e) ⊎ ((n : Numbering) × Adds c h t e n)
-adds c h (Begun b asks) is e = inl refl
+adds c h (Begun b shape asks) is e = inl refl
 adds c h (CellTurn from i a u) is e = inl refl
 adds c h (LogTurn from x i a u) is e = inl refl
 adds c h (SeqTurn from x (Next p r step) u) is e = go (x == e) refl

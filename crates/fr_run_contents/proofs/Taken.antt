@@ -67,7 +67,7 @@ number_has_batch laws c (t ∷ h) run e n k = now t run.0 (λ m. number_has_batc
     keep t b = record { batch = b.batch; at = batch_stays t h e n.proxy n.request b.batch b.at }
 
     now : (t : Turn) → IsTurn c h t → (Contains (numbers h e) n → HasBatch h e n) → Contains (numbers (t ∷ h) e) n → HasBatch (t ∷ h) e n
-    now (Begun b asks) is old k = keep (Begun b asks) (old k)
+    now (Begun b shape asks) is old k = keep (Begun b shape asks) (old k)
     now (CellTurn from i a u) is old k = keep (CellTurn from i a u) (old k)
     now (LogTurn from x i a u) is old k = keep (LogTurn from x i a u) (old k)
     now (SeqTurn from x (Next p r step) u) is old k = go (x == e) refl k

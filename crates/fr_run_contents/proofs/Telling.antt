@@ -104,7 +104,7 @@ tells_next laws c h t config run is parts tells e i to peeked (inr k) = tell_las
 tells_next laws c h t config run is parts tells e i to peeked (inl k) = tell_lasts laws c h t config run is e i peeked (now t is k)
   where
     now : (t : Turn) → IsTurn c h t → TellsBy t (node.Log e i) to (tell.Log (ltell.Peeked peeked)) → IsTrueTell c h e i peeked
-    now (Begun b asks) is k = absurd k
+    now (Begun b shape asks) is k = absurd k
     now (CellTurn from j a v) is (at, own, same) = let d : node.Cell j ≡ node.Log e i = at in absurd (cc)
     now (LogTurn from x j a v) is (at, own, same) =
         let d : x ≡ e = cc in

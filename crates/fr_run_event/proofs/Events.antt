@@ -161,12 +161,12 @@ same_event : (c : Config) (h : List Turn) (s t : Turn) → s ≡ t → IsEventOf
 same_event c h s t e k = subst (IsEventOf c h) e k
 
 pub turn_is_event : TurnIsEvent
-turn_is_event c h (Begun b asks) run k =
-    same_event c h (Begun b (rec.pending (new_recoverer b c.cells c.begins))) (Begun b asks) (ap (λ x. Begun b x) (sym k.2))
+turn_is_event c h (Begun b shape asks) run k =
+    same_event c h (Begun b shape (rec.pending (new_recoverer b c.cells c.begins shape))) (Begun b shape asks) (ap (λ x. Begun b shape x) (sym k.3))
     (record {
-      event = Begin b;
-      limits = (limits_of b k.1.1.0, k.1.1.1);
-      turn = unless_used (is_used c h b) (Begun b (rec.pending (new_recoverer b c.cells c.begins))) (not_used c h b k.0 k.1.0 k.1.1.0);
+      event = Begin b shape;
+      limits = (limits_of b k.1.1.0, k.1.1.1, k.2);
+      turn = unless_used (is_used c h b) (Begun b shape (rec.pending (new_recoverer b c.cells c.begins shape))) (not_used c h b k.0 k.1.0 k.1.1.0);
     })
 turn_is_event c h (CellTurn from i a t) run k =
     same_event c h (CellTurn from i a (cell.answer_of (cell_at c h i) a)) (CellTurn from i a t) (ap (λ x. CellTurn from i a x) (sym k.2))

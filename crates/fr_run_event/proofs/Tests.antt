@@ -88,7 +88,7 @@ parts_told who by from to told u k =
     (both' (is_same_node from to) (is_same_tell told u) (same_nodes from to k.1) (same_tells told u k.2))
 
 told_by : (t : Turn) (by to : NodeId) (u : Tell) → tells by to u t ≡ true → TellsBy t by to u
-told_by (Begun b asks) by to u e = absurd (cc)
+told_by (Begun b shape asks) by to u e = absurd (cc)
 told_by (CellTurn from i a told) by to u e = told_parts (node.Cell i) by from to (tell.Cell told) u e
 told_by (LogTurn from x i a told) by to u e = told_parts (node.Log x i) by from to (tell.Log told) u e
 told_by (SeqTurn from x a told) by to u e = told_parts (node.Sequencer x) by from to (tell.Seq told) u e
@@ -100,7 +100,7 @@ told_by (Gone who) by to u e = absurd (cc)
 told_by (Crashed who) by to u e = absurd (cc)
 
 by_told : (t : Turn) (by to : NodeId) (u : Tell) → TellsBy t by to u → tells by to u t ≡ true
-by_told (Begun b asks) by to u k = absurd k
+by_told (Begun b shape asks) by to u k = absurd k
 by_told (CellTurn from i a told) by to u k = parts_told (node.Cell i) by from to (tell.Cell told) u k
 by_told (LogTurn from x i a told) by to u k = parts_told (node.Log x i) by from to (tell.Log told) u k
 by_told (SeqTurn from x a told) by to u k = parts_told (node.Sequencer x) by from to (tell.Seq told) u k
@@ -130,7 +130,7 @@ gone_is (t ∷ h) who k = elim (Contains-cases t h (Gone who) k) [
 ]
 
 went : (who : NodeId) (t : Turn) → goes who t ≡ true → t ≡ Gone who
-went who (Begun b asks) e = absurd (cc)
+went who (Begun b shape asks) e = absurd (cc)
 went who (CellTurn from i a told) e = absurd (cc)
 went who (LogTurn from x i a told) e = absurd (cc)
 went who (SeqTurn from x a told) e = absurd (cc)

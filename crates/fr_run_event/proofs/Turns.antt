@@ -1,7 +1,8 @@
 -- The turn that an event is may come next.
 use Rattle.std.proofs.Common.{◌≡◌, ◌≢◌, ℕ, ◌<◌, ◌≤◌, ◌^◌, Bool, true, false, cond, not, ◌==◌, ◌&&◌, ◌||◌, List, [], ◌∷◌, Option, None, Some, inl, inr, ◌⊎◌, refl, sym, ◌∙◌, subst}
-use Rattle.std.specs.Prelude.{IsSome, is_some, Result, Ok, Err}
+use Rattle.std.specs.Prelude.{IsSome, IfSome, is_some, Result, Ok, Err}
 use Rattle.std.proofs.lemmas.Bool.{and_parts, or_parts, eqb-true, eqb-false, ltb-true}
+use Rattle.fr_base.specs.Shape.{ShapeContent, IsShape}
 use Rattle.fr_base.specs.declared.place.NodeId.{NodeId}
 use Rattle.fr_base.specs.declared.place.NodeId.TheVariants as node
 use Rattle.fr_mutation.specs.declared.mutation.Mutation.{Mutation}
@@ -159,22 +160,22 @@ crash c h (node.Proxy x p) t up e = made c h (Gone (node.Proxy x p)) t (up, tt) 
 crash c h (node.Recoverer b) t up e = made c h (Gone (node.Recoverer b)) t (up, tt) e
 crash c h (node.Storage tag) t up e = made c h (Crashed (node.Storage tag)) t (up, tt) e
 
-begin : (c : Config) (h : List Turn) (b : ℕ) (t : Turn) → (b ≢ 0 → 256 ≤ b) × (b < 2 ^ 48) → begun c h b ≡ Ok t → IsTurn c h t
-begin c h b t l e = go (is_used c h b) refl e
+begin : (c : Config) (h : List Turn) (b : ℕ) (shape : Option ShapeContent) (t : Turn) → (b ≢ 0 → 256 ≤ b) × (b < 2 ^ 48) × IfSome shape IsShape → begun c h b shape ≡ Ok t → IsTurn c h t
+begin c h b shape t l e = go (is_used c h b) refl e
   where
     none : (o : Option RecState) → is_some o ≡ false → o ≡ None
     none None k = refl
     none (Some r) k = absurd (cc)
 
-    go : (s : Bool) → is_used c h b ≡ s → cond s (Err not_enabled.BallotUsed) (Ok (Begun b (rec.pending (new_recoverer b c.cells c.begins)))) ≡ Ok t → IsTurn c h t
+    go : (s : Bool) → is_used c h b ≡ s → cond s (Err not_enabled.BallotUsed) (Ok (Begun b shape (rec.pending (new_recoverer b c.cells c.begins shape)))) ≡ Ok t → IsTurn c h t
     go true k e = absurd (cc)
     go false k e =
         let p = or_parts (is_some (rec_at c h b)) ((b == first_epoch) || (b == 0)) k in
         let q = or_parts (b == first_epoch) (b == 0) p.1 in
-        made c h (Begun b (rec.pending (new_recoverer b c.cells c.begins))) t (none (rec_at c h b) p.0, (eqb-false b first_epoch q.0, (l.0 (eqb-false b 0 q.1), l.1)), refl) e
+        made c h (Begun b shape (rec.pending (new_recoverer b c.cells c.begins shape))) t (none (rec_at c h b) p.0, (eqb-false b first_epoch q.0, (l.0 (eqb-false b 0 q.1), l.1)), l.2, refl) e
 
 pub event_is_turn : EventIsTurn
-event_is_turn c h (Begin b) t l e = begin c h b t l e
+event_is_turn c h (Begin b shape) t l e = begin c h b shape t l e
 event_is_turn c h (Deliver from to a) t l e = (let k = up_is c h to (delivered c h from to a) t e in deliver c h from to a t l k.up k.turn)
 event_is_turn c h (Hear by from u taken) t l e =
     (let k = up_is c h by (if_told (was_told h from by u) (heard_by c h by from u taken)) t e in hear_told c h by from u taken t (was_told h from by u) refl k.up k.turn)

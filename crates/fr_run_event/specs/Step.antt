@@ -1,5 +1,6 @@
 -- What an event makes of a world, or why it cannot happen; and a list of events from the start.
 use Rattle.std.specs.Prelude.{ℕ, ◌+◌, Bool, ◌==◌, ◌&&◌, ◌||◌, not, is_some, List, [], ◌∷◌, Option, None, Some, Result, Ok, Err, if◌then◌else◌}
+use Rattle.fr_base.specs.Shape.{ShapeContent}
 use Rattle.fr_base.specs.declared.place.NodeId.{NodeId}
 use Rattle.fr_base.specs.declared.place.NodeId.TheVariants as node
 use Rattle.fr_mutation.specs.declared.mutation.Mutation.{Mutation}
@@ -107,12 +108,12 @@ crashed (node.Storage t) = Crashed (node.Storage t)
 abbrev pub is_used : Config → List Turn → ℕ → Bool
 is_used c h b = is_some (rec_at c h b) || ((b == first_epoch) || (b == 0))
 
-abbrev pub begun : Config → List Turn → ℕ → Result Turn NotEnabled
-begun c h b = if is_used c h b then Err not_enabled.BallotUsed else Ok (Begun b (rec.pending (new_recoverer b c.cells c.begins)))
+abbrev pub begun : Config → List Turn → ℕ → Option ShapeContent → Result Turn NotEnabled
+begun c h b shape = if is_used c h b then Err not_enabled.BallotUsed else Ok (Begun b shape (rec.pending (new_recoverer b c.cells c.begins shape)))
 
 -- the turn that an event is, or why it cannot happen
 abbrev pub turn_of : Config → List Turn → Event → Result Turn NotEnabled
-turn_of c h (Begin b) = begun c h b
+turn_of c h (Begin b shape) = begun c h b shape
 turn_of c h (Deliver from to a) = if_up c h to (delivered c h from to a)
 turn_of c h (Hear by from t taken) = if_up c h by (if_told (was_told h from by t) (heard_by c h by from t taken))
 turn_of c h (Submit e p step batch) = if_up c h (node.Proxy e p) (submitted (proxy_at c h e p) e p step batch)
@@ -127,7 +128,7 @@ fault_answer (Some fault) = answer.Refused fault
 
 -- what a turn answers
 abbrev pub answer_of : Turn → Answer
-answer_of (Begun b asks) = answer.Done
+answer_of (Begun b shape asks) = answer.Done
 answer_of (CellTurn from i a t) = answer.Told (tell.Cell t)
 answer_of (LogTurn from e i a t) = answer.Told (tell.Log t)
 answer_of (SeqTurn from e a t) = answer.Told (tell.Seq t)

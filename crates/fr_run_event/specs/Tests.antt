@@ -15,7 +15,7 @@ use Rattle.fr_run.specs.Turn.{Turn, Sending, Begun, CellTurn, LogTurn, SeqTurn, 
 
 -- whether a turn took a node away
 abbrev pub goes : NodeId → Turn → Bool
-goes who (Begun b asks) = false
+goes who (Begun b shape asks) = false
 goes who (CellTurn from i a t) = false
 goes who (LogTurn from e i a t) = false
 goes who (SeqTurn from e a t) = false
@@ -42,7 +42,7 @@ abbrev pub was_sent : List Turn → NodeId → NodeId → Ask → Bool
 was_sent h from to a = list_any (gives from to a) h
 
 abbrev pub tells : NodeId → NodeId → Tell → Turn → Bool
-tells by to t (Begun b asks) = false
+tells by to t (Begun b shape asks) = false
 tells by to t (CellTurn from i a told) = is_same_node (node.Cell i) by && (is_same_node from to && is_same_tell (tell.Cell told) t)
 tells by to t (LogTurn from e i a told) = is_same_node (node.Log e i) by && (is_same_node from to && is_same_tell (tell.Log told) t)
 tells by to t (SeqTurn from e a told) = is_same_node (node.Sequencer e) by && (is_same_node from to && is_same_tell (tell.Seq told) t)

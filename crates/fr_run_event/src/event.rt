@@ -3,15 +3,17 @@ ghost use Rattle.std.specs.Prelude.{◌≡◌, IfOk};
 ghost use Rattle.fr_run_event.specs.Limits.{HasLimits, node_of};
 
 use fr_ask::{Ask, Tell};
-use fr_base::{Ballot, Epoch, LogId, Memory, NodeId, Step, Version};
+use fr_base::{Ballot, Epoch, LogId, Memory, NodeId, Shape, Step, Version};
 use fr_mutation::Batch;
 
 /// What may happen in a world: one event is one turn of one node.
 #[derive(Debug, Drop)]
 pub enum Event {
-    /// The recoverer of a ballot begins. No ballot is used twice.
+    /// The recoverer of a ballot begins, to open a generation of this shape, or where none is given one of the
+    /// shape that the one before has. No ballot is used twice.
     Begin {
         ballot: Ballot,
+        shape: Option<Shape>,
     },
     /// An ask comes to a cell, a log or a sequencer, which tells. An ask that was sent may come late, again, or
     /// never.
@@ -52,8 +54,11 @@ impl Event {
         ensures within { HasLimits self.now }
     {
         match self {
-            Event::Begin { ballot } => {
+            Event::Begin { ballot, shape } => {
                 let _within = ballot.get();
+                if let Some(shape) = shape {
+                    let _within = shape.k();
+                }
                 NodeId::Recoverer { ballot: *ballot }
             }
             Event::Deliver { to, ask, .. } => {
@@ -88,7 +93,10 @@ impl Event {
         ensures equal { IfOk result (λ event. event ≡ self.now) }
     {
         Ok(match self {
-            Event::Begin { ballot } => Event::Begin { ballot: *ballot },
+            Event::Begin { ballot, shape } => Event::Begin {
+                ballot: *ballot,
+                shape: *shape,
+            },
             Event::Deliver { from, to, ask } => Event::Deliver {
                 from: *from,
                 to: *to,

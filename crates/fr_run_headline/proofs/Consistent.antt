@@ -181,7 +181,7 @@ pub never_inconsistent : Laws → NeverInconsistent
 never_inconsistent laws c [] run b r at = absurd (let d : None ≡ Some r = at in cc)
 never_inconsistent laws c (t ∷ h) run b n at = rec_by_turn c h t run.0 b (λ o. o ≡ Some n → n.phase ≢ Lost why.Inconsistent)
     (λ before. never_inconsistent laws c h run.1 b n before)
-    (λ none may is k. absurd (let first : new_recoverer b c.cells c.begins ≡ n = cc in let d = ap (λ (x : RecState). x.phase) first ∙ k in cc))
+    (λ shape none may shaped is k. absurd (let first : new_recoverer b c.cells c.begins shape ≡ n = cc in let d = ap (λ (x : RecState). x.phase) first ∙ k in cc))
     (λ r from u before told is k. (
     let same : after_hear r from u ≡ n = cc in
     let odds = subst AreAtOdds same (hear_odds r (word_of from u) (never_inconsistent laws c h run.1 b r before) (ap (λ (x : RecState). x.phase) same ∙ k)) in

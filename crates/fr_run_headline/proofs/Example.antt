@@ -37,7 +37,7 @@ use Rattle.fr_run_headline.specs.Example.{RollbackHappens}
 
 -- whether a turn says that a node is gone
 abbrev says_gone : Turn → NodeId → Bool
-says_gone (Begun b asks) who = false
+says_gone (Begun b shape asks) who = false
 says_gone (CellTurn from i a t) who = false
 says_gone (LogTurn from e i a t) who = false
 says_gone (SeqTurn from e a t) who = false
@@ -115,7 +115,7 @@ abbrev pub later : CoordinatedState
 later = record { gens = record { epoch = 257; m = 2; k = 2; first = 1; seeded_to = 0 } ∷ record { epoch = 513; m = 2; k = 2; first = 1; seeded_to = 2 } ∷ [] }
 
 abbrev pub got : Option RecState → RecState
-got o = unwrap_or o (new_recoverer 513 1 ([] ∷ []))
+got o = unwrap_or o (new_recoverer 513 1 ([] ∷ []) None)
 
 abbrev h0 : List Turn
 h0 = []
@@ -261,14 +261,14 @@ unfolding row generation_at is_within
 turn14 = ((record { there = refl; up = λ k. none_gone h13 (node.Log 257 0) refl k }), tt)
 
 abbrev t15 : Turn
-t15 = Begun 513 ((node.Cell 0, ask.Cell (Read 513)) ∷ [])
+t15 = Begun 513 None ((node.Cell 0, ask.Cell (Read 513)) ∷ [])
 
 abbrev h15 : List Turn
 h15 = t15 ∷ h14
 
 turn15 : IsTurn c h14 t15
 unfolding row generation_at is_within
-turn15 = (refl, ((λ e. absurd (omega (arith, e))), (omega arith, omega arith)), refl)
+turn15 = (refl, ((λ e. absurd (omega (arith, e))), (omega arith, omega arith)), tt, refl)
 
 abbrev t16 : Turn
 t16 = CellTurn (node.Recoverer 513) 0 (Read 513) (Promise 257 (spelling first))

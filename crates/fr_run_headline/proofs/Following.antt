@@ -149,7 +149,7 @@ hears laws c h config run tag inside s k (node.Storage u) t told taken may = sta
 -- ---- all turns
 
 step : Laws → (c : Config) (h : List Turn) (t : Turn) → IsConfig c → IsRun c h → IsTurn c h t → (tag : ℕ) → IsStorageOf c h tag (storage_at c h tag) → Moves c h tag (storage_at c h tag) (storage_after t tag (storage_at c h tag))
-step laws c h (Begun b asks) config run is tag k = stands c h tag (storage_at c h tag) k
+step laws c h (Begun b shape asks) config run is tag k = stands c h tag (storage_at c h tag) k
 step laws c h (CellTurn from i a u) config run is tag k = stands c h tag (storage_at c h tag) k
 step laws c h (LogTurn from x i a u) config run is tag k = stands c h tag (storage_at c h tag) k
 step laws c h (SeqTurn from x a u) config run is tag k = stands c h tag (storage_at c h tag) k

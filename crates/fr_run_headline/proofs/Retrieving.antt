@@ -62,7 +62,7 @@ lost_stays (node.Recoverer b) e logs i k = k
 lost_stays (node.Storage t) e logs i k = k
 
 lost_on : (t : Turn) (e : ℕ) (logs : List ℕ) (i : ℕ) → Contains logs i → Contains (lost_after t e logs) i
-lost_on (Begun b asks) e logs i k = k
+lost_on (Begun b shape asks) e logs i k = k
 lost_on (CellTurn from j a u) e logs i k = k
 lost_on (LogTurn from x j a u) e logs i k = k
 lost_on (SeqTurn from x a u) e logs i k = k

@@ -5,7 +5,7 @@ use Rattle.fr_base.specs.declared.place.NodeId.TheVariants as node
 use Rattle.fr_mutation.specs.declared.mutation.Mutation.{Mutation}
 use Rattle.fr_run.specs.Config.{Config}
 use Rattle.fr_run.specs.Turn.{Turn, Gone}
-use Rattle.fr_run.specs.Nodes.{is_open}
+use Rattle.fr_run.specs.Nodes.{is_open, logs_at}
 use Rattle.fr_run.specs.Run.{IsRun}
 use Rattle.fr_run.specs.StateLaws.{IsConfig}
 use Rattle.fr_run_contents.specs.Issued.{committed}
@@ -26,7 +26,7 @@ pub record RollbackHappens : Type 0 where
   pub acknowledged : IsAcknowledgedBatch config run 257 2 batch
 
 -- the same run, with another recovery in place of the rollback: a batch was acknowledged at version 2 of epoch 257, a log was lost, the epochs 513 and 769 were opened one
--- after the other, and by the last one the batch stands in the committed list at its version
+-- after the other, the last one with three logs in place of two, and by it the batch stands in the committed list at its version
 pub record SurvivesTwoRecoveries : Type 0 where
   pub config : Config
   pub run : List Turn
@@ -36,4 +36,6 @@ pub record SurvivesTwoRecoveries : Type 0 where
   pub acknowledged : IsAcknowledgedBatch config run 257 2 batch
   pub first : is_open config run 513 ≡ true
   pub second : is_open config run 769 ≡ true
+  pub two : logs_at config run 513 ≡ 2
+  pub three : logs_at config run 769 ≡ 3
   pub stands : Contains (committed config run 769) (commit_at 257 2 batch)

@@ -27,7 +27,7 @@ lost_with (node.Recoverer b) epoch logs = logs
 lost_with (node.Storage t) epoch logs = logs
 
 abbrev pub lost_after : Turn → ℕ → List ℕ → List ℕ
-lost_after (Begun b asks) epoch logs = logs
+lost_after (Begun b shape asks) epoch logs = logs
 lost_after (CellTurn from i a t) epoch logs = logs
 lost_after (LogTurn from e i a t) epoch logs = logs
 lost_after (SeqTurn from e a t) epoch logs = logs

@@ -145,7 +145,7 @@ pub fn safety_law()
 
 /// The theorem says something: there is a run in which a batch is acknowledged, a storage server runs ahead of what
 /// survives, one of two logs is lost, and the storage server rolls back by one version. And there is a run in which an
-/// acknowledged batch survives two recoveries.
+/// acknowledged batch survives two recoveries, the second one to another number of logs.
 pub fn example_law()
     ensures rollback { RollbackHappens }
     ensures survives { SurvivesTwoRecoveries }

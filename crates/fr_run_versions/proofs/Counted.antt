@@ -58,7 +58,7 @@ counted_next base s ns k c p r step l = go (is_of r (get s.given p))
     go false = unless (new_refusal s (get s.given p) r step) refl
 
 turn : Laws → (c : Config) (h : List Turn) (t : Turn) → IsRun c h → IsTurn c h t → (e : ℕ) → is_open c h e ≡ true → IsCounted (seq_at c h e) (numbers h e) → IsCounted (seq_after t e (seq_at c h e)) (numbers_after t e (numbers h e))
-turn laws c h (Begun b asks) run is e op k = k
+turn laws c h (Begun b shape asks) run is e op k = k
 turn laws c h (CellTurn from i a t) run is e op k = k
 turn laws c h (LogTurn from x i a t) run is e op k = k
 turn laws c h (SeqTurn from x (Next p r step) t) run is e op k = go (x == e) refl

@@ -34,38 +34,38 @@ abbrev HasEnd : RecState → Type 0
 HasEnd r = (q : Plan) → r.plan ≡ Some q → IsEndOf r q
 
 unplanned : (r : RecState) → IsRecoverer r → r.phase ≡ Locking → (q : Plan) → r.plan ≡ Some q → ⊥
-unplanned r shape ph q e = let k : None ≡ Some q = sym (shape.locking ph) ∙ e in absurd (cc)
+unplanned r come_by ph q e = let k : None ≡ Some q = sym (come_by.locking ph) ∙ e in absurd (cc)
 
 keeps : (r n : RecState) → tally n ≡ tally r → (q : Plan) → IsEndOf r q → IsEndOf n q
 keeps r n e q k = record { covered = ap is_covered e ∙ k.covered; within = subst (λ s. pev_of s ≤ rv_of s) (sym e) k.within; first = k.first ∙ ap (λ s. pev_of s + 1) (sym e); seeded_to = k.seeded_to ∙ ap rv_of (sym e) }
 
 change : (w : Word) (r n : RecState) → Change r w n → IsRecoverer r → HasEnd r → HasEnd n
-change w r n Stands shape k = k
-change w r n (LosesReads i t why is) shape k = λ q e. keeps r n refl q (k q e)
-change w r n (Reads i t is) shape k = λ q e. keeps r n refl q (k q e)
-change w r n (Finds i t s g heard is) shape k = λ q e. absurd (let d : None ≡ Some q = sym (shape.parentless (shape.reading heard.phase)) ∙ e in absurd (cc))
-change w r n (Locks p end i durable known is) shape k = λ q e. absurd (unplanned r shape is.phase q e)
-change w r n (LosesLocks p end i durable known why is) shape k = λ q e. absurd (unplanned r shape is.phase q e)
-change w r n (Plans p end i durable known s heard is) shape k = λ q e. (
+change w r n Stands come_by k = k
+change w r n (LosesReads i t why is) come_by k = λ q e. keeps r n refl q (k q e)
+change w r n (Reads i t is) come_by k = λ q e. keeps r n refl q (k q e)
+change w r n (Finds i t s g heard is) come_by k = λ q e. absurd (let d : None ≡ Some q = sym (come_by.parentless (come_by.reading heard.phase)) ∙ e in absurd (cc))
+change w r n (Locks p end i durable known is) come_by k = λ q e. absurd (unplanned r come_by is.phase q e)
+change w r n (LosesLocks p end i durable known why is) come_by k = λ q e. absurd (unplanned r come_by is.phase q e)
+change w r n (Plans p end i durable known s heard is) come_by k = λ q e. (
     let d : plan_of r p (replied end i durable known) s ≡ q = cc in
     subst (IsEndOf n) d (record { covered = is.covered; within = is.within; first = refl; seeded_to = refl }))
-change w r n (Copies parent p i peeked is) shape k = λ q e. (
+change w r n (Copies parent p i peeked is) come_by k = λ q e. (
     let m : Plan = record { state = p.state; generation = p.generation; tail = after_peeked p.tail i peeked.tag peeked } in
     let d : m ≡ q = cc in
     let j = k p is.plan in
     subst (IsEndOf n) d (record { covered = j.covered; within = j.within; first = j.first; seeded_to = j.seeded_to }))
-change w r n (Seeds p i is l) shape k = λ q e. keeps r n refl q (k q e)
-change w r n (SeedsAll p i is l) shape k = λ q e. keeps r n refl q (k q e)
-change w r n (Writes i t is) shape k = λ q e. keeps r n refl q (k q e)
-change w r n (LosesWrites i t why is) shape k = λ q e. keeps r n refl q (k q e)
-change w r n (Chooses i t is m) shape k = λ q e. keeps r n refl q (k q e)
-change w r n (Marks p i is) shape k = λ q e. keeps r n refl q (k q e)
+change w r n (Seeds p i is l) come_by k = λ q e. keeps r n refl q (k q e)
+change w r n (SeedsAll p i is l) come_by k = λ q e. keeps r n refl q (k q e)
+change w r n (Writes i t is) come_by k = λ q e. keeps r n refl q (k q e)
+change w r n (LosesWrites i t why is) come_by k = λ q e. keeps r n refl q (k q e)
+change w r n (Chooses i t is m) come_by k = λ q e. keeps r n refl q (k q e)
+change w r n (Marks p i is) come_by k = λ q e. keeps r n refl q (k q e)
 
 have_ends : Laws → (c : Config) (h : List Turn) → IsRun c h → (b : ℕ) → IfSome (rec_at c h b) HasEnd
 have_ends laws c [] run b = tt
 have_ends laws c (t ∷ h) run b =
-    rec_by_turn c h t run.0 b (λ o. IfSome o HasEnd) (have_ends laws c h run.1 b) (λ none may q e. absurd (cc)) (λ r from u at told.
-    change (word_of from u) r (rec.after_hear r from u) (laws.rec_change r from u) (rec_is laws c h run.1 b r at).shape (subst (λ o. IfSome o HasEnd) at (have_ends laws c h run.1 b)))
+    rec_by_turn c h t run.0 b (λ o. IfSome o HasEnd) (have_ends laws c h run.1 b) (λ shape none may is q e. absurd (cc)) (λ r from u at told.
+    change (word_of from u) r (rec.after_hear r from u) (laws.rec_change r from u) (rec_is laws c h run.1 b r at).kept.come_by (subst (λ o. IfSome o HasEnd) at (have_ends laws c h run.1 b)))
 
 pub end_is_of_replies : Laws → EndIsOfReplies
 end_is_of_replies laws c h run b r q at e = (let k : HasEnd r = subst (λ o. IfSome o HasEnd) at (have_ends laws c h run b) in k q e)

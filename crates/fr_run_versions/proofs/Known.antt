@@ -96,7 +96,7 @@ push_is_part laws c (t ∷ h) run x p e i q (inr s) = push_later laws c h t run.
 push_is_part laws c (t ∷ h) run x p e i q (inl (own, k)) = push_later laws c h t run.1 run.0 x p e i q (now t run.0 own k)
   where
     now : (t : Turn) → IsTurn c h t → actor_of t ≡ node.Proxy x p → Contains (asks_of t) (node.Log e i, ask.Log (Push q)) → IsProxyPush c h x p e i q
-    now (Begun b asks) is own k = let d : node.Recoverer b ≡ node.Proxy x p = own in absurd (cc)
+    now (Begun b shape asks) is own k = let d : node.Recoverer b ≡ node.Proxy x p = own in absurd (cc)
     now (CellTurn from j a u) is own k = absurd (none_sent (node.Log e i, ask.Log (Push q)) k)
     now (LogTurn from y j a u) is own k = absurd (none_sent (node.Log e i, ask.Log (Push q)) k)
     now (SeqTurn from y a u) is own k = absurd (none_sent (node.Log e i, ask.Log (Push q)) k)

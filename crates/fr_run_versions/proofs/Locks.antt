@@ -73,7 +73,7 @@ locked_stands_still laws c (t ∷ h) run e i to durable known (inr k) = stands_l
 locked_stands_still laws c (t ∷ h) run e i to durable known (inl k) = now t run.0 k
   where
     now : (t : Turn) → IsTurn c h t → TellsBy t (node.Log e i) to (tell.Log (ltell.Locked durable known)) → StandsAt c (t ∷ h) e i durable known
-    now (Begun b asks) is k = absurd k
+    now (Begun b shape asks) is k = absurd k
     now (CellTurn from j a u) is (at, own, says) = let d : node.Cell j ≡ node.Log e i = at in absurd (cc)
     now (LogTurn from x j a u) is (at, own, says) =
         let d : x ≡ e = cc in
@@ -156,7 +156,7 @@ later laws c h t run is (Some r) k = λ p e. All-weaker (λ x. StandsAt c h p.la
 pub all_stand : Laws → (c : Config) (h : List Turn) → IsRun c h → (b : ℕ) → IfSome (rec_at c h b) (AllStand c h)
 all_stand laws c [] run b = tt
 all_stand laws c (t ∷ h) run b =
-    rec_by_turn c h t run.0 b (λ o. IfSome o (AllStand c (t ∷ h))) (later laws c h t run.1 run.0 (rec_at c h b) (all_stand laws c h run.1 b)) (λ none may p e. absurd (cc)) (λ r from u at told.
+    rec_by_turn c h t run.0 b (λ o. IfSome o (AllStand c (t ∷ h))) (later laws c h t run.1 run.0 (rec_at c h b) (all_stand laws c h run.1 b)) (λ shape none may is p e. absurd (cc)) (λ r from u at told.
     later laws c h t run.1 run.0 (Some (rec.after_hear r from u)) (change laws c h run.1 b from u told r at (subst (λ o. IfSome o (AllStand c h)) at (all_stand laws c h run.1 b)) (rec.after_hear r from u) (laws.rec_change r from u)))
 
 pub replies_stand_still : Laws → RepliesStandStill

@@ -40,7 +40,7 @@ use Rattle.fr_run_versions.proofs.Pushes.{pushes_are_own, seeds_are_own}
 -- what is true of a log stays so at a turn, if it does at each ask that was delivered to it
 pub log_by_own_turn : (c : Config) (h : List Turn) (t : Turn) → IsTurn c h t → (e i : ℕ) (l : LogState) (P : LogState → Type 0) → P l
     → ((from : NodeId) (a : LogAsk) → Sent h from (node.Log e i) (ask.Log a) ⊎ StorageMayAsk c h from a → P (next_of l a)) → P (log_after t e i l)
-log_by_own_turn c h (Begun b asks) is e i l P same takes = same
+log_by_own_turn c h (Begun b shape asks) is e i l P same takes = same
 log_by_own_turn c h (CellTurn from j a t) is e i l P same takes = same
 log_by_own_turn c h (LogTurn from x j a t) is e i l P same takes = go ((x == e) && (j == i)) refl
   where
@@ -96,7 +96,7 @@ with_number_cases p (stell.Numbered r prev v) ns n k = go (is_above v ns) k
 with_number_cases p (stell.Refused why) ns n k = inl k
 
 number_cases : (c : Config) (h : List Turn) (t : Turn) → IsTurn c h t → (e : ℕ) (n : Numbering) → Contains (numbers (t ∷ h) e) n → Contains (numbers h e) n ⊎ IsNewest c h t e n
-number_cases c h (Begun b asks) is e n k = inl k
+number_cases c h (Begun b shape asks) is e n k = inl k
 number_cases c h (CellTurn from i a t) is e n k = inl k
 number_cases c h (LogTurn from x i a t) is e n k = inl k
 number_cases c h (SeqTurn from x (Next p r step) t) is e n k = go (x == e) refl k
@@ -270,7 +270,7 @@ logs_generation c h e i below = go (e == first_epoch) refl below
 
 -- a log that is not there was asked nothing
 pub unasked : Laws → (c : Config) (h : List Turn) (t : Turn) → IsTurn c h t → (e i : ℕ) → nat_lt i (logs_at c h e) ≡ false → (l : LogState) → log_after t e i l ≡ l
-unasked laws c h (Begun b asks) is e i absent l = refl
+unasked laws c h (Begun b shape asks) is e i absent l = refl
 unasked laws c h (CellTurn from j a t) is e i absent l = refl
 unasked laws c h (LogTurn from x j a t) is e i absent l = go ((x == e) && (j == i)) refl
   where

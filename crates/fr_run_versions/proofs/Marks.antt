@@ -41,7 +41,7 @@ told_turn c P e i to u lasts says (t ∷ h) run (inr k) = lasts h t run.1 run.0 
 told_turn c P e i to u lasts says (t ∷ h) run (inl k) = now t run.0 k
   where
     now : (t : Turn) → IsTurn c h t → TellsBy t (node.Log e i) to (tell.Log u) → P (t ∷ h)
-    now (Begun b asks) is k = absurd k
+    now (Begun b shape asks) is k = absurd k
     now (CellTurn from j a v) is (at, own, same) = let d : node.Cell j ≡ node.Log e i = at in absurd (cc)
     now (LogTurn from x j a v) is (at, own, same) =
         let d : x ≡ e = cc in

@@ -133,7 +133,7 @@ step_is_positive laws c h run from e p r step s = go from (sent_is_accounted law
 
 by_turn : Laws → (c : Config) (h : List Turn) (t : Turn) → IsRun c h → IsTurn c h t → (base e : ℕ) (s : SeqState) → ((x : ℕ) → (x == e) ≡ true → seq_at c h x ≡ s) → (ns : List Numbering) → IsNumbered base s ns
     → IsNumbered base (seq_after t e s) (numbers_after t e ns)
-by_turn laws c h (Begun b asks) run is base e s same ns k = k
+by_turn laws c h (Begun b shape asks) run is base e s same ns k = k
 by_turn laws c h (CellTurn from i a t) run is base e s same ns k = k
 by_turn laws c h (LogTurn from x i a t) run is base e s same ns k = k
 by_turn laws c h (SeqTurn from x (Next p r step) t) run is base e s same ns k = go (x == e) refl
@@ -154,7 +154,7 @@ by_turn laws c h (Crashed who) run is base e s same ns k = k
 
 -- a turn of an epoch's sequencer wants the epoch open
 pub closed_turn : (c : Config) (h : List Turn) (t : Turn) → IsTurn c h t → (e : ℕ) → is_open c h e ≡ false → (s : SeqState) (ns : List Numbering) → (seq_after t e s ≡ s) × (numbers_after t e ns ≡ ns)
-closed_turn c h (Begun b asks) is e shut s ns = (refl, refl)
+closed_turn c h (Begun b shape asks) is e shut s ns = (refl, refl)
 closed_turn c h (CellTurn from i a t) is e shut s ns = (refl, refl)
 closed_turn c h (LogTurn from x i a t) is e shut s ns = (refl, refl)
 closed_turn c h (SeqTurn from x a t) is e shut s ns = go (x == e) refl
@@ -224,7 +224,7 @@ with_number_stays p (stell.Refused why) ns x k = k
 
 -- numbers stay
 pub numbers_stay : (t : Turn) (e : ℕ) (ns : List Numbering) (x : Numbering) → Contains ns x → Contains (numbers_after t e ns) x
-numbers_stay (Begun b asks) e ns x k = k
+numbers_stay (Begun b shape asks) e ns x k = k
 numbers_stay (CellTurn from i a t) e ns x k = k
 numbers_stay (LogTurn from e' i a t) e ns x k = k
 numbers_stay (SeqTurn from e' (Next p r s) t) e ns x k = go (e' == e)
@@ -245,7 +245,7 @@ numbers_told laws c (t ∷ h) run e to n (inr k) = let r = numbers_told laws c h
 numbers_told laws c (t ∷ h) run e to n (inl k) = now t run.0 k
   where
     now : (t : Turn) → IsTurn c h t → TellsBy t (node.Sequencer e) to (tell.Seq (told n)) → (p : ℕ) × Contains (numbers (t ∷ h) e) (numbering_of p n)
-    now (Begun b asks) is k = absurd k
+    now (Begun b shape asks) is k = absurd k
     now (CellTurn from j a u) is (at, own, says) = let d : node.Cell j ≡ node.Sequencer e = at in absurd (cc)
     now (LogTurn from x j a u) is (at, own, says) = let d : node.Log x j ≡ node.Sequencer e = at in absurd (cc)
     now (SeqTurn from x (Next p r step) u) is (at, own, says) =

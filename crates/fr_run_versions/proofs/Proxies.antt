@@ -61,7 +61,7 @@ last_taken bs new r e =
     subst (λ i. slice_get (reverse (new ∷ bs)) i ≡ Some new) (sym n) (subst (λ xs. slice_get xs (length (reverse bs)) ≡ Some new) (sym (reverse_more new bs)) (get_last (reverse bs) new))
 
 pub batch_stays : (t : Turn) (h : List Turn) (e p r : ℕ) (b : List Mutation) → batch_at h e p r ≡ Some b → batch_at (t ∷ h) e p r ≡ Some b
-batch_stays (Begun x asks) h e p r b k = k
+batch_stays (Begun x shape asks) h e p r b k = k
 batch_stays (CellTurn from i a t) h e p r b k = k
 batch_stays (LogTurn from x i a t) h e p r b k = k
 batch_stays (SeqTurn from x a t) h e p r b k = k
@@ -88,7 +88,7 @@ heeds_none s heeds.Cut = refl
 -- a proxy made as many requests as it took batches
 from_requests : (s : ProxyState) (h : List Turn) (e p : ℕ) → (proxy_from s h e p).requests ≡ s.requests + length (batches h e p)
 from_requests s [] e p = omega arith
-from_requests s (Begun x asks ∷ h) e p = from_requests s h e p
+from_requests s (Begun x shape asks ∷ h) e p = from_requests s h e p
 from_requests s (CellTurn from i a t ∷ h) e p = from_requests s h e p
 from_requests s (LogTurn from x i a t ∷ h) e p = from_requests s h e p
 from_requests s (SeqTurn from x a t ∷ h) e p = from_requests s h e p

@@ -21,7 +21,7 @@ use Rattle.fr_run_versions.proofs.Numbers.{shut_before}
 
 -- a turn of a proxy wants its epoch open
 shut_turn : (c : Config) (h : List Turn) (t : Turn) → IsTurn c h t → (e p : ℕ) → is_open c h e ≡ false → (s : ProxyState) (bs : List (List Mutation)) → (proxy_after t e p s ≡ s) × (batches_after t e p bs ≡ bs)
-shut_turn c h (Begun b asks) is e p shut s bs = (refl, refl)
+shut_turn c h (Begun b shape asks) is e p shut s bs = (refl, refl)
 shut_turn c h (CellTurn from i a t) is e p shut s bs = (refl, refl)
 shut_turn c h (LogTurn from x i a t) is e p shut s bs = (refl, refl)
 shut_turn c h (SeqTurn from x a t) is e p shut s bs = (refl, refl)
@@ -66,7 +66,7 @@ pub record IsProxyRule (c : Config) (P : List Turn → ℕ → ℕ → ProxyStat
 
 turn : (c : Config) (P : List Turn → ℕ → ℕ → ProxyState → Type 0) → IsProxyRule c P → (h : List Turn) (t : Turn) → IsRun c h → IsTurn c h t → (e p : ℕ) → is_open c h e ≡ true → P h e p (proxy_at c h e p)
     → P (t ∷ h) e p (proxy_after t e p (proxy_at c h e p))
-turn c P rule h (Begun b asks) run is e p op k = rule.lasts h (Begun b asks) run is e p op (proxy_at c h e p) k
+turn c P rule h (Begun b shape asks) run is e p op k = rule.lasts h (Begun b shape asks) run is e p op (proxy_at c h e p) k
 turn c P rule h (CellTurn from i a t) run is e p op k = rule.lasts h (CellTurn from i a t) run is e p op (proxy_at c h e p) k
 turn c P rule h (LogTurn from x i a t) run is e p op k = rule.lasts h (LogTurn from x i a t) run is e p op (proxy_at c h e p) k
 turn c P rule h (SeqTurn from x a t) run is e p op k = rule.lasts h (SeqTurn from x a t) run is e p op (proxy_at c h e p) k

@@ -88,7 +88,7 @@ push_is_numbered laws c (t ∷ h) run x p e i q (inl (own, k)) = later (now t ru
     later k = record { number = k.number; given = numbers_stay t x (numbers h x) k.number k.given; at = k.at }
 
     now : (t : Turn) → IsTurn c h t → actor_of t ≡ node.Proxy x p → Contains (asks_of t) (node.Log e i, ask.Log (Push q)) → IsNumberedPush h x q
-    now (Begun b asks) is own k = let d : node.Recoverer b ≡ node.Proxy x p = own in absurd (cc)
+    now (Begun b shape asks) is own k = let d : node.Recoverer b ≡ node.Proxy x p = own in absurd (cc)
     now (CellTurn from j a u) is own k = absurd (none_sent (node.Log e i, ask.Log (Push q)) k)
     now (LogTurn from y j a u) is own k = absurd (none_sent (node.Log e i, ask.Log (Push q)) k)
     now (SeqTurn from y a u) is own k = absurd (none_sent (node.Log e i, ask.Log (Push q)) k)

@@ -62,7 +62,7 @@ change w r n (Marks p i is) k = k
 are_untallied : Laws → (c : Config) (h : List Turn) → IsRun c h → (b : ℕ) → IfSome (rec_at c h b) IsUntallied
 are_untallied laws c [] run b = tt
 are_untallied laws c (t ∷ h) run b =
-    rec_by_turn c h t run.0 b (λ o. IfSome o IsUntallied) (are_untallied laws c h run.1 b) (λ none may e. refl) (λ r from u at told.
+    rec_by_turn c h t run.0 b (λ o. IfSome o IsUntallied) (are_untallied laws c h run.1 b) (λ shape none may is e. refl) (λ r from u at told.
     change (word_of from u) r (rec.after_hear r from u) (laws.rec_change r from u) (subst (λ o. IfSome o IsUntallied) at (are_untallied laws c h run.1 b)))
 
 untallied : Laws → (c : Config) (h : List Turn) → IsRun c h → (b : ℕ) (r : RecState) → rec_at c h b ≡ Some r → r.parent ≡ None → tally r ≡ new_end 0 0

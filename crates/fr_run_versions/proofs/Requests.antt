@@ -93,7 +93,7 @@ told_is_own laws c (t ∷ h) run e to n (inr k) =
 told_is_own laws c (t ∷ h) run e to n (inl k) = now t run.0 k
   where
     now : (t : Turn) → IsTurn c h t → TellsBy t (node.Sequencer e) to (tell.Seq (told n)) → IsOwnNumber (t ∷ h) e to n
-    now (Begun b asks) is k = absurd k
+    now (Begun b shape asks) is k = absurd k
     now (CellTurn from j a u) is (at, own, says) = let d : node.Cell j ≡ node.Sequencer e = at in absurd (cc)
     now (LogTurn from x j a u) is (at, own, says) = let d : node.Log x j ≡ node.Sequencer e = at in absurd (cc)
     now (SeqTurn from x (Next p r step) u) is (at, own, says) =

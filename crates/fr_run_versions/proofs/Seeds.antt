@@ -81,12 +81,12 @@ have_counted : Laws → (c : Config) (h : List Turn) → IsRun c h → (b : ℕ)
 have_counted laws c [] run b = tt
 have_counted laws c (t ∷ h) run b =
     rec_by_turn c h t run.0 b (λ o. IfSome o (HasCounted c (t ∷ h) b)) (lift laws c h t run.1 run.0 b (rec_at c h b) (have_counted laws c h run.1 b))
-    (λ none may. record { are = record { none = λ e. refl; below = λ p e. absurd (cc); distinct = none_distinct }; each = All-nil (IsSeededLog c (t ∷ h) b) })
+    (λ shape none may is. record { are = record { none = λ e. refl; below = λ p e. absurd (cc); distinct = none_distinct }; each = All-nil (IsSeededLog c (t ∷ h) b) })
     (λ r from u at told.
     let k : HasCounted c h b r = subst (λ o. IfSome o (HasCounted c h b)) at (have_counted laws c h run.1 b) in
     let own = rec_is laws c h run.1 b r at in
     lift laws c h t run.1 run.0 b (Some (rec.after_hear r from u))
-    (record { are = laws.rec_seeded r from u own.shape k.are; each = change laws c h run.1 b from u told r own.ballot k.each (rec.after_hear r from u) (laws.rec_change r from u) }))
+    (record { are = laws.rec_seeded r from u own.kept.come_by k.are; each = change laws c h run.1 b from u told r own.ballot k.each (rec.after_hear r from u) (laws.rec_change r from u) }))
 
 has_counted : Laws → (c : Config) (h : List Turn) → IsRun c h → (b : ℕ) (r : RecState) → rec_at c h b ≡ Some r → HasCounted c h b r
 has_counted laws c h run b r at = subst (λ o. IfSome o (HasCounted c h b)) at (have_counted laws c h run b)

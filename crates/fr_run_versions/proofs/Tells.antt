@@ -108,7 +108,7 @@ held_is_held laws c (t ∷ h) run e i to v (inr k) = has_push_later laws c h t r
 held_is_held laws c (t ∷ h) run e i to v (inl k) = now t run.0 k
   where
     now : (t : Turn) → IsTurn c h t → TellsBy t (node.Log e i) to (tell.Log (ltell.Held v)) → HasPushAt c (t ∷ h) e i v
-    now (Begun b asks) is k = absurd k
+    now (Begun b shape asks) is k = absurd k
     now (CellTurn from j a u) is (at, own, says) = let d : node.Cell j ≡ node.Log e i = at in absurd (cc)
     now (LogTurn from x j a u) is (at, own, says) =
         let d : x ≡ e = cc in

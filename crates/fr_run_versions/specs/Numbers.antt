@@ -33,7 +33,7 @@ abbrev pub with_tell : SeqAsk → SeqTell → List Numbering → List Numbering
 with_tell (Next proxy request step) t ns = with_number proxy t ns
 
 abbrev pub numbers_after : Turn → ℕ → List Numbering → List Numbering
-numbers_after (Begun b asks) epoch ns = ns
+numbers_after (Begun b shape asks) epoch ns = ns
 numbers_after (CellTurn from i a t) epoch ns = ns
 numbers_after (LogTurn from e i a t) epoch ns = ns
 numbers_after (SeqTurn from e a t) epoch ns = if e == epoch then with_tell a t ns else ns

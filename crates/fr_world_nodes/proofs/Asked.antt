@@ -38,8 +38,8 @@ use Rattle.fr_world_nodes.proofs.Stands.{LogsTurn, SequencersTurn, logs_next, se
 have_made : Laws → HearKeepsMade → (c : Config) (h : List Turn) → IsRun c h → (b : ℕ) → IfSome (rec_at c h b) HasMadePlan
 have_made laws keeps c [] run b = tt
 have_made laws keeps c (t ∷ h) run b =
-    rec_by_turn c h t run.0 b (λ o. IfSome o HasMadePlan) (have_made laws keeps c h run.1 b) (λ none may q e. absurd (cc)) (λ r from u at told.
-    keeps r from u (rec_is laws c h run.1 b r at).shape (subst (λ o. IfSome o HasMadePlan) at (have_made laws keeps c h run.1 b)))
+    rec_by_turn c h t run.0 b (λ o. IfSome o HasMadePlan) (have_made laws keeps c h run.1 b) (λ shape none may is q e. absurd (cc)) (λ r from u at told.
+    keeps r from u (rec_is laws c h run.1 b r at).kept.come_by (subst (λ o. IfSome o HasMadePlan) at (have_made laws keeps c h run.1 b)))
 
 pub has_room : Laws → HearKeepsMade → (c : Config) (h : List Turn) → IsRun c h → (b : ℕ) (r : RecState) → rec_at c h b ≡ Some r → (p : Plan) → r.plan ≡ Some p → p.generation.seeded_to + 1 < 2 ^ 62
 has_room laws keeps c h run b r at p planned =
