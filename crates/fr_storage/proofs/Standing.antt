@@ -1,7 +1,6 @@
 -- What answers make of a server that is opened again where a hear broke off.
 use Rattle.std.proofs.Common.{◌≡◌, ℕ, suc, Bool, true, false, ◌||◌, List, [], ◌∷◌, map, Option, None, Some, inl, inr, refl, sym, ap, ◌∙◌, subst, arith}
-use Rattle.std.proofs.lemmas.List.Elements.{recursion_from_All, All-from_recursion}
-use Rattle.std.specs.Prelude.{◌≢◌, ◌↔◌, IfSome, IsTrue, All, Contains, Result, Ok, Err, OnOk, OnErr}
+use Rattle.std.specs.Prelude.{◌≢◌, ◌↔◌, IfSome, IsTrue, Contains, drop, Result, Ok, Err, OnOk, OnErr}
 use Rattle.fr_undo.specs.declared.fault.StoreFault.TheVariants.{Failed}
 use Rattle.fr_undo.specs.State.{StoreState}
 use Rattle.fr_undo.specs.Calls.{LeavesNoMore}
@@ -13,11 +12,11 @@ use Rattle.fr_storage.specs.declared.fault.StorageFault.TheVariants.{Older, Stra
 use Rattle.fr_storage.specs.Storage.{StorageState}
 use Rattle.fr_storage.specs.Server.{Server, Kept, IsServer, storage_of, kept_of, met_store, refusal_of, LeavesStages}
 use Rattle.fr_storage.specs.Follows.{Pieces, ArePieces}
-use Rattle.fr_storage.specs.Course.{Heard, Mark, Records, Nothing, fault_of, calls_of, after_hear, IsAfter, AreOneChain, IsTrueHeard, Stands, IsChosenBy, HearStands}
+use Rattle.fr_storage.specs.Course.{Heard, Mark, Records, Nothing, fault_of, calls_of, after_hear, IsAfter, AreOneChain, IsTrueHeard, AreTrueAhead, Stands, IsChosenBy, HearStands}
 use Rattle.fr_storage.specs.Laws.{Laws}
 use Rattle.fr_storage.proofs.Course.{spelled_one}
 use Rattle.fr_storage.proofs.Hears.{marked_refused, peeked_refused}
-use Rattle.fr_storage.specs.Standing.{heard_of, is_untimely, after_hears, LeadTo, RefusesOne, IsStanding, StaysStanding}
+use Rattle.fr_storage.specs.Standing.{heard_of, is_untimely, after_hears, LeadTo, RefusesOne, IsStanding, IsFound, AreTrueTo, StaysStanding}
 
 -- a fault of the store refuses nothing
 pub store_refuses_none : {T : Type 0} (r : Result T StorageFault) → met_store r ≡ true → refusal_of r ≡ None
@@ -49,7 +48,7 @@ pub record IsHear {S : Type 0} (state_of : S → StoreState) (MayLeave : S → S
   pub leaves : old.failed ≡ false → LeavesStages (MayLeave new.store) (state_of old.store) (calls_of (storage_of state_of old) heard)
   pub still : IsTrue old.failed → new ≡ old
 
-module _ {S : Type 0} (state_of : S → StoreState) (MayLeave : S → StoreState → Type 0) (law : HearStands) (old new : Server S) (heard : Heard) (result : Result (Unit {0}) StorageFault) (h : IsHear state_of MayLeave old new heard result) (pieces : Pieces) (is_chosen : CoordinatedState → Bool) (are : ArePieces pieces) (one : AreOneChain pieces (IsChosenBy is_chosen)) (is : IsTrueHeard pieces (IsChosenBy is_chosen) heard) (standing : IsStanding state_of MayLeave pieces (IsChosenBy is_chosen) old) where
+module _ {S : Type 0} (state_of : S → StoreState) (MayLeave : S → StoreState → Type 0) (law : HearStands) (old new : Server S) (heard : Heard) (result : Result (Unit {0}) StorageFault) (h : IsHear state_of MayLeave old new heard result) (pieces : Pieces) (is_chosen : CoordinatedState → Bool) (are : ArePieces pieces) (one : AreOneChain pieces (IsChosenBy is_chosen)) (is : old.failed ≡ false → IsTrueHeard pieces (IsChosenBy is_chosen) (storage_of state_of old) heard) (standing : IsStanding state_of MayLeave pieces (IsChosenBy is_chosen) old) where
   abbrev s : StorageState
   s = storage_of state_of old
 
@@ -57,7 +56,7 @@ module _ {S : Type 0} (state_of : S → StoreState) (MayLeave : S → StoreState
   Good = IsStanding state_of MayLeave pieces (IsChosenBy is_chosen)
 
   on : old.failed ≡ false → (n : StorageState) → IsAfter s heard n → Stands pieces (IsChosenBy is_chosen) n × (fault_of s heard ≢ Some Stranger) × (fault_of s heard ≢ Some BelowFloor)
-  on fine n after = law pieces is_chosen s n heard are one (standing.works fine) is after
+  on fine n after = law pieces is_chosen s n heard are one (standing.works fine) (is fine) after
 
   done : old.failed ≡ false → storage_of state_of new ≡ after_hear s heard → new.failed ≡ false → Good new
   done fine e works = record {
@@ -187,13 +186,30 @@ module _ {S : Type 0} (state_of : S → StoreState) (MayLeave : S → StoreState
   )
 
   module _ (pieces : Pieces) (is_chosen : CoordinatedState → Bool) (are : ArePieces pieces) (one : AreOneChain pieces (IsChosenBy is_chosen)) where
+    abbrev pub Trues : List Answer → Server S → Type 0
+    Trues left = AreTrueTo state_of MayLeave pieces (IsChosenBy is_chosen) (map heard_of left)
+
     abbrev pub Standing : Server S → List Answer → Type 0
-    Standing s left = IsStanding state_of MayLeave pieces (IsChosenBy is_chosen) s × All (IsTrueHeard pieces (IsChosenBy is_chosen)) (map heard_of left)
+    Standing s left = IsStanding state_of MayLeave pieces (IsChosenBy is_chosen) s × Trues left s
+
+    ahead : Trues rest mid → mid.failed ≡ false → AreTrueAhead pieces (IsChosenBy is_chosen) (storage_of state_of mid) (heard_of answer ∷ map heard_of more)
+    ahead trues fine = subst (λ (xs : List Answer). AreTrueAhead pieces (IsChosenBy is_chosen) (storage_of state_of mid) (map heard_of xs)) is (trues.works fine)
 
     pub on_standing : Standing mid rest → StaysStanding state_of MayLeave (heard_of answer ∷ []) mid new (refusal_of result)
-        → Standing new more × (refusal_of result ≢ Some Stranger) × (refusal_of result ≢ Some BelowFloor)
-    on_standing h stays =
-        let True = IsTrueHeard pieces (IsChosenBy is_chosen) in
-        let both = recursion_from_All True (heard_of answer ∷ map heard_of more) (subst (λ (xs : List Answer). All True (map heard_of xs)) is h.1) in
-        let next = stays pieces is_chosen are one (All-from_recursion True (heard_of answer ∷ []) (both.0, tt)) h.0 in
-        ((next.0, All-from_recursion True (map heard_of more) both.1), next.1, next.2)
+        → IsStanding state_of MayLeave pieces (IsChosenBy is_chosen) new × (refusal_of result ≢ Some Stranger) × (refusal_of result ≢ Some BelowFloor)
+    on_standing h stays = stays pieces is_chosen are one (record { works = λ fine. ((ahead h.1 fine).0, λ n after. tt); found = λ failed n found. tt }) h.0
+
+    -- what is left of the answers is true to the server that the first one of them left working
+    on_trues : Trues rest mid → new.failed ≡ false → (mid.failed ≡ false → IsAfter (storage_of state_of mid) (heard_of answer) (storage_of state_of new))
+        → (IsTrue mid.failed → IsFound MayLeave mid (storage_of state_of new)) → Trues more new
+    on_trues trues works after found = record { works = λ f. go mid.failed refl; found = λ f. absurd (not_both new.failed f works) }
+      where
+        go : (b : Bool) → mid.failed ≡ b → AreTrueAhead pieces (IsChosenBy is_chosen) (storage_of state_of new) (map heard_of more)
+        go true failed = subst (λ (xs : List Answer). AreTrueAhead pieces (IsChosenBy is_chosen) (storage_of state_of new) (drop 1 (map heard_of xs))) is (trues.found failed (storage_of state_of new) (found failed))
+        go false fine = (ahead trues fine).1 (storage_of state_of new) (after fine)
+
+    -- and that server stands
+    pub on_both : Standing mid rest → StaysStanding state_of MayLeave (heard_of answer ∷ []) mid new (refusal_of result) → new.failed ≡ false
+        → (mid.failed ≡ false → new.failed ≡ false → IsAfter (storage_of state_of mid) (heard_of answer) (storage_of state_of new))
+        → (IsTrue mid.failed → new.failed ≡ false → IsFound MayLeave mid (storage_of state_of new)) → Standing new more
+    on_both h stays works after found = ((on_standing h stays).0, on_trues h.1 works (λ fine. after fine works) (λ failed. found failed works))

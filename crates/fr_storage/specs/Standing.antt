@@ -1,5 +1,5 @@
 -- What answers make of a storage server over a store of any type that is opened again where a hear broke off.
-use Rattle.std.specs.Prelude.{◌≡◌, ◌≢◌, Bool, true, false, IsTrue, List, [], ◌∷◌, fold, map, Option, Some, IfSome, All, Contains}
+use Rattle.std.specs.Prelude.{◌≡◌, ◌≢◌, Bool, true, false, IsTrue, List, [], ◌∷◌, fold, map, Option, Some, IfSome, Contains, drop}
 use Rattle.fr_undo.specs.State.{StoreState}
 use Rattle.fr_state.specs.Generations.{CoordinatedState, IsCoordinatedState}
 use Rattle.fr_state.specs.Spelling.{spelling}
@@ -10,7 +10,7 @@ use Rattle.fr_storage.specs.declared.fault.StorageFault.TheVariants.{Older, Stra
 use Rattle.fr_storage.specs.Storage.{StorageState}
 use Rattle.fr_storage.specs.Server.{Server, storage_of}
 use Rattle.fr_storage.specs.Follows.{Pieces, ArePieces}
-use Rattle.fr_storage.specs.Course.{Heard, Mark, Records, fault_of, after_hear, IsAfter, AreOneChain, IsTrueHeard, Stands, IsChosenBy}
+use Rattle.fr_storage.specs.Course.{Heard, Mark, Records, fault_of, after_hear, IsAfter, AreOneChain, AreTrueAhead, Stands, IsChosenBy}
 
 -- what is heard of an answer
 abbrev pub heard_of : Answer → Heard
@@ -45,11 +45,24 @@ pub record IsStanding {S : Type 0} (state_of : S → StoreState) (MayLeave : S �
   pub works : s.failed ≡ false → Stands pieces Chosen (storage_of state_of s)
   pub found : IsTrue s.failed → (x : CoordinatedState) (left : StoreState) → MayLeave s.store left → IsCoordinatedState x → left.bytes ≡ spelling x → Stands pieces Chosen (record { tag = s.tag; state = x; store = left })
 
--- a server that stands is left standing by what it hears, where that is true, and is refused neither as a stranger nor below its floor
+-- what opening a server again may find: a store that may be left there, and the state that this store spells
+pub record IsFound {S : Type 0} (MayLeave : S → StoreState → Type 0) (s : Server S) (n : StorageState) : Type 0 where
+  pub tag : n.tag ≡ s.tag
+  pub left : MayLeave s.store n.store
+  pub state : IsCoordinatedState n.state
+  pub spelled : n.store.bytes ≡ spelling n.state
+
+-- what a server is to hear is true to it: while it works, from the first on; one that failed is opened again in place of the first hear, and
+-- what comes after that is true to each server that may then be found
+pub record AreTrueTo {S : Type 0} (state_of : S → StoreState) (MayLeave : S → StoreState → Type 0) (pieces : Pieces) (Chosen : CoordinatedState → Type 0) (heards : List Heard) (s : Server S) : Type 0 where
+  pub works : s.failed ≡ false → AreTrueAhead pieces Chosen (storage_of state_of s) heards
+  pub found : IsTrue s.failed → (n : StorageState) → IsFound MayLeave s n → AreTrueAhead pieces Chosen n (drop 1 heards)
+
+-- a server that stands is left standing by what it hears, where that is true to it, and is refused neither as a stranger nor below its floor
 abbrev pub StaysStanding : {S : Type 0} → (S → StoreState) → (S → StoreState → Type 0) → List Heard → Server S → Server S → Option StorageFault → Type 0
 StaysStanding state_of MayLeave heards old new refusal =
     (pieces : Pieces) (is_chosen : CoordinatedState → Bool) → let Chosen = IsChosenBy is_chosen in
-    ArePieces pieces → AreOneChain pieces Chosen → All (IsTrueHeard pieces Chosen) heards → IsStanding state_of MayLeave pieces Chosen old
+    ArePieces pieces → AreOneChain pieces Chosen → AreTrueTo state_of MayLeave pieces Chosen heards old → IsStanding state_of MayLeave pieces Chosen old
     → IsStanding state_of MayLeave pieces Chosen new × (refusal ≢ Some Stranger) × (refusal ≢ Some BelowFloor)
 
 -- a server that begins in a state stands, where that state is chosen

@@ -2,7 +2,7 @@
 ghost use Rattle.std.specs.Prelude.{◌≡◌, ◌≢◌, ◌↔◌, ◌||◌, false, [], ◌∷◌, map, Ok, Err, None, OnOk, OnErr, IfOk, IfSome, IsOk, IsTrue};
 ghost use Rattle.fr_storage.specs.Server.{storage_of, kept_of, met_store, refusal_of, store_fault, IsMarkTrouble, IsOpeningTrouble, LeavesStages};
 ghost use Rattle.fr_storage.specs.Course.{fault_of, calls_of, after_hear, IsAfter, IsReopened};
-ghost use Rattle.fr_storage.specs.Standing.{heard_of, after_hears, is_untimely, LeadTo, RefusesOne, StaysStanding};
+ghost use Rattle.fr_storage.specs.Standing.{heard_of, after_hears, is_untimely, LeadTo, RefusesOne, IsFound, StaysStanding};
 
 use super::Storage;
 use crate::answer::Answer;
@@ -13,8 +13,8 @@ use std::alloc::Global;
 
 impl<S: ShardStore> Storage<S> {
     /// Hears an answer, as [`hear_marked`](Storage::hear_marked) or [`hear_peeked`](Storage::hear_peeked) does. A
-    /// server that stands ([`storage_law`](crate::storage_law)) is left standing by each answer that is true, and
-    /// does not refuse it as of a stranger or below its floor.
+    /// server that stands ([`storage_law`](crate::storage_law)) is left standing by each answer that is true to it,
+    /// and does not refuse it as of a stranger or below its floor.
     pub fn hear(&mut self, alloc: Global, answer: Answer) -> Result<(), StorageFault>
         ensures ok { OnOk result (storage_of S.state self.new ≡ after_hear (storage_of S.state self.old) (heard_of answer)) }
         ensures failed { (result ≡ Err (StorageFault.Store StoreFault.Failed)) ↔ IsTrue self.old.failed }
@@ -43,14 +43,15 @@ impl<S: ShardStore> Storage<S> {
     /// again. It is failed afterwards only where it could not be opened again; the fault is then that of the
     /// opening.
     ///
-    /// A server that stands ([`storage_law`](crate::storage_law)) is left standing by each answer that is true,
-    /// whatever its store refuses, and does not refuse it as of a stranger or below its floor.
+    /// A server that stands ([`storage_law`](crate::storage_law)) is left standing by each answer that is true to
+    /// it, whatever its store refuses, and does not refuse it as of a stranger or below its floor.
     pub fn follow(&mut self, alloc: Global, answer: Answer) -> Result<(), StorageFault>
         ensures ok { OnOk result (storage_of S.state self.new ≡ after_hear (storage_of S.state self.old) (heard_of answer)) }
         ensures refused { self.old.failed ≡ false → refusal_of result ≡ fault_of (storage_of S.state self.old) (heard_of answer) }
         ensures same { met_store result ≡ false → OnErr result (self.new ≡ self.old) }
         ensures after { self.old.failed ≡ false → self.new.failed ≡ false
             → IsAfter (storage_of S.state self.old) (heard_of answer) (storage_of S.state self.new) }
+        ensures found { IsTrue self.old.failed → self.new.failed ≡ false → IsFound S.MayLeave self.old (storage_of S.state self.new) }
         ensures failed { (result ≡ Err (StorageFault.Store StoreFault.Failed)) → IsTrue self.old.failed }
         ensures trouble { IfSome (store_fault result) (λ fault. fault ≢ StoreFault.Failed → IsMarkTrouble S.CanMeet S.CanMeetInPlace fault) }
         ensures idle { self.old.failed ≡ false → fault_of (storage_of S.state self.old) (heard_of answer) ≡ None
@@ -73,8 +74,9 @@ impl<S: ShardStore> Storage<S> {
     /// `Hole`) are passed over. It stops at one that is refused as of a stranger or below the floor, and where
     /// the server cannot be opened again.
     ///
-    /// A server that stands is left standing by every list of true answers, in any order, with repeats, whatever
-    /// its store refuses, and refuses none of them as of a stranger or below its floor.
+    /// A server that stands is left standing by every list of answers, in any order, with repeats, of which each is
+    /// true to the server that hears it, whatever its store refuses, and refuses none of them as of a stranger or
+    /// below its floor.
     pub fn follow_all(
         &mut self,
         alloc: Global,

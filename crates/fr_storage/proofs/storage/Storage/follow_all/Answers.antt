@@ -4,7 +4,7 @@ use Rattle.fr_undo.specs.declared.fault.StoreFault.TheVariants.{Failed}
 use Rattle.fr_storage.specs.declared.fault.StorageFault.{StorageFault}
 use Rattle.fr_storage.specs.declared.fault.StorageFault.TheVariants.{Older, Stranger, BelowFloor, NotMyGeneration, Hole, Store}
 use Rattle.fr_storage.specs.Server.{Server, met_store, refusal_of, store_fault, IsMarkTrouble}
-use Rattle.fr_storage.proofs.Standing.{works_before, on_whole, on_refused, on_course, on_among, on_standing}
+use Rattle.fr_storage.proofs.Standing.{works_before, on_whole, on_refused, on_course, on_among, on_standing, on_both}
 use Rattle.fr_storage.proofs.storage.Storage.follow_all.Goals as goal
 
 pub loop-answer-preserved-in-Ok : goal.loop-answer-preserved-in-Ok
@@ -21,7 +21,7 @@ loop-answer-preserved-in-Ok g c =
       works = λ fine. f.works met;
       course = λ fine. on_course store.state store.MayLeave c.args.self.now c.loop-answer.self c.follow.new.self c.args.answers.items c.loop-answer.answer-iterator.rest.items c.next.new.self.rest.items c.in-Some.answer c.follow.result c.in-Some.ensures.steps.0 (h.course fine) (f.after (h.works fine) (f.works met)) (f.refused (h.works fine)) None (ap refusal_of c.in-Ok.is) tt;
       among = on_among store.state store.MayLeave c.args.self.now c.loop-answer.self c.follow.new.self c.args.answers.items c.loop-answer.answer-iterator.rest.items c.next.new.self.rest.items c.in-Some.answer c.follow.result c.in-Some.ensures.steps.0 h.among;
-      standing = λ pieces is_chosen are one trues standing. (on_standing store.state store.MayLeave c.args.self.now c.loop-answer.self c.follow.new.self c.args.answers.items c.loop-answer.answer-iterator.rest.items c.next.new.self.rest.items c.in-Some.answer c.follow.result c.in-Some.ensures.steps.0 pieces is_chosen are one (h.standing pieces is_chosen are one trues standing) (f.stands)).0;
+      standing = λ pieces is_chosen are one trues standing. on_both store.state store.MayLeave c.args.self.now c.loop-answer.self c.follow.new.self c.args.answers.items c.loop-answer.answer-iterator.rest.items c.next.new.self.rest.items c.in-Some.answer c.follow.result c.in-Some.ensures.steps.0 pieces is_chosen are one (h.standing pieces is_chosen are one trues standing) f.stands (f.works met) f.after f.found;
     }
 
 pub loop-answer-preserved-in-Err-Older : goal.loop-answer-preserved-in-Err-Older
@@ -40,7 +40,7 @@ loop-answer-preserved-in-Err-Older g c =
       works = λ fine. f.works met;
       course = λ fine. on_course store.state store.MayLeave c.args.self.now c.loop-answer.self c.follow.new.self c.args.answers.items c.loop-answer.answer-iterator.rest.items c.next.new.self.rest.items c.in-Some.answer c.follow.result c.in-Some.ensures.steps.0 (h.course fine) (f.after (h.works fine) (f.works met)) (f.refused (h.works fine)) (Some Older) (ap refusal_of is) refl;
       among = on_among store.state store.MayLeave c.args.self.now c.loop-answer.self c.follow.new.self c.args.answers.items c.loop-answer.answer-iterator.rest.items c.next.new.self.rest.items c.in-Some.answer c.follow.result c.in-Some.ensures.steps.0 h.among;
-      standing = λ pieces is_chosen are one trues standing. (on_standing store.state store.MayLeave c.args.self.now c.loop-answer.self c.follow.new.self c.args.answers.items c.loop-answer.answer-iterator.rest.items c.next.new.self.rest.items c.in-Some.answer c.follow.result c.in-Some.ensures.steps.0 pieces is_chosen are one (h.standing pieces is_chosen are one trues standing) (f.stands)).0;
+      standing = λ pieces is_chosen are one trues standing. on_both store.state store.MayLeave c.args.self.now c.loop-answer.self c.follow.new.self c.args.answers.items c.loop-answer.answer-iterator.rest.items c.next.new.self.rest.items c.in-Some.answer c.follow.result c.in-Some.ensures.steps.0 pieces is_chosen are one (h.standing pieces is_chosen are one trues standing) f.stands (f.works met) f.after f.found;
     }
 
 pub loop-answer-preserved-in-Err-NotMyGeneration : goal.loop-answer-preserved-in-Err-NotMyGeneration
@@ -59,7 +59,7 @@ loop-answer-preserved-in-Err-NotMyGeneration g c =
       works = λ fine. f.works met;
       course = λ fine. on_course store.state store.MayLeave c.args.self.now c.loop-answer.self c.follow.new.self c.args.answers.items c.loop-answer.answer-iterator.rest.items c.next.new.self.rest.items c.in-Some.answer c.follow.result c.in-Some.ensures.steps.0 (h.course fine) (f.after (h.works fine) (f.works met)) (f.refused (h.works fine)) (Some NotMyGeneration) (ap refusal_of is) refl;
       among = on_among store.state store.MayLeave c.args.self.now c.loop-answer.self c.follow.new.self c.args.answers.items c.loop-answer.answer-iterator.rest.items c.next.new.self.rest.items c.in-Some.answer c.follow.result c.in-Some.ensures.steps.0 h.among;
-      standing = λ pieces is_chosen are one trues standing. (on_standing store.state store.MayLeave c.args.self.now c.loop-answer.self c.follow.new.self c.args.answers.items c.loop-answer.answer-iterator.rest.items c.next.new.self.rest.items c.in-Some.answer c.follow.result c.in-Some.ensures.steps.0 pieces is_chosen are one (h.standing pieces is_chosen are one trues standing) (f.stands)).0;
+      standing = λ pieces is_chosen are one trues standing. on_both store.state store.MayLeave c.args.self.now c.loop-answer.self c.follow.new.self c.args.answers.items c.loop-answer.answer-iterator.rest.items c.next.new.self.rest.items c.in-Some.answer c.follow.result c.in-Some.ensures.steps.0 pieces is_chosen are one (h.standing pieces is_chosen are one trues standing) f.stands (f.works met) f.after f.found;
     }
 
 pub loop-answer-preserved-in-Err-Hole : goal.loop-answer-preserved-in-Err-Hole
@@ -78,7 +78,7 @@ loop-answer-preserved-in-Err-Hole g c =
       works = λ fine. f.works met;
       course = λ fine. on_course store.state store.MayLeave c.args.self.now c.loop-answer.self c.follow.new.self c.args.answers.items c.loop-answer.answer-iterator.rest.items c.next.new.self.rest.items c.in-Some.answer c.follow.result c.in-Some.ensures.steps.0 (h.course fine) (f.after (h.works fine) (f.works met)) (f.refused (h.works fine)) (Some Hole) (ap refusal_of is) refl;
       among = on_among store.state store.MayLeave c.args.self.now c.loop-answer.self c.follow.new.self c.args.answers.items c.loop-answer.answer-iterator.rest.items c.next.new.self.rest.items c.in-Some.answer c.follow.result c.in-Some.ensures.steps.0 h.among;
-      standing = λ pieces is_chosen are one trues standing. (on_standing store.state store.MayLeave c.args.self.now c.loop-answer.self c.follow.new.self c.args.answers.items c.loop-answer.answer-iterator.rest.items c.next.new.self.rest.items c.in-Some.answer c.follow.result c.in-Some.ensures.steps.0 pieces is_chosen are one (h.standing pieces is_chosen are one trues standing) (f.stands)).0;
+      standing = λ pieces is_chosen are one trues standing. on_both store.state store.MayLeave c.args.self.now c.loop-answer.self c.follow.new.self c.args.answers.items c.loop-answer.answer-iterator.rest.items c.next.new.self.rest.items c.in-Some.answer c.follow.result c.in-Some.ensures.steps.0 pieces is_chosen are one (h.standing pieces is_chosen are one trues standing) f.stands (f.works met) f.after f.found;
     }
 
 pub loop-answer-preserved : goal.loop-answer-preserved
@@ -96,7 +96,7 @@ loop-answer-preserved g c =
       works = λ fine. works;
       course = λ fine. on_course store.state store.MayLeave c.args.self.now c.loop-answer.self c.follow.new.self c.args.answers.items c.loop-answer.answer-iterator.rest.items c.next.new.self.rest.items c.in-Some.answer c.follow.result c.in-Some.ensures.steps.0 (h.course fine) (f.after (h.works fine) (works)) (f.refused (h.works fine)) None (ap refusal_of is) tt;
       among = on_among store.state store.MayLeave c.args.self.now c.loop-answer.self c.follow.new.self c.args.answers.items c.loop-answer.answer-iterator.rest.items c.next.new.self.rest.items c.in-Some.answer c.follow.result c.in-Some.ensures.steps.0 h.among;
-      standing = λ pieces is_chosen are one trues standing. (on_standing store.state store.MayLeave c.args.self.now c.loop-answer.self c.follow.new.self c.args.answers.items c.loop-answer.answer-iterator.rest.items c.next.new.self.rest.items c.in-Some.answer c.follow.result c.in-Some.ensures.steps.0 pieces is_chosen are one (h.standing pieces is_chosen are one trues standing) (f.stands)).0;
+      standing = λ pieces is_chosen are one trues standing. on_both store.state store.MayLeave c.args.self.now c.loop-answer.self c.follow.new.self c.args.answers.items c.loop-answer.answer-iterator.rest.items c.next.new.self.rest.items c.in-Some.answer c.follow.result c.in-Some.ensures.steps.0 pieces is_chosen are one (h.standing pieces is_chosen are one trues standing) f.stands works f.after f.found;
     }
 
 pub returns-then-self-clause-stands : goal.returns-then-self-clause-stands
@@ -105,7 +105,7 @@ returns-then-self-clause-stands g c pieces is_chosen are one trues standing =
     let h = c.loop-answer.invariant in
     let f = c.follow.ensures in
     let next = on_standing store.state store.MayLeave c.args.self.now c.loop-answer.self c.follow.new.self c.args.answers.items c.loop-answer.answer-iterator.rest.items c.next.new.self.rest.items c.in-Some.answer c.follow.result c.in-Some.ensures.steps.0 pieces is_chosen are one (h.standing pieces is_chosen are one trues standing) f.stands in
-    (next.0.0, (λ e. cc), (λ e. cc))
+    (next.0, (λ e. cc), (λ e. cc))
 
 pub returns-in-Err-Stranger-clause-stands : goal.returns-in-Err-Stranger-clause-stands
 returns-in-Err-Stranger-clause-stands g c pieces is_chosen are one trues standing =
@@ -114,7 +114,7 @@ returns-in-Err-Stranger-clause-stands g c pieces is_chosen are one trues standin
     let f = c.follow.ensures in
     let next = on_standing store.state store.MayLeave c.args.self.now c.loop-answer.self c.follow.new.self c.args.answers.items c.loop-answer.answer-iterator.rest.items c.next.new.self.rest.items c.in-Some.answer c.follow.result c.in-Some.ensures.steps.0 pieces is_chosen are one (h.standing pieces is_chosen are one trues standing) f.stands in
     let is : c.follow.result ≡ Err Stranger = c.in-Err-Stranger.is ∙ ap (λ (fault : StorageFault). Err fault) c.in-Err-Stranger.field-0-is in
-    (next.0.0, (λ e. next.1 (ap refusal_of is ∙ e)), (λ e. next.2 (ap refusal_of is ∙ e)))
+    (next.0, (λ e. next.1 (ap refusal_of is ∙ e)), (λ e. next.2 (ap refusal_of is ∙ e)))
 
 pub returns-in-Err-BelowFloor-clause-stands : goal.returns-in-Err-BelowFloor-clause-stands
 returns-in-Err-BelowFloor-clause-stands g c pieces is_chosen are one trues standing =
@@ -123,4 +123,4 @@ returns-in-Err-BelowFloor-clause-stands g c pieces is_chosen are one trues stand
     let f = c.follow.ensures in
     let next = on_standing store.state store.MayLeave c.args.self.now c.loop-answer.self c.follow.new.self c.args.answers.items c.loop-answer.answer-iterator.rest.items c.next.new.self.rest.items c.in-Some.answer c.follow.result c.in-Some.ensures.steps.0 pieces is_chosen are one (h.standing pieces is_chosen are one trues standing) f.stands in
     let is : c.follow.result ≡ Err BelowFloor = c.in-Err-BelowFloor.is ∙ ap (λ (fault : StorageFault). Err fault) c.in-Err-BelowFloor.field-0-is in
-    (next.0.0, (λ e. next.1 (ap refusal_of is ∙ e)), (λ e. next.2 (ap refusal_of is ∙ e)))
+    (next.0, (λ e. next.1 (ap refusal_of is ∙ e)), (λ e. next.2 (ap refusal_of is ∙ e)))

@@ -1,7 +1,7 @@
-use Rattle.std.proofs.Common.{[], ◌∷◌, subst}
-use Rattle.std.proofs.lemmas.List.Elements.{recursion_from_All}
+use Rattle.std.proofs.Common.{subst}
 use Rattle.fr_storage.specs.declared.answer.Answer.{Answer}
 use Rattle.fr_storage.specs.Course.{Mark, Records, IsTrueHeard, IsChosenBy}
+use Rattle.fr_storage.specs.Server.{storage_of}
 use Rattle.fr_storage.specs.Standing.{heard_of}
 use Rattle.fr_storage.proofs.Standing.{heard_stands}
 use Rattle.fr_storage.proofs.storage.Storage.hear.Goals as goal
@@ -10,16 +10,14 @@ pub returns-in-Marked-clause-stands : goal.returns-in-Marked-clause-stands
 returns-in-Marked-clause-stands g c pieces is_chosen are one trues standing =
     let store = g.S.ShardStore in
     let h = c.hear_marked.ensures in
-    let true_one = recursion_from_All (IsTrueHeard pieces (IsChosenBy is_chosen)) (heard_of c.args.answer ∷ []) trues in
     heard_stands store.state store.MayLeave c.storage_law.ensures.hear c.args.self.now c.hear_marked.new.self (Mark c.in-Marked.state) c.hear_marked.result
     (record { ok = h.ok; failed = h.failed; refused = h.refused; same = h.same; err = h.err; fails = h.fails; leaves = h.leaves; still = h.still })
-    pieces is_chosen are one (subst (λ (answer : Answer). IsTrueHeard pieces (IsChosenBy is_chosen) (heard_of answer)) c.in-Marked.is true_one.0) standing
+    pieces is_chosen are one (λ fine. subst (λ (answer : Answer). IsTrueHeard pieces (IsChosenBy is_chosen) (storage_of store.state c.args.self.now) (heard_of answer)) c.in-Marked.is (trues.works fine).0) standing
 
 pub returns-in-Peeked-clause-stands : goal.returns-in-Peeked-clause-stands
 returns-in-Peeked-clause-stands g c pieces is_chosen are one trues standing =
     let store = g.S.ShardStore in
     let h = c.hear_peeked.ensures in
-    let true_one = recursion_from_All (IsTrueHeard pieces (IsChosenBy is_chosen)) (heard_of c.args.answer ∷ []) trues in
     heard_stands store.state store.MayLeave c.storage_law.ensures.hear c.args.self.now c.hear_peeked.new.self (Records c.in-Peeked.epoch c.in-Peeked.peeked) c.hear_peeked.result
     (record { ok = h.ok; failed = h.failed; refused = h.refused; same = h.same; err = h.err; fails = h.fails; leaves = h.leaves; still = h.still })
-    pieces is_chosen are one (subst (λ (answer : Answer). IsTrueHeard pieces (IsChosenBy is_chosen) (heard_of answer)) c.in-Peeked.is true_one.0) standing
+    pieces is_chosen are one (λ fine. subst (λ (answer : Answer). IsTrueHeard pieces (IsChosenBy is_chosen) (storage_of store.state c.args.self.now) (heard_of answer)) c.in-Peeked.is (trues.works fine).0) standing
