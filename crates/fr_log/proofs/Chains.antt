@@ -1,15 +1,12 @@
 -- What follows for pushes that form a chain, and for records that rise.
-use Rattle.std.proofs.Common.{◌≡◌, ℕ, zero, suc, ◌+◌, ◌<◌, ◌≤◌, true, ◌&&◌, ◌||◌, List, [], ◌∷◌, length, get_or, nat_lt, nat_le, eqb, ap, inl, inr, arith, max}
+use Rattle.std.proofs.Common.{◌≡◌, ℕ, zero, suc, ◌+◌, ◌<◌, ◌≤◌, true, ◌&&◌, ◌||◌, List, [], ◌∷◌, length, get_or, nat_lt, nat_le, eqb, inl, inr, arith, max}
 use Rattle.std.specs.Prelude.{fold}
 use Rattle.std.specs.List.{list_any}
 use Rattle.std.specs.List.Sorted.{IsNonDecreasingBy}
-use Rattle.std.proofs.lemmas.Bool.{and_parts, or_cases, ltb-true, eqb-true, cases_order}
+use Rattle.std.proofs.lemmas.Bool.{and_parts, or_cases, ltb-true, eqb-true}
 use Rattle.fr_log.specs.declared.records.SeedRecord.{SeedRecord}
 use Rattle.fr_log.specs.Seed.{is_rising_from}
 use Rattle.fr_log.specs.Push.{PushContent, is_one_push, is_one_push-parts}
-use Rattle.fr_log.specs.LogState.{headers}
-use Rattle.fr_log.specs.Search.{AreRising}
-use Rattle.fr_log.specs.Chain.{IsChain}
 
 -- ---- pushes
 
@@ -17,34 +14,9 @@ use Rattle.fr_log.specs.Chain.{IsChain}
 abbrev pub reach : ℕ → List PushContent → ℕ
 reach version ps = fold (λ v p. max v p.version) version ps
 
-pub chain_above : (version : ℕ) (ps : List PushContent) → IsChain version (headers ps) → (k : ℕ) (d : PushContent) → k < length ps → version < (get_or ps k d).version
-chain_above version [] chain k d within = absurd (omega arith)
-chain_above version (p ∷ ps) (follows, (rises, (known, rest))) zero d within = omega arith
-chain_above version (p ∷ ps) (follows, (rises, (known, rest))) (suc k) d within =
-    let above = chain_above p.version ps rest k d (omega arith) in omega arith
-
-pub chain_rising : (version : ℕ) (ps : List PushContent) → IsChain version (headers ps) → AreRising ps
-chain_rising version [] chain i j d less within = absurd (omega arith)
-chain_rising version (p ∷ ps) (follows, (rises, (known, rest))) zero zero d less within = absurd (omega arith)
-chain_rising version (p ∷ ps) (follows, (rises, (known, rest))) zero (suc j) d less within = chain_above p.version ps rest j d (omega arith)
-chain_rising version (p ∷ ps) (follows, (rises, (known, rest))) (suc i) zero d less within = absurd (omega arith)
-chain_rising version (p ∷ ps) (follows, (rises, (known, rest))) (suc i) (suc j) d less within = chain_rising p.version ps rest i j d (omega arith) (omega arith)
-
-pub rising_non_decreasing : (ps : List PushContent) → AreRising ps → IsNonDecreasingBy (λ p. p.version) ps
-rising_non_decreasing ps rising i j d upto within = elim (cases_order i j) [
-  | inl same ↦ omega (arith, ap (λ k. (get_or ps k d).version) same)
-  | inr (inl less) ↦ let k = rising i j d less within in omega arith
-  | inr (inr more) ↦ absurd (omega arith)
-]
-
 pub reach_above : (version : ℕ) (ps : List PushContent) → version ≤ reach version ps
 reach_above version [] = omega arith
 reach_above version (p ∷ ps) = let k = reach_above (max version p.version) ps in omega arith
-
-pub reach_each : (version : ℕ) (ps : List PushContent) (k : ℕ) (d : PushContent) → k < length ps → (get_or ps k d).version ≤ reach version ps
-reach_each version [] k d within = absurd (omega arith)
-reach_each version (p ∷ ps) zero d within = let k = reach_above (max version p.version) ps in omega arith
-reach_each version (p ∷ ps) (suc k) d within = reach_each (max version p.version) ps k d (omega arith)
 
 -- a push that is held is not above what the log reaches
 pub held_within_reach : (version : ℕ) (p : PushContent) (ps : List PushContent) → list_any (is_one_push p) ps ≡ true → p.version ≤ reach version ps

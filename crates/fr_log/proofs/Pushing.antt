@@ -1,8 +1,8 @@
 -- A push that is newly held.
-use Rattle.std.proofs.Common.{◌≡◌, ℕ, ◌+◌, ◌<◌, ◌≤◌, Bool, true, false, not, ◌&&◌, ◌||◌, List, [], ◌∷◌, ◌++◌, cond, nat_lt, eqb, Option, None, Some, refl, sym, ◌∙◌, ap, subst, inl, inr, arith, max}
+use Rattle.std.proofs.Common.{◌≡◌, ℕ, ◌+◌, ◌<◌, ◌≤◌, Bool, true, false, not, ◌&&◌, ◌||◌, List, [], ◌∷◌, ◌++◌, cond, nat_lt, eqb, Option, None, Some, refl, sym, ◌∙◌, ap, subst, arith, max}
 use Rattle.std.specs.Prelude.{is_some, is_none, IsNone, IsSome}
 use Rattle.std.specs.List.{list_all, All}
-use Rattle.std.proofs.lemmas.Bool.{not-false, ltb-false, eqb-true, eqb-false, or_parts, cases_Bool, both_ways}
+use Rattle.std.proofs.lemmas.Bool.{not-false, ltb-false, eqb-true, eqb-false, or_parts}
 use Rattle.std.proofs.lemmas.List.Sums.{fold-append}
 use Rattle.std.proofs.lemmas.List.Elements.{All-push, All-nil}
 use Rattle.std.specs.Ordering.{is_some_and, is_le, nat_cmp}
@@ -124,7 +124,7 @@ with_push_is_kept l p durable known h taken other is =
     top : (a b : ℕ) → a < b → max a b ≡ b
     top a b less = omega arith
 
--- a push that is not refused is held exactly where it is not above what the log reaches
+-- a push that is held is not above what the log reaches, and one that is above is not held
 pub held_is_low : (l : LogState) (p : PushContent) → is_push_held l p ≡ true → p.version ≤ durable_of l
 held_is_low l p held = held_within_reach (seeded_to_of l.seed) p l.pushes held
 
@@ -133,9 +133,6 @@ unheld_is_high l p taken is other = let follows = (next_push l p taken other).fo
 
 pub high_is_unheld : (l : LogState) (p : PushContent) → durable_of l < p.version → is_push_held l p ≡ false
 high_is_unheld l p high = Rattle.std.proofs.lemmas.Bool.false_from_ne_true (is_push_held l p) (λ held. let low = held_is_low l p held in absurd (omega arith))
-
-pub low_is_held : (l : LogState) (p : PushContent) → push_refusal l p ≡ None → IsPush p → p.version ≤ durable_of l → is_push_held l p ≡ true
-low_is_held l p taken is low = Rattle.std.proofs.lemmas.Bool.true_from_ne_false (is_push_held l p) (λ other. let high = unheld_is_high l p taken is other in absurd (omega arith))
 
 -- a version that the test does not find at most another is above it
 pub above_from_test : (a b : ℕ) → false ≡ is_some_and is_le (Some (nat_cmp a b)) → b < a

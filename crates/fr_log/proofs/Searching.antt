@@ -1,17 +1,13 @@
 -- Finding a place in a list, and gathering from there.
-use Rattle.std.proofs.Common.{◌≡◌, ℕ, zero, suc, ◌+◌, ◌<◌, ◌≤◌, Bool, true, false, List, [], ◌∷◌, ◌++◌, length, get_or, take, drop, nat_lt, Option, None, Some, eqb, refl, sym, ◌∙◌, ap, inl, inr, arith, append_assoc, length-append, take-append-drop}
+use Rattle.std.proofs.Common.{◌≡◌, ℕ, zero, suc, ◌+◌, ◌<◌, ◌≤◌, Bool, true, false, List, [], ◌∷◌, ◌++◌, length, get_or, take, drop, nat_lt, Option, None, Some, eqb, refl, sym, ◌∙◌, ap, arith, append_assoc, length-append, take-append-drop}
 use Rattle.std.specs.List.{filter, filter_map}
-use Rattle.std.proofs.lemmas.Bool.{lt-ltb, le-ltb, false_from_ne_true, cases_order, cases_Bool}
-use Rattle.std.proofs.lemmas.List.{append-nil, take_all, take_at, take_more, drop_more, length_push}
-use Rattle.std.proofs.lemmas.List.Elements.{filter_map-append, All-from_get_or}
-use Rattle.std.proofs.lemmas.List.Folds.{list_any_none, list_any_at}
+use Rattle.std.proofs.lemmas.Bool.{lt-ltb, le-ltb, false_from_ne_true}
+use Rattle.std.proofs.lemmas.List.{append-nil, take_at, take_more, drop_more, length_push}
+use Rattle.std.proofs.lemmas.List.Elements.{filter_map-append}
 use Rattle.fr_log.specs.Push.{PushContent, is_one_push, is_one_push-parts}
 use Rattle.fr_mutation.specs.declared.mutation.Mutation.{Mutation}
-use Rattle.fr_tags.specs.declared.body.Body.{Body}
-use Rattle.fr_tags.specs.Bodies.{batch_of}
 use Rattle.fr_log.specs.declared.records.SeedRecord.{SeedRecord}
-use Rattle.fr_log.specs.LogState.{seeded_record, pushed_record}
-use Rattle.fr_log.specs.Search.{AreRising, is_found}
+use Rattle.fr_log.specs.LogState.{seeded_record}
 
 -- what is above a number, where all above it stands behind all that is not
 pub above_is_drop : {X : Type 0} (n : X → ℕ) (after i : ℕ) (xs : List X) → ((k : ℕ) (d : X) → k < i → n (get_or xs k d) ≤ after)
@@ -30,32 +26,6 @@ above_is_drop n after (suc i) (x ∷ xs) low high =
 -- a push of another version is another push
 pub another : (p q : PushContent) → (q.version ≡ p.version → ⊥) → is_one_push p q ≡ false
 another p q apart = false_from_ne_true (is_one_push p q) (λ e. apart (sym (is_one_push-parts p q e).version))
-
--- the place from which on versions are not below that of a push is the only one where the push can be
-pub found_at : (p : PushContent) (ps : List PushContent) (i : ℕ) (held : PushContent) → AreRising ps
-    → ((k : ℕ) (d : PushContent) → k < i → (get_or ps k d).version < p.version)
-    → ((k : ℕ) (d : PushContent) → i ≤ k → k < length ps → p.version ≤ (get_or ps k d).version)
-    → i < length ps → held ≡ get_or ps i held → is_one_push p held ≡ is_found p ps
-found_at p ps i held rising low high within is = elim (cases_Bool (is_one_push p held)) [
-  | inl found ↦ found ∙ sym (list_any_at (is_one_push p) ps i held within (ap (is_one_push p) (sym is) ∙ found))
-  | inr lost ↦ lost ∙ sym (list_any_none (is_one_push p) ps (All-from_get_or (λ q. is_one_push p q ≡ false) ps held (λ k less. none lost k less)))
-]
-  where
-    none : is_one_push p held ≡ false → (k : ℕ) → k < length ps → is_one_push p (get_or ps k held) ≡ false
-    none lost k less = elim (cases_order k i) [
-      | inl same ↦ ap (λ j. is_one_push p (get_or ps j held)) same ∙ ap (is_one_push p) (sym is) ∙ lost
-      | inr (inl before) ↦ another p (get_or ps k held) (λ e. let v = low k held before in absurd (omega arith))
-      | inr (inr behind) ↦ another p (get_or ps k held) (λ e.
-          let v = high i held (omega arith) within in
-          let w = rising i k held behind less in
-          absurd (omega arith))
-    ]
-
-pub found_nowhere : (p : PushContent) (ps : List PushContent) (i : ℕ) → ((k : ℕ) (d : PushContent) → k < i → (get_or ps k d).version < p.version)
-    → length ps ≤ i → false ≡ is_found p ps
-found_nowhere p ps i low past =
-    sym (list_any_none (is_one_push p) ps (All-from_get_or (λ q. is_one_push p q ≡ false) ps p (λ k less.
-    another p (get_or ps k p) (λ e. let v = low k p (omega arith) in absurd (omega arith)))))
 
 -- ---- gathering what a function finds in each element, until there is enough
 
@@ -93,31 +63,11 @@ module _ {X Y : Type 0} where
         more_is = sym (ap (λ zs. nat_lt most (length zs)) all ∙ lt-ltb most (length (given ++ (y ∷ rest))) (omega arith));
       }
 
-  pub gather_done : (h : X → Option Y) (old given : List Y) (xs : List X) (i most : ℕ) → length xs ≤ i → given ≡ old ++ filter_map h (take i xs) → length given ≤ most
-      → AreGathered given (old ++ filter_map h xs) most false
-  gather_done h old given xs i most past so_far fits =
-      let all : given ≡ old ++ filter_map h xs = so_far ∙ ap (λ zs. old ++ filter_map h zs) (take_all i xs past) in
-      record {
-        front = all ∙ sym (take_all most (old ++ filter_map h xs) (let k = ap length all in omega arith));
-        more_is = sym (le-ltb most (length (old ++ filter_map h xs)) (let k = ap length all in omega arith));
-      }
-
 pub seeded_found : (tag : ℕ) (r : SeedRecord) (batch : List Mutation) → true ≡ eqb r.tag tag → batch ≡ r.batch → seeded_record tag r ≡ Some (record { version = r.version; batch = batch })
 seeded_found tag r batch is same = rw (← is, same) refl
 
 pub seeded_none : (tag : ℕ) (r : SeedRecord) → false ≡ eqb r.tag tag → seeded_record tag r ≡ None
 seeded_none tag r is = rw (← is) refl
-
-pub pushed_found : (tag : ℕ) (p : PushContent) (bodies : List Body) (found : List Mutation) (version : ℕ) (batch : List Mutation) → bodies ≡ p.bodies → Some found ≡ batch_of tag bodies
-    → version ≡ p.version → batch ≡ found → pushed_record tag p ≡ Some (record { version = version; batch = batch })
-pushed_found tag p bodies found version batch same is at copied =
-    let e : batch_of tag p.bodies ≡ Some found = ap (batch_of tag) (sym same) ∙ sym is in
-    rw (e, at, copied) refl
-
-pub pushed_none : (tag : ℕ) (p : PushContent) (bodies : List Body) → bodies ≡ p.bodies → None ≡ batch_of tag bodies → pushed_record tag p ≡ None
-pushed_none tag p bodies same is =
-    let e : batch_of tag p.bodies ≡ None = ap (batch_of tag) (sym same) ∙ sym is in
-    rw e refl
 
 pub room_more : {Y : Type 0} (given more : List Y) (y : Y) (most : ℕ) → more ≡ given ++ y ∷ [] → length given ≤ most → (length given ≡ most → ⊥) → length more ≤ most
 room_more given more y most e fits short = let k = ap length e in let j = length_push given y in omega arith

@@ -1,8 +1,7 @@
 -- A seed with one record more.
-use Rattle.std.proofs.Common.{◌≡◌, ℕ, zero, suc, ◌+◌, ◌-◌, ◌<◌, ◌≤◌, Bool, true, false, ◌&&◌, ◌||◌, List, [], ◌∷◌, ◌++◌, length, nat_lt, nat_le, nat_eq, None, Some, refl, sym, ◌∙◌, ap, arith, inl, inr}
+use Rattle.std.proofs.Common.{◌≡◌, ℕ, suc, ◌+◌, ◌-◌, ◌<◌, ◌≤◌, Bool, true, false, ◌&&◌, ◌||◌, List, [], ◌∷◌, ◌++◌, length, nat_lt, nat_le, nat_eq, Some, refl, sym, ◌∙◌, ap, arith}
 use Rattle.std.specs.List.{slice_get}
-use Rattle.std.proofs.lemmas.Bool.{and_parts, le-leb, lt-ltb, le-ltb, eq-eqb, ne_eqb}
-use Rattle.std.proofs.lemmas.Option.{slice_get_cases}
+use Rattle.std.proofs.lemmas.Bool.{and_parts, lt-ltb, le-ltb, eq-eqb, ne_eqb}
 use Rattle.fr_log.specs.declared.records.SeedRecord.{SeedRecord}
 use Rattle.fr_log.specs.Seed.{is_rising_from}
 
@@ -31,17 +30,6 @@ one_more_rises version tag (r ∷ s ∷ rs) last next is rising =
     let parts = and_parts (nat_lt version r.version || (nat_eq version r.version && nat_le tag r.tag)) (is_rising_from r.version (r.tag + 1) (s ∷ rs)) rising in
     both (nat_lt version r.version || (nat_eq version r.version && nat_le tag r.tag)) (is_rising_from r.version (r.tag + 1) ((s ∷ rs) ++ next ∷ [])) (behind last next) parts.0
     (one_more_rises r.version (r.tag + 1) (s ∷ rs) last next later parts.1)
-
-first_rises : (version tag : ℕ) → ((nat_lt 0 version || (nat_eq 0 version && nat_le 0 tag)) && true) ≡ true
-first_rises zero tag = rw (le-leb 0 tag (omega arith)) refl
-first_rises (suc version) tag = rw (lt-ltb 0 (suc version) (omega arith)) refl
-
-pub none_rises : (rs : List SeedRecord) (next : SeedRecord) → slice_get rs (length rs - 1) ≡ None → is_rising_from 0 0 (rs ++ next ∷ []) ≡ true
-none_rises [] next is = first_rises next.version next.tag
-none_rises (r ∷ rs) next is = elim (slice_get_cases (r ∷ rs) (length (r ∷ rs) - 1)).1 [
-  | inl found ↦ absurd (let k = found.2 in cc (is, k))
-  | inr past ↦ (let k = past.0 in absurd (omega (arith, k)))
-]
 
 -- the tests of the code, one after another
 module _ (rs : List SeedRecord) (last next : SeedRecord) (found : slice_get rs (length rs - 1) ≡ Some last) (rising : is_rising_from 0 0 rs ≡ true)

@@ -1,5 +1,5 @@
 -- Batches on the shelves of their tags.
-use Rattle.std.proofs.Common.{◌≡◌, ℕ, zero, suc, ◌+◌, ◌-◌, ◌<◌, ◌≤◌, Bool, true, false, not, ◌&&◌, List, [], ◌∷◌, ◌++◌, length, take, get_or, drop, map, cond, nat_lt, nat_le, eqb, Option, None, Some, refl, sym, ◌∙◌, ap, subst, inl, inr, arith}
+use Rattle.std.proofs.Common.{◌≡◌, ℕ, zero, suc, ◌+◌, ◌-◌, ◌<◌, ◌≤◌, Bool, true, false, not, ◌&&◌, List, [], ◌∷◌, ◌++◌, length, take, get_or, drop, cond, nat_lt, nat_le, eqb, Option, None, Some, refl, sym, ◌∙◌, ap, subst, inl, inr, arith}
 use Rattle.std.specs.Prelude.{filter, IsSome, IfSome, Result, Ok, Err, OnErr}
 use Rattle.std.specs.List.{AllByRecursion}
 use Rattle.std.specs.Map.{lookup, keys_of}
@@ -188,13 +188,6 @@ put_more w shelves next all b bs rising so_far here others t = go (eqb t b.tag) 
     go : (s : Bool) → eqb t b.tag ≡ s → next t ++ at_version w (batch_of t bs) ≡ all t
     go true k = subst (λ x. next x ++ at_version w (batch_of x bs) ≡ all x) (sym (eqb-true t b.tag k)) at_tag
     go false k = two (λ (xs : List Shelved) (o : Option (List Mutation)). xs ++ at_version w o) (others t k) (sym (skipped k)) ∙ so_far t
-
--- one empty shelf more
-pub one_empty : (ss : List (List Shelved)) (t : ℕ) → shelf_of (ss ++ [] ∷ []) t ≡ shelf_of ss t
-one_empty [] zero = refl
-one_empty [] (suc t) = refl
-one_empty (s ∷ ss) zero = refl
-one_empty (s ∷ ss) (suc t) = one_empty ss t
 
 pub past_all : (ss : List (List Shelved)) (t : ℕ) → length ss ≤ t → shelf_of ss t ≡ []
 past_all [] zero le = refl

@@ -1,5 +1,5 @@
 -- What is sought among pushes and records.
-use Rattle.std.specs.Prelude.{ℕ, ◌<◌, Bool, List, length, slice_index_or}
+use Rattle.std.specs.Prelude.{ℕ, Bool, List}
 use Rattle.std.specs.List.{list_any, filter_map}
 use Rattle.fr_log.specs.declared.records.SeedRecord.{SeedRecord}
 use Rattle.fr_log.specs.declared.records.PeekedRecord.{PeekedRecord}
@@ -17,7 +17,3 @@ seeded_records tag rs = filter_map (seeded_record tag) rs
 -- the records of a tag in pushes
 abbrev pub pushed_records : ℕ → List PushContent → List PeekedRecord
 pushed_records tag ps = filter_map (pushed_record tag) ps
-
--- each push has a greater version than those before it
-abbrev pub AreRising : List PushContent → Type 0
-AreRising ps = (i j : ℕ) (d : PushContent) → i < j → j < length ps → (slice_index_or ps i d).version < (slice_index_or ps j d).version

@@ -15,7 +15,7 @@ use crate::push::Push;
 use crate::pushes::Pushes;
 use crate::records::SeedRecord;
 use crate::seed::Seed;
-use fr_base::{LogId, Memory, Tag, Version};
+use fr_base::{LogId, Memory, Shape, Tag, Version};
 use fr_state::CoordState;
 use fr_tags::{Body, MAX_LOGS, is_held};
 pub use place::Place;
@@ -29,8 +29,7 @@ use std::marker::Model;
 #[derive(Debug, Drop)]
 pub struct Log {
     id: LogId,
-    m: u8,
-    k: u8,
+    shape: Shape,
     seed: Option<Seed>,
     pushes: Pushes,
     durable: Version,
@@ -44,9 +43,9 @@ impl Model for Log {
 
     ghost Value = { LogState };
 
-    ghost view = { λ a. record { epoch = a.id.epoch; index = a.id.index; m = a.m; k = a.k; seed = a.seed; pushes = a.pushes; stopped = a.stopped } };
+    ghost view = { λ a. record { epoch = a.id.epoch; index = a.id.index; m = a.shape.m; k = a.shape.k; seed = a.seed; pushes = a.pushes; stopped = a.stopped } };
 
-    ghost invariant = { λ a. IsKept (record { epoch = a.id.epoch; index = a.id.index; m = a.m; k = a.k; seed = a.seed; pushes = a.pushes; stopped = a.stopped }) a.durable a.known };
+    ghost invariant = { λ a. IsKept (record { epoch = a.id.epoch; index = a.id.index; m = a.shape.m; k = a.shape.k; seed = a.seed; pushes = a.pushes; stopped = a.stopped }) a.durable a.known };
 }
 
 impl Log {
@@ -59,10 +58,12 @@ impl Log {
         requires place { id.index < m }
         ensures { result ≡ fresh_log id.epoch id.index m k }
     {
+        let Some(shape) = Shape::new(m, k) else {
+            unreachable!();
+        };
         Log {
             id,
-            m,
-            k,
+            shape,
             seed: None,
             pushes: Pushes::new(alloc),
             durable: Version::ZERO,
@@ -85,7 +86,7 @@ impl Log {
         ensures value { result ≡ self.now.m }
         ensures sound { IsLog self.now }
     {
-        self.m
+        self.shape.m()
     }
 
     /// On how many logs each tag stands.
@@ -93,7 +94,7 @@ impl Log {
         ensures value { result ≡ self.now.k }
         ensures sound { IsLog self.now }
     {
-        self.k
+        self.shape.k()
     }
 
     /// Whether it has a seed.
@@ -138,7 +139,7 @@ impl Log {
     fn holds(&self, tag: Tag) -> bool
         ensures { result ≡ holds self.now tag }
     {
-        is_held(tag, self.m, self.k, self.id.index)
+        is_held(tag, self.shape.m(), self.shape.k(), self.id.index)
     }
 
     fn holds_seeded(&self, records: &[SeedRecord]) -> bool
@@ -200,8 +201,7 @@ impl Clone for Log {
     fn clone(&self) -> Result<Self, AllocError> {
         Ok(Log {
             id: self.id,
-            m: self.m,
-            k: self.k,
+            shape: self.shape,
             seed: self.seed.clone()?,
             pushes: self.pushes.clone()?,
             durable: self.durable,

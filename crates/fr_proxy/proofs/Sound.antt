@@ -139,16 +139,6 @@ hear_keeps p from t s = heeds p from t (heeded p from t) (hear_is_heard p from t
 pub keeps : (p : ProxyState) (from : NodeId) (t : Tell) (h : Heeded) → heeded p from t ≡ h → IsProxy p → IsProxy (after_heeded p h)
 keeps p from t h e s = subst (λ x. IsProxy (after_heeded p x)) e (hear_keeps p from t s)
 
-place_at : (p : ProxyState) (from : NodeId) (t : Tell) (h : Heeded) (at : Place) → Heard p from t h → h ≡ Placed at → IsPlace p.known at
-place_at p from t h at Ignores e = absurd (cc)
-place_at p from t h at (Places o a k) e = let same : a ≡ at = cc in subst (IsPlace p.known) same (number_is_place p o a from t k)
-place_at p from t h at (Holds o a log k l) e = absurd (cc)
-place_at p from t h at (HoldsAll o a log k l) e = absurd (cc)
-place_at p from t h at (Cuts o i k) e = absurd (cc)
-
-pub placed_is_place : (p : ProxyState) (from : NodeId) (t : Tell) (at : Place) → heeded p from t ≡ Placed at → IsPlace p.known at
-placed_is_place p from t at e = place_at p from t (heeded p from t) at (hear_is_heard p from t) e
-
 pub new_is_proxy : (epoch number m k : ℕ) (begins : List (List ℕ)) (known : ℕ) → 1 ≤ k → k ≤ m → m ≤ 16 → IsProxy (new_proxy epoch number m k begins known)
 new_is_proxy epoch number m k begins known a b d = record { some = a; fits = b; limit = d; spent = omega arith; open_batch = tt; over = λ h. refl }
 

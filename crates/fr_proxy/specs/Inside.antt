@@ -9,8 +9,8 @@ abbrev pub state_of : Inside → ProxyState
 state_of a = record {
   epoch = a.epoch;
   number = a.number;
-  m = a.m;
-  k = a.k;
+  m = a.shape.m;
+  k = a.shape.k;
   begins = a.map;
   known = a.known;
   requests = a.requests;

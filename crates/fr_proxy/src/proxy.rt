@@ -10,7 +10,7 @@ mod push;
 use crate::fault::SubmitFault;
 use crate::under_way::UnderWay;
 use fr_ask::{Ask, SeqAsk};
-use fr_base::{Epoch, Memory, Step, Version};
+use fr_base::{Epoch, Memory, Shape, Step, Version};
 use fr_mutation::Batch;
 use fr_tags::{MAX_LOGS, ShardMap};
 use std::marker::Model;
@@ -27,8 +27,7 @@ const LAST_REQUEST: u64 = (1 << 62) - 1;
 pub struct Proxy {
     epoch: Epoch,
     number: u8,
-    m: u8,
-    k: u8,
+    shape: Shape,
     map: ShardMap,
     known: Version,
     requests: u64,
@@ -57,11 +56,13 @@ impl Proxy {
         requires limit { m ≤ MAX_LOGS }
         ensures { result ≡ new_proxy epoch number m k map known }
     {
+        let Some(shape) = Shape::new(m, k) else {
+            unreachable!();
+        };
         Proxy {
             epoch,
             number,
-            m,
-            k,
+            shape,
             map,
             known,
             requests: 0,
@@ -88,14 +89,14 @@ impl Proxy {
     pub fn m(&self) -> u8
         ensures { result ≡ self.now.m }
     {
-        self.m
+        self.shape.m()
     }
 
     /// On how many logs each tag stands.
     pub fn k(&self) -> u8
         ensures { result ≡ self.now.k }
     {
-        self.k
+        self.shape.k()
     }
 
     /// How the keys are cut into shards.
@@ -119,8 +120,7 @@ impl Proxy {
         Ok(Proxy {
             epoch: self.epoch,
             number: self.number,
-            m: self.m,
-            k: self.k,
+            shape: self.shape,
             map: self.map.copy()?,
             known: self.known,
             requests: self.requests,

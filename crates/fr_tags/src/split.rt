@@ -8,7 +8,7 @@ ghost use Rattle.fr_tags.specs.Split.{bodies, bodies_for, split};
 use crate::body::Body;
 use crate::map::{MAX_SHARDS, ShardMap, tag_at};
 use crate::placement::{MAX_LOGS, is_held};
-use fr_base::Memory;
+use fr_base::{Memory, Shape};
 use fr_mutation::{Batch, clip};
 use std::alloc::Global;
 
@@ -28,10 +28,13 @@ impl ShardMap {
         requires limit { m ≤ MAX_LOGS }
         ensures { IfOk result (λ logs. map (λ log. log.items) logs.items ≡ split self.now batch.now m k) }
     {
+        let Some(shape) = Shape::new(m, k) else {
+            unreachable!();
+        };
         let bodies = self.bodies(alloc, batch)?;
         let mut logs = Vec::with_capacity(alloc, usize::from(m))?;
         for log in 0..m {
-            logs.push(bodies_for(alloc, bodies.as_slice(), m, k, log)?)?;
+            logs.push(bodies_for(alloc, bodies.as_slice(), shape, log)?)?;
         }
         Ok(logs)
     }
@@ -87,15 +90,12 @@ fn mark(marks: &mut [bool], from: usize, to: usize)
 }
 
 /// Copies of the bodies whose tags a log holds.
-fn bodies_for(alloc: Global, bodies: &[Body], m: u8, k: u8, log: u8) -> Result<Vec<Body>, Memory>
-    requires some { 1 ≤ k }
-    requires fits { k ≤ m }
-    requires limit { m ≤ MAX_LOGS }
-    ensures { IfOk result (λ held. held.items ≡ bodies_for bodies.now m k log) }
+fn bodies_for(alloc: Global, bodies: &[Body], shape: Shape, log: u8) -> Result<Vec<Body>, Memory>
+    ensures { IfOk result (λ held. held.items ≡ bodies_for bodies.now shape.m shape.k log) }
 {
     let mut held = Vec::new(alloc);
     for body in bodies {
-        if is_held(body.tag, m, k, log) {
+        if is_held(body.tag, shape.m(), shape.k(), log) {
             held.push(body.copy()?)?;
         }
     }

@@ -1,8 +1,8 @@
 -- The tags of a copy are merged by taking the least record that is left.
-use Rattle.std.proofs.Common.{◌≡◌, ℕ, zero, suc, ◌+◌, ◌<◌, ◌≤◌, ◌⊎◌, Bool, true, false, cond, ◌∷◌, [], ◌++◌, List, length, get_or, set, drop, map, flat_map, replicate, append_assoc, nat_lt, Option, None, Some, refl, sym, ◌∙◌, ap, subst, inl, inr, arith}
+use Rattle.std.proofs.Common.{◌≡◌, ℕ, zero, suc, ◌+◌, ◌<◌, ◌≤◌, ◌⊎◌, true, false, cond, ◌∷◌, [], ◌++◌, List, length, get_or, set, drop, map, flat_map, replicate, append_assoc, None, refl, sym, ◌∙◌, ap, subst, inl, inr, arith}
 use Rattle.std.specs.List.{range_with_len}
 use Rattle.std.proofs.Math.Seq.{drop-cons}
-use Rattle.std.proofs.lemmas.Bool.{cases_eq, cases_lt, cases_order, ltb-true, ltb-false}
+use Rattle.std.proofs.lemmas.Bool.{cases_eq, cases_lt, cases_order}
 use Rattle.fr_mutation.specs.declared.mutation.Mutation.{Mutation}
 use Rattle.std.proofs.lemmas.List.{append-nil, get_or-set_same, get_or-set_other, drop_all}
 use Rattle.fr_log.specs.declared.records.PeekedRecord.{PeekedRecord}
@@ -10,75 +10,10 @@ use Rattle.fr_log.specs.declared.records.SeedRecord.{SeedRecord}
 use Rattle.fr_tail.specs.Tail.{TailState, part_at, as_seed_record, records_for, placed, in_order}
 use Rattle.fr_tags.specs.Placement.{is_held}
 use Rattle.fr_tail.specs.Shape.{IsTail}
-use Rattle.fr_tail.specs.Merging.{taken_of, left_of, all_left, HasLeft, first_left, IsLeast, IsLeastOf, lesser_of}
+use Rattle.fr_tail.specs.Merging.{taken_of, left_of, all_left, HasLeft, first_left, IsLeast, IsLeastOf}
 use Rattle.fr_tail.proofs.Rising.{Rises, rises_lower, rises_from_test, AllAbove, Below, all_append, placed_below, all_in_order, in_order_past}
 
 -- ---- the least record
-
--- one more tag has a record left
-pub least_more : (s : TailState) (taken : List ℕ) (n : ℕ) (o : Option (ℕ × ℕ)) (version : ℕ) → IsLeastOf s taken n o → HasLeft s taken n → ((d : PeekedRecord) → first_left s taken n d ≡ version)
-    → IsLeastOf s taken (n + 1) (lesser_of o version n)
-least_more s taken n None version none more is = record {
-  below = omega arith;
-  more = more;
-  version_is = is;
-  least = λ u d below has. elim (cases_lt u n) [
-    | inl less ↦ (let k = none u less in absurd (omega (arith, k, has)))
-    | inr le ↦ (let e : u ≡ n = omega (arith, le, below) in inr (sym (ap (λ t. first_left s taken t d) e ∙ is d), omega (arith, e)))
-  ];
-}
-least_more s taken n (Some (old, t)) version k more is = go (nat_lt version old) refl
-  where
-    go : (b : Bool) → nat_lt version old ≡ b → IsLeastOf s taken (n + 1) (cond b (Some (version, n)) (Some (old, t)))
-    go true e =
-        let less = ltb-true version old e in
-        record {
-          below = omega arith;
-          more = more;
-          version_is = is;
-          least = λ u d below has. elim (cases_lt u n) [
-            | inl before ↦ inl (over less (k.least u d before has))
-            | inr le ↦ (let e : u ≡ n = omega (arith, le, below) in inr (sym (ap (λ t. first_left s taken t d) e ∙ is d), omega (arith, e)))
-          ];
-        }
-      where
-        over : {u : ℕ} {v : ℕ} → version < old → (old < v) ⊎ ((old ≡ v) × (t ≤ u)) → version < v
-        over less (inl more) = omega (arith, less, more)
-        over less (inr (same, le)) = omega (arith, less, same)
-    go false e =
-        let high = ltb-false version old e in
-        let low = k.below in
-        record {
-          below = omega (arith, low);
-          more = k.more;
-          version_is = k.version_is;
-          least = λ u d below has. elim (cases_lt u n) [
-            | inl before ↦ k.least u d before has
-            | inr le ↦ (let e : u ≡ n = omega (arith, le, below) in let v : first_left s taken u d ≡ version = ap (λ t. first_left s taken t d) e ∙ is d in
-                elim (cases_lt old (first_left s taken u d)) [
-                  | inl less ↦ inl less
-                  | inr le ↦ inr (omega (arith, high, v, le), omega (arith, low, e))
-                ])
-          ];
-        }
-
--- one more tag has none left
-pub least_same : (s : TailState) (taken : List ℕ) (n : ℕ) (o : Option (ℕ × ℕ)) → IsLeastOf s taken n o → length (part_at s n).records ≤ taken_of taken n → IsLeastOf s taken (n + 1) o
-least_same s taken n None none past = λ u below. elim (cases_lt u n) [
-  | inl less ↦ none u less
-  | inr le ↦ (let e : u ≡ n = omega (arith, le, below) in subst (λ t. length (part_at s t).records ≤ taken_of taken t) (sym e) past)
-]
-least_same s taken n (Some (old, t)) k past =
-    let low = k.below in
-    record {
-      below = omega (arith, low);
-      more = k.more;
-      version_is = k.version_is;
-      least = λ u d below has. elim (cases_lt u n) [
-        | inl less ↦ k.least u d less has
-        | inr le ↦ (let e : u ≡ n = omega (arith, le, below) in let p = subst (λ t. length (part_at s t).records ≤ taken_of taken t) (sym e) past in absurd (omega (arith, p, has)))
-      ];
-    }
 
 -- ---- it is the first of those left
 

@@ -4,7 +4,7 @@ ghost use Rattle.fr_tail.specs.Tail.{is_complete, seed_for, records_for, in_orde
 ghost use Rattle.fr_tail.specs.Merging.{left_of, all_left, IsLeastOf, lesser_of};
 
 use crate::tail::Tail;
-use fr_base::{LogId, Memory, Tag, Version};
+use fr_base::{LogId, Memory, Shape, Tag, Version};
 use fr_log::{Seed, SeedRecord};
 use fr_tags::{MAX_LOGS, MAX_SHARDS, is_held};
 use std::alloc::Global;
@@ -20,7 +20,10 @@ impl Tail {
         requires limit { m ≤ MAX_LOGS }
         ensures { IfOk result (λ seed. seed ≡ seed_for self.now id.epoch m k id.index) }
     {
-        let records = self.merged(alloc, self.untaken(m, k, id.index))?;
+        let Some(shape) = Shape::new(m, k) else {
+            unreachable!();
+        };
+        let records = self.merged(alloc, self.untaken(shape, id.index))?;
         match Seed::new(id.epoch, after(self.pev), self.rv, records) {
             Some(seed) => Ok(seed),
             None => unreachable!(),
@@ -28,15 +31,12 @@ impl Tail {
     }
 
     /// How many records of each tag a log is not to have: none of a tag that it holds, and else all.
-    fn untaken(&self, m: u8, k: u8, log: u8) -> [usize; MAX_SHARDS]
-        requires some { 1 ≤ k }
-        requires fits { k ≤ m }
-        requires limit { m ≤ MAX_LOGS }
-        ensures { (t : ℕ) → t < length self.now.parts → left_of self.now result t ≡ records_for self.now m k log t }
+    fn untaken(&self, shape: Shape, log: u8) -> [usize; MAX_SHARDS]
+        ensures { (t : ℕ) → t < length self.now.parts → left_of self.now result t ≡ records_for self.now shape.m shape.k log t }
     {
         let mut taken = [0; MAX_SHARDS];
         for number in 0..self.parts.len() {
-            if !is_held(tag_at(number), m, k, log) {
+            if !is_held(tag_at(number), shape.m(), shape.k(), log) {
                 taken[number] = self.parts[number].records().len();
             }
         }

@@ -7,7 +7,7 @@ ghost use Rattle.fr_tail.specs.Shape.{IsTail};
 
 use crate::fault::TailFault;
 use crate::part::TagCopy;
-use fr_base::{Memory, Tag, Version};
+use fr_base::{Memory, Shape, Tag, Version};
 use fr_log::Peeked;
 use fr_tags::{MAX_LOGS, MAX_SHARDS, is_held};
 use std::alloc::Global;
@@ -19,8 +19,7 @@ use std::marker::Model;
 /// copies the versions whose commit is not known (Zhou et al., SIGMOD 2021, section 2.4).
 #[derive(Debug, Drop)]
 pub struct Tail {
-    pub(crate) m: u8,
-    pub(crate) k: u8,
+    pub(crate) shape: Shape,
     pub(crate) responders: Vec<u8>,
     pub(crate) pev: Version,
     pub(crate) rv: Version,
@@ -33,9 +32,9 @@ impl Model for Tail {
 
     ghost Value = { TailState };
 
-    ghost view = { λ t. record { m = t.m; k = t.k; responders = t.responders.items; pev = t.pev; rv = t.rv; parts = t.parts.items } };
+    ghost view = { λ t. record { m = t.shape.m; k = t.shape.k; responders = t.responders.items; pev = t.pev; rv = t.rv; parts = t.parts.items } };
 
-    ghost invariant = { λ t. IsTail (record { m = t.m; k = t.k; responders = t.responders.items; pev = t.pev; rv = t.rv; parts = t.parts.items }) };
+    ghost invariant = { λ t. IsTail (record { m = t.shape.m; k = t.shape.k; responders = t.responders.items; pev = t.pev; rv = t.rv; parts = t.parts.items }) };
 }
 
 impl Tail {
@@ -58,13 +57,15 @@ impl Tail {
         requires room { rv + 1 < 2 ^ 62 }
         ensures { IfOk result (λ tail. tail ≡ new_tail tags m k responders.items pev rv) }
     {
+        let Some(shape) = Shape::new(m, k) else {
+            unreachable!();
+        };
         let mut parts = Vec::with_capacity(alloc, usize::from(tags))?;
         for _ in 0..tags {
             parts.push(TagCopy::new(alloc, pev))?;
         }
         Ok(Tail {
-            m,
-            k,
+            shape,
             responders,
             pev,
             rv,
@@ -118,7 +119,7 @@ impl Tail {
         ensures { result ≡ is_responder self.now index tag }
     {
         self.responders.contains(&index)
-            && is_held(tag, self.m, self.k, index)
+            && is_held(tag, self.shape.m(), self.shape.k(), index)
             && usize::from(tag.get()) < self.parts.len()
     }
 
@@ -155,7 +156,7 @@ impl Tail {
         ensures value { result ≡ self.now.m }
         ensures sound { IsTail self.now }
     {
-        self.m
+        self.shape.m()
     }
 
     /// On how many of these logs each tag stands.
@@ -163,7 +164,7 @@ impl Tail {
         ensures value { result ≡ self.now.k }
         ensures sound { IsTail self.now }
     {
-        self.k
+        self.shape.k()
     }
 
     /// The logs from which is copied.
@@ -194,8 +195,7 @@ impl Tail {
         ensures { IfOk result (λ tail. tail ≡ self.now) }
     {
         Ok(Tail {
-            m: self.m,
-            k: self.k,
+            shape: self.shape,
             responders: self.responders.clone()?,
             pev: self.pev,
             rv: self.rv,

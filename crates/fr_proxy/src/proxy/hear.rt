@@ -139,7 +139,7 @@ impl Proxy {
     fn heed_log_of(&self, under_way: &UnderWay, epoch: Epoch, log: u8, tell: &LogTell) -> Heeded
         ensures { result ≡ heed self.now (open_of under_way.now) (NodeId.Log epoch log) (Tell.Log tell.now) }
     {
-        if epoch == self.epoch && log < self.m {
+        if epoch == self.epoch && log < self.shape.m() {
             self.heed_log(under_way, log, tell)
         } else {
             Heeded::Ignored
@@ -205,7 +205,7 @@ impl Proxy {
             Some(place) => {
                 if version != place.version || under_way.is_held_by(log) {
                     Heeded::Ignored
-                } else if under_way.held.len() + 1 == usize::from(self.m) {
+                } else if under_way.held.len() + 1 == usize::from(self.shape.m()) {
                     Heeded::HeldByAll { version }
                 } else {
                     Heeded::HeldBy { log }

@@ -79,7 +79,9 @@ impl Proxy {
         ensures { IfOk result (λ asks. asks.items ≡ pushes_at self.now (open_of under_way.now) (Some place.now)) }
     {
         split_law();
-        let split = self.map.split(alloc, &under_way.batch, self.m, self.k)?;
+        let split = self
+            .map
+            .split(alloc, &under_way.batch, self.shape.m(), self.shape.k())?;
         let mut asks = Vec::with_capacity(alloc, split.len())?;
         let mut log = 0;
         for bodies in split {

@@ -1,4 +1,4 @@
-use Rattle.std.proofs.Common.{rules, ◌≡◌, ◌<◌, ◌≤◌, map, length, List, sym, ap, subst, ◌∙◌, arith, IsTrue}
+use Rattle.std.proofs.Common.{rules, ◌≡◌, ◌<◌, ◌≤◌, map, length, List, sym, ap, ap₂, subst, ◌∙◌, arith, IsTrue}
 use Rattle.std.proofs.lemmas.List.{length-map}
 use Rattle.std.specs.Vec.{vec_len}
 use Rattle.std.specs.Vec.Iter.{into_iter_items}
@@ -7,13 +7,13 @@ use Rattle.fr_tags.specs.Bodies.{is_rising_from}
 use Rattle.fr_tags.specs.Split.{split}
 use Rattle.fr_proxy.specs.Proxy.{ProxyState}
 use Rattle.fr_proxy.specs.UnderWay.{open_of}
-use Rattle.fr_proxy.proofs.Pushing.{next_bodies, bodies_rise, length-split, pushes_so_far}
+use Rattle.fr_proxy.proofs.Pushing.{next_bodies, bodies_rise, length-split, asks_below, pushes_so_far}
 use Rattle.fr_proxy.proofs.proxy.Proxy.pushes.Goals as goal
 
 pub loop-bodies-init : goal.loop-bodies-init
 loop-bodies-init c =
     let o = open_of c.args.under_way.now in
-    let parts = c.in_ok-split.ensures ∙ ap (λ (s : ProxyState). split s.begins c.args.under_way.now.batch s.m s.k) c.self.view_is in
+    let parts = c.in_ok-split.ensures ∙ ap₂ (λ m k. split c.self.inside.map c.args.under_way.now.batch m k) c.m.ensures.value c.k.ensures.value ∙ ap (λ (s : ProxyState). split s.begins c.args.under_way.now.batch s.m s.k) c.self.view_is in
     let items = c.into_iter-bodies-iterator.ensures.into_iter_gives in
     record {
       can = tt;
@@ -52,3 +52,9 @@ loop-bodies-preserved c =
       limit = inv.limit;
       asks = pushes_so_far p o c.args.place.now c.loop-bodies.log c.loop-bodies.asks.items c.add_push.new.asks.items c.in-Some.bodies.items next.0 inv.asks c.in_ok-add_push.ensures;
     }
+
+pub returns : goal.returns
+returns c =
+    let inv = c.loop-bodies.invariant in
+    let all : c.loop-bodies.log ≡ c.args.self.now.m = omega (arith, c.in-None.ensures.steps.0, inv.count) in
+    inv.asks ∙ ap (asks_below c.args.self.now (open_of c.args.under_way.now) c.args.place.now) all
