@@ -123,6 +123,11 @@ def json_of(state):
     return [{"epoch": e, "m": m, "k": k, "first": f, "seeded_to": s} for e, m, k, f, s in state]
 
 
+def generation_of(state, epoch):
+    """The generation of an epoch of a state."""
+    return next(gen for gen in state if gen[0] == epoch)
+
+
 def cut_of(state, epoch):
     """The version through which the generation after an epoch took over; none of the last one."""
     places = [at for at, gen in enumerate(state) if gen[0] == epoch]

@@ -4,32 +4,43 @@ from . import batches, rules
 from .rules import FIRST, want
 
 
+def shape_of(begun):
+    """The shape that a recoverer begins with, by what its journal says."""
+    want(set(begun) in (set(), {"logs", "degree"}), "a recoverer begins with", begun)
+    if not begun:
+        return None
+    shape = begun["logs"], begun["degree"]
+    want(1 <= shape[1] <= shape[0] <= 16, "there is no shape of", begun)
+    return shape
+
+
 class Nodes:
     """The nodes of a config, as they stand after the acts taken so far."""
 
     def __init__(self, config):
         self.config = config
-        self.m, self.k = config["logs"], config["degree"]
         self.shards = batches.shards(config["shards"])
-        first = [(FIRST, self.m, self.k, 1, 0)]
+        first = [(FIRST, config["logs"], config["degree"], 1, 0)]
         self.cells = [rules.Cell(batches.bytes_of(first)) for _ in range(config["coordinators"])]
         self.storages = [rules.Storage(first) for _ in self.shards]
         self.recoverers, self.logs, self.sequencers, self.proxies = {}, {}, {}, {}
         self.batches = {}
         self.gone = set()
-        self.make_logs(FIRST)
-        for index in range(self.m):
+        self.make_logs(first[0])
+        for index in range(config["logs"]):
             self.logs[FIRST, index].start(first)
-        self.open(FIRST, 1, 0)
+        self.open(first[0], 1, 0)
 
-    def make_logs(self, epoch):
-        for index in range(self.m):
-            self.logs[epoch, index] = rules.Log(epoch, index, self.m, self.k)
+    def make_logs(self, generation):
+        epoch, m, k, _, _ = generation
+        for index in range(m):
+            self.logs[epoch, index] = rules.Log(epoch, index, m, k)
 
-    def open(self, epoch, last, known):
+    def open(self, generation, last, known):
+        epoch, m, _, _, _ = generation
         self.sequencers[epoch] = rules.Sequencer(last)
         for number in range(self.config["proxies"]):
-            self.proxies[epoch, number] = rules.Proxy(epoch, self.m, known)
+            self.proxies[epoch, number] = rules.Proxy(epoch, m, known)
 
     def node(self, name):
         """A node by its name in a journal."""
@@ -50,7 +61,7 @@ class Nodes:
         """Makes one act of a node; answers why a storage server does not take it."""
         ((kind, what),) = act.items()
         if kind == "begun":
-            self.begin(name["recoverer"]["ballot"])
+            self.begin(name["recoverer"]["ballot"], shape_of(what))
             return None
         try:
             node = self.node(name)
@@ -68,9 +79,9 @@ class Nodes:
             self.gone.add(str(name))
         return None
 
-    def begin(self, ballot):
+    def begin(self, ballot, shape):
         want(ballot not in self.recoverers and ballot not in (0, FIRST), "ballot", ballot, "is used twice")
-        self.recoverers[ballot] = rules.Recoverer(ballot, self.config)
+        self.recoverers[ballot] = rules.Recoverer(ballot, self.config, shape)
 
     def asked(self, name, node, what):
         ((kind, ask),) = what["ask"].items()
@@ -94,7 +105,7 @@ class Nodes:
     def may_recover(self, recoverer, word, said, name):
         want(said.get("ballot", recoverer.ballot) == recoverer.ballot, "an ask of another ballot")
         if word == "write":
-            want(len(recoverer.seeded) == self.m, "a state is written before all logs were seeded")
+            want(recoverer.is_seeded(), "a state is written before all logs were seeded")
             want(said["value"] == batches.bytes_of(recoverer.state), "a state other than the parent's and one more")
         elif word == "seed":
             want(recoverer.is_copied(), "a seed before all is copied")
@@ -129,9 +140,9 @@ class Nodes:
         was_copied, was_chosen = node.is_copied(), node.phase.startswith("chosen")
         node.hear(what["from"], what["tell"])
         if node.is_copied() and not was_copied:
-            self.make_logs(node.ballot)
+            self.make_logs(node.state[-1])
         if node.phase.startswith("chosen") and not was_chosen:
-            self.open(node.ballot, node.rv + 1, node.pev)
+            self.open(node.state[-1], node.rv + 1, node.pev)
 
     def last(self, name):
         """What a node's last state is to be, but for a storage server's rows."""

@@ -27,6 +27,12 @@ def known_alone(recoverer):
     recoverer.replies = replies
 
 
+def opened_as_first(world, generation, last, known):
+    """The proxies of each epoch count its logs as those of the first one."""
+    epoch, _, k, first, seeded_to = generation
+    RIGHT[nodes.Nodes, "open"](world, (epoch, world.config["logs"], k, first, seeded_to), last, known)
+
+
 def below_promise(cell, name, what):
     """A cell takes a write below what it promised."""
     if name == "write":
@@ -58,6 +64,7 @@ def never_undone(storage, state, taken):
 WRONG = {
     commit_by_half: (rules.Proxy, "hear"),
     known_alone: (rules.Recoverer, "plan"),
+    opened_as_first: (nodes.Nodes, "open"),
     below_promise: (rules.Cell, "ask"),
     never_stopped: (rules.Log, "lock"),
     newest_cut: (rules.Storage, "hear_marked"),
@@ -93,10 +100,9 @@ class Player:
     def lacks(self, name):
         """The asks that a proxy or a recoverer has pending."""
         node = self.nodes.node(name)
-        logs = [{"log": {"epoch": getattr(node, "epoch", 0), "index": at}} for at in range(node.m)]
-        return list(self.lacks_of_proxy(name, node, logs) if "proxy" in name else self.lacks_of_recoverer(node))
+        return list(self.lacks_of_proxy(name, node) if "proxy" in name else self.lacks_of_recoverer(node))
 
-    def lacks_of_proxy(self, name, node, logs):
+    def lacks_of_proxy(self, name, node):
         if not node.open:
             return
         if node.place is None:
@@ -108,7 +114,8 @@ class Player:
             log = self.nodes.logs[node.epoch, at]
             bodies = [[tag, shard.clip(batch)] for tag, shard in enumerate(self.nodes.shards) if log.holds(tag)]
             push = {"bodies": [each for each in bodies if each[1]], "epoch": node.epoch, "known": node.known, "mark": None}
-            yield logs[at], {"log": {"push": {**push, "prev": node.prev, "version": node.place}}}
+            to = {"log": {"epoch": node.epoch, "index": at}}
+            yield to, {"log": {"push": {**push, "prev": node.prev, "version": node.place}}}
 
     def lacks_of_recoverer(self, node):
         old = node.parent[-1][0] if node.parent else None
@@ -129,10 +136,10 @@ class Player:
                         ask = {"after": reached, "epoch": old, "most": 100, "tag": tag}
                         yield {"log": {"epoch": old, "index": at}}, {"log": {"peek": ask}}
         elif node.phase == "copying":
-            for at in set(range(node.m)) - node.seeded:
+            for at in set(range(node.own()[0])) - node.seeded:
                 yield {"log": {"epoch": node.ballot, "index": at}}, {"log": {"seed": self.seed(node, at)}}
         elif node.phase.startswith("chosen"):
-            for at in range(node.m):
+            for at in range(node.own()[0]):
                 mark = {"bodies": [], "epoch": node.ballot, "known": node.pev, "mark": batches.json_of(node.state)}
                 ask = {**mark, "prev": node.rv, "version": node.rv + 1}
                 yield {"log": {"epoch": node.ballot, "index": at}}, {"log": {"push": ask}}
@@ -140,10 +147,11 @@ class Player:
     def seed(self, node, at):
         """What a log of the next generation is seeded with: what the logs that replied have of its tags."""
         found = {}
+        m, k = node.own()
         for index in node.replies:
             log = self.nodes.logs[node.parent[-1][0], index]
             for tag, records in log.records.items():
-                if (at - tag) % node.m < node.k:
+                if (at - tag) % m < k:
                     found.update({(version, tag): batch for version, batch in records if node.pev < version <= node.rv})
         records = [{"batch": batch, "tag": tag, "version": version} for (version, tag), batch in sorted(found.items())]
         return {"epoch": node.ballot, "first": node.pev + 1, "records": records, "seeded_to": node.rv}
@@ -244,7 +252,7 @@ class Player:
         node = self.nodes.node(name)
         if not node.open and not node.ended:
             key, value = self.dice.choice(["", "61", "6162", "62", "63", "64"]), f"{self.dice.randrange(256):02x}"
-            batch = [{"set": {"key": key, "value": value}}]
+            batch = [{self.dice.choice(["set", "set", "compare_and_clear"]): {"key": key, "value": value}}]
             self.act(number, "submit", name, {"submitted": {"batch": batch, "step": 1}})
 
     def pull(self, number):
@@ -252,20 +260,28 @@ class Player:
         server = self.nodes.storages[tag]
         epoch = batches.source_of(server.state, server.version + 1) or FIRST
         ask = {"log": {"peek": {"after": server.version, "epoch": epoch, "most": 100, "tag": tag}}}
-        index = (tag + self.dice.randrange(self.config["degree"])) % self.config["logs"]
+        _, m, k, _, _ = batches.generation_of(server.state, epoch)
+        index = (tag + self.dice.randrange(k)) % m
         self.deliver(number, "pull", {"storage": {"tag": tag}}, {"log": {"epoch": epoch, "index": index}}, ask)
 
     def mark(self, number):
         by = {"storage": {"tag": self.dice.randrange(len(self.config["shards"]))}}
         epoch = self.dice.choice([max(self.nodes.sequencers), *self.nodes.sequencers])
-        to = {"log": {"epoch": epoch, "index": self.dice.randrange(self.config["logs"])}}
+        to = {"log": {"epoch": epoch, "index": self.dice.randrange(self.nodes.proxies[epoch, 0].m)}}
         self.deliver(number, "mark", by, to, {"log": {"mark_asked": {"epoch": epoch}}})
 
     def begin(self, number):
         self.round += self.dice.choice([0, 1, 1])
         ballot = self.round * 256 + self.dice.randint(2, 4)
         if ballot not in self.nodes.recoverers and len(self.nodes.recoverers) < 30:
-            self.act(number, "begin", {"recoverer": {"ballot": ballot}}, {"begun": {}})
+            self.act(number, "begin", {"recoverer": {"ballot": ballot}}, {"begun": self.shape()})
+
+    def shape(self):
+        """Mostly none, else a small one."""
+        if self.dice.random() < 0.6:
+            return {}
+        logs = self.dice.choice([1, 2, 2, 3, 3, 4, 5])
+        return {"logs": logs, "degree": self.dice.randint(1, logs)}
 
     def again(self, number):
         for name in [{"recoverer": {"ballot": each}} for each in self.nodes.recoverers][-3:]:

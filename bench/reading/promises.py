@@ -17,15 +17,14 @@ class Promises:
 
     def __init__(self, config, skip=None):
         self.skip = skip
-        self.m, self.k = config["logs"], config["degree"]
         self.majority = config["coordinators"] // 2 + 1
         self.shards = batches.shards(config["shards"])
-        first = [(FIRST, self.m, self.k, 1, 0)]
+        first = [(FIRST, config["logs"], config["degree"], 1, 0)]
         self.states = {FIRST: first}
         self.takers = {}
         self.chosen = [FIRST]
         self.submitted, self.own, self.issued_of = {}, {FIRST: []}, {}
-        self.durable = {(FIRST, index): 1 for index in range(self.m)}
+        self.durable = {(FIRST, index): 1 for index in range(config["logs"])}
         self.committed = [(1, None)]
         self.kept = {}
         self.stands = [(FIRST, 0) for _ in self.shards]
@@ -52,7 +51,7 @@ class Promises:
     def look(self):
         """Takes the committed list anew: that of the greatest chosen epoch, through the least version of its logs."""
         epoch = self.chosen[-1]
-        least = min(self.durable.get((epoch, index), 0) for index in range(self.m))
+        least = min(self.durable.get((epoch, index), 0) for index in range(self.states[epoch][-1][1]))
         issued = self.issued(epoch)
         size = len(issued)
         while size and issued[size - 1][0] > least:
@@ -199,11 +198,11 @@ class Promises:
         for version, held in self.kept.items():
             want(all(self.is_committed(*it) for _, it in held), "kept: version", version, "was acknowledged, and is lost")
         state = self.states[self.chosen[-1]]
-        if any(sum(1 for it in self.lost if it[0] == gen[0]) >= self.k for gen in state):
+        if any(sum(1 for it in self.lost if it[0] == gen[0]) >= gen[2] for gen in state):
             return
         for version, _ in self.committed:
-            source = batches.source_of(state, version) or FIRST
+            source, m, k, _, _ = batches.generation_of(state, batches.source_of(state, version) or FIRST)
             for tag, (_, applied) in enumerate(self.stands):
-                holders = [(source, (tag + each) % self.m) for each in range(self.k)]
+                holders = [(source, (tag + each) % m) for each in range(k)]
                 can = [it for it in holders if it not in self.lost and self.durable.get(it, -1) >= version]
                 want(version <= applied or can, "kept: version", version, "cannot be had for tag", tag)

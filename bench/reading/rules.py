@@ -198,11 +198,13 @@ class Proxy:
 
 
 class Recoverer:
-    """One attempt to open the next epoch."""
+    """One attempt to open the next epoch. `shape` is how many logs that is to have and on how many of them each tag
+    stands; none is as in the epoch that it ends."""
 
-    def __init__(self, ballot, config):
-        self.ballot, self.cells = ballot, config["coordinators"]
-        self.m, self.k, self.tags = config["logs"], config["degree"], len(config["shards"])
+    def __init__(self, ballot, config, shape=None):
+        self.ballot, self.cells, self.shape = ballot, config["coordinators"], shape
+        self.tags = len(config["shards"])
+        self.m = self.k = None
         self.phase = "reading"
         self.reads, self.replies, self.written, self.seeded = {}, {}, set(), set()
         self.refused_reads = set()
@@ -212,8 +214,12 @@ class Recoverer:
     def is_majority(self, heard):
         return 2 * len(heard) > self.cells
 
+    def own(self):
+        """How many logs its own epoch has, and on how many of them each tag stands."""
+        return self.shape or (self.m, self.k)
+
     def is_copied(self):
-        return self.rv is not None and all(each >= self.rv for each in self.reached)
+        return self.state is not None and all(each >= self.rv for each in self.reached)
 
     def hear(self, node, tell):
         ((kind, what),) = tell.items()
@@ -237,6 +243,7 @@ class Recoverer:
             self.reads[index] = (said["written"], said["value"])
             if self.is_majority(self.reads):
                 self.parent = batches.state_of(max(self.reads.values(), key=lambda each: each[0])[1])
+                self.m, self.k = self.parent[-1][1:3]
                 self.phase = "locking"
         elif self.phase == "writing" and name == "written" and said["ballot"] == self.ballot:
             self.written.add(index)
@@ -254,9 +261,13 @@ class Recoverer:
             if (index - tag) % self.m < self.k and said["after"] == self.reached[tag]:
                 self.reached[tag] = max(self.reached[tag], min(said["upto"], self.rv))
         elif self.phase == "copying" and name == "seeded" and epoch == self.ballot and self.is_copied():
-            self.seeded.add(index)
-            if len(self.seeded) == self.m:
+            self.seeded |= {index} & set(range(self.own()[0]))
+            if self.is_seeded():
                 self.phase = "writing"
+
+    def is_seeded(self):
+        """Whether all logs of its own epoch have their seeds."""
+        return len(self.seeded) == self.own()[0]
 
     def plan(self):
         """What the replies say, once they cover."""
@@ -271,7 +282,7 @@ class Recoverer:
             self.phase = "lost TooMany"
         else:
             self.phase = "copying"
-            self.state = self.parent + [(self.ballot, self.m, self.k, self.pev + 1, self.rv)]
+            self.state = self.parent + [(self.ballot, *self.own(), self.pev + 1, self.rv)]
             self.reached = [self.pev] * self.tags
 
     def last(self):

@@ -1,10 +1,11 @@
 //! `audit`: whether the journals of all nodes are a run.
 
 use crate::batch::Batch;
-use crate::forms::{object, variants, Ballot, Empty, Epoch, Stamp, Step, Version};
+use crate::forms::{object, variants, Ballot, Count, Empty, Epoch, Stamp, Step, Version};
 use crate::messages::{Ask, CellValue, LogAsk, NodeId, Tell};
 use crate::proxy::Outcome;
 use crate::script::Bytes;
+use crate::state::Shape;
 use crate::world::{Config, ConfigForm, Heard, NotEnabled, World};
 use std::collections::HashSet;
 use std::fmt;
@@ -27,6 +28,7 @@ object! {
         tell: Tell as Tell,
     }
 }
+object! { BegunForm {} maybe { logs: u8 as Count, degree: u8 as Count } }
 object! { Submitted { batch: Rc<Batch> as Rc<Batch>, step: u64 as Step } }
 
 /// What a node did, one turn of it. It is taken out when its turn comes.
@@ -34,7 +36,7 @@ pub enum Act {
     Asked(Asked),
     Heard(HeardForm),
     Submitted(Submitted),
-    Begun,
+    Begun(Option<Shape>),
     Crashed,
     Lost,
     Taken,
@@ -45,7 +47,7 @@ variants! {
         "asked": Asked => |it| Some(Act::Asked(it)),
         "heard": HeardForm => |it| Some(Act::Heard(it)),
         "submitted": Submitted => |it| Some(Act::Submitted(it)),
-        "begun": Empty => |_| Some(Act::Begun),
+        "begun": BegunForm => |it| Some(Act::Begun(Shape::of_members(it.logs, it.degree)?)),
         "crashed": Empty => |_| Some(Act::Crashed),
         "lost": Empty => |_| Some(Act::Lost),
     }
@@ -192,8 +194,8 @@ impl Audit {
                 self.sent.insert((node, NodeId::Sequencer(epoch), ask));
                 Ok(())
             }
-            (Act::Begun, NodeId::Recoverer(ballot)) => {
-                self.world.begin(ballot)?;
+            (Act::Begun(shape), NodeId::Recoverer(ballot)) => {
+                self.world.begin(ballot, shape)?;
                 self.send_pending(node);
                 Ok(())
             }

@@ -61,12 +61,17 @@ impl From<Ballot> for u64 {
 }
 
 /// A struct that is read from an object with exactly its members. `name: Type as Form` reads a `Form`,
-/// which turns into the `Type`.
+/// which turns into the `Type`. Members behind `maybe` need not be there.
 macro_rules! object {
-    ($(#[$meta:meta])* $Name:ident { $($field:ident: $Type:ty as $Form:ty),* $(,)? }) => {
+    (
+        $(#[$meta:meta])*
+        $Name:ident { $($field:ident: $Type:ty as $Form:ty),* $(,)? }
+        $(maybe { $($option:ident: $Option:ty as $OptionForm:ty),* $(,)? })?
+    ) => {
         $(#[$meta])*
         pub struct $Name {
-            $(pub $field: $Type),*
+            $(pub $field: $Type,)*
+            $($(pub $option: Option<$Option>,)*)?
         }
 
         impl<'de> serde::de::Deserialize<'de> for $Name {
@@ -84,8 +89,9 @@ macro_rules! object {
                     #[allow(unused_imports, unused_variables)]
                     fn visit_map<A: serde::de::MapAccess<'de>>(self, mut map: A) -> Result<$Name, A::Error> {
                         use serde::de::Error;
-                        const NAMES: &[&str] = &[$(stringify!($field)),*];
+                        const NAMES: &[&str] = &[$(stringify!($field),)* $($(stringify!($option),)*)?];
                         $(let mut $field: Option<$Form> = None;)*
+                        $($(let mut $option: Option<$OptionForm> = None;)*)?
                         while let Some(place) = map.next_key_seed($crate::script::Name(NAMES))? {
                             $(if NAMES[place] == stringify!($field) {
                                 if $field.replace(map.next_value()?).is_some() {
@@ -93,9 +99,16 @@ macro_rules! object {
                                 }
                                 continue;
                             })*
+                            $($(if NAMES[place] == stringify!($option) {
+                                if $option.replace(map.next_value()?).is_some() {
+                                    return Err(A::Error::duplicate_field(NAMES[place]));
+                                }
+                                continue;
+                            })*)?
                         }
                         Ok($Name {
-                            $($field: $field.ok_or_else(|| A::Error::missing_field(stringify!($field)))?.into()),*
+                            $($field: $field.ok_or_else(|| A::Error::missing_field(stringify!($field)))?.into(),)*
+                            $($($option: $option.map(|form| form.into()),)*)?
                         })
                     }
                 }

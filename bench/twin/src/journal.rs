@@ -3,7 +3,7 @@
 use crate::batch::{Batch, Combine, Mutation};
 use crate::messages::{Ask, CellAsk, CellTell, LogAsk, LogRefusal, LogTell, NodeId, SequencerTell, Tell};
 use crate::proxy::Outcome;
-use crate::state::State;
+use crate::state::{Shape, State};
 use crate::world::{Heard, World};
 use serde_json::{json, Value};
 use std::collections::BTreeMap;
@@ -41,8 +41,9 @@ impl Journals {
         self.enter(node, json!({"submitted": {"batch": batch_of(batch), "step": step}}));
     }
 
-    pub fn begun(&mut self, node: NodeId) {
-        self.enter(node, json!({"begun": {}}));
+    pub fn begun(&mut self, node: NodeId, shape: Option<Shape>) {
+        let begun = shape.map_or(json!({}), |shape| json!({"degree": shape.k, "logs": shape.m}));
+        self.enter(node, json!({ "begun": begun }));
     }
 
     pub fn lost(&mut self, node: NodeId) {

@@ -2,7 +2,7 @@
 
 use crate::cell::{Progress, Tally};
 use crate::messages::{Ask, CellAsk, LogAsk, LogId, LogTell, NodeId, Peek, Peeked, Push, Seed, SeedRecord, Tell};
-use crate::state::{ExtendFault, Generation, State, LAST_VERSION};
+use crate::state::{ExtendFault, Generation, Shape, State, LAST_VERSION};
 use std::collections::BTreeMap;
 use std::fmt;
 use std::rc::Rc;
@@ -11,6 +11,8 @@ use std::rc::Rc;
 pub struct Recoverer {
     ballot: u64,
     tags: u8,
+    /// That of the next generation; where there is none it has the shape of the one before.
+    shape: Option<Shape>,
     pub phase: Phase,
     reads: Tally,
     writes: Tally,
@@ -59,10 +61,11 @@ struct Plan {
 }
 
 impl Recoverer {
-    pub fn new(ballot: u64, cells: u8, tags: u8) -> Self {
+    pub fn new(ballot: u64, cells: u8, tags: u8, shape: Option<Shape>) -> Self {
         Recoverer {
             ballot,
             tags,
+            shape,
             phase: Phase::Reading,
             reads: Tally::of_reads(cells, ballot),
             writes: Tally::of_writes(cells, ballot),
@@ -168,7 +171,8 @@ impl Recoverer {
         let old = *parent.last();
         let pev = self.replies.values().map(|(_, known)| *known).max().unwrap_or(0);
         let rv = self.replies.values().map(|(durable, _)| *durable).min().unwrap_or(0);
-        let new = Generation { epoch: self.ballot, m: old.m, k: old.k, first: pev + 1, seeded_to: rv };
+        let Shape { m, k } = self.shape.unwrap_or(Shape { m: old.m, k: old.k });
+        let new = Generation { epoch: self.ballot, m, k, first: pev + 1, seeded_to: rv };
         if pev > rv {
             self.phase = Phase::Lost("Inconsistent");
             return;

@@ -2,11 +2,12 @@
 
 use crate::batch::{Batch, BatchFault};
 use crate::journal::Journals;
-use crate::forms::{object, variants, Ballot, CellPlace, Epoch, Place, Step, Tag};
+use crate::forms::{object, variants, Ballot, CellPlace, Count, Epoch, Place, Step, Tag};
 use crate::lines::push_row;
 use crate::messages::{Ask, CellAsk, LogAsk, LogId, LogTell, NodeId, Tell};
 use crate::proxy::Outcome;
 use crate::script::Mutations;
+use crate::state::Shape;
 use crate::world::{ConfigForm, Heard, NotEnabled, World};
 use serde_json::Value;
 use std::io::{self, Write};
@@ -33,6 +34,9 @@ object! {
         lock: Vec<Place> as Vec<Place>,
         write: Vec<CellPlace> as Vec<CellPlace>,
         mark: Vec<Place> as Vec<Place>,
+    } maybe {
+        logs: u8 as Count,
+        degree: u8 as Count,
     }
 }
 
@@ -41,7 +45,7 @@ pub enum StepForm {
     Push(PushForm),
     Pull(StorageForm),
     Mark(StorageForm),
-    Recover(RecoverForm),
+    Recover(RecoverForm, Option<Shape>),
     Lose(LogId),
 }
 
@@ -57,7 +61,10 @@ variants! {
         "push": PushForm => |it| Some(StepForm::Push(it)),
         "pull": StorageForm => |it| Some(StepForm::Pull(it)),
         "mark": StorageForm => |it| Some(StepForm::Mark(it)),
-        "recover": RecoverForm => |it| Some(StepForm::Recover(it)),
+        "recover": RecoverForm => |it| {
+            let shape = Shape::of_members(it.logs, it.degree)?;
+            Some(StepForm::Recover(it, shape))
+        },
         "lose": LoseForm => |it| Some(StepForm::Lose(LogId { epoch: it.epoch, index: it.log })),
     }
 }
@@ -114,7 +121,7 @@ fn take_steps(play: &mut Play, steps: Vec<StepForm>, output: &mut impl Write) ->
                 let ask = Some(LogAsk::MarkAsked { epoch });
                 write_storage("mark", storage, play.ask_log(storage, LogId { epoch, index: log }, ask), output)?;
             }
-            StepForm::Recover(step) => match play.recover(&step) {
+            StepForm::Recover(step, shape) => match play.recover(&step, shape) {
                 Ok(()) => {
                     let phase = play.world.recoverer(step.ballot).expect("it has begun").phase;
                     writeln!(output, "recover {} {phase}", step.ballot)?;
@@ -240,12 +247,13 @@ impl Play {
         Ok((storage.epoch(), storage.store.applied()))
     }
 
-    fn recover(&mut self, step: &RecoverForm) -> Result<(), NotEnabled> {
+    /// A shape counts where the recoverer begins with this step.
+    fn recover(&mut self, step: &RecoverForm, shape: Option<Shape>) -> Result<(), NotEnabled> {
         let by = NodeId::Recoverer(step.ballot);
         if self.world.recoverer(step.ballot).is_none() {
-            self.world.begin(step.ballot)?;
+            self.world.begin(step.ballot, shape)?;
             if let Some(journals) = &mut self.journals {
-                journals.begun(by);
+                journals.begun(by, shape);
             }
         }
         let is_read = |ask: &Ask| matches!(ask, Ask::Cell(CellAsk::Read { .. }));

@@ -18,6 +18,25 @@ object! {
     }
 }
 
+/// How many logs a generation has, and on how many of them each tag stands.
+#[derive(Clone, Copy, Debug, PartialEq)]
+pub struct Shape {
+    pub m: u8,
+    pub k: u8,
+}
+
+impl Shape {
+    /// The shape of a script's members `logs` and `degree`, of which both are there or neither; `None` where they are
+    /// not right.
+    pub fn of_members(logs: Option<u8>, degree: Option<u8>) -> Option<Option<Self>> {
+        match (logs, degree) {
+            (None, None) => Some(None),
+            (Some(m), Some(k)) if 1 <= k && k <= m && m <= 16 => Some(Some(Shape { m, k })),
+            _ => None,
+        }
+    }
+}
+
 /// Generations, the oldest first and the current one last; never none.
 #[derive(Clone, Debug, PartialEq, Eq, Hash)]
 pub struct State(Vec<Generation>);

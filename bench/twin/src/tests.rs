@@ -136,6 +136,18 @@ fn each_combination_with_a_value_and_with_none() {
 }
 
 #[test]
+fn a_comparison_is_within_the_limits_of_a_set() {
+    let compared = |value: usize| {
+        let compare = format!(r#"{{"compare_and_clear":{{"key":"","value":"{}"}}}}"#, "00".repeat(value));
+        batch(1, &[compare])
+    };
+    prints(
+        &[compared(100_001), compared(100_000)].join(","),
+        &["refused ValueTooLong", "ok 1 floor 0 undo 0"],
+    );
+}
+
+#[test]
 fn a_range_is_cleared_from_its_begin_up_to_its_end() {
     prints(
         r#"{"apply":{"version":1,"batch":[{"set":{"key":"","value":""}},{"set":{"key":"61","value":"01"}},
@@ -294,6 +306,7 @@ fn scripts_that_are_bad() {
         r#"{"ops":[{"apply":{"version":4,"batch":[{"set":{"key":"61","param":"62"}}]}}]}"#,
         r#"{"ops":[{"apply":{"version":4,"batch":[{"add":{"key":"61","value":"62"}}]}}]}"#,
         r#"{"ops":[{"apply":{"version":4,"batch":[{"clear":{"begin":"61"}}]}}]}"#,
+        r#"{"ops":[{"apply":{"version":4,"batch":[{"compare_and_clear":{"key":"61","param":"62"}}]}}]}"#,
     ] {
         is_bad(script);
     }

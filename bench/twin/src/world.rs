@@ -8,7 +8,7 @@ use crate::messages::{Ask, LogAsk, LogId, LogTell, NodeId, Push, Seed, Tell};
 use crate::proxy::{Outcome, Proxy, Sequencer, SubmitFault};
 use crate::recoverer::Recoverer;
 use crate::script::Bytes;
-use crate::state::{Generation, State};
+use crate::state::{Generation, Shape, State};
 use crate::storage::{Storage, StorageFault, Unheard};
 use std::collections::BTreeMap;
 use std::rc::Rc;
@@ -193,12 +193,13 @@ impl World {
         self.storages.get(usize::from(tag))
     }
 
-    /// A recoverer begins. Ballot 0 is nobody's, and that of the first epoch was used before the start.
-    pub fn begin(&mut self, ballot: u64) -> Result<(), NotEnabled> {
+    /// A recoverer begins, to open a generation of a shape. Ballot 0 is nobody's, and that of the first epoch was used
+    /// before the start.
+    pub fn begin(&mut self, ballot: u64, shape: Option<Shape>) -> Result<(), NotEnabled> {
         if ballot == 0 || ballot == FIRST_EPOCH || self.recoverers.contains_key(&ballot) {
             return Err(NotEnabled::BallotUsed);
         }
-        let recoverer = Recoverer::new(ballot, self.config.coordinators, self.config.shards.number());
+        let recoverer = Recoverer::new(ballot, self.config.coordinators, self.config.shards.number(), shape);
         self.recoverers.insert(ballot, Node::new(recoverer));
         Ok(())
     }

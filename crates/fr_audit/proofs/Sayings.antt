@@ -42,7 +42,7 @@ pub says_so : (act : Act) (a : Answer) → says act a ≡ true → Says act a
 says_so (Asked from ask tell) a e = told_same a tell e
 says_so (Heard from tell taken o) a e = saying_same (outcome_in a) o e
 says_so (Submitted step batch) a e = tt
-says_so Begun a e = tt
+says_so (Begun shape) a e = tt
 says_so Crashed a e = tt
 says_so Lost a e = tt
 
@@ -50,6 +50,6 @@ pub so_says : (act : Act) (a : Answer) → Says act a → says act a ≡ true
 so_says (Asked from ask tell) a e = ap (λ x. is_told x tell) e ∙ is_same_tell-IsSameness.itself tell
 so_says (Heard from tell taken o) a e = ap (λ x. is_same_saying x o) e ∙ saying_itself o
 so_says (Submitted step batch) a e = refl
-so_says Begun a e = refl
+so_says (Begun shape) a e = refl
 so_says Crashed a e = refl
 so_says Lost a e = refl

@@ -1,5 +1,6 @@
 -- Which event an act of a node is, and whether it says what the world answers.
 use Rattle.std.specs.Prelude.{Bool, true, false, ◌==◌, Option, None, Some}
+use Rattle.fr_base.specs.Shape.{ShapeContent}
 use Rattle.fr_base.specs.declared.place.NodeId.{NodeId}
 use Rattle.fr_base.specs.declared.place.NodeId.TheVariants as node
 use Rattle.fr_ask.specs.Same.{is_same_tell}
@@ -18,10 +19,10 @@ abbrev pub submit_by : NodeId → Act → Option Event
 submit_by (node.Proxy e p) (Submitted step batch) = Some (Submit e p step batch)
 submit_by who act = None
 
--- recoverers alone begin
-abbrev pub begin_by : NodeId → Option Event
-begin_by (node.Recoverer b) = Some (Begin b)
-begin_by who = None
+-- recoverers alone begin, each with the shape that it says
+abbrev pub begin_by : NodeId → Option ShapeContent → Option Event
+begin_by (node.Recoverer b) shape = Some (Begin b shape)
+begin_by who shape = None
 
 -- logs alone are lost
 abbrev pub lose_of : NodeId → Option Event
@@ -33,7 +34,7 @@ abbrev pub event_of : NodeId → Act → Option Event
 event_of who (Asked from ask tell) = Some (Deliver from who ask)
 event_of who (Heard from tell taken outcome) = Some (Hear who from tell taken)
 event_of who (Submitted step batch) = submit_by who (Submitted step batch)
-event_of who Begun = begin_by who
+event_of who (Begun shape) = begin_by who shape
 event_of who Crashed = Some (Crash who)
 event_of who Lost = lose_of who
 
@@ -71,6 +72,6 @@ abbrev pub says : Act → Answer → Bool
 says (Asked from ask tell) a = is_told a tell
 says (Heard from tell taken o) a = has_outcome a o
 says (Submitted step batch) a = true
-says Begun a = true
+says (Begun shape) a = true
 says Crashed a = true
 says Lost a = true

@@ -19,7 +19,7 @@ abbrev pub Says : Act → Answer → Type 0
 Says (Asked from ask tell) a = a ≡ answer.Told tell
 Says (Heard from tell taken o) a = outcome_in a ≡ o
 Says (Submitted step batch) a = Unit {0}
-Says Begun a = Unit {0}
+Says (Begun shape) a = Unit {0}
 Says Crashed a = Unit {0}
 Says Lost a = Unit {0}
 

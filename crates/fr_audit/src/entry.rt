@@ -39,8 +39,11 @@ pub fn event_of(node: NodeId, act: &Act) -> Result<Option<Event>, Memory>
             }),
             _ => None,
         },
-        Act::Begun => match node {
-            NodeId::Recoverer { ballot } => Some(Event::Begin { ballot }),
+        Act::Begun { shape } => match node {
+            NodeId::Recoverer { ballot } => Some(Event::Begin {
+                ballot,
+                shape: *shape,
+            }),
             _ => None,
         },
         Act::Crashed => Some(Event::Crash { node }),

@@ -2,7 +2,7 @@
 ghost use Rattle.std.specs.Prelude.{◌≡◌, IfOk};
 
 use fr_ask::{Ask, Tell};
-use fr_base::{Memory, NodeId, Stamp, Step, Version};
+use fr_base::{Memory, NodeId, Shape, Stamp, Step, Version};
 use fr_mutation::Batch;
 use fr_proxy::Outcome;
 
@@ -28,8 +28,11 @@ pub enum Act {
         step: Step,
         batch: Batch,
     },
-    /// A recoverer began.
-    Begun,
+    /// A recoverer began: `shape` is how many logs the generation that it writes has, and on how many of them each tag
+    /// stands. None is as many as the generation that it ends.
+    Begun {
+        shape: Option<Shape>,
+    },
     /// The node crashed: a proxy, a sequencer or a recoverer is gone, another node stands as it was.
     Crashed,
     /// A log is lost, for good.
@@ -62,7 +65,7 @@ impl Act {
                 step: *step,
                 batch: batch.copy()?,
             },
-            Act::Begun => Act::Begun,
+            Act::Begun { shape } => Act::Begun { shape: *shape },
             Act::Crashed => Act::Crashed,
             Act::Lost => Act::Lost,
         })

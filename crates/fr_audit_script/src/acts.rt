@@ -1,9 +1,9 @@
 //! What nodes do.
 use fr_ask::{Ask, Tell};
 use fr_audit_journal::Act;
-use fr_base::{Memory, NodeId, Version};
+use fr_base::{Memory, NodeId, Shape, Version};
 use fr_forms::fields::{Fields, bare, variant, version_of};
-use fr_forms::object::{Object, bare_named};
+use fr_forms::object::{Object, bare_named, numbered};
 use fr_forms::{
     ScriptFault, names, read_ask, read_batch, read_node, read_outcome, read_step, read_tell,
     write_ask, write_batch, write_node, write_outcome, write_tell,
@@ -17,7 +17,10 @@ pub(crate) fn read_act(alloc: Global, value: Value) -> Result<Act, ScriptFault> 
         names::ASKED => read_asked(alloc, &mut Fields::new(content, 3)),
         names::HEARD => read_heard(alloc, &mut Fields::new(content, 4)),
         names::SUBMITTED => read_submitted(alloc, &mut Fields::new(content, 2)),
-        names::BEGUN => bare(&content, Act::Begun),
+        names::BEGUN => {
+            let shape = read_shape(content)?;
+            Ok(Act::Begun { shape })
+        }
         names::CRASHED => bare(&content, Act::Crashed),
         names::LOST => bare(&content, Act::Lost),
         _ => Err(ScriptFault::BadScript),
@@ -50,6 +53,18 @@ fn read_submitted(alloc: Global, fields: &mut Fields) -> Result<Act, ScriptFault
     Ok(Act::Submitted { step, batch })
 }
 
+/// The shape with which a recoverer began: that of two members, or none where there is no member.
+fn read_shape(content: Value) -> Result<Option<Shape>, ScriptFault> {
+    if let Ok(none) = bare(&content, None) {
+        return Ok(none);
+    }
+    let fields = Fields::new(content, 2);
+    let logs = fields.index(names::LOGS, u8::MAX)?;
+    let degree = fields.index(names::DEGREE, u8::MAX)?;
+    let shape = Shape::new(logs, degree).ok_or(ScriptFault::BadScript)?;
+    Ok(Some(shape))
+}
+
 /// The version at which a hear broke off, or null.
 fn read_taken(value: &Value) -> Result<Option<Version>, ScriptFault> {
     if value.is_null() {
@@ -75,7 +90,7 @@ pub(crate) fn write_act(alloc: Global, act: &Act) -> Result<Value, Memory> {
         Act::Submitted { step, batch } => Object::of(alloc, &[(names::STEP, step.get())])?
             .with(names::BATCH, write_batch(alloc, batch)?)?
             .named(names::SUBMITTED),
-        Act::Begun => bare_named(alloc, names::BEGUN),
+        Act::Begun { shape } => write_begun(alloc, shape),
         Act::Crashed => bare_named(alloc, names::CRASHED),
         Act::Lost => bare_named(alloc, names::LOST),
     }
@@ -87,6 +102,20 @@ fn write_asked(alloc: Global, from: &NodeId, ask: &Ask, tell: &Tell) -> Result<V
         .with(names::ASK, write_ask(alloc, ask)?)?
         .with(names::TELL, write_tell(alloc, tell)?)?
         .named(names::ASKED)
+}
+
+fn write_begun(alloc: Global, shape: &Option<Shape>) -> Result<Value, Memory> {
+    match shape {
+        Some(shape) => numbered(
+            alloc,
+            names::BEGUN,
+            &[
+                (names::LOGS, shape.m() as u64),
+                (names::DEGREE, shape.k() as u64),
+            ],
+        ),
+        None => bare_named(alloc, names::BEGUN),
+    }
 }
 
 fn write_taken(taken: &Option<Version>) -> Value {

@@ -152,8 +152,9 @@ impl Proxy {
         }))
     }
 
-    /// Why it does not take a batch.
-    fn submit_fault(&self) -> Option<SubmitFault>
+    /// Why it does not take a batch now: one is under way, or else the proxy ended or has made all its requests. None
+    /// where it takes one.
+    pub fn submit_fault(&self) -> Option<SubmitFault>
         ensures { result ≡ submit_fault self.now }
     {
         if self.under_way.is_some() {

@@ -1,6 +1,6 @@
 -- A storage server whose hear of records breaks off at a version.
-use Rattle.std.proofs.Common.{◌≡◌, ℕ, Bool, true, false, nat_lt, ◌&&◌, ◌||◌, List, [], ◌++◌, Option, None, Some, sym, ap, ◌∙◌, subst}
-use Rattle.std.specs.Prelude.{◌==◌}
+use Rattle.std.proofs.Common.{◌≡◌, ℕ, Bool, true, false, nat_lt, ◌&&◌, ◌||◌, List, [], ◌++◌, Option, None, Some, refl, sym, ap, ◌∙◌, subst}
+use Rattle.std.specs.Prelude.{◌==◌, is_some, not}
 use Rattle.std.proofs.lemmas.Bool.{and_parts, eq-eqb}
 use Rattle.fr_undo.specs.State.{StoreState}
 use Rattle.fr_state.specs.LookUp.{end_of}
@@ -65,3 +65,15 @@ module _ {S : Type 0} (state_of : S → StoreState) (s n : Server S) (view : s �
       where
         stop : Stop (state_of s.store) (end_of s.state.gens epoch) peeked is v
         stop = stops_there (state_of s.store) (end_of s.state.gens epoch) peeked is v (stops true there)
+
+    -- above the version applied it breaks off exactly where it stops
+    pub off_at : (v == s.applied) ≡ false → stops_at s.applied end peeked v ≡ is_some (broken_at (state_of n.store) (peeked_calls (storage_of state_of n) epoch peeked) v)
+    off_at other = go (stops_at s.applied end peeked v) refl
+      where
+        go : (b : Bool) → stops_at s.applied end peeked v ≡ b → b ≡ is_some (broken_at (state_of n.store) (peeked_calls (storage_of state_of n) epoch peeked) v)
+        go true there = sym (ap is_some (off_there there).found)
+        go false never = sym (ap is_some (off_nowhere other never))
+
+-- of a server that works and does not refuse, what is left to say
+pub unhindered : (failed refuses b : Bool) → failed ≡ false → refuses ≡ false → b ≡ (not failed && (not refuses && b))
+unhindered failed refuses b works takes = sym (ap (λ (f : Bool). not f && (not refuses && b)) works ∙ ap (λ (r : Bool). not r && b) takes)

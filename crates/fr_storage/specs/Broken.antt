@@ -1,9 +1,10 @@
 -- At which versions a hear can break off, and the calls of its store until then.
-use Rattle.std.specs.Prelude.{ℕ, Bool, nat_lt, ◌==◌, ◌&&◌, ◌||◌, List, ◌++◌, map, Option, Some, unwrap_or}
+use Rattle.std.specs.Prelude.{ℕ, Bool, nat_lt, ◌==◌, ◌&&◌, ◌||◌, not, is_some, List, ◌++◌, map, Option, Some, unwrap_or}
 use Rattle.std.specs.List.{list_any}
 use Rattle.fr_undo.specs.State.{StoreState}
 use Rattle.fr_log.specs.declared.records.PeekedRecord.{PeekedRecord}
 use Rattle.fr_log.specs.Peeked.{PeekedContent}
+use Rattle.fr_storage.specs.declared.fault.StorageFault.{StorageFault}
 use Rattle.fr_storage.specs.Storage.{StorageState, Call, is_within, cut_at, records_between, apply_of, reached, advance_calls, broken_at}
 
 -- whether one of some records is of a version
@@ -23,3 +24,7 @@ calls_through s version records =
 -- a storage whose calls broke off at a version, where they can, and which was opened again
 abbrev pub after_broken : StorageState → List Call → ℕ → StorageState
 after_broken s calls version = record s { store = unwrap_or (broken_at s.store calls version) s.store }
+
+-- whether a hear with these calls, which is refused for this reason if it is, breaks off at a version
+abbrev pub breaks_off : StorageState → Option StorageFault → List Call → ℕ → Bool
+breaks_off s fault calls version = not (is_some fault) && is_some (broken_at s.store calls version)

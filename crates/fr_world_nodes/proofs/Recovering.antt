@@ -8,6 +8,7 @@ use Rattle.std.specs.declared.cmp.Ordering.TheVariants.{Equal}
 use Rattle.std.specs.FinMap.{nat_cmp-IsAntisymmetric}
 use Rattle.std.specs.BTreeMap as tree
 use Rattle.std.proofs.lemmas.Bool.{eqb-true, eq-eqb}
+use Rattle.fr_base.specs.Shape.{ShapeContent}
 use Rattle.fr_base.specs.declared.place.NodeId.{NodeId}
 use Rattle.fr_base.proofs.MapLemmas.{one_key}
 use Rattle.fr_register.specs.CellState.{CellState}
@@ -33,11 +34,11 @@ at_number n b = go (tree.is_at (nat_cmp n) b) (n == b) refl refl
     go false false e k = refl
 
 -- the recoverers after one of them began
-pub begun : (c : Config) (h : List Turn) (b : ℕ) (asks : List Sending) (recoverers new : Recoverers) (r : RecState) → AreRecoverers c h recoverers → r ≡ new_recoverer b c.cells c.begins
-    → ((q : ℕ) → tree.get nat_cmp new q ≡ cond (tree.is_at (nat_cmp b) q) (Some r) (tree.get nat_cmp recoverers q)) → AreRecoverers c (Begun b asks ∷ h) new
-begun c h b asks recoverers new r are made put q =
+pub begun : (c : Config) (h : List Turn) (b : ℕ) (shape : Option ShapeContent) (asks : List Sending) (recoverers new : Recoverers) (r : RecState) → AreRecoverers c h recoverers → r ≡ new_recoverer b c.cells c.begins shape
+    → ((q : ℕ) → tree.get nat_cmp new q ≡ cond (tree.is_at (nat_cmp b) q) (Some r) (tree.get nat_cmp recoverers q)) → AreRecoverers c (Begun b shape asks ∷ h) new
+begun c h b shape asks recoverers new r are made put q =
     put q ∙ (ap (λ s. cond s (Some r) (tree.get nat_cmp recoverers q)) (at_number b q)
-    ∙ (ap (λ x. cond (b == q) (Some x) (tree.get nat_cmp recoverers q)) made ∙ ap (λ o. cond (b == q) (Some (new_recoverer b c.cells c.begins)) o) (are q)))
+    ∙ (ap (λ x. cond (b == q) (Some x) (tree.get nat_cmp recoverers q)) made ∙ ap (λ o. cond (b == q) (Some (new_recoverer b c.cells c.begins shape)) o) (are q)))
 
 -- and after one of them heard
 pub heard : (c : Config) (h : List Turn) (b : ℕ) (from : NodeId) (t : Tell) (asks : List Sending) (recoverers new : Recoverers) → AreRecoverers c h recoverers
@@ -50,12 +51,12 @@ heard c h b from t asks recoverers new are put q = put q ∙ (ap (λ s. cond s (
     go false e = are q
 
 -- what is kept after a begin
-pub begun_world : Laws → (c : Config) (h later : List Turn) (b : ℕ) (asks : List Sending) (cells : List CellState) (logs : Logs) (sequencers : Sequencers) (proxies : Proxies) (recoverers new : Recoverers) (r : RecState) (storages : Storages)
-    → IsWorld c h cells logs sequencers proxies recoverers storages → IsTurn c h (Begun b asks) → r ≡ new_recoverer b c.cells c.begins
-    → ((q : ℕ) → tree.get nat_cmp new q ≡ cond (tree.is_at (nat_cmp b) q) (Some r) (tree.get nat_cmp recoverers q)) → later ≡ Begun b asks ∷ h
+pub begun_world : Laws → (c : Config) (h later : List Turn) (b : ℕ) (shape : Option ShapeContent) (asks : List Sending) (cells : List CellState) (logs : Logs) (sequencers : Sequencers) (proxies : Proxies) (recoverers new : Recoverers) (r : RecState) (storages : Storages)
+    → IsWorld c h cells logs sequencers proxies recoverers storages → IsTurn c h (Begun b shape asks) → r ≡ new_recoverer b c.cells c.begins shape
+    → ((q : ℕ) → tree.get nat_cmp new q ≡ cond (tree.is_at (nat_cmp b) q) (Some r) (tree.get nat_cmp recoverers q)) → later ≡ Begun b shape asks ∷ h
     → IsWorld c later cells logs sequencers proxies new storages
-begun_world laws c h later b asks cells logs sequencers proxies recoverers new r storages w is made put entered =
-    quiet_world laws c h later (Begun b asks) (record { cells = λ ts. refl; logs = λ e i l. refl; sequencers = λ e s. refl; proxies = λ e p s. refl; storages = λ tag s. refl }) cells logs sequencers proxies recoverers new storages w is (begun c h b asks recoverers new r w.recoverers_are made put) entered
+begun_world laws c h later b shape asks cells logs sequencers proxies recoverers new r storages w is made put entered =
+    quiet_world laws c h later (Begun b shape asks) (record { cells = λ ts. refl; logs = λ e i l. refl; sequencers = λ e s. refl; proxies = λ e p s. refl; storages = λ tag s. refl }) cells logs sequencers proxies recoverers new storages w is (begun c h b shape asks recoverers new r w.recoverers_are made put) entered
 
 -- and after a tell
 pub heard_world : Laws → (c : Config) (h later : List Turn) (b : ℕ) (from : NodeId) (t : Tell) (asks : List Sending) (cells : List CellState) (logs : Logs) (sequencers : Sequencers) (proxies : Proxies) (recoverers new : Recoverers) (storages : Storages)

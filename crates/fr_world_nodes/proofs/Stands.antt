@@ -49,7 +49,7 @@ logs_next laws c h t run is logs new are turn = record {
 
 -- an epoch that is not open has no turn of its sequencer
 seq_unasked : (c : Config) (h : List Turn) (t : Turn) → IsTurn c h t → (e : ℕ) → is_open c h e ≡ false → (s : SeqState) → seq_after t e s ≡ s
-seq_unasked c h (Begun b asks) is e shut s = refl
+seq_unasked c h (Begun b shape asks) is e shut s = refl
 seq_unasked c h (CellTurn from i a u) is e shut s = refl
 seq_unasked c h (LogTurn from x i a u) is e shut s = refl
 seq_unasked c h (SeqTurn from x a u) is e shut s = go (x == e) refl
@@ -109,7 +109,7 @@ sequencers_next laws c h t run is sequencers new are turn = record {
 -- ---- proxies
 
 proxy_unasked : (c : Config) (h : List Turn) (t : Turn) → IsTurn c h t → (e p : ℕ) → is_open c h e ≡ false → (s : ProxyState) → proxy_after t e p s ≡ s
-proxy_unasked c h (Begun b asks) is e p shut s = refl
+proxy_unasked c h (Begun b shape asks) is e p shut s = refl
 proxy_unasked c h (CellTurn from i a u) is e p shut s = refl
 proxy_unasked c h (LogTurn from x i a u) is e p shut s = refl
 proxy_unasked c h (SeqTurn from x a u) is e p shut s = refl

@@ -1,5 +1,5 @@
 //! The proxies of a world, each made when it is first called.
-ghost use Rattle.std.specs.Prelude.{◌≡◌, ℕ, cond, IfErr, IfOk, IfSome, IsSome, OnOk, OnErr, None, Some};
+ghost use Rattle.std.specs.Prelude.{◌≡◌, ℕ, cond, IfOk, IfSome, IsSome, OnOk, OnErr, None, Some};
 ghost use Rattle.std.specs.Option.{option_map};
 ghost use Rattle.std.specs.BTreeMap as tree;
 ghost use Rattle.fr_proxy.specs.Proxy.{after_hear, new_asks, number_ask, opened, outcome_of, submit_fault, submitted};
@@ -32,26 +32,36 @@ pub fn keep_proxy(
     }
 }
 
-/// Gives a batch to a proxy that was made. A refusal changes nothing.
+/// Gives a batch to a proxy that was made and takes it; answers what it asks. It takes no memory.
 pub fn submit(
     proxies: &mut BTreeMap<(Epoch, u8), Proxy>,
     id: (Epoch, u8),
     step: Step,
     batch: Batch,
-) -> Result<Ask, SubmitFault>
-    requires { IsSome (tree.get pair_cmp proxies.old id) }
-    ensures ask { IfOk result (λ ask. IfSome (tree.get pair_cmp proxies.old id) (λ p. ask ≡ (number_ask p (opened p step batch)).1)) }
-    ensures taken { OnOk result (IfSome (tree.get pair_cmp proxies.old id) (λ p. submit_fault p ≡ None)) }
-    ensures fault { IfErr result (λ fault. IfSome (tree.get pair_cmp proxies.old id) (λ p. submit_fault p ≡ Some fault)) }
-    ensures after { OnOk result ((q : ℕ × ℕ)
+) -> Ask
+    requires there { IsSome (tree.get pair_cmp proxies.old id) }
+    requires takes { IfSome (tree.get pair_cmp proxies.old id) (λ p. submit_fault p ≡ None) }
+    ensures ask { IfSome (tree.get pair_cmp proxies.old id) (λ p. result ≡ (number_ask p (opened p step batch)).1) }
+    ensures after { (q : ℕ × ℕ)
         → tree.get pair_cmp proxies.new q
         ≡ cond (tree.is_at (pair_cmp id) q) (option_map (λ p. submitted p step batch)
-        (tree.get pair_cmp proxies.old id)) (tree.get pair_cmp proxies.old q)) }
-    ensures err { OnErr result ((q : ℕ × ℕ) → tree.get pair_cmp proxies.new q ≡ tree.get pair_cmp proxies.old q) }
+        (tree.get pair_cmp proxies.old id)) (tree.get pair_cmp proxies.old q) }
 {
     match proxies.get_mut(&id) {
-        Some(proxy) => proxy.submit(step, batch),
+        Some(proxy) => give(proxy, step, batch),
         None => unreachable!(),
+    }
+}
+
+/// Gives a batch to a proxy that takes it.
+fn give(proxy: &mut Proxy, step: Step, batch: Batch) -> Ask
+    requires { submit_fault proxy.old ≡ None }
+    ensures ask { result ≡ (number_ask proxy.old (opened proxy.old step batch)).1 }
+    ensures after { proxy.new ≡ submitted proxy.old step batch }
+{
+    match proxy.submit(step, batch) {
+        Ok(ask) => ask,
+        Err(_) => unreachable!(),
     }
 }
 

@@ -1,5 +1,5 @@
 //! The storage servers of a world.
-ghost use Rattle.std.specs.Prelude.{◌≡◌, ◌&&◌, false, not, is_some, IfOk, IfSome, IsTrue, None, OnOk, Some};
+ghost use Rattle.std.specs.Prelude.{◌≡◌, ◌&&◌, false, true, not, is_some, IfOk, IsTrue, None, OnOk, Some};
 ghost use Rattle.fr_run.specs.Nodes.{whole_hear, part_hear, storage_hear};
 ghost use Rattle.fr_run.specs.Run.{fault_of, fault_of_log};
 ghost use Rattle.fr_storage.specs.Server.{met_store, refusal_of};
@@ -94,25 +94,47 @@ fn refusal(heard: Result<(), StorageFault>) -> Result<Option<StorageFault>, Memo
     }
 }
 
-/// What a tell makes of a server where the hear breaks off at a version; the server itself stands. None where it
-/// cannot break off there.
+/// Whether a server's hear of a tell can break off at a version. It takes no memory.
+pub fn may_break(server: &Storage<MapStore>, from: &NodeId, tell: &Tell, version: Version) -> bool
+    requires { server.now.failed ≡ false }
+    ensures { result ≡ may_break (server_of server.now) from.now tell.now version }
+{
+    match (from, tell) {
+        (NodeId::Log { epoch, .. }, Tell::Log(tell)) => breaks_in(server, *epoch, tell, version),
+        _ => version == server.position().1,
+    }
+}
+
+/// Whether a server's hear of what a log of an epoch told it can break off at a version.
+fn breaks_in(server: &Storage<MapStore>, epoch: Epoch, tell: &LogTell, version: Version) -> bool
+    requires { server.now.failed ≡ false }
+    ensures { result ≡ breaks_in (server_of server.now) epoch (told.Log tell.now) version }
+{
+    match tell {
+        LogTell::Peeked(peeked) => server.can_break_off_peeked(epoch, peeked, version),
+        LogTell::Marked { state } => server.can_break_off_marked(state, version),
+        _ => version == server.position().1,
+    }
+}
+
+/// What a tell makes of a server where the hear breaks off at a version at which it can; the server itself stands.
 pub fn break_server(
     alloc: Global,
     server: &Storage<MapStore>,
     from: &NodeId,
     tell: &Tell,
     version: Version,
-) -> Result<Option<Storage<MapStore>>, Memory>
-    requires { server.now.failed ≡ false }
-    ensures found { IfOk result (λ broken. is_some broken ≡ may_break (server_of server.now) from.now tell.now version) }
-    ensures state { IfOk result (λ broken. IfSome broken (λ s. server_of s ≡ storage_hear (Some version) (server_of server.now) from.now tell.now)) }
-    ensures works { IfOk result (λ broken. IfSome broken (λ s. s.failed ≡ false)) }
+) -> Result<Storage<MapStore>, Memory>
+    requires works { server.now.failed ≡ false }
+    requires breaks { may_break (server_of server.now) from.now tell.now version ≡ true }
+    ensures state { IfOk result (λ s. server_of s ≡ storage_hear (Some version) (server_of server.now) from.now tell.now) }
+    ensures works { IfOk result (λ s. s.failed ≡ false) }
 {
     let mut server = server.copy(alloc)?;
     if break_from(alloc, &mut server, from, tell, version)? {
-        Ok(Some(server))
+        Ok(server)
     } else {
-        Ok(None)
+        unreachable!()
     }
 }
 

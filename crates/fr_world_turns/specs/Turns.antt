@@ -9,7 +9,7 @@ use Rattle.fr_world_turns.specs.declared.turn.Turn.{Turn}
 use Rattle.fr_world_turns.specs.declared.turn.Turn.TheVariants as turn
 
 abbrev pub turn_of : Turn → history.Turn
-turn_of (turn.Begun ballot asks) = history.Begun ballot asks.items
+turn_of (turn.Begun ballot shape asks) = history.Begun ballot shape asks.items
 turn_of (turn.Cell from index a t) = history.CellTurn from index a t
 turn_of (turn.Log from log a t) = history.LogTurn from log.epoch log.index a t
 turn_of (turn.Sequencer from epoch a t) = history.SeqTurn from epoch a t

@@ -7,7 +7,7 @@ ghost use Rattle.fr_run.specs.Turn as history;
 ghost use Rattle.fr_world_turns.specs.Turns.{retells, turn_of};
 
 use fr_ask::{Ask, SeqAsk, SeqTell, Tell};
-use fr_base::{Ballot, Epoch, LogId, Memory, NodeId, Step, Tag, Version};
+use fr_base::{Ballot, Epoch, LogId, Memory, NodeId, Shape, Step, Tag, Version};
 use fr_log::{LogAsk, LogTell};
 use fr_mutation::Batch;
 use fr_proxy::Outcome;
@@ -18,9 +18,11 @@ use fr_storage::StorageFault;
 /// One turn of one node, with what it gave.
 #[derive(Debug, Drop)]
 pub enum Turn {
-    /// A recoverer began.
+    /// A recoverer began, to open a generation of this shape, or where none is given one of the shape that the one
+    /// before has.
     Begun {
         ballot: Ballot,
+        shape: Option<Shape>,
         asks: Vec<(NodeId, Ask)>,
     },
     /// An ask came to a cell.

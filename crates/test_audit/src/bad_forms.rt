@@ -75,9 +75,27 @@ const TELLS: [&str; 12] = [
     r#"{"seq":{"refused":{"why":{"stopped":{}}}}}"#,
 ];
 
-const ACTS: [&str; 9] = [
+const ACTS: [&str; 27] = [
     r#""begun""#,
     r#"{"begun":null}"#,
+    r#"{"begun":[]}"#,
+    r#"{"begun":{"logs":3}}"#,
+    r#"{"begun":{"degree":1}}"#,
+    r#"{"begun":{"degree":0,"logs":0}}"#,
+    r#"{"begun":{"degree":0,"logs":3}}"#,
+    r#"{"begun":{"degree":4,"logs":3}}"#,
+    r#"{"begun":{"degree":1,"logs":17}}"#,
+    r#"{"begun":{"degree":17,"logs":17}}"#,
+    r#"{"begun":{"degree":1,"logs":257}}"#,
+    r#"{"begun":{"degree":257,"logs":3}}"#,
+    r#"{"begun":{"degree":null,"logs":null}}"#,
+    r#"{"begun":{"degree":null,"logs":3}}"#,
+    r#"{"begun":{"degree":"1","logs":3}}"#,
+    r#"{"begun":{"degree":1.0,"logs":3}}"#,
+    r#"{"begun":{"degree":1,"logs":-3}}"#,
+    r#"{"begun":{"degree":1,"logs":3,"more":0}}"#,
+    r#"{"begun":{"k":1,"m":3}}"#,
+    r#"{"crashed":{"degree":1,"logs":3}}"#,
     r#"{"ended":{}}"#,
     r#"{"asked":{"from":{"cell":{"index":0}},"tell":{"cell":{"two_values":{}}}}}"#,
     r#"{"heard":{"from":{"cell":{"index":0}},"taken":null,"tell":{"log":{"seeded":{}}}}}"#,

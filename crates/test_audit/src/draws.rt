@@ -4,7 +4,7 @@ ghost use Rattle.std.specs.Prelude.{◌<◌};
 use crate::draws_of_logs::{draw_log_ask, draw_log_tell};
 use fr_ask::{Ask, Last, Rows, SeqAsk, SeqRefusal, SeqTell, Tell};
 use fr_audit_journal::{Act, Entry, Journal};
-use fr_base::{Ballot, Bytes, Epoch, NodeId, Stamp, Step, Tag, Version};
+use fr_base::{Ballot, Bytes, Epoch, NodeId, Shape, Stamp, Step, Tag, Version};
 use fr_mutation::{AtomicOp, Batch, Mutation};
 use fr_proxy::Outcome;
 use fr_register::{CellAsk, CellTell, CellValue};
@@ -211,13 +211,28 @@ impl Draws {
 
     fn act(&mut self) -> Result<Act, Fail> {
         match self.number(8) {
-            0 => Ok(Act::Begun),
+            0 => self.begun(),
             1 => Ok(Act::Crashed),
             2 => Ok(Act::Lost),
             3 => self.submitted(),
             4 | 5 => self.heard(),
             _ => self.asked(),
         }
+    }
+
+    fn begun(&mut self) -> Result<Act, Fail> {
+        let shape = self.shape()?;
+        Ok(Act::Begun { shape })
+    }
+
+    /// Any shape, or none.
+    fn shape(&mut self) -> Result<Option<Shape>, Fail> {
+        if self.flag() {
+            return Ok(None);
+        }
+        let m = 1 + self.number(16) as u8;
+        let k = 1 + self.number(m as u32) as u8;
+        Ok(Some(Shape::new(m, k).ok_or("shape")?))
     }
 
     fn submitted(&mut self) -> Result<Act, Fail> {

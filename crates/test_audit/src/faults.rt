@@ -145,7 +145,7 @@ const STAMPS: [(&str, &str, &str); 4] = [
 ];
 
 /// A journal of a node that the world lacks, or of which nothing is said at last.
-const STRANGERS: [(&str, &str); 9] = [
+const STRANGERS: [(&str, &str); 10] = [
     (
         r#"{"entries":[],"last":null,"node":{"cell":{"index":0}}}"#,
         "1 state differs at cell 0\n",
@@ -179,16 +179,21 @@ const STRANGERS: [(&str, &str); 9] = [
         "0 audit ok\n",
     ),
     (
+        r#"{"entries":[{"act":{"begun":{"degree":2,"logs":3}},"stamp":9}],"last":{"recoverer":{"phase":"reading"}},"node":{"recoverer":{"ballot":513}}}"#,
+        "0 audit ok\n",
+    ),
+    (
         r#"{"entries":[{"act":{"crashed":{}},"stamp":9}],"last":null,"node":{"cell":{"index":0}}}"#,
         "1 state differs at cell 0\n",
     ),
 ];
 
 /// Acts of the wrong kind: no node of this kind does such a thing.
-const WRONG_KINDS: [&str; 7] = [
+const WRONG_KINDS: [&str; 8] = [
     r#"{"entries":[{"act":{"submitted":{"batch":[],"step":1}},"stamp":9}],"last":null,"node":{"cell":{"index":0}}}"#,
     r#"{"entries":[{"act":{"lost":{}},"stamp":9}],"last":null,"node":{"cell":{"index":0}}}"#,
     r#"{"entries":[{"act":{"begun":{}},"stamp":9}],"last":null,"node":{"sequencer":{"epoch":257}}}"#,
+    r#"{"entries":[{"act":{"begun":{"degree":1,"logs":1}},"stamp":9}],"last":null,"node":{"log":{"epoch":257,"index":0}}}"#,
     r#"{"entries":[{"act":{"lost":{}},"stamp":9}],"last":null,"node":{"recoverer":{"ballot":513}}}"#,
     r#"{"entries":[{"act":{"submitted":{"batch":[],"step":1}},"stamp":9}],"last":null,"node":{"log":{"epoch":257,"index":0}}}"#,
     r#"{"entries":[{"act":{"heard":{"from":{"storage":{"tag":0}},"outcome":null,"taken":null,"tell":{"log":{"seeded":{}}}}},"stamp":9}],"last":null,"node":{"log":{"epoch":257,"index":0}}}"#,

@@ -50,7 +50,7 @@ const TELLS: [&str; 26] = [
     r#"{"log":{"peeked":{"after":0,"known":0,"records":[{"batch":[{"min":{"key":"61","param":"05"}}],"version":1}],"tag":0,"upto":1}}}"#,
 ];
 
-const ACTS: [&str; 9] = [
+const ACTS: [&str; 12] = [
     r#"{"heard":{"from":{"log":{"epoch":257,"index":15}},"outcome":null,"taken":3,"tell":{"log":{"seeded":{}}}}}"#,
     r#"{"heard":{"from":{"cell":{"index":8}},"outcome":{"waiting":{}},"taken":null,"tell":{"log":{"seeded":{}}}}}"#,
     r#"{"heard":{"from":{"cell":{"index":0}},"outcome":{"committed":{"version":2}},"taken":null,"tell":{"log":{"seeded":{}}}}}"#,
@@ -58,6 +58,9 @@ const ACTS: [&str; 9] = [
     r#"{"submitted":{"batch":[],"step":1}}"#,
     r#"{"submitted":{"batch":[{"set":{"key":"61","value":"01"}}],"step":1000000}}"#,
     r#"{"begun":{}}"#,
+    r#"{"begun":{"degree":1,"logs":1}}"#,
+    r#"{"begun":{"degree":3,"logs":5}}"#,
+    r#"{"begun":{"degree":16,"logs":16}}"#,
     r#"{"crashed":{}}"#,
     r#"{"lost":{}}"#,
 ];

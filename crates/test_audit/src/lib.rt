@@ -17,3 +17,5 @@ mod forms;
 mod random;
 #[cfg(test)]
 mod scripts;
+#[cfg(test)]
+mod shapes;

@@ -23,13 +23,14 @@ fn value(alloc: Global, dice: &mut Dice) -> Result<Bytes, Memory> {
 }
 
 fn combination(dice: &mut Dice) -> AtomicOp {
-    match dice.below(6) {
+    match dice.below(7) {
         0 => AtomicOp::Add,
         1 => AtomicOp::And,
         2 => AtomicOp::Or,
         3 => AtomicOp::Xor,
         4 => AtomicOp::Max,
-        _ => AtomicOp::Min,
+        5 => AtomicOp::Min,
+        _ => AtomicOp::CompareAndClear,
     }
 }
 

@@ -4,6 +4,7 @@ use crate::choice::{Choice, Kind};
 use crate::dice::Dice;
 use crate::epochs;
 use crate::seen::Seen;
+use crate::setting::shape;
 use fr_ask::{Ask, Last};
 use fr_base::{Ballot, Epoch, LogId, Memory, NodeId, Step, Tag};
 use fr_epoch::Phase;
@@ -116,8 +117,8 @@ fn holder(
 
 /// One of the logs of an epoch that hold a tag.
 fn holder_of(dice: &mut Dice, world: &World, tag: Tag, epoch: Epoch) -> NodeId {
-    let place = tag.get().saturating_add(dice.byte(world.config().degree()));
-    let index = around(place, world.config().logs());
+    let (logs, degree) = epochs::shape(world, epoch);
+    let index = around(tag.get().saturating_add(dice.byte(degree)), logs);
     NodeId::Log { epoch, index }
 }
 
@@ -153,7 +154,13 @@ fn mark_of(dice: &mut Dice, world: &World, seen: &Seen) -> Option<Event> {
 
 /// A recoverer begins.
 pub(crate) fn begin(dice: &mut Dice, seen: &Seen) -> Choice {
-    let event = epochs::ballot(dice, seen).map(|ballot| Event::Begin { ballot });
+    let event = match epochs::ballot(dice, seen) {
+        Some(ballot) => Some(Event::Begin {
+            ballot,
+            shape: shape(dice),
+        }),
+        None => None,
+    };
     of(Kind::Begin, event)
 }
 

@@ -74,9 +74,22 @@ pub(crate) fn ballot(dice: &mut Dice, seen: &Seen) -> Option<Ballot> {
     Ballot::new(round.saturating_mul(256).saturating_add(recoverer))
 }
 
+/// How many logs an epoch has, and on how many of them each tag stands. Of one whose recoverer has not fixed that it is
+/// what the first one has.
+pub(crate) fn shape(world: &World, epoch: Epoch) -> (u8, u8) {
+    let generation = match world.recoverer(epoch.ballot()) {
+        Some(recoverer) => recoverer.generation(),
+        None => None,
+    };
+    match generation {
+        Some(generation) => (generation.m(), generation.k()),
+        None => (world.config().logs(), world.config().degree()),
+    }
+}
+
 /// A log of an epoch, sometimes one that it has not.
 pub(crate) fn log(dice: &mut Dice, world: &World, epoch: Epoch) -> LogId {
-    let logs = world.config().logs();
+    let (logs, _) = shape(world, epoch);
     let index = if dice.is_one_of(50) {
         logs
     } else {

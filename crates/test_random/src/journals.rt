@@ -93,7 +93,7 @@ fn closed_one(
 /// What a node did in a turn.
 fn act_of(turn: &Turn) -> Result<Act, Memory> {
     match turn {
-        Turn::Begun { .. } => Ok(Act::Begun),
+        Turn::Begun { shape, .. } => Ok(Act::Begun { shape: *shape }),
         Turn::Cell {
             from,
             ask,

@@ -1,7 +1,7 @@
 //! The world that a seed has.
 use crate::dice::Dice;
 use anyhow::bail;
-use fr_base::Bytes;
+use fr_base::{Bytes, Shape};
 use fr_world::Config;
 use std::alloc::Global;
 
@@ -36,6 +36,16 @@ fn logs(dice: &mut Dice) -> u8 {
         13 => 6,
         _ => dice.byte(16).saturating_add(1),
     }
+}
+
+/// The shape with which a recoverer begins; one of two begins with none.
+pub(crate) fn shape(dice: &mut Dice) -> Option<Shape> {
+    if dice.is_one_of(2) {
+        return None;
+    }
+    let logs = logs(dice);
+    let degree = dice.byte(logs).saturating_add(1);
+    Shape::new(logs, degree)
 }
 
 /// The config of a seed.

@@ -1,10 +1,10 @@
 //! A coordinated state is heard in part: the hear breaks off at a version.
-ghost use Rattle.std.specs.Prelude.{◌≡◌, ◌≢◌, ◌≤◌, ◌↔◌, ◌||◌, false, [], ◌∷◌, Ok, Err, None, OnOk, OnErr, IfOk, IfErr, IfSome, IsOk, IsTrue, is_some};
+ghost use Rattle.std.specs.Prelude.{◌≡◌, ◌≢◌, ◌≤◌, ◌↔◌, ◌||◌, ◌&&◌, false, not, [], ◌∷◌, Ok, Err, None, OnOk, OnErr, IfOk, IfErr, IfSome, IsOk, IsTrue, is_some};
 ghost use Rattle.fr_undo.specs.Calls.{IsTrouble};
 ghost use Rattle.fr_undo.specs.Undo.{undone};
 ghost use Rattle.fr_storage.specs.declared.fault.StorageFault.{StorageFault};
 ghost use Rattle.fr_storage.specs.Storage.{UndoTo, broken_at, marked_fault, marked_calls};
-ghost use Rattle.fr_storage.specs.Broken.{after_broken};
+ghost use Rattle.fr_storage.specs.Broken.{after_broken, breaks_off};
 ghost use Rattle.fr_storage.specs.Server.{storage_of, kept_of, met_store, refusal_of, store_fault, IsWhole, LeavesStages};
 
 use super::super::Storage;
@@ -74,6 +74,26 @@ impl<S: ShardStore> Storage<S> {
                 Err(StorageFault::Store(fault))
             }
         }
+    }
+
+    /// Whether [`break_off_marked`](Storage::break_off_marked) breaks off at a version: the server is not failed, the
+    /// state is not refused, and the version is the one applied or, where the state is another than the own, the cut of
+    /// the own epoch below it. It takes no memory, and makes no call of the store.
+    pub fn can_break_off_marked(&self, state: &CoordState, version: Version) -> bool
+        ensures { result ≡ (not self.now.failed && breaks_off (storage_of S.state self.now)
+            (marked_fault (storage_of S.state self.now) state.now)
+            (marked_calls (storage_of S.state self.now) state.now) version) }
+    {
+        if self.failed {
+            return false;
+        }
+        if self.marked_refusal(state).is_some() {
+            return false;
+        }
+        if self.keeps(state) {
+            return version == self.applied;
+        }
+        version == self.applied || version == self.applied.min(self.cut_in(state))
     }
 }
 

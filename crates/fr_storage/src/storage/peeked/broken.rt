@@ -1,10 +1,10 @@
 //! Records of a log are heard in part: the hear breaks off at a version.
-ghost use Rattle.std.specs.Prelude.{◌≡◌, ◌≢◌, ◌↔◌, ◌||◌, false, [], Ok, Err, None, Some, OnOk, OnErr, IfOk, IfErr, IfSome, IsOk, IsTrue, is_some};
+ghost use Rattle.std.specs.Prelude.{◌≡◌, ◌≢◌, ◌↔◌, ◌||◌, ◌&&◌, false, not, [], Ok, Err, None, Some, OnOk, OnErr, IfOk, IfErr, IfSome, IsOk, IsTrue, is_some};
 ghost use Rattle.fr_undo.specs.Calls.{IsTrouble};
 ghost use Rattle.fr_log.specs.Peeked.{is_rising_from};
 ghost use Rattle.fr_storage.specs.declared.fault.StorageFault.{StorageFault};
 ghost use Rattle.fr_storage.specs.Storage.{records_between, after_calls, new_records, broken_at, peeked_fault, peeked_calls};
-ghost use Rattle.fr_storage.specs.Broken.{has_version, stops_at, calls_through, after_broken};
+ghost use Rattle.fr_storage.specs.Broken.{has_version, stops_at, calls_through, after_broken, breaks_off};
 ghost use Rattle.fr_storage.specs.Server.{storage_of, kept_of, met_store, refusal_of, store_fault, IsCallTrouble, IsWhole, LeavesStages};
 
 use super::super::Storage;
@@ -82,6 +82,31 @@ impl<S: ShardStore> Storage<S> {
                 Err(StorageFault::Store(fault))
             }
         }
+    }
+
+    /// Whether [`break_off_peeked`](Storage::break_off_peeked) breaks off at a version: the server is not failed, the
+    /// answer is not refused, and the version is the one applied, that of a new record, or the end of the answer or of
+    /// its generation. It takes no memory, and makes no call of the store.
+    pub fn can_break_off_peeked(&self, epoch: Epoch, peeked: &Peeked, version: Version) -> bool
+        ensures { result ≡ (not self.now.failed && breaks_off (storage_of S.state self.now)
+            (peeked_fault (storage_of S.state self.now) epoch peeked.now)
+            (peeked_calls (storage_of S.state self.now) epoch peeked.now) version) }
+    {
+        if self.failed {
+            return false;
+        }
+        if self.peeked_refusal(epoch, peeked).is_some() {
+            return false;
+        }
+        let _sound = peeked.records();
+        if version == self.applied {
+            return true;
+        }
+        let reach = Reach {
+            applied: self.applied,
+            end: self.state.end_of(epoch),
+        };
+        stops_at(&reach, peeked, version)
     }
 }
 
