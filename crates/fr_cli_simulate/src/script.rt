@@ -5,7 +5,7 @@ mod fields;
 mod setting;
 mod step;
 
-use fr_base::{Ballot, Epoch, LogId, Step, Tag};
+use fr_base::{Ballot, Epoch, LogId, Shape, Step, Tag};
 use fr_cli_json::tree::{into_items, read_value, take_member};
 use fr_cli_json::{CliFault, Mutations};
 use fr_world::Config;
@@ -60,11 +60,13 @@ pub(crate) struct Pull {
     pub(crate) log: LogId,
 }
 
-/// A recoverer, by its ballot, with the cells that it reads, the logs that it locks, the cells that it writes to, and
-/// the logs that get its mark.
+/// A recoverer, by its ballot, with the shape of the generation that it is to open, where it begins now and one is
+/// given; and the cells that it reads, the logs that it locks, the cells that it writes to, and the logs that get its
+/// mark.
 #[derive(Drop)]
 pub(crate) struct Recover {
     pub(crate) ballot: Ballot,
+    pub(crate) shape: Option<Shape>,
     pub(crate) read: Vec<u8>,
     pub(crate) lock: Vec<u8>,
     pub(crate) write: Vec<u8>,

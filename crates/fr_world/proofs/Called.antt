@@ -126,6 +126,14 @@ proxy_is c h proxies are e p open' P some k = go (tree.get pair_cmp proxies (e, 
     go None s k same = absurd (cc)
     go (Some x) s k same = subst P same k
 
+-- and so is that one, of which something is true
+pub kept_is : (c : Config) (h : List Turn) (proxies : Proxies) → AreProxies c h proxies → (e p : ℕ) → is_open c h e ≡ true → (P : ProxyState → Type 0) → P (proxy_at c h e p) → IfSome (tree.get pair_cmp proxies (e, p)) P
+kept_is c h proxies are e p open' P k = go (tree.get pair_cmp proxies (e, p)) (are.each e p open')
+  where
+    go : (o : Option ProxyState) → unwrap_or o (new_proxy c h e p) ≡ proxy_at c h e p → IfSome o P
+    go None same = tt
+    go (Some x) same = subst P (sym same) k
+
 -- of a proxy of which a turn makes something, and of each other one
 one_called : (e p : ℕ) (f : ProxyState → ProxyState) (proxies new : Proxies) → IsSome (tree.get pair_cmp proxies (e, p))
     → ((q : ℕ × ℕ) → tree.get pair_cmp new q ≡ cond (tree.is_at (pair_cmp (e, p)) q) (option_map f (tree.get pair_cmp proxies (e, p))) (tree.get pair_cmp proxies q)) → (x n : ℕ) (d : ProxyState)
@@ -236,6 +244,9 @@ taken_in w e p step batch = Submitted e p step batch (proxy.number_ask (proxy_at
 
 pub up_same : (w v : WorldState) → w ≡ v → (who : NodeId) → IsUp v.config v.turns who → IsUp w.config w.turns who
 up_same w v same who up = subst (λ x. IsUp x.config x.turns who) (sym same) up
+
+pub takes_same : (w v : WorldState) → w ≡ v → (e p : ℕ) → proxy.submit_fault (proxy_at v.config v.turns e p) ≡ None → proxy.submit_fault (proxy_at w.config w.turns e p) ≡ None
+takes_same w v same e p takes = subst (λ x. proxy.submit_fault (proxy_at x.config x.turns e p) ≡ None) (sym same) takes
 
 pub up_open : (c : Config) (h : List Turn) (e p : ℕ) → IsUp c h (node.Proxy e p) → is_open c h e ≡ true
 up_open c h e p up = let there = and_parts (is_open c h e) (nat_lt p c.proxies) up.there in there.0

@@ -5,3 +5,4 @@ pub mod Heard
 pub mod ToProxies
 pub mod Delivered
 pub mod Grows
+pub mod Replayed

@@ -1,2 +1,3 @@
 pub mod World
 pub mod Stepping
+pub mod Replaying

@@ -1,6 +1,7 @@
 -- What stands in the way of an event.
-use Rattle.std.specs.Prelude.{◌≡◌, ◌≢◌, not, Option, None, Some, Result, Ok, Err, if◌then◌else◌, IfOk, IfErr, unwrap_or}
+use Rattle.std.specs.Prelude.{◌≡◌, ◌≢◌, not, Option, None, Some, Result, Ok, Err, if◌then◌else◌, IfOk, IfErr, IsOk, unwrap_or}
 use Rattle.fr_base.specs.declared.place.NodeId.{NodeId}
+use Rattle.fr_run.specs.Turn.{Turn}
 use Rattle.fr_run.specs.Nodes.{is_there}
 use Rattle.fr_run_event.specs.declared.answer.Answer.{Answer}
 use Rattle.fr_run_event.specs.declared.event.Event.{Event}
@@ -17,9 +18,13 @@ why_not_up w who = if not (is_there w.config w.turns who) then Some not_enabled.
 abbrev pub Steps : WorldState → WorldState → Event → Result Answer NotEnabled → Type 0
 Steps old new event result = IfOk result (λ answer. stepped old event ≡ Ok (new, answer))
 
--- a refusal of an event, want of memory aside, is that of its definition
+-- a refusal is the one for which there is no turn; want of memory is answered only where there is one, since memory is tested last
+abbrev pub RefusesTurn : Result Turn NotEnabled → Result Answer NotEnabled → Type 0
+RefusesTurn turn result = IfErr result (λ why. (why ≢ not_enabled.Memory → turn ≡ Err why) × (why ≡ not_enabled.Memory → IsOk turn))
+
+-- a refusal of an event is that of its definition; want of memory is answered only for an event that can happen
 abbrev pub Refuses : WorldState → Event → Result Answer NotEnabled → Type 0
-Refuses old event result = IfErr result (λ why. why ≢ not_enabled.Memory → next_turn old event ≡ Err why)
+Refuses old event result = RefusesTurn (next_turn old event) result
 
 -- why a node that is told nothing hears nothing
 abbrev pub why_unheard : WorldState → NodeId → NotEnabled

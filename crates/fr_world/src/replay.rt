@@ -4,6 +4,7 @@ ghost use Rattle.fr_run_event.specs.declared.not_enabled.NotEnabled.{NotEnabled}
 ghost use Rattle.fr_run_event.specs.Step.{replay};
 ghost use Rattle.fr_run_headline.specs.Committed.{AcknowledgedIsNeverUndone, RolledBackIsExact};
 ghost use Rattle.fr_run_headline.specs.Safety.{IsSafe};
+ghost use Rattle.fr_world.specs.Replaying.{IsAtStartOrCanHappen};
 
 use crate::world::World;
 use fr_run_event::{Config, Event, NotEnabled};
@@ -11,8 +12,9 @@ use std::alloc::Global;
 
 impl World {
     /// The world that a list of events makes from the start; or the number of the first event that cannot happen,
-    /// from 0 on, and why. Every list of events either is a run or is refused so. In each world that it answers the
-    /// main theorem holds, and all else that [`World::is_safe`] says.
+    /// from 0 on, and why. Every list of events either is a run or is refused so. Want of memory is answered with the
+    /// number of an event that can happen after those before it, or with 0 where the start wants some. In each world
+    /// that it answers the main theorem holds, and all else that [`World::is_safe`] says.
     pub fn replay(
         alloc: Global,
         config: Config,
@@ -23,6 +25,7 @@ impl World {
         ensures headline { IfOk result (λ world. RolledBackIsExact world.config world.turns × AcknowledgedIsNeverUndone world.config world.turns) }
         ensures safe { IfOk result (λ world. IsSafe world.config world.turns) }
         ensures refused { IfErr result (λ first. first.1 ≢ NotEnabled.Memory → replay config events.now ≡ Err first) }
+        ensures memory { IfErr result (λ first. first.1 ≡ NotEnabled.Memory → IsAtStartOrCanHappen config events.now first.0) }
     {
         let Ok(mut world) = World::start(alloc, config) else {
             return Err((0, NotEnabled::Memory));

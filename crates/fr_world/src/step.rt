@@ -6,13 +6,13 @@ ghost use Rattle.fr_world.specs.World.{state_of, IsKept};
 
 use crate::nodes::Nodes;
 use fr_ask::Tell;
-use fr_base::{Memory, NodeId, Version};
+use fr_base::{NodeId, Version};
 use fr_run_event::{Answer, Event, NotEnabled};
 use std::alloc::Global;
 
 impl Nodes {
-    /// Makes the turn that an event is, or says why it cannot happen, which changes nothing. The turns before it are
-    /// entered first, so that what the event needs of them is found without a walk over them.
+    /// Makes the turn that an event is, or says why it cannot happen, which changes nothing. The turn is then entered,
+    /// so that what a later event needs of it is found without a walk over the turns.
     pub(crate) fn step(&mut self, alloc: Global, event: &Event) -> Result<Answer, NotEnabled>
         requires kept { IsKept self.old }
         ensures turn { Steps (state_of self.old) (state_of self.new) event.now result }
@@ -20,20 +20,22 @@ impl Nodes {
         ensures err { OnErr result (state_of self.new ≡ state_of self.old) }
         ensures stays { IsKept self.new }
     {
-        self.catch_up(alloc)?;
-        self.happen(alloc, event)
+        let answer = self.happen(alloc, event);
+        self.catch_up(alloc);
+        answer
     }
 
-    /// Enters the turns that were added, which changes nothing that is seen of a world.
-    fn catch_up(&mut self, alloc: Global) -> Result<(), Memory>
+    /// Enters the turns that were added, which changes nothing that is seen of a world. Those for which there is no
+    /// memory now are entered after the next event.
+    fn catch_up(&mut self, alloc: Global)
         requires kept { IsKept self.old }
         ensures same { state_of self.new ≡ state_of self.old }
         ensures stays { IsKept self.new }
     {
-        self.turns.catch_up(alloc)
+        let _ = self.turns.catch_up(alloc);
     }
 
-    /// Makes the turn that an event is, after the turns before it were entered.
+    /// Makes the turn that an event is.
     fn happen(&mut self, alloc: Global, event: &Event) -> Result<Answer, NotEnabled>
         requires kept { IsKept self.old }
         ensures turn { Steps (state_of self.old) (state_of self.new) event.now result }
@@ -43,7 +45,7 @@ impl Nodes {
     {
         let _within = event.node();
         match event {
-            Event::Begin { ballot } => self.begun(alloc, *ballot),
+            Event::Begin { ballot, shape } => self.begun(alloc, *ballot, *shape),
             Event::Deliver { from, to, ask } => self.delivered(alloc, *from, *to, ask),
             Event::Hear {
                 by,

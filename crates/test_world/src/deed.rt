@@ -2,7 +2,7 @@
 use crate::found;
 use crate::made::{Who, at, ballot, batch, epoch, node, one, tag};
 use fr_ask::{Ask, Tell};
-use fr_base::{LogId, Version};
+use fr_base::{LogId, Shape, Version};
 use fr_log::{LogAsk, Most};
 use fr_world::{Event, World};
 use std::alloc::Global;
@@ -13,6 +13,8 @@ use std::test::Fail;
 pub(crate) enum Deed {
     /// The recoverer of a ballot begins.
     Begin(u64),
+    /// The same, to open a generation of so many logs and this degree.
+    BeginWith(u64, u8, u8),
     /// A proxy of an epoch takes the batch that sets the key 61 to a number, one version above the last one; of the
     /// number 0 the batch that changes nothing.
     Submit(u64, u8, u8),
@@ -43,7 +45,8 @@ pub(crate) enum Deed {
 /// The event that a deed is in a world; None where nothing happens.
 pub(crate) fn event(alloc: Global, world: &World, deed: Deed) -> Result<Option<Event>, Fail> {
     match deed {
-        Deed::Begin(number) => begin(number),
+        Deed::Begin(number) => begin(number, None),
+        Deed::BeginWith(number, m, k) => begin_with(number, m, k),
         Deed::Submit(epoch, proxy, number) => submit(alloc, epoch, proxy, number),
         Deed::Deliver(from, to, number) => deliver(world, from, from, to, number),
         Deed::DeliverAs(other, from, to, number) => deliver(world, other, from, to, number),
@@ -59,9 +62,14 @@ pub(crate) fn event(alloc: Global, world: &World, deed: Deed) -> Result<Option<E
     }
 }
 
-fn begin(number: u64) -> Result<Option<Event>, Fail> {
+fn begin(number: u64, shape: Option<Shape>) -> Result<Option<Event>, Fail> {
     let ballot = ballot(number)?;
-    Ok(Some(Event::Begin { ballot }))
+    Ok(Some(Event::Begin { ballot, shape }))
+}
+
+fn begin_with(number: u64, m: u8, k: u8) -> Result<Option<Event>, Fail> {
+    let shape = Shape::new(m, k).ok_or("a shape")?;
+    begin(number, Some(shape))
 }
 
 fn submit(alloc: Global, of: u64, proxy: u8, number: u8) -> Result<Option<Event>, Fail> {

@@ -1,6 +1,6 @@
 //! Tests of worlds, turn by turn: which events happen and what they answer, in what order those that cannot are
 //! refused, asks and tells that come late, again or to another node, hears that break off, and recoverers that
-//! contend or are interrupted.
+//! contend or are interrupted, or open generations of other shapes.
 #![tactic(auto)]
 
 #[cfg(test)]
@@ -29,5 +29,7 @@ mod said;
 mod scene;
 #[cfg(test)]
 mod seen;
+#[cfg(test)]
+mod shapes;
 #[cfg(test)]
 mod tables;

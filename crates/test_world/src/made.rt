@@ -87,13 +87,24 @@ pub(crate) fn batch(alloc: Global, number: u8) -> Result<Batch, Fail> {
 
 /// So many cells, two logs that both hold the one tag that there is, and one proxy.
 pub(crate) fn config(alloc: Global, cells: u8) -> Result<Config, Fail> {
+    config_of(alloc, cells, 2, 2)
+}
+
+/// So many cells and logs, on so many of which the one tag stands that there is, and one proxy.
+fn config_of(alloc: Global, cells: u8, logs: u8, degree: u8) -> Result<Config, Fail> {
     let mut begins = Vec::new(alloc);
     begins.push(Bytes::empty(alloc))?;
-    Ok(Config::new(cells, 2, 2, begins, 1)?)
+    Ok(Config::new(cells, logs, degree, begins, 1)?)
 }
 
 /// The world of that before anything happened.
 pub(crate) fn world(alloc: Global, cells: u8) -> Result<World, Fail> {
     let config = config(alloc, cells)?;
+    Ok(World::start(alloc, config)?)
+}
+
+/// The world with one cell and a first generation of so many logs and this degree.
+pub(crate) fn shaped(alloc: Global, logs: u8, degree: u8) -> Result<World, Fail> {
+    let config = config_of(alloc, 1, logs, degree)?;
     Ok(World::start(alloc, config)?)
 }

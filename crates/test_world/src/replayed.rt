@@ -36,7 +36,8 @@ fn events_of(alloc: Global, tables: &[&[Row]]) -> Result<Vec<Event>, Fail> {
 /// The event that a recoverer begins.
 fn begins(number: u64) -> Result<Event, Fail> {
     let ballot = ballot(number)?;
-    Ok(Event::Begin { ballot })
+    let shape = None;
+    Ok(Event::Begin { ballot, shape })
 }
 
 /// The world of a list of events with one cell, tried again where memory is wanting.

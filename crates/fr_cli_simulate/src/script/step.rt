@@ -3,14 +3,20 @@ ghost use Rattle.std.specs.Prelude.{◌≡◌, ◌⊎◌, IfErr};
 
 use super::fields::{Fields, LAST_CELL, LAST_LOG};
 use super::{Act, Commit, Pull, Push, Recover};
-use fr_base::{Ballot, Step, Tag};
+use fr_base::{Ballot, Shape, Step, Tag};
 use fr_cli_json::CliFault;
-use fr_cli_json::tree::{into_one_member, read_batch, take_member};
+use fr_cli_json::tree::{into_one_member, member_of, read_batch, take_member};
 use serde_json::Value;
 use std::alloc::Global;
 
 /// The greatest tag.
 const LAST_TAG: u8 = 31;
+
+/// How many members a step `recover` has.
+const RECOVER: usize = 5;
+
+/// How many it has with a shape, which is two of them.
+const RECOVER_SHAPED: usize = RECOVER + 2;
 
 /// Reads a step: an object of one member, which names it.
 pub(crate) fn read_step(alloc: Global, value: Value) -> Result<Act, CliFault>
@@ -71,12 +77,31 @@ fn read_pull(value: &Value) -> Result<Pull, CliFault>
     })
 }
 
+/// Reads a step of a recoverer, with the members `logs` and `degree` or with neither.
 fn read_recover(alloc: Global, value: &Value) -> Result<Recover, CliFault>
     ensures fault { IfErr result (λ e. (e ≡ CliFault.BadScript) ⊎ (e ≡ CliFault.Memory)) }
 {
-    let fields = Fields::new(value, 5);
+    if member_of(value, RECOVER_SHAPED, "logs").is_none() {
+        return read_members(alloc, Fields::new(value, RECOVER), None);
+    }
+    let fields = Fields::new(value, RECOVER_SHAPED);
+    let logs = fields.index("logs", u8::MAX)?;
+    let degree = fields.index("degree", u8::MAX)?;
+    let shape = Shape::new(logs, degree).ok_or(CliFault::BadScript)?;
+    read_members(alloc, fields, Some(shape))
+}
+
+/// Reads the other members of a step of a recoverer.
+fn read_members(
+    alloc: Global,
+    fields: Fields<'_>,
+    shape: Option<Shape>,
+) -> Result<Recover, CliFault>
+    ensures fault { IfErr result (λ e. (e ≡ CliFault.BadScript) ⊎ (e ≡ CliFault.Memory)) }
+{
     Ok(Recover {
         ballot: Ballot::new(fields.number("ballot")?).ok_or(CliFault::BadScript)?,
+        shape,
         read: fields.indexes(alloc, "read", LAST_CELL)?,
         lock: fields.indexes(alloc, "lock", LAST_LOG)?,
         write: fields.indexes(alloc, "write", LAST_CELL)?,

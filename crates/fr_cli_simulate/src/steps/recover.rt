@@ -11,8 +11,9 @@ use std::alloc::Global;
 /// The numbers of all logs that a generation may have.
 const LOGS: [u8; 16] = [0, 1, 2, 3, 4, 5, 6, 7, 8, 9, 10, 11, 12, 13, 14, 15];
 
-/// Has the recoverer of a ballot begin, where the ballot is new, and then asks for it what its phases lack: the
-/// listed cells and logs, all that is to be copied, and all new logs to be seeded.
+/// Has the recoverer of a ballot begin, where the ballot is new, with the shape that is given, and then asks for it what
+/// its phases lack: the listed cells and logs, all that is to be copied, and all new logs to be seeded. A recoverer that
+/// began before keeps the shape that it began with.
 pub(crate) fn line_of(
     alloc: Global,
     world: &mut World,
@@ -20,7 +21,11 @@ pub(crate) fn line_of(
 ) -> Result<String, Memory> {
     let ballot = recover.ballot;
     if world.recoverer(ballot).is_none() {
-        match world.step(alloc, &Event::Begin { ballot }) {
+        let begin = Event::Begin {
+            ballot,
+            shape: recover.shape,
+        };
+        match world.step(alloc, &begin) {
             Ok(_) => {}
             Err(NotEnabled::Memory) => return Err(Memory),
             Err(why) => return refused(alloc, ballot, event_name(why)),

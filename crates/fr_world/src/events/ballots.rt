@@ -1,6 +1,7 @@
 //! Recoverers begin, and hear.
 ghost use Rattle.std.specs.Prelude.{◌≡◌, OnErr};
 ghost use Rattle.fr_base.specs.declared.place.NodeId.TheVariants as node;
+ghost use Rattle.fr_run_event.specs.Limits.{HasLimits};
 ghost use Rattle.fr_run_event.specs.Step.{is_used};
 ghost use Rattle.fr_run_event.specs.declared.event.Event.TheVariants as event;
 ghost use Rattle.fr_world.specs.Stepping.{Steps, Refuses};
@@ -8,7 +9,7 @@ ghost use Rattle.fr_world.specs.World.{state_of, IsKept};
 
 use crate::nodes::Nodes;
 use fr_ask::Tell;
-use fr_base::{Ballot, NodeId, Version};
+use fr_base::{Ballot, NodeId, Shape, Version};
 use fr_run_event::laws::step_law;
 use fr_run_event::{Answer, NotEnabled};
 use fr_world_nodes::start;
@@ -25,19 +26,24 @@ impl Nodes {
     }
 
     /// The recoverer of a ballot begins, where the ballot is not used.
-    pub(crate) fn begun(&mut self, alloc: Global, ballot: Ballot) -> Result<Answer, NotEnabled>
+    pub(crate) fn begun(
+        &mut self,
+        alloc: Global,
+        ballot: Ballot,
+        shape: Option<Shape>,
+    ) -> Result<Answer, NotEnabled>
         requires kept { IsKept self.old }
-        ensures turn { Steps (state_of self.old) (state_of self.new) (event.Begin ballot) result }
-        ensures refused { Refuses (state_of self.old) (event.Begin ballot) result }
+        requires limits { HasLimits (event.Begin ballot shape) }
+        ensures turn { Steps (state_of self.old) (state_of self.new) (event.Begin ballot shape) result }
+        ensures refused { Refuses (state_of self.old) (event.Begin ballot shape) result }
         ensures err { OnErr result (state_of self.new ≡ state_of self.old) }
         ensures stays { IsKept self.new }
     {
         step_law();
-        let _within = ballot.get();
         if self.is_used(ballot) {
             return Err(NotEnabled::BallotUsed);
         }
-        self.begin(alloc, ballot)?;
+        self.begin(alloc, ballot, &shape)?;
         Ok(Answer::Done)
     }
 

@@ -1,16 +1,15 @@
 //! Asks come to cells, logs and sequencers.
-ghost use Rattle.std.specs.Prelude.{◌≡◌, ◌≢◌, true, Err, IfErr, IfOk, Ok, OnErr};
+ghost use Rattle.std.specs.Prelude.{◌≡◌, true, IfOk, Ok, OnErr};
 ghost use Rattle.fr_run_event.specs.Limits.{AskHasLimits};
 ghost use Rattle.fr_run_event.specs.Step.{if_sent};
 ghost use Rattle.fr_run_event.specs.declared.event.Event.TheVariants as event;
-ghost use Rattle.fr_run_event.specs.declared.not_enabled.NotEnabled.TheVariants as not_enabled;
 ghost use Rattle.fr_run.specs.Nodes as nodes;
 ghost use Rattle.fr_run.specs.Run.{IsTurn};
 ghost use Rattle.fr_run.specs.Turn as history;
 ghost use Rattle.fr_log.specs.Step as log;
 ghost use Rattle.fr_proxy.specs.Sequencer as seq;
 ghost use Rattle.fr_register.specs.Cell as cell;
-ghost use Rattle.fr_world.specs.Stepping.{Steps, Refuses};
+ghost use Rattle.fr_world.specs.Stepping.{Steps, Refuses, RefusesTurn};
 ghost use Rattle.fr_world.specs.World.{state_of, stepped_by, IsKept};
 
 use crate::nodes::Nodes;
@@ -80,10 +79,9 @@ impl Nodes {
             (if_sent sent (history.CellTurn from index ask.now
             (cell.answer_of (nodes.cell_at (state_of self.old).config (state_of self.old).turns index) ask.now)))
             ≡ Ok (state_of self.new, answer)) }
-        ensures refused { IfErr result (λ why. why ≢ not_enabled.Memory
-            → if_sent sent (history.CellTurn from index ask.now
-            (cell.answer_of (nodes.cell_at (state_of self.old).config (state_of self.old).turns index) ask.now))
-            ≡ Err why) }
+        ensures refused { RefusesTurn (if_sent sent (history.CellTurn from index ask.now
+            (cell.answer_of (nodes.cell_at (state_of self.old).config (state_of self.old).turns index) ask.now)))
+            result }
         ensures err { OnErr result (state_of self.new ≡ state_of self.old) }
         ensures stays { IsKept self.new }
     {
@@ -112,10 +110,9 @@ impl Nodes {
             (if_sent sent (history.LogTurn from id.epoch id.index ask.now
             (log.answer_of (nodes.log_at (state_of self.old).config (state_of self.old).turns id.epoch id.index)
             ask.now))) ≡ Ok (state_of self.new, answer)) }
-        ensures refused { IfErr result (λ why. why ≢ not_enabled.Memory
-            → if_sent sent (history.LogTurn from id.epoch id.index ask.now
+        ensures refused { RefusesTurn (if_sent sent (history.LogTurn from id.epoch id.index ask.now
             (log.answer_of (nodes.log_at (state_of self.old).config (state_of self.old).turns id.epoch id.index)
-            ask.now)) ≡ Err why) }
+            ask.now))) result }
         ensures err { OnErr result (state_of self.new ≡ state_of self.old) }
         ensures stays { IsKept self.new }
     {
@@ -143,10 +140,8 @@ impl Nodes {
             (if_sent sent (history.SeqTurn from epoch ask
             (seq.answer_of (nodes.seq_at (state_of self.old).config (state_of self.old).turns epoch) ask)))
             ≡ Ok (state_of self.new, answer)) }
-        ensures refused { IfErr result (λ why. why ≢ not_enabled.Memory
-            → if_sent sent (history.SeqTurn from epoch ask
-            (seq.answer_of (nodes.seq_at (state_of self.old).config (state_of self.old).turns epoch) ask))
-            ≡ Err why) }
+        ensures refused { RefusesTurn (if_sent sent (history.SeqTurn from epoch ask
+            (seq.answer_of (nodes.seq_at (state_of self.old).config (state_of self.old).turns epoch) ask))) result }
         ensures err { OnErr result (state_of self.new ≡ state_of self.old) }
         ensures stays { IsKept self.new }
     {

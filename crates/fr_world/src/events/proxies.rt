@@ -39,10 +39,11 @@ impl Nodes {
         if let Some(why) = self.why_not_up(&by) {
             return Err(why);
         }
-        match self.submit(alloc, epoch, proxy, step, batch) {
-            Ok(()) => Ok(Answer::Done),
-            Err(fault) => Err(not_taken(fault)),
+        if let Some(fault) = self.submit_fault(epoch, proxy) {
+            return Err(not_taken(fault));
         }
+        self.submit(alloc, epoch, proxy, step, batch)?;
+        Ok(Answer::Done)
     }
 
     /// A tell comes to a proxy.

@@ -1,12 +1,12 @@
 //! Storage servers hear.
-ghost use Rattle.std.specs.Prelude.{◌≡◌, ◌≢◌, Err, IfErr, IfOk, None, Ok, OnErr, Some};
+ghost use Rattle.std.specs.Prelude.{◌≡◌, IfErr, IfOk, None, Ok, OnErr, Some};
 ghost use Rattle.fr_base.specs.declared.place.NodeId.TheVariants as node;
 ghost use Rattle.fr_run_event.specs.Step.{heard_by_storage};
 ghost use Rattle.fr_run_event.specs.declared.event.Event.TheVariants as event;
 ghost use Rattle.fr_run_event.specs.declared.not_enabled.NotEnabled.TheVariants as not_enabled;
 ghost use Rattle.fr_run.specs.Nodes as nodes;
 ghost use Rattle.fr_run.specs.Run.{IsHeardBy};
-ghost use Rattle.fr_world.specs.Stepping.{Steps, Refuses};
+ghost use Rattle.fr_world.specs.Stepping.{Steps, Refuses, RefusesTurn};
 ghost use Rattle.fr_world.specs.World.{state_of, stepped_by, IsKept};
 
 use crate::nodes::Nodes;
@@ -84,16 +84,16 @@ impl Nodes {
         ensures turn { IfOk result (λ answer. stepped_by (state_of self.old)
             (heard_by_storage (nodes.storage_at (state_of self.old).config (state_of self.old).turns tag) tag from
             tell.now (Some version)) ≡ Ok (state_of self.new, answer)) }
-        ensures refused { IfErr result (λ why. why ≢ not_enabled.Memory
-            → heard_by_storage (nodes.storage_at (state_of self.old).config (state_of self.old).turns tag) tag from
-            tell.now (Some version) ≡ Err why) }
+        ensures refused { RefusesTurn (heard_by_storage
+            (nodes.storage_at (state_of self.old).config (state_of self.old).turns tag) tag from tell.now
+            (Some version)) result }
         ensures err { OnErr result (state_of self.new ≡ state_of self.old) }
         ensures stays { IsKept self.new }
     {
-        if self.break_storage(alloc, tag, from, tell, version)? {
-            Ok(Answer::Done)
-        } else {
-            Err(NotEnabled::NeverSent)
+        if !self.may_break(tag, &from, tell, version) {
+            return Err(NotEnabled::NeverSent);
         }
+        self.break_storage(alloc, tag, from, tell, version)?;
+        Ok(Answer::Done)
     }
 }

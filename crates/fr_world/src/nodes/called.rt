@@ -1,9 +1,8 @@
 //! Proxies are told, and given batches.
-ghost use Rattle.std.specs.Prelude.{◌≡◌, ◌≢◌, ◌≤◌, ◌<◌, ◌-◌, ◌∷◌, [], true, None, Some, IfErr, IfOk, IsSome, OnErr, OnOk};
+ghost use Rattle.std.specs.Prelude.{◌≡◌, ◌≤◌, ◌<◌, ◌-◌, ◌∷◌, [], true, None, Some, IfOk, IsSome, OnErr, OnOk};
 ghost use Rattle.std.specs.BTreeMap as tree;
 ghost use Rattle.fr_proxy.specs.Proxy as proxy;
 ghost use Rattle.fr_proxy.specs.Proxy.{new_asks, number_ask, opened, outcome_of, submit_fault};
-ghost use Rattle.fr_proxy.specs.declared.fault.SubmitFault.TheVariants as SubmitFault;
 ghost use Rattle.fr_base.specs.declared.place.NodeId.TheVariants as node;
 ghost use Rattle.fr_run.specs.Nodes as nodes;
 ghost use Rattle.fr_run.specs.Run.{IsTurn, IsUp};
@@ -61,7 +60,19 @@ impl Nodes {
         Ok(outcome)
     }
 
-    /// A proxy is given a batch. It takes it, or refuses it for its reason; want of memory can come before either.
+    /// Why a proxy of an open epoch does not take a batch now. One that was not called yet takes it.
+    pub(crate) fn submit_fault(&self, epoch: Epoch, proxy: u8) -> Option<SubmitFault>
+        requires kept { IsKept self.now }
+        requires open { nodes.is_open (state_of self.now).config (state_of self.now).turns epoch ≡ true }
+        ensures { result ≡ submit_fault (nodes.proxy_at (state_of self.now).config (state_of self.now).turns epoch proxy) }
+    {
+        match self.proxies.get(&(epoch, proxy)) {
+            Some(proxy) => proxy.submit_fault(),
+            None => None,
+        }
+    }
+
+    /// A proxy is given a batch, which it takes.
     pub(crate) fn submit(
         &mut self,
         alloc: Global,
@@ -69,31 +80,26 @@ impl Nodes {
         proxy: u8,
         step: Step,
         batch: &Batch,
-    ) -> Result<(), SubmitFault>
+    ) -> Result<(), Memory>
         requires kept { IsKept self.old }
         requires up { IsUp (state_of self.old).config (state_of self.old).turns (node.Proxy epoch proxy) }
+        requires takes { submit_fault (nodes.proxy_at (state_of self.old).config (state_of self.old).turns epoch proxy) ≡ None }
         requires step { 1 ≤ step }
-        ensures taken { OnOk result (submit_fault (nodes.proxy_at (state_of self.old).config (state_of self.old).turns epoch proxy) ≡ None) }
         ensures world { OnOk result (state_of self.new
             ≡ with_turn (state_of self.old) (history.Submitted epoch proxy step batch.now
             (number_ask (nodes.proxy_at (state_of self.old).config (state_of self.old).turns epoch proxy)
             (opened (nodes.proxy_at (state_of self.old).config (state_of self.old).turns epoch proxy) step batch.now)
             ∷ []))) }
-        ensures fault { IfErr result (λ fault. fault ≢ SubmitFault.Memory
-            → submit_fault (nodes.proxy_at (state_of self.old).config (state_of self.old).turns epoch proxy)
-            ≡ Some fault) }
         ensures err { OnErr result (state_of self.new ≡ state_of self.old) }
         ensures stays { IsKept self.new }
     {
         node_laws();
         self.keep_proxy_of(epoch, proxy)?;
-        if self.turns.reserve().is_err() {
-            return Err(SubmitFault::Memory);
-        }
+        self.turns.reserve()?;
         let kept = batch.copy()?;
         let given = batch.copy()?;
         let room = room(alloc)?;
-        let ask = submit(&mut self.proxies, (epoch, proxy), step, given)?;
+        let ask = submit(&mut self.proxies, (epoch, proxy), step, given);
         self.turns
             .push_reserved(taken(epoch, proxy, step, kept, ask, room));
         Ok(())

@@ -9,7 +9,7 @@ ghost use Rattle.fr_world.specs.World.{state_of, with_turn, IsKept};
 
 use super::Nodes;
 use fr_ask::Tell;
-use fr_base::{Ballot, Memory, NodeId};
+use fr_base::{Ballot, Memory, NodeId, Shape};
 use fr_epoch::Recoverer;
 use fr_run::laws::node_laws;
 use fr_world_nodes::recoverers::{keep_recoverer, tell_recoverer};
@@ -18,25 +18,34 @@ use std::alloc::Global;
 
 impl Nodes {
     /// A recoverer begins, with a ballot that none had. Its first asks are those pending.
-    pub(crate) fn begin(&mut self, alloc: Global, ballot: Ballot) -> Result<(), Memory>
+    pub(crate) fn begin(
+        &mut self,
+        alloc: Global,
+        ballot: Ballot,
+        shape: &Option<Shape>,
+    ) -> Result<(), Memory>
         requires kept { IsKept self.old }
         requires turn { IsTurn (state_of self.old).config (state_of self.old).turns
-            (history.Begun ballot
-            (pending (new_recoverer ballot (state_of self.old).config.cells (state_of self.old).config.begins))) }
+            (history.Begun ballot shape.now
+            (pending (new_recoverer ballot (state_of self.old).config.cells (state_of self.old).config.begins shape.now))) }
         ensures world { OnOk result (state_of self.new
             ≡ with_turn (state_of self.old)
-            (history.Begun ballot
-            (pending (new_recoverer ballot (state_of self.old).config.cells (state_of self.old).config.begins)))) }
+            (history.Begun ballot shape.now
+            (pending (new_recoverer ballot (state_of self.old).config.cells (state_of self.old).config.begins shape.now)))) }
         ensures err { OnErr result (state_of self.new ≡ state_of self.old) }
         ensures stays { IsKept self.new }
     {
         node_laws();
         self.turns.reserve()?;
         let map = self.config.map().copy()?;
-        let recoverer = Recoverer::begin(alloc, ballot, self.config.coordinators(), map);
+        let recoverer = Recoverer::begin(alloc, ballot, self.config.coordinators(), map, *shape);
         let asks = recoverer.pending(alloc)?;
         keep_recoverer(&mut self.recoverers, ballot, recoverer)?;
-        self.turns.push_reserved(Turn::Begun { ballot, asks });
+        self.turns.push_reserved(Turn::Begun {
+            ballot,
+            shape: *shape,
+            asks,
+        });
         Ok(())
     }
 

@@ -1,5 +1,5 @@
 //! Storage servers are told.
-ghost use Rattle.std.specs.Prelude.{◌≡◌, false, IfOk, IsTrue, None, OnErr, OnOk, Some};
+ghost use Rattle.std.specs.Prelude.{◌≡◌, true, IfOk, None, OnErr, OnOk, Some};
 ghost use Rattle.fr_base.specs.declared.place.NodeId.TheVariants as node;
 ghost use Rattle.fr_run_event.specs.Step.{may_break};
 ghost use Rattle.fr_run.specs.Nodes as nodes;
@@ -12,7 +12,7 @@ use fr_ask::Tell;
 use fr_base::{Memory, NodeId, Tag, Version};
 use fr_run::laws::node_laws;
 use fr_storage::StorageFault;
-use fr_world_nodes::storages::{Heard, break_server, tell_server};
+use fr_world_nodes::storages::{Heard, break_server, may_break, tell_server};
 use fr_world_turns::Turn;
 use std::alloc::Global;
 
@@ -52,8 +52,17 @@ impl Nodes {
         Ok(fault)
     }
 
-    /// A tell comes to a storage server, which breaks off its hear at a version; answers whether it can. Where it
-    /// cannot, nothing happens.
+    /// Whether a storage server's hear of a tell that came to it can break off at a version.
+    pub(crate) fn may_break(&self, tag: Tag, from: &NodeId, tell: &Tell, version: Version) -> bool
+        requires kept { IsKept self.now }
+        requires heard { IsHeardBy (state_of self.now).config (state_of self.now).turns (node.Storage tag) from.now tell.now }
+        ensures { result ≡ may_break (nodes.storage_at (state_of self.now).config (state_of self.now).turns tag) from.now tell.now version }
+    {
+        let number = usize::from(tag.get());
+        may_break(&self.storages[number], from, tell, version)
+    }
+
+    /// A tell comes to a storage server, which breaks off its hear at a version at which it can.
     pub(crate) fn break_storage(
         &mut self,
         alloc: Global,
@@ -61,17 +70,13 @@ impl Nodes {
         from: NodeId,
         tell: &Tell,
         version: Version,
-    ) -> Result<bool, Memory>
+    ) -> Result<(), Memory>
         requires kept { IsKept self.old }
         requires heard { IsHeardBy (state_of self.old).config (state_of self.old).turns (node.Storage tag) from tell.now }
-        ensures found { IfOk result (λ found. found
-            ≡ may_break (nodes.storage_at (state_of self.old).config (state_of self.old).turns tag) from tell.now
-            version) }
-        ensures world { IfOk result (λ found. IsTrue found
-            → state_of self.new ≡ with_turn (state_of self.old) (history.StorageHeard tag from tell.now
-            (Some version) (fault_of (nodes.storage_at (state_of self.old).config (state_of self.old).turns tag) from
-            tell.now))) }
-        ensures unfound { IfOk result (λ found. found ≡ false → state_of self.new ≡ state_of self.old) }
+        requires breaks { may_break (nodes.storage_at (state_of self.old).config (state_of self.old).turns tag) from tell.now version ≡ true }
+        ensures world { OnOk result (state_of self.new
+            ≡ with_turn (state_of self.old) (history.StorageHeard tag from tell.now (Some version)
+            (fault_of (nodes.storage_at (state_of self.old).config (state_of self.old).turns tag) from tell.now))) }
         ensures err { OnErr result (state_of self.new ≡ state_of self.old) }
         ensures stays { IsKept self.new }
     {
@@ -79,19 +84,15 @@ impl Nodes {
         self.turns.reserve()?;
         let kept = tell.copy()?;
         let number = usize::from(tag.get());
-        match break_server(alloc, &self.storages[number], &from, tell, version)? {
-            Some(server) => {
-                self.storages[number] = server;
-                self.turns.push_reserved(Turn::Storage {
-                    tag,
-                    from,
-                    tell: kept,
-                    taken: Some(version),
-                    fault: None,
-                });
-                Ok(true)
-            }
-            None => Ok(false),
-        }
+        let server = break_server(alloc, &self.storages[number], &from, tell, version)?;
+        self.storages[number] = server;
+        self.turns.push_reserved(Turn::Storage {
+            tag,
+            from,
+            tell: kept,
+            taken: Some(version),
+            fault: None,
+        });
+        Ok(())
     }
 }

@@ -1,7 +1,10 @@
-use Rattle.std.proofs.Common.{◌≡◌, drop}
+use Rattle.std.proofs.Common.{◌≡◌, drop, take, Ok}
 use Rattle.fr_run_event.specs.Step.{replay, replay_from}
 use Rattle.fr_world.proofs.world.World.replay.Given as goal
 
 -- the world is that of the events so far: with those that are left it is as from the start
 abbrev pub invariant-loop-number : goal.invariant-loop-number
-invariant-loop-number l = (l.world.config ≡ l.fn.config) × (replay l.fn.config l.events ≡ replay_from l.fn.config l.world.turns l.number (drop l.number l.events))
+invariant-loop-number l =
+    (l.world.config ≡ l.fn.config)
+    × (replay l.fn.config l.events ≡ replay_from l.fn.config l.world.turns l.number (drop l.number l.events))
+    × (replay l.fn.config (take l.number l.events) ≡ Ok l.world.turns)
