@@ -1,6 +1,7 @@
 //! Scenarios: texts that say what a machine is asked and what it tells, played against the machine.
 #![tactic(auto)]
 
+mod batches;
 mod lines;
 mod logs;
 mod names;
@@ -13,7 +14,9 @@ mod rows;
 mod shards;
 mod states;
 mod storages;
+mod stores;
 mod subject;
+mod tails;
 mod tallies;
 mod wrong;
 

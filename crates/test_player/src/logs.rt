@@ -8,6 +8,7 @@ use crate::wrong::{NO_FORM, Wrong};
 use fr_ask::Named;
 use fr_base::{LogId, Machine, Memory};
 use fr_forms::fields::Fields;
+use fr_forms::object::Object;
 use fr_forms::{
     read_cell_ask, read_log_ask, read_seq_ask, write_cell_tell, write_log_tell, write_seq_tell,
 };
@@ -76,9 +77,22 @@ impl Subject for Log {
             }
             "take_back" => take_back(alloc, self, given),
             "state" => write_state_of(alloc, &self.copy()?.last(alloc)?),
-            _ => no_such_word("rows of a log: ask, take_back, state"),
+            "made" => write_made(alloc, &self.copy()?),
+            _ => no_such_word("rows of a log: ask, take_back, state, made"),
         }
     }
+}
+
+/// What a log was made with.
+fn write_made(alloc: Global, log: &Log) -> Result<Value, Wrong> {
+    let id = log.id();
+    let numbers = [
+        ("epoch", id.epoch.get()),
+        ("index", u64::from(id.index)),
+        ("m", u64::from(log.m())),
+        ("k", u64::from(log.k())),
+    ];
+    Ok(Object::of(alloc, &numbers)?.value())
 }
 
 /// What a log tells, which then goes back to where it stood, as one does whose records could not be kept.

@@ -5,7 +5,7 @@ use crate::wrong::{NO_FORM, Wrong};
 use fr_ask::{Ask, Last, Tell};
 use fr_base::NodeId;
 use fr_cli_json::tree::into_one_member;
-use fr_forms::fields::Fields;
+use fr_forms::fields::{Fields, index_of, items};
 use fr_forms::{read_node, read_shards, read_tell, write_ask, write_last, write_node};
 use fr_tags::{MAX_LOGS, ShardFault, ShardMap};
 use serde_json::Value;
@@ -24,6 +24,15 @@ pub(crate) fn read_sizes(fields: &Fields) -> Result<(u8, u8), Wrong>
     } else {
         Err(NO_FORM)
     }
+}
+
+/// Numbers of logs.
+pub(crate) fn read_logs(alloc: Global, given: Value) -> Result<Vec<u8>, Wrong> {
+    let mut logs = Vec::new(alloc);
+    for item in items(given)? {
+        logs.push(index_of(&item, u8::MAX)?)?;
+    }
+    Ok(logs)
 }
 
 /// How the keys are cut into shards.

@@ -1,6 +1,7 @@
 //! Files of scenarios, played.
 ghost use Rattle.std.specs.Prelude.{IsTrue};
 
+use crate::batches::play_batch;
 use crate::lines::{Line, line_of};
 use crate::logs::{play_cell, play_log, play_sequencer};
 use crate::names::Names;
@@ -11,6 +12,8 @@ use crate::rows::{Row, Scenario, json_or_null};
 use crate::shards::play_shards;
 use crate::states::play_state;
 use crate::storages::{play_failing_storage, play_storage};
+use crate::stores::{play_failing_store, play_store};
+use crate::tails::play_tail;
 use crate::tallies::play_tally;
 use crate::wrong::Wrong;
 use fr_base::Memory;
@@ -108,8 +111,8 @@ fn play_whole(
 
 /// What a scenario can be about.
 const SUBJECTS: &str =
-    "a scenario begins with: cell, coordinated_state, end_tally, log, proxy, recoverer, sequencer, \
-     shards, storage, failing_storage";
+    "a scenario begins with: batch, cell, coordinated_state, end_tally, log, proxy, recoverer, \
+     sequencer, shards, storage, failing_storage, store, failing_store, tail";
 
 /// Plays the first row, which makes the subject, and with it the others.
 fn play_all(alloc: Global, rows: &[Row], at: &mut usize) -> Result<(), Wrong> {
@@ -126,6 +129,7 @@ fn play_all(alloc: Global, rows: &[Row], at: &mut usize) -> Result<(), Wrong> {
     }
     let made = json_or_null(alloc, parts.given)?;
     match parts.word {
+        "batch" => play_batch(alloc, made, rows, at),
         "cell" => play_cell(alloc, made, rows, at),
         "coordinated_state" => play_state(alloc, made, rows, at),
         "end_tally" => play_tally(alloc, made, rows, at),
@@ -133,9 +137,12 @@ fn play_all(alloc: Global, rows: &[Row], at: &mut usize) -> Result<(), Wrong> {
         "proxy" => play_proxy(alloc, made, rows, at),
         "recoverer" => play_recoverer(alloc, made, rows, at),
         "sequencer" => play_sequencer(alloc, made, rows, at),
-        "failing_storage" => play_failing_storage(alloc, made, rows, at),
         "shards" => play_shards(alloc, made, rows, at),
         "storage" => play_storage(alloc, made, rows, at),
+        "failing_storage" => play_failing_storage(alloc, made, rows, at),
+        "store" => play_store(alloc, made, rows, at),
+        "failing_store" => play_failing_store(alloc, made, rows, at),
+        "tail" => play_tail(alloc, made, rows, at),
         _ => Err(Wrong::Form(SUBJECTS)),
     }
 }

@@ -7,7 +7,7 @@ use fr_ask::{Ask, Last};
 use fr_base::{NodeId, Step};
 use fr_forms::fields::Fields;
 use fr_forms::object::Object;
-use fr_forms::{read_batch, write_ask, write_outcome};
+use fr_forms::{read_batch, write_ask, write_outcome, write_shards};
 use fr_proxy::{Outcome, Proxy, SubmitFault};
 use serde_json::Value;
 use std::alloc::Global;
@@ -46,9 +46,23 @@ impl Subject for Proxy {
                 let known = self.copy()?.known();
                 write_state_of(alloc, &Last::Proxy { known })
             }
-            _ => no_such_word("rows of a proxy: submit, hear, pending, state"),
+            "made" => write_made(alloc, self),
+            _ => no_such_word("rows of a proxy: submit, hear, pending, state, made"),
         }
     }
+}
+
+/// What a proxy was made with, and what it knows now.
+fn write_made(alloc: Global, proxy: &Proxy) -> Result<Value, Wrong> {
+    let numbers = [
+        ("epoch", proxy.epoch().get()),
+        ("number", u64::from(proxy.number())),
+        ("m", u64::from(proxy.m())),
+        ("k", u64::from(proxy.k())),
+        ("known", proxy.known().get()),
+    ];
+    let shards = write_shards(alloc, proxy.map().begins())?;
+    Ok(Object::of(alloc, &numbers)?.with("shards", shards)?.value())
 }
 
 /// What a proxy asks for a batch, or the name of why it does not take it.

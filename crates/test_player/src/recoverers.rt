@@ -2,12 +2,14 @@
 use crate::nodes::{read_map, read_told, write_asks, write_state_of};
 use crate::rows::Row;
 use crate::subject::{Subject, no_such_word, play_rows};
-use crate::wrong::Wrong;
+use crate::wrong::{NO_FORM, Wrong};
 use fr_ask::Last;
-use fr_base::Bytes;
+use fr_base::{Bytes, Shape};
+use fr_cli_json::tree::member_of;
 use fr_epoch::{Phase, Recoverer};
 use fr_forms::fields::Fields;
-use fr_forms::write_state;
+use fr_forms::object::Object;
+use fr_forms::{write_shards, write_state};
 use fr_state::CoordState;
 use serde_json::Value;
 use std::alloc::Global;
@@ -19,16 +21,32 @@ pub(crate) fn play_recoverer(
     rows: &[Row],
     at: &mut usize,
 ) -> Result<(), Wrong> {
-    let mut recoverer = read_recoverer(alloc, &mut Fields::new(made, 3))?;
+    let mut recoverer = if member_of(&made, 5, "logs").is_some() {
+        let mut fields = Fields::new(made, 5);
+        let shape = read_shape(&fields)?;
+        read_recoverer(alloc, &mut fields, Some(shape))?
+    } else {
+        read_recoverer(alloc, &mut Fields::new(made, 3), None)?
+    };
     play_rows(alloc, &mut recoverer, rows, at)
 }
 
-fn read_recoverer(alloc: Global, fields: &mut Fields) -> Result<Recoverer, Wrong> {
+/// How many logs the next generation is to have, and on how many of them each tag is to stand.
+fn read_shape(fields: &Fields) -> Result<Shape, Wrong> {
+    let m = fields.index("logs", u8::MAX)?;
+    Shape::new(m, fields.index("degree", u8::MAX)?).ok_or(NO_FORM)
+}
+
+fn read_recoverer(
+    alloc: Global,
+    fields: &mut Fields,
+    shape: Option<Shape>,
+) -> Result<Recoverer, Wrong> {
     let ballot = fields.epoch("ballot")?;
     let _above = ballot.get();
     let coordinators = fields.index("coordinators", u8::MAX)?;
     let map = read_map(alloc, fields)?;
-    Ok(Recoverer::begin(alloc, ballot.ballot(), coordinators, map))
+    Ok(Recoverer::begin(alloc, ballot.ballot(), coordinators, map, shape))
 }
 
 impl Subject for Recoverer {
@@ -44,7 +62,11 @@ impl Subject for Recoverer {
                 write_state_of(alloc, &Last::Recoverer { phase })
             }
             "generation" => generation(alloc, self),
-            _ => no_such_word("rows of a recoverer: hear, pending, state, generation"),
+            "copied" => Ok(Value::from(self.is_copied())),
+            "made" => write_made(alloc, self),
+            _ => no_such_word(
+                "rows of a recoverer: hear, pending, state, generation, copied, made",
+            ),
         }
     }
 }
@@ -55,6 +77,16 @@ fn generation(alloc: Global, recoverer: &Recoverer) -> Result<Value, Wrong> {
         Some(generation) => Ok(write_state(alloc, &CoordState::new(alloc, generation)?)?),
         None => Ok(Value::Null),
     }
+}
+
+/// What a recoverer was made with, but for the shape.
+fn write_made(alloc: Global, recoverer: &Recoverer) -> Result<Value, Wrong> {
+    let numbers = [
+        ("ballot", recoverer.ballot().get()),
+        ("coordinators", u64::from(recoverer.coordinators())),
+    ];
+    let shards = write_shards(alloc, recoverer.map().begins())?;
+    Ok(Object::of(alloc, &numbers)?.with("shards", shards)?.value())
 }
 
 /// The phase of a recoverer as text.

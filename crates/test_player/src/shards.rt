@@ -1,10 +1,10 @@
 //! Shards, which mutations concern which, and which logs hold which tag.
-use crate::nodes::{read_sizes, write_name};
+use crate::nodes::{read_logs, read_sizes, write_name};
 use crate::rows::Row;
 use crate::subject::{Subject, no_such_word, play_rows};
 use crate::wrong::Wrong;
 use fr_cli_json::tree::read_bytes;
-use fr_forms::fields::{Fields, index_of, items, tag_of};
+use fr_forms::fields::{Fields, tag_of};
 use fr_forms::object::{Object, hex_value};
 use fr_forms::{read_batch, read_shards, write_bodies, write_shards};
 use fr_mutation::Shard;
@@ -110,10 +110,7 @@ fn is_held_by(fields: &Fields) -> Result<Value, Wrong> {
 /// Whether a set of logs covers all tags.
 fn do_cover(alloc: Global, fields: &mut Fields) -> Result<Value, Wrong> {
     let (m, k) = read_sizes(fields)?;
-    let mut logs = Vec::new(alloc);
-    for item in items(fields.take("logs")?)? {
-        logs.push(index_of(&item, u8::MAX)?)?;
-    }
+    let logs = read_logs(alloc, fields.take("logs")?)?;
     Ok(Value::from(covers(m, k, logs.as_slice())))
 }
 

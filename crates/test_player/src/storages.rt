@@ -1,9 +1,11 @@
 //! Storage servers, over a store in memory, and over one that fails once.
 use crate::nodes::write_name;
 use crate::rows::Row;
+use crate::stores::read_failing;
 use crate::subject::{Subject, no_such_word, play_rows};
 use crate::wrong::{NO_FORM, Wrong};
 use fr_ask::{Ask, Rows, Tell};
+use fr_base::{Memory, Version};
 use fr_forms::fields::{Fields, items};
 use fr_forms::object::Object;
 use fr_forms::{read_state, read_tell, write_ask, write_rows, write_state};
@@ -12,7 +14,6 @@ use fr_storage::{Answer, Storage, StorageFault};
 use fr_undo::{MapStore, ShardStore, StoreFault};
 use serde_json::Value;
 use std::alloc::Global;
-use test_store_failing::FailsOnce;
 
 /// Plays rows with a storage server that applied nothing yet.
 pub(crate) fn play_storage(
@@ -21,16 +22,11 @@ pub(crate) fn play_storage(
     rows: &[Row],
     at: &mut usize,
 ) -> Result<(), Wrong> {
-    play_over(
-        alloc,
-        MapStore::new(alloc),
-        &mut Fields::new(made, 2),
-        rows,
-        at,
-    )
+    let store = MapStore::new(alloc);
+    play_over(alloc, store, &mut Fields::new(made, 2), rows, at)
 }
 
-/// The same over a store that fails once: in the call after so many others, which is done all the same, or not.
+/// The same over a store that fails once.
 pub(crate) fn play_failing_storage(
     alloc: Global,
     made: Value,
@@ -38,8 +34,7 @@ pub(crate) fn play_failing_storage(
     at: &mut usize,
 ) -> Result<(), Wrong> {
     let mut fields = Fields::new(made, 4);
-    let calls = u32::from(fields.index("calls", u8::MAX)?);
-    let store = FailsOnce::new(alloc, calls, fields.flag("done")?);
+    let store = read_failing(alloc, &fields)?;
     play_over(alloc, store, &mut fields, rows, at)
 }
 
@@ -74,6 +69,7 @@ impl<S: ShardStore + Drop> Subject for Storage<S> {
                 let answers = read_answers(alloc, given)?;
                 write_followed(alloc, self.follow_all(alloc, answers))
             }
+            "break_off" => break_off(alloc, self, &mut Fields::new(given, 3)),
             "reopen" => write_done(alloc, self.reopen(alloc)),
             "failed" => Ok(Value::from(self.is_failed())),
             "next" => Ok(write_ask(alloc, &Ask::Log(self.next_ask().1))?),
@@ -81,8 +77,8 @@ impl<S: ShardStore + Drop> Subject for Storage<S> {
             "position" => position(alloc, self),
             "rows" => rows_of(alloc, self),
             _ => no_such_word(
-                "rows of a storage server: hear, follow, follow_all, reopen, failed, next, \
-                 generations, position, rows",
+                "rows of a storage server: hear, follow, follow_all, break_off, reopen, failed, \
+                 next, generations, position, rows",
             ),
         }
     }
@@ -90,7 +86,10 @@ impl<S: ShardStore + Drop> Subject for Storage<S> {
 
 /// What a log of an epoch tells a storage server.
 fn read_answer(alloc: Global, given: Value) -> Result<Answer, Wrong> {
-    let mut fields = Fields::new(given, 2);
+    read_answer_in(alloc, &mut Fields::new(given, 2))
+}
+
+fn read_answer_in(alloc: Global, fields: &mut Fields) -> Result<Answer, Wrong> {
     let epoch = fields.epoch("epoch")?;
     match read_tell(alloc, fields.take("tell")?)? {
         Tell::Log(LogTell::Marked { state }) => Ok(Answer::Marked(state)),
@@ -105,6 +104,32 @@ fn read_answers(alloc: Global, given: Value) -> Result<Vec<Answer>, Wrong> {
         answers.push(read_answer(alloc, item)?)?;
     }
     Ok(answers)
+}
+
+/// Whether a hear breaks off at a version, or why what is heard is not taken.
+fn break_off<S: ShardStore + Drop>(
+    alloc: Global,
+    storage: &mut Storage<S>,
+    fields: &mut Fields,
+) -> Result<Value, Wrong> {
+    let version = fields.version("version")?;
+    let answer = read_answer_in(alloc, fields)?;
+    match break_off_at(alloc, storage, &answer, version) {
+        Ok(is_there) => Ok(Value::from(is_there)),
+        Err(fault) => write_fault(alloc, fault),
+    }
+}
+
+fn break_off_at<S: ShardStore + Drop>(
+    alloc: Global,
+    storage: &mut Storage<S>,
+    answer: &Answer,
+    version: Version,
+) -> Result<bool, StorageFault> {
+    match answer {
+        Answer::Marked(state) => storage.break_off_marked(alloc, state, version),
+        Answer::Peeked(epoch, peeked) => storage.break_off_peeked(alloc, *epoch, peeked, version),
+    }
 }
 
 /// Null where what was heard was taken, and why not where it was not.
@@ -127,7 +152,8 @@ fn write_followed(
     }
 }
 
-fn write_fault(alloc: Global, fault: StorageFault) -> Result<Value, Wrong> {
+/// The name of a refusal.
+pub(crate) fn write_fault(alloc: Global, fault: StorageFault) -> Result<Value, Wrong> {
     match fault {
         StorageFault::Older => write_name(alloc, "Older"),
         StorageFault::Stranger => write_name(alloc, "Stranger"),
@@ -149,13 +175,24 @@ fn write_store_fault(alloc: Global, name: &str, fault: StoreFault) -> Result<Val
 
 /// Where the server stands.
 fn position<S: ShardStore + Drop>(alloc: Global, storage: &Storage<S>) -> Result<Value, Wrong> {
+    Ok(place_of(alloc, storage)?.value())
+}
+
+fn place_of<S: ShardStore + Drop>(alloc: Global, storage: &Storage<S>) -> Result<Object, Memory> {
     let (epoch, version) = storage.position();
     let numbers = [
         ("epoch", epoch.get()),
         ("version", version.get()),
         ("floor", storage.floor().get()),
     ];
-    Ok(Object::of(alloc, &numbers)?.value())
+    Object::of(alloc, &numbers)
+}
+
+/// Where the copy of a server stands, with its state.
+pub(crate) fn write_standing(alloc: Global, storage: &Storage<MapStore>) -> Result<Value, Wrong> {
+    let copy = storage.copy(alloc)?;
+    let state = write_state(alloc, copy.state())?;
+    Ok(place_of(alloc, &copy)?.with("state", state)?.value())
 }
 
 /// What the server holds.

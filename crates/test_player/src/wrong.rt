@@ -15,9 +15,9 @@ pub(crate) enum Wrong {
     Differs { told: Vec<u8>, wanted: Vec<u8> },
 }
 
-/// What is wrong with what is not in a form of docs/FORMATS.md.
+/// What is wrong with what is in no form that is known.
 pub(crate) const NO_FORM: Wrong = Wrong::Form(
-    "this is not in the form that docs/FORMATS.md gives it",
+    "this is not in the form that scenarios/README.md or docs/FORMATS.md gives it",
 );
 
 impl From<Memory> for Wrong {

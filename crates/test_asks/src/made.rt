@@ -1,6 +1,6 @@
-//! Logs, and the seeds, pushes and answers of tables.
-use fr_base::{Bytes, Epoch, LogId, Tag, Version};
-use fr_log::{Log, Peeked, PeekedRecord, Push, Seed, SeedRecord};
+//! Numbers, and the seeds, pushes and answers of which the tests are made.
+use fr_base::{Ballot, Bytes, Epoch, Step, Tag, Version};
+use fr_log::{Peeked, PeekedRecord, Push, Seed, SeedRecord};
 use fr_mutation::{Batch, Mutation};
 use fr_state::{CoordState, Generation};
 use fr_tags::Body;
@@ -15,18 +15,31 @@ pub(crate) fn epoch(number: u64) -> Result<Epoch, Fail> {
     Ok(Epoch::new(number).ok_or("an epoch")?)
 }
 
-pub(crate) fn tag(number: u8) -> Result<Tag, Fail> {
+pub(crate) fn ballot(number: u64) -> Result<Ballot, Fail> {
+    Ok(Ballot::new(number).ok_or("a ballot")?)
+}
+
+pub(crate) fn step(number: u64) -> Result<Step, Fail> {
+    Ok(Step::new(number).ok_or("a step")?)
+}
+
+fn tag(number: u8) -> Result<Tag, Fail> {
     Ok(Tag::new(number).ok_or("a tag")?)
 }
 
+/// The bytes with this one alone.
+pub(crate) fn bytes(alloc: Global, byte: u8) -> Result<Bytes, Fail> {
+    Ok(Bytes::from_slice(alloc, &[byte])?)
+}
+
 fn set(alloc: Global, value: u8) -> Result<Mutation, Fail> {
-    let key = Bytes::from_slice(alloc, &[0x61])?;
-    let value = Bytes::from_slice(alloc, &[value])?;
+    let key = bytes(alloc, 0x61)?;
+    let value = bytes(alloc, value)?;
     Ok(Mutation::Set { key, value })
 }
 
 /// The batch that sets the key 61.
-pub(crate) fn batch(alloc: Global, value: u8) -> Result<Batch, Fail> {
+fn batch(alloc: Global, value: u8) -> Result<Batch, Fail> {
     let mut mutations = Vec::new(alloc);
     mutations.push(set(alloc, value)?)?;
     Ok(Batch::new(mutations)?)
@@ -39,7 +52,7 @@ fn body(alloc: Global, number: u8, value: u8) -> Result<Body, Fail> {
 }
 
 /// Bodies of these tags and values.
-pub(crate) fn bodies(alloc: Global, all: &[(u8, u8)]) -> Result<Vec<Body>, Fail> {
+fn bodies(alloc: Global, all: &[(u8, u8)]) -> Result<Vec<Body>, Fail> {
     let mut bodies = Vec::new(alloc);
     for (number, value) in all {
         bodies.push(body(alloc, *number, *value)?)?;
@@ -67,7 +80,7 @@ pub(crate) fn mark(alloc: Global, number: u64, prev: u64) -> Result<Option<Push>
 }
 
 /// The coordinated state of the start.
-pub(crate) fn start(alloc: Global) -> Result<CoordState, Fail> {
+fn start(alloc: Global) -> Result<CoordState, Fail> {
     let first = Generation::new(epoch(257)?, 4, 2, at(1)?, at(0)?);
     Ok(CoordState::new(alloc, first.ok_or("the start")?)?)
 }
@@ -125,30 +138,10 @@ pub(crate) fn peeked(
     alloc: Global,
     after: u64,
     all: &[(u64, u8)],
-    numbers: (u64, u64),
-) -> Result<Peeked, Fail> {
-    peeked_of(alloc, 0, after, all, numbers)
-}
-
-/// The same of any tag.
-pub(crate) fn peeked_of(
-    alloc: Global,
-    number: u8,
-    after: u64,
-    all: &[(u64, u8)],
     (upto, known): (u64, u64),
 ) -> Result<Peeked, Fail> {
-    let tag = tag(number)?;
+    let tag = tag(0)?;
     let (after, upto, known) = (at(after)?, at(upto)?, at(known)?);
     let peeked = Peeked::new(tag, after, peeked_records(alloc, all)?, upto, known);
     Ok(peeked.ok_or("an answer")?)
-}
-
-/// Log 0 of this epoch, of 4 logs with 2 holders of each tag, so that it holds the tags 0 and 3.
-pub(crate) fn new_log(alloc: Global, number: u64) -> Result<Log, Fail> {
-    let id = LogId {
-        epoch: epoch(number)?,
-        index: 0,
-    };
-    Ok(Log::new(alloc, id, 4, 2))
 }

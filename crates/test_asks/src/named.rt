@@ -1,9 +1,9 @@
 //! Asks and tells of every node, under one type each: copied, and told apart.
-use crate::made::{ONE_EACH, ballot, epoch, held, numbered, proxy, push, step, submit};
-use fr_ask::{Ask, Named, SeqAsk, Tell};
+use crate::made::{at, ballot, epoch, push, step};
+use fr_ask::{Ask, Named, SeqAsk, SeqTell, Tell};
 use fr_base::{Ballot, Memory, Step};
 use fr_log::{Log, LogAsk, LogTell};
-use fr_proxy::{Sequencer, SubmitFault};
+use fr_proxy::Sequencer;
 use fr_register::{Cell, CellAsk, CellTell, CellValue};
 use std::alloc::Global;
 use std::test::Fail;
@@ -19,12 +19,10 @@ enum Asked {
     Write(u8),
     /// A cell is read at ballot 513.
     Read,
-    /// A log is pushed a body of tag 0, that clears the keys from 61 to this one.
+    /// A log is pushed a body of tag 0, that sets the key 61 to this.
     Push(u8),
     /// A log is locked.
     Lock,
-    /// What a proxy asks that takes its first batch, at step 1.
-    Submit,
     /// A sequencer is asked by proxy 1 for the number of request 2, at this step.
     Next(u64),
 }
@@ -48,16 +46,9 @@ fn lock() -> Result<LogAsk, Fail> {
     Ok(LogAsk::Lock { epoch })
 }
 
-fn submitted(alloc: Global) -> Result<Ask, Fail> {
-    let mut proxy = proxy(alloc, ONE_EACH)?;
-    taken(submit(alloc, &mut proxy, 1, (0x61, 0x7a))?)
-}
-
-fn taken(answer: Result<Ask, SubmitFault>) -> Result<Ask, Fail> {
-    match answer {
-        Ok(ask) => Ok(ask),
-        Err(_) => Err("no ask")?,
-    }
+fn pushed(alloc: Global, value: u8) -> Result<LogAsk, Fail> {
+    let push = push(alloc, 257, (1, 2, 0), &[(0, value)])?;
+    Ok(LogAsk::Push(push.ok_or("a push")?))
 }
 
 fn next_at(proxy: u8, request: u64, step: Step) -> SeqAsk {
@@ -76,22 +67,20 @@ fn ask_of(alloc: Global, asked: Asked) -> Result<Ask, Fail> {
     match asked {
         Asked::Write(byte) => Ok(Cell::wrap(write(alloc, byte)?)),
         Asked::Read => Ok(Cell::wrap(read(513)?)),
-        Asked::Push(end) => push(alloc, (0, 0x61, end)),
+        Asked::Push(value) => Ok(Log::wrap(pushed(alloc, value)?)),
         Asked::Lock => Ok(Log::wrap(lock()?)),
-        Asked::Submit => submitted(alloc),
         Asked::Next(size) => Ok(Sequencer::wrap(next(1, 2, size)?)),
     }
 }
 
 /// No two of these are the same, and each is the same as itself and its copy.
-const ASKS: [Asked; 9] = [
+const ASKS: [Asked; 8] = [
     Asked::Write(7),
     Asked::Write(8),
     Asked::Read,
-    Asked::Push(0x6d),
-    Asked::Push(0x6e),
+    Asked::Push(1),
+    Asked::Push(2),
     Asked::Lock,
-    Asked::Submit,
     Asked::Next(3),
     Asked::Next(4),
 ];
@@ -152,13 +141,28 @@ fn promise(alloc: Global, byte: u8) -> Result<CellTell, Fail> {
     Ok(promised(written, value(alloc, byte)?))
 }
 
+fn held(version: u64) -> Result<LogTell, Fail> {
+    let version = at(version)?;
+    Ok(LogTell::Held { version })
+}
+
+fn numbered(version: u64) -> Result<SeqTell, Fail> {
+    let prev = at(1)?;
+    let version = at(version)?;
+    Ok(SeqTell::Numbered {
+        request: 1,
+        prev,
+        version,
+    })
+}
+
 fn tell_of(alloc: Global, told: Told) -> Result<Tell, Fail> {
     match told {
         Told::Promise(byte) => Ok(Cell::wrap_tell(promise(alloc, byte)?)),
         Told::TwoValues => Ok(Cell::wrap_tell(CellTell::TwoValues)),
-        Told::Held(version) => held(version),
+        Told::Held(version) => Ok(Log::wrap_tell(held(version)?)),
         Told::Seeded => Ok(Log::wrap_tell(LogTell::Seeded)),
-        Told::Numbered(version) => numbered((1, 1, version)),
+        Told::Numbered(version) => Ok(Sequencer::wrap_tell(numbered(version)?)),
     }
 }
 

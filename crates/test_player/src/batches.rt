@@ -1,0 +1,52 @@
+//! Batches, and their bytes.
+use crate::nodes::write_name;
+use crate::rows::Row;
+use crate::subject::{Subject, no_such_word, play_rows};
+use crate::wrong::Wrong;
+use fr_cli_json::tree::read_bytes;
+use fr_forms::object::{Object, hex_value};
+use fr_forms::{read_batch, write_batch};
+use fr_mutation::{Batch, DecodeFault, decode, encode};
+use serde_json::Value;
+use std::alloc::Global;
+
+/// Plays rows with a batch.
+pub(crate) fn play_batch(
+    alloc: Global,
+    made: Value,
+    rows: &[Row],
+    at: &mut usize,
+) -> Result<(), Wrong> {
+    let mut batch = read_batch(alloc, made)?;
+    play_rows(alloc, &mut batch, rows, at)
+}
+
+impl Subject for Batch {
+    fn play(&mut self, alloc: Global, word: &str, given: Value) -> Result<Value, Wrong> {
+        match word {
+            "bytes" => Ok(hex_value(alloc, encode(alloc, self)?.as_slice())?),
+            "read" => read(alloc, &given),
+            "state" => Ok(write_batch(alloc, &self.copy()?)?),
+            _ => no_such_word("rows of a batch: bytes, read, state"),
+        }
+    }
+}
+
+/// The batch with which bytes begin, and how many it takes; or why there is none.
+fn read(alloc: Global, given: &Value) -> Result<Value, Wrong> {
+    match decode(alloc, read_bytes(alloc, Some(given))?.as_slice()) {
+        Ok((batch, used)) => write_read(alloc, &batch, used),
+        Err(DecodeFault::Memory) => Err(Wrong::Memory),
+        Err(fault) => write_name(alloc, fault.name()),
+    }
+}
+
+fn write_read(alloc: Global, batch: &Batch, used: usize) -> Result<Value, Wrong> {
+    let batch = write_batch(alloc, batch)?;
+    Ok(
+        Object::new(alloc)
+            .with("batch", batch)?
+            .with("used", Value::from(used))?
+            .value(),
+    )
+}

@@ -1,0 +1,165 @@
+//! Stores in memory, and stores over a device that fails once.
+use crate::nodes::write_name;
+use crate::rows::Row;
+use crate::storages::{write_fault, write_standing};
+use crate::subject::{Subject, no_such_word, play_rows};
+use crate::wrong::Wrong;
+use fr_ask::Rows;
+use fr_base::Bytes;
+use fr_cli_json::tree::read_bytes;
+use fr_forms::fields::{Fields, tag_of, version_of};
+use fr_forms::object::{Object, hex_value};
+use fr_forms::{read_batch, write_rows};
+use fr_storage::Storage;
+use fr_undo::{MapStore, ShardStore, StoreFault};
+use serde_json::Value;
+use std::alloc::Global;
+use test_store_failing::FailsOnce;
+
+/// Plays rows with a store in which nothing was applied.
+pub(crate) fn play_store(
+    alloc: Global,
+    made: Value,
+    rows: &[Row],
+    at: &mut usize,
+) -> Result<(), Wrong> {
+    if !made.is_null() {
+        return Err(Wrong::Form("a store is made of nothing"));
+    }
+    let mut store = MapStore::new(alloc);
+    play_rows(alloc, &mut store, rows, at)
+}
+
+/// The same with one that fails once.
+pub(crate) fn play_failing_store(
+    alloc: Global,
+    made: Value,
+    rows: &[Row],
+    at: &mut usize,
+) -> Result<(), Wrong> {
+    let mut store = read_failing(alloc, &Fields::new(made, 2))?;
+    play_rows(alloc, &mut store, rows, at)
+}
+
+/// A store that fails in the call after so many others, which is done all the same, or not.
+pub(crate) fn read_failing(alloc: Global, fields: &Fields) -> Result<FailsOnce, Wrong> {
+    let calls = u32::from(fields.index("calls", u8::MAX)?);
+    Ok(FailsOnce::new(alloc, calls, fields.flag("done")?))
+}
+
+impl Subject for MapStore {
+    fn play(&mut self, alloc: Global, word: &str, given: Value) -> Result<Value, Wrong> {
+        match word {
+            "state" => write_place(alloc, &self.copy(alloc)?),
+            "adopt" => adopt(alloc, self, &given),
+            _ => play_word(alloc, self, word, given),
+        }
+    }
+}
+
+impl Subject for FailsOnce {
+    fn play(&mut self, alloc: Global, word: &str, given: Value) -> Result<Value, Wrong> {
+        match word {
+            "state" => write_place(alloc, self),
+            _ => play_word(alloc, self, word, given),
+        }
+    }
+}
+
+/// What comes of a row of any store.
+fn play_word<S: ShardStore>(
+    alloc: Global,
+    store: &mut S,
+    word: &str,
+    given: Value,
+) -> Result<Value, Wrong> {
+    match word {
+        "apply" => apply(alloc, store, &mut Fields::new(given, 2)),
+        "undo" => write_done(alloc, store.undo_to(alloc, version_of(&given)?)),
+        "forget" => write_done(alloc, store.forget_through(alloc, version_of(&given)?)),
+        "advance" => write_done(alloc, store.advance(version_of(&given)?)),
+        "keep" => write_done(
+            alloc,
+            store.set_state(alloc, read_bytes(alloc, Some(&given))?),
+        ),
+        "kept" => write_kept(alloc, store.state_bytes(alloc)),
+        "get" => write_found(alloc, store.get(alloc, &read_bytes(alloc, Some(&given))?)),
+        "rows" => write_all(alloc, store.dump(alloc)),
+        "failed" => Ok(Value::from(store.is_failed())),
+        "reopen" => write_done(alloc, store.reopen(alloc)),
+        _ => no_such_word(
+            "rows of a store: apply, undo, forget, advance, keep, kept, get, rows, state, failed, \
+             reopen, and of one that never fails adopt",
+        ),
+    }
+}
+
+fn apply<S: ShardStore>(alloc: Global, store: &mut S, fields: &mut Fields) -> Result<Value, Wrong> {
+    let version = fields.version("version")?;
+    let batch = read_batch(alloc, fields.take("batch")?)?;
+    write_done(alloc, store.apply(alloc, version, &batch))
+}
+
+/// Where a storage server stands that takes the store over, or why it does not. The store is then given back.
+fn adopt(alloc: Global, store: &mut MapStore, given: &Value) -> Result<Value, Wrong> {
+    match Storage::adopt(alloc, store.copy(alloc)?, tag_of(given)?) {
+        Ok(storage) => {
+            let standing = write_standing(alloc, &storage)?;
+            *store = storage.into_store();
+            Ok(standing)
+        }
+        Err(fault) => write_fault(alloc, fault),
+    }
+}
+
+/// Null where the call was made, and why not where it was not.
+fn write_done(alloc: Global, done: Result<(), StoreFault>) -> Result<Value, Wrong> {
+    match done {
+        Ok(()) => Ok(Value::Null),
+        Err(fault) => write_refusal(alloc, fault),
+    }
+}
+
+fn write_refusal(alloc: Global, fault: StoreFault) -> Result<Value, Wrong> {
+    if fault == StoreFault::Memory {
+        return Err(Wrong::Memory);
+    }
+    write_name(alloc, fault.name())
+}
+
+fn write_kept(alloc: Global, kept: Result<Bytes, StoreFault>) -> Result<Value, Wrong> {
+    match kept {
+        Ok(bytes) => Ok(hex_value(alloc, bytes.as_slice())?),
+        Err(fault) => write_refusal(alloc, fault),
+    }
+}
+
+/// Null where the key has no value.
+fn write_found(alloc: Global, found: Result<Option<Bytes>, StoreFault>) -> Result<Value, Wrong> {
+    match found {
+        Ok(Some(value)) => Ok(hex_value(alloc, value.as_slice())?),
+        Ok(None) => Ok(Value::Null),
+        Err(fault) => write_refusal(alloc, fault),
+    }
+}
+
+fn write_all(alloc: Global, rows: Result<Vec<(Bytes, Bytes)>, StoreFault>) -> Result<Value, Wrong> {
+    match rows {
+        Ok(rows) => Ok(write_rows(alloc, &Rows::from_vec(rows))?),
+        Err(fault) => write_refusal(alloc, fault),
+    }
+}
+
+/// The version applied last, the floor, and how many undo rows there are.
+fn write_place<S: ShardStore>(alloc: Global, store: &S) -> Result<Value, Wrong> {
+    let place = [
+        ("applied", store.applied().get()),
+        ("floor", store.floor().get()),
+    ];
+    let undo_rows = Value::from(store.undo_rows());
+    Ok(
+        Object::of(alloc, &place)?
+            .with("undo_rows", undo_rows)?
+            .value(),
+    )
+}

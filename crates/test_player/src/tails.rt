@@ -1,0 +1,106 @@
+//! Copies of what an epoch takes over.
+ghost use Rattle.std.specs.Prelude.{◌+◌, ◌<◌, ◌≤◌, ◌^◌, IfOk};
+
+use crate::nodes::{read_logs, read_sizes, write_name};
+use crate::rows::Row;
+use crate::subject::{Subject, no_such_word, play_rows};
+use crate::wrong::{NO_FORM, Wrong};
+use fr_ask::{Ask, Tell};
+use fr_base::{LogId, Version};
+use fr_forms::fields::{Fields, tag_of};
+use fr_forms::object::Object;
+use fr_forms::{read_tell, write_ask};
+use fr_log::{LogAsk, LogTell};
+use fr_tags::MAX_SHARDS;
+use fr_tail::{Tail, TailFault};
+use serde_json::Value;
+use std::alloc::Global;
+
+/// Plays rows with a copy that heard nothing.
+pub(crate) fn play_tail(
+    alloc: Global,
+    made: Value,
+    rows: &[Row],
+    at: &mut usize,
+) -> Result<(), Wrong> {
+    let mut tail = read_tail(alloc, &mut Fields::new(made, 6))?;
+    play_rows(alloc, &mut tail, rows, at)
+}
+
+fn read_tail(alloc: Global, fields: &mut Fields) -> Result<Tail, Wrong> {
+    let tags = read_tags(fields)?;
+    let (m, k) = read_sizes(fields)?;
+    let (pev, rv) = read_range(fields)?;
+    let responders = read_logs(alloc, fields.take("responders")?)?;
+    Ok(Tail::new(alloc, tags, m, k, responders, pev, rv)?)
+}
+
+/// How many tags there are.
+fn read_tags(fields: &Fields) -> Result<u8, Wrong>
+    ensures { IfOk result (λ tags. tags ≤ MAX_SHARDS) }
+{
+    let tags = fields.index("tags", u8::MAX)?;
+    if usize::from(tags) <= MAX_SHARDS {
+        Ok(tags)
+    } else {
+        Err(NO_FORM)
+    }
+}
+
+/// The versions above which and through which is copied.
+fn read_range(fields: &Fields) -> Result<(Version, Version), Wrong>
+    ensures order { IfOk result (λ versions. versions.0 ≤ versions.1) }
+    ensures room { IfOk result (λ versions. versions.1 + 1 < 2 ^ 62) }
+{
+    let pev = fields.version("pev")?;
+    let rv = fields.version("rv")?;
+    if pev <= rv && rv.after().is_some() {
+        Ok((pev, rv))
+    } else {
+        Err(Wrong::Form("these are no versions of a copy"))
+    }
+}
+
+impl Subject for Tail {
+    fn play(&mut self, alloc: Global, word: &str, given: Value) -> Result<Value, Wrong> {
+        match word {
+            "hear" => hear(alloc, self, &mut Fields::new(given, 2)),
+            "seed" => seed(alloc, self, &Fields::new(given, 4)),
+            "reached" => Ok(Value::from(self.reached(tag_of(&given)?).get())),
+            "state" => write_complete(alloc, &self.copy(alloc)?),
+            _ => no_such_word("rows of a tail: hear, seed, reached, state"),
+        }
+    }
+}
+
+/// Null where what a log told is taken or changes nothing, and why not where it is refused.
+fn hear(alloc: Global, tail: &mut Tail, fields: &mut Fields) -> Result<Value, Wrong> {
+    let log = fields.index("log", u8::MAX)?;
+    let Tell::Log(LogTell::Peeked(peeked)) = read_tell(alloc, fields.take("tell")?)? else {
+        return Err(NO_FORM);
+    };
+    match tail.hear(log, peeked.tag(), peeked) {
+        Ok(()) => Ok(Value::Null),
+        Err(TailFault::NotResponder) => write_name(alloc, "NotResponder"),
+        Err(TailFault::Hole) => write_name(alloc, "Hole"),
+        Err(TailFault::ShortOfEnd) => write_name(alloc, "ShortOfEnd"),
+        Err(TailFault::Memory) => Err(Wrong::Memory),
+    }
+}
+
+/// What a new log is seeded with; null where the copy is not complete.
+fn seed(alloc: Global, tail: &Tail, fields: &Fields) -> Result<Value, Wrong> {
+    let epoch = fields.epoch("epoch")?;
+    let index = fields.index("index", u8::MAX)?;
+    let (m, k) = read_sizes(fields)?;
+    if !tail.complete() {
+        return Ok(Value::Null);
+    }
+    let seed = tail.seeds_for(alloc, LogId { epoch, index }, m, k)?;
+    Ok(write_ask(alloc, &Ask::Log(LogAsk::Seed(seed)))?)
+}
+
+fn write_complete(alloc: Global, tail: &Tail) -> Result<Value, Wrong> {
+    let complete = Value::from(tail.complete());
+    Ok(Object::new(alloc).with("complete", complete)?.value())
+}
