@@ -4,6 +4,7 @@ use Rattle.std.proofs.Math.Bool.{or-true}
 use Rattle.std.proofs.lemmas.List.Elements.{All-append, All-cons, All-head, All-nil, All-tail}
 use Rattle.std.proofs.lemmas.List.Sorted.{All-permutation}
 use Rattle.std.specs.Prelude.{All}
+use Rattle.fr_base.specs.Shape.{ShapeContent}
 use Rattle.fr_base.specs.Node.{is_same_node, is_same_node-IsSameness}
 use Rattle.fr_base.specs.declared.place.LogId.{LogId}
 use Rattle.fr_base.specs.declared.place.NodeId.{NodeId}
@@ -100,8 +101,8 @@ begin_if : (b : ℕ) (used : Bool) (s t : Turn) → actor_of s ≡ node.Recovere
 begin_if b true s t is e = absurd (cc)
 begin_if b false s t is e = made (node.Recoverer b) s t is e
 
-begin : (c : Config) (h : List Turn) (b : ℕ) (t : Turn) → begun c h b ≡ Ok t → actor_of t ≡ node.Recoverer b
-begin c h b t e = begin_if b (is_used c h b) (Begun b (pending (new_recoverer b c.cells c.begins))) t refl e
+begin : (c : Config) (h : List Turn) (b : ℕ) (shape : Option ShapeContent) (t : Turn) → begun c h b shape ≡ Ok t → actor_of t ≡ node.Recoverer b
+begin c h b shape t e = begin_if b (is_used c h b) (Begun b shape (pending (new_recoverer b c.cells c.begins shape))) t refl e
 
 -- the turn that an act of a node is, is that node's
 acts : (c : Config) (h : List Turn) (who : NodeId) (a : Act) (e : Event) (t : Turn) → event_of who a ≡ Some e → turn_of c h e ≡ Ok t → actor_of t ≡ who
@@ -111,8 +112,8 @@ acts c h who (act.Heard from u taken o) (event.Hear by from' u' taken') t is can
     let same : who ≡ by = cc in hear c h by from' u' taken' t (told (was_told h from' by u') _ t (let_up c h by _ t can)) ∙ sym same
 acts c h (node.Proxy x p) (act.Submitted step batch) (event.Submit x' p' step' batch') t is can =
     let same : node.Proxy x p ≡ node.Proxy x' p' = cc in takes _ (node.Proxy x' p') _ t refl (let_up c h (node.Proxy x' p') _ t can) ∙ sym same
-acts c h (node.Recoverer b) act.Begun (event.Begin b') t is can =
-    let same : node.Recoverer b ≡ node.Recoverer b' = cc in begin c h b' t can ∙ sym same
+acts c h (node.Recoverer b) (act.Begun shape) (event.Begin b' shape') t is can =
+    let same : node.Recoverer b ≡ node.Recoverer b' = cc in begin c h b' shape' t can ∙ sym same
 acts c h who act.Crashed (event.Crash who') t is can =
     let same : who ≡ who' = cc in made who' (crashed who') t (crash_of who') (let_up c h who' _ t can) ∙ sym same
 acts c h (node.Log x i) act.Lost (event.Lose l) t is can =

@@ -87,7 +87,8 @@ impl Standing {
         requires sound { IsKept (state_of self.now) }
         requires found { IsSome self.now.parent }
         requires covered { is_covered end.now ≡ true }
-        ensures plan { IfOk result (λ drafted. plan_result drafted ≡ draft_in self.now.epoch self.now.shape (length self.now.map) (state_of self.now).parent end.now) }
+        ensures plan { IfOk result (λ drafted. plan_result drafted ≡ draft_in self.now.epoch self.now.shape
+            (length self.now.map) (state_of self.now).parent end.now) }
         ensures limits { IfOk result (λ drafted. IfOk drafted (λ draft. IsGeneration draft.generation)) }
     {
         match &self.parent {
