@@ -1,4 +1,3 @@
-pub mod Fault
 pub mod Handed
 pub mod Heard
 pub mod Job

@@ -1,8 +1,5 @@
 //! What lies under the lock of a station.
-ghost use Rattle.std.specs.Prelude.{◌≡◌, ◌<◌, IfErr, IfOk, true};
-ghost use Rattle.fr_audit_journal.specs.declared.act.Act.{Act};
-ghost use Rattle.fr_runtime_housing.specs.Replays.{steps};
-ghost use Rattle.fr_runtime_housing.specs.Housing.{Asks, Enters, IsTrouble};
+ghost use Rattle.std.specs.Prelude.{◌≡◌, ◌<◌, IfOk, true};
 ghost use Rattle.fr_runtime_station.specs.Answering.{answers};
 
 use fr_ask::Tell;
@@ -42,11 +39,7 @@ where
     ) -> Result<(Stamp, Tell), CallFault>
     where
         N: Drop,
-        ensures entered { IfOk result (λ told. Asks
-            (steps N.Plain.wrapped N.Plain.unwrapped N.Plain.wrapped_tell N.Plain.told N.Plain.after)
-            self.old.housed self.new.housed stamp from ask (told.0, told.1)) }
-        ensures above { IfOk result (λ told. stamp < told.0) }
-        ensures trouble { IfErr result (IsTrouble N.CanMeet) }
+        ensures { IfOk result (λ told. stamp < told.0) }
     {
         self.housed.ask(alloc, stamp, from, ask)
     }
@@ -55,11 +48,7 @@ where
     pub(crate) fn crash(&mut self, alloc: Global, stamp: Stamp) -> Result<Stamp, CallFault>
     where
         N: Drop,
-        ensures entered { IfOk result (λ at. Enters
-            (steps N.Plain.wrapped N.Plain.unwrapped N.Plain.wrapped_tell N.Plain.told N.Plain.after)
-            self.old.housed self.new.housed stamp at Act.Crashed) }
-        ensures above { IfOk result (λ at. stamp < at) }
-        ensures trouble { IfErr result (IsTrouble N.CanMeet) }
+        ensures { IfOk result (λ at. stamp < at) }
     {
         self.housed.crash(alloc, stamp)
     }

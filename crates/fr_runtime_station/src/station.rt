@@ -1,6 +1,5 @@
 //! A node with its journal, which threads share.
-ghost use Rattle.std.specs.Prelude.{◌≡◌, ◌<◌, IfErr, IfOk, true};
-ghost use Rattle.fr_runtime_housing.specs.Housing.{IsTrouble};
+ghost use Rattle.std.specs.Prelude.{◌≡◌, ◌<◌, IfOk, true};
 ghost use Rattle.fr_runtime_station.specs.Answering.{answers};
 
 use crate::answering::Answering;
@@ -34,8 +33,7 @@ where
         }
     }
 
-    /// Asks the node, as [`Housed::ask`] does, once the lock is free. The stamp is above the caller's; a fault is one that
-    /// the node can meet, want of memory, or that it takes no call.
+    /// Asks the node, as [`Housed::ask`] does, once the lock is free. The stamp is above the caller's.
     pub fn call<R: Wait>(
         &self,
         rt: &R,
@@ -46,8 +44,7 @@ where
     ) -> Result<(Stamp, Tell), CallFault>
     where
         N: Drop,
-        ensures above { IfOk result (λ told. stamp < told.0) }
-        ensures trouble { IfErr result (IsTrouble N.CanMeet) }
+        ensures { IfOk result (λ told. stamp < told.0) }
     {
         self.lock.lock(rt).ask(alloc, stamp, from, ask)
     }
@@ -56,8 +53,7 @@ where
     pub fn crash<R: Wait>(&self, rt: &R, alloc: Global, stamp: Stamp) -> Result<Stamp, CallFault>
     where
         N: Drop,
-        ensures above { IfOk result (λ at. stamp < at) }
-        ensures trouble { IfErr result (IsTrouble N.CanMeet) }
+        ensures { IfOk result (λ at. stamp < at) }
     {
         self.lock.lock(rt).crash(alloc, stamp)
     }

@@ -1,7 +1,7 @@
 //! Why a thread ends early.
 ghost use Rattle.std.specs.Prelude.{◌≡◌};
 
-use fr_base::{Memory as NoMemory, NodeFault};
+use fr_base::Memory as NoMemory;
 use fr_undo::StoreFault;
 use thiserror::Error;
 
@@ -14,9 +14,6 @@ pub enum TurnFault {
     /// The store of a storage server failed.
     #[error("a store failed")]
     Store,
-    /// A log of a later generation could not be made.
-    #[error("a log could not be made")]
-    Log,
 }
 
 impl From<NoMemory> for TurnFault {
@@ -27,15 +24,6 @@ impl From<NoMemory> for TurnFault {
 
     fn from(_: NoMemory) -> TurnFault {
         TurnFault::Memory
-    }
-}
-
-impl From<NodeFault> for TurnFault {
-    fn from(fault: NodeFault) -> TurnFault {
-        match fault {
-            NodeFault::Memory => TurnFault::Memory,
-            _ => TurnFault::Log,
-        }
     }
 }
 

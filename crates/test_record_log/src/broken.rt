@@ -1,8 +1,8 @@
 //! Files of no run of such a log.
-ghost use Rattle.std.specs.Prelude.{◌≡◌, ◌<◌, ◌^◌, length, IfOk};
+ghost use Rattle.std.specs.Prelude.{◌<◌, ◌≤◌, ◌^◌, length};
 
 use crate::made::{ROOM, SEVEN, epoch, file};
-use fr_base::{Epoch, LogId, NodeFault, Shape};
+use fr_base::{Epoch, LogId, NodeFault};
 use fr_device::MemoryDevice;
 use fr_record::Records;
 use fr_record_log::LogNode;
@@ -10,18 +10,14 @@ use std::alloc::Global;
 use std::process::Abort;
 use std::test::Fail;
 
-/// The shape of these numbers, where they are those of one.
-fn shape(m: u8, k: u8) -> Result<Shape, Fail>
-    ensures { IfOk result (λ shape. shape.m ≡ m) }
+/// Opens a file as that of a log of a generation of `m` logs, with `k` holders of each tag; why that is refused.
+fn fault(alloc: Global, device: MemoryDevice, id: LogId, m: u8, k: u8) -> Option<NodeFault>
+    requires some { 1 ≤ k }
+    requires fits { k ≤ m }
+    requires limit { m ≤ 16 }
+    requires place { id.index < m }
 {
-    Ok(Shape::new(m, k).ok_or("a shape")?)
-}
-
-/// Opens a file as that of a log of a generation of this shape; why that is refused.
-fn fault(alloc: Global, device: MemoryDevice, id: LogId, shape: Shape) -> Option<NodeFault>
-    requires { id.index < shape.m }
-{
-    LogNode::open(alloc, device, id, shape.m(), shape.k()).err()
+    LogNode::open(alloc, device, id, m, k).err()
 }
 
 /// The file of a log of epoch 257 at durable 7, or one that has no records.
@@ -49,9 +45,8 @@ fn is_broken(alloc: Global, is_at_seven: bool, payload: &[u8]) -> Result<Option<
         return Ok(None);
     }
     let device = with_record(alloc, is_at_seven, payload)?;
-    let shape = shape(4, 2)?;
     Ok(
-        match fault(alloc, device, LogId { epoch, index: 0 }, shape) {
+        match fault(alloc, device, LogId { epoch, index: 0 }, 4, 2) {
             None => Some(false),
             Some(NodeFault::Broken) => Some(true),
             Some(_) => None,
@@ -131,12 +126,16 @@ fn as_another(
     alloc: Global,
     epoch: Epoch,
     index: u8,
-    shape: Shape,
+    m: u8,
+    k: u8,
 ) -> Result<Option<NodeFault>, Fail>
-    requires { index < shape.m }
+    requires some { 1 ≤ k }
+    requires fits { k ≤ m }
+    requires limit { m ≤ 16 }
+    requires place { index < m }
 {
     let device = file(alloc, &SEVEN)?;
-    Ok(fault(alloc, device, LogId { epoch, index }, shape))
+    Ok(fault(alloc, device, LogId { epoch, index }, m, k))
 }
 
 #[test]
@@ -144,10 +143,10 @@ fn the_file_of_another_log(rt: HostRuntime) -> Result<(), Fail> {
     let alloc = rt.alloc();
     let (own, other) = (epoch(257)?, epoch(513)?);
     let broken = Some(NodeFault::Broken);
-    assert_eq!(rt; as_another(alloc, own, 0, shape(4, 2)?)?, None);
-    assert_eq!(rt; as_another(alloc, other, 0, shape(4, 2)?)?, broken);
-    assert_eq!(rt; as_another(alloc, own, 1, shape(4, 2)?)?, broken);
-    assert_eq!(rt; as_another(alloc, own, 0, shape(5, 2)?)?, broken);
-    assert_eq!(rt; as_another(alloc, own, 0, shape(4, 1)?)?, broken);
+    assert_eq!(rt; as_another(alloc, own, 0, 4, 2)?, None);
+    assert_eq!(rt; as_another(alloc, other, 0, 4, 2)?, broken);
+    assert_eq!(rt; as_another(alloc, own, 1, 4, 2)?, broken);
+    assert_eq!(rt; as_another(alloc, own, 0, 5, 2)?, broken);
+    assert_eq!(rt; as_another(alloc, own, 0, 4, 1)?, broken);
     Ok(())
 }
