@@ -1,10 +1,11 @@
 //! Housed nodes that are gone.
-use crate::asks::{Asked, at, epoch, proxy, stamp};
-use crate::scene::Deed::{Ask, Count, Crash, HasCrashed, Lose};
+use crate::asks::{Asked, Told, at, epoch, proxy, stamp};
+use crate::scene::Deed::{Ask, Count, Crash, HasCrashed, Lose, Says};
 use crate::scene::Said::{self, At, Is, Many, No};
-use crate::scene::{Row, entered, runs, served};
+use crate::scene::{Row, entered, runs, runs_after, served};
 use fr_ask::SeqAsk;
 use fr_base::{InMemory, NodeId, Step};
+use fr_log::LogRefusal::Stopped;
 use fr_proxy::Sequencer;
 use fr_runtime_housing::CallFault::Lost;
 use fr_runtime_housing::Housed;
@@ -37,6 +38,37 @@ const CRASHED: [Row; 6] = [
 #[test]
 fn a_crashed_log_stands_as_it_was(rt: HostRuntime) -> Result<(), Fail> {
     runs(&rt, rt.alloc(), &CRASHED)
+}
+
+/// What a log at version 9 takes.
+const NINE: [Asked; 4] = [
+    Asked::Seed(1, 0),
+    Asked::Mark(0),
+    Asked::Push(1, 8),
+    Asked::Push(8, 9),
+];
+
+/// A log at version 9 is locked and crashes. It is locked still, and tells what it told before.
+const LOCKED: [Row; 11] = [
+    (Ask(0, Asked::Lock), At(1)),
+    (Crash(0), At(2)),
+    (Ask(0, Asked::Push(9, 10)), At(3)),
+    (Ask(0, Asked::Push(8, 9)), At(4)),
+    (Ask(0, Asked::Lock), At(5)),
+    (Count, Many(5)),
+    (Says(0, 1, Asked::Lock, Told::Locked(9, 0)), Is(true)),
+    (HasCrashed(1), Is(true)),
+    (
+        Says(2, 3, Asked::Push(9, 10), Told::Refused(Stopped)),
+        Is(true),
+    ),
+    (Says(3, 4, Asked::Push(8, 9), Told::Held(9)), Is(true)),
+    (Says(4, 5, Asked::Lock, Told::Locked(9, 0)), Is(true)),
+];
+
+#[test]
+fn a_locked_log_that_crashed_is_locked_still(rt: HostRuntime) -> Result<(), Fail> {
+    runs_after(&rt, rt.alloc(), &NINE, &LOCKED)
 }
 
 /// A sequencer with its journal.
