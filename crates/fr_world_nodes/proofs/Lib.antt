@@ -10,3 +10,4 @@ pub mod Recovering
 pub mod Served
 pub mod Asked
 pub mod Lasts
+pub mod InPlace

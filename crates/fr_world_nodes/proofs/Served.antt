@@ -2,7 +2,7 @@
 use Rattle.std.proofs.Common.{◌≡◌, ◌≢◌, ℕ, ◌<◌, Bool, true, false, cond, not, ◌==◌, ◌&&◌, List, ◌∷◌, Option, None, Some, refl, sym, ◌∙◌, ap, subst, length, slice_set, slice_index_or}
 use Rattle.std.specs.Prelude.{slice_get, is_some, IsSome}
 use Rattle.std.proofs.lemmas.Bool.{and_parts, eqb-true, eq-eqb}
-use Rattle.std.proofs.lemmas.List.{length-set}
+use Rattle.std.proofs.lemmas.List.{length-set, set-get_or}
 use Rattle.std.proofs.lemmas.Option.{slice_get-get_or}
 use Rattle.fr_base.specs.declared.place.NodeId.{NodeId}
 use Rattle.fr_base.specs.declared.place.NodeId.TheVariants as node
@@ -30,6 +30,10 @@ use Rattle.fr_world_nodes.proofs.Stands.{logs_next, sequencers_next, proxies_nex
 pub server_there : (c : Config) (h : List Turn) (storages : Storages) → AreStorages c h storages → (tag n : ℕ) → n ≡ tag → tag < length c.begins → (s : Server StoreState) → s ≡ slice_index_or storages n s → slice_get storages tag ≡ Some s
 server_there c h storages k tag n same l s e =
     slice_get-get_or storages tag s (subst (λ m. tag < m) (sym k.all) l) ∙ ap Some (sym (e ∙ ap (λ m. slice_index_or storages m s) same))
+
+-- the servers where one of them stands as it was
+pub servers_same : (storages : Storages) (n : ℕ) (before after : Server StoreState) → before ≡ slice_index_or storages n before → after ≡ before → slice_set storages n after ≡ storages
+servers_same storages n before after is same = ap (slice_set storages n) (same ∙ is) ∙ set-get_or storages n before
 
 -- the servers after a tell to one of them
 storages_next : (c : Config) (h : List Turn) (tag : ℕ) (from : NodeId) (t : Tell) (taken : Option ℕ) (fault : Option StorageFault) (storages : Storages) (s : Server StoreState) → AreStorages c h storages

@@ -1,8 +1,10 @@
 //! The storage servers of a world.
-ghost use Rattle.std.specs.Prelude.{◌≡◌, ◌&&◌, false, true, not, is_some, IfOk, IsTrue, None, OnOk, Some};
+ghost use Rattle.std.specs.List.{list_all};
+ghost use Rattle.std.specs.Prelude.{◌≡◌, ◌&&◌, ℕ, [], false, true, not, nat_le, is_some, IfOk, IsTrue, None, OnErr, OnOk, Some};
 ghost use Rattle.fr_run.specs.Nodes.{whole_hear, part_hear, storage_hear};
 ghost use Rattle.fr_run.specs.Run.{fault_of, fault_of_log};
 ghost use Rattle.fr_storage.specs.Server.{met_store, refusal_of};
+ghost use Rattle.fr_storage.specs.Storage.{after_peeked, new_records, peeked_fault};
 ghost use Rattle.fr_ask.specs.declared.tell.Tell.TheVariants as told;
 ghost use Rattle.fr_run_event.specs.Tests as tests;
 ghost use Rattle.fr_run_event.specs.Step.{breaks_in, may_break};
@@ -11,38 +13,117 @@ ghost use Rattle.fr_world_nodes.specs.Parts.{server_of, is_ok_true};
 
 use fr_ask::{Last, Tell};
 use fr_base::{Epoch, Memory, NodeId, Version};
-use fr_log::{LogAsk, LogTell};
+use fr_log::{LogAsk, LogTell, Peeked, PeekedRecord};
 use fr_run_event::{Config, last_of_storage};
 use fr_storage::{Storage, StorageFault};
 use fr_undo::MapStore;
 use std::alloc::Global;
 
-/// A server after a hear, and why it refused what it heard.
-#[derive(Drop)]
-pub struct Heard {
-    pub server: Storage<MapStore>,
-    pub fault: Option<StorageFault>,
-}
-
-/// What a tell makes of a server, which itself stands: only what a log tells reaches it.
+/// Tells a server what a node told it, and answers why it refuses that: only what a log tells reaches it. Want of memory
+/// changes nothing. What may want some is worked out on a copy, which takes the server's place at the end; a hear that
+/// brings neither records nor a state wants none, and there is no copy.
 pub fn tell_server(
     alloc: Global,
-    server: &Storage<MapStore>,
+    server: &mut Storage<MapStore>,
     from: &NodeId,
     tell: &Tell,
-) -> Result<Heard, Memory>
-    requires { server.now.failed ≡ false }
-    ensures fault { IfOk result (λ heard. heard.fault ≡ fault_of (server_of server.now) from.now tell.now) }
-    ensures state { IfOk result (λ heard. server_of heard.server ≡ storage_hear None (server_of server.now) from.now tell.now) }
-    ensures works { IfOk result (λ heard. heard.server.failed ≡ false) }
+) -> Result<Option<StorageFault>, Memory>
+    requires { server.old.failed ≡ false }
+    ensures fault { IfOk result (λ fault. fault ≡ fault_of (server_of server.old) from.now tell.now) }
+    ensures state { OnOk result (server_of server.new ≡ storage_hear None (server_of server.old) from.now tell.now) }
+    ensures works { OnOk result (server.new.failed ≡ false) }
+    ensures err { OnErr result (server.new ≡ server.old) }
 {
-    let mut server = server.copy(alloc)?;
-    let fault = hear_from(alloc, &mut server, from, tell)?;
-    Ok(Heard { server, fault })
+    match (from, tell) {
+        (NodeId::Log { epoch, .. }, Tell::Log(tell)) => hear_told(alloc, server, *epoch, tell),
+        _ => Ok(None),
+    }
 }
 
-/// Tells a server what a node told it. Want of memory may leave it failed.
-fn hear_from(
+/// Tells a server what a log of an epoch told it, and answers why it refuses that. Want of memory changes nothing.
+fn hear_told(
+    alloc: Global,
+    server: &mut Storage<MapStore>,
+    epoch: Epoch,
+    tell: &LogTell,
+) -> Result<Option<StorageFault>, Memory>
+    requires { server.old.failed ≡ false }
+    ensures fault { IfOk result (λ fault. fault ≡ fault_of_log (server_of server.old) epoch tell.now) }
+    ensures state { OnOk result (server_of server.new ≡ whole_hear (server_of server.old) epoch tell.now) }
+    ensures works { OnOk result (server.new.failed ≡ false) }
+    ensures err { OnErr result (server.new ≡ server.old) }
+{
+    match tell {
+        LogTell::Peeked(peeked) => {
+            if brings_none(server, peeked) {
+                Ok(hear_in_place(alloc, server, epoch, peeked))
+            } else {
+                hear_by_copy(alloc, server, epoch, tell)
+            }
+        }
+        LogTell::Marked { .. } => hear_by_copy(alloc, server, epoch, tell),
+        _ => Ok(None),
+    }
+}
+
+/// Whether a server has applied each version of which an answer has a record, so that none is new to it.
+fn brings_none(server: &Storage<MapStore>, peeked: &Peeked) -> bool
+    requires { server.now.failed ≡ false }
+    ensures { (epoch : ℕ) → IsTrue result → new_records (server_of server.now) epoch peeked.now ≡ [] }
+{
+    let (_, applied) = server.position();
+    are_through(applied, peeked.records())
+}
+
+/// Whether records are of no version above this one.
+fn are_through(applied: Version, records: &[PeekedRecord]) -> bool
+    ensures { result ≡ list_all (λ r. nat_le r.version applied) records.now }
+{
+    records.iter().all(|record| record.version <= applied)
+}
+
+/// Tells a server what a log of an epoch gave of its tag, where no record of it is new to the server, and answers why
+/// it refuses that. It takes no memory.
+fn hear_in_place(
+    alloc: Global,
+    server: &mut Storage<MapStore>,
+    epoch: Epoch,
+    peeked: &Peeked,
+) -> Option<StorageFault>
+    requires works { server.old.failed ≡ false }
+    requires none { new_records (server_of server.old) epoch peeked.now ≡ [] }
+    ensures fault { result ≡ peeked_fault (server_of server.old) epoch peeked.now }
+    ensures state { server_of server.new ≡ after_peeked (server_of server.old) epoch peeked.now }
+    ensures works { server.new.failed ≡ false }
+{
+    match server.hear_peeked(alloc, epoch, peeked) {
+        Ok(()) => None,
+        Err(StorageFault::Store(_)) => unreachable!(),
+        Err(fault) => Some(fault),
+    }
+}
+
+/// As [`hear_told`], worked out on a copy of the server, which takes its place at the end.
+fn hear_by_copy(
+    alloc: Global,
+    server: &mut Storage<MapStore>,
+    epoch: Epoch,
+    tell: &LogTell,
+) -> Result<Option<StorageFault>, Memory>
+    requires { server.old.failed ≡ false }
+    ensures fault { IfOk result (λ fault. fault ≡ fault_of_log (server_of server.old) epoch tell.now) }
+    ensures state { OnOk result (server_of server.new ≡ whole_hear (server_of server.old) epoch tell.now) }
+    ensures works { OnOk result (server.new.failed ≡ false) }
+    ensures err { OnErr result (server.new ≡ server.old) }
+{
+    let mut other = server.copy(alloc)?;
+    let fault = hear(alloc, &mut other, epoch, tell)?;
+    *server = other;
+    Ok(fault)
+}
+
+/// As [`tell_server`], with no copy of the server: want of memory may leave it failed, with a part of what it heard.
+pub fn tell_in_place(
     alloc: Global,
     server: &mut Storage<MapStore>,
     from: &NodeId,
@@ -131,8 +212,25 @@ pub fn break_server(
     ensures works { IfOk result (λ s. s.failed ≡ false) }
 {
     let mut server = server.copy(alloc)?;
-    if break_from(alloc, &mut server, from, tell, version)? {
-        Ok(server)
+    break_in_place(alloc, &mut server, from, tell, version)?;
+    Ok(server)
+}
+
+/// As [`break_server`], with no copy of the server: want of memory may leave it failed, with a part of what it heard.
+pub fn break_in_place(
+    alloc: Global,
+    server: &mut Storage<MapStore>,
+    from: &NodeId,
+    tell: &Tell,
+    version: Version,
+) -> Result<(), Memory>
+    requires works { server.old.failed ≡ false }
+    requires breaks { may_break (server_of server.old) from.now tell.now version ≡ true }
+    ensures state { OnOk result (server_of server.new ≡ storage_hear (Some version) (server_of server.old) from.now tell.now) }
+    ensures works { OnOk result (server.new.failed ≡ false) }
+{
+    if break_from(alloc, server, from, tell, version)? {
+        Ok(())
     } else {
         unreachable!()
     }
