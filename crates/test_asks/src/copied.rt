@@ -82,11 +82,22 @@ fn is_seed(records: Vec<SeedRecord>) -> Result<bool, Fail> {
     Ok(Seed::new(epoch, nine, nine, records).is_some())
 }
 
+/// Whether there are records, and the copy of each is that record.
+fn are_seeded(records: &[SeedRecord]) -> Result<bool, Fail> {
+    for record in records {
+        if record.copy()? != *record {
+            return Ok(false);
+        }
+    }
+    Ok(!records.is_empty())
+}
+
 /// Asserts that a copy is equal to it and gives the same records back, which are outside of 9 through 9.
 fn seed_is_copied(rt: &impl Abort, seed: &Seed) -> Result<(), Fail> {
     assert!(rt; numbers_of_seed(seed) == (257, 7, 9));
     let copy = seed.copy()?;
     assert!(rt; *seed == copy);
+    assert!(rt; are_seeded(seed.records())?);
     let records = copy.into_records();
     assert!(rt; records.as_slice() == seed.records());
     assert!(rt; !is_seed(records)?);
@@ -117,10 +128,21 @@ fn is_answer(records: Vec<PeekedRecord>) -> Result<bool, Fail> {
     Ok(Peeked::new(tag, four, records, nine, three).is_some())
 }
 
+/// Whether there are records, and the copy of each is that record.
+fn are_given(records: &[PeekedRecord]) -> Result<bool, Fail> {
+    for record in records {
+        if record.copy()? != *record {
+            return Ok(false);
+        }
+    }
+    Ok(!records.is_empty())
+}
+
 /// Asserts that a copy gives the same records back, which are no answer to a peek above 4.
 fn peeked_is_copied(rt: &impl Abort, peeked: &Peeked) -> Result<(), Fail> {
     assert_eq!(rt; peeked.tag().get(), 0);
     assert!(rt; numbers_of_peeked(peeked) == (3, 9, 3));
+    assert!(rt; are_given(peeked.records())?);
     let records = peeked.copy()?.into_records();
     assert!(rt; records.as_slice() == peeked.records());
     assert!(rt; !is_answer(records)?);

@@ -16,4 +16,6 @@ mod forms;
 #[cfg(test)]
 mod lengths;
 #[cfg(test)]
+mod lent;
+#[cfg(test)]
 mod lines;

@@ -1,10 +1,11 @@
 //! Housed nodes that are gone.
-use crate::asks::{Asked, at, epoch, proxy, stamp};
-use crate::scene::Deed::{Ask, Count, Crash, HasCrashed, Lose};
+use crate::asks::{Asked, Told, at, epoch, proxy, stamp};
+use crate::scene::Deed::{Ask, Count, Crash, HasCrashed, Lose, Says};
 use crate::scene::Said::{self, At, Is, Many, No};
 use crate::scene::{Row, entered, runs, served};
 use fr_ask::SeqAsk;
 use fr_base::{InMemory, NodeId, Step};
+use fr_log::LogRefusal;
 use fr_proxy::Sequencer;
 use fr_runtime_housing::CallFault::Lost;
 use fr_runtime_housing::Housed;
@@ -37,6 +38,31 @@ const CRASHED: [Row; 6] = [
 #[test]
 fn a_crashed_log_stands_as_it_was(rt: HostRuntime) -> Result<(), Fail> {
     runs(&rt, rt.alloc(), &CRASHED)
+}
+
+/// A log that crashes once it is locked stays locked, and tells the lock again as it told it before.
+const LOCKED: [Row; 13] = [
+    (Ask(0, Asked::Push(7, 8)), At(1)),
+    (Ask(0, Asked::Push(8, 9)), At(2)),
+    (Ask(0, Asked::Lock), At(3)),
+    (Crash(0), At(4)),
+    (Ask(0, Asked::Push(9, 10)), At(5)),
+    (Ask(0, Asked::Push(8, 9)), At(6)),
+    (Ask(0, Asked::Lock), At(7)),
+    (Count, Many(7)),
+    (Says(2, 3, Asked::Lock, Told::Locked(9, 0)), Is(true)),
+    (HasCrashed(3), Is(true)),
+    (
+        Says(4, 5, Asked::Push(9, 10), Told::Refused(LogRefusal::Stopped)),
+        Is(true),
+    ),
+    (Says(5, 6, Asked::Push(8, 9), Told::Held(9)), Is(true)),
+    (Says(6, 7, Asked::Lock, Told::Locked(9, 0)), Is(true)),
+];
+
+#[test]
+fn a_locked_log_that_crashes_stays_locked(rt: HostRuntime) -> Result<(), Fail> {
+    runs(&rt, rt.alloc(), &LOCKED)
 }
 
 /// A sequencer with its journal.

@@ -97,10 +97,10 @@ fn config_of(alloc: Global, cells: u8, logs: u8, degree: u8) -> Result<Config, F
     Ok(Config::new(cells, logs, degree, begins, 1)?)
 }
 
-/// The world of that before anything happened.
+/// The world of that before anything happened, made of the config's copy.
 pub(crate) fn world(alloc: Global, cells: u8) -> Result<World, Fail> {
     let config = config(alloc, cells)?;
-    Ok(World::start(alloc, config)?)
+    Ok(World::start(alloc, config.copy()?)?)
 }
 
 /// The world with one cell and a first generation of so many logs and this degree.

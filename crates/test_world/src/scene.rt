@@ -38,11 +38,11 @@ pub(crate) fn step(alloc: Global, world: &mut World, event: &Event) -> Result<An
     }
 }
 
-/// The same, in a word.
-fn happens(alloc: Global, world: &mut World, event: &Event) -> Said {
+/// The same, in a word: what the copy of an answer says.
+fn happens(alloc: Global, world: &mut World, event: &Event) -> Result<Said, Fail> {
     match step(alloc, world, event) {
-        Ok(given) => answer(&given),
-        Err(why) => Said::No(why),
+        Ok(given) => Ok(answer(&given.copy()?)),
+        Err(why) => Ok(Said::No(why)),
     }
 }
 
@@ -52,7 +52,7 @@ fn does(alloc: Global, world: &mut World, deed: Deed) -> Result<Said, Fail> {
         return look(alloc, world, who);
     }
     match event(alloc, world, deed)? {
-        Some(event) => Ok(happens(alloc, world, &event)),
+        Some(event) => happens(alloc, world, &event),
         None => Err("nothing happens")?,
     }
 }
