@@ -8,6 +8,10 @@ import tempfile
 
 BENCH = os.path.dirname(os.path.abspath(__file__))
 COUNT = re.compile(rb"\nallocations (\d+)\n\Z")
+# What a test ends with that had no memory itself: the name of such an error, whole.
+WANT = re.compile(rb"^error: (?:AllocFailed|AllocError|Memory|Err\((?:AllocError|Memory)\))(?!\w)", re.M)
+# What a test says that made a call again which had found no memory.
+AGAIN = re.compile(rb"^again$", re.M)
 
 
 class Ended:
@@ -27,11 +31,11 @@ def library():
         yield path
 
 
-def run(words, script, path, number):
+def run(words, script, path, number, cwd=None):
     """A run whose allocation of this number is refused; with 0 it has all of its memory. None where it has no end."""
     given = {**os.environ, "LD_PRELOAD": path, "REFUSE": str(number)}
     try:
-        ran = subprocess.run(words, env=given, input=script, capture_output=True, timeout=120, check=False)
+        ran = subprocess.run(words, env=given, input=script, capture_output=True, timeout=120, check=False, cwd=cwd)
     except subprocess.TimeoutExpired:
         return None
     found = COUNT.search(ran.stderr)
