@@ -1,10 +1,6 @@
 //! Cells, logs and sequencers: what they are asked is told at once.
 ghost use Rattle.std.specs.Prelude.{◌≡◌, OnOk};
 
-use crate::nodes::{read_sizes, write_state_of};
-use crate::rows::Row;
-use crate::subject::{Subject, no_such_word, play_rows};
-use crate::wrong::{NO_FORM, Wrong};
 use fr_ask::Named;
 use fr_base::{LogId, Machine, Memory};
 use fr_forms::fields::Fields;
@@ -18,19 +14,15 @@ use fr_proxy::Sequencer;
 use fr_register::Cell;
 use serde_json::Value;
 use std::alloc::Global;
+use test_rows::{NO_FORM, Scene, Subject, Wrong, no_such_word, read_sizes, write_state_of};
 
 /// Plays rows with a cell that was never asked.
-pub(crate) fn play_cell(
-    alloc: Global,
-    made: Value,
-    rows: &[Row],
-    at: &mut usize,
-) -> Result<(), Wrong> {
-    if !made.is_null() {
+pub(crate) fn play_cell(alloc: Global, scene: Scene, at: &mut usize) -> Result<(), Wrong> {
+    if !scene.given(alloc)?.is_null() {
         return Err(Wrong::Form("a cell is made of nothing"));
     }
     let mut cell = Cell::new(alloc);
-    play_rows(alloc, &mut cell, rows, at)
+    scene.play(alloc, &mut cell, at)
 }
 
 impl Subject for Cell {
@@ -47,14 +39,9 @@ impl Subject for Cell {
 }
 
 /// Plays rows with a log that was never asked.
-pub(crate) fn play_log(
-    alloc: Global,
-    made: Value,
-    rows: &[Row],
-    at: &mut usize,
-) -> Result<(), Wrong> {
-    let mut log = read_log(alloc, &Fields::new(made, 4))?;
-    play_rows(alloc, &mut log, rows, at)
+pub(crate) fn play_log(alloc: Global, scene: Scene, at: &mut usize) -> Result<(), Wrong> {
+    let mut log = read_log(alloc, &Fields::new(scene.given(alloc)?, 4))?;
+    scene.play(alloc, &mut log, at)
 }
 
 fn read_log(alloc: Global, fields: &Fields) -> Result<Log, Wrong> {
@@ -114,15 +101,10 @@ fn ask_and_go_back(alloc: Global, log: &mut Log, ask: LogAsk) -> Result<LogTell,
 }
 
 /// Plays rows with a sequencer that gave nothing yet.
-pub(crate) fn play_sequencer(
-    alloc: Global,
-    made: Value,
-    rows: &[Row],
-    at: &mut usize,
-) -> Result<(), Wrong> {
-    let fields = Fields::new(made, 2);
+pub(crate) fn play_sequencer(alloc: Global, scene: Scene, at: &mut usize) -> Result<(), Wrong> {
+    let fields = Fields::new(scene.given(alloc)?, 2);
     let mut sequencer = Sequencer::new(alloc, fields.epoch("epoch")?, fields.version("last")?);
-    play_rows(alloc, &mut sequencer, rows, at)
+    scene.play(alloc, &mut sequencer, at)
 }
 
 impl Subject for Sequencer {

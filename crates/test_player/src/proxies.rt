@@ -1,8 +1,5 @@
 //! Proxies.
-use crate::nodes::{read_map, read_sizes, read_told, write_asks, write_name, write_state_of};
-use crate::rows::Row;
-use crate::subject::{Subject, no_such_word, play_rows};
-use crate::wrong::Wrong;
+use crate::nodes::{read_map, read_told, write_asks};
 use fr_ask::{Ask, Last};
 use fr_base::{NodeId, Step};
 use fr_forms::fields::Fields;
@@ -11,16 +8,14 @@ use fr_forms::{read_batch, write_ask, write_outcome, write_shards};
 use fr_proxy::{Outcome, Proxy, SubmitFault};
 use serde_json::Value;
 use std::alloc::Global;
+use test_rows::{
+    Scene, Subject, Wrong, no_such_word, read_sizes, said, write_name, write_state_of,
+};
 
 /// Plays rows with a proxy that took nothing yet.
-pub(crate) fn play_proxy(
-    alloc: Global,
-    made: Value,
-    rows: &[Row],
-    at: &mut usize,
-) -> Result<(), Wrong> {
-    let mut proxy = read_proxy(alloc, &mut Fields::new(made, 6))?;
-    play_rows(alloc, &mut proxy, rows, at)
+pub(crate) fn play_proxy(alloc: Global, scene: Scene, at: &mut usize) -> Result<(), Wrong> {
+    let mut proxy = read_proxy(alloc, &mut Fields::new(scene.given(alloc)?, 6))?;
+    scene.play(alloc, &mut proxy, at)
 }
 
 fn read_proxy(alloc: Global, fields: &mut Fields) -> Result<Proxy, Wrong> {
@@ -39,7 +34,7 @@ impl Subject for Proxy {
             "hear" => {
                 let (from, tell) = read_told(alloc, given)?;
                 let (outcome, asks) = self.hear(alloc, from, &tell)?;
-                write_heard(alloc, outcome, asks.as_slice())
+                said(write_heard(alloc, outcome, asks.as_slice()))
             }
             "pending" => write_asks(alloc, self.pending(alloc)?.as_slice()),
             "state" => {
@@ -70,11 +65,15 @@ fn submit(alloc: Global, proxy: &mut Proxy, fields: &mut Fields) -> Result<Value
     let step = Step::new(fields.number("step")?).ok_or(Wrong::Form("no step"))?;
     let batch = read_batch(alloc, fields.take("batch")?)?;
     match proxy.submit(step, batch) {
-        Ok(ask) => Ok(write_ask(alloc, &ask)?),
+        Ok(ask) => said(write_given(alloc, &ask)),
         Err(SubmitFault::TwoOpen) => write_name(alloc, "TwoOpen"),
         Err(SubmitFault::Over) => write_name(alloc, "Over"),
         Err(SubmitFault::Memory) => Err(Wrong::Memory),
     }
+}
+
+fn write_given(alloc: Global, ask: &Ask) -> Result<Value, Wrong> {
+    Ok(write_ask(alloc, ask)?)
 }
 
 fn write_heard(alloc: Global, outcome: Outcome, asks: &[(NodeId, Ask)]) -> Result<Value, Wrong> {

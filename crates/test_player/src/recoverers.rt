@@ -1,8 +1,5 @@
 //! Recoverers.
-use crate::nodes::{read_map, read_told, write_asks, write_state_of};
-use crate::rows::Row;
-use crate::subject::{Subject, no_such_word, play_rows};
-use crate::wrong::{NO_FORM, Wrong};
+use crate::nodes::{read_map, read_told, write_asks};
 use fr_ask::Last;
 use fr_base::{Bytes, Shape};
 use fr_cli_json::tree::member_of;
@@ -13,14 +10,11 @@ use fr_forms::{write_shards, write_state};
 use fr_state::CoordState;
 use serde_json::Value;
 use std::alloc::Global;
+use test_rows::{NO_FORM, Scene, Subject, Wrong, no_such_word, said, write_state_of};
 
 /// Plays rows with a recoverer that heard nothing.
-pub(crate) fn play_recoverer(
-    alloc: Global,
-    made: Value,
-    rows: &[Row],
-    at: &mut usize,
-) -> Result<(), Wrong> {
+pub(crate) fn play_recoverer(alloc: Global, scene: Scene, at: &mut usize) -> Result<(), Wrong> {
+    let made = scene.given(alloc)?;
     let mut recoverer = if member_of(&made, 5, "logs").is_some() {
         let mut fields = Fields::new(made, 5);
         let shape = read_shape(&fields)?;
@@ -28,7 +22,7 @@ pub(crate) fn play_recoverer(
     } else {
         read_recoverer(alloc, &mut Fields::new(made, 3), None)?
     };
-    play_rows(alloc, &mut recoverer, rows, at)
+    scene.play(alloc, &mut recoverer, at)
 }
 
 /// How many logs the next generation is to have, and on how many of them each tag is to stand.
@@ -54,7 +48,8 @@ impl Subject for Recoverer {
         match word {
             "hear" => {
                 let (from, tell) = read_told(alloc, given)?;
-                write_asks(alloc, self.hear(alloc, from, tell)?.as_slice())
+                let asks = self.hear(alloc, from, tell)?;
+                said(write_asks(alloc, asks.as_slice()))
             }
             "pending" => write_asks(alloc, self.pending(alloc)?.as_slice()),
             "state" => {

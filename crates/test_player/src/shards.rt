@@ -1,8 +1,5 @@
 //! Shards, which mutations concern which, and which logs hold which tag.
-use crate::nodes::{read_logs, read_sizes, write_name};
-use crate::rows::Row;
-use crate::subject::{Subject, no_such_word, play_rows};
-use crate::wrong::Wrong;
+use crate::nodes::read_logs;
 use fr_cli_json::tree::read_bytes;
 use fr_forms::fields::{Fields, tag_of};
 use fr_forms::object::{Object, hex_value};
@@ -11,16 +8,12 @@ use fr_mutation::Shard;
 use fr_tags::{Body, ShardFault, ShardMap, covers, holders, is_held};
 use serde_json::Value;
 use std::alloc::Global;
+use test_rows::{Scene, Subject, Wrong, no_such_word, read_sizes, write_name};
 
 /// Plays rows with a map of shards that begin at these keys.
-pub(crate) fn play_shards(
-    alloc: Global,
-    made: Value,
-    rows: &[Row],
-    at: &mut usize,
-) -> Result<(), Wrong> {
-    match ShardMap::new(read_shards(alloc, made)?) {
-        Ok(mut map) => play_rows(alloc, &mut map, rows, at),
+pub(crate) fn play_shards(alloc: Global, scene: Scene, at: &mut usize) -> Result<(), Wrong> {
+    match ShardMap::new(read_shards(alloc, scene.given(alloc)?)?) {
+        Ok(mut map) => scene.play(alloc, &mut map, at),
         Err(ShardFault::Memory) => Err(Wrong::Memory),
         Err(_) => Err(Wrong::Form("these begins make no shards")),
     }

@@ -1,9 +1,5 @@
 //! Storage servers, over a store in memory, and over one that fails once.
-use crate::nodes::write_name;
-use crate::rows::Row;
 use crate::stores::read_failing;
-use crate::subject::{Subject, no_such_word, play_rows};
-use crate::wrong::{NO_FORM, Wrong};
 use fr_ask::{Ask, Rows, Tell};
 use fr_base::{Memory, Version};
 use fr_forms::fields::{Fields, items};
@@ -14,41 +10,42 @@ use fr_storage::{Answer, Storage, StorageFault};
 use fr_undo::{MapStore, ShardStore, StoreFault};
 use serde_json::Value;
 use std::alloc::Global;
+use test_rows::{NO_FORM, Scene, Subject, Wrong, no_such_word, said, write_name};
 
 /// Plays rows with a storage server that applied nothing yet.
-pub(crate) fn play_storage(
-    alloc: Global,
-    made: Value,
-    rows: &[Row],
-    at: &mut usize,
-) -> Result<(), Wrong> {
+pub(crate) fn play_storage(alloc: Global, scene: Scene, at: &mut usize) -> Result<(), Wrong> {
     let store = MapStore::new(alloc);
-    play_over(alloc, store, &mut Fields::new(made, 2), rows, at)
+    play_over(
+        alloc,
+        store,
+        &mut Fields::new(scene.given(alloc)?, 2),
+        scene,
+        at,
+    )
 }
 
 /// The same over a store that fails once.
 pub(crate) fn play_failing_storage(
     alloc: Global,
-    made: Value,
-    rows: &[Row],
+    scene: Scene,
     at: &mut usize,
 ) -> Result<(), Wrong> {
-    let mut fields = Fields::new(made, 4);
+    let mut fields = Fields::new(scene.given(alloc)?, 4);
     let store = read_failing(alloc, &fields)?;
-    play_over(alloc, store, &mut fields, rows, at)
+    play_over(alloc, store, &mut fields, scene, at)
 }
 
 fn play_over<S: ShardStore + Drop>(
     alloc: Global,
     store: S,
     fields: &mut Fields,
-    rows: &[Row],
+    scene: Scene,
     at: &mut usize,
 ) -> Result<(), Wrong> {
     let tag = fields.tag("tag")?;
     let state = read_state(alloc, fields.take("state")?)?;
     match Storage::start(alloc, store, tag, state) {
-        Ok(mut storage) => play_rows(alloc, &mut storage, rows, at),
+        Ok(mut storage) => scene.play(alloc, &mut storage, at),
         Err(StorageFault::Store(StoreFault::Memory)) => Err(Wrong::Memory),
         Err(_) => Err(Wrong::Form("no storage server starts here")),
     }
@@ -81,6 +78,18 @@ impl<S: ShardStore + Drop> Subject for Storage<S> {
                  next, generations, position, rows",
             ),
         }
+    }
+
+    fn has_failed(&self) -> bool {
+        self.is_failed()
+    }
+
+    /// A hear that broke off for want of memory leaves the server failed.
+    fn settle(&mut self, alloc: Global) -> Result<(), Wrong> {
+        if self.reopen(alloc).is_err() {
+            return Err(Wrong::Memory);
+        }
+        Ok(())
     }
 }
 
@@ -147,7 +156,7 @@ fn write_followed(
 ) -> Result<Value, Wrong> {
     match followed {
         Ok(None) => Ok(Value::Null),
-        Ok(Some(fault)) => write_store_fault(alloc, "broke_off", fault),
+        Ok(Some(fault)) => said(write_store_fault(alloc, "broke_off", fault)),
         Err(fault) => write_fault(alloc, fault),
     }
 }

@@ -1,10 +1,7 @@
 //! Copies of what an epoch takes over.
 ghost use Rattle.std.specs.Prelude.{◌+◌, ◌<◌, ◌≤◌, ◌^◌, IfOk};
 
-use crate::nodes::{read_logs, read_sizes, write_name};
-use crate::rows::Row;
-use crate::subject::{Subject, no_such_word, play_rows};
-use crate::wrong::{NO_FORM, Wrong};
+use crate::nodes::read_logs;
 use fr_ask::{Ask, Tell};
 use fr_base::{LogId, Version};
 use fr_forms::fields::{Fields, tag_of};
@@ -15,16 +12,12 @@ use fr_tags::MAX_SHARDS;
 use fr_tail::{Tail, TailFault};
 use serde_json::Value;
 use std::alloc::Global;
+use test_rows::{NO_FORM, Scene, Subject, Wrong, no_such_word, read_sizes, write_name};
 
 /// Plays rows with a copy that heard nothing.
-pub(crate) fn play_tail(
-    alloc: Global,
-    made: Value,
-    rows: &[Row],
-    at: &mut usize,
-) -> Result<(), Wrong> {
-    let mut tail = read_tail(alloc, &mut Fields::new(made, 6))?;
-    play_rows(alloc, &mut tail, rows, at)
+pub(crate) fn play_tail(alloc: Global, scene: Scene, at: &mut usize) -> Result<(), Wrong> {
+    let mut tail = read_tail(alloc, &mut Fields::new(scene.given(alloc)?, 6))?;
+    scene.play(alloc, &mut tail, at)
 }
 
 fn read_tail(alloc: Global, fields: &mut Fields) -> Result<Tail, Wrong> {

@@ -1,24 +1,16 @@
 //! The end of an epoch, as the replies of its logs tell it.
-use crate::nodes::{read_sizes, write_name};
-use crate::rows::Row;
-use crate::subject::{Subject, no_such_word, play_rows};
-use crate::wrong::Wrong;
 use fr_epoch::{EndTally, EpochEnd, Inconsistent, ReplyFault};
 use fr_forms::fields::Fields;
 use fr_forms::object::Object;
 use serde_json::Value;
 use std::alloc::Global;
+use test_rows::{Scene, Subject, Wrong, no_such_word, read_sizes, write_name};
 
 /// Plays rows with a tally that no log replied to.
-pub(crate) fn play_tally(
-    alloc: Global,
-    made: Value,
-    rows: &[Row],
-    at: &mut usize,
-) -> Result<(), Wrong> {
-    let (m, k) = read_sizes(&Fields::new(made, 2))?;
+pub(crate) fn play_tally(alloc: Global, scene: Scene, at: &mut usize) -> Result<(), Wrong> {
+    let (m, k) = read_sizes(&Fields::new(scene.given(alloc)?, 2))?;
     let mut tally = EndTally::new(m, k);
-    play_rows(alloc, &mut tally, rows, at)
+    scene.play(alloc, &mut tally, at)
 }
 
 impl Subject for EndTally {
