@@ -1,11 +1,19 @@
 //! A device that fails when it is told to.
 ghost use Rattle.std.specs.Prelude.{◌≤◌, length};
 
-use crate::scene::{ROOM, put};
-use fr_device::{Device, FaultyDevice, MemoryDevice};
+use fr_device::{Device, DeviceFault, FaultyDevice, MemoryDevice};
 use std::alloc::Global;
 use std::process::Abort;
 use std::test::Fail;
+
+const ROOM: usize = 64;
+
+/// Writes these bytes from a place on, and does not sync them.
+fn put<D: Device>(device: &mut D, at: usize, bytes: &[u8]) -> Result<(), DeviceFault>
+    requires { at ≤ length (D.disk device.old).content }
+{
+    device.write_at(at, bytes)
+}
 
 fn syncs<D: Device>(device: &mut D) -> bool {
     device.sync().is_ok()

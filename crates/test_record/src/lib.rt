@@ -1,13 +1,5 @@
-//! Tests of record files and of nodes over them: their bytes, and what crashes leave of them.
+//! Tests of devices that fail when they are told to.
 #![tactic(auto)]
 
 #[cfg(test)]
-mod cells;
-#[cfg(test)]
-mod crash;
-#[cfg(test)]
 mod devices;
-#[cfg(test)]
-mod files;
-#[cfg(test)]
-mod scene;
