@@ -5,6 +5,7 @@ pub mod Pushing
 pub mod Changes
 pub mod Lawful
 pub mod Telling
+pub mod Letting
 pub mod Going
 pub mod Seedings
 pub mod SeedKept

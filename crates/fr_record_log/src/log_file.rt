@@ -10,7 +10,7 @@ use crate::reading::change_at;
 use crate::spelling::spelled_ask;
 use fr_base::{Machine, Memory};
 use fr_log::laws::place_law;
-use fr_log::{Log, LogAsk, LogTell, Place, SeedRecord};
+use fr_log::{Log, LogAsk, LogTell, Place, PoppedTag, SeedRecord};
 use fr_mutation::spelling_is_read;
 use fr_record_node::{ReadFault, Recorded};
 use fr_state::spelling_law;
@@ -48,9 +48,9 @@ impl FileLog {
 }
 
 impl Machine for FileLog {
-    ghost use Rattle.fr_log.specs.Step.{answer_of, next_of, IsAnsweredInPlace};
+    ghost use Rattle.fr_log.specs.Step.{answer_of, after_ask, IsAnsweredInPlace};
     ghost use Rattle.std.specs.Prelude.{⊤};
-    ghost use Rattle.fr_log.specs.StepLaws.{log_high_water, repeats};
+    ghost use Rattle.fr_log.specs.StepLaws.{log_high_water, repeats_after};
 
     type Ask = LogAsk;
 
@@ -60,7 +60,7 @@ impl Machine for FileLog {
 
     ghost told = { answer_of };
 
-    ghost after = { next_of };
+    ghost after = { after_ask };
 
     ghost high_water = { log_high_water };
 
@@ -68,11 +68,11 @@ impl Machine for FileLog {
 
     ghost stays_reached = { λ l a h. record {} };
 
-    ghost told_again = { λ l a h. (repeats l a).told };
+    ghost told_again = { λ l a h. (repeats_after l a).told };
 
-    ghost after_again = { λ l a h. (repeats l a).after };
+    ghost after_again = { λ l a h. (repeats_after l a).after };
 
-    ghost never_back = { λ l a h. (repeats l a).high };
+    ghost never_back = { λ l a h. (repeats_after l a).high };
 
     fn step(&mut self, alloc: Global, ask: LogAsk) -> Result<LogTell, Memory> {
         self.log.step(alloc, ask)
@@ -117,9 +117,30 @@ fn take_seeded(log: &mut Log, next: SeedRecord) -> Result<(), ReadFault>
     }
 }
 
+/// Pops a tag further.
+fn take_popped(log: &mut Log, popped: PoppedTag) -> Result<(), ReadFault>
+    ensures ok { OnOk result (taken log.old (Change.Popped popped) ≡ Some log.new) }
+    ensures broken { (result ≡ Err ReadFault.Broken) → taken log.old (Change.Popped popped) ≡ None }
+    ensures err { OnErr result (log.new ≡ log.old) }
+    ensures sound { IsSoundLog log.new }
+{
+    log_within_limits(log);
+    match log.take_popped(popped) {
+        Ok(true) => {
+            log.settle();
+            log_within_limits(log);
+            Ok(())
+        }
+        Ok(false) => Err(ReadFault::Broken),
+        Err(_) => Err(ReadFault::Memory),
+    }
+}
+
 impl Recorded for FileLog {
     ghost use Rattle.std.specs.Prelude.{◌≡◌, refl};
     ghost use Rattle.fr_log.specs.Step.{next_of};
+    ghost use Rattle.fr_log.specs.LogState.{swept};
+    ghost use Rattle.fr_log.specs.SweptLaws.{swept_tells};
     ghost use Rattle.fr_log.specs.Chain.{IsLog};
     ghost use Rattle.fr_log.specs.Place.{place_of};
     ghost use Rattle.fr_record_log.specs.Spelling.{written_log};
@@ -140,7 +161,7 @@ impl Recorded for FileLog {
 
     ghost kept = { next_of };
 
-    ghost settled = { λ l. l };
+    ghost settled = { swept };
 
     ghost IsPlaceOf = { λ l p. IsLog l × (p ≡ place_of l) };
 
@@ -154,7 +175,7 @@ impl Recorded for FileLog {
 
     ghost settles = { λ l asks sound within. refl };
 
-    ghost told_settled = { λ l a. refl };
+    ghost told_settled = { swept_tells };
 
     ghost written_settled = { λ l a. refl };
 
@@ -171,14 +192,16 @@ impl Recorded for FileLog {
     }
 
     fn place(&self, _alloc: Global) -> Result<Place, Memory> {
-        Ok(self.log.place())
+        self.log.place()
     }
 
     fn keep(&mut self, alloc: Global, ask: LogAsk) -> Result<LogTell, Memory> {
-        self.log.step(alloc, ask)
+        self.log.keep(alloc, ask)
     }
 
-    fn settle(&mut self) {}
+    fn settle(&mut self) {
+        self.log.settle();
+    }
 
     fn go_back(&mut self, place: Place) {
         place_law();
@@ -198,6 +221,7 @@ impl Recorded for FileLog {
         match change {
             Change::Asked(ask) => take_ask(&mut self.log, alloc, ask),
             Change::Seeded(next) => take_seeded(&mut self.log, next),
+            Change::Popped(popped) => take_popped(&mut self.log, popped),
         }
     }
 }
