@@ -65,6 +65,7 @@ impl<D: Device> LogNode<D> {
         ensures free { IfOk result (λ node. node.owed ≡ None) }
         ensures kept { IfOk result (λ node. Throughout D.Led D.disk (Opens replay_log (fresh_of node.machine) (λ x. x
             ≡ node.machine)) node.device node.device) }
+        ensures capacity { IfOk result (λ node. D.capacity_of node.device ≡ D.capacity_of device) }
         ensures full { (result ≡ Err NodeFault.Full) ↔ (D.capacity_of device < 1) }
         ensures only_device { IfErr result (λ fault. (fault ≡ NodeFault.Device) ⊎ (fault ≡ NodeFault.Full)) }
         ensures device { (result ≡ Err NodeFault.Device) → FailsOnceMore D.failures_of device }
