@@ -1,24 +1,15 @@
-//! Scenarios: texts that say what a machine is asked and what it tells, played against the machine.
+//! Plays scenarios of nodes and of what they are made of, against these.
 #![tactic(auto)]
 
-mod batches;
-mod lines;
 mod logs;
-mod names;
 mod nodes;
-mod play;
 mod proxies;
 mod recoverers;
-mod report;
-mod rows;
 mod shards;
-mod states;
 mod storages;
 mod stores;
-mod subject;
+mod subjects;
 mod tails;
 mod tallies;
-mod wrong;
 
-pub use play::play_file;
-pub use report::Report;
+pub use subjects::play;

@@ -1,10 +1,7 @@
 //! Cells, logs and sequencers: what they are asked is told at once.
 ghost use Rattle.std.specs.Prelude.{◌≡◌, OnOk};
 
-use crate::nodes::{read_sizes, write_state_of};
-use crate::rows::Row;
-use crate::subject::{Subject, no_such_word, play_rows};
-use crate::wrong::{NO_FORM, Wrong};
+use crate::subjects::Nodes;
 use fr_ask::Named;
 use fr_base::{LogId, Machine, Memory};
 use fr_forms::fields::Fields;
@@ -18,43 +15,40 @@ use fr_proxy::Sequencer;
 use fr_register::Cell;
 use serde_json::Value;
 use std::alloc::Global;
+use test_rows::{NO_FORM, Plays, Scene, Wrong, no_such_word, read_sizes, write_state_of};
 
 /// Plays rows with a cell that was never asked.
-pub(crate) fn play_cell(
-    alloc: Global,
-    made: Value,
-    rows: &[Row],
-    at: &mut usize,
-) -> Result<(), Wrong> {
-    if !made.is_null() {
+pub(crate) fn play_cell(alloc: Global, scene: Scene, at: &mut usize) -> Result<(), Wrong> {
+    if !scene.given(alloc)?.is_null() {
         return Err(Wrong::Form("a cell is made of nothing"));
     }
     let mut cell = Cell::new(alloc);
-    play_rows(alloc, &mut cell, rows, at)
+    scene.play(alloc, &Nodes, &mut cell, at)
 }
 
-impl Subject for Cell {
-    fn play(&mut self, alloc: Global, word: &str, given: Value) -> Result<Value, Wrong> {
+impl Plays<Cell> for Nodes {
+    fn play_row(
+        &self,
+        alloc: Global,
+        cell: &mut Cell,
+        word: &str,
+        given: Value,
+    ) -> Result<Value, Wrong> {
         match word {
             "ask" => {
-                let told = self.step(alloc, read_cell_ask(alloc, given)?)?;
+                let told = cell.step(alloc, read_cell_ask(alloc, given)?)?;
                 Ok(write_cell_tell(alloc, &told)?)
             }
-            "state" => write_state_of(alloc, &self.copy()?.last(alloc)?),
+            "state" => write_state_of(alloc, &cell.copy()?.last(alloc)?),
             _ => no_such_word("rows of a cell: ask, state"),
         }
     }
 }
 
 /// Plays rows with a log that was never asked.
-pub(crate) fn play_log(
-    alloc: Global,
-    made: Value,
-    rows: &[Row],
-    at: &mut usize,
-) -> Result<(), Wrong> {
-    let mut log = read_log(alloc, &Fields::new(made, 4))?;
-    play_rows(alloc, &mut log, rows, at)
+pub(crate) fn play_log(alloc: Global, scene: Scene, at: &mut usize) -> Result<(), Wrong> {
+    let mut log = read_log(alloc, &Fields::new(scene.given(alloc)?, 4))?;
+    scene.play(alloc, &Nodes, &mut log, at)
 }
 
 fn read_log(alloc: Global, fields: &Fields) -> Result<Log, Wrong> {
@@ -68,16 +62,22 @@ fn read_log(alloc: Global, fields: &Fields) -> Result<Log, Wrong> {
     }
 }
 
-impl Subject for Log {
-    fn play(&mut self, alloc: Global, word: &str, given: Value) -> Result<Value, Wrong> {
+impl Plays<Log> for Nodes {
+    fn play_row(
+        &self,
+        alloc: Global,
+        log: &mut Log,
+        word: &str,
+        given: Value,
+    ) -> Result<Value, Wrong> {
         match word {
             "ask" => {
-                let told = self.step(alloc, read_log_ask(alloc, given)?)?;
+                let told = log.step(alloc, read_log_ask(alloc, given)?)?;
                 Ok(write_log_tell(alloc, &told)?)
             }
-            "take_back" => take_back(alloc, self, given),
-            "state" => write_state_of(alloc, &self.copy()?.last(alloc)?),
-            "made" => write_made(alloc, &self.copy()?),
+            "take_back" => take_back(alloc, log, given),
+            "state" => write_state_of(alloc, &log.copy()?.last(alloc)?),
+            "made" => write_made(alloc, &log.copy()?),
             _ => no_such_word("rows of a log: ask, take_back, state, made"),
         }
     }
@@ -114,25 +114,26 @@ fn ask_and_go_back(alloc: Global, log: &mut Log, ask: LogAsk) -> Result<LogTell,
 }
 
 /// Plays rows with a sequencer that gave nothing yet.
-pub(crate) fn play_sequencer(
-    alloc: Global,
-    made: Value,
-    rows: &[Row],
-    at: &mut usize,
-) -> Result<(), Wrong> {
-    let fields = Fields::new(made, 2);
+pub(crate) fn play_sequencer(alloc: Global, scene: Scene, at: &mut usize) -> Result<(), Wrong> {
+    let fields = Fields::new(scene.given(alloc)?, 2);
     let mut sequencer = Sequencer::new(alloc, fields.epoch("epoch")?, fields.version("last")?);
-    play_rows(alloc, &mut sequencer, rows, at)
+    scene.play(alloc, &Nodes, &mut sequencer, at)
 }
 
-impl Subject for Sequencer {
-    fn play(&mut self, alloc: Global, word: &str, given: Value) -> Result<Value, Wrong> {
+impl Plays<Sequencer> for Nodes {
+    fn play_row(
+        &self,
+        alloc: Global,
+        sequencer: &mut Sequencer,
+        word: &str,
+        given: Value,
+    ) -> Result<Value, Wrong> {
         match word {
             "ask" => {
-                let told = self.step(alloc, read_seq_ask(given)?)?;
+                let told = sequencer.step(alloc, read_seq_ask(given)?)?;
                 Ok(write_seq_tell(alloc, &told)?)
             }
-            "state" => write_state_of(alloc, &Named::last(&self.copy()?, alloc)?),
+            "state" => write_state_of(alloc, &Named::last(&sequencer.copy()?, alloc)?),
             _ => no_such_word("rows of a sequencer: ask, state"),
         }
     }

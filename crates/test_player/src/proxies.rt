@@ -1,8 +1,6 @@
 //! Proxies.
-use crate::nodes::{read_map, read_sizes, read_told, write_asks, write_name, write_state_of};
-use crate::rows::Row;
-use crate::subject::{Subject, no_such_word, play_rows};
-use crate::wrong::Wrong;
+use crate::nodes::{read_map, read_told, write_asks};
+use crate::subjects::Nodes;
 use fr_ask::{Ask, Last};
 use fr_base::{NodeId, Step};
 use fr_forms::fields::Fields;
@@ -11,16 +9,12 @@ use fr_forms::{read_batch, write_ask, write_outcome, write_shards};
 use fr_proxy::{Outcome, Proxy, SubmitFault};
 use serde_json::Value;
 use std::alloc::Global;
+use test_rows::{Plays, Scene, Wrong, no_such_word, read_sizes, said, write_name, write_state_of};
 
 /// Plays rows with a proxy that took nothing yet.
-pub(crate) fn play_proxy(
-    alloc: Global,
-    made: Value,
-    rows: &[Row],
-    at: &mut usize,
-) -> Result<(), Wrong> {
-    let mut proxy = read_proxy(alloc, &mut Fields::new(made, 6))?;
-    play_rows(alloc, &mut proxy, rows, at)
+pub(crate) fn play_proxy(alloc: Global, scene: Scene, at: &mut usize) -> Result<(), Wrong> {
+    let mut proxy = read_proxy(alloc, &mut Fields::new(scene.given(alloc)?, 6))?;
+    scene.play(alloc, &Nodes, &mut proxy, at)
 }
 
 fn read_proxy(alloc: Global, fields: &mut Fields) -> Result<Proxy, Wrong> {
@@ -32,21 +26,27 @@ fn read_proxy(alloc: Global, fields: &mut Fields) -> Result<Proxy, Wrong> {
     Ok(Proxy::new(epoch, number, m, k, map, known))
 }
 
-impl Subject for Proxy {
-    fn play(&mut self, alloc: Global, word: &str, given: Value) -> Result<Value, Wrong> {
+impl Plays<Proxy> for Nodes {
+    fn play_row(
+        &self,
+        alloc: Global,
+        proxy: &mut Proxy,
+        word: &str,
+        given: Value,
+    ) -> Result<Value, Wrong> {
         match word {
-            "submit" => submit(alloc, self, &mut Fields::new(given, 2)),
+            "submit" => submit(alloc, proxy, &mut Fields::new(given, 2)),
             "hear" => {
                 let (from, tell) = read_told(alloc, given)?;
-                let (outcome, asks) = self.hear(alloc, from, &tell)?;
-                write_heard(alloc, outcome, asks.as_slice())
+                let (outcome, asks) = proxy.hear(alloc, from, &tell)?;
+                said(write_heard(alloc, outcome, asks.as_slice()))
             }
-            "pending" => write_asks(alloc, self.pending(alloc)?.as_slice()),
+            "pending" => write_asks(alloc, proxy.pending(alloc)?.as_slice()),
             "state" => {
-                let known = self.copy()?.known();
+                let known = proxy.copy()?.known();
                 write_state_of(alloc, &Last::Proxy { known })
             }
-            "made" => write_made(alloc, self),
+            "made" => write_made(alloc, proxy),
             _ => no_such_word("rows of a proxy: submit, hear, pending, state, made"),
         }
     }
@@ -70,11 +70,15 @@ fn submit(alloc: Global, proxy: &mut Proxy, fields: &mut Fields) -> Result<Value
     let step = Step::new(fields.number("step")?).ok_or(Wrong::Form("no step"))?;
     let batch = read_batch(alloc, fields.take("batch")?)?;
     match proxy.submit(step, batch) {
-        Ok(ask) => Ok(write_ask(alloc, &ask)?),
+        Ok(ask) => said(write_given(alloc, &ask)),
         Err(SubmitFault::TwoOpen) => write_name(alloc, "TwoOpen"),
         Err(SubmitFault::Over) => write_name(alloc, "Over"),
         Err(SubmitFault::Memory) => Err(Wrong::Memory),
     }
+}
+
+fn write_given(alloc: Global, ask: &Ask) -> Result<Value, Wrong> {
+    Ok(write_ask(alloc, ask)?)
 }
 
 fn write_heard(alloc: Global, outcome: Outcome, asks: &[(NodeId, Ask)]) -> Result<Value, Wrong> {

@@ -1,8 +1,6 @@
 //! Recoverers.
-use crate::nodes::{read_map, read_told, write_asks, write_state_of};
-use crate::rows::Row;
-use crate::subject::{Subject, no_such_word, play_rows};
-use crate::wrong::{NO_FORM, Wrong};
+use crate::nodes::{read_map, read_told, write_asks};
+use crate::subjects::Nodes;
 use fr_ask::Last;
 use fr_base::{Bytes, Shape};
 use fr_cli_json::tree::member_of;
@@ -13,14 +11,11 @@ use fr_forms::{write_shards, write_state};
 use fr_state::CoordState;
 use serde_json::Value;
 use std::alloc::Global;
+use test_rows::{NO_FORM, Plays, Scene, Wrong, no_such_word, said, write_state_of};
 
 /// Plays rows with a recoverer that heard nothing.
-pub(crate) fn play_recoverer(
-    alloc: Global,
-    made: Value,
-    rows: &[Row],
-    at: &mut usize,
-) -> Result<(), Wrong> {
+pub(crate) fn play_recoverer(alloc: Global, scene: Scene, at: &mut usize) -> Result<(), Wrong> {
+    let made = scene.given(alloc)?;
     let mut recoverer = if member_of(&made, 5, "logs").is_some() {
         let mut fields = Fields::new(made, 5);
         let shape = read_shape(&fields)?;
@@ -28,7 +23,7 @@ pub(crate) fn play_recoverer(
     } else {
         read_recoverer(alloc, &mut Fields::new(made, 3), None)?
     };
-    play_rows(alloc, &mut recoverer, rows, at)
+    scene.play(alloc, &Nodes, &mut recoverer, at)
 }
 
 /// How many logs the next generation is to have, and on how many of them each tag is to stand.
@@ -49,21 +44,28 @@ fn read_recoverer(
     Ok(Recoverer::begin(alloc, ballot.ballot(), coordinators, map, shape))
 }
 
-impl Subject for Recoverer {
-    fn play(&mut self, alloc: Global, word: &str, given: Value) -> Result<Value, Wrong> {
+impl Plays<Recoverer> for Nodes {
+    fn play_row(
+        &self,
+        alloc: Global,
+        recoverer: &mut Recoverer,
+        word: &str,
+        given: Value,
+    ) -> Result<Value, Wrong> {
         match word {
             "hear" => {
                 let (from, tell) = read_told(alloc, given)?;
-                write_asks(alloc, self.hear(alloc, from, tell)?.as_slice())
+                let asks = recoverer.hear(alloc, from, tell)?;
+                said(write_asks(alloc, asks.as_slice()))
             }
-            "pending" => write_asks(alloc, self.pending(alloc)?.as_slice()),
+            "pending" => write_asks(alloc, recoverer.pending(alloc)?.as_slice()),
             "state" => {
-                let phase = phase_text(alloc, self.copy(alloc)?.phase())?;
+                let phase = phase_text(alloc, recoverer.copy(alloc)?.phase())?;
                 write_state_of(alloc, &Last::Recoverer { phase })
             }
-            "generation" => generation(alloc, self),
-            "copied" => Ok(Value::from(self.is_copied())),
-            "made" => write_made(alloc, self),
+            "generation" => generation(alloc, recoverer),
+            "copied" => Ok(Value::from(recoverer.is_copied())),
+            "made" => write_made(alloc, recoverer),
             _ => no_such_word(
                 "rows of a recoverer: hear, pending, state, generation, copied, made",
             ),

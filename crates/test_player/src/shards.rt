@@ -1,8 +1,6 @@
 //! Shards, which mutations concern which, and which logs hold which tag.
-use crate::nodes::{read_logs, read_sizes, write_name};
-use crate::rows::Row;
-use crate::subject::{Subject, no_such_word, play_rows};
-use crate::wrong::Wrong;
+use crate::nodes::read_logs;
+use crate::subjects::Nodes;
 use fr_cli_json::tree::read_bytes;
 use fr_forms::fields::{Fields, tag_of};
 use fr_forms::object::{Object, hex_value};
@@ -11,33 +9,35 @@ use fr_mutation::Shard;
 use fr_tags::{Body, ShardFault, ShardMap, covers, holders, is_held};
 use serde_json::Value;
 use std::alloc::Global;
+use test_rows::{Plays, Scene, Wrong, no_such_word, read_sizes, write_name};
 
 /// Plays rows with a map of shards that begin at these keys.
-pub(crate) fn play_shards(
-    alloc: Global,
-    made: Value,
-    rows: &[Row],
-    at: &mut usize,
-) -> Result<(), Wrong> {
-    match ShardMap::new(read_shards(alloc, made)?) {
-        Ok(mut map) => play_rows(alloc, &mut map, rows, at),
+pub(crate) fn play_shards(alloc: Global, scene: Scene, at: &mut usize) -> Result<(), Wrong> {
+    match ShardMap::new(read_shards(alloc, scene.given(alloc)?)?) {
+        Ok(mut map) => scene.play(alloc, &Nodes, &mut map, at),
         Err(ShardFault::Memory) => Err(Wrong::Memory),
         Err(_) => Err(Wrong::Form("these begins make no shards")),
     }
 }
 
-impl Subject for ShardMap {
-    fn play(&mut self, alloc: Global, word: &str, given: Value) -> Result<Value, Wrong> {
+impl Plays<ShardMap> for Nodes {
+    fn play_row(
+        &self,
+        alloc: Global,
+        map: &mut ShardMap,
+        word: &str,
+        given: Value,
+    ) -> Result<Value, Wrong> {
         match word {
-            "split" => split(alloc, self, &mut Fields::new(given, 3)),
-            "tags_of" => tags(alloc, self, given),
-            "tag_of" => Ok(Value::from(self.tag_of(&read_bytes(alloc, Some(&given))?).get())),
-            "shard_of" => write_shard(alloc, self.shard_of(alloc, tag_of(&given)?)?),
+            "split" => split(alloc, map, &mut Fields::new(given, 3)),
+            "tags_of" => tags(alloc, map, given),
+            "tag_of" => Ok(Value::from(map.tag_of(&read_bytes(alloc, Some(&given))?).get())),
+            "shard_of" => write_shard(alloc, map.shard_of(alloc, tag_of(&given)?)?),
             "holders" => held_by(alloc, &Fields::new(given, 3)),
             "is_held" => is_held_by(&Fields::new(given, 4)),
             "covers" => do_cover(alloc, &mut Fields::new(given, 3)),
             "make" => make(alloc, given),
-            "state" => Ok(write_shards(alloc, self.copy()?.begins())?),
+            "state" => Ok(write_shards(alloc, map.copy()?.begins())?),
             _ => no_such_word(
                 "rows of shards: split, tags_of, tag_of, shard_of, holders, is_held, covers, make, \
                  state",

@@ -1,9 +1,6 @@
 //! Storage servers, over a store in memory, and over one that fails once.
-use crate::nodes::write_name;
-use crate::rows::Row;
 use crate::stores::read_failing;
-use crate::subject::{Subject, no_such_word, play_rows};
-use crate::wrong::{NO_FORM, Wrong};
+use crate::subjects::Nodes;
 use fr_ask::{Ask, Rows, Tell};
 use fr_base::{Memory, Version};
 use fr_forms::fields::{Fields, items};
@@ -14,73 +11,92 @@ use fr_storage::{Answer, Storage, StorageFault};
 use fr_undo::{MapStore, ShardStore, StoreFault};
 use serde_json::Value;
 use std::alloc::Global;
+use test_rows::{NO_FORM, Plays, Scene, Wrong, no_such_word, said, write_name};
 
 /// Plays rows with a storage server that applied nothing yet.
-pub(crate) fn play_storage(
-    alloc: Global,
-    made: Value,
-    rows: &[Row],
-    at: &mut usize,
-) -> Result<(), Wrong> {
+pub(crate) fn play_storage(alloc: Global, scene: Scene, at: &mut usize) -> Result<(), Wrong> {
     let store = MapStore::new(alloc);
-    play_over(alloc, store, &mut Fields::new(made, 2), rows, at)
+    play_over(
+        alloc,
+        store,
+        &mut Fields::new(scene.given(alloc)?, 2),
+        scene,
+        at,
+    )
 }
 
 /// The same over a store that fails once.
 pub(crate) fn play_failing_storage(
     alloc: Global,
-    made: Value,
-    rows: &[Row],
+    scene: Scene,
     at: &mut usize,
 ) -> Result<(), Wrong> {
-    let mut fields = Fields::new(made, 4);
+    let mut fields = Fields::new(scene.given(alloc)?, 4);
     let store = read_failing(alloc, &fields)?;
-    play_over(alloc, store, &mut fields, rows, at)
+    play_over(alloc, store, &mut fields, scene.once(), at)
 }
 
 fn play_over<S: ShardStore + Drop>(
     alloc: Global,
     store: S,
     fields: &mut Fields,
-    rows: &[Row],
+    scene: Scene,
     at: &mut usize,
 ) -> Result<(), Wrong> {
     let tag = fields.tag("tag")?;
     let state = read_state(alloc, fields.take("state")?)?;
     match Storage::start(alloc, store, tag, state) {
-        Ok(mut storage) => play_rows(alloc, &mut storage, rows, at),
+        Ok(mut storage) => scene.play(alloc, &Nodes, &mut storage, at),
         Err(StorageFault::Store(StoreFault::Memory)) => Err(Wrong::Memory),
         Err(_) => Err(Wrong::Form("no storage server starts here")),
     }
 }
 
-impl<S: ShardStore + Drop> Subject for Storage<S> {
-    fn play(&mut self, alloc: Global, word: &str, given: Value) -> Result<Value, Wrong> {
+impl<S: ShardStore + Drop> Plays<Storage<S>> for Nodes {
+    fn play_row(
+        &self,
+        alloc: Global,
+        storage: &mut Storage<S>,
+        word: &str,
+        given: Value,
+    ) -> Result<Value, Wrong> {
         match word {
             "hear" => {
                 let answer = read_answer(alloc, given)?;
-                write_done(alloc, self.hear(alloc, answer))
+                write_done(alloc, storage.hear(alloc, answer))
             }
             "follow" => {
                 let answer = read_answer(alloc, given)?;
-                write_done(alloc, self.follow(alloc, answer))
+                write_done(alloc, storage.follow(alloc, answer))
             }
             "follow_all" => {
                 let answers = read_answers(alloc, given)?;
-                write_followed(alloc, self.follow_all(alloc, answers))
+                write_followed(alloc, storage.follow_all(alloc, answers))
             }
-            "break_off" => break_off(alloc, self, &mut Fields::new(given, 3)),
-            "reopen" => write_done(alloc, self.reopen(alloc)),
-            "failed" => Ok(Value::from(self.is_failed())),
-            "next" => Ok(write_ask(alloc, &Ask::Log(self.next_ask().1))?),
-            "generations" => Ok(write_state(alloc, self.state())?),
-            "position" => position(alloc, self),
-            "rows" => rows_of(alloc, self),
+            "break_off" => break_off(alloc, storage, &mut Fields::new(given, 3)),
+            "reopen" => write_done(alloc, storage.reopen(alloc)),
+            "failed" => Ok(Value::from(storage.is_failed())),
+            "next" => Ok(write_ask(alloc, &Ask::Log(storage.next_ask().1))?),
+            "generations" => Ok(write_state(alloc, storage.state())?),
+            "position" => position(alloc, storage),
+            "rows" => rows_of(alloc, storage),
             _ => no_such_word(
                 "rows of a storage server: hear, follow, follow_all, break_off, reopen, failed, \
                  next, generations, position, rows",
             ),
         }
+    }
+
+    fn has_failed(&self, storage: &Storage<S>) -> bool {
+        storage.is_failed()
+    }
+
+    /// A hear that broke off for want of memory leaves the server failed.
+    fn settle(&self, alloc: Global, storage: &mut Storage<S>) -> Result<(), Wrong> {
+        if storage.reopen(alloc).is_err() {
+            return Err(Wrong::Memory);
+        }
+        Ok(())
     }
 }
 
@@ -147,7 +163,7 @@ fn write_followed(
 ) -> Result<Value, Wrong> {
     match followed {
         Ok(None) => Ok(Value::Null),
-        Ok(Some(fault)) => write_store_fault(alloc, "broke_off", fault),
+        Ok(Some(fault)) => said(write_store_fault(alloc, "broke_off", fault)),
         Err(fault) => write_fault(alloc, fault),
     }
 }

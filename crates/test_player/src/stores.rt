@@ -1,9 +1,6 @@
 //! Stores in memory, and stores over a device that fails once.
-use crate::nodes::write_name;
-use crate::rows::Row;
 use crate::storages::{write_fault, write_standing};
-use crate::subject::{Subject, no_such_word, play_rows};
-use crate::wrong::Wrong;
+use crate::subjects::Nodes;
 use fr_ask::Rows;
 use fr_base::Bytes;
 use fr_cli_json::tree::read_bytes;
@@ -14,31 +11,22 @@ use fr_storage::Storage;
 use fr_undo::{MapStore, ShardStore, StoreFault};
 use serde_json::Value;
 use std::alloc::Global;
+use test_rows::{Plays, Scene, Wrong, no_such_word, write_name};
 use test_store_failing::FailsOnce;
 
 /// Plays rows with a store in which nothing was applied.
-pub(crate) fn play_store(
-    alloc: Global,
-    made: Value,
-    rows: &[Row],
-    at: &mut usize,
-) -> Result<(), Wrong> {
-    if !made.is_null() {
+pub(crate) fn play_store(alloc: Global, scene: Scene, at: &mut usize) -> Result<(), Wrong> {
+    if !scene.given(alloc)?.is_null() {
         return Err(Wrong::Form("a store is made of nothing"));
     }
     let mut store = MapStore::new(alloc);
-    play_rows(alloc, &mut store, rows, at)
+    scene.play(alloc, &Nodes, &mut store, at)
 }
 
 /// The same with one that fails once.
-pub(crate) fn play_failing_store(
-    alloc: Global,
-    made: Value,
-    rows: &[Row],
-    at: &mut usize,
-) -> Result<(), Wrong> {
-    let mut store = read_failing(alloc, &Fields::new(made, 2))?;
-    play_rows(alloc, &mut store, rows, at)
+pub(crate) fn play_failing_store(alloc: Global, scene: Scene, at: &mut usize) -> Result<(), Wrong> {
+    let mut store = read_failing(alloc, &Fields::new(scene.given(alloc)?, 2))?;
+    scene.once().play(alloc, &Nodes, &mut store, at)
 }
 
 /// A store that fails in the call after so many others, which is done all the same, or not.
@@ -47,21 +35,33 @@ pub(crate) fn read_failing(alloc: Global, fields: &Fields) -> Result<FailsOnce, 
     Ok(FailsOnce::new(alloc, calls, fields.flag("done")?))
 }
 
-impl Subject for MapStore {
-    fn play(&mut self, alloc: Global, word: &str, given: Value) -> Result<Value, Wrong> {
+impl Plays<MapStore> for Nodes {
+    fn play_row(
+        &self,
+        alloc: Global,
+        store: &mut MapStore,
+        word: &str,
+        given: Value,
+    ) -> Result<Value, Wrong> {
         match word {
-            "state" => write_place(alloc, &self.copy(alloc)?),
-            "adopt" => adopt(alloc, self, &given),
-            _ => play_word(alloc, self, word, given),
+            "state" => write_place(alloc, &store.copy(alloc)?),
+            "adopt" => adopt(alloc, store, &given),
+            _ => play_word(alloc, store, word, given),
         }
     }
 }
 
-impl Subject for FailsOnce {
-    fn play(&mut self, alloc: Global, word: &str, given: Value) -> Result<Value, Wrong> {
+impl Plays<FailsOnce> for Nodes {
+    fn play_row(
+        &self,
+        alloc: Global,
+        store: &mut FailsOnce,
+        word: &str,
+        given: Value,
+    ) -> Result<Value, Wrong> {
         match word {
-            "state" => write_place(alloc, self),
-            _ => play_word(alloc, self, word, given),
+            "state" => write_place(alloc, store),
+            _ => play_word(alloc, store, word, given),
         }
     }
 }

@@ -1,10 +1,8 @@
 //! Copies of what an epoch takes over.
 ghost use Rattle.std.specs.Prelude.{◌+◌, ◌<◌, ◌≤◌, ◌^◌, IfOk};
 
-use crate::nodes::{read_logs, read_sizes, write_name};
-use crate::rows::Row;
-use crate::subject::{Subject, no_such_word, play_rows};
-use crate::wrong::{NO_FORM, Wrong};
+use crate::nodes::read_logs;
+use crate::subjects::Nodes;
 use fr_ask::{Ask, Tell};
 use fr_base::{LogId, Version};
 use fr_forms::fields::{Fields, tag_of};
@@ -15,16 +13,12 @@ use fr_tags::MAX_SHARDS;
 use fr_tail::{Tail, TailFault};
 use serde_json::Value;
 use std::alloc::Global;
+use test_rows::{NO_FORM, Plays, Scene, Wrong, no_such_word, read_sizes, write_name};
 
 /// Plays rows with a copy that heard nothing.
-pub(crate) fn play_tail(
-    alloc: Global,
-    made: Value,
-    rows: &[Row],
-    at: &mut usize,
-) -> Result<(), Wrong> {
-    let mut tail = read_tail(alloc, &mut Fields::new(made, 6))?;
-    play_rows(alloc, &mut tail, rows, at)
+pub(crate) fn play_tail(alloc: Global, scene: Scene, at: &mut usize) -> Result<(), Wrong> {
+    let mut tail = read_tail(alloc, &mut Fields::new(scene.given(alloc)?, 6))?;
+    scene.play(alloc, &Nodes, &mut tail, at)
 }
 
 fn read_tail(alloc: Global, fields: &mut Fields) -> Result<Tail, Wrong> {
@@ -61,13 +55,19 @@ fn read_range(fields: &Fields) -> Result<(Version, Version), Wrong>
     }
 }
 
-impl Subject for Tail {
-    fn play(&mut self, alloc: Global, word: &str, given: Value) -> Result<Value, Wrong> {
+impl Plays<Tail> for Nodes {
+    fn play_row(
+        &self,
+        alloc: Global,
+        tail: &mut Tail,
+        word: &str,
+        given: Value,
+    ) -> Result<Value, Wrong> {
         match word {
-            "hear" => hear(alloc, self, &mut Fields::new(given, 2)),
-            "seed" => seed(alloc, self, &Fields::new(given, 4)),
-            "reached" => Ok(Value::from(self.reached(tag_of(&given)?).get())),
-            "state" => write_complete(alloc, &self.copy(alloc)?),
+            "hear" => hear(alloc, tail, &mut Fields::new(given, 2)),
+            "seed" => seed(alloc, tail, &Fields::new(given, 4)),
+            "reached" => Ok(Value::from(tail.reached(tag_of(&given)?).get())),
+            "state" => write_complete(alloc, &tail.copy(alloc)?),
             _ => no_such_word("rows of a tail: hear, seed, reached, state"),
         }
     }

@@ -1,31 +1,30 @@
 //! The end of an epoch, as the replies of its logs tell it.
-use crate::nodes::{read_sizes, write_name};
-use crate::rows::Row;
-use crate::subject::{Subject, no_such_word, play_rows};
-use crate::wrong::Wrong;
+use crate::subjects::Nodes;
 use fr_epoch::{EndTally, EpochEnd, Inconsistent, ReplyFault};
 use fr_forms::fields::Fields;
 use fr_forms::object::Object;
 use serde_json::Value;
 use std::alloc::Global;
+use test_rows::{Plays, Scene, Wrong, no_such_word, read_sizes, write_name};
 
 /// Plays rows with a tally that no log replied to.
-pub(crate) fn play_tally(
-    alloc: Global,
-    made: Value,
-    rows: &[Row],
-    at: &mut usize,
-) -> Result<(), Wrong> {
-    let (m, k) = read_sizes(&Fields::new(made, 2))?;
+pub(crate) fn play_tally(alloc: Global, scene: Scene, at: &mut usize) -> Result<(), Wrong> {
+    let (m, k) = read_sizes(&Fields::new(scene.given(alloc)?, 2))?;
     let mut tally = EndTally::new(m, k);
-    play_rows(alloc, &mut tally, rows, at)
+    scene.play(alloc, &Nodes, &mut tally, at)
 }
 
-impl Subject for EndTally {
-    fn play(&mut self, alloc: Global, word: &str, given: Value) -> Result<Value, Wrong> {
+impl Plays<EndTally> for Nodes {
+    fn play_row(
+        &self,
+        alloc: Global,
+        tally: &mut EndTally,
+        word: &str,
+        given: Value,
+    ) -> Result<Value, Wrong> {
         match word {
-            "reply" => reply(alloc, self, &Fields::new(given, 3)),
-            "state" => write_end(alloc, self.copy().end()),
+            "reply" => reply(alloc, tally, &Fields::new(given, 3)),
+            "state" => write_end(alloc, tally.copy().end()),
             _ => no_such_word("rows of an end_tally: reply, state"),
         }
     }

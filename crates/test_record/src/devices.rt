@@ -1,11 +1,42 @@
-//! A device that fails when it is told to.
+//! Devices in memory, and such that fail when they are told to.
 ghost use Rattle.std.specs.Prelude.{◌≤◌, length};
 
-use crate::scene::{ROOM, put};
-use fr_device::{Device, FaultyDevice, MemoryDevice};
+use fr_base::Memory;
+use fr_device::{Device, DeviceFault, FaultyDevice, MemoryDevice};
 use std::alloc::Global;
 use std::process::Abort;
 use std::test::Fail;
+
+const ROOM: usize = 64;
+
+/// A device in memory whose call `n` fails, and all later ones where that is to last.
+pub(crate) fn failing(
+    alloc: Global,
+    room: usize,
+    n: u64,
+    is_lasting: bool,
+) -> Result<FaultyDevice<MemoryDevice>, Memory> {
+    let device = MemoryDevice::new(alloc, room)?;
+    Ok(if is_lasting {
+        FaultyDevice::from(device, n)
+    } else {
+        FaultyDevice::once(device, n)
+    })
+}
+
+/// The device in memory after a crash that left this fill in what was not synced.
+pub(crate) fn crashed(device: FaultyDevice<MemoryDevice>, fill: u8) -> MemoryDevice {
+    let mut left = device.into_inner();
+    left.crash(fill);
+    left
+}
+
+/// Writes these bytes from a place on, and does not sync them.
+fn put<D: Device>(device: &mut D, at: usize, bytes: &[u8]) -> Result<(), DeviceFault>
+    requires { at ≤ length (D.disk device.old).content }
+{
+    device.write_at(at, bytes)
+}
 
 fn syncs<D: Device>(device: &mut D) -> bool {
     device.sync().is_ok()
@@ -73,4 +104,10 @@ fn a_device_that_fails(rt: HostRuntime) -> Result<(), Fail> {
     let inner = written(&rt, rt.alloc())?;
     assert!(rt; keeps(&rt, inner, 7));
     Ok(())
+}
+
+/// A device of more bytes than there can be is not made.
+#[test]
+fn a_device_without_memory(rt: HostRuntime) {
+    assert!(rt; MemoryDevice::new(rt.alloc(), usize::MAX).err() == Some(Memory));
 }

@@ -1,13 +1,13 @@
-//! Tests of record files and of nodes over them: their bytes, and what crashes leave of them.
+//! Tests of devices that fail when they are told to, and of what stands on them while each of their calls fails in turn.
 #![tactic(auto)]
 
 #[cfg(test)]
-mod cells;
-#[cfg(test)]
-mod crash;
+mod cell_sweep;
 #[cfg(test)]
 mod devices;
 #[cfg(test)]
-mod files;
+mod log_asks;
 #[cfg(test)]
-mod scene;
+mod log_sweep;
+#[cfg(test)]
+mod sweep;

@@ -5,14 +5,36 @@
 use std::alloc::Global;
 use std::process::ExitCode;
 use std::{fs, io};
-use test_player::{Report, play_file};
+use test_rows::{Player, Report, Scene, Wrong, play_file};
+
+/// The players of all subjects.
+struct Players;
+
+/// What a scenario can be about.
+const SUBJECTS: &str =
+    "a scenario begins with: batch, cell, cell_file, coordinated_state, end_tally, log, log_file, \
+     proxy, record_file, recoverer, sequencer, shards, storage, failing_storage, store, \
+     failing_store, tail, world";
+
+impl Player for Players {
+    fn play(&self, alloc: Global, scene: Scene<'_>, at: &mut usize) -> Result<(), Wrong> {
+        if test_player::play(alloc, scene, at)?
+            || test_player_files::play(alloc, scene, at)?
+            || test_player_worlds::play(alloc, scene, at)?
+        {
+            Ok(())
+        } else {
+            Err(Wrong::Form(SUBJECTS))
+        }
+    }
+}
 
 fn main(rt: HostRuntime) -> anyhow::Result<ExitCode> {
     let alloc = rt.alloc();
     let mut report = Report::new(alloc);
     for name in &names_of(&rt, alloc)? {
         let text = fs::read_to_string(&rt, name.as_str())?;
-        play_file(alloc, name.as_str(), text.as_str(), &mut report)?;
+        play_file(alloc, &Players, name.as_str(), text.as_str(), &mut report)?;
     }
     print!(rt; "{}", report.text())?;
     Ok(if report.holds() {

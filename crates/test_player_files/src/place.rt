@@ -1,0 +1,245 @@
+//! Devices in memory, and the files that stand on them.
+use crate::counting::Counting;
+use crate::subjects::Files;
+use fr_base::NodeFault;
+use fr_cli_json::tree::{into_one_member, read_bytes};
+use fr_device::{Device, DeviceFault, FaultyDevice, MemoryDevice};
+use fr_forms::fields::{Fields, index_of};
+use fr_forms::object::hex_value;
+use serde_json::Value;
+use std::alloc::Global;
+use test_rows::{NO_FORM, Plays, Wrong, no_such_word, said, write_name};
+
+/// A device under a file: it can fail in a call, and its calls and syncs are counted.
+pub(crate) type Disk = Counting<FaultyDevice<MemoryDevice>>;
+
+/// What stands on a device, and how it is asked.
+pub(crate) trait Kept: Drop {
+    /// It, while it is open.
+    type File: Drop;
+
+    /// Makes it on an empty device.
+    fn format(&self, alloc: Global, disk: Disk) -> Result<Self::File, NodeFault>;
+
+    /// Opens the one that a device holds.
+    fn open(&self, alloc: Global, disk: Disk) -> Result<Self::File, NodeFault>;
+
+    /// Gives the device back.
+    fn into_disk(file: Self::File) -> Disk;
+
+    /// What comes of a row while it is open.
+    fn play(
+        &self,
+        alloc: Global,
+        file: &mut Self::File,
+        word: &str,
+        given: Value,
+    ) -> Result<Value, Wrong>;
+}
+
+/// A device with what stands on it, which is open or not.
+#[derive(Drop)]
+pub(crate) struct Place<K: Kept> {
+    kept: K,
+    room: usize,
+    file: Option<K::File>,
+    device: Option<MemoryDevice>,
+    calls: u64,
+    syncs: u64,
+}
+
+impl<K: Kept> Place<K> {
+    /// An empty device with this room.
+    pub(crate) fn new(alloc: Global, room: usize, kept: K) -> Result<Self, Wrong> {
+        Ok(Place {
+            kept,
+            room,
+            file: None,
+            device: Some(MemoryDevice::new(alloc, room)?),
+            calls: 0,
+            syncs: 0,
+        })
+    }
+
+    /// The device, which no open file uses.
+    fn device(&mut self) -> Result<&mut MemoryDevice, Wrong> {
+        match &mut self.device {
+            Some(device) => Ok(device),
+            None => Err(Wrong::Form("no device is there: a file is open, or could not be")),
+        }
+    }
+
+    /// The device under a plan of failures, for a file.
+    fn take_disk(&mut self, given: Value) -> Result<Disk, Wrong> {
+        let plan = read_plan(given)?;
+        match self.device.take() {
+            Some(device) => Ok(Counting::new(plan.over(device))),
+            None => Err(Wrong::Form("no device is there: a file is open, or could not be")),
+        }
+    }
+
+    /// Null where a file is open now, and why not where it is not.
+    fn opened(
+        &mut self,
+        alloc: Global,
+        opened: Result<K::File, NodeFault>,
+    ) -> Result<Value, Wrong> {
+        match opened {
+            Ok(file) => {
+                self.file = Some(file);
+                Ok(Value::Null)
+            }
+            Err(fault) => write_node_fault(alloc, fault),
+        }
+    }
+
+    /// Gives the device back to what a file stood on.
+    fn close(&mut self) -> Result<Value, Wrong> {
+        let Some(file) = self.file.take() else {
+            return Err(Wrong::Form("no file is open"));
+        };
+        let disk = K::into_disk(file);
+        self.syncs = disk.syncs();
+        let device = disk.into_inner();
+        self.calls = device.calls();
+        self.device = Some(device.into_inner());
+        Ok(Value::Null)
+    }
+
+    /// What comes of a row while no file is open.
+    fn play_closed(&mut self, alloc: Global, word: &str, given: Value) -> Result<Value, Wrong> {
+        match word {
+            "format" => {
+                let disk = self.take_disk(given)?;
+                let made = self.kept.format(alloc, disk);
+                said(self.opened(alloc, made))
+            }
+            "open" => {
+                let disk = self.take_disk(given)?;
+                let found = self.kept.open(alloc, disk);
+                said(self.opened(alloc, found))
+            }
+            "crash" => {
+                self.device()?.crash(index_of(&given, u8::MAX)?);
+                Ok(Value::Null)
+            }
+            "sync" => write_done(alloc, self.device()?.sync()),
+            "write" => write_at(alloc, self.device()?, &Fields::new(given, 2)),
+            "bytes" => Ok(hex_value(alloc, self.device()?.bytes())?),
+            _ => no_such_word(
+                "rows of any file: read, calls, syncs; of one that is not open: format, open, crash, \
+                 sync, write, bytes",
+            ),
+        }
+    }
+
+    /// Null where bytes are such a file, and why not where they are none.
+    fn read(&self, alloc: Global, given: &Value) -> Result<Value, Wrong> {
+        let bytes = read_bytes(alloc, Some(given))?;
+        let mut device = MemoryDevice::new(alloc, self.room)?;
+        if device.write_at(0, bytes.as_slice()).is_err() || device.sync().is_err() {
+            return Err(Wrong::Form("the device has no room for these bytes"));
+        }
+        match self
+            .kept
+            .open(alloc, Counting::new(FaultyDevice::once(device, 0)))
+        {
+            Ok(_) => Ok(Value::Null),
+            Err(fault) => write_node_fault(alloc, fault),
+        }
+    }
+}
+
+impl<K: Kept> Plays<Place<K>> for Files {
+    fn play_row(
+        &self,
+        alloc: Global,
+        place: &mut Place<K>,
+        word: &str,
+        given: Value,
+    ) -> Result<Value, Wrong> {
+        match word {
+            "read" => place.read(alloc, &given),
+            "calls" => Ok(Value::from(place.calls)),
+            "syncs" => Ok(Value::from(place.syncs)),
+            "close" => place.close(),
+            _ => match &mut place.file {
+                Some(file) => place.kept.play(alloc, file, word, given),
+                None => place.play_closed(alloc, word, given),
+            },
+        }
+    }
+}
+
+/// In which call a device fails.
+#[derive(Clone, Copy)]
+enum Plan {
+    /// In this one alone, the first being 1; in none where it is 0.
+    Once(u64),
+    /// In this one and all later ones.
+    From(u64),
+}
+
+impl Plan {
+    fn over(self, device: MemoryDevice) -> FaultyDevice<MemoryDevice> {
+        match self {
+            Plan::Once(call) => FaultyDevice::once(device, call),
+            Plan::From(call) => FaultyDevice::from(device, call),
+        }
+    }
+}
+
+/// Of null the plan that no call fails.
+fn read_plan(given: Value) -> Result<Plan, Wrong> {
+    if given.is_null() {
+        return Ok(Plan::Once(0));
+    }
+    let Some((name, call)) = into_one_member(given) else {
+        return Err(NO_FORM);
+    };
+    let call = u64::from(index_of(&call, u8::MAX)?);
+    match name.as_str() {
+        "once" => Ok(Plan::Once(call)),
+        "from" => Ok(Plan::From(call)),
+        _ => Err(NO_FORM),
+    }
+}
+
+/// Writes bytes from a place on, and does not sync them.
+fn write_at(alloc: Global, device: &mut MemoryDevice, fields: &Fields) -> Result<Value, Wrong> {
+    let at = usize::from(fields.index("at", u8::MAX)?);
+    let bytes = fields.bytes(alloc, "bytes")?;
+    if at <= device.bytes().len() {
+        write_done(alloc, device.write_at(at, bytes.as_slice()))
+    } else {
+        Err(Wrong::Form("the device is not so long"))
+    }
+}
+
+/// Null where a device did it, and why not where it did not.
+fn write_done(alloc: Global, done: Result<(), DeviceFault>) -> Result<Value, Wrong> {
+    match done {
+        Ok(()) => Ok(Value::Null),
+        Err(DeviceFault::Device) => write_name(alloc, "Device"),
+        Err(DeviceFault::Full) => write_name(alloc, "Full"),
+    }
+}
+
+/// The name of a fault.
+pub(crate) fn write_node_fault(alloc: Global, fault: NodeFault) -> Result<Value, Wrong> {
+    match fault {
+        NodeFault::Device => said(write_name(alloc, "Device")),
+        NodeFault::Full => write_name(alloc, "Full"),
+        NodeFault::Failed => write_name(alloc, "Failed"),
+        NodeFault::Broken => write_name(alloc, "Broken"),
+        NodeFault::Memory => Err(Wrong::Memory),
+    }
+}
+
+/// The room of a device, at most 65,535 bytes.
+pub(crate) fn read_room(fields: &Fields) -> Result<usize, Wrong> {
+    match u16::try_from(fields.number("room")?) {
+        Ok(room) => Ok(usize::from(room)),
+        Err(_) => Err(NO_FORM),
+    }
+}

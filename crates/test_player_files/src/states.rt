@@ -1,0 +1,78 @@
+//! Coordinated states, and their bytes.
+use crate::subjects::Files;
+use fr_base::Version;
+use fr_cli_json::tree::read_bytes;
+use fr_forms::fields::{epoch_of, version_of};
+use fr_forms::object::hex_value;
+use fr_forms::{read_state, write_state};
+use fr_state::{CoordState, DecodeFault, Generation, StateFault, decode, encode};
+use serde_json::Value;
+use std::alloc::Global;
+use test_rows::{Plays, Scene, Wrong, no_such_word, write_name};
+
+/// Plays rows with a coordinated state.
+pub(crate) fn play_state(alloc: Global, scene: Scene, at: &mut usize) -> Result<(), Wrong> {
+    let mut state = read_state(alloc, scene.given(alloc)?)?;
+    scene.play(alloc, &Files, &mut state, at)
+}
+
+impl Plays<CoordState> for Files {
+    fn play_row(
+        &self,
+        alloc: Global,
+        state: &mut CoordState,
+        word: &str,
+        given: Value,
+    ) -> Result<Value, Wrong> {
+        match word {
+            "extend" => extend(alloc, state, given),
+            "bytes" => Ok(hex_value(alloc, encode(alloc, state)?.as_slice())?),
+            "read" => read(alloc, &given),
+            "end_of" => Ok(version_or_null(state.end_of(epoch_of(&given)?))),
+            "cut_of" => Ok(version_or_null(state.cut_of(epoch_of(&given)?))),
+            "source_for" => { write_one(alloc, state.source_for(version_of(&given)?.get())) }
+            "begins_with" => Ok(Value::from(state.begins_with(&read_state(alloc, given)?))),
+            "state" => Ok(write_state(alloc, &state.copy()?)?),
+            _ => no_such_word(
+                "rows of a coordinated_state: extend, bytes, read, end_of, cut_of, source_for, \
+                 begins_with, state",
+            ),
+        }
+    }
+}
+
+/// Null where the state is extended by the one generation that is given, and why not where it is not.
+fn extend(alloc: Global, state: &mut CoordState, given: Value) -> Result<Value, Wrong> {
+    match state.extend(read_state(alloc, given)?.last()) {
+        Ok(()) => Ok(Value::Null),
+        Err(StateFault::NotLater) => write_name(alloc, "NotLater"),
+        Err(StateFault::TooMany) => write_name(alloc, "TooMany"),
+        Err(StateFault::Memory) => Err(Wrong::Memory),
+    }
+}
+
+/// The state that bytes are, or why they are none.
+fn read(alloc: Global, given: &Value) -> Result<Value, Wrong> {
+    match decode(alloc, read_bytes(alloc, Some(given))?.as_slice()) {
+        Ok(state) => Ok(write_state(alloc, &state)?),
+        Err(DecodeFault::Short) => write_name(alloc, "Short"),
+        Err(DecodeFault::BadForm) => write_name(alloc, "BadForm"),
+        Err(DecodeFault::Trailing) => write_name(alloc, "Trailing"),
+        Err(DecodeFault::Memory) => Err(Wrong::Memory),
+    }
+}
+
+fn version_or_null(version: Option<Version>) -> Value {
+    match version {
+        Some(version) => Value::from(version.get()),
+        None => Value::Null,
+    }
+}
+
+/// A generation in a list, or null.
+fn write_one(alloc: Global, generation: Option<Generation>) -> Result<Value, Wrong> {
+    match generation {
+        Some(generation) => Ok(write_state(alloc, &CoordState::new(alloc, generation)?)?),
+        None => Ok(Value::Null),
+    }
+}

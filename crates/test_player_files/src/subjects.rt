@@ -1,0 +1,24 @@
+//! The subjects of this crate, by the words of first rows.
+use crate::batches::play_batch;
+use crate::cells::play_cell;
+use crate::logs::play_log;
+use crate::records::play_records;
+use crate::states::play_state;
+use std::alloc::Global;
+use test_rows::{Scene, Wrong};
+
+/// The player of what is kept.
+pub(crate) struct Files;
+
+/// Plays a scenario of what is kept; false where it is about something else.
+pub fn play(alloc: Global, scene: Scene, at: &mut usize) -> Result<bool, Wrong> {
+    match scene.word() {
+        "batch" => play_batch(alloc, scene, at)?,
+        "coordinated_state" => play_state(alloc, scene, at)?,
+        "record_file" => play_records(alloc, scene, at)?,
+        "cell_file" => play_cell(alloc, scene, at)?,
+        "log_file" => play_log(alloc, scene, at)?,
+        _ => return Ok(false),
+    }
+    Ok(true)
+}

@@ -1,0 +1,53 @@
+//! What comes of events.
+use fr_forms::object::Object;
+use fr_forms::{write_outcome, write_tell};
+use fr_storage::StorageFault;
+use fr_undo::StoreFault;
+use fr_world::{Answer, NotEnabled};
+use serde_json::Value;
+use std::alloc::Global;
+use test_rows::{Wrong, write_name};
+
+/// What an event answers: null where there is nothing to tell.
+pub(crate) fn write_answer(alloc: Global, answer: &Answer) -> Result<Value, Wrong> {
+    match answer {
+        Answer::Done => Ok(Value::Null),
+        Answer::Told(tell) => Ok(write_tell(alloc, tell)?),
+        Answer::Heard(outcome) => Ok(write_outcome(alloc, &Some(*outcome))?),
+        Answer::Refused(fault) => write_refused(alloc, *fault),
+    }
+}
+
+/// Why a storage server did not take what it heard.
+fn write_refused(alloc: Global, fault: StorageFault) -> Result<Value, Wrong> {
+    if fault == StorageFault::Store(StoreFault::Memory) {
+        return Err(Wrong::Memory);
+    }
+    let name = write_name(alloc, name_of(fault))?;
+    Ok(Object::new(alloc).with("refused", name)?.value())
+}
+
+fn name_of(fault: StorageFault) -> &'static str {
+    match fault {
+        StorageFault::Older => "Older",
+        StorageFault::Stranger => "Stranger",
+        StorageFault::BelowFloor => "BelowFloor",
+        StorageFault::NotMyGeneration => "NotMyGeneration",
+        StorageFault::Hole => "Hole",
+        StorageFault::BadState => "BadState",
+        StorageFault::Store(fault) => fault.name(),
+    }
+}
+
+/// Why an event cannot happen.
+pub(crate) fn write_why(alloc: Global, why: NotEnabled) -> Result<Value, Wrong> {
+    match why {
+        NotEnabled::NoSuchNode => write_name(alloc, "NoSuchNode"),
+        NotEnabled::Gone => write_name(alloc, "Gone"),
+        NotEnabled::NeverSent => write_name(alloc, "NeverSent"),
+        NotEnabled::BallotUsed => write_name(alloc, "BallotUsed"),
+        NotEnabled::TwoOpen => write_name(alloc, "TwoOpen"),
+        NotEnabled::Over => write_name(alloc, "Over"),
+        NotEnabled::Memory => Err(Wrong::Memory),
+    }
+}

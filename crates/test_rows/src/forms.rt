@@ -1,0 +1,39 @@
+//! Forms that several players read and write.
+ghost use Rattle.std.specs.Prelude.{◌≤◌, IfOk};
+
+use crate::wrong::{NO_FORM, Wrong};
+use fr_ask::Last;
+use fr_cli_json::tree::into_one_member;
+use fr_forms::fields::Fields;
+use fr_forms::write_last;
+use fr_tags::MAX_LOGS;
+use serde_json::Value;
+use std::alloc::Global;
+
+/// How many logs a generation has, and on how many of them each tag stands.
+pub fn read_sizes(fields: &Fields) -> Result<(u8, u8), Wrong>
+    ensures some { IfOk result (λ sizes. 1 ≤ sizes.1) }
+    ensures fits { IfOk result (λ sizes. sizes.1 ≤ sizes.0) }
+    ensures limit { IfOk result (λ sizes. sizes.0 ≤ MAX_LOGS) }
+{
+    let m = fields.index("m", MAX_LOGS)?;
+    let k = fields.index("k", MAX_LOGS)?;
+    if 1 <= k && k <= m && m <= MAX_LOGS {
+        Ok((m, k))
+    } else {
+        Err(NO_FORM)
+    }
+}
+
+/// A last state, without the name of its kind.
+pub fn write_state_of(alloc: Global, last: &Last) -> Result<Value, Wrong> {
+    match into_one_member(write_last(alloc, last)?) {
+        Some((_, content)) => Ok(content),
+        None => Err(NO_FORM),
+    }
+}
+
+/// A name, as a text.
+pub fn write_name(alloc: Global, name: &str) -> Result<Value, Wrong> {
+    Ok(Value::try_from_str(alloc, name)?)
+}

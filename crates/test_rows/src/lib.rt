@@ -1,0 +1,18 @@
+//! Scenarios: texts that say what a machine is asked and what it tells, as rows, and how rows are played against what
+//! a player makes of the first one.
+#![tactic(auto)]
+
+mod forms;
+mod lines;
+mod names;
+mod play;
+mod report;
+mod rows;
+mod subject;
+mod wrong;
+
+pub use forms::{read_sizes, write_name, write_state_of};
+pub use play::{Player, play_file};
+pub use report::Report;
+pub use subject::{Plays, Scene, no_such_word};
+pub use wrong::{NO_FORM, Wrong, said};

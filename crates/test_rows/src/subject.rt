@@ -1,0 +1,147 @@
+//! What scenarios are about, and how their rows are played.
+ghost use Rattle.std.specs.Prelude.{◌≡◌, ◌↔◌, IsOk};
+
+use crate::rows::{Parts, Row, json_of, json_or_null};
+use crate::wrong::Wrong;
+use serde_json::Value;
+use std::alloc::Global;
+
+/// What plays the rows of scenarios about a `T`.
+pub trait Plays<T> {
+    /// What comes of a row, in its form: of its word, and of what is given with it, null where that is nothing. The
+    /// word `state` looks at a copy. Where it answers that there is no memory nothing was done, or what was done is told
+    /// again: it is asked once more.
+    fn play_row(
+        &self,
+        alloc: Global,
+        subject: &mut T,
+        word: &str,
+        given: Value,
+    ) -> Result<Value, Wrong>;
+
+    /// Whether a subject answers nothing until it is opened again.
+    fn has_failed(&self, _subject: &T) -> bool {
+        false
+    }
+
+    /// Opens it again.
+    fn settle(&self, _alloc: Global, _subject: &mut T) -> Result<(), Wrong> {
+        Ok(())
+    }
+}
+
+/// A scenario that is to be played: its first row, which makes what it is about, and the others.
+#[derive(Clone, Copy)]
+pub struct Scene<'t> {
+    made: Parts<'t>,
+    rows: &'t [Row],
+    is_once: bool,
+}
+
+impl<'t> Scene<'t> {
+    /// The scenario of these rows, or what is wrong with their number or with the first one.
+    pub(crate) fn new(first: &'t Row, rows: &'t [Row]) -> Result<Self, Wrong> {
+        let made = first.parts();
+        if made.wanted.is_some() {
+            return Err(Wrong::Form("the first row makes something, and has no arrow"));
+        }
+        if rows.is_empty() {
+            return Err(Wrong::Form("no row follows that compares anything"));
+        }
+        Ok(Scene {
+            made,
+            rows,
+            is_once: false,
+        })
+    }
+
+    /// The same, of which no row is played again where there was no memory: its subject counts what it is asked.
+    pub fn once(self) -> Self {
+        Scene {
+            is_once: true,
+            ..self
+        }
+    }
+
+    /// The word of the first row.
+    pub fn word(&self) -> &'t str {
+        self.made.word
+    }
+
+    /// What is given with it, null where that is nothing.
+    pub fn given(&self, alloc: Global) -> Result<Value, Wrong> {
+        json_or_null(alloc, self.made.given)
+    }
+
+    /// Plays the other rows in turn, up to one of which something else comes than is wanted. `at` is the line of the
+    /// row that was played last.
+    pub fn play<T, P: Plays<T>>(
+        &self,
+        alloc: Global,
+        player: &P,
+        subject: &mut T,
+        at: &mut usize,
+    ) -> Result<(), Wrong> {
+        for row in self.rows {
+            *at = row.line;
+            let parts = row.parts();
+            let had_failed = player.has_failed(subject);
+            match play_row(alloc, player, subject, &parts) {
+                Err(Wrong::Memory) if !self.is_once => {
+                    play_again(alloc, player, subject, &parts, had_failed)?
+                }
+                played => played?,
+            }
+        }
+        Ok(())
+    }
+}
+
+/// What a row of an unknown word answers.
+pub fn no_such_word(words: &'static str) -> Result<Value, Wrong> {
+    Err(Wrong::Form(words))
+}
+
+/// Plays a row. Where it answers `Memory` it may be played again.
+fn play_row<T, P: Plays<T>>(
+    alloc: Global,
+    player: &P,
+    subject: &mut T,
+    parts: &Parts,
+) -> Result<(), Wrong> {
+    let Some(wanted) = parts.wanted else {
+        return Err(Wrong::Form("no arrow and what is wanted behind it"));
+    };
+    let wanted = json_of(alloc, wanted)?.to_vec(alloc)?;
+    let given = json_or_null(alloc, parts.given)?;
+    let told = player.play_row(alloc, subject, parts.word, given)?;
+    match told.to_vec(alloc) {
+        Ok(told) => compare(told, wanted),
+        Err(_) => Err(Wrong::Unsaid),
+    }
+}
+
+/// Plays a row again for which there was no memory. What it left failed that was not failed before is opened again.
+fn play_again<T, P: Plays<T>>(
+    alloc: Global,
+    player: &P,
+    subject: &mut T,
+    parts: &Parts,
+    had_failed: bool,
+) -> Result<(), Wrong> {
+    if player.has_failed(subject) && !had_failed {
+        player.settle(alloc, subject)?;
+    }
+    play_row(alloc, player, subject, parts)
+}
+
+/// Whether what was told is what is wanted, both written in one way.
+fn compare(told: Vec<u8>, wanted: Vec<u8>) -> Result<(), Wrong>
+    ensures { IsOk result ↔ (told.items ≡ wanted.items) }
+{
+    if told.as_slice() == wanted.as_slice() {
+        Ok(())
+    } else {
+        Err(Wrong::Differs { told, wanted })
+    }
+}

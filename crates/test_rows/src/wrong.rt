@@ -1,0 +1,68 @@
+//! Why a row does not hold.
+use fr_base::Memory;
+use fr_cli_json::CliFault;
+use fr_forms::ScriptFault;
+use serde_json::Value;
+use std::alloc::{AllocError, AllocFailed};
+
+/// Why a row does not hold.
+#[derive(Drop)]
+pub enum Wrong {
+    /// There is no memory, and nothing was done: the row may be played again.
+    Memory,
+    /// There is no memory to say what was done, and played again the row would be told something else.
+    Unsaid,
+    /// The row is no row; what is wrong with it.
+    Form(&'static str),
+    /// Something else was told than is wanted.
+    Differs { told: Vec<u8>, wanted: Vec<u8> },
+}
+
+/// What is said of something that is not to be done again, as it is where there is memory to say it.
+pub fn said(value: Result<Value, Wrong>) -> Result<Value, Wrong> {
+    match value {
+        Err(Wrong::Memory) => Err(Wrong::Unsaid),
+        value => value,
+    }
+}
+
+/// What is wrong with what is in no form that is known.
+pub const NO_FORM: Wrong = Wrong::Form(
+    "this is not in the form that scenarios/README.md or docs/FORMATS.md gives it",
+);
+
+impl From<Memory> for Wrong {
+    fn from(_: Memory) -> Wrong {
+        Wrong::Memory
+    }
+}
+
+impl From<AllocError> for Wrong {
+    fn from(_: AllocError) -> Wrong {
+        Wrong::Memory
+    }
+}
+
+impl<T: Drop> From<AllocFailed<T>> for Wrong {
+    fn from(_: AllocFailed<T>) -> Wrong {
+        Wrong::Memory
+    }
+}
+
+impl From<ScriptFault> for Wrong {
+    fn from(fault: ScriptFault) -> Wrong {
+        match fault {
+            ScriptFault::Memory => Wrong::Memory,
+            ScriptFault::BadScript => NO_FORM,
+        }
+    }
+}
+
+impl From<CliFault> for Wrong {
+    fn from(fault: CliFault) -> Wrong {
+        match fault {
+            CliFault::Memory => Wrong::Memory,
+            CliFault::BadScript | CliFault::Input | CliFault::Output => NO_FORM,
+        }
+    }
+}
