@@ -12,7 +12,7 @@ ghost use Rattle.fr_cli_apply.specs.Lines.{lines_of};
 use crate::memory_file::blank_files;
 use fr_cli_apply::apply_counted_on;
 use fr_cli_json::{CallCounts, CliFault};
-use fr_sql_store::SqlFileStore;
+use fr_sql_files::SqlFileStore;
 use std::alloc::Global;
 use std::io::{Read, Write};
 

@@ -11,7 +11,7 @@ ghost use Rattle.fr_sql_open.specs.Found.{AnyTrouble, IsHeld, ObeysStore, ShowsV
 
 use crate::schema_test::is_store;
 use fr_base::Version;
-use fr_sql_rows::{Backing, read_fault_of};
+use fr_sql_rows::{Backing, fault_of};
 use fr_undo::StoreFault;
 use sqlite::{Connection, Error, Row};
 
@@ -182,6 +182,6 @@ pub fn find<S: Backing>(conn: &mut Connection<S>) -> Result<Found, StoreFault>
     match read(conn) {
         Ok(Some(found)) => Ok(found),
         Ok(None) => Err(StoreFault::Device),
-        Err(error) => Err(read_fault_of(error)),
+        Err(error) => Err(fault_of(error)),
     }
 }

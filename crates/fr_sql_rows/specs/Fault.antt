@@ -5,14 +5,9 @@ use Rattle.sqlite.specs.declared.error.ErrorCode.TheVariants.{OutOfMemory, DiskF
 use Rattle.fr_undo.specs.declared.fault.StoreFault.{StoreFault}
 use Rattle.fr_undo.specs.declared.fault.StoreFault.TheVariants.{Device, Full, Memory}
 
--- the fault of a call that writes: memory was refused, what it writes has no room, or else the device failed
-abbrev pub write_fault : Error → StoreFault
-write_fault (SqliteFailure OutOfMemory) = Memory
-write_fault (SqliteFailure DiskFull) = Full
-write_fault (SqliteFailure TooBig) = Full
-write_fault _ = Device
-
--- the fault of a call that only reads
-abbrev pub read_fault : Error → StoreFault
-read_fault (SqliteFailure OutOfMemory) = Memory
-read_fault _ = Device
+-- memory was refused, something has no room or is too big, or else the device failed
+abbrev pub fault_in : Error → StoreFault
+fault_in (SqliteFailure OutOfMemory) = Memory
+fault_in (SqliteFailure DiskFull) = Full
+fault_in (SqliteFailure TooBig) = Full
+fault_in _ = Device

@@ -3,3 +3,4 @@ pub mod Connection
 pub mod Fault
 pub mod Rows
 pub mod Schema
+pub mod Told

@@ -1,28 +1,18 @@
 //! What an error of SQL is to a store.
 ghost use Rattle.std.specs.Prelude.{◌≡◌};
-ghost use Rattle.fr_sql_rows.specs.Fault.{write_fault, read_fault};
+ghost use Rattle.fr_sql_rows.specs.Fault.{fault_in};
 
 use fr_undo::StoreFault;
 use sqlite::{Error, ErrorCode};
 
-/// The fault of a call that writes: `Memory` where memory was refused, `Full` where what it writes has no
-/// room or is too big, and else `Device`.
+/// The fault of a call that reads or writes: `Memory` where memory was refused, `Full` where something has no room or
+/// is too big, and else `Device`.
 pub fn fault_of(error: Error) -> StoreFault
-    ensures { result ≡ write_fault error }
+    ensures { result ≡ fault_in error }
 {
     match error {
         Error::SqliteFailure(ErrorCode::OutOfMemory) => StoreFault::Memory,
         Error::SqliteFailure(ErrorCode::DiskFull | ErrorCode::TooBig) => StoreFault::Full,
-        _ => StoreFault::Device,
-    }
-}
-
-/// The fault of a call that only reads: `Memory` where memory was refused, and else `Device`.
-pub fn read_fault_of(error: Error) -> StoreFault
-    ensures { result ≡ read_fault error }
-{
-    match error {
-        Error::SqliteFailure(ErrorCode::OutOfMemory) => StoreFault::Memory,
         _ => StoreFault::Device,
     }
 }

@@ -9,12 +9,13 @@ ghost use Rattle.fr_sql_rows.specs.Rows.{value_in, contents_in, pair_of};
 ghost use Rattle.fr_sql_rows.specs.Connection.{IsAtRest, IsLaidOut, IsInside, KeepsIfOpen, CommitsNothing, Stays, Sets};
 
 use crate::backing::Backing;
+use crate::refused::{Refused, ask, read, run};
 use fr_base::Bytes;
-use sqlite::{Connection, Error, Row, Transaction, params};
+use sqlite::{Connection, Row, Transaction, params};
 use std::alloc::Global;
 
 /// The value of a key.
-pub fn value_at<S: Backing>(conn: &mut Connection<S>, key: &Bytes) -> Result<Option<Bytes>, Error>
+pub fn value_at<S: Backing>(conn: &mut Connection<S>, key: &Bytes) -> Result<Option<Bytes>, Refused>
     requires rest { IsAtRest (state S.Store conn.old) }
     requires laid { IsLaidOut (state S.Store conn.old).now }
     ensures value { IfOk result (λ value. value ≡ value_in ((state S.Store conn.old).now.trees 0) key.now) }
@@ -22,24 +23,28 @@ pub fn value_at<S: Backing>(conn: &mut Connection<S>, key: &Bytes) -> Result<Opt
     ensures keeps { KeepsIfOpen (state S.Store conn.old) (state S.Store conn.new) }
     ensures survives { CommitsNothing (state S.Store conn.old) (state S.Store conn.new) }
 {
-    let rows = conn.query_all("SELECT v FROM kv WHERE k = ?1", params![key.as_slice()])?;
+    let rows = ask(
+        conn,
+        "SELECT v FROM kv WHERE k = ?1",
+        params![key.as_slice()],
+    )?;
     match rows.as_slice().first() {
         None => Ok(None),
         Some(row) => {
-            let value: Vec<u8> = row.get(0)?;
+            let value: Vec<u8> = read(row, 0)?;
             Ok(Some(Bytes::from_vec(value)))
         }
     }
 }
 
 /// The keys and the values that rows show, in their order.
-fn pairs(alloc: Global, rows: &[Row]) -> Result<Vec<(Bytes, Bytes)>, Error>
+fn pairs(alloc: Global, rows: &[Row]) -> Result<Vec<(Bytes, Bytes)>, Refused>
     ensures { IfOk result (λ pairs. pairs.items ≡ list_map pair_of rows.now) }
 {
     let mut pairs = Vec::new(alloc);
     for row in rows {
-        let key: Vec<u8> = row.get(0)?;
-        let value: Vec<u8> = row.get(1)?;
+        let key: Vec<u8> = read(row, 0)?;
+        let value: Vec<u8> = read(row, 1)?;
         pairs.push((Bytes::from_vec(key), Bytes::from_vec(value)))?;
     }
     Ok(pairs)
@@ -51,7 +56,7 @@ pub fn between<'x, S: Backing>(
     conn: &mut Connection<S>,
     begin: &'x Bytes,
     end: &'x Bytes,
-) -> Result<Vec<(Bytes, Bytes)>, Error>
+) -> Result<Vec<(Bytes, Bytes)>, Refused>
     requires rest { IsAtRest (state S.Store conn.old) }
     requires laid { IsLaidOut (state S.Store conn.old).now }
     ensures rows { IfOk result (λ rows. rows.items
@@ -61,7 +66,8 @@ pub fn between<'x, S: Backing>(
     ensures keeps { KeepsIfOpen (state S.Store conn.old) (state S.Store conn.new) }
     ensures survives { CommitsNothing (state S.Store conn.old) (state S.Store conn.new) }
 {
-    let rows = conn.query_all(
+    let rows = ask(
+        conn,
         "SELECT k, v FROM kv WHERE k >= ?1 AND k < ?2 ORDER BY k",
         params![begin.as_slice(), end.as_slice()],
     )?;
@@ -73,7 +79,7 @@ pub fn from<S: Backing>(
     alloc: Global,
     conn: &mut Connection<S>,
     begin: &Bytes,
-) -> Result<Vec<(Bytes, Bytes)>, Error>
+) -> Result<Vec<(Bytes, Bytes)>, Refused>
     requires rest { IsAtRest (state S.Store conn.old) }
     requires laid { IsLaidOut (state S.Store conn.old).now }
     ensures rows { IfOk result (λ rows. rows.items
@@ -83,7 +89,8 @@ pub fn from<S: Backing>(
     ensures keeps { KeepsIfOpen (state S.Store conn.old) (state S.Store conn.new) }
     ensures survives { CommitsNothing (state S.Store conn.old) (state S.Store conn.new) }
 {
-    let rows = conn.query_all(
+    let rows = ask(
+        conn,
         "SELECT k, v FROM kv WHERE k >= ?1 ORDER BY k",
         params![begin.as_slice()],
     )?;
@@ -94,7 +101,7 @@ pub fn from<S: Backing>(
 pub fn all<S: Backing>(
     alloc: Global,
     conn: &mut Connection<S>,
-) -> Result<Vec<(Bytes, Bytes)>, Error>
+) -> Result<Vec<(Bytes, Bytes)>, Refused>
     requires rest { IsAtRest (state S.Store conn.old) }
     requires laid { IsLaidOut (state S.Store conn.old).now }
     ensures rows { IfOk result (λ rows. rows.items ≡ map.entries (contents_in ((state S.Store conn.old).now.trees 0))) }
@@ -102,7 +109,7 @@ pub fn all<S: Backing>(
     ensures keeps { KeepsIfOpen (state S.Store conn.old) (state S.Store conn.new) }
     ensures survives { CommitsNothing (state S.Store conn.old) (state S.Store conn.new) }
 {
-    let rows = conn.query_all("SELECT k, v FROM kv ORDER BY k", &[])?;
+    let rows = ask(conn, "SELECT k, v FROM kv ORDER BY k", &[])?;
     pairs(alloc, rows.as_slice())
 }
 
@@ -111,7 +118,7 @@ pub fn put<'x, S: Backing>(
     tx: &mut Transaction<'_, S>,
     key: &'x Bytes,
     value: &'x Bytes,
-) -> Result<usize, Error>
+) -> Result<usize, Refused>
     requires inside { IsInside (state S.Store tx.old.conn.now) }
     requires laid { IsLaidOut (state S.Store tx.old.conn.now).now }
     requires absent { value_in ((state S.Store tx.old.conn.now).now.trees 0) key.now ≡ None }
@@ -121,7 +128,8 @@ pub fn put<'x, S: Backing>(
     ensures stays { Stays (state S.Store tx.old.conn.now) (state S.Store tx.new.conn.now) }
     ensures survives { CommitsNothing (state S.Store tx.old.conn.now) (state S.Store tx.new.conn.now) }
 {
-    tx.execute(
+    run(
+        tx,
         "INSERT INTO kv VALUES (?1, ?2)",
         params![key.as_slice(), value.as_slice()],
     )
@@ -132,7 +140,7 @@ pub fn change<'x, S: Backing>(
     tx: &mut Transaction<'_, S>,
     key: &'x Bytes,
     value: &'x Bytes,
-) -> Result<usize, Error>
+) -> Result<usize, Refused>
     requires inside { IsInside (state S.Store tx.old.conn.now) }
     requires laid { IsLaidOut (state S.Store tx.old.conn.now).now }
     requires held { IsSome (value_in ((state S.Store tx.old.conn.now).now.trees 0) key.now) }
@@ -142,7 +150,8 @@ pub fn change<'x, S: Backing>(
     ensures stays { Stays (state S.Store tx.old.conn.now) (state S.Store tx.new.conn.now) }
     ensures survives { CommitsNothing (state S.Store tx.old.conn.now) (state S.Store tx.new.conn.now) }
 {
-    tx.execute(
+    run(
+        tx,
         "UPDATE kv SET v = ?2 WHERE k = ?1",
         params![key.as_slice(), value.as_slice()],
     )
@@ -154,7 +163,7 @@ pub fn set<'x, S: Backing>(
     key: &'x Bytes,
     value: &'x Bytes,
     held: bool,
-) -> Result<usize, Error>
+) -> Result<usize, Refused>
     requires inside { IsInside (state S.Store tx.old.conn.now) }
     requires laid { IsLaidOut (state S.Store tx.old.conn.now).now }
     requires held { held ≡ is_some (value_in ((state S.Store tx.old.conn.now).now.trees 0) key.now) }
@@ -172,7 +181,7 @@ pub fn set<'x, S: Backing>(
 }
 
 /// Takes the value of a key, if it has one.
-pub fn remove<S: Backing>(tx: &mut Transaction<'_, S>, key: &Bytes) -> Result<usize, Error>
+pub fn remove<S: Backing>(tx: &mut Transaction<'_, S>, key: &Bytes) -> Result<usize, Refused>
     requires inside { IsInside (state S.Store tx.old.conn.now) }
     requires laid { IsLaidOut (state S.Store tx.old.conn.now).now }
     ensures same_reference { tx.new.conn.ghost_name ≡ tx.old.conn.ghost_name }
@@ -181,5 +190,5 @@ pub fn remove<S: Backing>(tx: &mut Transaction<'_, S>, key: &Bytes) -> Result<us
     ensures stays { Stays (state S.Store tx.old.conn.now) (state S.Store tx.new.conn.now) }
     ensures survives { CommitsNothing (state S.Store tx.old.conn.now) (state S.Store tx.new.conn.now) }
 {
-    tx.execute("DELETE FROM kv WHERE k = ?1", params![key.as_slice()])
+    run(tx, "DELETE FROM kv WHERE k = ?1", params![key.as_slice()])
 }

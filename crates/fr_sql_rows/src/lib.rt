@@ -6,8 +6,10 @@ mod backing;
 mod fault;
 pub mod kv;
 pub mod meta;
+mod refused;
 pub mod schema;
 pub mod undo;
 
 pub use backing::{Backing, FaithfulDisk};
-pub use fault::{fault_of, read_fault_of};
+pub use fault::fault_of;
+pub use refused::{Refusals, Refused, Shut, Trouble, commit, one_more, works};

@@ -5,8 +5,9 @@ ghost use Rattle.fr_sql_rows.specs.Rows.{bytes_in};
 ghost use Rattle.fr_sql_rows.specs.Connection.{IsAtRest, IsLaidOut, IsInside, KeepsIfOpen, CommitsNothing, Stays, Versions, HoldsBytes};
 
 use crate::backing::Backing;
+use crate::refused::{Refused, ask, read, run};
 use fr_base::{Bytes, Version};
-use sqlite::{Connection, Error, Transaction, params};
+use sqlite::{Connection, Transaction, params};
 
 /// A version as SQL has it.
 pub fn number_of(version: Version) -> i64
@@ -22,7 +23,7 @@ pub fn note_versions<S: Backing>(
     tx: &mut Transaction<'_, S>,
     applied: Version,
     floor: Version,
-) -> Result<usize, Error>
+) -> Result<usize, Refused>
     requires inside { IsInside (state S.Store tx.old.conn.now) }
     requires laid { IsLaidOut (state S.Store tx.old.conn.now).now }
     ensures same_reference { tx.new.conn.ghost_name ≡ tx.old.conn.ghost_name }
@@ -31,14 +32,15 @@ pub fn note_versions<S: Backing>(
     ensures stays { Stays (state S.Store tx.old.conn.now) (state S.Store tx.new.conn.now) }
     ensures survives { CommitsNothing (state S.Store tx.old.conn.now) (state S.Store tx.new.conn.now) }
 {
-    tx.execute(
+    run(
+        tx,
         "UPDATE meta SET applied = ?1, floor = ?2",
         params![number_of(applied), number_of(floor)],
     )
 }
 
 /// Notes the state bytes.
-pub fn note_bytes<S: Backing>(tx: &mut Transaction<'_, S>, bytes: &Bytes) -> Result<usize, Error>
+pub fn note_bytes<S: Backing>(tx: &mut Transaction<'_, S>, bytes: &Bytes) -> Result<usize, Refused>
     requires inside { IsInside (state S.Store tx.old.conn.now) }
     requires laid { IsLaidOut (state S.Store tx.old.conn.now).now }
     ensures same_reference { tx.new.conn.ghost_name ≡ tx.old.conn.ghost_name }
@@ -47,11 +49,11 @@ pub fn note_bytes<S: Backing>(tx: &mut Transaction<'_, S>, bytes: &Bytes) -> Res
     ensures stays { Stays (state S.Store tx.old.conn.now) (state S.Store tx.new.conn.now) }
     ensures survives { CommitsNothing (state S.Store tx.old.conn.now) (state S.Store tx.new.conn.now) }
 {
-    tx.execute("UPDATE meta SET state = ?1", params![bytes.as_slice()])
+    run(tx, "UPDATE meta SET state = ?1", params![bytes.as_slice()])
 }
 
 /// The state bytes.
-pub fn bytes<S: Backing>(conn: &mut Connection<S>) -> Result<Bytes, Error>
+pub fn bytes<S: Backing>(conn: &mut Connection<S>) -> Result<Bytes, Refused>
     requires rest { IsAtRest (state S.Store conn.old) }
     requires laid { IsLaidOut (state S.Store conn.old).now }
     ensures value { IfOk result (λ bytes. bytes ≡ bytes_in ((state S.Store conn.old).now.trees 4)) }
@@ -59,11 +61,11 @@ pub fn bytes<S: Backing>(conn: &mut Connection<S>) -> Result<Bytes, Error>
     ensures keeps { KeepsIfOpen (state S.Store conn.old) (state S.Store conn.new) }
     ensures survives { CommitsNothing (state S.Store conn.old) (state S.Store conn.new) }
 {
-    let rows = conn.query_all("SELECT state FROM meta", &[])?;
+    let rows = ask(conn, "SELECT state FROM meta", &[])?;
     match rows.as_slice().first() {
         None => unreachable!(),
         Some(row) => {
-            let bytes: Vec<u8> = row.get(0)?;
+            let bytes: Vec<u8> = read(row, 0)?;
             Ok(Bytes::from_vec(bytes))
         }
     }

@@ -9,8 +9,9 @@ ghost use Rattle.fr_sql_rows.specs.Connection.{IsAtRest, IsLaidOut, IsInside, Ke
 
 use crate::backing::Backing;
 use crate::meta::number_of;
+use crate::refused::{Refused, ask, read, run, version_of};
 use fr_base::{Bytes, Version};
-use sqlite::{Connection, Error, Row, Transaction, params};
+use sqlite::{Connection, Row, Transaction, params};
 use std::alloc::Global;
 
 /// Adds the undo row of a key that held a value.
@@ -19,7 +20,7 @@ pub fn note_value<'x, S: Backing>(
     version: Version,
     key: &'x Bytes,
     before: &'x Bytes,
-) -> Result<usize, Error>
+) -> Result<usize, Refused>
     requires inside { IsInside (state S.Store tx.old.conn.now) }
     requires laid { IsLaidOut (state S.Store tx.old.conn.now).now }
     requires absent { before_in ((state S.Store tx.old.conn.now).now.trees 2) (version, key.now) ≡ None }
@@ -29,7 +30,8 @@ pub fn note_value<'x, S: Backing>(
     ensures stays { Stays (state S.Store tx.old.conn.now) (state S.Store tx.new.conn.now) }
     ensures survives { CommitsNothing (state S.Store tx.old.conn.now) (state S.Store tx.new.conn.now) }
 {
-    tx.execute(
+    run(
+        tx,
         "INSERT INTO undo VALUES (?1, ?2, ?3)",
         params![number_of(version), key.as_slice(), before.as_slice()],
     )
@@ -40,7 +42,7 @@ pub fn note_none<S: Backing>(
     tx: &mut Transaction<'_, S>,
     version: Version,
     key: &Bytes,
-) -> Result<usize, Error>
+) -> Result<usize, Refused>
     requires inside { IsInside (state S.Store tx.old.conn.now) }
     requires laid { IsLaidOut (state S.Store tx.old.conn.now).now }
     requires absent { before_in ((state S.Store tx.old.conn.now).now.trees 2) (version, key.now) ≡ None }
@@ -50,14 +52,18 @@ pub fn note_none<S: Backing>(
     ensures stays { Stays (state S.Store tx.old.conn.now) (state S.Store tx.new.conn.now) }
     ensures survives { CommitsNothing (state S.Store tx.old.conn.now) (state S.Store tx.new.conn.now) }
 {
-    tx.execute(
+    run(
+        tx,
         "INSERT INTO undo VALUES (?1, ?2, NULL)",
         params![number_of(version), key.as_slice()],
     )
 }
 
 /// Removes the undo rows above a version, and counts them.
-pub fn drop_above<S: Backing>(tx: &mut Transaction<'_, S>, version: Version) -> Result<usize, Error>
+pub fn drop_above<S: Backing>(
+    tx: &mut Transaction<'_, S>,
+    version: Version,
+) -> Result<usize, Refused>
     requires inside { IsInside (state S.Store tx.old.conn.now) }
     requires laid { IsLaidOut (state S.Store tx.old.conn.now).now }
     ensures same_reference { tx.new.conn.ghost_name ≡ tx.old.conn.ghost_name }
@@ -68,7 +74,8 @@ pub fn drop_above<S: Backing>(tx: &mut Transaction<'_, S>, version: Version) -> 
     ensures stays { Stays (state S.Store tx.old.conn.now) (state S.Store tx.new.conn.now) }
     ensures survives { CommitsNothing (state S.Store tx.old.conn.now) (state S.Store tx.new.conn.now) }
 {
-    tx.execute(
+    run(
+        tx,
         "DELETE FROM undo WHERE ver > ?1",
         params![number_of(version)],
     )
@@ -78,7 +85,7 @@ pub fn drop_above<S: Backing>(tx: &mut Transaction<'_, S>, version: Version) -> 
 pub fn drop_through<S: Backing>(
     tx: &mut Transaction<'_, S>,
     version: Version,
-) -> Result<usize, Error>
+) -> Result<usize, Refused>
     requires inside { IsInside (state S.Store tx.old.conn.now) }
     requires laid { IsLaidOut (state S.Store tx.old.conn.now).now }
     ensures same_reference { tx.new.conn.ghost_name ≡ tx.old.conn.ghost_name }
@@ -89,32 +96,20 @@ pub fn drop_through<S: Backing>(
     ensures stays { Stays (state S.Store tx.old.conn.now) (state S.Store tx.new.conn.now) }
     ensures survives { CommitsNothing (state S.Store tx.old.conn.now) (state S.Store tx.new.conn.now) }
 {
-    tx.execute(
+    run(
+        tx,
         "DELETE FROM undo WHERE ver <= ?1",
         params![number_of(version)],
     )
 }
 
-/// The version that SQL has as a number; one that is out of its range is refused.
-fn version_of(number: i64) -> Result<Version, Error>
-    ensures { IfOk result (λ version. pos version ≡ number) }
-{
-    match u64::try_from(number) {
-        Ok(number) => match Version::new(number) {
-            Some(version) => Ok(version),
-            None => Err(Error::IntegralValueOutOfRange(0)),
-        },
-        Err(_) => Err(Error::IntegralValueOutOfRange(0)),
-    }
-}
-
 /// The undo row that a row shows.
-fn undo_row(row: &Row) -> Result<((Version, Bytes), Option<Bytes>), Error>
+fn undo_row(row: &Row) -> Result<((Version, Bytes), Option<Bytes>), Refused>
     ensures { IfOk result (λ shown. shown ≡ shown_row row.now) }
 {
-    let version = version_of(row.get(0)?)?;
-    let key: Vec<u8> = row.get(1)?;
-    let before: Option<Vec<u8>> = row.get(2)?;
+    let version = version_of(read(row, 0)?)?;
+    let key: Vec<u8> = read(row, 1)?;
+    let before: Option<Vec<u8>> = read(row, 2)?;
     let place = (version, Bytes::from_vec(key));
     match before {
         Some(before) => Ok((place, Some(Bytes::from_vec(before)))),
@@ -123,7 +118,7 @@ fn undo_row(row: &Row) -> Result<((Version, Bytes), Option<Bytes>), Error>
 }
 
 /// The undo rows that rows show, in their order.
-fn undo_rows(alloc: Global, rows: &[Row]) -> Result<Vec<((Version, Bytes), Option<Bytes>)>, Error>
+fn undo_rows(alloc: Global, rows: &[Row]) -> Result<Vec<((Version, Bytes), Option<Bytes>)>, Refused>
     ensures { IfOk result (λ shown. shown.items ≡ list_map shown_row rows.now) }
 {
     let mut shown = Vec::new(alloc);
@@ -138,7 +133,7 @@ pub fn above<S: Backing>(
     alloc: Global,
     conn: &mut Connection<S>,
     version: Version,
-) -> Result<Vec<((Version, Bytes), Option<Bytes>)>, Error>
+) -> Result<Vec<((Version, Bytes), Option<Bytes>)>, Refused>
     requires rest { IsAtRest (state S.Store conn.old) }
     requires laid { IsLaidOut (state S.Store conn.old).now }
     ensures rows { IfOk result (λ rows. (p : Place)
@@ -149,7 +144,8 @@ pub fn above<S: Backing>(
     ensures keeps { KeepsIfOpen (state S.Store conn.old) (state S.Store conn.new) }
     ensures survives { CommitsNothing (state S.Store conn.old) (state S.Store conn.new) }
 {
-    let rows = conn.query_all(
+    let rows = ask(
+        conn,
         "SELECT ver, k, before FROM undo WHERE ver > ?1 ORDER BY ver DESC, k",
         params![number_of(version)],
     )?;

@@ -19,6 +19,10 @@ use Rattle.fr_sql_work.proofs.CountLemmas.{undo_len}
 use Rattle.fr_sql_open.specs.Found.{IsFound}
 use Rattle.fr_sql_store.specs.Tables.{state_in, applied_in, floor_in, IsStore, shown, Seen, state_of, IsStoreOf}
 use Rattle.fr_sql_store.specs.Files.{HoldStore}
+use Rattle.fr_sql_store.proofs.StoreLemmas.{Lawful}
+use Rattle.fr_sql_rows.specs.Backing.{files_are_clean}
+use Rattle.sqlite_store.specs.Laws.{stays_at, settled_at}
+use Rattle.sqlite.specs.Files.{over_files}
 
 -- tables that were found stand
 pub found_store : (s : State) (applied floor rows : ℕ) → IsAtRest s → IsFound applied floor rows s.now → IsStore s applied floor rows false
@@ -64,3 +68,7 @@ clean_files g faithful log db = both_true _ _ (faithful log) (faithful db)
 pub state_committed : {S : Type 0} (g : store.Ghosts S) (s : Seen S) → IsStoreOf g s → s.failed ≡ false → state_of g s ≡ state_in (state g s.conn).committed.trees
 state_committed g s is works =
     ap (λ b. shown b (state g s.conn) s.applied s.floor) works ∙ ap (λ (d : Database). state_in d.trees) (is.stands (is.works works)).rest.settled
+
+-- the store of files obeys the laws that are used
+pub lawful : {D : Type 0} (g : Ghosts D) → ((d : D) → IsTrue (g.is_clean d)) → ((d : D) → g.may_leave d (g.seen d)) → Lawful (over_files {g = g})
+lawful g faithful stays = record { clean = files_are_clean faithful; settled = λ s. settled_at s stays; stays = λ s. stays_at s stays }

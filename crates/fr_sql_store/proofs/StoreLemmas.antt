@@ -14,10 +14,12 @@ use Rattle.fr_undo.proofs.StateLemmas.{fresh_sound}
 use Rattle.fr_undo.specs.State.{place_cmp, StoreState, IsStoreState, fresh}
 use Rattle.fr_undo.specs.Calls.{IsTrouble, is_device, met_device, LeftAsIs, Reads, Writes}
 use Rattle.fr_sql_rows.specs.Rows.{undo_in}
+use Rattle.fr_sql_rows.specs.Told.{Told}
 use Rattle.fr_sql_rows.specs.Connection.{IsAtRest, IsLaidOut, IsBegun, Keeps, KeepsIfOpen}
 use Rattle.fr_sql_work.specs.Calls.{Looks, MeetsAll}
 use Rattle.fr_sql_store.specs.Tables.{state_in, unknown, shown, Stands, IsStore, Seen, state_of, MayLeave, IsStoreOf}
-use Rattle.fr_sql_store.specs.Calls.{Makes}
+use Rattle.fr_sql_calls.specs.Calls.{Makes}
+use Rattle.fr_sql_calls.proofs.CallLemmas.{stands_still}
 
 -- ---- faults
 
@@ -40,16 +42,6 @@ not_failed BelowFloor t = absurd t
 not_failed AboveApplied t = absurd t
 
 -- ---- tables that stand
-
-pub stands_still : (old new : State) (applied floor rows : ℕ) → Stands old applied floor rows → Keeps old new → Stands new applied floor rows
-stands_still old new applied floor rows s k = record {
-  rest = k.rest;
-  laid = subst IsLaidOut (sym k.now) s.laid;
-  applied_is = ap (λ (d : Database). (state_in d.trees).applied) k.now ∙ s.applied_is;
-  floor_is = ap (λ (d : Database). (state_in d.trees).floor) k.now ∙ s.floor_is;
-  count = s.count ∙ ap (λ (d : Database). map.len (undo_in (d.trees 2))) (sym k.now);
-  sound = subst (λ (d : Database). IsStoreState (state_in d.trees)) (sym k.now) s.sound;
-}
 
 -- the tables just made are those of an empty store
 pub begun_state : (db : Database) → IsBegun db → state_in db.trees ≡ fresh
@@ -144,21 +136,21 @@ module _ {S : Type 0} (g : Ghosts S) (law : Lawful g) where
   abbrev pub WritesOf : Seen S → Seen S → StoreState → Result (Unit {0}) StoreFault → Type 0
   WritesOf old new after result = Writes (state_of g) (λ (s : Seen S). s.failed) (MayLeave g) old new after result
 
-  -- the store after a call: another connection, the same versions and rows, and whether it failed
-  abbrev pub then_seen : Seen S → Held S → Bool → Seen S
-  then_seen s conn failed = record { conn = conn; applied = s.applied; floor = s.floor; rows = s.rows; failed = failed }
+  -- the store after a call: another connection, the same versions and rows, what it was told, and whether it failed
+  abbrev pub then_seen : Seen S → Held S → Told → Bool → Seen S
+  then_seen s conn told failed = record { conn = conn; applied = s.applied; floor = s.floor; rows = s.rows; failed = failed; told = told }
 
   -- what a call leaves that kept the tables, or met the device
-  kept_store : (old : Seen S) (conn : Held S) (failed : Bool) → IsStoreOf g old → old.failed ≡ false → (failed ≡ false → IsTrue (at conn).is_open) → KeepsIfOpen (at old.conn) (at conn) → IsStoreOf g (then_seen old conn failed)
-  kept_store old conn failed i works opened keeps = record {
+  kept_store : (old : Seen S) (conn : Held S) (told : Told) (failed : Bool) → IsStoreOf g old → old.failed ≡ false → (failed ≡ false → IsTrue (at conn).is_open) → KeepsIfOpen (at old.conn) (at conn) → IsStoreOf g (then_seen old conn told failed)
+  kept_store old conn told failed i works opened keeps = record {
     works = opened;
     stands = λ live. stands_still (at old.conn) (at conn) old.applied old.floor old.rows (stands_of old i works) (keeps live);
     order = i.order;
   }
 
-  same_shown : (old : Seen S) (conn : Held S) (failed : Bool) → old.failed ≡ false → (failed ≡ false → IsTrue (at conn).is_open) → KeepsIfOpen (at old.conn) (at conn) → failed ≡ false → state_of g (then_seen old conn failed) ≡ state_of g old
-  same_shown old conn failed works opened keeps e =
-      shows_tables (then_seen old conn failed) e ∙ ap (λ (d : Database). state_in d.trees) (keeps (opened e)).now ∙ sym (shows_tables old works)
+  same_shown : (old : Seen S) (conn : Held S) (told : Told) (failed : Bool) → old.failed ≡ false → (failed ≡ false → IsTrue (at conn).is_open) → KeepsIfOpen (at old.conn) (at conn) → failed ≡ false → state_of g (then_seen old conn told failed) ≡ state_of g old
+  same_shown old conn told failed works opened keeps e =
+      shows_tables (then_seen old conn told failed) e ∙ ap (λ (d : Database). state_in d.trees) (keeps (opened e)).now ∙ sym (shows_tables old works)
 
   -- ---- reads
 
@@ -166,8 +158,8 @@ module _ {S : Type 0} (g : Ghosts S) (law : Lawful g) where
   open_unless old new (Ok x) l e = l.opened (λ is. cc)
   open_unless old new (Err fault) l e = l.opened (λ is. not_device fault e (let same : fault ≡ Device = cc in same))
 
-  pub read_store : {T : Type 0} (old : Seen S) (conn : Held S) (result : Result T StoreFault) → IsStoreOf g old → old.failed ≡ false → Looks (at old.conn) (at conn) result → IsStoreOf g (then_seen old conn (met_device result))
-  read_store old conn result i works l = kept_store old conn (met_device result) i works (open_unless (at old.conn) (at conn) result l) l.keeps
+  pub read_store : {T : Type 0} (old : Seen S) (conn : Held S) (told : Told) (result : Result T StoreFault) → IsStoreOf g old → old.failed ≡ false → Looks (at old.conn) (at conn) result → IsStoreOf g (then_seen old conn told (met_device result))
+  read_store old conn told result i works l = kept_store old conn told (met_device result) i works (open_unless (at old.conn) (at conn) result l) l.keeps
 
   read_fails : {T : Type 0} (result : Result T StoreFault) (failed : Bool) → failed ≡ false → IfErr result (IsTrouble MeetsAll) → (result ≡ Err Failed) ↔ IsTrue failed
   read_fails (Ok x) failed works t = (λ e. cc, λ e. absurd (let clash = sym works ∙ e in cc))
@@ -180,14 +172,14 @@ module _ {S : Type 0} (g : Ghosts S) (law : Lawful g) where
   or_met : (failed met : Bool) → failed ≡ false → met ≡ (failed || met)
   or_met failed met works = sym (ap (λ b. b || met) works)
 
-  pub reads : {T : Type 0} (old : Seen S) (conn : Held S) (result : Result T StoreFault) → IsStoreOf g old → old.failed ≡ false → Looks (at old.conn) (at conn) result → ReadsOf old (then_seen old conn (met_device result)) result
-  reads old conn result i works l = record {
+  pub reads : {T : Type 0} (old : Seen S) (conn : Held S) (told : Told) (result : Result T StoreFault) → IsStoreOf g old → old.failed ≡ false → Looks (at old.conn) (at conn) result → ReadsOf old (then_seen old conn told (met_device result)) result
+  reads old conn told result i works l = record {
     failed = read_fails result old.failed works l.trouble;
     trouble = read_trouble result l.trouble;
-    same = same_shown old conn (met_device result) works (open_unless (at old.conn) (at conn) result l) l.keeps;
+    same = same_shown old conn told (met_device result) works (open_unless (at old.conn) (at conn) result l) l.keeps;
     fails = or_met old.failed (met_device result) works;
     leaves = λ x (db, leaves, is). (db, elim (l.survives.crash (law.clean conn.store) db leaves) [ inl before ↦ before | inr none ↦ absurd none ], is);
-    left_as_is = left (then_seen old conn (met_device result)) (read_store old conn result i works l);
+    left_as_is = left (then_seen old conn told (met_device result)) (read_store old conn told result i works l);
   }
 
   -- a store that failed reads nothing
@@ -272,17 +264,17 @@ module _ {S : Type 0} (g : Ghosts S) (law : Lawful g) where
   unless_device : (old new : State) (after : StoreState) (fault : StoreFault) → Makes after old new (Err fault) → is_device fault ≡ false → IsTrue new.is_open
   unless_device old new after fault m e = m.opened (not_device fault e)
 
-  pub unmade_store : (old : Seen S) (conn : Held S) (after : StoreState) (fault : StoreFault) → IsStoreOf g old → old.failed ≡ false → Makes after (at old.conn) (at conn) (Err fault) → IsStoreOf g (then_seen old conn (is_device fault))
-  unmade_store old conn after fault i works m = kept_store old conn (is_device fault) i works (unless_device (at old.conn) (at conn) after fault m) m.keeps
+  pub unmade_store : (old : Seen S) (conn : Held S) (told : Told) (after : StoreState) (fault : StoreFault) → IsStoreOf g old → old.failed ≡ false → Makes after (at old.conn) (at conn) (Err fault) → IsStoreOf g (then_seen old conn told (is_device fault))
+  unmade_store old conn told after fault i works m = kept_store old conn told (is_device fault) i works (unless_device (at old.conn) (at conn) after fault m) m.keeps
 
-  pub unmade : (old : Seen S) (conn : Held S) (after : StoreState) (fault : StoreFault) → IsStoreOf g old → old.failed ≡ false → Makes after (at old.conn) (at conn) (Err fault) → WritesOf old (then_seen old conn (is_device fault)) after (Err fault)
-  unmade old conn after fault i works m =
-      let new = then_seen old conn (is_device fault) in
-      let is = unmade_store old conn after fault i works m in
+  pub unmade : (old : Seen S) (conn : Held S) (told : Told) (after : StoreState) (fault : StoreFault) → IsStoreOf g old → old.failed ≡ false → Makes after (at old.conn) (at conn) (Err fault) → WritesOf old (then_seen old conn told (is_device fault)) after (Err fault)
+  unmade old conn told after fault i works m =
+      let new = then_seen old conn told (is_device fault) in
+      let is = unmade_store old conn told after fault i works m in
       record {
         ok = tt;
         failed = (λ e. absurd (not_failed fault m.trouble (let same : fault ≡ Failed = cc in same)), λ e. absurd (let clash = sym works ∙ e in cc));
-        err = same_shown old conn (is_device fault) works (unless_device (at old.conn) (at conn) after fault m) m.keeps;
+        err = same_shown old conn told (is_device fault) works (unless_device (at old.conn) (at conn) after fault m) m.keeps;
         fails = or_met old.failed (is_device fault) works;
         device = λ e x (db, leaves, shows). elim (m.survives.crash (law.clean conn.store) db leaves) [
           | inl before ↦ inl (shows ∙ ap state_in (crash_leaves old.conn old.applied old.floor old.rows (stands_of old i works) db before) ∙ sym (shows_tables old works))
@@ -297,8 +289,8 @@ module _ {S : Type 0} (g : Ghosts S) (law : Lawful g) where
   pub made_by : (f : StoreState → StoreState) (old new : Seen S) (rows : ℕ) → IsStoreOf g new → old.failed ≡ false → new.failed ≡ false → Makes (f (state_in (at old.conn).now.trees)) (at old.conn) (at new.conn) (Ok rows) → WritesOf old new (f (state_of g old)) (Ok tt)
   made_by f old new rows i works still m = subst (λ x. WritesOf old new (f x) (Ok tt)) (sym (shows_tables old works)) (made old new (f (state_in (at old.conn).now.trees)) rows works still m i)
 
-  pub unmade_by : (f : StoreState → StoreState) (old : Seen S) (conn : Held S) (fault : StoreFault) (failed : Bool) → failed ≡ is_device fault → IsStoreOf g old → old.failed ≡ false → Makes (f (state_in (at old.conn).now.trees)) (at old.conn) (at conn) (Err fault)
-      → WritesOf old (then_seen old conn failed) (f (state_of g old)) (Err fault)
-  unmade_by f old conn fault failed is i works m =
-      subst (λ b. WritesOf old (then_seen old conn b) (f (state_of g old)) (Err fault)) (sym is)
-      (subst (λ x. WritesOf old (then_seen old conn (is_device fault)) (f x) (Err fault)) (sym (shows_tables old works)) (unmade old conn (f (state_in (at old.conn).now.trees)) fault i works m))
+  pub unmade_by : (f : StoreState → StoreState) (old : Seen S) (conn : Held S) (told : Told) (fault : StoreFault) (failed : Bool) → failed ≡ is_device fault → IsStoreOf g old → old.failed ≡ false → Makes (f (state_in (at old.conn).now.trees)) (at old.conn) (at conn) (Err fault)
+      → WritesOf old (then_seen old conn told failed) (f (state_of g old)) (Err fault)
+  unmade_by f old conn told fault failed is i works m =
+      subst (λ b. WritesOf old (then_seen old conn told b) (f (state_of g old)) (Err fault)) (sym is)
+      (subst (λ x. WritesOf old (then_seen old conn told (is_device fault)) (f x) (Err fault)) (sym (shows_tables old works)) (unmade old conn told (f (state_in (at old.conn).now.trees)) fault i works m))

@@ -2,14 +2,6 @@
 //! call that writes is one transaction, and a crash leaves what was there before a call or what it made.
 #![tactic(auto)]
 
-mod calls;
-mod known;
-mod marks;
-mod own;
-mod plan;
-mod shut;
-mod sql_file_store;
 mod sql_store;
 
-pub use sql_file_store::SqlFileStore;
-pub use sql_store::SqlStore;
+pub use sql_store::{SEED, SqlStore};

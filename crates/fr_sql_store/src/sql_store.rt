@@ -1,29 +1,34 @@
 //! A store in the tables of a database.
-ghost use Rattle.std.specs.Prelude.{◌≡◌, false, IfOk, IfErr};
-ghost use Rattle.fr_undo.specs.State.{fresh};
-ghost use Rattle.fr_undo.specs.Calls.{IsTrouble, is_device, met_device};
+ghost use Rattle.std.specs.Prelude.{◌≡◌, ◌≢◌, ◌<◌, ◌≤◌, ◌↔◌, ◌||◌, false, Err, OnOk, OnErr, IfOk, IfErr};
+ghost use Rattle.std.specs.FinMap as map;
+ghost use Rattle.fr_mutation.specs.Shard.{part};
+ghost use Rattle.fr_undo.specs.State.{IsStoreState, fresh};
+ghost use Rattle.fr_undo.specs.Undo.{extended, undone, forgotten, advanced, with_bytes};
+ghost use Rattle.fr_undo.specs.Calls.{IsTrouble, is_device, met_device, StaysUnlessFailed, LeavesNoMore, LeftAsIs, Reads, Writes};
 ghost use Rattle.fr_sql_work.specs.Calls.{MeetsAll};
+ghost use Rattle.fr_sql_store.specs.Tables.{state_of, has_failed, MayLeave, IsTold};
 
 mod files;
 
-use crate::calls;
-use crate::marks::Marks;
+pub use files::SEED;
 use fr_base::{Bytes, Version};
 use fr_mutation::{Batch, Shard};
-use fr_sql_rows::{Backing, fault_of, schema};
-use fr_sql_work::{all, bytes, of_shard, probe, value};
+use fr_sql_calls::{Marks, advance, apply, bytes, dump, forget, range, set_state, undo_to, value};
+use fr_sql_rows::{Backing, Refusals, schema};
+use fr_sql_work::probe;
 use fr_undo::{ShardStore, StoreFault};
 use sqlite::{Connection, MemStore};
 use std::alloc::Global;
 use std::marker::Model;
 
 /// A store whose keys, undo rows, versions and state bytes stand in the tables of a database: in memory, or in files
-/// below a [`SqlFileStore`](crate::SqlFileStore). Each call that writes is one transaction.
+/// below a `SqlFileStore`. Each call that writes is one transaction.
 pub struct SqlStore<S: Backing> {
     conn: Connection<S>,
     alloc: Global,
     marks: Marks,
     is_failed: bool,
+    told: Refusals,
 }
 
 impl<S: Backing + Drop> Drop for SqlStore<S> {
@@ -33,6 +38,7 @@ impl<S: Backing + Drop> Drop for SqlStore<S> {
             alloc: _,
             marks: _,
             is_failed: _,
+            told: _,
         } = self;
     }
 }
@@ -51,6 +57,7 @@ impl<S: Backing> Model for SqlStore<S> {
       floor = s.marks.floor;
       rows = s.marks.rows;
       failed = s.is_failed;
+      told = s.told;
     } };
 
     ghost invariant = { λ s. IsStore (state S.Store s.conn) s.marks.applied s.marks.floor s.marks.rows s.is_failed };
@@ -81,8 +88,9 @@ impl SqlStore<MemStore> {
                     rows: 0,
                 },
                 is_failed: false,
+                told: Refusals::new(),
             }),
-            Err(error) => Err(fault_of(error)),
+            Err(refused) => Err(refused.trouble().fault()),
         }
     }
 }
@@ -102,11 +110,11 @@ fn met_device<T>(answer: &Result<T, StoreFault>) -> bool
 }
 
 impl<S: Backing> ShardStore for SqlStore<S> {
-    ghost use Rattle.fr_sql_store.specs.Tables.{state_of, MayLeave};
+    ghost use Rattle.fr_sql_store.specs.Tables.{state_of, has_failed, MayLeave};
 
     ghost state = { state_of S.Store };
 
-    ghost is_failed = { λ s. s.failed };
+    ghost is_failed = { has_failed };
 
     ghost MayLeave = { MayLeave S.Store };
 
@@ -118,38 +126,54 @@ impl<S: Backing> ShardStore for SqlStore<S> {
         self.is_failed
     }
 
-    fn get(&mut self, alloc: Global, key: &Bytes) -> Result<Option<Bytes>, StoreFault> {
+    fn get(&mut self, alloc: Global, key: &Bytes) -> Result<Option<Bytes>, StoreFault>
+        ensures value { IfOk result (λ value. value ≡ map.get (state_of S.Store self.old).contents key.now) }
+        ensures reads { Reads (state_of S.Store) has_failed (MayLeave S.Store) MeetsAll self.old self.new result }
+        ensures told { IfErr result (IsTold self.old self.new) }
+    {
         if self.is_failed {
             return Err(StoreFault::Failed);
         }
-        let held = value(&mut self.conn, key);
+        let held = value(&mut self.conn, &mut self.told, key);
         self.is_failed = met_device(&held);
         held
     }
 
-    fn range(&mut self, alloc: Global, shard: &Shard) -> Result<Vec<(Bytes, Bytes)>, StoreFault> {
+    fn range(&mut self, alloc: Global, shard: &Shard) -> Result<Vec<(Bytes, Bytes)>, StoreFault>
+        ensures rows { IfOk result (λ rows. rows.items ≡ map.entries (part (state_of S.Store self.old).contents shard.now)) }
+        ensures reads { Reads (state_of S.Store) has_failed (MayLeave S.Store) MeetsAll self.old self.new result }
+        ensures told { IfErr result (IsTold self.old self.new) }
+    {
         if self.is_failed {
             return Err(StoreFault::Failed);
         }
-        let rows = of_shard(alloc, &mut self.conn, shard);
+        let rows = range(alloc, &mut self.conn, &mut self.told, shard);
         self.is_failed = met_device(&rows);
         rows
     }
 
-    fn dump(&mut self, alloc: Global) -> Result<Vec<(Bytes, Bytes)>, StoreFault> {
+    fn dump(&mut self, alloc: Global) -> Result<Vec<(Bytes, Bytes)>, StoreFault>
+        ensures rows { IfOk result (λ rows. rows.items ≡ map.entries (state_of S.Store self.old).contents) }
+        ensures reads { Reads (state_of S.Store) has_failed (MayLeave S.Store) MeetsAll self.old self.new result }
+        ensures told { IfErr result (IsTold self.old self.new) }
+    {
         if self.is_failed {
             return Err(StoreFault::Failed);
         }
-        let rows = all(alloc, &mut self.conn);
+        let rows = dump(alloc, &mut self.conn, &mut self.told);
         self.is_failed = met_device(&rows);
         rows
     }
 
-    fn state_bytes(&mut self, alloc: Global) -> Result<Bytes, StoreFault> {
+    fn state_bytes(&mut self, alloc: Global) -> Result<Bytes, StoreFault>
+        ensures value { IfOk result (λ bytes. bytes ≡ (state_of S.Store self.old).bytes) }
+        ensures reads { Reads (state_of S.Store) has_failed (MayLeave S.Store) MeetsAll self.old self.new result }
+        ensures told { IfErr result (IsTold self.old self.new) }
+    {
         if self.is_failed {
             return Err(StoreFault::Failed);
         }
-        let held = bytes(&mut self.conn);
+        let held = bytes(&mut self.conn, &mut self.told);
         self.is_failed = met_device(&held);
         held
     }
@@ -169,14 +193,28 @@ impl<S: Backing> ShardStore for SqlStore<S> {
         self.marks.rows
     }
 
-    fn apply(&mut self, alloc: Global, version: Version, batch: &Batch) -> Result<(), StoreFault> {
+    fn apply(&mut self, alloc: Global, version: Version, batch: &Batch) -> Result<(), StoreFault>
+        ensures writes { Writes (state_of S.Store) has_failed (MayLeave S.Store) self.old self.new
+            (extended (state_of S.Store self.old) version batch.now) result }
+        ensures later { OnOk result ((state_of S.Store self.old).applied < version) }
+        ensures not_after { (result ≡ Err StoreFault.NotAfter) ↔ ((has_failed self.old ≡ false) × (version ≤ (state_of S.Store self.old).applied)) }
+        ensures trouble { IfErr result (λ fault. fault ≢ StoreFault.Failed → fault ≢ StoreFault.NotAfter → IsTrouble MeetsAll fault) }
+        ensures told { IfErr result (IsTold self.old self.new) }
+    {
         if self.is_failed {
             return Err(StoreFault::Failed);
         }
         if version <= self.marks.applied {
             return Err(StoreFault::NotAfter);
         }
-        match calls::apply(alloc, &mut self.conn, &self.marks, version, batch) {
+        match apply(
+            alloc,
+            &mut self.conn,
+            &mut self.told,
+            &self.marks,
+            version,
+            batch,
+        ) {
             Ok(rows) => {
                 self.marks = Marks {
                     applied: version,
@@ -192,7 +230,14 @@ impl<S: Backing> ShardStore for SqlStore<S> {
         }
     }
 
-    fn undo_to(&mut self, alloc: Global, version: Version) -> Result<(), StoreFault> {
+    fn undo_to(&mut self, alloc: Global, version: Version) -> Result<(), StoreFault>
+        ensures writes { Writes (state_of S.Store) has_failed (MayLeave S.Store) self.old self.new
+            (undone (state_of S.Store self.old) version) result }
+        ensures within { OnOk result ((state_of S.Store self.old).floor ≤ version) }
+        ensures below_floor { (result ≡ Err StoreFault.BelowFloor) ↔ ((has_failed self.old ≡ false) × (version < (state_of S.Store self.old).floor)) }
+        ensures trouble { IfErr result (λ fault. fault ≢ StoreFault.Failed → fault ≢ StoreFault.BelowFloor → IsTrouble MeetsAll fault) }
+        ensures told { IfErr result (IsTold self.old self.new) }
+    {
         if self.is_failed {
             return Err(StoreFault::Failed);
         }
@@ -202,7 +247,7 @@ impl<S: Backing> ShardStore for SqlStore<S> {
         if version >= self.marks.applied {
             return Ok(());
         }
-        match calls::undo_to(alloc, &mut self.conn, &self.marks, version) {
+        match undo_to(alloc, &mut self.conn, &mut self.told, &self.marks, version) {
             Ok(rows) => {
                 self.marks = Marks {
                     applied: version,
@@ -218,14 +263,27 @@ impl<S: Backing> ShardStore for SqlStore<S> {
         }
     }
 
-    fn advance(&mut self, version: Version) -> Result<(), StoreFault> {
+    fn advance(&mut self, version: Version) -> Result<(), StoreFault>
+        ensures writes { Writes (state_of S.Store) has_failed (MayLeave S.Store) self.old self.new
+            (advanced (state_of S.Store self.old) version) result }
+        ensures later { OnOk result ((state_of S.Store self.old).applied < version) }
+        ensures not_after { (result ≡ Err StoreFault.NotAfter) ↔ ((has_failed self.old ≡ false) × (version ≤ (state_of S.Store self.old).applied)) }
+        ensures trouble { IfErr result (λ fault. fault ≢ StoreFault.Failed → fault ≢ StoreFault.NotAfter → IsTrouble MeetsAll fault) }
+        ensures told { IfErr result (IsTold self.old self.new) }
+    {
         if self.is_failed {
             return Err(StoreFault::Failed);
         }
         if version <= self.marks.applied {
             return Err(StoreFault::NotAfter);
         }
-        match calls::advance(self.alloc, &mut self.conn, &self.marks, version) {
+        match advance(
+            self.alloc,
+            &mut self.conn,
+            &mut self.told,
+            &self.marks,
+            version,
+        ) {
             Ok(rows) => {
                 self.marks = Marks {
                     applied: version,
@@ -241,7 +299,15 @@ impl<S: Backing> ShardStore for SqlStore<S> {
         }
     }
 
-    fn forget_through(&mut self, alloc: Global, version: Version) -> Result<(), StoreFault> {
+    fn forget_through(&mut self, alloc: Global, version: Version) -> Result<(), StoreFault>
+        ensures writes { Writes (state_of S.Store) has_failed (MayLeave S.Store) self.old self.new
+            (forgotten (state_of S.Store self.old) version) result }
+        ensures idle { OnOk result (version ≤ (state_of S.Store self.old).floor → state_of S.Store self.new ≡ state_of S.Store self.old) }
+        ensures within { OnOk result (version ≤ (state_of S.Store self.old).applied) }
+        ensures above_applied { (result ≡ Err StoreFault.AboveApplied) ↔ ((has_failed self.old ≡ false) × ((state_of S.Store self.old).applied < version)) }
+        ensures trouble { IfErr result (λ fault. fault ≢ StoreFault.Failed → fault ≢ StoreFault.AboveApplied → IsTrouble MeetsAll fault) }
+        ensures told { IfErr result (IsTold self.old self.new) }
+    {
         if self.is_failed {
             return Err(StoreFault::Failed);
         }
@@ -251,7 +317,7 @@ impl<S: Backing> ShardStore for SqlStore<S> {
         if version <= self.marks.floor {
             return Ok(());
         }
-        match calls::forget(alloc, &mut self.conn, &self.marks, version) {
+        match forget(alloc, &mut self.conn, &mut self.told, &self.marks, version) {
             Ok(rows) => {
                 self.marks = Marks {
                     applied: self.marks.applied,
@@ -267,11 +333,16 @@ impl<S: Backing> ShardStore for SqlStore<S> {
         }
     }
 
-    fn set_state(&mut self, alloc: Global, bytes: Bytes) -> Result<(), StoreFault> {
+    fn set_state(&mut self, alloc: Global, bytes: Bytes) -> Result<(), StoreFault>
+        ensures writes { Writes (state_of S.Store) has_failed (MayLeave S.Store) self.old self.new
+            (with_bytes (state_of S.Store self.old) bytes) result }
+        ensures trouble { IfErr result (λ fault. fault ≢ StoreFault.Failed → IsTrouble MeetsAll fault) }
+        ensures told { IfErr result (IsTold self.old self.new) }
+    {
         if self.is_failed {
             return Err(StoreFault::Failed);
         }
-        match calls::set_state(alloc, &mut self.conn, &self.marks, bytes) {
+        match set_state(alloc, &mut self.conn, &mut self.told, &self.marks, bytes) {
             Ok(_) => Ok(()),
             Err(fault) => {
                 self.is_failed = is_device(fault);
@@ -280,9 +351,19 @@ impl<S: Backing> ShardStore for SqlStore<S> {
         }
     }
 
-    fn reopen(&mut self, alloc: Global) -> Result<(), StoreFault> {
+    fn reopen(&mut self, alloc: Global) -> Result<(), StoreFault>
+        ensures ok { OnOk result (MayLeave S.Store self.old (state_of S.Store self.new)) }
+        ensures works { OnOk result (has_failed self.new ≡ false) }
+        ensures trouble { IfErr result (IsTrouble MeetsAll) }
+        ensures err { OnErr result (StaysUnlessFailed (has_failed self.new) (state_of S.Store self.old) (state_of S.Store self.new)) }
+        ensures fails { OnErr result (has_failed self.new ≡ (has_failed self.old || met_device result)) }
+        ensures leaves { LeavesNoMore (MayLeave S.Store self.old) (MayLeave S.Store self.new) }
+        ensures sound { IsStoreState (state_of S.Store self.new) }
+        ensures left_as_is { LeftAsIs (has_failed self.new) (state_of S.Store self.new) (MayLeave S.Store self.new) }
+        ensures told { IfErr result (IsTold self.old self.new) }
+    {
         if self.is_failed {
-            probe(&mut self.conn)?;
+            self.told.told(probe(&mut self.conn))?;
             self.is_failed = false;
         }
         Ok(())

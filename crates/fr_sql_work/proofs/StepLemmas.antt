@@ -1,5 +1,5 @@
 -- What calls make of the connection, one after the other.
-use Rattle.std.proofs.Common.{◌≡◌, ◌≢◌, inl, inr, ℕ, List, [], true, IsTrue, Ok, Err, Result, IfOk, IfErr, sym, ap, subst, ◌∙◌}
+use Rattle.std.proofs.Common.{◌≡◌, ◌≢◌, inl, inr, ℕ, List, [], true, IsTrue, Ok, Err, Result, OnOk, IfErr, sym, ap, subst, ◌∙◌}
 use Rattle.sqlite.specs.Order.{Row}
 use Rattle.sqlite.specs.Tree.{Trees}
 use Rattle.sqlite.specs.Effect.{Database}
@@ -14,7 +14,17 @@ use Rattle.fr_undo.specs.declared.fault.StoreFault.TheVariants.{Device}
 use Rattle.fr_undo.specs.Calls.{IsTrouble}
 use Rattle.fr_sql_rows.specs.Connection.{IsAtRest, IsInside, KeepsIfOpen, CommitsNothing, Stays}
 use Rattle.fr_sql_rows.proofs.FaultLemmas.{Left, keeps}
+use Rattle.sqlite.specs.declared.error.Error.TheVariants.{SqliteFailure}
+use Rattle.sqlite.specs.declared.error.ErrorCode.TheVariants.{OutOfMemory, DiskFull, TooBig}
+use Rattle.fr_sql_rows.specs.Fault.{fault_in}
 use Rattle.fr_sql_work.specs.Calls.{Steps, Looks, MeetsAll}
+
+-- each error makes a trouble
+pub made_trouble : (e : Error) → IsTrouble MeetsAll (fault_in e)
+made_trouble (SqliteFailure OutOfMemory) = tt
+made_trouble (SqliteFailure DiskFull) = tt
+made_trouble (SqliteFailure TooBig) = tt
+made_trouble _ = tt
 
 pub nothing_then : (a b c : State) → CommitsNothing a b → CommitsNothing b c → CommitsNothing a c
 nothing_then a b c one two = survives_then a b c _ _ _ (λ _ db none. absurd none) (λ _ db none. absurd none) one two
@@ -96,7 +106,7 @@ nothing_made a b P s = survives_weaker a b (λ _. ⊥) P (λ _ db none. absurd n
 pub survives_still : (a b c : State) (P : Trees → Type 0) → Survives a b P → CommitsNothing b c → Survives a c P
 survives_still a b c P one two = survives_then a b c P _ P (λ _ db made. made) (λ _ db none. absurd none) one two
 
--- a statement that is prepared or not, and not run, leaves a connection that may be shut
-pub steps_of : {X : Type 0} (P : X → Type 0) (old new : State) (sql : List ℕ) (r : Result X Error) → IfOk r (λ x. P x × IsUnchanged old new) → IfErr r (λ e. (params : Row) → IsNotRun old new sql params e) → CommitsNothing old new → Steps old new
-steps_of P old new sql (Ok x) h k nothing = record { was_open = λ live. h.1.0.was_open; keeps = keeps_same old new h.1; survives = nothing }
-steps_of P old new sql (Err e) h k nothing = record { was_open = was_open old new sql [] e (k []); keeps = keeps_still old new sql [] e (k []); survives = nothing }
+-- a connection that was asked whether it works, and may be shut
+pub steps_of : (old new : State) (sql : List ℕ) (r : Result (Unit {0}) Error) → OnOk r (IsUnchanged old new) → IfErr r (λ e. (params : Row) → IsNotRun old new sql params e) → CommitsNothing old new → Steps old new
+steps_of old new sql (Ok x) h k nothing = record { was_open = λ live. h.0.was_open; keeps = keeps_same old new h; survives = nothing }
+steps_of old new sql (Err e) h k nothing = record { was_open = was_open old new sql [] e (k []); keeps = keeps_still old new sql [] e (k []); survives = nothing }

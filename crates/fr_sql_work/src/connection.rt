@@ -8,6 +8,7 @@ ghost use Rattle.fr_mutation.specs.Mutation.{is_between};
 ghost use Rattle.fr_mutation.specs.Shard.{part};
 ghost use Rattle.fr_undo.specs.State.{Place, place_cmp};
 ghost use Rattle.fr_undo.specs.Calls.{IsTrouble};
+ghost use Rattle.fr_sql_rows.specs.Fault.{fault_in};
 ghost use Rattle.fr_sql_rows.specs.Rows.{contents_in, bytes_in, before_in, undo_in, newest_first};
 ghost use Rattle.fr_sql_rows.specs.Connection.{IsAtRest, IsLaidOut, KeepsIfOpen, CommitsNothing};
 ghost use Rattle.fr_sql_work.specs.Calls.{Looks, MeetsAll, Steps, IsDone, MayMake};
@@ -16,48 +17,39 @@ ghost use Rattle.fr_sql_work.specs.Work.{Does, Fits};
 use crate::work::{Work, fill};
 use fr_base::{Bytes, Version};
 use fr_mutation::Shard;
-use fr_sql_rows::{Backing, fault_of, kv, meta, read_fault_of, undo};
+use fr_sql_rows::{Backing, Refused, Trouble, commit, kv, meta, undo, works};
 use fr_undo::StoreFault;
-use sqlite::{Connection, Error};
+use sqlite::Connection;
 use std::alloc::Global;
 
-/// A fault as the trouble of a store whose connection works.
-fn trouble_of(fault: StoreFault) -> StoreFault
-    ensures { IsTrouble MeetsAll result }
-{
-    match fault {
-        StoreFault::Full => StoreFault::Full,
-        StoreFault::Memory => StoreFault::Memory,
-        _ => StoreFault::Device,
-    }
-}
-
 /// Asks the connection whether it still works, by a statement that is not run.
-pub fn probe<S: Backing>(conn: &mut Connection<S>) -> Result<(), StoreFault>
+pub fn probe<S: Backing>(conn: &mut Connection<S>) -> Result<(), Trouble>
     ensures opened { OnOk result (IsTrue (state S.Store conn.new).is_open) }
     ensures steps { Steps (state S.Store conn.old) (state S.Store conn.new) }
     ensures trouble { IfErr result (IsTrouble MeetsAll) }
 {
-    match conn.prepare("SELECT 1") {
-        Ok(_) => Ok(()),
-        Err(error) => Err(trouble_of(read_fault_of(error))),
+    match works(conn) {
+        Ok(()) => Ok(()),
+        Err(refused) => Err(refused.trouble()),
     }
 }
 
-/// The fault of a call, once the connection was asked whether it still works: `Device` where it does not.
-fn settle<S: Backing>(conn: &mut Connection<S>, fault: StoreFault) -> StoreFault
+/// The trouble of a call whose statement was refused: the device's where the connection, once it was asked whether it
+/// still works, does not.
+fn settle<S: Backing>(conn: &mut Connection<S>, refused: Refused) -> Trouble
     ensures trouble { IsTrouble MeetsAll result }
+    ensures told { result ≢ StoreFault.Device → result ≡ fault_in refused }
     ensures opened { result ≢ StoreFault.Device → IsTrue (state S.Store conn.new).is_open }
     ensures steps { Steps (state S.Store conn.old) (state S.Store conn.new) }
 {
-    match probe(conn) {
-        Ok(()) => trouble_of(fault),
-        Err(_) => StoreFault::Device,
+    match works(conn) {
+        Ok(()) => refused.trouble(),
+        Err(asked) => refused.shut(asked),
     }
 }
 
 /// The value at a key.
-pub fn value<S: Backing>(conn: &mut Connection<S>, key: &Bytes) -> Result<Option<Bytes>, StoreFault>
+pub fn value<S: Backing>(conn: &mut Connection<S>, key: &Bytes) -> Result<Option<Bytes>, Trouble>
     requires rest { IsAtRest (state S.Store conn.old) }
     requires laid { IsLaidOut (state S.Store conn.old).now }
     ensures value { IfOk result (λ value. value ≡ map.get (contents_in ((state S.Store conn.old).now.trees 0)) key.now) }
@@ -65,7 +57,7 @@ pub fn value<S: Backing>(conn: &mut Connection<S>, key: &Bytes) -> Result<Option
 {
     match kv::value_at(conn, key) {
         Ok(value) => Ok(value),
-        Err(error) => Err(settle(conn, read_fault_of(error))),
+        Err(refused) => Err(settle(conn, refused)),
     }
 }
 
@@ -73,7 +65,7 @@ pub fn value<S: Backing>(conn: &mut Connection<S>, key: &Bytes) -> Result<Option
 pub fn all<S: Backing>(
     alloc: Global,
     conn: &mut Connection<S>,
-) -> Result<Vec<(Bytes, Bytes)>, StoreFault>
+) -> Result<Vec<(Bytes, Bytes)>, Trouble>
     requires rest { IsAtRest (state S.Store conn.old) }
     requires laid { IsLaidOut (state S.Store conn.old).now }
     ensures rows { IfOk result (λ rows. rows.items ≡ map.entries (contents_in ((state S.Store conn.old).now.trees 0))) }
@@ -81,7 +73,7 @@ pub fn all<S: Backing>(
 {
     match kv::all(alloc, conn) {
         Ok(rows) => Ok(rows),
-        Err(error) => Err(settle(conn, read_fault_of(error))),
+        Err(refused) => Err(settle(conn, refused)),
     }
 }
 
@@ -90,7 +82,7 @@ fn shard_rows<S: Backing>(
     alloc: Global,
     conn: &mut Connection<S>,
     shard: &Shard,
-) -> Result<Vec<(Bytes, Bytes)>, Error>
+) -> Result<Vec<(Bytes, Bytes)>, Refused>
     requires rest { IsAtRest (state S.Store conn.old) }
     requires laid { IsLaidOut (state S.Store conn.old).now }
     ensures rows { IfOk result (λ rows. rows.items ≡ map.entries (part (contents_in ((state S.Store conn.old).now.trees 0)) shard.now)) }
@@ -109,7 +101,7 @@ pub fn of_shard<S: Backing>(
     alloc: Global,
     conn: &mut Connection<S>,
     shard: &Shard,
-) -> Result<Vec<(Bytes, Bytes)>, StoreFault>
+) -> Result<Vec<(Bytes, Bytes)>, Trouble>
     requires rest { IsAtRest (state S.Store conn.old) }
     requires laid { IsLaidOut (state S.Store conn.old).now }
     ensures rows { IfOk result (λ rows. rows.items ≡ map.entries (part (contents_in ((state S.Store conn.old).now.trees 0)) shard.now)) }
@@ -117,7 +109,7 @@ pub fn of_shard<S: Backing>(
 {
     match shard_rows(alloc, conn, shard) {
         Ok(rows) => Ok(rows),
-        Err(error) => Err(settle(conn, read_fault_of(error))),
+        Err(refused) => Err(settle(conn, refused)),
     }
 }
 
@@ -127,7 +119,7 @@ pub fn between<'x, S: Backing>(
     conn: &mut Connection<S>,
     begin: &'x Bytes,
     end: &'x Bytes,
-) -> Result<Vec<(Bytes, Bytes)>, StoreFault>
+) -> Result<Vec<(Bytes, Bytes)>, Trouble>
     requires rest { IsAtRest (state S.Store conn.old) }
     requires laid { IsLaidOut (state S.Store conn.old).now }
     ensures rows { IfOk result (λ rows. rows.items
@@ -137,7 +129,7 @@ pub fn between<'x, S: Backing>(
 {
     match kv::between(alloc, conn, begin, end) {
         Ok(rows) => Ok(rows),
-        Err(error) => Err(settle(conn, read_fault_of(error))),
+        Err(refused) => Err(settle(conn, refused)),
     }
 }
 
@@ -146,7 +138,7 @@ pub fn above<S: Backing>(
     alloc: Global,
     conn: &mut Connection<S>,
     version: Version,
-) -> Result<Vec<((Version, Bytes), Option<Bytes>)>, StoreFault>
+) -> Result<Vec<((Version, Bytes), Option<Bytes>)>, Trouble>
     requires rest { IsAtRest (state S.Store conn.old) }
     requires laid { IsLaidOut (state S.Store conn.old).now }
     ensures rows { IfOk result (λ rows. (p : Place)
@@ -157,12 +149,12 @@ pub fn above<S: Backing>(
 {
     match undo::above(alloc, conn, version) {
         Ok(rows) => Ok(rows),
-        Err(error) => Err(settle(conn, read_fault_of(error))),
+        Err(refused) => Err(settle(conn, refused)),
     }
 }
 
 /// The state bytes.
-pub fn bytes<S: Backing>(conn: &mut Connection<S>) -> Result<Bytes, StoreFault>
+pub fn bytes<S: Backing>(conn: &mut Connection<S>) -> Result<Bytes, Trouble>
     requires rest { IsAtRest (state S.Store conn.old) }
     requires laid { IsLaidOut (state S.Store conn.old).now }
     ensures value { IfOk result (λ bytes. bytes ≡ bytes_in ((state S.Store conn.old).now.trees 4)) }
@@ -170,12 +162,12 @@ pub fn bytes<S: Backing>(conn: &mut Connection<S>) -> Result<Bytes, StoreFault>
 {
     match meta::bytes(conn) {
         Ok(bytes) => Ok(bytes),
-        Err(error) => Err(settle(conn, read_fault_of(error))),
+        Err(refused) => Err(settle(conn, refused)),
     }
 }
 
 /// Makes of the tables what they are to become, in one transaction: all of it, or nothing.
-fn attempt<S: Backing>(conn: &mut Connection<S>, work: &Work, rows: usize) -> Result<usize, Error>
+fn attempt<S: Backing>(conn: &mut Connection<S>, work: &Work, rows: usize) -> Result<usize, Refused>
     requires rest { IsAtRest (state S.Store conn.old) }
     requires fits { Fits work.now (state S.Store conn.old).now }
     ensures done { OnOk result (IsDone (Does work.now) (state S.Store conn.old) (state S.Store conn.new)) }
@@ -186,7 +178,7 @@ fn attempt<S: Backing>(conn: &mut Connection<S>, work: &Work, rows: usize) -> Re
 {
     let mut tx = conn.transaction();
     let count = fill(&mut tx, work, rows)?;
-    tx.commit()?;
+    commit(tx)?;
     Ok(count)
 }
 
@@ -196,7 +188,7 @@ pub fn make<S: Backing>(
     conn: &mut Connection<S>,
     work: &Work,
     rows: usize,
-) -> Result<usize, StoreFault>
+) -> Result<usize, Trouble>
     requires rest { IsAtRest (state S.Store conn.old) }
     requires fits { Fits work.now (state S.Store conn.old).now }
     ensures done { OnOk result (IsDone (Does work.now) (state S.Store conn.old) (state S.Store conn.new)) }
@@ -209,6 +201,6 @@ pub fn make<S: Backing>(
 {
     match attempt(conn, work, rows) {
         Ok(count) => Ok(count),
-        Err(error) => Err(settle(conn, fault_of(error))),
+        Err(refused) => Err(settle(conn, refused)),
     }
 }

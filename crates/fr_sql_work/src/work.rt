@@ -8,9 +8,9 @@ ghost use Rattle.fr_sql_rows.specs.Connection.{IsLaidOut, IsInside, CommitsNothi
 ghost use Rattle.fr_sql_work.specs.Work.{Writes, WritesOne, Rows, Meta, Does, Fits, HasRoom, NotesOne, KnowChanged, differs};
 
 use fr_base::{Bytes, Version};
-use fr_sql_rows::{Backing, kv, meta, undo};
+use fr_sql_rows::{Backing, Refused, kv, meta, one_more, undo};
 use fr_undo::Change;
-use sqlite::{Error, ErrorCode, Transaction};
+use sqlite::Transaction;
 use std::collections::BTreeMap;
 
 /// What becomes of the undo rows.
@@ -51,7 +51,7 @@ fn put_one<S: Backing>(
     tx: &mut Transaction<'_, S>,
     key: &Bytes,
     change: &Change,
-) -> Result<usize, Error>
+) -> Result<usize, Refused>
     requires inside { IsInside (state S.Store tx.old.conn.now) }
     requires laid { IsLaidOut (state S.Store tx.old.conn.now).now }
     requires known { change.now.before ≡ value_in ((state S.Store tx.old.conn.now).now.trees 0) key.now }
@@ -72,7 +72,7 @@ fn write_one<S: Backing>(
     tx: &mut Transaction<'_, S>,
     key: &Bytes,
     change: &Change,
-) -> Result<(), Error>
+) -> Result<(), Refused>
     requires inside { IsInside (state S.Store tx.old.conn.now) }
     requires laid { IsLaidOut (state S.Store tx.old.conn.now).now }
     requires known { IsTrue (differs change.now) → change.now.before ≡ value_in ((state S.Store tx.old.conn.now).now.trees 0) key.now }
@@ -82,9 +82,10 @@ fn write_one<S: Backing>(
     ensures stays { Stays (state S.Store tx.old.conn.now) (state S.Store tx.new.conn.now) }
     ensures survives { CommitsNothing (state S.Store tx.old.conn.now) (state S.Store tx.new.conn.now) }
 {
-    if !is_same_value(&change.before, &change.after) {
-        put_one(tx, key, change)?;
+    if is_same_value(&change.before, &change.after) {
+        return Ok(());
     }
+    put_one(tx, key, change)?;
     Ok(())
 }
 
@@ -92,7 +93,7 @@ fn write_one<S: Backing>(
 fn write_all<S: Backing>(
     tx: &mut Transaction<'_, S>,
     changes: &BTreeMap<Bytes, Change>,
-) -> Result<(), Error>
+) -> Result<(), Refused>
     requires inside { IsInside (state S.Store tx.old.conn.now) }
     requires laid { IsLaidOut (state S.Store tx.old.conn.now).now }
     requires know { KnowChanged changes.now (value_in ((state S.Store tx.old.conn.now).now.trees 0)) }
@@ -125,7 +126,7 @@ fn note<S: Backing>(
     version: Version,
     key: &Bytes,
     before: &Option<Bytes>,
-) -> Result<usize, Error>
+) -> Result<usize, Refused>
     requires inside { IsInside (state S.Store tx.old.conn.now) }
     requires laid { IsLaidOut (state S.Store tx.old.conn.now).now }
     requires absent { before_in ((state S.Store tx.old.conn.now).now.trees 2) (version, key.now) ≡ None }
@@ -141,16 +142,6 @@ fn note<S: Backing>(
     }
 }
 
-/// One more undo row. More than a number can say are refused as too many.
-fn one_more(rows: usize) -> Result<usize, Error>
-    ensures { IfOk result (λ more. more ≡ rows + 1) }
-{
-    match rows.checked_add(1) {
-        Some(more) => Ok(more),
-        None => Err(Error::SqliteFailure(ErrorCode::TooBig)),
-    }
-}
-
 /// Adds the undo row of a key, if its change gives it something else than it held, and counts it.
 fn note_one<S: Backing>(
     tx: &mut Transaction<'_, S>,
@@ -158,7 +149,7 @@ fn note_one<S: Backing>(
     key: &Bytes,
     change: &Change,
     rows: usize,
-) -> Result<usize, Error>
+) -> Result<usize, Refused>
     requires inside { IsInside (state S.Store tx.old.conn.now) }
     requires laid { IsLaidOut (state S.Store tx.old.conn.now).now }
     requires absent { before_in ((state S.Store tx.old.conn.now).now.trees 2) (version, key.now) ≡ None }
@@ -184,7 +175,7 @@ fn note_all<S: Backing>(
     version: Version,
     changes: &BTreeMap<Bytes, Change>,
     rows: usize,
-) -> Result<usize, Error>
+) -> Result<usize, Refused>
     requires inside { IsInside (state S.Store tx.old.conn.now) }
     requires laid { IsLaidOut (state S.Store tx.old.conn.now).now }
     requires room { HasRoom (RowWork.Note version) (state S.Store tx.old.conn.now).now }
@@ -210,7 +201,7 @@ fn fill_rows<S: Backing>(
     work: &RowWork,
     changes: &BTreeMap<Bytes, Change>,
     rows: usize,
-) -> Result<usize, Error>
+) -> Result<usize, Refused>
     requires inside { IsInside (state S.Store tx.old.conn.now) }
     requires laid { IsLaidOut (state S.Store tx.old.conn.now).now }
     requires room { HasRoom work.now (state S.Store tx.old.conn.now).now }
@@ -237,7 +228,7 @@ fn fill_rows<S: Backing>(
 }
 
 /// Makes of the row of `meta` what it is to become.
-fn fill_meta<S: Backing>(tx: &mut Transaction<'_, S>, work: &MetaWork) -> Result<usize, Error>
+fn fill_meta<S: Backing>(tx: &mut Transaction<'_, S>, work: &MetaWork) -> Result<usize, Refused>
     requires inside { IsInside (state S.Store tx.old.conn.now) }
     requires laid { IsLaidOut (state S.Store tx.old.conn.now).now }
     ensures same_reference { tx.new.conn.ghost_name ≡ tx.old.conn.ghost_name }
@@ -257,7 +248,7 @@ pub(crate) fn fill<S: Backing>(
     tx: &mut Transaction<'_, S>,
     work: &Work,
     rows: usize,
-) -> Result<usize, Error>
+) -> Result<usize, Refused>
     requires inside { IsInside (state S.Store tx.old.conn.now) }
     requires fits { Fits work.now (state S.Store tx.old.conn.now).now }
     ensures same_reference { tx.new.conn.ghost_name ≡ tx.old.conn.ghost_name }

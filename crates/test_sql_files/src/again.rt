@@ -1,6 +1,6 @@
 //! Stores that are closed and opened again, and files that hold none.
 use crate::scene::{Call, Held, Shown, found, kept, no_files};
-use fr_sql_store::SqlFileStore;
+use fr_sql_files::SqlFileStore;
 use fr_undo::StoreFault;
 use std::alloc::Global;
 use std::test::Fail;

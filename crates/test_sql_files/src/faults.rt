@@ -2,7 +2,7 @@
 //! met the fault, or what that call was to make.
 use crate::gap::Gap;
 use crate::scene::{Call, Held, Shown, kept, look, make};
-use fr_sql_store::SqlFileStore;
+use fr_sql_files::SqlFileStore;
 use fr_undo::{ShardStore, StoreFault};
 use sqlite::Files;
 use sqlite_disk::Memory as MemoryDisk;

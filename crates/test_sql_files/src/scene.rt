@@ -1,8 +1,8 @@
 //! Calls of a store as plain data, what a store shows, and stores in files.
 use fr_base::{Bytes, Memory, Version};
 use fr_mutation::{Batch, Mutation};
+use fr_sql_files::SqlFileStore;
 use fr_sql_rows::FaithfulDisk;
-use fr_sql_store::SqlFileStore;
 use fr_undo::{ShardStore, StoreFault};
 use sqlite::Files;
 use sqlite_disk::Memory as MemoryDisk;

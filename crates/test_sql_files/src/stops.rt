@@ -1,8 +1,8 @@
 //! A file that stops at some call, a crash, and what is then found: what stood before the call of the store that met
 //! the stop, or what it was to make.
 use crate::scene::{Call, Held, Shown, found, kept, make};
+use fr_sql_files::SqlFileStore;
 use fr_sql_rows::FaithfulDisk;
-use fr_sql_store::SqlFileStore;
 use fr_undo::{ShardStore, StoreFault};
 use sqlite::Files;
 use sqlite_disk::{Crash, Fuse, Memory as MemoryDisk};

@@ -8,17 +8,19 @@ ghost use Rattle.fr_sql_work.specs.Calls.{MeetsAll};
 ghost use Rattle.fr_sql_open.specs.Found.{IsFound};
 ghost use Rattle.fr_sql_store.specs.Tables.{state_in};
 ghost use Rattle.fr_sql_store.specs.Files.{HoldStore};
-ghost use Rattle.fr_sql_store.specs.Shut.{StoreLeaves};
+ghost use Rattle.fr_sql_store.specs.Files.{StoreLeaves};
 
-use crate::marks::Marks;
-use crate::own::SEED;
 use crate::sql_store::SqlStore;
 use fr_base::Version;
+use fr_sql_calls::Marks;
 use fr_sql_open::{Found, find, has_no_table, open_again};
-use fr_sql_rows::{FaithfulDisk, fault_of, schema};
+use fr_sql_rows::{FaithfulDisk, Refusals, fault_of, schema};
 use fr_undo::{ShardStore, StoreFault};
 use sqlite::{Connection, Error, FileStore, Files, Options};
 use std::alloc::Global;
+
+/// What the salts of a log are drawn from.
+pub const SEED: u64 = 1;
 
 /// Opens a connection over files. Files that no sync may be asked of again are the device's fault.
 fn opened<D: FaithfulDisk + Drop>(
@@ -54,7 +56,7 @@ fn made<D: FaithfulDisk + Drop>(
     }
     match schema::create(&mut conn) {
         Ok(()) => Ok(conn),
-        Err(error) => Err(fault_of(error)),
+        Err(refused) => Err(refused.trouble().fault()),
     }
 }
 
@@ -103,7 +105,7 @@ impl<D: FaithfulDisk + Drop> SqlStore<FileStore<D>> {
     /// # Errors
     ///
     /// `Device`: the files failed, or hold something. `Full`: they have no room. `Memory`: a growth was refused.
-    pub(crate) fn create(alloc: Global, files: Files<D>) -> Result<Self, StoreFault>
+    pub fn create(alloc: Global, files: Files<D>) -> Result<Self, StoreFault>
         ensures empty { IfOk result (λ store. ⟦<SqlStore<FileStore<D>> as ShardStore>⟧.state store ≡ fresh) }
         ensures works { IfOk result (λ store. ⟦<SqlStore<FileStore<D>> as ShardStore>⟧.is_failed store ≡ false) }
         ensures trouble { IfErr result (IsTrouble MeetsAll) }
@@ -118,6 +120,7 @@ impl<D: FaithfulDisk + Drop> SqlStore<FileStore<D>> {
                 rows: 0,
             },
             is_failed: false,
+            told: Refusals::new(),
         })
     }
 
@@ -127,7 +130,7 @@ impl<D: FaithfulDisk + Drop> SqlStore<FileStore<D>> {
     /// # Errors
     ///
     /// `Device`: the files failed, or hold no store. `Full`: they have no room. `Memory`: a growth was refused.
-    pub(crate) fn open(alloc: Global, files: Files<D>) -> Result<Self, StoreFault>
+    pub fn open(alloc: Global, files: Files<D>) -> Result<Self, StoreFault>
         ensures found { IfOk result (λ store. (x : StoreState) → HoldStore D.Disk files x
             → ⟦<SqlStore<FileStore<D>> as ShardStore>⟧.state store ≡ x) }
         ensures works { IfOk result (λ store. ⟦<SqlStore<FileStore<D>> as ShardStore>⟧.is_failed store ≡ false) }
@@ -143,7 +146,7 @@ impl<D: FaithfulDisk + Drop> SqlStore<FileStore<D>> {
     ///
     /// `Failed`: the device failed in an earlier call. `Device`: it failed in this one. `Full`: it has no room.
     /// `Memory`: a growth was refused.
-    pub(crate) fn close(self) -> Result<Files<D>, StoreFault>
+    pub fn close(self) -> Result<Files<D>, StoreFault>
         ensures holds { IfOk result (λ files. ∥ HoldStore D.Disk files (⟦<SqlStore<FileStore<D>> as ShardStore>⟧.state self) ∥₁) }
         ensures failed { (result ≡ Err StoreFault.Failed) ↔ IsTrue (⟦<SqlStore<FileStore<D>> as ShardStore>⟧.is_failed self) }
         ensures trouble { IfErr result (λ fault. fault ≢ StoreFault.Failed → IsTrouble MeetsAll fault) }
@@ -153,6 +156,7 @@ impl<D: FaithfulDisk + Drop> SqlStore<FileStore<D>> {
             alloc: _,
             marks: _,
             is_failed,
+            told: _,
         } = self;
         if is_failed {
             return Err(StoreFault::Failed);
@@ -161,7 +165,7 @@ impl<D: FaithfulDisk + Drop> SqlStore<FileStore<D>> {
     }
 
     /// A store over the tables that were found in files.
-    pub(crate) fn over(alloc: Global, conn: Connection<FileStore<D>>, found: Found) -> Self
+    pub fn over(alloc: Global, conn: Connection<FileStore<D>>, found: Found) -> Self
         requires rest { IsAtRest (file_state conn) }
         requires found { IsFound found.applied found.floor found.rows (file_state conn).now }
         ensures state { ⟦<SqlStore<FileStore<D>> as ShardStore>⟧.state result ≡ state_in (file_state conn).now.trees }
@@ -179,12 +183,13 @@ impl<D: FaithfulDisk + Drop> SqlStore<FileStore<D>> {
                 rows: found.rows,
             },
             is_failed: false,
+            told: Refusals::new(),
         }
     }
 
     /// Takes the connection apart, with nothing read or written, also that of a store that failed. A crash leaves
     /// nothing of what stays that it did not leave of the store.
-    pub(crate) fn into_store(self) -> FileStore<D>
+    pub fn into_store(self) -> FileStore<D>
         ensures { (x : StoreState) → StoreLeaves D.Disk result x → ⟦<SqlStore<FileStore<D>> as ShardStore>⟧.MayLeave self x }
     {
         let SqlStore {
@@ -192,6 +197,7 @@ impl<D: FaithfulDisk + Drop> SqlStore<FileStore<D>> {
             alloc: _,
             marks: _,
             is_failed: _,
+            told: _,
         } = self;
         conn.into_store()
     }

@@ -11,25 +11,25 @@ use Rattle.fr_sql_rows.proofs.kv.from.Goals as goal
 
 pub returns-in_err-rows-clause-keeps : goal.returns-in_err-rows-clause-keeps
 returns-in_err-rows-clause-keeps g c =
-    keeps _ _ c.requires.rest (queried (state g.S.Store c.args.conn.now) (state g.S.Store c.query_all.new.self) _ _ _ (c.in_err-rows.ensures.err (g.met.S.Backing.clean c.query_all.new.self.store)))
+    keeps _ _ c.requires.rest (queried (state g.S.Store c.args.conn.now) (state g.S.Store c.ask.new.conn) _ _ _ (c.in_err-rows.ensures.err (g.met.S.Backing.clean c.ask.new.conn.store)))
 
 pub returns-in_err-rows-clause-survives : goal.returns-in_err-rows-clause-survives
-returns-in_err-rows-clause-survives g c = survives_query _ _ from_text _ schema c.requires.laid.schema from_plain c.query_all.ensures.survives
+returns-in_err-rows-clause-survives g c = survives_query _ _ from_text _ schema c.requires.laid.schema from_plain c.ask.ensures.survives
 
 pub returns-clause-rows : goal.returns-clause-rows
 returns-clause-rows g c =
     let old = state g.S.Store c.args.conn.now in
-    let new = state g.S.Store c.query_all.new.self in
-    let made : Shown from_text (Blob c.args.begin.now ∷ []) old new c.in_ok-rows.rows.items = rw (c.as_slice.ensures) at (rw (c.params-to_sql.ensures) at (c.in_ok-rows.ensures.ok (g.met.S.Backing.clean c.query_all.new.self.store))) in
+    let new = state g.S.Store c.ask.new.conn in
+    let made : Shown from_text (Blob c.args.begin.now ∷ []) old new c.in_ok-rows.rows.items = rw (c.as_slice.ensures) at (rw (c.params-to_sql.ensures) at (c.in_ok-rows.ensures.ok (g.met.S.Backing.clean c.ask.new.conn.store))) in
     ok_then c.pairs.result (λ pairs is. is ∙ ap (map pair_of) c.as_slice-2.ensures.value ∙ shows_from old new c.args.begin.now c.in_ok-rows.rows.items c.requires.laid made) c.pairs.ensures
 
 pub returns-clause-open : goal.returns-clause-open
 returns-clause-open g c =
-    at_ok c.pairs.result (shown (state g.S.Store c.args.conn.now) (state g.S.Store c.query_all.new.self) from_text _ schema _ c.requires.laid.schema from_plain (c.in_ok-rows.ensures.ok (g.met.S.Backing.clean c.query_all.new.self.store))).0.is_open
+    at_ok c.pairs.result (shown (state g.S.Store c.args.conn.now) (state g.S.Store c.ask.new.conn) from_text _ schema _ c.requires.laid.schema from_plain (c.in_ok-rows.ensures.ok (g.met.S.Backing.clean c.ask.new.conn.store))).0.is_open
 
 pub returns-clause-keeps : goal.returns-clause-keeps
 returns-clause-keeps g c =
-    keeps _ _ c.requires.rest (inl (shown (state g.S.Store c.args.conn.now) (state g.S.Store c.query_all.new.self) from_text _ schema _ c.requires.laid.schema from_plain (c.in_ok-rows.ensures.ok (g.met.S.Backing.clean c.query_all.new.self.store))))
+    keeps _ _ c.requires.rest (inl (shown (state g.S.Store c.args.conn.now) (state g.S.Store c.ask.new.conn) from_text _ schema _ c.requires.laid.schema from_plain (c.in_ok-rows.ensures.ok (g.met.S.Backing.clean c.ask.new.conn.store))))
 
 pub returns-clause-survives : goal.returns-clause-survives
-returns-clause-survives g c = survives_query _ _ from_text _ schema c.requires.laid.schema from_plain c.query_all.ensures.survives
+returns-clause-survives g c = survives_query _ _ from_text _ schema c.requires.laid.schema from_plain c.ask.ensures.survives

@@ -18,12 +18,12 @@ pub returns-clause-ok : goal.returns-clause-ok
 returns-clause-ok g c =
     let first : c.number_of.result ≡ pos c.args.applied = c.number_of.ensures.value in
     let second : c.number_of-2.result ≡ pos c.args.floor = c.number_of-2.ensures.value in
-    let ran : ExecutesInside 0 versions_text (Int (to_z w64 (of_z w64 (pos c.args.applied))) ∷ Int (to_z w64 (of_z w64 (pos c.args.floor))) ∷ []) (state g.S.Store c.args.tx.now.conn.now) (state g.S.Store c.execute.new.self.conn.now) c.execute.result =
-    rw (first, second) at (rw (c.params-to_sql.ensures, c.params-to_sql-2.ensures) at (c.execute.ensures.runs (g.met.S.Backing.clean c.execute.new.self.conn.now.store) c.requires.inside.begun)) in
-    on_ok _ _ c.args.applied c.args.floor c.execute.result c.requires.laid (rw (number_fits c.args.applied c.number_of.ensures.below, number_fits c.args.floor c.number_of-2.ensures.below) at ran)
+    let ran : ExecutesInside 0 versions_text (Int (to_z w64 (of_z w64 (pos c.args.applied))) ∷ Int (to_z w64 (of_z w64 (pos c.args.floor))) ∷ []) (state g.S.Store c.args.tx.now.conn.now) (state g.S.Store c.run.new.tx.conn.now) c.run.result =
+    rw (first, second) at (rw (c.params-to_sql.ensures, c.params-to_sql-2.ensures) at (c.run.ensures.runs (g.met.S.Backing.clean c.run.new.tx.conn.now.store) c.requires.inside.begun)) in
+    on_ok _ _ c.args.applied c.args.floor c.run.result c.requires.laid (rw (number_fits c.args.applied c.number_of.ensures.below, number_fits c.args.floor c.number_of-2.ensures.below) at ran)
 
 pub returns-clause-inside : goal.returns-clause-inside
-returns-clause-inside g c = inside (state g.S.Store c.args.tx.now.conn.now) _ _ _ c.execute.result (c.execute.ensures.runs (g.met.S.Backing.clean c.execute.new.self.conn.now.store) c.requires.inside.begun)
+returns-clause-inside g c = inside (state g.S.Store c.args.tx.now.conn.now) _ _ _ c.run.result (c.run.ensures.runs (g.met.S.Backing.clean c.run.new.tx.conn.now.store) c.requires.inside.begun)
 
 pub returns-clause-stays : goal.returns-clause-stays
-returns-clause-stays g c = stays (state g.S.Store c.args.tx.now.conn.now) _ _ _ c.execute.result (c.execute.ensures.runs (g.met.S.Backing.clean c.execute.new.self.conn.now.store) c.requires.inside.begun)
+returns-clause-stays g c = stays (state g.S.Store c.args.tx.now.conn.now) _ _ _ c.run.result (c.run.ensures.runs (g.met.S.Backing.clean c.run.new.tx.conn.now.store) c.requires.inside.begun)

@@ -8,8 +8,8 @@ use Rattle.fr_sql_rows.proofs.schema.create_kv.Goals as goal
 
 pub returns-clause-ok : goal.returns-clause-ok
 returns-clause-ok g c =
-    creates kv_text kv no_schema (state g.S.Store c.args.tx.now.conn.now) (state g.S.Store c.execute.new.self.conn.now) c.execute.result create_kv_is kv_is refl c.requires.schema
-    (c.execute.ensures.runs (g.met.S.Backing.clean c.execute.new.self.conn.now.store) c.requires.inside.begun)
+    creates kv_text kv no_schema (state g.S.Store c.args.tx.now.conn.now) (state g.S.Store c.run.new.tx.conn.now) c.run.result create_kv_is kv_is refl c.requires.schema
+    (c.run.ensures.runs (g.met.S.Backing.clean c.run.new.tx.conn.now.store) c.requires.inside.begun)
 
 pub returns-clause-inside : goal.returns-clause-inside
-returns-clause-inside g c = inside (state g.S.Store c.args.tx.now.conn.now) _ _ _ c.execute.result (c.execute.ensures.runs (g.met.S.Backing.clean c.execute.new.self.conn.now.store) c.requires.inside.begun)
+returns-clause-inside g c = inside (state g.S.Store c.args.tx.now.conn.now) _ _ _ c.run.result (c.run.ensures.runs (g.met.S.Backing.clean c.run.new.tx.conn.now.store) c.requires.inside.begun)

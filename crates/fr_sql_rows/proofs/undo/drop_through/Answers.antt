@@ -21,17 +21,17 @@ counted old new version (Err e) laid h = tt
 pub returns-clause-count : goal.returns-clause-count
 returns-clause-count g c =
     let same : c.number_of.result ≡ pos c.args.version = c.number_of.ensures.value in
-    let ran : ExecutesInside 0 drop_through_text (Int (to_z w64 (of_z w64 (pos c.args.version))) ∷ []) (state g.S.Store c.args.tx.now.conn.now) (state g.S.Store c.execute.new.self.conn.now) c.execute.result = rw same at (rw c.params-to_sql.ensures at (c.execute.ensures.runs (g.met.S.Backing.clean c.execute.new.self.conn.now.store) c.requires.inside.begun)) in
-    counted _ _ c.args.version c.execute.result c.requires.laid (rw (number_fits c.args.version c.number_of.ensures.below) at ran)
+    let ran : ExecutesInside 0 drop_through_text (Int (to_z w64 (of_z w64 (pos c.args.version))) ∷ []) (state g.S.Store c.args.tx.now.conn.now) (state g.S.Store c.run.new.tx.conn.now) c.run.result = rw same at (rw c.params-to_sql.ensures at (c.run.ensures.runs (g.met.S.Backing.clean c.run.new.tx.conn.now.store) c.requires.inside.begun)) in
+    counted _ _ c.args.version c.run.result c.requires.laid (rw (number_fits c.args.version c.number_of.ensures.below) at ran)
 
 pub returns-clause-ok : goal.returns-clause-ok
 returns-clause-ok g c =
     let same : c.number_of.result ≡ pos c.args.version = c.number_of.ensures.value in
-    let ran : ExecutesInside 0 drop_through_text (Int (to_z w64 (of_z w64 (pos c.args.version))) ∷ []) (state g.S.Store c.args.tx.now.conn.now) (state g.S.Store c.execute.new.self.conn.now) c.execute.result = rw same at (rw c.params-to_sql.ensures at (c.execute.ensures.runs (g.met.S.Backing.clean c.execute.new.self.conn.now.store) c.requires.inside.begun)) in
-    on_ok _ _ c.args.version c.execute.result c.requires.laid (rw (number_fits c.args.version c.number_of.ensures.below) at ran)
+    let ran : ExecutesInside 0 drop_through_text (Int (to_z w64 (of_z w64 (pos c.args.version))) ∷ []) (state g.S.Store c.args.tx.now.conn.now) (state g.S.Store c.run.new.tx.conn.now) c.run.result = rw same at (rw c.params-to_sql.ensures at (c.run.ensures.runs (g.met.S.Backing.clean c.run.new.tx.conn.now.store) c.requires.inside.begun)) in
+    on_ok _ _ c.args.version c.run.result c.requires.laid (rw (number_fits c.args.version c.number_of.ensures.below) at ran)
 
 pub returns-clause-inside : goal.returns-clause-inside
-returns-clause-inside g c = inside (state g.S.Store c.args.tx.now.conn.now) _ _ _ c.execute.result (c.execute.ensures.runs (g.met.S.Backing.clean c.execute.new.self.conn.now.store) c.requires.inside.begun)
+returns-clause-inside g c = inside (state g.S.Store c.args.tx.now.conn.now) _ _ _ c.run.result (c.run.ensures.runs (g.met.S.Backing.clean c.run.new.tx.conn.now.store) c.requires.inside.begun)
 
 pub returns-clause-stays : goal.returns-clause-stays
-returns-clause-stays g c = stays (state g.S.Store c.args.tx.now.conn.now) _ _ _ c.execute.result (c.execute.ensures.runs (g.met.S.Backing.clean c.execute.new.self.conn.now.store) c.requires.inside.begun)
+returns-clause-stays g c = stays (state g.S.Store c.args.tx.now.conn.now) _ _ _ c.run.result (c.run.ensures.runs (g.met.S.Backing.clean c.run.new.tx.conn.now.store) c.requires.inside.begun)

@@ -19,12 +19,12 @@ on_ok old new version k b (Err e) laid lacks h = tt
 pub returns-clause-ok : goal.returns-clause-ok
 returns-clause-ok g c =
     let same : c.number_of.result ≡ pos c.args.version = c.number_of.ensures.value in
-    let ran : ExecutesInside 0 note_text (Int (to_z w64 (of_z w64 (pos c.args.version))) ∷ Blob c.args.key.now ∷ Blob c.args.before.now ∷ []) (state g.S.Store c.args.tx.now.conn.now) (state g.S.Store c.execute.new.self.conn.now) c.execute.result =
-    rw (same, c.as_slice.ensures, c.as_slice-2.ensures) at (rw (c.params-to_sql.ensures, c.params-to_sql-2.ensures, c.params-to_sql-3.ensures) at (c.execute.ensures.runs (g.met.S.Backing.clean c.execute.new.self.conn.now.store) c.requires.inside.begun)) in
-    on_ok _ _ c.args.version c.args.key.now c.args.before.now c.execute.result c.requires.laid c.requires.absent (rw (number_fits c.args.version c.number_of.ensures.below) at ran)
+    let ran : ExecutesInside 0 note_text (Int (to_z w64 (of_z w64 (pos c.args.version))) ∷ Blob c.args.key.now ∷ Blob c.args.before.now ∷ []) (state g.S.Store c.args.tx.now.conn.now) (state g.S.Store c.run.new.tx.conn.now) c.run.result =
+    rw (same, c.as_slice.ensures, c.as_slice-2.ensures) at (rw (c.params-to_sql.ensures, c.params-to_sql-2.ensures, c.params-to_sql-3.ensures) at (c.run.ensures.runs (g.met.S.Backing.clean c.run.new.tx.conn.now.store) c.requires.inside.begun)) in
+    on_ok _ _ c.args.version c.args.key.now c.args.before.now c.run.result c.requires.laid c.requires.absent (rw (number_fits c.args.version c.number_of.ensures.below) at ran)
 
 pub returns-clause-inside : goal.returns-clause-inside
-returns-clause-inside g c = inside (state g.S.Store c.args.tx.now.conn.now) _ _ _ c.execute.result (c.execute.ensures.runs (g.met.S.Backing.clean c.execute.new.self.conn.now.store) c.requires.inside.begun)
+returns-clause-inside g c = inside (state g.S.Store c.args.tx.now.conn.now) _ _ _ c.run.result (c.run.ensures.runs (g.met.S.Backing.clean c.run.new.tx.conn.now.store) c.requires.inside.begun)
 
 pub returns-clause-stays : goal.returns-clause-stays
-returns-clause-stays g c = stays (state g.S.Store c.args.tx.now.conn.now) _ _ _ c.execute.result (c.execute.ensures.runs (g.met.S.Backing.clean c.execute.new.self.conn.now.store) c.requires.inside.begun)
+returns-clause-stays g c = stays (state g.S.Store c.args.tx.now.conn.now) _ _ _ c.run.result (c.run.ensures.runs (g.met.S.Backing.clean c.run.new.tx.conn.now.store) c.requires.inside.begun)

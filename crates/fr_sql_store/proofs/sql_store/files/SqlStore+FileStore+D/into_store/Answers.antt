@@ -2,7 +2,7 @@ use Rattle.std.proofs.Common.{subst}
 use Rattle.sqlite.specs.Files.{over_files}
 use Rattle.fr_undo.specs.State.{StoreState}
 use Rattle.fr_sql_store.specs.Tables.{Seen, MayLeave}
-use Rattle.fr_sql_store.specs.Shut.{StoreLeaves}
+use Rattle.fr_sql_store.specs.Files.{StoreLeaves}
 use Rattle.fr_sql_store.proofs.sql_store.files.SqlStore+FileStore+D.into_store.Goals as goal
 
 pub returns : goal.returns

@@ -1,8 +1,8 @@
 use Rattle.std.proofs.Common.{false}
 use Rattle.sqlite.specs.Files.{file_state, over_files}
+use Rattle.fr_sql_rows.specs.Told.{none_told}
 use Rattle.fr_sql_store.specs.Tables.{Seen}
-use Rattle.fr_sql_store.proofs.FileLemmas.{found_store}
-use Rattle.fr_sql_store.proofs.ShutLemmas.{lawful}
+use Rattle.fr_sql_store.proofs.FileLemmas.{found_store, lawful}
 use Rattle.fr_sql_store.proofs.StoreLemmas.{left}
 use Rattle.fr_sql_store.proofs.sql_store.files.SqlStore+FileStore+D.over.Goals as goal
 
@@ -15,5 +15,5 @@ returns-clause-sound g c =
 
 pub returns-clause-left_as_is : goal.returns-clause-left_as_is
 returns-clause-left_as_is g c =
-    let new : Seen _ = record { conn = c.args.conn; applied = c.args.found.applied; floor = c.args.found.floor; rows = c.args.found.rows; failed = false } in
+    let new : Seen _ = record { conn = c.args.conn; applied = c.args.found.applied; floor = c.args.found.floor; rows = c.args.found.rows; failed = false; told = none_told } in
     left over_files (lawful g.D.Disk g.met.D.FaithfulDisk.faithful g.met.D.Disk.seen_may_stay) new (found_store _ _ _ _ c.requires.rest c.requires.found)

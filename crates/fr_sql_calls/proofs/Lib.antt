@@ -1,0 +1,4 @@
+pub mod CallLemmas
+pub mod KnownLemmas
+pub mod LeadLemmas
+pub mod UndoLeads

@@ -1,0 +1,267 @@
+//! The calls that read, and those that write, as one transaction each.
+ghost use Rattle.std.specs.Prelude.{◌≡◌, ◌<◌, IfOk, IfErr};
+ghost use Rattle.std.specs.FinMap as map;
+ghost use Rattle.sqlite.specs.Held.{state};
+ghost use Rattle.fr_undo.specs.State.{StoreState};
+ghost use Rattle.fr_undo.specs.Undo.{extended, undone, forgotten, advanced, with_bytes};
+ghost use Rattle.fr_mutation.specs.Shard.{part};
+ghost use Rattle.fr_sql_rows.specs.Told.{IsTold};
+ghost use Rattle.fr_sql_rows.specs.Rows.{contents_in, bytes_in};
+ghost use Rattle.fr_sql_rows.specs.Connection.{IsAtRest, IsLaidOut};
+ghost use Rattle.fr_sql_work.specs.Work.{Fits};
+ghost use Rattle.fr_sql_work.specs.Calls.{Looks};
+ghost use Rattle.fr_sql_calls.specs.Tables.{state_in, Stands};
+ghost use Rattle.fr_sql_calls.specs.Calls.{LeadsTo, Makes};
+
+use crate::marks::Marks;
+use crate::plan::{plan_apply, plan_undo};
+use fr_base::{Bytes, Version};
+use fr_mutation::{Batch, Shard};
+use fr_sql_rows::{Backing, Refusals, Trouble};
+use fr_sql_work::{
+    MetaWork, RowWork, Work, all, bytes as held_bytes, make, of_shard, value as held_value,
+};
+use fr_undo::StoreFault;
+use sqlite::Connection;
+use std::alloc::Global;
+use std::collections::BTreeMap;
+
+/// Makes of the tables what a piece of work is to make of them, and counts the undo rows.
+fn write<S: Backing>(conn: &mut Connection<S>, marks: &Marks, work: &Work) -> Result<usize, Trouble>
+    requires stands { Stands (state S.Store conn.old) marks.now.applied marks.now.floor marks.now.rows }
+    requires fits { Fits work.now (state S.Store conn.old).now }
+    ensures makes { (after : StoreState) → LeadsTo work.now (state S.Store conn.old).now after
+        → Makes after (state S.Store conn.old) (state S.Store conn.new) result }
+{
+    make(conn, work, marks.rows)
+}
+
+/// Applies a batch at a later version, and counts the undo rows.
+fn try_apply<S: Backing>(
+    alloc: Global,
+    conn: &mut Connection<S>,
+    marks: &Marks,
+    version: Version,
+    batch: &Batch,
+) -> Result<usize, Trouble>
+    requires stands { Stands (state S.Store conn.old) marks.now.applied marks.now.floor marks.now.rows }
+    requires later { marks.now.applied < version }
+    ensures makes { Makes (extended (state_in (state S.Store conn.old).now.trees) version batch.now)
+        (state S.Store conn.old) (state S.Store conn.new) result }
+{
+    let work = plan_apply(alloc, conn, marks, version, batch)?;
+    write(conn, marks, &work)
+}
+
+/// Undoes the versions above an earlier one, and counts the undo rows.
+fn try_undo_to<S: Backing>(
+    alloc: Global,
+    conn: &mut Connection<S>,
+    marks: &Marks,
+    version: Version,
+) -> Result<usize, Trouble>
+    requires stands { Stands (state S.Store conn.old) marks.now.applied marks.now.floor marks.now.rows }
+    requires earlier { version < marks.now.applied }
+    ensures makes { Makes (undone (state_in (state S.Store conn.old).now.trees) version) (state S.Store conn.old) (state S.Store conn.new) result }
+{
+    let work = plan_undo(alloc, conn, marks, version)?;
+    write(conn, marks, &work)
+}
+
+/// Moves the version applied to a later one, and counts the undo rows.
+fn try_advance<S: Backing>(
+    alloc: Global,
+    conn: &mut Connection<S>,
+    marks: &Marks,
+    version: Version,
+) -> Result<usize, Trouble>
+    requires stands { Stands (state S.Store conn.old) marks.now.applied marks.now.floor marks.now.rows }
+    ensures makes { Makes (advanced (state_in (state S.Store conn.old).now.trees) version) (state S.Store conn.old) (state S.Store conn.new) result }
+{
+    let work = Work {
+        changes: BTreeMap::new(alloc),
+        rows: RowWork::Keep,
+        meta: MetaWork::Versions {
+            applied: version,
+            floor: marks.floor,
+        },
+    };
+    write(conn, marks, &work)
+}
+
+/// Forgets the undo rows through a version above the floor, and counts the rows that stay.
+fn try_forget<S: Backing>(
+    alloc: Global,
+    conn: &mut Connection<S>,
+    marks: &Marks,
+    version: Version,
+) -> Result<usize, Trouble>
+    requires stands { Stands (state S.Store conn.old) marks.now.applied marks.now.floor marks.now.rows }
+    requires above { marks.now.floor < version }
+    ensures makes { Makes (forgotten (state_in (state S.Store conn.old).now.trees) version) (state S.Store conn.old) (state S.Store conn.new) result }
+{
+    let work = Work {
+        changes: BTreeMap::new(alloc),
+        rows: RowWork::DropThrough(version),
+        meta: MetaWork::Versions {
+            applied: marks.applied,
+            floor: version,
+        },
+    };
+    write(conn, marks, &work)
+}
+
+/// Sets the state bytes, and counts the undo rows.
+fn try_set_state<S: Backing>(
+    alloc: Global,
+    conn: &mut Connection<S>,
+    marks: &Marks,
+    bytes: Bytes,
+) -> Result<usize, Trouble>
+    requires stands { Stands (state S.Store conn.old) marks.now.applied marks.now.floor marks.now.rows }
+    ensures makes { Makes (with_bytes (state_in (state S.Store conn.old).now.trees) bytes) (state S.Store conn.old) (state S.Store conn.new) result }
+{
+    let work = Work {
+        changes: BTreeMap::new(alloc),
+        rows: RowWork::Keep,
+        meta: MetaWork::State { bytes },
+    };
+    write(conn, marks, &work)
+}
+
+/// The value at a key.
+pub fn value<S: Backing>(
+    conn: &mut Connection<S>,
+    told: &mut Refusals,
+    key: &Bytes,
+) -> Result<Option<Bytes>, StoreFault>
+    requires rest { IsAtRest (state S.Store conn.old) }
+    requires laid { IsLaidOut (state S.Store conn.old).now }
+    ensures value { IfOk result (λ value. value ≡ map.get (contents_in ((state S.Store conn.old).now.trees 0)) key.now) }
+    ensures looks { Looks (state S.Store conn.old) (state S.Store conn.new) result }
+    ensures told { IfErr result (IsTold told.old told.new) }
+{
+    told.told(held_value(conn, key))
+}
+
+/// The keys of a shard with their values, in the order of the keys.
+pub fn range<S: Backing>(
+    alloc: Global,
+    conn: &mut Connection<S>,
+    told: &mut Refusals,
+    shard: &Shard,
+) -> Result<Vec<(Bytes, Bytes)>, StoreFault>
+    requires rest { IsAtRest (state S.Store conn.old) }
+    requires laid { IsLaidOut (state S.Store conn.old).now }
+    ensures rows { IfOk result (λ rows. rows.items ≡ map.entries (part (contents_in ((state S.Store conn.old).now.trees 0)) shard.now)) }
+    ensures looks { Looks (state S.Store conn.old) (state S.Store conn.new) result }
+    ensures told { IfErr result (IsTold told.old told.new) }
+{
+    told.told(of_shard(alloc, conn, shard))
+}
+
+/// All keys with their values, in the order of the keys.
+pub fn dump<S: Backing>(
+    alloc: Global,
+    conn: &mut Connection<S>,
+    told: &mut Refusals,
+) -> Result<Vec<(Bytes, Bytes)>, StoreFault>
+    requires rest { IsAtRest (state S.Store conn.old) }
+    requires laid { IsLaidOut (state S.Store conn.old).now }
+    ensures rows { IfOk result (λ rows. rows.items ≡ map.entries (contents_in ((state S.Store conn.old).now.trees 0))) }
+    ensures looks { Looks (state S.Store conn.old) (state S.Store conn.new) result }
+    ensures told { IfErr result (IsTold told.old told.new) }
+{
+    told.told(all(alloc, conn))
+}
+
+/// The state bytes.
+pub fn bytes<S: Backing>(conn: &mut Connection<S>, told: &mut Refusals) -> Result<Bytes, StoreFault>
+    requires rest { IsAtRest (state S.Store conn.old) }
+    requires laid { IsLaidOut (state S.Store conn.old).now }
+    ensures value { IfOk result (λ bytes. bytes ≡ bytes_in ((state S.Store conn.old).now.trees 4)) }
+    ensures looks { Looks (state S.Store conn.old) (state S.Store conn.new) result }
+    ensures told { IfErr result (IsTold told.old told.new) }
+{
+    told.told(held_bytes(conn))
+}
+
+/// Applies a batch at a later version, and counts the undo rows.
+pub fn apply<S: Backing>(
+    alloc: Global,
+    conn: &mut Connection<S>,
+    told: &mut Refusals,
+    marks: &Marks,
+    version: Version,
+    batch: &Batch,
+) -> Result<usize, StoreFault>
+    requires stands { Stands (state S.Store conn.old) marks.now.applied marks.now.floor marks.now.rows }
+    requires later { marks.now.applied < version }
+    ensures makes { Makes (extended (state_in (state S.Store conn.old).now.trees) version batch.now)
+        (state S.Store conn.old) (state S.Store conn.new) result }
+    ensures told { IfErr result (IsTold told.old told.new) }
+{
+    told.told(try_apply(alloc, conn, marks, version, batch))
+}
+
+/// Undoes the versions above an earlier one, and counts the undo rows.
+pub fn undo_to<S: Backing>(
+    alloc: Global,
+    conn: &mut Connection<S>,
+    told: &mut Refusals,
+    marks: &Marks,
+    version: Version,
+) -> Result<usize, StoreFault>
+    requires stands { Stands (state S.Store conn.old) marks.now.applied marks.now.floor marks.now.rows }
+    requires earlier { version < marks.now.applied }
+    ensures makes { Makes (undone (state_in (state S.Store conn.old).now.trees) version) (state S.Store conn.old) (state S.Store conn.new) result }
+    ensures told { IfErr result (IsTold told.old told.new) }
+{
+    told.told(try_undo_to(alloc, conn, marks, version))
+}
+
+/// Moves the version applied to a later one, and counts the undo rows.
+pub fn advance<S: Backing>(
+    alloc: Global,
+    conn: &mut Connection<S>,
+    told: &mut Refusals,
+    marks: &Marks,
+    version: Version,
+) -> Result<usize, StoreFault>
+    requires stands { Stands (state S.Store conn.old) marks.now.applied marks.now.floor marks.now.rows }
+    ensures makes { Makes (advanced (state_in (state S.Store conn.old).now.trees) version) (state S.Store conn.old) (state S.Store conn.new) result }
+    ensures told { IfErr result (IsTold told.old told.new) }
+{
+    told.told(try_advance(alloc, conn, marks, version))
+}
+
+/// Forgets the undo rows through a version above the floor, and counts the rows that stay.
+pub fn forget<S: Backing>(
+    alloc: Global,
+    conn: &mut Connection<S>,
+    told: &mut Refusals,
+    marks: &Marks,
+    version: Version,
+) -> Result<usize, StoreFault>
+    requires stands { Stands (state S.Store conn.old) marks.now.applied marks.now.floor marks.now.rows }
+    requires above { marks.now.floor < version }
+    ensures makes { Makes (forgotten (state_in (state S.Store conn.old).now.trees) version) (state S.Store conn.old) (state S.Store conn.new) result }
+    ensures told { IfErr result (IsTold told.old told.new) }
+{
+    told.told(try_forget(alloc, conn, marks, version))
+}
+
+/// Sets the state bytes, and counts the undo rows.
+pub fn set_state<S: Backing>(
+    alloc: Global,
+    conn: &mut Connection<S>,
+    told: &mut Refusals,
+    marks: &Marks,
+    bytes: Bytes,
+) -> Result<usize, StoreFault>
+    requires stands { Stands (state S.Store conn.old) marks.now.applied marks.now.floor marks.now.rows }
+    ensures makes { Makes (with_bytes (state_in (state S.Store conn.old).now.trees) bytes) (state S.Store conn.old) (state S.Store conn.new) result }
+    ensures told { IfErr result (IsTold told.old told.new) }
+{
+    told.told(try_set_state(alloc, conn, marks, bytes))
+}

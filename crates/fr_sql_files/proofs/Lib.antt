@@ -1,0 +1,2 @@
+mod ShutLemmas
+mod LinkLemmas
