@@ -9,6 +9,8 @@ mod faults;
 #[cfg(test)]
 mod gap;
 #[cfg(test)]
+mod made;
+#[cfg(test)]
 mod scene;
 #[cfg(test)]
 mod stops;

@@ -63,7 +63,7 @@ fn answered<S: ShardStore>(alloc: Global, store: &mut S) -> usize {
 }
 
 /// The files after a crash of the machine.
-fn crashed<D: Crash>(mut files: Files<D>) -> Files<D> {
+pub(crate) fn crashed<D: Crash>(mut files: Files<D>) -> Files<D> {
     files.log.crash();
     files.db.crash();
     files
