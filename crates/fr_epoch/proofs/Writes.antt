@@ -44,9 +44,9 @@ made w r n Stands h k = k
 made w r n (LosesReads i t why at) h k = none_made r n (h.parentless (h.reading at.phase)) refl
 made w r n (Reads i t at) h k = none_made r n (h.parentless (h.reading at.phase)) refl
 made w r n (Finds i t s g at is) h k = none_made r n (h.parentless (h.reading at.phase)) refl
-made w r n (Locks p end i durable known at) h k = none_made r n (h.locking at.phase) refl
-made w r n (LosesLocks p end i durable known why at) h k = none_made r n (h.locking at.phase) refl
-made w r n (Plans p end i durable known s at is) h k = λ q e. (
+made w r n (Locks p end i durable known popped at) h k = none_made r n (h.locking at.phase) refl
+made w r n (LosesLocks p end i durable known popped why at) h k = none_made r n (h.locking at.phase) refl
+made w r n (Plans p end i durable known popped s at is) h k = λ q e. (
     let d : plan_of r p (replied end i durable known) s ≡ q = cc in (
       p,
       replied end i durable known,
@@ -104,9 +104,9 @@ seeded w r n Stands h k = k
 seeded w r n (LosesReads i t why at) h k = k
 seeded w r n (Reads i t at) h k = k
 seeded w r n (Finds i t s g at is) h k = k
-seeded w r n (Locks p end i durable known at) h k = k
-seeded w r n (LosesLocks p end i durable known why at) h k = k
-seeded w r n (Plans p end i durable known s at is) h k = record {
+seeded w r n (Locks p end i durable known popped at) h k = k
+seeded w r n (LosesLocks p end i durable known popped why at) h k = k
+seeded w r n (Plans p end i durable known popped s at is) h k = record {
   none = λ e. absurd (cc);
   below = λ q e. subst (All (λ j. j < q.generation.m)) (sym (k.none (h.locking at.phase))) (All-nil (λ j. j < q.generation.m));
   distinct = k.distinct;

@@ -22,6 +22,10 @@ abbrev pub has_replied : EndState → ℕ → Bool
 has_replied s log = list_any (λ r. r.log == log) s.replies
 
 -- the first reply of each log of the generation counts
+-- whether a reply of a log counts: the first of each log does
+abbrev pub counts : EndState → ℕ → Bool
+counts s log = nat_lt log s.m && not (has_replied s log)
+
 abbrev pub with_reply : EndState → Reply → EndState
 with_reply s r = if nat_lt r.log s.m && not (has_replied s r.log) then record s { replies = s.replies ++ r ∷ [] } else s
 

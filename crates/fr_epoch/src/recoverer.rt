@@ -78,6 +78,7 @@ impl Recoverer {
                 reads: ReadTally::new(alloc, coordinators, ballot),
                 parent: None,
                 end: None,
+                shown: Vec::new(alloc),
                 plan: None,
                 seeded: Vec::new(alloc),
                 writes: WriteTally::new(alloc, coordinators, ballot),

@@ -37,7 +37,7 @@ use Rattle.fr_run_contents.specs.Contents.{IsTrueCopy, IsTrueTell, part_records}
 use Rattle.fr_run_contents.specs.Laws.{Laws}
 use Rattle.fr_run_contents.proofs.PeekLists.{record_of, records_are_whole}
 use Rattle.fr_run_contents.proofs.Parts.{issued_rises, part_lasts}
-use Rattle.fr_run.proofs.Parents.{parent_is}
+use Rattle.fr_run.proofs.Lines.{parent_is}
 use Rattle.fr_run_contents.proofs.Stays.{top_rises}
 
 -- a copy is true, of an epoch that is planned and was numbered through the copy's end
@@ -112,9 +112,9 @@ change laws c h config run tells b from t told r at come_by k n (Finds i u s g h
   begins = k.begins;
   copy = λ p q e f. absurd (let none : None ≡ Some q = sym (come_by.parentless (come_by.reading heard.phase)) ∙ f in absurd (cc));
 }
-change laws c h config run tells b from t told r at come_by k n (Locks p end i durable known is) = same_copy c h r n refl refl refl k
-change laws c h config run tells b from t told r at come_by k n (LosesLocks p end i durable known why is) = same_copy c h r n refl refl refl k
-change laws c h config run tells b from t told r at come_by k n (Plans p' end i durable known s heard is) = record {
+change laws c h config run tells b from t told r at come_by k n (Locks p end i durable known popped is) = same_copy c h r n refl refl refl k
+change laws c h config run tells b from t told r at come_by k n (LosesLocks p end i durable known popped why is) = same_copy c h r n refl refl refl k
+change laws c h config run tells b from t told r at come_by k n (Plans p' end i durable known popped s heard is) = record {
   begins = k.begins;
   copy = λ p q e f. (
       let m = replied end i durable known in

@@ -112,7 +112,7 @@ abbrev first : CoordinatedState
 first = first_state c
 
 abbrev pub later : CoordinatedState
-later = record { gens = record { epoch = 257; m = 2; k = 2; first = 1; seeded_to = 0 } ∷ record { epoch = 513; m = 2; k = 2; first = 1; seeded_to = 2 } ∷ [] }
+later = record { dropped = 0; gens = record { epoch = 257; m = 2; k = 2; first = 1; seeded_to = 0 } ∷ record { epoch = 513; m = 2; k = 2; first = 1; seeded_to = 2 } ∷ [] }
 
 abbrev pub got : Option RecState → RecState
 got o = unwrap_or o (new_recoverer 513 1 ([] ∷ []) None)
@@ -291,7 +291,7 @@ unfolding row generation_at is_within
 turn17 = ((record { actor = (record { there = refl; up = λ k. none_gone h16 (node.Recoverer 513) refl k }); told = (inl (refl, refl, refl)) }), (got (rec_at c h16 513), refl, refl))
 
 abbrev t18 : Turn
-t18 = LogTurn (node.Recoverer 513) 257 1 (Lock 257) (Locked 2 0)
+t18 = LogTurn (node.Recoverer 513) 257 1 (Lock 257) (Locked 2 0 [])
 
 abbrev h18 : List Turn
 h18 = t18 ∷ h17
@@ -301,7 +301,7 @@ unfolding row generation_at is_within
 turn18 = ((record { there = refl; up = λ k. none_gone h17 (node.Log 257 1) refl k }), inl (inl (refl, at (asks_of t17) _ 1 refl refl)), refl, tt)
 
 abbrev t19 : Turn
-t19 = RecHeard 513 (node.Log 257 1) (tell.Log (Locked 2 0)) ((node.Log 257 1, ask.Log (Peek 257 0 0 100)) ∷ [])
+t19 = RecHeard 513 (node.Log 257 1) (tell.Log (Locked 2 0 [])) ((node.Log 257 1, ask.Log (Peek 257 0 0 100)) ∷ [])
 
 abbrev h19 : List Turn
 h19 = t19 ∷ h18

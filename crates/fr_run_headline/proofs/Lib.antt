@@ -1,5 +1,6 @@
 pub mod Agreement
 pub mod Floors
+pub mod Visible
 pub mod Hears
 pub mod Places
 pub mod Splits

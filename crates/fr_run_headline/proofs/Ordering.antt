@@ -25,7 +25,7 @@ use Rattle.fr_run_contents.proofs.Lists.{planned_list}
 use Rattle.fr_run_headline.specs.Storages.{IsSafeFloor}
 use Rattle.fr_run_headline.specs.Order.{IsNeverCut, KnownIsNeverCut, AcknowledgedIsNeverCut, FloorIsNeverCut, FloorIsTakenOver, HeldIsChosen}
 use Rattle.fr_run_headline.specs.Laws.{Laws}
-use Rattle.fr_run_headline.proofs.Floors.{floor_within_cut}
+use Rattle.fr_run_headline.proofs.Floors.{floor_in_view}
 use Rattle.fr_run_headline.proofs.Following.{storages_follow}
 use Rattle.fr_run_headline.proofs.Places.{last_place}
 
@@ -41,7 +41,7 @@ below_is_safe laws c h config run e v k =
     }
 
 below_is_never_cut : Laws → (c : Config) (h : List Turn) → IsConfig c → IsRun c h → (e v : ℕ) → IsBelow c h e v → IsNeverCut c h e v
-below_is_never_cut laws c h config run e v k x g at = floor_within_cut laws c h config run x e g at v (below_is_safe laws c h config run e v k)
+below_is_never_cut laws c h config run e v k x g at = floor_in_view laws c h config run x e g at v (below_is_safe laws c h config run e v k)
 
 pub known_is_never_cut : Laws → KnownIsNeverCut
 known_is_never_cut laws c h config run e i there = below_is_never_cut laws c h config run e (known_of (log_at c h e i)) (log_known_below laws.contents.nodes c h run e i there)
@@ -55,7 +55,7 @@ pub floor_is_never_cut : Laws → FloorIsNeverCut
 floor_is_never_cut laws c h config run tag x g at =
     let s = storage_at c h tag in
     let k = storages_follow laws c h config run tag in
-    floor_within_cut laws c h config run x (own_epoch s.state) g at s.store.floor k.floor
+    floor_in_view laws c h config run x (own_epoch s.state) g at s.store.floor k.floor
 
 pub floor_is_taken_over : Laws → FloorIsTakenOver
 floor_is_taken_over laws c h config run tag =

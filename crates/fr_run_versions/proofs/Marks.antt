@@ -119,7 +119,7 @@ AreMarked c h e l = All (λ (q : PushContent). IfSome q.mark (IsMarkOf c h e)) l
 
 asked : Laws → (c : Config) (h : List Turn) → IsRun c h → (e i : ℕ) (l : LogState) → AreMarked c h e l → (from : NodeId) (a : LogAsk) → Sent h from (node.Log e i) (ask.Log a) ⊎ StorageMayAsk c h from a → AreMarked c h e (next_of l a)
 asked laws c h run e i l k from a came =
-    log_change (AreMarked c h e) l a k (λ s at none. k) (λ q at took. All-push (λ (q : PushContent). IfSome q.mark (IsMarkOf c h e)) l.pushes q k (push q at came)) k
+    log_change (AreMarked c h e) l a k (λ s at none. k) (λ q at took. All-push (λ (q : PushContent). IfSome q.mark (IsMarkOf c h e)) l.pushes q k (push q at came)) k (λ ps. k)
   where
     push : (q : PushContent) → a ≡ Push q → Sent h from (node.Log e i) (ask.Log a) ⊎ StorageMayAsk c h from a → IfSome q.mark (IsMarkOf c h e)
     push q at (inl sent) = sent_mark laws c h run from e i q (subst (λ x. Sent h from (node.Log e i) (ask.Log x)) at sent)

@@ -103,7 +103,8 @@ fn by_turn(config: &Config, first: u8, turn: u32, count: u8) -> u8
     (number % u64::from(config.logs())) as u8
 }
 
-/// One turn: it pulls from a holder of its tag, and asks a log of the newest epoch for its mark.
+/// One turn: it pulls from a holder of its tag, asks a log of the newest epoch for its mark, and has a holder of its own
+/// epoch let go of what it has for good.
 fn pull_once<
     R: Wait,
     C: Node<Plain = Cell> + Drop,
@@ -131,6 +132,17 @@ fn pull_once<
     let index = by_turn(config, 0, turn, config.logs());
     let to = NodeId::Log { epoch, index };
     let ask = Ask::Log(LogAsk::MarkAsked { epoch });
+    send(rt, alloc, directory, faults, puller, &to, &ask)?;
+    let (epoch, _) = puller.storage.position();
+    let index = by_turn(config, tag, turn, config.degree());
+    let to = NodeId::Log { epoch, index };
+    let tag = puller.storage.tag();
+    let through = puller.storage.floor();
+    let ask = Ask::Log(LogAsk::Pop {
+        epoch,
+        tag,
+        through,
+    });
     send(rt, alloc, directory, faults, puller, &to, &ask)
 }
 

@@ -1,5 +1,5 @@
 -- A storage server whose store was called.
-use Rattle.std.proofs.Common.{◌≡◌, ℕ, zero, suc, Bool, true, false, cond, nat_lt, List, [], ◌∷◌, ◌++◌, map, Option, None, refl, sym, ap, ◌∙◌, subst, arith}
+use Rattle.std.proofs.Common.{◌≡◌, ℕ, zero, suc, Bool, true, false, cond, nat_lt, List, [], ◌∷◌, ◌++◌, map, Option, None, Some, refl, sym, ap, ◌∙◌, subst, arith}
 use Rattle.std.specs.Prelude.{Contains}
 use Rattle.fr_undo.specs.State.{StoreState}
 use Rattle.fr_log.specs.declared.records.PeekedRecord.{PeekedRecord}
@@ -8,8 +8,10 @@ use Rattle.fr_state.specs.Generations.{CoordinatedState, IsCoordinatedState}
 use Rattle.fr_state.specs.Same.{is_same_state}
 use Rattle.fr_state.specs.Spelling.{spelling}
 use Rattle.fr_state.specs.LookUp.{end_of}
+use Rattle.fr_undo.specs.declared.fault.StoreFault.{StoreFault}
 use Rattle.fr_storage.specs.declared.fault.StorageFault.{StorageFault}
-use Rattle.fr_storage.specs.Storage.{StorageState, Call, Advance, Forget, UndoTo, SetState, called, after_calls, stages, apply_of, advance_calls, forget_calls, records_between, reached, cut_at, cut_in, own_epoch, marked_fault, marked_calls, peeked_calls, unless_fault}
+use Rattle.fr_storage.specs.declared.fault.StorageFault.TheVariants.{Older, Stranger, BelowFloor, Store}
+use Rattle.fr_storage.specs.Storage.{StorageState, Call, Advance, Forget, UndoTo, SetState, called, after_calls, stages, apply_of, advance_calls, forget_calls, records_between, reached, cut_at, cut_in, own_epoch, is_stranger, marked_fault, marked_calls, peeked_calls, unless_fault}
 use Rattle.fr_storage.specs.Server.{Server, storage_of, IsSpelled, IsServer, IsWhole, LeavesStages}
 use Rattle.fr_storage.specs.Pull.{pull_calls}
 use Rattle.fr_storage.proofs.Left.{first_stage, last_stage, one_stage}
@@ -128,3 +130,14 @@ stays s x same e none =
     (λ i. record { tag = s.tag; state = sym e i; store = s.store })
     ∙ ap (λ (calls : List Call). record { tag = s.tag; state = x; store = after_calls s.store calls }) (sym (ap (λ (b : Bool). cond b [] (UndoTo (cut_in x (own_epoch s.state)) ∷ SetState (spelling x) ∷ [])) same))
     ∙ sym (taken (marked_fault s x) s (record { tag = s.tag; state = x; store = after_calls s.store (marked_calls s x) }) none)
+
+-- no state is refused as a fault of the store
+pub no_store_fault : (s : StorageState) (x : CoordinatedState) (f : StorageFault) (fault : StoreFault) → marked_fault s x ≡ Some f → f ≡ Store fault → ⊥
+no_store_fault s x f fault e is = go (nat_lt (own_epoch x) (own_epoch s.state)) (is_same_state x s.state) (is_stranger s.state x) (nat_lt (cut_in x (own_epoch s.state)) s.store.floor) e
+  where
+    go : (a b d k : Bool) → cond a (Some Older) (cond b None (cond d (Some Stranger) (cond k (Some BelowFloor) None))) ≡ Some f → ⊥
+    go true b d k e = let own : Older ≡ f = cc in let same : Older ≡ Store fault = own ∙ is in absurd cc
+    go false true d k e = absurd cc
+    go false false true k e = let own : Stranger ≡ f = cc in let same : Stranger ≡ Store fault = own ∙ is in absurd cc
+    go false false false true e = let own : BelowFloor ≡ f = cc in let same : BelowFloor ≡ Store fault = own ∙ is in absurd cc
+    go false false false false e = absurd cc

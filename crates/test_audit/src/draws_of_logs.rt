@@ -1,7 +1,7 @@
 //! What logs are asked and tell, drawn at random.
 use crate::draws::Draws;
 use fr_base::{Epoch, Version};
-use fr_log::{LogAsk, LogRefusal, LogTell, Most, Peeked, PeekedRecord, Push, Seed, SeedRecord};
+use fr_log::{LogAsk, LogRefusal, LogTell, Most, Peeked, PeekedRecord, PoppedTags, Push, Seed, SeedRecord};
 use fr_state::{CoordState, Generation};
 use fr_tags::Body;
 use std::test::Fail;
@@ -123,7 +123,11 @@ fn draw_held(draws: &mut Draws) -> Result<LogTell, Fail> {
 fn draw_locked(draws: &mut Draws) -> Result<LogTell, Fail> {
     let durable = draws.version()?;
     let known = draws.version()?;
-    Ok(LogTell::Locked { durable, known })
+    Ok(LogTell::Locked {
+        durable,
+        known,
+        popped: PoppedTags::new(draws.alloc),
+    })
 }
 
 fn draw_marked(draws: &mut Draws) -> Result<LogTell, Fail> {

@@ -32,6 +32,8 @@ pub(crate) enum Said {
     Held(u64),
     /// What is held, and what is known.
     Locked(u64, u64),
+    /// Through which version.
+    Popped(u64),
     /// Above which version, how many records, through which one, and what is known.
     Peeked(u64, usize, u64, u64),
     /// The epoch of the state.
@@ -84,7 +86,7 @@ fn log(tell: &LogTell) -> Said {
     match tell {
         LogTell::Seeded => Said::Seeded,
         LogTell::Held { version } => Said::Held(version.get()),
-        LogTell::Locked { durable, known } => Said::Locked(durable.get(), known.get()),
+        LogTell::Locked { durable, known, .. } => Said::Locked(durable.get(), known.get()),
         LogTell::Peeked(peeked) => Said::Peeked(
             peeked.after().get(),
             peeked.records().len(),
@@ -92,6 +94,7 @@ fn log(tell: &LogTell) -> Said {
             peeked.known().get(),
         ),
         LogTell::Marked { state } => Said::Marked(state.last().epoch().get()),
+        LogTell::Popped { through } => Said::Popped(through.get()),
         LogTell::Refused { why } => Said::NotDone(*why),
     }
 }
