@@ -12,8 +12,19 @@ use std::sync::atomic::{AtomicU64, Ordering};
 /// After how many turns of storage servers the line is written again.
 const TURNS_A_LINE: u64 = 512;
 
+/// Faults that are told when a run is over.
+pub trait Watcher: Faults {
+    /// The threads are through and the audit has spoken. Nothing of the report is written yet.
+    fn end(&self);
+}
+
+impl Watcher for NoFaults {
+    fn end(&self) {}
+}
+
 /// No faults, and a line that is written over and over while asks are sent: the turns of the storage servers, the
-/// greatest version that a proxy said to be committed, and the greatest epoch whose logs are asked.
+/// greatest version that a proxy said to be committed, and the greatest epoch whose logs are asked. Once the storage
+/// servers have taken their turns it says that the journals are audited, and it ends before the report is written.
 #[derive(Drop)]
 pub struct Progress<'a, E> {
     to: &'a E,
@@ -36,28 +47,31 @@ impl<'a, E: Eprint> Progress<'a, E> {
         }
     }
 
-    /// A storage server took a turn.
+    /// A storage server takes a turn.
     fn count_turn(&self) {
-        let turn = self.turns.fetch_add(1, Ordering::SeqCst);
-        if turn % TURNS_A_LINE == 0 {
-            self.show(turn);
+        let before = self.turns.fetch_add(1, Ordering::SeqCst);
+        let turn = before.saturating_add(1);
+        if turn == self.all {
+            self.show(turn, ", auditing ");
+        } else if before % TURNS_A_LINE == 0 {
+            self.show(turn, " ");
         }
     }
 
     /// Writes the line. That it cannot be written stops nothing.
-    fn show(&self, turn: u64) {
+    fn show(&self, turn: u64, rest: &str) {
         let all = self.all;
         let known = self.known.load(Ordering::SeqCst);
         let epoch = self.epoch.load(Ordering::SeqCst);
         let _ = eprint!(self.to;
-            "\rturn {turn} of {all}, epoch {epoch}, committed through {known} "
+            "\rturn {turn} of {all}, epoch {epoch}, committed through {known}{rest}"
         );
     }
+}
 
-    /// Ends the line.
-    pub fn end(&self) {
-        let turns = self.turns.load(Ordering::SeqCst);
-        self.show(turns);
+impl<E: Eprint> Watcher for Progress<'_, E> {
+    fn end(&self) {
+        self.show(self.turns.load(Ordering::SeqCst), ", audited  ");
         let _ = eprintln!(self.to; "");
     }
 }

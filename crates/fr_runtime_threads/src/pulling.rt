@@ -1,21 +1,24 @@
 //! The thread of a storage server: it pulls what its logs hold, and hears of later epochs.
-ghost use Rattle.std.specs.Prelude.{◌≡◌, ◌≤◌, IfOk};
+ghost use Rattle.std.specs.Prelude.{◌≡◌, ◌==◌, ◌+◌, ◌%◌, find, IfOk};
 ghost use Rattle.fr_base.specs.declared.place.NodeId.{NodeId};
 
 use crate::fault::{TurnFault, fault_of};
 use crate::notes::Notes;
+use crate::rack::Rack;
 use crate::sending::{Hearer, send};
-use fr_ask::{Ask, Tell};
+use crate::site::Site;
+use fr_ask::{Ask, Last, Tell};
 use fr_audit_journal::{Act, Journal};
-use fr_base::{Node, NodeId, Stamp};
-use fr_log::{Log, LogAsk, LogTell};
-use fr_register::Cell;
-use fr_run_event::{Config, last_of_storage};
-use fr_runtime_station::{Directory, Faults, first_stamp};
+use fr_base::{Epoch, NodeId, Stamp, Tag, Version};
+use fr_log::{LogAsk, LogTell, Peeked};
+use fr_run_event::last_of_storage;
+use fr_runtime_station::{Faults, first_stamp};
+use fr_state::{CoordState, Generation};
 use fr_storage::{Storage, StorageFault};
 use fr_undo::ShardStore;
 use std::alloc::Global;
 use std::sync::Wait;
+use std::thread::yield_now;
 
 /// A storage server and its journal.
 #[derive(Drop)]
@@ -25,9 +28,11 @@ struct Puller<S: ShardStore> {
 }
 
 impl<S: ShardStore> Hearer for Puller<S> {
-    ghost use Rattle.std.specs.Prelude.{[]};
+    ghost use Rattle.std.specs.Prelude.{[], None};
 
     ghost node = { λ p. p.notes.journal.node };
+
+    ghost shape = { λ p. None };
 
     ghost given = { λ p. [] };
 
@@ -53,13 +58,13 @@ impl<S: ShardStore> Hearer for Puller<S> {
             return Ok(());
         };
         let sender = from;
-        tell_storage(alloc, &mut self.storage, &sender, &tell)?;
+        let taken = tell_storage(alloc, &mut self.storage, &sender, &tell)?;
         self.notes.enter(
             stamp,
             Act::Heard {
                 from,
                 tell,
-                taken: None,
+                taken,
                 outcome: None,
             },
         );
@@ -67,86 +72,157 @@ impl<S: ShardStore> Hearer for Puller<S> {
     }
 }
 
-/// Tells a storage server what a node told it. What it refuses changes nothing; a fault of its store is answered.
+/// Tells a storage server what a node told it: at which version the hear broke off, where a call of its store failed in
+/// it and a part of it is missing. What it refuses changes nothing.
 fn tell_storage<S: ShardStore>(
     alloc: Global,
     storage: &mut Storage<S>,
     from: &NodeId,
     tell: &Tell,
-) -> Result<(), TurnFault> {
+) -> Result<Option<Version>, TurnFault> {
     match (from, tell) {
         (NodeId::Log { epoch, .. }, Tell::Log(LogTell::Peeked(peeked))) => {
-            refused(storage.hear_peeked(alloc, *epoch, peeked))
+            tell_peeked(alloc, storage, *epoch, peeked)
         }
         (NodeId::Log { .. }, Tell::Log(LogTell::Marked { state })) => {
             let state = state.copy()?;
-            refused(storage.hear_marked(alloc, state))
+            tell_marked(alloc, storage, state)
         }
-        _ => Ok(()),
+        _ => Ok(None),
     }
 }
 
-/// A refusal of what was heard is no fault of the store.
-fn refused(heard: Result<(), StorageFault>) -> Result<(), TurnFault> {
-    match heard {
-        Err(StorageFault::Store(fault)) => Err(fault_of(fault)),
-        _ => Ok(()),
-    }
-}
-
-/// Which of so many logs is asked at a turn, after those of this number.
-fn by_turn(config: &Config, first: u8, turn: u32, count: u8) -> u8
-    requires some { 1 ≤ count }
-{
-    let _within = config.coordinators();
-    let number = u64::from(first) + u64::from(turn % u32::from(count));
-    (number % u64::from(config.logs())) as u8
-}
-
-/// One turn: it pulls from a holder of its tag, and asks a log of the newest epoch for its mark.
-fn pull_once<
-    R: Wait,
-    C: Node<Plain = Cell> + Drop,
-    L: Node<Plain = Log> + Drop,
-    F: Faults,
-    S: ShardStore,
->(
-    rt: &R,
+/// Tells a storage server what a log has of its tag. Nothing of it is missing where all is applied, through where the
+/// answer or its generation ends, and forgotten through what is known.
+fn tell_peeked<S: ShardStore>(
     alloc: Global,
-    config: &Config,
-    directory: &Directory<C, L>,
-    faults: &F,
+    storage: &mut Storage<S>,
+    epoch: Epoch,
+    peeked: &Peeked,
+) -> Result<Option<Version>, TurnFault> {
+    let target = match storage.state().end_of(epoch) {
+        Some(end) => peeked.upto().min(end),
+        None => peeked.upto(),
+    };
+    let applied = storage.position().1.max(target);
+    let floor = storage.floor().max(peeked.known().min(applied));
+    if !breaks_off(storage.hear_peeked(alloc, epoch, peeked)) {
+        return Ok(None);
+    }
+    open_again(alloc, storage)?;
+    let (_, reached) = storage.position();
+    if reached == applied && storage.floor() == floor {
+        Ok(None)
+    } else {
+        Ok(Some(reached))
+    }
+}
+
+/// Tells a storage server the state of a mark. Nothing of it is missing where the server stands in the state's epoch.
+fn tell_marked<S: ShardStore>(
+    alloc: Global,
+    storage: &mut Storage<S>,
+    state: CoordState,
+) -> Result<Option<Version>, TurnFault> {
+    let later = state.last().epoch();
+    if !breaks_off(storage.hear_marked(alloc, state)) {
+        return Ok(None);
+    }
+    open_again(alloc, storage)?;
+    let (epoch, reached) = storage.position();
+    if epoch == later {
+        Ok(None)
+    } else {
+        Ok(Some(reached))
+    }
+}
+
+/// Whether a call of the store failed. A refusal of what was heard is no fault of the store.
+fn breaks_off(heard: Result<(), StorageFault>) -> bool {
+    matches!(heard, Err(StorageFault::Store(_)))
+}
+
+/// Opens a storage server again whose store failed. One that cannot be opened is a fault.
+fn open_again<S: ShardStore>(alloc: Global, storage: &mut Storage<S>) -> Result<(), TurnFault> {
+    match storage.reopen(alloc) {
+        Ok(()) => Ok(()),
+        Err(StorageFault::Store(fault)) => Err(fault_of(fault)),
+        Err(_) => Err(TurnFault::Store),
+    }
+}
+
+/// What a storage server says of itself when its turns are over. A store that fails at this is opened again, once.
+fn last_said<S: ShardStore>(alloc: Global, storage: &mut Storage<S>) -> Result<Last, TurnFault> {
+    if let Ok(last) = last_of_storage(alloc, storage) {
+        return Ok(last);
+    }
+    open_again(alloc, storage)?;
+    match last_of_storage(alloc, storage) {
+        Ok(last) => Ok(last),
+        Err(StorageFault::Store(fault)) => Err(fault_of(fault)),
+        Err(_) => Err(TurnFault::Store),
+    }
+}
+
+/// The generation of an epoch among these.
+fn of_epoch(gens: &[Generation], epoch: Epoch) -> Option<Generation>
+    ensures { result ≡ find (λ g. g.epoch == epoch) gens.now }
+{
+    gens.iter().copied().find(|g| g.epoch() == epoch)
+}
+
+/// The log of a generation that is asked for a tag's records at a turn: one of those on which the tag stands, the next
+/// one at each turn.
+fn holder_at(generation: Generation, tag: Tag, turn: u32) -> NodeId
+    ensures { result ≡ NodeId.Log generation.epoch ((tag + turn % generation.k) % generation.m) }
+{
+    let number = u64::from(tag.get()) + u64::from(turn % u32::from(generation.k()));
+    NodeId::Log {
+        epoch: generation.epoch(),
+        index: (number % u64::from(generation.m())) as u8,
+    }
+}
+
+/// The log of a generation that is asked for its mark at a turn: the next one at each turn.
+fn log_at(generation: Generation, turn: u32) -> NodeId
+    ensures { result ≡ NodeId.Log generation.epoch (turn % generation.m) }
+{
+    NodeId::Log {
+        epoch: generation.epoch(),
+        index: (turn % u32::from(generation.m())) as u8,
+    }
+}
+
+/// One turn: it pulls from a holder of its tag, and asks a log of the newest epoch for its mark. A turn that brings
+/// nothing lets other threads go first.
+fn pull_once<K: Rack, F: Faults, R: Wait, S: ShardStore>(
+    site: &Site<'_, K, F, R>,
     puller: &mut Puller<S>,
     turn: u32,
 ) -> Result<(), TurnFault>
     ensures node { puller.new.notes.journal.node ≡ puller.old.notes.journal.node }
 {
-    let _within = config.coordinators();
+    let before = puller.storage.position();
     let (epoch, ask) = puller.storage.next_ask();
-    let tag = puller.storage.tag().get();
-    let index = by_turn(config, tag, turn, config.degree());
-    let to = NodeId::Log { epoch, index };
-    send(rt, alloc, directory, faults, puller, &to, &Ask::Log(ask))?;
-    let epoch = directory.newest(rt).generation.epoch();
-    let index = by_turn(config, 0, turn, config.logs());
-    let to = NodeId::Log { epoch, index };
-    let ask = Ask::Log(LogAsk::MarkAsked { epoch });
-    send(rt, alloc, directory, faults, puller, &to, &ask)
+    if let Some(source) = of_epoch(puller.storage.state().gens(), epoch) {
+        let to = holder_at(source, puller.storage.tag(), turn);
+        send(site, puller, &to, &Ask::Log(ask))?;
+    }
+    let newest = site.directory.newest().generation;
+    let to = log_at(newest, turn);
+    let ask = LogAsk::MarkAsked {
+        epoch: newest.epoch(),
+    };
+    send(site, puller, &to, &Ask::Log(ask))?;
+    if puller.storage.position() == before {
+        yield_now();
+    }
+    Ok(())
 }
 
 /// The turns of a storage server, and its journal.
-pub fn pull<
-    R: Wait,
-    C: Node<Plain = Cell> + Drop,
-    L: Node<Plain = Log> + Drop,
-    F: Faults,
-    S: ShardStore + Drop,
->(
-    rt: &R,
-    alloc: Global,
-    config: &Config,
-    directory: &Directory<C, L>,
-    faults: &F,
+pub fn pull<K: Rack, F: Faults, R: Wait, S: ShardStore + Drop>(
+    site: &Site<'_, K, F, R>,
     storage: Storage<S>,
     turns: u32,
 ) -> Result<Journal, TurnFault>
@@ -155,16 +231,13 @@ pub fn pull<
     let place = NodeId::Storage { tag: storage.tag() };
     let mut puller = Puller {
         storage,
-        notes: Notes::new(alloc, place, first_stamp()),
+        notes: Notes::new(site.alloc, place, first_stamp()),
     };
     for number in 1..=turns {
-        pull_once(rt, alloc, config, directory, faults, &mut puller, number)?;
+        pull_once(site, &mut puller, number)?;
     }
     let Puller { storage, notes } = puller;
     let mut storage = storage;
-    match last_of_storage(alloc, &mut storage) {
-        Ok(last) => Ok(notes.close(last)),
-        Err(StorageFault::Store(fault)) => Err(fault_of(fault)),
-        Err(_) => Err(TurnFault::Store),
-    }
+    let last = last_said(site.alloc, &mut storage)?;
+    Ok(notes.close(last))
 }

@@ -1,5 +1,7 @@
 //! Clusters without faults.
-use crate::scene::{DEFAULTS, Numbers, Question, ballot, first_told, holds, journal_of};
+use crate::scene::{
+    DEFAULTS, Numbers, Question, alike, ballot, first_told, hold_in_both, journal_of,
+};
 use fr_ask::Last;
 use fr_audit_journal::Journal;
 use fr_base::{Bytes, NodeId};
@@ -29,18 +31,15 @@ impl Question for HaveOutcomes {
 
 #[test]
 fn each_batch_has_an_outcome(rt: HostRuntime) -> Result<(), Fail> {
-    let ballots = [ballot()?];
-    assert!(rt;
-        holds(
-            &rt,
-            rt.alloc(),
-            DEFAULTS,
-            &ballots,
-            &NoFaults,
-            &HaveOutcomes
-        )?
-    );
-    Ok(())
+    let ballots = [alike(ballot()?)];
+    hold_in_both(
+        &rt,
+        rt.alloc(),
+        DEFAULTS,
+        &ballots,
+        &NoFaults,
+        &HaveOutcomes,
+    )
 }
 
 /// A recoverer is in its last phase, and its journal is closed with it.
@@ -70,14 +69,14 @@ fn a_recovery_ends_chosen(rt: HostRuntime) -> Result<(), Fail> {
     let ballot = ballot()?;
     let recoverer = NodeId::Recoverer { ballot };
     let chosen = IsChosen { recoverer };
-    assert!(rt; holds(&rt, rt.alloc(), DEFAULTS, &[ballot], &NoFaults, &chosen)?);
-    Ok(())
+    let ballots = [alike(ballot)];
+    hold_in_both(&rt, rt.alloc(), DEFAULTS, &ballots, &NoFaults, &chosen)
 }
 
 /// So many batches of one workload are committed, at versions one after another from 2 on.
 #[derive(Clone, Copy)]
-struct AreCommitted {
-    many: usize,
+pub(crate) struct AreCommitted {
+    pub(crate) many: usize,
 }
 
 fn is_at(outcome: &Outcome, version: u64) -> bool {
@@ -106,7 +105,7 @@ impl Question for AreCommitted {
 }
 
 /// One workload.
-const ONE: Numbers = Numbers {
+pub(crate) const ONE: Numbers = Numbers {
     proxies: 1,
     turns: 300,
     ..DEFAULTS
@@ -115,8 +114,7 @@ const ONE: Numbers = Numbers {
 #[test]
 fn one_proxy_commits_in_order(rt: HostRuntime) -> Result<(), Fail> {
     let committed = AreCommitted { many: 20 };
-    assert!(rt; holds(&rt, rt.alloc(), ONE, &[], &NoFaults, &committed)?);
-    Ok(())
+    hold_in_both(&rt, rt.alloc(), ONE, &[], &NoFaults, &committed)
 }
 
 /// Where the shard of each batch begins, and the batch's number.

@@ -1,5 +1,7 @@
 //! Clusters in which asks are lost, repeated, and nodes crash.
-use crate::scene::{ALONE, Numbers, Question, entries_of, first_told, holds, holds_on, log};
+use crate::scene::{
+    ALONE, Numbers, Question, entries_of, epoch, first_told, hold_in_both, holds_on, log,
+};
 use crate::scripted::Pushes;
 use crate::watched::{Watch, WatchedRack};
 use fr_ask::Ask;
@@ -7,9 +9,13 @@ use fr_audit_journal::{Act, Entry};
 use fr_base::NodeId;
 use fr_log::LogAsk;
 use fr_proxy::Outcome;
-use fr_runtime::{Orders, Report};
+use fr_runtime::{Orders, PlainRack, Rack, Report};
+use fr_runtime_disks::DiskRack;
 use fr_runtime_station::Verdict;
+use std::alloc::Global;
+use std::sync::Wait;
 use std::test::Fail;
+use std::thread::Threads;
 
 fn is_push(entry: &Entry) -> bool {
     match &entry.act {
@@ -54,8 +60,7 @@ fn a_lost_push_is_in_no_journal(rt: HostRuntime) -> Result<(), Fail> {
         greatest: 0,
     };
     let faults = Pushes::new(Verdict::DropAsk, None);
-    assert!(rt; holds(&rt, rt.alloc(), ALONE, &[], &faults, &waiting)?);
-    Ok(())
+    hold_in_both(&rt, rt.alloc(), ALONE, &[], &faults, &waiting)
 }
 
 #[test]
@@ -66,19 +71,39 @@ fn a_push_whose_tell_is_lost_is_sent_again(rt: HostRuntime) -> Result<(), Fail> 
         greatest: usize::MAX,
     };
     let faults = Pushes::new(Verdict::DropTell, None);
-    assert!(rt; holds(&rt, rt.alloc(), ALONE, &[], &faults, &waiting)?);
-    Ok(())
+    hold_in_both(&rt, rt.alloc(), ALONE, &[], &faults, &waiting)
 }
 
-/// Of five batches ten pushes are entered of a log.
+fn is_heard(entry: &Entry, node: NodeId) -> bool {
+    match &entry.act {
+        Act::Heard { from, .. } => *from == node,
+        _ => false,
+    }
+}
+
+/// How many tells of a node are heard.
+fn tells(entries: &[Entry], from: NodeId) -> usize {
+    let mut tells = 0_usize;
+    for entry in entries {
+        if is_heard(entry, from) {
+            tells = tells.wrapping_add(1);
+        }
+    }
+    tells
+}
+
+/// Of five batches ten pushes are entered of a log, and their proxy hears ten tells of it.
 #[derive(Clone, Copy)]
 struct AreHeldTwice {
     log: NodeId,
+    proxy: NodeId,
 }
 
 impl Question for AreHeldTwice {
     fn is_so(&self, report: &Report, _works: &[Orders]) -> bool {
-        first_told(report).len() == 5 && pushes(entries_of(report, self.log)) == 10
+        first_told(report).len() == 5
+            && pushes(entries_of(report, self.log)) == 10
+            && tells(entries_of(report, self.proxy), self.log) == 10
     }
 }
 
@@ -89,11 +114,17 @@ const FIVE: Numbers = Numbers {
 };
 
 #[test]
-fn a_push_that_comes_twice_is_held_twice(rt: HostRuntime) -> Result<(), Fail> {
-    let held = AreHeldTwice { log: log(1)? };
+fn a_push_that_comes_twice_is_held_and_heard_twice(rt: HostRuntime) -> Result<(), Fail> {
+    let proxy = NodeId::Proxy {
+        epoch: epoch(257)?,
+        number: 0,
+    };
+    let held = AreHeldTwice {
+        log: log(1)?,
+        proxy,
+    };
     let faults = Pushes::new(Verdict::Twice, None);
-    assert!(rt; holds(&rt, rt.alloc(), FIVE, &[], &faults, &held)?);
-    Ok(())
+    hold_in_both(&rt, rt.alloc(), FIVE, &[], &faults, &held)
 }
 
 /// How many crashes are entered.
@@ -119,14 +150,26 @@ impl Question for HasCrashed {
     }
 }
 
+/// Whether one crash of a log of a rack is entered, and opens the log again, once.
+fn crashes_once<K: Rack + Sync + Drop, R: Threads + Wait + Sync>(
+    rt: &R,
+    alloc: Global,
+    rack: K,
+    faults: &Pushes,
+    crashed: &HasCrashed,
+) -> Result<bool, Fail> {
+    let watch = Watch::counting();
+    let rack = WatchedRack::new(rack, &watch);
+    let is_so = holds_on(rt, alloc, ALONE, &[], rack, faults, crashed)?;
+    Ok(is_so && watch.reopened() == 1)
+}
+
 #[test]
 fn a_crash_opens_a_log_again_and_is_entered_once(rt: HostRuntime) -> Result<(), Fail> {
     let log = log(0)?;
     let crashed = HasCrashed { log };
     let faults = Pushes::new(Verdict::Pass, Some((3, log)));
-    let watch = Watch::counting();
-    let rack = WatchedRack::new(&watch);
-    let is_so = holds_on(&rt, rt.alloc(), ALONE, &[], rack, &faults, &crashed)?;
-    assert!(rt; is_so && watch.reopened() == 1);
+    assert!(rt; crashes_once(&rt, rt.alloc(), PlainRack, &faults, &crashed)?);
+    assert!(rt; crashes_once(&rt, rt.alloc(), DiskRack, &faults, &crashed)?);
     Ok(())
 }

@@ -5,42 +5,63 @@ use fr_audit_script::{read_script, write_script};
 use fr_cli_cluster::{
     ClusterOptions, ClusterWords, DEFAULTS, Progress, cluster_counted, run_cluster,
 };
+use fr_cli_cluster_sql::run_cluster_sql;
 use fr_cli_json::CallCounts;
 use fr_run_event::Config;
+use fr_runtime::PlainRack;
 use std::alloc::Global;
 use std::fmt::Display;
 use std::io;
-use std::io::Eprint;
+use std::io::{Eprint, Write};
 use std::sync::Wait;
 use std::sync::atomic::{AtomicU64, Ordering};
 use std::test::Fail;
 use std::thread::Threads;
 
+/// In what a cluster keeps what it has.
+#[derive(Clone, Copy)]
+enum Kept {
+    InMemory,
+    OnDisks,
+}
+
 /// Runs the command, and whether it ends well.
 fn runs<R: Threads + Wait + Sync>(
     rt: &R,
     alloc: Global,
+    kept: Kept,
     options: ClusterOptions,
     writer: &mut Vec<u8>,
 ) -> Result<bool, Fail> {
-    Ok(run_cluster(rt, alloc, options, writer)? == 0)
+    let status = match kept {
+        Kept::InMemory => run_cluster(rt, alloc, options, writer)?,
+        Kept::OnDisks => run_cluster_sql(rt, alloc, options, writer)?,
+    };
+    Ok(status == 0)
 }
 
 /// Whether a cluster of these words ends well and prints that its audit does.
 fn is_run<R: Threads + Wait + Sync>(
     rt: &R,
     alloc: Global,
+    kept: Kept,
     words: ClusterWords,
 ) -> Result<bool, Fail> {
     let options = ClusterOptions::new(words).ok_or("options")?;
     let mut writer = Vec::new(alloc);
-    let is_well = runs(rt, alloc, options, &mut writer)?;
+    let is_well = runs(rt, alloc, kept, options, &mut writer)?;
     Ok(is_well && writer.as_slice() == b"audit ok\n".as_slice())
 }
 
 #[test]
 fn the_defaults_are_a_run(rt: HostRuntime) -> Result<(), Fail> {
-    assert!(rt; is_run(&rt, rt.alloc(), DEFAULTS)?);
+    assert!(rt; is_run(&rt, rt.alloc(), Kept::InMemory, DEFAULTS)?);
+    Ok(())
+}
+
+#[test]
+fn the_defaults_over_files_and_tables_are_a_run(rt: HostRuntime) -> Result<(), Fail> {
+    assert!(rt; is_run(&rt, rt.alloc(), Kept::OnDisks, DEFAULTS)?);
     Ok(())
 }
 
@@ -58,7 +79,7 @@ const GREATEST: ClusterWords = ClusterWords {
 
 #[test]
 fn the_greatest_cluster_is_a_run(rt: HostRuntime) -> Result<(), Fail> {
-    assert!(rt; is_run(&rt, rt.alloc(), GREATEST)?);
+    assert!(rt; is_run(&rt, rt.alloc(), Kept::InMemory, GREATEST)?);
     Ok(())
 }
 
@@ -103,12 +124,18 @@ const SHOWN: ClusterWords = ClusterWords {
     ..DEFAULTS
 };
 
+/// Whether the journals of a cluster are printed, read back and a run.
+fn prints_a_run<R: Threads + Wait + Sync>(rt: &R, alloc: Global, kept: Kept) -> Result<bool, Fail> {
+    let options = ClusterOptions::new(SHOWN).ok_or("options")?;
+    let mut writer = Vec::new(alloc);
+    let is_well = runs(rt, alloc, kept, options, &mut writer)?;
+    Ok(is_well && is_read_back(alloc, writer.as_slice())?)
+}
+
 #[test]
 fn what_is_printed_is_read_back_and_is_a_run(rt: HostRuntime) -> Result<(), Fail> {
-    let options = ClusterOptions::new(SHOWN).ok_or("options")?;
-    let mut writer = Vec::new(rt.alloc());
-    let is_well = runs(&rt, rt.alloc(), options, &mut writer)?;
-    assert!(rt; is_well && is_read_back(rt.alloc(), writer.as_slice())?);
+    assert!(rt; prints_a_run(&rt, rt.alloc(), Kept::InMemory)?);
+    assert!(rt; prints_a_run(&rt, rt.alloc(), Kept::OnDisks)?);
     Ok(())
 }
 
@@ -156,17 +183,55 @@ impl Eprint for Counted {
     }
 }
 
-/// Runs the command with this terminal, and whether it ends well and prints that its audit does.
-fn is_told<R: Threads + Wait + Sync>(
+/// A writer that notes how much was written on the terminal before it was last written to.
+#[derive(Drop)]
+struct Late<'a> {
+    terminal: &'a Counted,
+    bytes: Vec<u8>,
+    before: u64,
+}
+
+impl Write for Late<'_> {
+    fn write(&mut self, buf: &[u8]) -> io::Result<usize> {
+        self.before = self.terminal.writes.load(Ordering::SeqCst);
+        self.bytes.extend_from_slice(buf)?;
+        Ok(buf.len())
+    }
+
+    fn flush(&mut self) -> io::Result<()> {
+        Ok(())
+    }
+}
+
+/// Runs the command with this terminal: how much was written on it before the report, where it prints that the audit
+/// ends well.
+fn told_before<R: Threads + Wait + Sync>(
     rt: &R,
     alloc: Global,
     options: ClusterOptions,
-    progress: &Progress<Counted>,
-) -> Result<bool, Fail> {
+    terminal: &Counted,
+) -> Result<Option<u64>, Fail> {
+    let progress = Progress::new(terminal, options);
     let mut calls = CallCounts::new();
-    let mut writer = Vec::new(alloc);
-    let status = cluster_counted(rt, alloc, options, progress, &mut calls, &mut writer)?;
-    Ok(status == 0 && writer.as_slice() == b"audit ok\n".as_slice())
+    let mut writer = Late {
+        terminal,
+        bytes: Vec::new(alloc),
+        before: 0,
+    };
+    let status = cluster_counted(
+        rt,
+        alloc,
+        options,
+        PlainRack,
+        &progress,
+        &mut calls,
+        &mut writer,
+    )?;
+    if status == 0 && writer.bytes.as_slice() == b"audit ok\n".as_slice() {
+        Ok(Some(writer.before))
+    } else {
+        Ok(None)
+    }
 }
 
 const LONG: ClusterWords = ClusterWords {
@@ -174,16 +239,15 @@ const LONG: ClusterWords = ClusterWords {
     ..DEFAULTS
 };
 
+/// Of 2,000 turns the first of each 512 and the last one are shown, and then that the audit has ended, with the end of
+/// the line; all before the report is written.
 #[test]
 fn a_terminal_is_told_how_far_it_has_come(rt: HostRuntime) -> Result<(), Fail> {
     let options = ClusterOptions::new(LONG).ok_or("options")?;
     let terminal = Counted {
         writes: AtomicU64::new(0),
     };
-    let progress = Progress::new(&terminal, options);
-    assert!(rt; is_told(&rt, rt.alloc(), options, &progress)?);
-    assert_eq!(rt; terminal.writes.load(Ordering::SeqCst), 4);
-    progress.end();
-    assert_eq!(rt; terminal.writes.load(Ordering::SeqCst), 6);
+    assert_eq!(rt; told_before(&rt, rt.alloc(), options, &terminal)?, Some(7));
+    assert_eq!(rt; terminal.writes.load(Ordering::SeqCst), 7);
     Ok(())
 }

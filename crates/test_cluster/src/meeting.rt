@@ -5,9 +5,13 @@ use fr_ask::Ask;
 use fr_audit_journal::{Act, Entry};
 use fr_base::NodeId;
 use fr_log::LogAsk;
-use fr_runtime::{Orders, Report};
+use fr_runtime::{Orders, PlainRack, Rack, Report};
+use fr_runtime_disks::DiskRack;
 use fr_runtime_station::NoFaults;
+use std::alloc::Global;
+use std::sync::Wait;
 use std::test::Fail;
+use std::thread::Threads;
 
 fn is_push(entry: &Entry) -> bool {
     match &entry.act {
@@ -63,6 +67,19 @@ impl Question for HaveServed {
     }
 }
 
+/// Whether two threads meet in two logs of a rack, and both asks are entered.
+fn meet<K: Rack + Sync + Drop, R: Threads + Wait + Sync>(
+    rt: &R,
+    alloc: Global,
+    rack: K,
+    served: &HaveServed,
+) -> Result<bool, Fail> {
+    let watch = Watch::meeting();
+    let rack = WatchedRack::new(rack, &watch);
+    let is_so = holds_on(rt, alloc, ALONE, &[], rack, &NoFaults, served)?;
+    Ok(is_so && watch.met() == 2)
+}
+
 /// Log (257, 0) serves the first push while log (257, 1) serves the first peek, each until it sees the other: threads
 /// that ran one after the other, or one lock round both logs, would never see it.
 #[test]
@@ -71,9 +88,7 @@ fn two_threads_are_in_two_logs_at_once(rt: HostRuntime) -> Result<(), Fail> {
         pushed: log(0)?,
         peeked: log(1)?,
     };
-    let watch = Watch::meeting();
-    let rack = WatchedRack::new(&watch);
-    let is_so = holds_on(&rt, rt.alloc(), ALONE, &[], rack, &NoFaults, &served)?;
-    assert!(rt; is_so && watch.met() == 2);
+    assert!(rt; meet(&rt, rt.alloc(), PlainRack, &served)?);
+    assert!(rt; meet(&rt, rt.alloc(), DiskRack, &served)?);
     Ok(())
 }

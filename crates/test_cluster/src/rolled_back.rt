@@ -1,5 +1,5 @@
 //! A storage server that is ahead of what survives, and rolls back.
-use crate::scene::{DEFAULTS, Numbers, Question, ballot, entries_of, holds};
+use crate::scene::{DEFAULTS, Numbers, Question, alike, ballot, entries_of, holds, holds_on_disks};
 use crate::scripted::Overtaken;
 use fr_ask::Tell;
 use fr_audit_journal::{Act, Entry};
@@ -9,7 +9,7 @@ use fr_runtime::{Orders, Report};
 use std::test::Fail;
 
 /// One storage server over two logs that both hold its tag.
-const TWO: Numbers = Numbers {
+pub(crate) const TWO: Numbers = Numbers {
     coordinators: 1,
     logs: 2,
     degree: 2,
@@ -75,8 +75,8 @@ fn rolls_back(entries: &[Entry]) -> bool {
 
 /// A node rolls back.
 #[derive(Clone, Copy)]
-struct RollsBack {
-    node: NodeId,
+pub(crate) struct RollsBack {
+    pub(crate) node: NodeId,
 }
 
 impl Question for RollsBack {
@@ -88,9 +88,10 @@ impl Question for RollsBack {
 #[test]
 fn a_recovery_rolls_a_storage_back(rt: HostRuntime) -> Result<(), Fail> {
     let tag = Tag::new(0).ok_or("a tag")?;
-    let ballots = [ballot()?];
+    let ballots = [alike(ballot()?)];
     let node = NodeId::Storage { tag };
     let rolled = RollsBack { node };
     assert!(rt; holds(&rt, rt.alloc(), TWO, &ballots, &Overtaken::new(), &rolled)?);
+    assert!(rt; holds_on_disks(&rt, rt.alloc(), TWO, &ballots, &Overtaken::new(), &rolled)?);
     Ok(())
 }

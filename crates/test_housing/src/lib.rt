@@ -4,6 +4,8 @@
 #[cfg(test)]
 mod asks;
 #[cfg(test)]
+mod cells;
+#[cfg(test)]
 mod ended;
 #[cfg(test)]
 mod failed;

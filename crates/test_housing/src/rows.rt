@@ -1,11 +1,12 @@
-//! The worked rows of logs, read back from the journals of housed logs.
+//! The worked rows of logs, read back from the journals of housed logs: in memory, and over files.
 use crate::asks::{Asked, Told};
-use crate::scene::{SEVEN, Said, asks, housed_after, says};
+use crate::scene::{SEVEN, Said, asks, filed_after, housed_after, says};
 use fr_audit_journal::{Entry, Journal};
-use fr_base::InMemory;
+use fr_base::Node;
 use fr_log::{Log, LogRefusal};
 use fr_runtime_housing::Housed;
 use std::alloc::Global;
+use std::process::Abort;
 use std::test::Fail;
 
 /// What a log at version 7 is asked and tells: it takes pushes in the order of their chain.
@@ -17,14 +18,6 @@ const CHAIN: [(Asked, Told); 5] = [
     (Asked::Push(7, 9), Told::Refused(LogRefusal::Stale)),
 ];
 
-/// What a log that is locked at version 9 is asked and tells.
-const LOCKED: [(Asked, Told); 4] = [
-    (Asked::Lock, Told::Locked(9, 0)),
-    (Asked::Push(9, 10), Told::Refused(LogRefusal::Stopped)),
-    (Asked::Push(8, 9), Told::Held(9)),
-    (Asked::Lock, Told::Locked(9, 0)),
-];
-
 /// What a log whose epoch begins at version 10 is asked and tells.
 const LATER: [(Asked, Told); 4] = [
     (Asked::Peek(0, 6), Told::TooEarly(10)),
@@ -34,9 +27,9 @@ const LATER: [(Asked, Told); 4] = [
 ];
 
 /// Asks a housed log of an epoch one after the other; whether each is entered.
-fn puts(
+fn puts<N: Node<Plain = Log> + Drop>(
     alloc: Global,
-    housed: &mut Housed<InMemory<Log>>,
+    housed: &mut Housed<N>,
     number: u64,
     wanted: &[(Asked, Told)],
 ) -> Result<bool, Fail> {
@@ -78,9 +71,9 @@ fn copies(
 }
 
 /// Whether a housed log of an epoch enters these asks and tells, and the copy of its journal has them too.
-fn enters(
+fn enters<N: Node<Plain = Log> + Drop>(
     alloc: Global,
-    housed: &mut Housed<InMemory<Log>>,
+    housed: &mut Housed<N>,
     number: u64,
     wanted: &[(Asked, Told)],
 ) -> Result<bool, Fail> {
@@ -90,8 +83,22 @@ fn enters(
     Ok(is_entered && copies(alloc, journal, number, wanted)?)
 }
 
-/// Whether a log of an epoch, after these asks, is housed with these asks and tells in its journal.
+/// Whether a log of an epoch, after these asks, is housed with these asks and tells in its journal: in memory, and over
+/// a file.
 fn is_entered(
+    alloc: Global,
+    number: u64,
+    before: &[Asked],
+    wanted: &[(Asked, Told)],
+) -> Result<(bool, bool), Fail> {
+    let in_memory = is_entered_in_memory(alloc, number, before, wanted)?;
+    Ok((
+        in_memory,
+        is_entered_on_file(alloc, number, before, wanted)?,
+    ))
+}
+
+fn is_entered_in_memory(
     alloc: Global,
     number: u64,
     before: &[Asked],
@@ -101,33 +108,40 @@ fn is_entered(
     enters(alloc, &mut housed, number, wanted)
 }
 
-#[test]
-fn a_chain_of_pushes_is_entered(rt: HostRuntime) -> Result<(), Fail> {
-    assert!(rt; is_entered(rt.alloc(), 257, &SEVEN, &CHAIN)?);
+fn is_entered_on_file(
+    alloc: Global,
+    number: u64,
+    before: &[Asked],
+    wanted: &[(Asked, Told)],
+) -> Result<bool, Fail> {
+    let mut housed = filed_after(alloc, number, before)?;
+    enters(alloc, &mut housed, number, wanted)
+}
+
+/// Asserts it of both.
+fn is_entered_in_both(
+    rt: &impl Abort,
+    alloc: Global,
+    number: u64,
+    before: &[Asked],
+    wanted: &[(Asked, Told)],
+) -> Result<(), Fail> {
+    assert!(rt; is_entered(alloc, number, before, wanted)? == (true, true));
     Ok(())
 }
 
 #[test]
-fn the_asks_of_a_locked_log_are_entered(rt: HostRuntime) -> Result<(), Fail> {
-    let before = [
-        Asked::Seed(1, 0),
-        Asked::Mark(0),
-        Asked::Push(1, 8),
-        Asked::Push(8, 9),
-    ];
-    assert!(rt; is_entered(rt.alloc(), 257, &before, &LOCKED)?);
-    Ok(())
+fn a_chain_of_pushes_is_entered(rt: HostRuntime) -> Result<(), Fail> {
+    is_entered_in_both(&rt, rt.alloc(), 257, &SEVEN, &CHAIN)
 }
 
 #[test]
 fn the_asks_of_a_later_epoch_are_entered(rt: HostRuntime) -> Result<(), Fail> {
-    assert!(rt; is_entered(rt.alloc(), 513, &[Asked::Seed(10, 10)], &LATER)?);
-    Ok(())
+    is_entered_in_both(&rt, rt.alloc(), 513, &[Asked::Seed(10, 10)], &LATER)
 }
 
 #[test]
 fn a_lock_of_a_log_without_a_seed_is_entered(rt: HostRuntime) -> Result<(), Fail> {
     let wanted = [(Asked::Lock, Told::Refused(LogRefusal::Unseeded))];
-    assert!(rt; is_entered(rt.alloc(), 257, &[], &wanted)?);
-    Ok(())
+    is_entered_in_both(&rt, rt.alloc(), 257, &[], &wanted)
 }

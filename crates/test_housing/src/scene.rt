@@ -5,7 +5,9 @@ use crate::asks::{Asked, Told, ask_of, epoch, proxy, stamp, told_of};
 use fr_ask::{Ask, Tell};
 use fr_audit_journal::{Act, Entry};
 use fr_base::{Epoch, InMemory, LogId, Machine, Node, NodeId, Stamp};
+use fr_device::MemoryDevice;
 use fr_log::Log;
+use fr_record_log::LogNode;
 use fr_runtime_housing::{CallFault, Housed};
 use std::alloc::Global;
 use std::process::Abort;
@@ -89,6 +91,43 @@ pub(crate) fn housed_after(
     let epoch = epoch(number)?;
     let log = log_after(alloc, number, asks)?;
     Ok(house(alloc, InMemory::new(log), epoch))
+}
+
+/// How many bytes the device of a file has room for.
+pub(crate) const CAPACITY: usize = 10_000;
+
+/// The device with the file of log 0 of an epoch, after these asks.
+fn device_after(alloc: Global, number: u64, asks: &[Asked]) -> Result<MemoryDevice, Fail> {
+    let epoch = epoch(number)?;
+    let device = MemoryDevice::new(alloc, CAPACITY)?;
+    let mut node = LogNode::format(alloc, device, LogId { epoch, index: 0 }, 4, 2)?;
+    serves(alloc, &mut node, number, asks)?;
+    Ok(node.into_device())
+}
+
+fn serves(
+    alloc: Global,
+    node: &mut LogNode<MemoryDevice>,
+    number: u64,
+    asks: &[Asked],
+) -> Result<(), Fail> {
+    for asked in asks {
+        let ask = ask_of(alloc, number, *asked)?;
+        let _told = node.serve(alloc, ask)?;
+    }
+    Ok(())
+}
+
+/// Log 0 of an epoch over a file, which an earlier node left after these asks, with an empty journal.
+pub(crate) fn filed_after(
+    alloc: Global,
+    number: u64,
+    asks: &[Asked],
+) -> Result<Housed<LogNode<MemoryDevice>>, Fail> {
+    let epoch = epoch(number)?;
+    let device = device_after(alloc, number, asks)?;
+    let node = LogNode::open(alloc, device, LogId { epoch, index: 0 }, 4, 2)?;
+    Ok(house(alloc, node, epoch))
 }
 
 /// What came of a crash or of a loss.
@@ -243,18 +282,20 @@ pub(crate) fn first_other<N: Node<Plain = Log> + Drop>(
     Ok(None)
 }
 
-/// Asserts of each deed with a housed log (257, 0), which stands at version 7, what stands beside it.
+/// Asserts of each deed with a housed log (257, 0), which stands at version 7, what stands beside it: in memory, and over
+/// a file.
 pub(crate) fn runs(rt: &impl Abort, alloc: Global, rows: &[Row]) -> Result<(), Fail> {
-    let mut housed = housed_after(alloc, 257, &SEVEN)?;
-    plays(rt, alloc, &mut housed, rows)
+    assert_eq!(rt; other_in_memory(alloc, rows)?, None, "in memory");
+    assert_eq!(rt; other_on_file(alloc, rows)?, None, "over a file");
+    Ok(())
 }
 
-fn plays(
-    rt: &impl Abort,
-    alloc: Global,
-    housed: &mut Housed<InMemory<Log>>,
-    rows: &[Row],
-) -> Result<(), Fail> {
-    assert_eq!(rt; first_other(alloc, housed, 257, rows)?, None);
-    Ok(())
+fn other_in_memory(alloc: Global, rows: &[Row]) -> Result<Option<usize>, Fail> {
+    let mut housed = housed_after(alloc, 257, &SEVEN)?;
+    first_other(alloc, &mut housed, 257, rows)
+}
+
+fn other_on_file(alloc: Global, rows: &[Row]) -> Result<Option<usize>, Fail> {
+    let mut housed = filed_after(alloc, 257, &SEVEN)?;
+    first_other(alloc, &mut housed, 257, rows)
 }

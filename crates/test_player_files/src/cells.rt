@@ -66,7 +66,7 @@ fn ask_all(alloc: Global, file: &mut CellNode, given: Value) -> Result<Value, Wr
         asks.push(read_cell_ask(alloc, item)?)?;
     }
     match file.serve_all(alloc, asks) {
-        Ok(tells) => write_all(alloc, tells.as_slice()),
+        Ok(tells) => said(write_all(alloc, tells.as_slice())),
         Err(fault) => write_node_fault(alloc, fault),
     }
 }

@@ -10,7 +10,7 @@ use fr_log::{Log, LogTell};
 use fr_record_log::LogNode;
 use serde_json::Value;
 use std::alloc::Global;
-use test_rows::{NO_FORM, Scene, Wrong, no_such_word, read_sizes, write_state_of};
+use test_rows::{NO_FORM, Scene, Wrong, no_such_word, read_sizes, said, write_state_of};
 
 /// Plays rows with a log over a file that is not there yet.
 pub(crate) fn play_log(alloc: Global, scene: Scene, at: &mut usize) -> Result<(), Wrong> {
@@ -86,7 +86,7 @@ fn ask_all(alloc: Global, file: &mut LogNode<Disk>, given: Value) -> Result<Valu
         asks.push(read_log_ask(alloc, item)?)?;
     }
     match file.serve_all(alloc, asks) {
-        Ok(tells) => write_all(alloc, tells.as_slice()),
+        Ok(tells) => said(write_all(alloc, tells.as_slice())),
         Err(fault) => write_node_fault(alloc, fault),
     }
 }

@@ -1,0 +1,12 @@
+use Rattle.std.proofs.Common.{◌≡◌, ◌⊎◌, false, subst}
+use Rattle.fr_device.specs.Moments.{Throughout}
+use Rattle.fr_register.specs.Cell.{next_of}
+use Rattle.fr_register.specs.CellState.{fresh_cell}
+use Rattle.fr_record_node.specs.Replay.{Opens}
+use Rattle.fr_record_node.specs.CellFile.{replay_cell}
+use Rattle.fr_runtime_disks.proofs.disk_cell.DiskCellNode.serve.Goals as goal
+
+pub returns-clause-any_moment : goal.returns-clause-any_moment
+returns-clause-any_moment g c =
+    subst (λ n. n.is_failed ≡ false → Throughout g.D.Device.Led g.D.Device.disk (Opens replay_cell fresh_cell (λ x. (x ≡ n.machine) ⊎ (x ≡ next_of n.machine c.args.ask))) n.device c.serve.new.self.device) c.self.view_is
+    c.serve.ensures.any_moment
