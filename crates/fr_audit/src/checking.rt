@@ -47,8 +47,9 @@ fn enter_all(alloc: Global, world: World, entries: &[NodeEntry]) -> Result<World
     let mut world = world;
     for (number, entry) in entries.iter().enumerate() {
         let repeated = is_repeated(entries, number, entry);
-        if let Err(fault) = enter(alloc, &mut world, repeated, number, entry) {
-            return Err(fault);
+        match enter(alloc, world, repeated, number, entry) {
+            Ok(next) => world = next,
+            Err(fault) => return Err(fault),
         }
     }
     Ok(world)
@@ -78,18 +79,18 @@ fn is_same_place(one: &NodeEntry, other: &NodeEntry) -> bool
     order == Ordering::Equal
 }
 
-/// Makes the event that an entry is, or says its fault.
+/// Makes the event that an entry is, or says its fault; the world is given up then.
 fn enter(
     alloc: Global,
-    world: &mut World,
+    world: World,
     repeated: bool,
     number: usize,
     entry: &NodeEntry,
-) -> Result<(), AuditFault>
-    ensures config { world.new.config ≡ world.old.config }
-    ensures turns { OnOk result (after_this world.old.config world.old.turns repeated number (placed_of entry.now) ≡ Ok world.new.turns) }
+) -> Result<World, AuditFault>
+    ensures config { IfOk result (λ after. after.config ≡ world.config) }
+    ensures turns { IfOk result (λ after. after_this world.config world.turns repeated number (placed_of entry.now) ≡ Ok after.turns) }
     ensures fault { IfErr result (λ fault. fault ≢ AuditFault.Memory
-        → after_this world.old.config world.old.turns repeated number (placed_of entry.now) ≡ Err fault) }
+        → after_this world.config world.turns repeated number (placed_of entry.now) ≡ Err fault) }
 {
     if repeated {
         return Err(AuditFault::NotARun { at: number });
@@ -99,10 +100,10 @@ fn enter(
         Ok(None) => return Err(AuditFault::NotARun { at: number }),
         Err(_) => return Err(AuditFault::Memory),
     };
-    match world.step(alloc, &event) {
-        Ok(answer) => {
+    match world.step_owned(alloc, &event) {
+        Ok((after, answer)) => {
             if says(&entry.entry.act, &answer) {
-                Ok(())
+                Ok(after)
             } else {
                 Err(AuditFault::TellDiffers { at: number })
             }

@@ -6,11 +6,11 @@ ghost use Rattle.serde_json.specs.Data.{Data};
 ghost use Rattle.serde_json.specs.Read.{read};
 ghost use Rattle.serde_json.specs.Written.{IsInOrder};
 
-use crate::journals::{read_journal, write_journal};
-use crate::setting::{read_config, write_config};
+use crate::journals::write_journal;
+use crate::setting::write_config;
 use fr_audit_journal::Journal;
+use fr_audit_tokens::Unread;
 use fr_base::Memory;
-use fr_forms::fields::{Fields, items};
 use fr_forms::object::Object;
 use fr_forms::{ScriptFault, names};
 use fr_run_event::Config;
@@ -19,24 +19,17 @@ use std::alloc::Global;
 
 /// Reads the script that a text is: a config and journals, each within the limits of its type. Each object has
 /// exactly its members, in any order; of two members of one name the last one counts. What is no such text is
-/// `BadScript`.
+/// `BadScript`. A text that is written as [`write_script`] writes
+/// it is read token by token, and any other by the tree of its JSON.
 pub fn read_script(alloc: Global, text: &[u8]) -> Result<(Config, Vec<Journal>), ScriptFault>
     ensures utf8 { OnOk result (IsUtf8 text.now) }
     ensures json { OnOk result ((d : Data) × (read text.now ≡ Some d)) }
 {
-    let script = match Value::from_slice(alloc, text) {
-        Ok(script) => script,
-        Err(error) if error.is_memory() => return Err(ScriptFault::Memory),
-        Err(_) => return Err(ScriptFault::BadScript),
-    };
-    let mut fields = Fields::new(script, 2);
-    let config = read_config(alloc, &mut Fields::new(fields.take(names::CONFIG)?, 5))?;
-    let items = items(fields.take(names::JOURNALS)?)?;
-    let mut journals = Vec::with_capacity(alloc, items.len())?;
-    for item in items {
-        journals.push(read_journal(alloc, &mut Fields::new(item, 3))?)?;
+    match fr_audit_tokens::read_script(alloc, text) {
+        Ok(script) => Ok(script),
+        Err(Unread::Memory) => Err(ScriptFault::Memory),
+        Err(Unread::Unusual) => fr_audit_tree::read_script(alloc, text),
     }
-    Ok((config, journals))
 }
 
 /// Writes a config and journals as a script: members in the order of their names' bytes, without blanks. It is read

@@ -12,7 +12,7 @@ mod mutations;
 
 use crate::hex_text::bytes_in;
 use fast_float::Numeral;
-use fr_base::{Bytes, Version};
+use fr_base::{Bytes, Memory, Version};
 use json::{Invalid, Reader, Token};
 pub use mutations::read_batch;
 use std::alloc::{AllocError, AllocFailed, Global};
@@ -34,6 +34,12 @@ impl From<AllocError> for Unread {
 
 impl<T: Drop> From<AllocFailed<T>> for Unread {
     fn from(_error: AllocFailed<T>) -> Unread {
+        Unread::Memory
+    }
+}
+
+impl From<Memory> for Unread {
+    fn from(_error: Memory) -> Unread {
         Unread::Memory
     }
 }
@@ -77,7 +83,7 @@ fn read_pair(
 }
 
 /// The bytes of a text of lower case hex digits, two a byte.
-fn read_bytes(alloc: Global, reader: &mut Reader<'_>) -> Result<Bytes, Unread>
+pub fn read_bytes(alloc: Global, reader: &mut Reader<'_>) -> Result<Bytes, Unread>
     ensures value { IfOk result (λ bytes. (depth : ℕ) → Gives bytes_of depth reader.old bytes reader.new) }
     ensures shorter { OnOk result (length reader.new < length reader.old) }
 {
@@ -124,7 +130,7 @@ pub fn read_number(reader: &mut Reader<'_>) -> Result<u64, Unread>
 }
 
 /// The number that a text of JSON's is, where it is written in digits alone and fits 64 bits.
-fn unsigned(digits: &[u8]) -> Option<u64>
+pub fn unsigned(digits: &[u8]) -> Option<u64>
     ensures { IfSome result (λ n. number_of digits.now ≡ Some (unsigned n)) }
 {
     if digits.is_empty() || digits[0] == b'-' {
@@ -134,7 +140,7 @@ fn unsigned(digits: &[u8]) -> Option<u64>
 }
 
 /// Takes a text.
-fn take_string<'a>(reader: &mut Reader<'a>) -> Result<&'a str, Unread>
+pub fn take_string<'a>(reader: &mut Reader<'a>) -> Result<&'a str, Unread>
     ensures { IfOk result (λ text. reader.old ≡ string_token text.now ∷ reader.new) }
 {
     match reader.next() {

@@ -1,5 +1,4 @@
 //! An ask delivered, and its tell heard.
-use crate::pending::{Purpose, pending_ask};
 use fr_ask::{Ask, Tell};
 use fr_base::{Memory, NodeId};
 use fr_run_event::{Answer, Event, NotEnabled};
@@ -40,19 +39,15 @@ pub(crate) fn ask_and_hear(
     Ok(Exchange { tell, answer })
 }
 
-/// As [`ask_and_hear`], of the ask that a proxy or a recoverer has pending for this purpose to the cell or the log of this
-/// number. None where there is none, or where the node is lost: such an ask is passed over.
-pub(crate) fn ask_pending(
+/// As [`ask_and_hear`]; none where it cannot happen, as where the node is lost: such an ask is passed over.
+pub(crate) fn ask_or_pass(
     alloc: Global,
     world: &mut World,
-    by: &NodeId,
-    purpose: &Purpose,
-    index: u8,
+    from: &NodeId,
+    to: &NodeId,
+    ask: Ask,
 ) -> Result<Option<Exchange>, Memory> {
-    let Some((to, ask)) = pending_ask(alloc, world, by, purpose, index)? else {
-        return Ok(None);
-    };
-    match ask_and_hear(alloc, world, by, &to, ask) {
+    match ask_and_hear(alloc, world, from, to, ask) {
         Ok(done) => Ok(Some(done)),
         Err(NotEnabled::Memory) => Err(Memory),
         Err(_) => Ok(None),

@@ -1,6 +1,6 @@
 //! Asks that are pending: those whose tells a proxy or a recoverer wants.
 use fr_ask::Ask;
-use fr_base::{Memory, NodeId, Tag};
+use fr_base::{Memory, NodeId};
 use fr_log::LogAsk;
 use fr_register::CellAsk;
 use fr_world::World;
@@ -19,8 +19,6 @@ pub(crate) enum Purpose {
     Push,
     /// A lock of a log.
     Lock,
-    /// A peek of a tag.
-    Peek { tag: Tag },
 }
 
 impl Purpose {
@@ -32,7 +30,6 @@ impl Purpose {
             (Purpose::Seed, Ask::Log(LogAsk::Seed(_))) => true,
             (Purpose::Push, Ask::Log(LogAsk::Push(_))) => true,
             (Purpose::Lock, Ask::Log(LogAsk::Lock { .. })) => true,
-            (Purpose::Peek { tag }, Ask::Log(LogAsk::Peek { tag: asked, .. })) => *tag == *asked,
             _ => false,
         }
     }
@@ -57,20 +54,29 @@ pub(crate) fn pending_of(
     }
 }
 
-/// The pending ask for this to the cell or the log of this number, with the node that it goes to.
-pub(crate) fn pending_ask(
-    alloc: Global,
-    world: &World,
-    by: &NodeId,
+/// The ask for this to the cell or the log of this number, with the node that it goes to, taken out of those that are
+/// pending.
+pub(crate) fn take_ask(
+    pending: &mut Vec<(NodeId, Ask)>,
     purpose: &Purpose,
     index: u8,
-) -> Result<Option<(NodeId, Ask)>, Memory> {
-    for (to, ask) in pending_of(alloc, world, by)? {
-        if purpose.is_of(&ask) && has_index(&to, index) {
-            return Ok(Some((to, ask)));
+) -> Option<(NodeId, Ask)> {
+    let place = place_of(pending.as_slice(), purpose, index)?;
+    if place < pending.len() {
+        Some(pending.swap_remove(place))
+    } else {
+        None
+    }
+}
+
+/// Where the ask for this to the cell or the log of this number stands.
+fn place_of(pending: &[(NodeId, Ask)], purpose: &Purpose, index: u8) -> Option<usize> {
+    for (place, (to, ask)) in pending.iter().enumerate() {
+        if purpose.is_of(ask) && has_index(to, index) {
+            return Some(place);
         }
     }
-    Ok(None)
+    None
 }
 
 /// Whether a node is the cell or the log of this number.

@@ -1,5 +1,6 @@
 //! The steps of a script: each is a list of events, and prints a line.
 mod commit;
+mod copying;
 mod lose;
 mod mark;
 mod pull;
@@ -7,8 +8,8 @@ mod push;
 mod recover;
 mod storing;
 
-use crate::script::Act;
 use fr_base::Memory;
+use fr_simulate_script::Act;
 use fr_world::World;
 use std::alloc::Global;
 

@@ -31,8 +31,9 @@ impl World {
             return Err((0, NotEnabled::Memory));
         };
         for (number, event) in events.iter().enumerate() {
-            if let Err(why) = world.step(alloc, event) {
-                return Err((number, why));
+            match world.step_owned(alloc, event) {
+                Ok((next, _)) => world = next,
+                Err(why) => return Err((number, why)),
             }
         }
         world.is_safe();

@@ -1,5 +1,5 @@
 //! One event.
-ghost use Rattle.std.specs.Prelude.{◌≡◌, OnErr};
+ghost use Rattle.std.specs.Prelude.{◌≡◌, OnErr, OnOk};
 ghost use Rattle.fr_run_event.specs.declared.event.Event.TheVariants as event;
 ghost use Rattle.fr_world.specs.Stepping.{Steps, Refuses, why_unheard};
 ghost use Rattle.fr_world.specs.World.{state_of, IsKept};
@@ -23,6 +23,57 @@ impl Nodes {
         let answer = self.happen(alloc, event);
         self.catch_up(alloc);
         answer
+    }
+
+    /// As [`Nodes::step`], with no copy of a storage server: where the event cannot happen or memory is wanting the nodes
+    /// are given up.
+    pub(crate) fn step_owned(&mut self, alloc: Global, event: &Event) -> Result<Answer, NotEnabled>
+        requires kept { IsKept self.old }
+        ensures turn { Steps (state_of self.old) (state_of self.new) event.now result }
+        ensures refused { Refuses (state_of self.old) event.now result }
+        ensures stays { OnOk result (IsKept self.new) }
+    {
+        let answer = self.happen_owned(alloc, event)?;
+        self.catch_up(alloc);
+        Ok(answer)
+    }
+
+    /// Makes the turn that an event is, with no copy of a storage server.
+    fn happen_owned(&mut self, alloc: Global, event: &Event) -> Result<Answer, NotEnabled>
+        requires kept { IsKept self.old }
+        ensures turn { Steps (state_of self.old) (state_of self.new) event.now result }
+        ensures refused { Refuses (state_of self.old) event.now result }
+        ensures stays { OnOk result (IsKept self.new) }
+    {
+        match event {
+            Event::Hear {
+                by,
+                from,
+                tell,
+                taken,
+            } => self.heard_owned(alloc, by, from, tell, *taken),
+            _ => self.happen(alloc, event),
+        }
+    }
+
+    /// A tell comes to a node, with no copy of a storage server.
+    fn heard_owned(
+        &mut self,
+        alloc: Global,
+        by: &NodeId,
+        from: &NodeId,
+        tell: &Tell,
+        taken: Option<Version>,
+    ) -> Result<Answer, NotEnabled>
+        requires kept { IsKept self.old }
+        ensures turn { Steps (state_of self.old) (state_of self.new) (event.Hear by.now from.now tell.now taken) result }
+        ensures refused { Refuses (state_of self.old) (event.Hear by.now from.now tell.now taken) result }
+        ensures stays { OnOk result (IsKept self.new) }
+    {
+        match by {
+            NodeId::Storage { tag } => self.heard_in_place(alloc, *tag, *from, tell, taken),
+            _ => self.heard(alloc, by, from, tell, taken),
+        }
     }
 
     /// Enters the turns that were added, which changes nothing that is seen of a world. Those for which there is no

@@ -1,10 +1,11 @@
 //! A world of nodes.
 ghost use Rattle.std.specs.Option.{option_map};
-ghost use Rattle.std.specs.Prelude.{◌≡◌, [], length, nat_lt, is_some, IfOk, IfSome, OnErr, false};
+ghost use Rattle.std.specs.Prelude.{◌≡◌, [], length, nat_lt, is_some, IfOk, IfSome, Ok, OnErr, false};
 ghost use Rattle.fr_run_headline.specs.Committed.{AcknowledgedIsNeverUndone, RolledBackIsExact};
 ghost use Rattle.fr_run_headline.specs.Safety.{IsGrownFrom, IsSafe};
 ghost use Rattle.fr_run.specs.Run.{IsRun};
-ghost use Rattle.fr_world.specs.Stepping.{Steps, Refuses};
+ghost use Rattle.fr_world.specs.Stepping.{Steps, Refuses, RefusesTurn};
+ghost use Rattle.fr_world.specs.World.{next_turn, stepped};
 ghost use Rattle.fr_run.specs.Nodes as nodes;
 ghost use Rattle.fr_run_event.specs.Tests as tests;
 ghost use Rattle.fr_run_event.specs.At.{last_at, proxy_if_there};
@@ -69,6 +70,18 @@ impl World {
     {
         safety_law();
         self.nodes.step(alloc, event)
+    }
+
+    /// As [`World::step`], of a world that is given up where the event cannot happen or memory is wanting: so no hear of a
+    /// storage server needs a copy of it, and an event costs what it touches. What [`World::is_safe`] says holds of the
+    /// world that it answers, as of every other.
+    pub fn step_owned(self, alloc: Global, event: &Event) -> Result<(World, Answer), NotEnabled>
+        ensures turn { IfOk result (λ next. stepped self event.now ≡ Ok (next.0, next.1)) }
+        ensures refused { RefusesTurn (next_turn self event.now) result }
+    {
+        let mut nodes = self.nodes;
+        let answer = nodes.step_owned(alloc, event)?;
+        Ok((World { nodes }, answer))
     }
 
     /// Says what is promised of every world, and does nothing: the order of versions, that every storage server follows,

@@ -37,12 +37,12 @@ pub fn tell_server(
     ensures works { IfOk result (λ heard. heard.server.failed ≡ false) }
 {
     let mut server = server.copy(alloc)?;
-    let fault = hear_from(alloc, &mut server, from, tell)?;
+    let fault = tell_in_place(alloc, &mut server, from, tell)?;
     Ok(Heard { server, fault })
 }
 
-/// Tells a server what a node told it. Want of memory may leave it failed.
-fn hear_from(
+/// As [`tell_server`], with no copy of the server: want of memory may leave it failed, with a part of what it heard.
+pub fn tell_in_place(
     alloc: Global,
     server: &mut Storage<MapStore>,
     from: &NodeId,
@@ -131,8 +131,25 @@ pub fn break_server(
     ensures works { IfOk result (λ s. s.failed ≡ false) }
 {
     let mut server = server.copy(alloc)?;
-    if break_from(alloc, &mut server, from, tell, version)? {
-        Ok(server)
+    break_in_place(alloc, &mut server, from, tell, version)?;
+    Ok(server)
+}
+
+/// As [`break_server`], with no copy of the server: want of memory may leave it failed, with a part of what it heard.
+pub fn break_in_place(
+    alloc: Global,
+    server: &mut Storage<MapStore>,
+    from: &NodeId,
+    tell: &Tell,
+    version: Version,
+) -> Result<(), Memory>
+    requires works { server.old.failed ≡ false }
+    requires breaks { may_break (server_of server.old) from.now tell.now version ≡ true }
+    ensures state { OnOk result (server_of server.new ≡ storage_hear (Some version) (server_of server.old) from.now tell.now) }
+    ensures works { OnOk result (server.new.failed ≡ false) }
+{
+    if break_from(alloc, server, from, tell, version)? {
+        Ok(())
     } else {
         unreachable!()
     }

@@ -1,13 +1,13 @@
 //! The step `commit`: a proxy takes a batch, has it numbered, and pushes it.
-use crate::exchange::{Exchange, ask_and_hear};
+use crate::exchange::{Exchange, ask_or_pass};
 use crate::names::event_name;
 use crate::pending::pending_of;
-use crate::script::Commit;
-use crate::steps::push::push_to;
+use crate::steps::push::push_each;
 use fr_ask::{Ask, SeqTell, Tell};
 use fr_base::{Memory, NodeId, Version};
 use fr_mutation::{Batch, BatchFault};
 use fr_run_event::{Event, NotEnabled};
+use fr_simulate_script::Commit;
 use fr_world::World;
 use std::alloc::Global;
 
@@ -39,7 +39,8 @@ pub(crate) fn line_of(alloc: Global, world: &mut World, commit: Commit) -> Resul
     match number(alloc, world, &by)? {
         Some(version) => {
             let version = version.get();
-            let word = push_to(alloc, world, &by, logs.as_slice())?.word();
+            let pending = pending_of(alloc, world, &by)?;
+            let word = push_each(alloc, world, &by, pending, logs.as_slice())?.word();
             Ok(format!(in alloc; "commit {epoch} {proxy} {version} {word}\n")?)
         }
         None => Ok(format!(in alloc; "commit {epoch} {proxy} ended\n")?),
@@ -56,10 +57,9 @@ fn number(alloc: Global, world: &mut World, by: &NodeId) -> Result<Option<Versio
     let Some((to, ask)) = number_ask(alloc, world, by)? else {
         return Ok(None);
     };
-    match ask_and_hear(alloc, world, by, &to, ask) {
-        Ok(done) => Ok(number_in(&done)),
-        Err(NotEnabled::Memory) => Err(Memory),
-        Err(_) => Ok(None),
+    match ask_or_pass(alloc, world, by, &to, ask)? {
+        Some(done) => Ok(number_in(&done)),
+        None => Ok(None),
     }
 }
 

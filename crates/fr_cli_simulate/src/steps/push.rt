@@ -1,12 +1,12 @@
 //! The step `push`: a proxy pushes its open batch again.
-use crate::exchange::{Exchange, ask_pending};
-use crate::pending::{Purpose, pending_of};
-use crate::script::Push;
+use crate::exchange::{Exchange, ask_or_pass};
+use crate::pending::{Purpose, pending_of, take_ask};
 use fr_ask::Ask;
 use fr_base::{Memory, NodeId, Version};
 use fr_log::LogAsk;
 use fr_proxy::Outcome;
 use fr_run_event::Answer;
+use fr_simulate_script::Push;
 use fr_world::World;
 use std::alloc::Global;
 
@@ -19,12 +19,12 @@ pub(crate) enum Said {
 }
 
 impl Said {
-    /// With one more outcome.
-    fn with(self, outcome: Outcome) -> Said {
-        match (self, outcome) {
-            (Said::Committed, _) | (_, Outcome::Committed { .. }) => Said::Committed,
-            (Said::Ended, _) | (_, Outcome::Ended) => Said::Ended,
-            (Said::Waiting, Outcome::Waiting) => Said::Waiting,
+    /// What an outcome says.
+    fn of(outcome: Outcome) -> Said {
+        match outcome {
+            Outcome::Waiting => Said::Waiting,
+            Outcome::Ended => Said::Ended,
+            Outcome::Committed { .. } => Said::Committed,
         }
     }
 
@@ -46,42 +46,55 @@ pub(crate) fn line_of(alloc: Global, world: &mut World, push: &Push) -> Result<S
         epoch: push.epoch,
         number: proxy,
     };
-    match open_version(alloc, world, &by)? {
+    if world.is_gone(by) {
+        return not_open(alloc, epoch, proxy);
+    }
+    let pending = pending_of(alloc, world, &by)?;
+    match open_version(pending.as_slice()) {
         Some(version) => {
             let version = version.get();
-            let word = push_to(alloc, world, &by, push.logs.as_slice())?.word();
+            let word = push_each(alloc, world, &by, pending, push.logs.as_slice())?.word();
             Ok(format!(in alloc; "push {epoch} {proxy} {version} {word}\n")?)
         }
-        None => Ok(format!(in alloc; "push {epoch} {proxy} refused NotOpen\n")?),
+        None => not_open(alloc, epoch, proxy),
     }
 }
 
-/// The version of the batch that a proxy pushes; none where it has none open, is not there or is gone.
-fn open_version(alloc: Global, world: &World, by: &NodeId) -> Result<Option<Version>, Memory> {
-    if world.is_gone(*by) {
-        return Ok(None);
-    }
-    for (_, ask) in pending_of(alloc, world, by)? {
+/// The line of a proxy that has no batch open, is not there or is gone.
+fn not_open(alloc: Global, epoch: u64, proxy: u8) -> Result<String, Memory> {
+    Ok(format!(in alloc; "push {epoch} {proxy} refused NotOpen\n")?)
+}
+
+/// The version of the batch that is pushed by what is pending; none where no push is.
+fn open_version(pending: &[(NodeId, Ask)]) -> Option<Version> {
+    for (_, ask) in pending {
         if let Ask::Log(LogAsk::Push(push)) = ask {
-            return Ok(Some(push.version()));
+            return Some(push.version());
         }
     }
-    Ok(None)
+    None
 }
 
-/// Delivers the pushes to these logs, and has the proxy hear each tell.
-pub(crate) fn push_to(
+/// Delivers the pushes that are pending to these logs, and has the proxy hear each tell. A batch of which a tell says
+/// more than that it waits is open no longer, and its other pushes are not pending any more.
+pub(crate) fn push_each(
     alloc: Global,
     world: &mut World,
     by: &NodeId,
+    pending: Vec<(NodeId, Ask)>,
     logs: &[u8],
 ) -> Result<Said, Memory> {
-    let mut said = Said::Waiting;
+    let mut pending = pending;
     for log in logs {
-        let done = ask_pending(alloc, world, by, &Purpose::Push, *log)?;
-        said = said.with(outcome_in(&done));
+        if let Some((to, ask)) = take_ask(&mut pending, &Purpose::Push, *log) {
+            let done = ask_or_pass(alloc, world, by, &to, ask)?;
+            let said = Said::of(outcome_in(&done));
+            if said != Said::Waiting {
+                return Ok(said);
+            }
+        }
     }
-    Ok(said)
+    Ok(Said::Waiting)
 }
 
 /// What a proxy said at a push that was answered.

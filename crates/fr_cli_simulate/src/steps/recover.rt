@@ -1,10 +1,12 @@
 //! The step `recover`: a recoverer begins, or goes on.
-use crate::exchange::ask_pending;
+use crate::exchange::ask_or_pass;
 use crate::names::event_name;
-use crate::pending::{Purpose, pending_ask};
-use crate::script::Recover;
-use fr_base::{Ballot, Memory, NodeId, Tag};
+use crate::pending::{Purpose, pending_of, take_ask};
+use crate::steps::copying::copy;
+use fr_base::{Ballot, Memory, NodeId};
+use fr_epoch::Phase;
 use fr_run_event::{Event, NotEnabled, phase_text};
+use fr_simulate_script::Recover;
 use fr_world::World;
 use std::alloc::Global;
 
@@ -31,13 +33,18 @@ pub(crate) fn line_of(
             Err(why) => return refused(alloc, ballot, event_name(why)),
         }
     }
-    let by = NodeId::Recoverer { ballot };
-    ask_each(alloc, world, &by, &Purpose::Read, recover.read.as_slice())?;
-    ask_each(alloc, world, &by, &Purpose::Lock, recover.lock.as_slice())?;
-    copy(alloc, world, &by)?;
-    ask_each(alloc, world, &by, &Purpose::Seed, LOGS.as_slice())?;
-    ask_each(alloc, world, &by, &Purpose::Write, recover.write.as_slice())?;
-    ask_each(alloc, world, &by, &Purpose::Push, recover.mark.as_slice())?;
+    ask_each(alloc, world, ballot, Purpose::Read, recover.read.as_slice())?;
+    ask_each(alloc, world, ballot, Purpose::Lock, recover.lock.as_slice())?;
+    copy(alloc, world, ballot)?;
+    ask_each(alloc, world, ballot, Purpose::Seed, LOGS.as_slice())?;
+    ask_each(
+        alloc,
+        world,
+        ballot,
+        Purpose::Write,
+        recover.write.as_slice(),
+    )?;
+    ask_each(alloc, world, ballot, Purpose::Push, recover.mark.as_slice())?;
     phase_line(alloc, world, ballot)
 }
 
@@ -58,52 +65,33 @@ fn phase_line(alloc: Global, world: &World, ballot: Ballot) -> Result<String, Me
     Ok(format!(in alloc; "recover {ballot} {phase}\n")?)
 }
 
-/// Makes the asks for this that are pending to the cells or logs of these numbers.
+/// Makes the asks for this that are pending to the cells or logs of these numbers. The recoverer has them pending as long
+/// as it stays in its phase.
 fn ask_each(
     alloc: Global,
     world: &mut World,
-    by: &NodeId,
-    purpose: &Purpose,
+    ballot: Ballot,
+    purpose: Purpose,
     indexes: &[u8],
 ) -> Result<(), Memory> {
+    let by = NodeId::Recoverer { ballot };
+    let phase = phase_of(world, ballot);
+    let mut pending = pending_of(alloc, world, &by)?;
     for index in indexes {
-        ask_pending(alloc, world, by, purpose, *index)?;
-    }
-    Ok(())
-}
-
-/// Makes the peeks that are pending, by tag and log, until none of them brings anything new.
-fn copy(alloc: Global, world: &mut World, by: &NodeId) -> Result<(), Memory> {
-    for _ in 0..u64::MAX {
-        if !peek_each(alloc, world, by)? {
-            return Ok(());
-        }
-    }
-    Ok(())
-}
-
-/// Makes the peeks that are pending once, by tag and log; answers whether one of them brought something new.
-fn peek_each(alloc: Global, world: &mut World, by: &NodeId) -> Result<bool, Memory> {
-    let mut is_new = false;
-    for number in 0..32u8 {
-        if let Some(tag) = Tag::new(number) {
-            for log in LOGS {
-                if peek(alloc, world, by, tag, log)? {
-                    is_new = true;
-                }
+        if let Some((to, ask)) = take_ask(&mut pending, &purpose, *index) {
+            ask_or_pass(alloc, world, &by, &to, ask)?;
+            if phase_of(world, ballot) != phase {
+                return Ok(());
             }
         }
     }
-    Ok(is_new)
+    Ok(())
 }
 
-/// Makes the peek of a tag to a log, where it is pending; answers whether it brought something new: then this peek
-/// is no longer pending.
-fn peek(alloc: Global, world: &mut World, by: &NodeId, tag: Tag, log: u8) -> Result<bool, Memory> {
-    let purpose = Purpose::Peek { tag };
-    let before = pending_ask(alloc, world, by, &purpose, log)?;
-    if ask_pending(alloc, world, by, &purpose, log)?.is_none() {
-        return Ok(false);
+/// How far the recoverer of a ballot has come, where there is one.
+fn phase_of(world: &World, ballot: Ballot) -> Option<Phase> {
+    match world.recoverer(ballot) {
+        Some(recoverer) => Some(recoverer.phase()),
+        None => None,
     }
-    Ok(pending_ask(alloc, world, by, &purpose, log)? != before)
 }

@@ -12,7 +12,9 @@ use fr_ask::Tell;
 use fr_base::{Memory, NodeId, Tag, Version};
 use fr_run::laws::node_laws;
 use fr_storage::StorageFault;
-use fr_world_nodes::storages::{Heard, break_server, may_break, tell_server};
+use fr_world_nodes::storages::{
+    Heard, break_in_place, break_server, may_break, tell_in_place, tell_server,
+};
 use fr_world_turns::Turn;
 use std::alloc::Global;
 
@@ -42,6 +44,39 @@ impl Nodes {
         let number = usize::from(tag.get());
         let Heard { server, fault } = tell_server(alloc, &self.storages[number], &from, tell)?;
         self.storages[number] = server;
+        self.turns.push_reserved(Turn::Storage {
+            tag,
+            from,
+            tell: kept,
+            taken: None,
+            fault,
+        });
+        Ok(fault)
+    }
+
+    /// As [`Nodes::tell_storage`], with no copy of the server: where memory is wanting the nodes are given up.
+    pub(crate) fn tell_storage_in_place(
+        &mut self,
+        alloc: Global,
+        tag: Tag,
+        from: NodeId,
+        tell: &Tell,
+    ) -> Result<Option<StorageFault>, Memory>
+        requires kept { IsKept self.old }
+        requires turn { IsTurn (state_of self.old).config (state_of self.old).turns
+            (history.StorageHeard tag from tell.now None
+            (fault_of (nodes.storage_at (state_of self.old).config (state_of self.old).turns tag) from tell.now)) }
+        ensures fault { IfOk result (λ fault. fault ≡ fault_of (nodes.storage_at (state_of self.old).config (state_of self.old).turns tag) from tell.now) }
+        ensures world { OnOk result (state_of self.new
+            ≡ with_turn (state_of self.old) (history.StorageHeard tag from tell.now None
+            (fault_of (nodes.storage_at (state_of self.old).config (state_of self.old).turns tag) from tell.now))) }
+        ensures stays { OnOk result (IsKept self.new) }
+    {
+        node_laws();
+        self.turns.reserve()?;
+        let kept = tell.copy()?;
+        let number = usize::from(tag.get());
+        let fault = tell_in_place(alloc, &mut self.storages[number], &from, tell)?;
         self.turns.push_reserved(Turn::Storage {
             tag,
             from,
@@ -86,6 +121,38 @@ impl Nodes {
         let number = usize::from(tag.get());
         let server = break_server(alloc, &self.storages[number], &from, tell, version)?;
         self.storages[number] = server;
+        self.turns.push_reserved(Turn::Storage {
+            tag,
+            from,
+            tell: kept,
+            taken: Some(version),
+            fault: None,
+        });
+        Ok(())
+    }
+
+    /// As [`Nodes::break_storage`], with no copy of the server: where memory is wanting the nodes are given up.
+    pub(crate) fn break_storage_in_place(
+        &mut self,
+        alloc: Global,
+        tag: Tag,
+        from: NodeId,
+        tell: &Tell,
+        version: Version,
+    ) -> Result<(), Memory>
+        requires kept { IsKept self.old }
+        requires heard { IsHeardBy (state_of self.old).config (state_of self.old).turns (node.Storage tag) from tell.now }
+        requires breaks { may_break (nodes.storage_at (state_of self.old).config (state_of self.old).turns tag) from tell.now version ≡ true }
+        ensures world { OnOk result (state_of self.new
+            ≡ with_turn (state_of self.old) (history.StorageHeard tag from tell.now (Some version)
+            (fault_of (nodes.storage_at (state_of self.old).config (state_of self.old).turns tag) from tell.now))) }
+        ensures stays { OnOk result (IsKept self.new) }
+    {
+        node_laws();
+        self.turns.reserve()?;
+        let kept = tell.copy()?;
+        let number = usize::from(tag.get());
+        break_in_place(alloc, &mut self.storages[number], &from, tell, version)?;
         self.turns.push_reserved(Turn::Storage {
             tag,
             from,

@@ -1,20 +1,12 @@
 //! Members of a script's objects.
 ghost use Rattle.std.specs.Prelude.{◌≡◌, ◌⊎◌, IfErr};
 
+use crate::tokens::{LAST_LOG, LAST_PROXY};
 use fr_base::{Epoch, LogId};
 use fr_cli_json::CliFault;
 use fr_cli_json::tree::member_of;
 use serde_json::Value;
 use std::alloc::Global;
-
-/// The greatest number of a cell.
-pub(crate) const LAST_CELL: u8 = 8;
-
-/// The greatest number of a log in its generation.
-pub(crate) const LAST_LOG: u8 = 15;
-
-/// The greatest number of a proxy in its generation.
-const LAST_PROXY: u8 = 15;
 
 /// An object of this many members.
 #[derive(Clone, Copy)]

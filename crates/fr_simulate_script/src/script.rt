@@ -1,0 +1,83 @@
+//! A script of `simulate`: a config and steps.
+ghost use Rattle.std.specs.Prelude.{◌≡◌, ◌⊎◌, IfErr};
+
+use crate::{tokens, tree};
+use fr_base::{Ballot, Epoch, LogId, Shape, Step, Tag};
+use fr_cli_json::tokens::Unread;
+use fr_cli_json::{CliFault, Mutations};
+use fr_run_event::Config;
+use std::alloc::Global;
+
+/// A script: what the world starts from, and the steps that are taken in it.
+#[derive(Drop)]
+pub struct Script {
+    pub config: Config,
+    pub acts: Vec<Act>,
+}
+
+/// A step of a script.
+#[derive(Drop)]
+pub enum Act {
+    /// A proxy takes a batch.
+    Commit(Commit),
+    /// A proxy pushes its open batch again.
+    Push(Push),
+    /// A storage server pulls from a log.
+    Pull(Pull),
+    /// A storage server asks a log for the mark.
+    Mark(Pull),
+    /// A recoverer begins, or goes on.
+    Recover(Recover),
+    /// A log is lost.
+    Lose(LogId),
+}
+
+/// A batch for a proxy, how far its version is to be above the one before, and the logs that get its push.
+#[derive(Drop)]
+pub struct Commit {
+    pub epoch: Epoch,
+    pub proxy: u8,
+    pub step: Step,
+    pub batch: Mutations,
+    pub logs: Vec<u8>,
+}
+
+/// A proxy, and the logs that get its push.
+#[derive(Drop)]
+pub struct Push {
+    pub epoch: Epoch,
+    pub proxy: u8,
+    pub logs: Vec<u8>,
+}
+
+/// A storage server, and the log that it asks.
+#[derive(Drop)]
+pub struct Pull {
+    pub storage: Tag,
+    pub log: LogId,
+}
+
+/// A recoverer, by its ballot, with the shape of the generation that it is to open, where it begins now and one is
+/// given; and the cells that it reads, the logs that it locks, the cells that it writes to, and the logs that get its
+/// mark.
+#[derive(Drop)]
+pub struct Recover {
+    pub ballot: Ballot,
+    pub shape: Option<Shape>,
+    pub read: Vec<u8>,
+    pub lock: Vec<u8>,
+    pub write: Vec<u8>,
+    pub mark: Vec<u8>,
+}
+
+/// Reads the script that an input is, and lets the input go: from its tokens, where its members stand in the usual order,
+/// and else from the tree of its JSON, which alone knows that it is none.
+pub fn read_script(alloc: Global, input: Vec<u8>) -> Result<Script, CliFault>
+    ensures fault { IfErr result (λ e. (e ≡ CliFault.BadScript) ⊎ (e ≡ CliFault.Memory)) }
+{
+    match tokens::read_script(alloc, input.as_slice()) {
+        Ok(script) => Ok(script),
+        Err(Unread::Memory) => Err(CliFault::Memory),
+        Err(Unread::Unusual) => tree::read_script(alloc, input),
+    }
+}
