@@ -2,7 +2,7 @@
 //! means without the first. So each input here is run twice, and both runs are compared.
 ghost use Rattle.std.specs.Prelude.{◌<◌, length};
 
-use crate::examples::{prints, run, twice};
+use crate::examples::{UNDO, prints, run, twice};
 use fr_cli_json::CliFault;
 use std::alloc::{AllocError, Global};
 use std::process::Abort;
@@ -77,7 +77,8 @@ fn fronts_are_none(rt: &impl Abort, alloc: Global, bytes: &[u8]) -> Result<(), F
 #[test]
 fn fronts_are_no_scripts(rt: HostRuntime) -> Result<(), Fail> {
     fronts_are_none(&rt, rt.alloc(), EACH.as_bytes())?;
-    fronts_are_none(&rt, rt.alloc(), OTHERS.as_bytes())
+    fronts_are_none(&rt, rt.alloc(), OTHERS.as_bytes())?;
+    fronts_are_none(&rt, rt.alloc(), UNDO.script.as_bytes())
 }
 
 /// Whether both ways agree on the bytes with another one at a place.

@@ -11,4 +11,6 @@ mod devices;
 #[cfg(test)]
 mod ended;
 #[cfg(test)]
+mod slow;
+#[cfg(test)]
 mod words;
