@@ -159,5 +159,5 @@ Where the words say nothing, 3 coordinators, 4 logs, each tag on 2 of them, 2 st
 proxies run, each workload has 20 batches, and one recovery begins. Which thread comes when, and with
 it what the journals say, differs from run to run.
 
-Statuses: 0 a run; 1 a fault of the journals; 2 bad words; 3 out of memory, or no thread or node could
-be made; 4 output failed. It reads no input.";
+Statuses: 0 a run; 1 a fault of the journals; 2 bad words; 3 out of memory, or no node could be made;
+4 output failed. It reads no input.";

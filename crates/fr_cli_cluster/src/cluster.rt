@@ -1,13 +1,9 @@
 //! The command `cluster`.
-ghost use Rattle.std.specs.Prelude.{◌≡◌, ◌<◌, ℕ, List, Err, IfErr, IfOk, OnOk};
+ghost use Rattle.std.specs.Prelude.{◌≡◌, ◌+◌, ◌*◌, ◌/◌, ◌==◌, ℕ, List, Err, IfErr, IfOk, OnOk};
 ghost use Rattle.std.specs.Io.KnownBytes.{Appends};
 ghost use Rattle.fr_cli_json.specs.Calls.{no_calls, HasNotFailed, IsWriteFault};
-ghost use Rattle.fr_audit.specs.Run.{IsRunOf};
-ghost use Rattle.fr_runtime.specs.Handed.{IsHanded};
-ghost use Rattle.fr_cli_audit.specs.Lines.{fault_line};
 ghost use Rattle.fr_cli_cluster.specs.Options.{IsWithin};
-ghost use Rattle.fr_cli_cluster.specs.Report.{IsReport};
-ghost use Rattle.fr_cli_cluster.specs.Setting.{config_of};
+ghost use Rattle.fr_cli_cluster.specs.Report.{IsBad, IsGood, IsReport};
 
 use crate::options::{ClusterOptions, ClusterWords};
 use crate::report::{put_fault, put_run};
@@ -35,7 +31,7 @@ pub fn run_cluster<R: Threads + Wait + Sync, W: Write>(
     writer: &mut W,
 ) -> Result<u8, CliFault>
     ensures report { IfOk result (λ status. (text : List ℕ)
-        × IsReport (config_of options) options.journal status text
+        × IsReport (λ ballot turn. turn + 100 == 100 * (ballot / 256)) options status text
         × Appends (W.contents writer.old) (W.contents writer.new) text) }
     ensures unwritten { result ≡ Err CliFault.Memory → writer.new ≡ writer.old }
 {
@@ -56,7 +52,7 @@ pub fn cluster_counted<R: Threads + Wait + Sync, F: Faults + Sync, W: Write>(
 ) -> Result<u8, CliFault>
     requires fresh { calls.old ≡ no_calls }
     ensures report { IfOk result (λ status. (text : List ℕ)
-        × IsReport (config_of options) options.journal status text
+        × IsReport (F.begun faults.now) options status text
         × Appends (W.contents writer.old) (W.contents writer.new) text) }
     ensures unwritten { result ≡ Err CliFault.Memory → writer.new ≡ writer.old }
     ensures fault { IfErr result (λ e. IsWriteFault calls.new e) }
@@ -66,7 +62,7 @@ pub fn cluster_counted<R: Threads + Wait + Sync, F: Faults + Sync, W: Write>(
     let Ok(ran) = run(rt, alloc, &words, faults) else {
         return Err(CliFault::Memory);
     };
-    let status = put_report(alloc, &words, ran, calls, writer)?;
+    let status = put_report(alloc, &words, faults, ran, calls, writer)?;
     calls.flush(writer)?;
     Ok(status)
 }
@@ -79,8 +75,9 @@ fn run<R: Threads + Wait + Sync, F: Faults + Sync>(
     faults: &F,
 ) -> Result<Result<Report, AuditFault>, Memory>
     requires within { IsWithin words.now }
-    ensures run { IfOk result (λ ran. IfOk ran (λ report. IsRunOf (config_of words.now) report.journals.items report.world.turns)) }
-    ensures handed { IfOk result (λ ran. IfOk ran (λ report. IsHanded (config_of words.now) report.journals.items report.world.turns)) }
+    ensures run { IfOk result (λ ran. IfOk ran (λ report.
+        IsGood (F.begun faults.now) words.now report.journals.items report.world.turns)) }
+    ensures fault { IfOk result (λ ran. IfErr ran (IsBad (F.begun faults.now) words.now)) }
 {
     let config = config(alloc, words)?;
     let ballots = ballots(alloc, words.recoveries)?;
@@ -104,21 +101,19 @@ fn run<R: Threads + Wait + Sync, F: Faults + Sync>(
     }
 }
 
-/// Writes what came of a cluster, and gives the status.
-fn put_report<W: Write>(
+/// Writes what came of a cluster in which recoverers begin as the faults say, and gives the status.
+fn put_report<W: Write, F: Faults>(
     alloc: Global,
     words: &ClusterWords,
+    _faults: &F,
     ran: Result<Report, AuditFault>,
     calls: &mut CallCounts,
     writer: &mut W,
 ) -> Result<u8, CliFault>
-    requires run { IfOk ran (λ report. IsRunOf (config_of words.now) report.journals.items report.world.turns) }
-    requires handed { IfOk ran (λ report. IsHanded (config_of words.now) report.journals.items report.world.turns) }
-    ensures taken { OnOk ran (IfOk result (λ status. status ≡ 0)) }
-    ensures refused { IfErr ran (λ fault. IfOk result (λ status. (status ≡ 1)
-        × Appends (W.contents writer.old) (W.contents writer.new) (fault_line fault))) }
+    requires run { IfOk ran (λ report. IsGood (F.begun _faults.now) words.now report.journals.items report.world.turns) }
+    requires fault { IfErr ran (IsBad (F.begun _faults.now) words.now) }
     ensures report { IfOk result (λ status. (text : List ℕ)
-        × IsReport (config_of words.now) words.now.journal status text
+        × IsReport (F.begun _faults.now) words.now status text
         × Appends (W.contents writer.old) (W.contents writer.new) text) }
     ensures unwritten { result ≡ Err CliFault.Memory → writer.new ≡ writer.old }
     ensures fault { IfErr result (λ e. IsWriteFault calls.new e) }

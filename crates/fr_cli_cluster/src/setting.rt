@@ -1,10 +1,10 @@
 //! What a cluster starts from, its ballots and its workloads.
 ghost use Rattle.std.specs.Prelude.{◌≡◌, ◌≤◌, ◌<◌, ◌∷◌, [], length, IfOk, IfErr};
 ghost use Rattle.fr_cli_cluster.specs.Options.{IsWithin};
-ghost use Rattle.fr_cli_cluster.specs.Setting.{begins_of, config_of};
+ghost use Rattle.fr_cli_cluster.specs.Setting.{ballots_of, begins_of, config_of};
 
 use crate::options::ClusterWords;
-use fr_base::{Ballot, Bytes, Memory};
+use fr_base::{Ballot, Bytes, Memory, Shape};
 use fr_run_event::Config;
 use fr_runtime::Orders;
 use std::alloc::Global;
@@ -41,14 +41,15 @@ fn begins(alloc: Global, storages: u8) -> Result<Vec<Bytes>, Memory>
     Ok(begins)
 }
 
-/// The ballots: that of recovery i, counted from 1, has the round i + 1 and the recoverer number 1.
-pub(crate) fn ballots(alloc: Global, recoveries: u8) -> Result<Vec<Ballot>, Memory>
-    ensures { IfOk result (λ ballots. length ballots.items ≡ recoveries) }
+/// The ballots: that of recovery i, counted from 1, has the round i + 1 and the recoverer number 1. Each generation has
+/// the shape of the one before.
+pub(crate) fn ballots(alloc: Global, recoveries: u8) -> Result<Vec<(Ballot, Option<Shape>)>, Memory>
+    ensures { IfOk result (λ ballots. ballots.items ≡ ballots_of recoveries) }
 {
     let mut all = Vec::new(alloc);
     for number in 0..recoveries {
         match Ballot::new((u64::from(number) + 2) * 256 + 1) {
-            Some(ballot) => all.push(ballot)?,
+            Some(ballot) => all.push((ballot, None))?,
             None => unreachable!(),
         }
     }
