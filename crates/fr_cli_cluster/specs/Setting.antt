@@ -1,6 +1,8 @@
 -- What a cluster starts from.
-use Rattle.std.specs.Prelude.{ℕ, ◌+◌, ◌-◌, ◌*◌, List, [], ◌∷◌, ◌++◌, zero, suc}
+use Rattle.std.specs.Prelude.{ℕ, ◌+◌, ◌-◌, ◌*◌, List, [], ◌∷◌, ◌++◌, Option, None, zero, suc}
+use Rattle.fr_base.specs.Shape.{ShapeContent}
 use Rattle.fr_run.specs.Config.{Config}
+use Rattle.fr_runtime_storm.specs.declared.draws.Draws.{Draws}
 use Rattle.fr_cli_cluster.specs.declared.options.ClusterWords.{ClusterWords}
 
 -- the shard after the first ones begins at the byte 8 above the last
@@ -15,3 +17,12 @@ begins_of n = [] ∷ begins_after (n - 1)
 -- the config of a cluster's words
 abbrev pub config_of : ClusterWords → Config
 config_of w = record { cells = w.coordinators; m = w.logs; k = w.degree; begins = begins_of w.storages; proxies = w.proxies }
+
+-- the ballots of so many recoveries, none with a shape: that of recovery i, counted from 1, has the round i + 1 and the recoverer number 1
+abbrev pub ballots_of : ℕ → List (ℕ × Option ShapeContent)
+ballots_of zero = []
+ballots_of (suc n) = ballots_of n ++ (((n + 2) * 256 + 1, None) ∷ [])
+
+-- what the faults of a cluster are drawn from
+abbrev pub draws_of : ClusterWords → Draws
+draws_of w = record { seed = w.seed; strength = w.storm; coordinators = w.coordinators; logs = w.logs }

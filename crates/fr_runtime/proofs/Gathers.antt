@@ -1,7 +1,8 @@
 -- Loops that put items behind others.
 use Rattle.std.proofs.Common.{refl, sym, ap, ◌∙◌}
 use Rattle.std.proofs.lemmas.List.{append-nil, append_assoc, take_more}
-use Rattle.std.specs.Prelude.{◌≡◌, ◌<◌, ◌+◌, ◌++◌, ◌∷◌, ℕ, List, [], get_or, length, take}
+use Rattle.std.specs.Prelude.{◌≡◌, ◌<◌, ◌+◌, ◌++◌, ◌∷◌, ℕ, List, [], Option, get_or, length, take}
+use Rattle.fr_base.specs.Shape.{ShapeContent}
 use Rattle.fr_runtime.specs.declared.job.Job.{Job}
 use Rattle.fr_runtime.specs.declared.job.Job.TheVariants.{Serve, Recover}
 use Rattle.fr_runtime.specs.Job.{recover_jobs, serve_jobs}
@@ -20,19 +21,23 @@ pub put-all : {A B : Type 0} (f : List A → List B) (zs total : List B) (xs : L
 put-all f zs total xs none nothing inv =
     sym (append-nil zs) ∙ (ap (λ (l : List _). zs ++ l) (sym nothing) ∙ (ap (λ (l : List _). zs ++ f l) (sym none) ∙ inv))
 
+-- a ballot and the shape that its recoverer is given
+abbrev Given : Type 0
+Given = ℕ × Option ShapeContent
+
 -- the number of the next
 pub serve-step : {W T : Type 0} (n m : ℕ) (w : W) (ws : List W) → m ≡ n + 1 → serve_jobs {W = W} {T = T} n (w ∷ ws) ≡ (Serve n w ∷ []) ++ serve_jobs m ws
 serve-step {W} {T} n m w ws next = ap (λ (k : ℕ). Serve n w ∷ serve_jobs {W = W} {T = T} k ws) (sym next)
 
-recover-append : {W T : Type 0} (xs : List ℕ) (b : ℕ) → recover_jobs {W = W} {T = T} (xs ++ b ∷ []) ≡ recover_jobs xs ++ Recover b ∷ []
+recover-append : {W T : Type 0} (xs : List Given) (b : Given) → recover_jobs {W = W} {T = T} (xs ++ b ∷ []) ≡ recover_jobs xs ++ Recover b.0 b.1 ∷ []
 recover-append [] b = refl
-recover-append {W} {T} (x ∷ xs) b = ap (λ (l : List (Job W T)). Recover x ∷ l) (recover-append xs b)
+recover-append {W} {T} (x ∷ xs) b = ap (λ (l : List (Job W T)). Recover x.0 x.1 ∷ l) (recover-append xs b)
 
 -- one ballot more
-pub recover-more : {W T : Type 0} (bs : List ℕ) (i b : ℕ) (zs more total : List (Job W T)) → i < length bs → b ≡ get_or bs i b
-    → more ≡ zs ++ Recover b ∷ [] → zs ≡ total ++ recover_jobs (take i bs) → more ≡ total ++ recover_jobs (take (i + 1) bs)
+pub recover-more : {W T : Type 0} (bs : List Given) (i : ℕ) (b : Given) (zs more total : List (Job W T)) → i < length bs → b ≡ get_or bs i b
+    → more ≡ zs ++ Recover b.0 b.1 ∷ [] → zs ≡ total ++ recover_jobs (take i bs) → more ≡ total ++ recover_jobs (take (i + 1) bs)
 recover-more {W} {T} bs i b zs more total low is put inv =
     put
-    ∙ (ap (λ (l : List (Job W T)). l ++ Recover b ∷ []) inv
-    ∙ (append_assoc total (recover_jobs (take i bs)) (Recover b ∷ [])
-    ∙ ap (λ (l : List (Job W T)). total ++ l) (sym (ap recover_jobs (take_more bs i b low ∙ ap (λ (c : ℕ). take i bs ++ c ∷ []) (sym is)) ∙ recover-append (take i bs) b))))
+    ∙ (ap (λ (l : List (Job W T)). l ++ Recover b.0 b.1 ∷ []) inv
+    ∙ (append_assoc total (recover_jobs (take i bs)) (Recover b.0 b.1 ∷ [])
+    ∙ ap (λ (l : List (Job W T)). total ++ l) (sym (ap recover_jobs (take_more bs i b low ∙ ap (λ (c : Given). take i bs ++ c ∷ []) (sym is)) ∙ recover-append (take i bs) b))))

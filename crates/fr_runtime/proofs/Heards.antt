@@ -1,9 +1,10 @@
 -- What threads handed back, as workloads and ballots see it.
-use Rattle.std.proofs.Common.{arith, refl, sym, ap, subst, ◌∙◌}
+use Rattle.std.proofs.Common.{arith, refl, sym, ap, subst, inl, inr, ◌⊎◌, ◌∙◌}
 use Rattle.std.proofs.lemmas.Bool.Decides.{nat_tests}
 use Rattle.std.proofs.lemmas.List.{append-nil, append_assoc}
-use Rattle.std.specs.Prelude.{◌≡◌, ◌≤◌, ◌<◌, ◌+◌, ◌==◌, ◌&&◌, ◌||◌, ◌++◌, ◌∷◌, ℕ, suc, Bool, true, false, List, [], Result, Ok, IfOk, length, slice_index_or, if◌then◌else◌}
+use Rattle.std.specs.Prelude.{◌≡◌, ◌≤◌, ◌<◌, ◌+◌, ◌==◌, ◌&&◌, ◌++◌, ◌∷◌, ℕ, suc, Bool, true, false, List, [], Option, Result, Ok, IfOk, length, slice_index_or, if◌then◌else◌}
 use Rattle.std.specs.Global.{Vec}
+use Rattle.fr_base.specs.Shape.{ShapeContent}
 use Rattle.fr_base.specs.declared.place.NodeId.{NodeId}
 use Rattle.fr_base.specs.declared.place.NodeId.TheVariants.{Cell, Log, Sequencer, Proxy, Recoverer, Storage}
 use Rattle.fr_proxy.specs.declared.outcome.Outcome.{Outcome}
@@ -11,12 +12,11 @@ use Rattle.fr_audit_journal.specs.Journal.{JournalState}
 use Rattle.fr_runtime_station.specs.Answering.{all_answer, answers}
 use Rattle.fr_runtime_threads.specs.declared.order.Order.{Order}
 use Rattle.fr_runtime_threads.specs.Account.{all_given, all_outcomes, are_proxies, is_proxy, left_over, waiting_for}
-use Rattle.fr_runtime_threads.specs.Begins.{starts_with_begun}
 use Rattle.fr_runtime.specs.declared.job.Done.{Done}
 use Rattle.fr_runtime.specs.declared.job.Done.TheVariants.{Served, Kept, Nothing}
 use Rattle.fr_runtime.specs.declared.job.Job.{Job}
 use Rattle.fr_runtime.specs.declared.job.Job.TheVariants.{Crash}
-use Rattle.fr_runtime.specs.Heard.{AllBegin, AreHeard, has_begun, is_recoverer, of_number}
+use Rattle.fr_runtime.specs.Heard.{AllBegin, AreHeard, HasBegun, of_number}
 use Rattle.fr_runtime.specs.Job.{AllDid, Did, IsOther, all_journals, all_told, all_works, journals_of, no_proxies, oks, pull_jobs, recover_jobs, serve_jobs, told_of, works_of}
 
 and-left : (a b : Bool) → (a && b) ≡ true → a ≡ true
@@ -27,10 +27,6 @@ and-right : (a b : Bool) → (a && b) ≡ true → b ≡ true
 and-right true b both = both
 and-right false true both = refl
 and-right false false both = both
-
-or-right : (a b : Bool) → b ≡ true → (a || b) ≡ true
-or-right true b other = refl
-or-right false b other = other
 
 -- the journals of a number
 
@@ -80,25 +76,26 @@ none-answering : (js : List JournalState) → all_answer js ≡ true → no_prox
 none-answering [] all = tt
 none-answering (j ∷ js) all = ((λ n. no-answering n j.node (and-left (answers j.node) (all_answer js) all)), none-answering js (and-right (answers j.node) (all_answer js) all))
 
--- whether a recoverer has begun, of two lists
+-- a recoverer that has begun by one of two lists has by both
 
-either-begun : (a x y : Bool) → (a || x) ≡ true → (x ≡ true → y ≡ true) → (a || y) ≡ true
-either-begun true x y has on = refl
-either-begun false x y has on = on has
+begun-left : (b : ℕ) (shape : Option ShapeContent) (xs ys : List JournalState) → HasBegun b shape xs → HasBegun b shape (xs ++ ys)
+begun-left b shape [] ys has = absurd has
+begun-left b shape (j ∷ xs) ys (inl here) = inl here
+begun-left b shape (j ∷ xs) ys (inr rest) = inr (begun-left b shape xs ys rest)
 
-begun-left : (b : ℕ) (xs ys : List JournalState) → has_begun b xs ≡ true → has_begun b (xs ++ ys) ≡ true
-begun-left b [] ys has = absurd (cc)
-begun-left b (j ∷ xs) ys has = either-begun (is_recoverer b j.node && starts_with_begun j.entries) (has_begun b xs) (has_begun b (xs ++ ys)) has (λ rest. begun-left b xs ys rest)
-
-begun-right : (b : ℕ) (xs ys : List JournalState) → has_begun b ys ≡ true → has_begun b (xs ++ ys) ≡ true
-begun-right b [] ys has = has
-begun-right b (j ∷ xs) ys has = or-right (is_recoverer b j.node && starts_with_begun j.entries) (has_begun b (xs ++ ys)) (begun-right b xs ys has)
+begun-right : (b : ℕ) (shape : Option ShapeContent) (xs ys : List JournalState) → HasBegun b shape ys → HasBegun b shape (xs ++ ys)
+begun-right b shape [] ys has = has
+begun-right b shape (j ∷ xs) ys has = inr (begun-right b shape xs ys has)
 
 below : (m n : ℕ) → m < n → (n == m) ≡ false
 below m n low = grind (arith, nat_tests)
 
 above : (m n : ℕ) → n + 1 ≤ m → (n == m) ≡ false
 above m n low = grind (arith, nat_tests)
+
+-- a ballot and the shape that its recoverer is given
+abbrev Given : Type 0
+Given = ℕ × Option ShapeContent
 
 -- threads that serve no workload
 
@@ -145,23 +142,23 @@ module _ {W T : Type 0} (given : W → List Order) (heard : W → List Outcome) 
   pulled (t ∷ ts) [] did = absurd (cc)
   pulled (t ∷ ts) (d ∷ ds) did = (did.0, pulled ts ds did.1)
 
-  recovered : (bs : List ℕ) (ts : List T) (ds : List (Done W)) → AllDid given heard begun turns (recover_jobs bs ++ (pull_jobs ts ++ Crash ∷ [])) ds → AllOther ds
+  recovered : (bs : List Given) (ts : List T) (ds : List (Done W)) → AllDid given heard begun turns (recover_jobs bs ++ (pull_jobs ts ++ Crash ∷ [])) ds → AllOther ds
   recovered [] ts ds did = pulled ts ds did
   recovered (b ∷ bs) ts [] did = absurd (cc)
   recovered (b ∷ bs) ts (d ∷ ds) did = (did.0.0, recovered bs ts ds did.1)
 
   -- each ballot that is to begin has begun
-  all-begun : (bs : List ℕ) (ts : List T) (ds : List (Done W)) (pre : List JournalState)
+  all-begun : (bs : List Given) (ts : List T) (ds : List (Done W)) (pre : List JournalState)
       → AllDid given heard begun turns (recover_jobs bs ++ (pull_jobs ts ++ Crash ∷ [])) ds
       → AllBegin begun turns (pre ++ all_journals ds) bs
   all-begun [] ts ds pre did = tt
   all-begun (b ∷ bs) ts [] pre did = absurd (cc)
   all-begun (b ∷ bs) ts (d ∷ ds) pre did = (
-    (λ used turn low high is. begun-right b pre (journals_of d ++ all_journals ds) (begun-left b (journals_of d) (all_journals ds) (did.0.1 used turn low high is))),
+    (λ used turn low high is. begun-right b.0 b.1 pre (journals_of d ++ all_journals ds) (begun-left b.0 b.1 (journals_of d) (all_journals ds) (did.0.1 used turn low high is))),
     subst (λ (l : List JournalState). AllBegin begun turns l bs) (append_assoc pre (journals_of d) (all_journals ds)) (all-begun bs ts ds (pre ++ journals_of d) did.1),
   )
 
-  run-begun : (ws : List W) (n : ℕ) (bs : List ℕ) (ts : List T) (ds : List (Done W)) (pre : List JournalState)
+  run-begun : (ws : List W) (n : ℕ) (bs : List Given) (ts : List T) (ds : List (Done W)) (pre : List JournalState)
       → AllDid given heard begun turns (serve_jobs n ws ++ (recover_jobs bs ++ (pull_jobs ts ++ Crash ∷ []))) ds
       → AllBegin begun turns (pre ++ all_journals ds) bs
   run-begun [] n bs ts ds pre did = all-begun bs ts ds pre did
@@ -170,7 +167,7 @@ module _ {W T : Type 0} (given : W → List Order) (heard : W → List Outcome) 
       subst (λ (l : List JournalState). AllBegin begun turns l bs) (append_assoc pre (journals_of d) (all_journals ds)) (run-begun ws (n + 1) bs ts ds (pre ++ journals_of d) did.1)
 
   -- the proxies of lesser numbers are not those of these workloads
-  served-none : (ws : List W) (n : ℕ) (bs : List ℕ) (ts : List T) (ds : List (Done W)) (m : ℕ) → m < n
+  served-none : (ws : List W) (n : ℕ) (bs : List Given) (ts : List T) (ds : List (Done W)) (m : ℕ) → m < n
       → AllDid given heard begun turns (serve_jobs n ws ++ (recover_jobs bs ++ (pull_jobs ts ++ Crash ∷ []))) ds
       → of_number m (all_journals ds) ≡ []
   served-none [] n bs ts ds m low did = all-journals-other m ds (recovered bs ts ds did)
@@ -183,7 +180,7 @@ module _ {W T : Type 0} (given : W → List Order) (heard : W → List Outcome) 
   served-none (w ∷ ws) n bs ts (Nothing ∷ ds) m low did = let wrong : false ≡ true = did.0 in absurd (cc)
 
   -- each workload is heard by the proxies of its number, where those before are of other nodes and of lesser numbers
-  run-heard : (ws : List W) (n : ℕ) (bs : List ℕ) (ts : List T) (ds : List (Done W)) (pre : List JournalState)
+  run-heard : (ws : List W) (n : ℕ) (bs : List Given) (ts : List T) (ds : List (Done W)) (pre : List JournalState)
       → ((m : ℕ) → n ≤ m → of_number m pre ≡ [])
       → AllDid given heard begun turns (serve_jobs n ws ++ (recover_jobs bs ++ (pull_jobs ts ++ Crash ∷ []))) ds
       → AreHeard given heard (pre ++ all_journals ds) n ws (all_works ds) (all_told ds)
@@ -219,7 +216,7 @@ module _ {W T : Type 0} (given : W → List Order) (heard : W → List Outcome) 
 
   -- what a run hands back, where its other journals are of nodes that answer asks
 
-  pub heard-run : (ws : List W) (bs : List ℕ) (ts : List T) (ds : List (Done W)) (shared js : List JournalState) (vs : List W) (us : List (Vec Outcome))
+  pub heard-run : (ws : List W) (bs : List Given) (ts : List T) (ds : List (Done W)) (shared js : List JournalState) (vs : List W) (us : List (Vec Outcome))
       → all_answer shared ≡ true → js ≡ shared ++ all_journals ds → vs ≡ all_works ds → us ≡ all_told ds
       → AllDid given heard begun turns (serve_jobs 0 ws ++ (recover_jobs bs ++ (pull_jobs ts ++ Crash ∷ []))) ds
       → AreHeard given heard js 0 ws vs us
@@ -229,7 +226,7 @@ module _ {W T : Type 0} (given : W → List Order) (heard : W → List Outcome) 
       (subst (λ (l : List (Vec Outcome)). AreHeard given heard (shared ++ all_journals ds) 0 ws (all_works ds) l) (sym u)
       (run-heard ws 0 bs ts ds shared (λ m low. none-other m shared (none-answering shared all)) did)))
 
-  pub begun-run : (ws : List W) (bs : List ℕ) (ts : List T) (ds : List (Done W)) (shared js : List JournalState)
+  pub begun-run : (ws : List W) (bs : List Given) (ts : List T) (ds : List (Done W)) (shared js : List JournalState)
       → js ≡ shared ++ all_journals ds
       → AllDid given heard begun turns (serve_jobs 0 ws ++ (recover_jobs bs ++ (pull_jobs ts ++ Crash ∷ []))) ds
       → AllBegin begun turns js bs

@@ -1,4 +1,5 @@
 mod Captures
+mod Explained
 mod Gathers
 mod Heards
 mod Starts

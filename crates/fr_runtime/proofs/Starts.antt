@@ -1,12 +1,12 @@
 -- Whose journals a cluster hands back.
-use Rattle.std.proofs.Common.{◌≡◌, ◌<◌, ◌==◌, ◌||◌, ℕ, Bool, true, false, cond, nat_lt, List, [], length, refl, sym, ◌∙◌, ap, arith}
-use Rattle.std.proofs.lemmas.Bool.{and_parts, eqb-true, ltb-true}
+use Rattle.std.proofs.Common.{◌≡◌, ◌<◌, ◌==◌, ◌||◌, ℕ, Bool, true, false, cond, nat_lt, List, [], length, inl, refl, sym, ◌∙◌, ap, arith}
+use Rattle.std.proofs.lemmas.Bool.{and_parts, eqb-true, lt-ltb, ltb-true}
 use Rattle.fr_base.specs.declared.place.NodeId.{NodeId}
 use Rattle.fr_base.specs.declared.place.NodeId.TheVariants.{Cell, Log, Sequencer, Proxy, Recoverer, Storage}
 use Rattle.fr_run.specs.Config.{Config, first_epoch}
 use Rattle.fr_run.specs.Nodes.{is_there, is_open, is_open_in, logs_in, plan_at, rec_at}
 use Rattle.fr_audit_journal.specs.Journal.{JournalState}
-use Rattle.fr_runtime.specs.Handed.{has_journal}
+use Rattle.fr_runtime.specs.Handed.{IsUnlike, has_journal}
 
 -- at the start there are the cells, the logs, the sequencer and the proxies of the first epoch, and the storage servers
 pub start-has : (c : Config) (js : List JournalState)
@@ -36,3 +36,20 @@ start-has c js cells logs sequencer proxies storages (Proxy e p) there =
     go false is open' low = absurd (cc)
 start-has c js cells logs sequencer proxies storages (Recoverer b) there = absurd (cc)
 start-has c js cells logs sequencer proxies storages (Storage t) there = storages t (ltb-true t (length c.begins) there)
+
+-- each of these is there at the start, so that it is missed where it has no journal
+
+pub no-cell : (c : Config) (js : List JournalState) (i : ℕ) → i < c.cells → has_journal (Cell i) js ≡ false → IsUnlike c js (Cell i)
+no-cell c js i low none = inl (lt-ltb i c.cells low, none)
+
+pub no-log : (c : Config) (js : List JournalState) (i : ℕ) → i < c.m → has_journal (Log first_epoch i) js ≡ false → IsUnlike c js (Log first_epoch i)
+no-log c js i low none = inl (lt-ltb i c.m low, none)
+
+pub no-sequencer : (c : Config) (js : List JournalState) → has_journal (Sequencer first_epoch) js ≡ false → IsUnlike c js (Sequencer first_epoch)
+no-sequencer c js none = inl (refl, none)
+
+pub no-proxy : (c : Config) (js : List JournalState) (p : ℕ) → p < c.proxies → has_journal (Proxy first_epoch p) js ≡ false → IsUnlike c js (Proxy first_epoch p)
+no-proxy c js p low none = inl (lt-ltb p c.proxies low, none)
+
+pub no-storage : (c : Config) (js : List JournalState) (t : ℕ) → t < length c.begins → has_journal (Storage t) js ≡ false → IsUnlike c js (Storage t)
+no-storage c js t low none = inl (lt-ltb t (length c.begins) low, none)

@@ -1,11 +1,14 @@
 -- Whose journals a cluster hands back.
-use Rattle.std.specs.Prelude.{◌≡◌, ◌&&◌, not, Bool, true, List, [], ◌∷◌, All}
+use Rattle.std.specs.Prelude.{◌≡◌, ◌⊎◌, ◌&&◌, not, Bool, true, false, List, [], ◌∷◌, All, Err}
 use Rattle.std.specs.List.{list_any}
 use Rattle.fr_base.specs.Node.{is_same_node}
 use Rattle.fr_base.specs.declared.place.NodeId.{NodeId}
 use Rattle.fr_run.specs.Config.{Config}
 use Rattle.fr_run.specs.Nodes.{is_there}
 use Rattle.fr_run.specs.Turn.{Turn, actor_of}
+use Rattle.fr_audit.specs.Audited.{audited}
+use Rattle.fr_audit.specs.declared.fault.AuditFault.{AuditFault}
+use Rattle.fr_audit.specs.declared.fault.AuditFault.TheVariants.{StateDiffers}
 use Rattle.fr_audit_journal.specs.Journal.{JournalState}
 
 -- whether one of these is the journal of a node
@@ -26,3 +29,11 @@ pub record IsHanded (c : Config) (js : List JournalState) (h : List Turn) : Type
   pub start : HasStart c js
   pub others : All (λ t. has_journal (actor_of t) js ≡ true) h
   pub each : are_of_one_each js ≡ true
+
+-- a node that is there at the start has no journal, or some node has two
+abbrev pub IsUnlike : Config → List JournalState → NodeId → Type 0
+IsUnlike c js who = ((is_there c [] who ≡ true) × (has_journal who js ≡ false)) ⊎ (are_of_one_each js ≡ false)
+
+-- why these are no run of a config: the journals are not one of each node, or what their audit finds
+abbrev pub IsFaultIn : Config → List JournalState → AuditFault → Type 0
+IsFaultIn c js fault = ((who : NodeId) × (fault ≡ StateDiffers who) × IsUnlike c js who) ⊎ (audited c js ≡ Err fault)

@@ -1,13 +1,13 @@
 -- What a cluster's run says of its workloads and its ballots, by the journals that it hands back.
-use Rattle.std.specs.Prelude.{◌≡◌, ◌≢◌, ℕ, ◌+◌, ◌==◌, ◌||◌, ◌&&◌, ◌≤◌, Bool, true, false, List, [], ◌∷◌, ◌++◌, Option, if◌then◌else◌}
+use Rattle.std.specs.Prelude.{◌≡◌, ◌≢◌, ◌⊎◌, ℕ, ◌+◌, ◌≤◌, Bool, true, false, List, [], ◌∷◌, ◌++◌, Option, if◌then◌else◌}
 use Rattle.std.specs.Global.{Vec}
-use Rattle.fr_base.specs.declared.place.NodeId.{NodeId}
+use Rattle.fr_base.specs.Shape.{ShapeContent}
 use Rattle.fr_base.specs.declared.place.NodeId.TheVariants.{Recoverer}
 use Rattle.fr_proxy.specs.declared.outcome.Outcome.{Outcome}
 use Rattle.fr_audit_journal.specs.Journal.{JournalState}
 use Rattle.fr_runtime_threads.specs.declared.order.Order.{Order}
 use Rattle.fr_runtime_threads.specs.Account.{all_given, all_outcomes, is_proxy, left_over, waiting_for}
-use Rattle.fr_runtime_threads.specs.Begins.{starts_with_begun}
+use Rattle.fr_runtime_threads.specs.Begins.{StartsWithBegun}
 
 -- the journals of the proxies of a number, in their order
 abbrev pub of_number : ℕ → List JournalState → List JournalState
@@ -30,20 +30,16 @@ AreHeard given heard js number (w ∷ ws) (v ∷ vs) (t ∷ ts) =
     IsHeard js number (given w) (given v) (heard w) (heard v) t.items × AreHeard given heard js (number + 1) ws vs ts
 AreHeard given heard js number ws vs ts = false ≡ true
 
--- whether a node is the recoverer of a ballot
-abbrev pub is_recoverer : ℕ → NodeId → Bool
-is_recoverer ballot (Recoverer other) = ballot == other
-is_recoverer ballot node = false
-
--- whether one of these is the journal of a ballot's recoverer, which starts with that it began
-abbrev pub has_begun : ℕ → List JournalState → Bool
-has_begun ballot [] = false
-has_begun ballot (j ∷ js) = (is_recoverer ballot j.node && starts_with_begun j.entries) || has_begun ballot js
+-- one of these is the journal of a ballot's recoverer, which starts with that it began, to open a generation of this shape
+abbrev pub HasBegun : ℕ → Option ShapeContent → List JournalState → Type 0
+HasBegun ballot shape [] = ⊥
+HasBegun ballot shape (j ∷ js) = ((j.node ≡ Recoverer ballot) × StartsWithBegun shape j.entries) ⊎ HasBegun ballot shape js
 
 -- a ballot that is to begin at one of the turns has done so, where it is one
-abbrev pub Begins : (ℕ → ℕ → Bool) → ℕ → ℕ → Bool → Type 0
-Begins begun turns ballot has = ballot ≢ 0 → (turn : ℕ) → 1 ≤ turn → turn ≤ turns → begun ballot turn ≡ true → has ≡ true
+abbrev pub Begins : (ℕ → ℕ → Bool) → ℕ → ℕ → Type 0 → Type 0
+Begins begun turns ballot Has = ballot ≢ 0 → (turn : ℕ) → 1 ≤ turn → turn ≤ turns → begun ballot turn ≡ true → Has
 
-abbrev pub AllBegin : (ℕ → ℕ → Bool) → ℕ → List JournalState → List ℕ → Type 0
+-- so has each of these, with the shape that it was given
+abbrev pub AllBegin : (ℕ → ℕ → Bool) → ℕ → List JournalState → List (ℕ × Option ShapeContent) → Type 0
 AllBegin begun turns js [] = Unit {0}
-AllBegin begun turns js (b ∷ bs) = Begins begun turns b (has_begun b js) × AllBegin begun turns js bs
+AllBegin begun turns js (b ∷ bs) = Begins begun turns b.0 (HasBegun b.0 b.1 js) × AllBegin begun turns js bs

@@ -1,6 +1,7 @@
 -- What each thread of a cluster does, and what it hands back.
 use Rattle.std.specs.Prelude.{◌≡◌, ℕ, ◌+◌, Bool, true, false, List, [], ◌∷◌, ◌++◌, Option, Result, Ok}
 use Rattle.std.specs.Global.{Vec}
+use Rattle.fr_base.specs.Shape.{ShapeContent}
 use Rattle.fr_proxy.specs.declared.outcome.Outcome.{Outcome}
 use Rattle.fr_audit_journal.specs.Journal.{JournalState}
 use Rattle.fr_runtime_threads.specs.declared.order.Order.{Order}
@@ -9,7 +10,7 @@ use Rattle.fr_runtime.specs.declared.job.Done.{Done}
 use Rattle.fr_runtime.specs.declared.job.Done.TheVariants.{Served, Kept, Nothing}
 use Rattle.fr_runtime.specs.declared.job.Job.{Job}
 use Rattle.fr_runtime.specs.declared.job.Job.TheVariants.{Serve, Recover, Pull, Crash}
-use Rattle.fr_runtime.specs.Heard.{Begins, has_begun}
+use Rattle.fr_runtime.specs.Heard.{Begins, HasBegun}
 
 -- the jobs of workloads, the first of which has this number, of ballots and of storage servers
 
@@ -17,9 +18,9 @@ abbrev pub serve_jobs : {W T : Type 0} → ℕ → List W → List (Job W T)
 serve_jobs number [] = []
 serve_jobs number (w ∷ ws) = Serve number w ∷ serve_jobs (number + 1) ws
 
-abbrev pub recover_jobs : {W T : Type 0} → List ℕ → List (Job W T)
+abbrev pub recover_jobs : {W T : Type 0} → List (ℕ × Option ShapeContent) → List (Job W T)
 recover_jobs [] = []
-recover_jobs (b ∷ bs) = Recover b ∷ recover_jobs bs
+recover_jobs (b ∷ bs) = Recover b.0 b.1 ∷ recover_jobs bs
 
 abbrev pub pull_jobs : {W T : Type 0} → List T → List (Job W T)
 pull_jobs [] = []
@@ -80,7 +81,7 @@ IsOther Nothing = Unit {0}
 -- a thread did its job
 abbrev pub Did : {W T : Type 0} → (W → List Order) → (W → List Outcome) → (ℕ → ℕ → Bool) → ℕ → Job W T → Done W → Type 0
 Did given heard begun turns (Serve number work) done = DidServe given heard number work done
-Did given heard begun turns (Recover ballot) done = IsOther done × Begins begun turns ballot (has_begun ballot (journals_of done))
+Did given heard begun turns (Recover ballot shape) done = IsOther done × Begins begun turns ballot (HasBegun ballot shape (journals_of done))
 Did given heard begun turns (Pull storage) done = IsOther done
 Did given heard begun turns Crash done = IsOther done
 

@@ -1,3 +1,4 @@
+pub mod Fault
 pub mod Handed
 pub mod Heard
 pub mod Job

@@ -1,24 +1,25 @@
 //! The running cluster.
-ghost use Rattle.std.specs.Prelude.{◌≡◌, IfOk};
+ghost use Rattle.std.specs.Prelude.{◌≡◌, ◌≢◌, IfErr, IfOk};
 ghost use Rattle.fr_audit.specs.Run.{IsRunOf};
-ghost use Rattle.fr_runtime.specs.Handed.{IsHanded};
+ghost use Rattle.fr_audit.specs.declared.fault.AuditFault.{AuditFault};
+ghost use Rattle.fr_runtime.specs.Fault.{IsExplained};
+ghost use Rattle.fr_runtime.specs.Handed.{IsFaultIn, IsHanded};
 ghost use Rattle.fr_runtime.specs.Heard.{AllBegin, AreHeard};
 
-use crate::fault::RunFault;
+use crate::fault::{RunFault, Unfinished};
 use crate::gathered::Gathered;
 use crate::handed::unlike;
 use crate::job::run_threads;
 use crate::prepare::{directory, storages};
-use crate::rack::Rack;
 use fr_audit::laws::audit_law;
 use fr_audit::{AuditFault, World, audit};
 use fr_audit_journal::Journal;
 use fr_audit_journal::laws::merge_law;
-use fr_base::Ballot;
+use fr_base::{Ballot, Shape};
 use fr_proxy::Outcome;
 use fr_run_event::Config;
 use fr_runtime_station::Faults;
-use fr_runtime_threads::Workload;
+use fr_runtime_threads::{Rack, Site, Workload};
 use std::alloc::Global;
 use std::sync::Wait;
 use std::thread::Threads;
@@ -36,21 +37,23 @@ pub struct Report {
 pub struct Cluster;
 
 impl Cluster {
-    /// Runs a cluster of a config, with one workload for each proxy of a generation, and a recoverer for each ballot, that
-    /// begins when the faults say so. Each workload, each storage server and each ballot has a thread, and the crashes have
-    /// one; each ends after so many turns. Then the journals of all nodes are audited: what is answered is a run, in which
-    /// everything holds that is proved of runs. Where it is refused, rack and workloads are dropped.
+    /// Runs a cluster of a config, with one workload for each proxy of a generation, and a recoverer for each ballot,
+    /// that begins when the faults say so, and opens a generation of the shape beside the ballot, or where none is given
+    /// one of the shape that the generation before has. Each workload, each storage server and each ballot has a thread,
+    /// and the crashes have one; each ends after so many turns. Then the journals of all nodes are audited: what is
+    /// answered is a run, in which everything holds that is proved of runs. Where it is refused, rack and workloads are
+    /// dropped.
     ///
     /// Each node that is there at the start has its journal among them, entries or none, and so has each other that took
     /// a turn; no node has two. A node of the start without one is `StateDiffers`: so it is with a proxy whose workload
-    /// is wanting.
+    /// is wanting. A fault of the audit is one of the journals that the nodes handed back.
     ///
     /// By the journals, what a workload gave is what the proxies of its number took, in order, and at most one batch more;
     /// and it was told of each in turn what such a proxy said: committed at a version, ended, or else that it is waiting.
     /// Each ballot but 0 for which the faults let a recoverer begin at one of the turns has its recoverer's journal, which
-    /// starts with that it began.
+    /// starts with that it began, with the ballot's shape.
     pub fn run<
-        K: Rack + Drop,
+        K: Rack + Sync + Drop,
         W: Workload + Send + Drop,
         F: Faults + Sync,
         R: Threads + Wait + Sync,
@@ -58,7 +61,7 @@ impl Cluster {
         rt: &R,
         alloc: Global,
         config: Config,
-        ballots: &[Ballot],
+        ballots: &[(Ballot, Option<Shape>)],
         turns: u32,
         rack: K,
         workloads: Vec<W>,
@@ -69,22 +72,59 @@ impl Cluster {
         ensures handed { IfOk result (λ done. IsHanded config done.0.journals.items done.0.world.turns) }
         ensures heard { IfOk result (λ done. AreHeard W.given W.heard done.0.journals.items 0 workloads.items done.1.items done.0.told.items) }
         ensures begun { IfOk result (λ done. AllBegin (F.begun faults.now) turns done.0.journals.items ballots.now) }
+        ensures fault { IfErr result (λ fault. IsExplained W.given W.heard (F.begun faults.now) turns config workloads.items ballots.now fault) }
     {
-        let directory = directory(rt, alloc, &config, &rack, ballots)?;
-        let stores = storages(alloc, &config, &rack)?;
-        let done = run_threads(
-            rt, alloc, &config, &directory, faults, ballots, turns, workloads, stores,
-        )?;
-        let journals = directory.into_journals(alloc)?;
-        let all = Gathered::new(alloc, journals, done)?;
+        let ran = handed_back(rt, alloc, &config, ballots, turns, rack, workloads, faults);
         let Gathered {
             journals,
             told,
             works,
-        } = all;
-        let report = audited_report(alloc, config, journals, told)?;
-        Ok((report, works))
+        } = match ran {
+            Ok(all) => all,
+            Err(unfinished) => return Err(unfinished.fault()),
+        };
+        match audited_report(alloc, config, journals, told) {
+            Ok(report) => Ok((report, works)),
+            Err(fault) => Err(RunFault::Audit(fault)),
+        }
     }
+}
+
+/// Runs the threads of a cluster, and gathers what they and the nodes that they shared hand back.
+fn handed_back<
+    'a,
+    K: Rack + Sync + Drop,
+    W: Workload + Send + Drop,
+    F: Faults + Sync,
+    R: Threads + Wait + Sync,
+>(
+    rt: &'a R,
+    alloc: Global,
+    config: &'a Config,
+    ballots: &[(Ballot, Option<Shape>)],
+    turns: u32,
+    rack: K,
+    workloads: Vec<W>,
+    faults: &'a F,
+) -> Result<Gathered<W>, Unfinished>
+    ensures heard { IfOk result (λ all. AreHeard W.given W.heard all.journals.items 0 workloads.items all.works.items all.told.items) }
+    ensures begun { IfOk result (λ all. AllBegin (F.begun faults.now) turns all.journals.items ballots.now) }
+{
+    let directory = directory(alloc, config, &rack, ballots)?;
+    let stores = storages(alloc, config, &rack)?;
+    let done = {
+        let site = Site {
+            rt,
+            alloc,
+            config,
+            directory: &directory,
+            rack: &rack,
+            faults,
+        };
+        run_threads(&site, ballots, turns, workloads, stores)?
+    };
+    let journals = directory.into_journals(alloc)?;
+    Ok(Gathered::new(alloc, journals, done)?)
 }
 
 /// What journals come to, which are audited. A node of the start that has no journal, or a node that has two, is found
@@ -94,18 +134,19 @@ fn audited_report(
     config: Config,
     journals: Vec<Journal>,
     told: Vec<Vec<Outcome>>,
-) -> Result<Report, RunFault>
+) -> Result<Report, AuditFault>
     ensures run { IfOk result (λ report. IsRunOf config report.journals.items report.world.turns) }
     ensures config { IfOk result (λ report. report.world.config ≡ config) }
     ensures handed { IfOk result (λ report. IsHanded config report.journals.items report.world.turns) }
     ensures journals { IfOk result (λ report. report.journals ≡ journals) }
     ensures told { IfOk result (λ report. report.told ≡ told) }
+    ensures fault { IfErr result (λ fault. fault ≢ AuditFault.Memory → IsFaultIn config journals.items fault) }
 {
     audit_law();
     merge_law();
     let all = journals.as_slice();
     if let Some(node) = unlike(&config, all) {
-        return Err(RunFault::Audit(AuditFault::StateDiffers { node }));
+        return Err(AuditFault::StateDiffers { node });
     }
     match audit(alloc, config, all) {
         Ok(world) => Ok(Report {
@@ -113,6 +154,6 @@ fn audited_report(
             world,
             told,
         }),
-        Err(fault) => Err(RunFault::Audit(fault)),
+        Err(fault) => Err(fault),
     }
 }

@@ -1,4 +1,7 @@
 //! Why a cluster's run has no report.
+ghost use Rattle.std.specs.Prelude.{◌≡◌, false};
+ghost use Rattle.fr_runtime.specs.Fault.{is_audit};
+
 use fr_audit::AuditFault;
 use fr_base::{Memory as NoMemory, NodeFault};
 use fr_runtime_threads::TurnFault;
@@ -23,40 +26,57 @@ pub enum RunFault {
     Rack,
 }
 
-impl From<NoMemory> for RunFault {
-    ghost use Rattle.std.specs.Prelude.{◌≡◌};
-    ghost use Rattle.fr_runtime.specs.declared.fault.RunFault.TheVariants.{Memory};
-
-    ghost from_gives = { λ _ fault. fault ≡ Memory };
-
-    fn from(_: NoMemory) -> RunFault {
-        RunFault::Memory
-    }
+/// Why the threads of a cluster came to no journals that could be audited.
+#[derive(Clone, Copy, Debug)]
+pub(crate) enum Unfinished {
+    /// There is no memory.
+    Memory,
+    /// A node or a store could not be made, or failed.
+    Rack,
 }
 
-impl From<NodeFault> for RunFault {
-    fn from(fault: NodeFault) -> RunFault {
-        match fault {
-            NodeFault::Memory => RunFault::Memory,
-            _ => RunFault::Rack,
+impl Unfinished {
+    /// What the caller of a run is told of it.
+    pub(crate) fn fault(self) -> RunFault
+        ensures { is_audit result ≡ false }
+    {
+        match self {
+            Unfinished::Memory => RunFault::Memory,
+            Unfinished::Rack => RunFault::Rack,
         }
     }
 }
 
-impl From<TurnFault> for RunFault {
-    fn from(fault: TurnFault) -> RunFault {
+impl From<NoMemory> for Unfinished {
+    fn from(_: NoMemory) -> Unfinished {
+        Unfinished::Memory
+    }
+}
+
+impl From<NodeFault> for Unfinished {
+    fn from(fault: NodeFault) -> Unfinished {
         match fault {
-            TurnFault::Memory => RunFault::Memory,
-            TurnFault::Store => RunFault::Rack,
+            NodeFault::Memory => Unfinished::Memory,
+            _ => Unfinished::Rack,
         }
     }
 }
 
-impl From<StorageFault> for RunFault {
-    fn from(fault: StorageFault) -> RunFault {
+impl From<TurnFault> for Unfinished {
+    fn from(fault: TurnFault) -> Unfinished {
         match fault {
-            StorageFault::Store(StoreFault::Memory) => RunFault::Memory,
-            _ => RunFault::Rack,
+            TurnFault::Memory => Unfinished::Memory,
+            TurnFault::Store => Unfinished::Rack,
+            TurnFault::Log => Unfinished::Rack,
+        }
+    }
+}
+
+impl From<StorageFault> for Unfinished {
+    fn from(fault: StorageFault) -> Unfinished {
+        match fault {
+            StorageFault::Store(StoreFault::Memory) => Unfinished::Memory,
+            _ => Unfinished::Rack,
         }
     }
 }

@@ -1,7 +1,7 @@
 //! Whose journals are handed back.
 ghost use Rattle.std.specs.Prelude.{◌≡◌, ◌<◌, ℕ, false, true, length, IfNone, IfSome};
 ghost use Rattle.fr_base.specs.declared.place.NodeId.TheVariants as node;
-ghost use Rattle.fr_runtime.specs.Handed.{HasStart, are_of_one_each, has_journal};
+ghost use Rattle.fr_runtime.specs.Handed.{HasStart, IsUnlike, are_of_one_each, has_journal};
 
 use crate::prepare::first_epoch;
 use fr_audit_journal::Journal;
@@ -12,6 +12,7 @@ use fr_run_event::Config;
 pub(crate) fn unlike(config: &Config, journals: &[Journal]) -> Option<NodeId>
     ensures start { IfNone result (HasStart config.now journals.now) }
     ensures each { IfNone result (are_of_one_each journals.now ≡ true) }
+    ensures some { IfSome result (IsUnlike config.now journals.now) }
 {
     let epoch = first_epoch();
     if let Some(index) = cell_without(config, journals) {
@@ -41,7 +42,8 @@ fn has_journal(journals: &[Journal], who: NodeId) -> bool
 
 /// The first coordinator that has no journal.
 fn cell_without(config: &Config, journals: &[Journal]) -> Option<u8>
-    ensures { IfNone result ((i : ℕ) → i < config.now.cells → has_journal (node.Cell i) journals.now ≡ true) }
+    ensures none { IfNone result ((i : ℕ) → i < config.now.cells → has_journal (node.Cell i) journals.now ≡ true) }
+    ensures some { IfSome result (λ i. (i < config.now.cells) × (has_journal (node.Cell i) journals.now ≡ false)) }
 {
     for index in 0..config.coordinators() {
         if !has_journal(journals, NodeId::Cell { index }) {
@@ -53,7 +55,8 @@ fn cell_without(config: &Config, journals: &[Journal]) -> Option<u8>
 
 /// The first log of the start that has no journal.
 fn log_without(config: &Config, journals: &[Journal]) -> Option<u8>
-    ensures { IfNone result ((i : ℕ) → i < config.now.m → has_journal (node.Log 257 i) journals.now ≡ true) }
+    ensures none { IfNone result ((i : ℕ) → i < config.now.m → has_journal (node.Log 257 i) journals.now ≡ true) }
+    ensures some { IfSome result (λ i. (i < config.now.m) × (has_journal (node.Log 257 i) journals.now ≡ false)) }
 {
     let epoch = first_epoch();
     for index in 0..config.logs() {
@@ -66,7 +69,8 @@ fn log_without(config: &Config, journals: &[Journal]) -> Option<u8>
 
 /// The first proxy of the start that has no journal.
 fn proxy_without(config: &Config, journals: &[Journal]) -> Option<u8>
-    ensures { IfNone result ((p : ℕ) → p < config.now.proxies → has_journal (node.Proxy 257 p) journals.now ≡ true) }
+    ensures none { IfNone result ((p : ℕ) → p < config.now.proxies → has_journal (node.Proxy 257 p) journals.now ≡ true) }
+    ensures some { IfSome result (λ p. (p < config.now.proxies) × (has_journal (node.Proxy 257 p) journals.now ≡ false)) }
 {
     let epoch = first_epoch();
     for number in 0..config.proxies() {
@@ -79,7 +83,8 @@ fn proxy_without(config: &Config, journals: &[Journal]) -> Option<u8>
 
 /// The first storage server that has no journal.
 fn storage_without(config: &Config, journals: &[Journal]) -> Option<Tag>
-    ensures { IfNone result ((t : ℕ) → t < length config.now.begins → has_journal (node.Storage t) journals.now ≡ true) }
+    ensures none { IfNone result ((t : ℕ) → t < length config.now.begins → has_journal (node.Storage t) journals.now ≡ true) }
+    ensures some { IfSome result (λ t. (t < length config.now.begins) × (has_journal (node.Storage t) journals.now ≡ false)) }
 {
     for number in 0..config.map().begins().len() {
         let Some(tag) = Tag::new(number as u8) else {

@@ -3,16 +3,17 @@ ghost use Rattle.std.specs.Prelude.{◌≡◌, ◌++◌, ◌∷◌, [], ◌<◌,
 ghost use Rattle.fr_runtime.specs.declared.job.Job.TheVariants as job_of;
 ghost use Rattle.fr_runtime.specs.Job.{AllDid, Did, DidServe, oks, pull_jobs, recover_jobs, serve_jobs};
 
-use crate::fault::RunFault;
+use crate::fault::Unfinished;
 use crate::prepare::{first_generation, put};
 use fr_audit_journal::Journal;
-use fr_base::{Ballot, Memory, Node};
+use fr_base::{Ballot, Memory, Node, Shape};
 use fr_log::Log;
 use fr_proxy::Outcome;
 use fr_register::Cell;
-use fr_run_event::Config;
-use fr_runtime_station::{Directory, Faults};
-use fr_runtime_threads::{Order, Served, TurnFault, Workload, crash, pull, recover, serve};
+use fr_runtime_station::Faults;
+use fr_runtime_threads::{
+    Order, Rack, Served, Site, TurnFault, Workload, crash, pull, recover, serve,
+};
 use fr_storage::Storage;
 use fr_undo::ShardStore;
 use std::alloc::Global;
@@ -23,11 +24,19 @@ use std::thread::{Threads, map_vec};
 #[derive(Drop)]
 pub(crate) enum Job<W, T> {
     /// It hands the batches of a workload to the proxies of a number.
-    Serve { number: usize, work: W },
-    /// It has the recoverer of a ballot begin and recover.
-    Recover { ballot: Ballot },
+    Serve {
+        number: usize,
+        work: W,
+    },
+    /// It has the recoverer of a ballot begin and recover, to open a generation of this shape.
+    Recover {
+        ballot: Ballot,
+        shape: Option<Shape>,
+    },
     /// It has a storage server pull.
-    Pull { storage: T },
+    Pull {
+        storage: T,
+    },
     /// It crashes nodes.
     Crash,
 }
@@ -54,7 +63,7 @@ pub(crate) enum Done<W> {
 fn jobs<W: Drop, T: Drop>(
     alloc: Global,
     workloads: Vec<W>,
-    ballots: &[Ballot],
+    ballots: &[(Ballot, Option<Shape>)],
     stores: Vec<T>,
 ) -> Result<Vec<Job<W, T>>, Memory>
     ensures { IfOk result (λ all. all.items ≡ serve_jobs 0 workloads.items
@@ -83,12 +92,13 @@ fn add_serving<W: Drop, T: Drop>(all: &mut Vec<Job<W, T>>, workloads: Vec<W>) ->
 /// Adds a job for each ballot.
 fn add_recovering<W: Drop, T: Drop>(
     all: &mut Vec<Job<W, T>>,
-    ballots: &[Ballot],
+    ballots: &[(Ballot, Option<Shape>)],
 ) -> Result<(), Memory>
     ensures { OnOk result (all.new.items ≡ all.old.items ++ recover_jobs ballots.now) }
 {
     for ballot in ballots {
-        put(all, Job::Recover { ballot: *ballot })?;
+        let (ballot, shape) = *ballot;
+        put(all, Job::Recover { ballot, shape })?;
     }
     Ok(())
 }
@@ -104,18 +114,8 @@ fn add_pulling<W: Drop, T: Drop>(all: &mut Vec<Job<W, T>>, stores: Vec<T>) -> Re
 }
 
 /// The turns of a workload. One whose number is beyond those of proxies is handed back as it came.
-fn serve_at<
-    C: Node<Plain = Cell> + Drop,
-    L: Node<Plain = Log> + Drop,
-    W: Workload + Drop,
-    F: Faults,
-    R: Wait,
->(
-    rt: &R,
-    alloc: Global,
-    config: &Config,
-    directory: &Directory<C, L>,
-    faults: &F,
+fn serve_at<K: Rack, F: Faults, R: Wait, W: Workload + Drop>(
+    site: &Site<'_, K, F, R>,
     turns: u32,
     number: usize,
     work: W,
@@ -125,20 +125,18 @@ fn serve_at<
     let Ok(proxy) = u8::try_from(number) else {
         return Ok(Done::Served {
             work,
-            journals: Vec::new(alloc),
+            journals: Vec::new(site.alloc),
             kept: None,
-            told: Vec::new(alloc),
+            told: Vec::new(site.alloc),
         });
     };
-    let first = first_generation(config);
+    let first = first_generation(site.config);
     let Served {
         work,
         journals,
         kept,
         told,
-    } = serve(
-        rt, alloc, config, first, directory, faults, proxy, work, turns,
-    )?;
+    } = serve(site, first, proxy, work, turns)?;
     Ok(Done::Served {
         work,
         journals,
@@ -148,40 +146,25 @@ fn serve_at<
 }
 
 /// Does what one thread does.
-fn work_at<
-    C: Node<Plain = Cell> + Drop,
-    L: Node<Plain = Log> + Drop,
-    S: ShardStore + Drop,
-    W: Workload + Drop,
-    F: Faults,
-    R: Wait,
->(
-    rt: &R,
-    alloc: Global,
-    config: &Config,
-    directory: &Directory<C, L>,
-    faults: &F,
+fn work_at<K: Rack, F: Faults, R: Wait, S: ShardStore + Drop, W: Workload + Drop>(
+    site: &Site<'_, K, F, R>,
     turns: u32,
     job: Job<W, Storage<S>>,
 ) -> Result<Done<W>, TurnFault>
-    ensures { IfOk result (λ done. Did W.given W.heard (F.begun faults.now) turns job done) }
+    ensures { IfOk result (λ done. Did W.given W.heard (F.begun site.now.faults.now) turns job done) }
 {
     match job {
-        Job::Serve { number, work } => serve_at(
-            rt, alloc, config, directory, faults, turns, number, work,
-        ),
-        Job::Recover { ballot } => {
-            match recover(rt, alloc, config, directory, faults, ballot, turns)? {
-                Some(journal) => Ok(Done::Kept { journal }),
-                None => Ok(Done::Nothing),
-            }
-        }
+        Job::Serve { number, work } => serve_at(site, turns, number, work),
+        Job::Recover { ballot, shape } => match recover(site, ballot, shape, turns)? {
+            Some(journal) => Ok(Done::Kept { journal }),
+            None => Ok(Done::Nothing),
+        },
         Job::Pull { storage } => {
-            let journal = pull(rt, alloc, config, directory, faults, storage, turns)?;
+            let journal = pull(site, storage, turns)?;
             Ok(Done::Kept { journal })
         }
         Job::Crash => {
-            crash(rt, alloc, directory, faults, turns);
+            crash(site, turns);
             Ok(Done::Nothing)
         }
     }
@@ -191,42 +174,51 @@ fn work_at<
 fn run_jobs<
     C: Node<Plain = Cell> + Send + Drop,
     L: Node<Plain = Log> + Send + Drop,
+    K: Rack<Cell = C, Log = L> + Sync,
     S: ShardStore + Send + Drop,
     W: Workload + Send + Drop,
     F: Faults + Sync,
     R: Threads + Wait + Sync,
 >(
-    rt: &R,
-    alloc: Global,
-    config: &Config,
-    directory: &Directory<C, L>,
-    faults: &F,
+    site: &Site<'_, K, F, R>,
     turns: u32,
     jobs: Vec<Job<W, Storage<S>>>,
 ) -> Result<Vec<Result<Done<W>, TurnFault>>, Memory>
     ensures len { IfOk result (λ done. length done.items ≡ length jobs.items) }
     ensures did { IfOk result (λ done. (i : ℕ) (j : _) (d : _) → i < length jobs.items
-        → IfOk (slice_index_or done.items i d) (Did W.given W.heard (F.begun faults.now) turns
+        → IfOk (slice_index_or done.items i d) (Did W.given W.heard (F.begun site.now.faults.now) turns
         (slice_index_or jobs.items i j))) }
 {
+    let (rt, alloc, config) = (site.rt, site.alloc, site.config);
+    let (directory, rack, faults) = (site.directory, site.rack, site.faults);
     let one = move |job: Job<W, Storage<S>>| -> Result<Done<W>, TurnFault>
         ensures { IfOk result (λ done. Did W.given W.heard (F.begun faults.entry.now) turns job done) }
-    { work_at(rt, alloc, config, directory, faults, turns, job) };
-    Ok(map_vec(rt, jobs, &one)?)
+    {
+        let site = Site {
+            rt,
+            alloc,
+            config,
+            directory,
+            rack,
+            faults,
+        };
+        work_at(&site, turns, job)
+    };
+    Ok(map_vec(site.rt, jobs, &one)?)
 }
 
 /// What threads handed back, where none has a fault.
 fn without_fault<W: Drop>(
     alloc: Global,
     threads: Vec<Result<Done<W>, TurnFault>>,
-) -> Result<Vec<Done<W>>, RunFault>
+) -> Result<Vec<Done<W>>, Unfinished>
     ensures { IfOk result (λ all. threads.items ≡ oks all.items) }
 {
     let mut all = Vec::new(alloc);
     for thread in threads {
         match thread {
             Ok(done) => put(&mut all, done)?,
-            Err(fault) => return Err(RunFault::from(fault)),
+            Err(fault) => return Err(Unfinished::from(fault)),
         }
     }
     Ok(all)
@@ -235,28 +227,23 @@ fn without_fault<W: Drop>(
 /// Runs a thread for each workload, each ballot and each storage server, and one for the crashes, to their ends. What
 /// they hand back stands in that order.
 pub(crate) fn run_threads<
-    C: Node<Plain = Cell> + Send + Drop,
-    L: Node<Plain = Log> + Send + Drop,
+    K: Rack + Sync,
     S: ShardStore + Send + Drop,
     W: Workload + Send + Drop,
     F: Faults + Sync,
     R: Threads + Wait + Sync,
 >(
-    rt: &R,
-    alloc: Global,
-    config: &Config,
-    directory: &Directory<C, L>,
-    faults: &F,
-    ballots: &[Ballot],
+    site: &Site<'_, K, F, R>,
+    ballots: &[(Ballot, Option<Shape>)],
     turns: u32,
     workloads: Vec<W>,
     stores: Vec<Storage<S>>,
-) -> Result<Vec<Done<W>>, RunFault>
-    ensures { IfOk result (λ done. AllDid W.given W.heard (F.begun faults.now) turns (serve_jobs 0 workloads.items
+) -> Result<Vec<Done<W>>, Unfinished>
+    ensures { IfOk result (λ done. AllDid W.given W.heard (F.begun site.now.faults.now) turns (serve_jobs 0 workloads.items
         ++ (recover_jobs ballots.now ++ (pull_jobs stores.items ++ job_of.Crash ∷ []))) done.items) }
 {
-    let jobs = jobs(alloc, workloads, ballots, stores)?;
-    let threads = run_jobs(rt, alloc, config, directory, faults, turns, jobs)?;
-    let done = without_fault(alloc, threads)?;
+    let jobs = jobs(site.alloc, workloads, ballots, stores)?;
+    let threads = run_jobs(site, turns, jobs)?;
+    let done = without_fault(site.alloc, threads)?;
     Ok(done)
 }

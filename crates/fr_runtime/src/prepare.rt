@@ -2,20 +2,21 @@
 ghost use Rattle.std.specs.Prelude.{◌≡◌, ◌++◌, ◌∷◌, ◌<◌, [], false, IfOk, None, OnOk};
 ghost use Rattle.fr_run.specs.Config.{first_generation};
 
-use crate::fault::RunFault;
-use crate::rack::Rack;
-use fr_base::{Ballot, Epoch, InMemory, LogId, Memory, Node, NodeFault, NodeId, Tag, Version};
+use crate::fault::Unfinished;
+use fr_base::{
+    Ballot, Epoch, InMemory, LogId, Memory, Node, NodeFault, NodeId, Shape, Tag, Version,
+};
 use fr_log::{Log, LogAsk, Push, Seed};
 use fr_proxy::Sequencer;
 use fr_register::{Cell, CellAsk, CellValue};
 use fr_run_event::Config;
 use fr_runtime_housing::Housed;
 use fr_runtime_station::{Directory, Station};
+use fr_runtime_threads::Rack;
 use fr_state::{CoordState, Generation, encode};
 use fr_storage::Storage;
 use fr_undo::StoreFault;
 use std::alloc::Global;
-use std::sync::Wait;
 
 /// The number of the epoch that a cluster starts in: round 1, recoverer 1.
 const FIRST: u64 = 257;
@@ -107,7 +108,7 @@ fn cells<K: Rack>(
     config: &Config,
     rack: &K,
     state: &CoordState,
-) -> Result<Vec<Station<K::Cell>>, RunFault> {
+) -> Result<Vec<Station<K::Cell>>, Unfinished> {
     let mut all = Vec::new(alloc);
     for index in 0..config.coordinators() {
         let node = started_cell(alloc, rack.cell(alloc, index)?, state)?;
@@ -117,80 +118,66 @@ fn cells<K: Rack>(
     Ok(all)
 }
 
-/// A log of an epoch that may come: one of the start is seeded and marked, the others are fresh.
+/// A log of the start, seeded and marked.
 fn log_station<K: Rack>(
     alloc: Global,
     config: &Config,
     rack: &K,
     state: &CoordState,
-    id: LogId,
-) -> Result<Station<K::Log>, RunFault>
-    requires place { id.index < config.now.m }
+    index: u8,
+) -> Result<Station<K::Log>, Unfinished>
+    requires place { index < config.now.m }
 {
     let _within = config.coordinators();
-    let LogId { epoch, index } = id;
+    let epoch = first_epoch();
+    let id = LogId { epoch, index };
     let fresh = rack.log(alloc, id, config.logs(), config.degree())?;
-    let place = NodeId::Log { epoch, index };
-    if epoch == first_epoch() {
-        let node = started_log(alloc, fresh, state)?;
-        Ok(Station::new(Housed::new(alloc, node, place)))
-    } else {
-        Ok(Station::new(Housed::new(alloc, fresh, place)))
-    }
+    let node = started_log(alloc, fresh, state)?;
+    let housed = Housed::new(alloc, node, NodeId::Log { epoch, index });
+    Ok(Station::new(housed))
 }
 
-/// The logs of the start, and the fresh ones of all epochs that may come.
+/// The logs of the start.
 fn logs<K: Rack>(
     alloc: Global,
     config: &Config,
     rack: &K,
     state: &CoordState,
-    epochs: &[Epoch],
-) -> Result<Vec<Station<K::Log>>, RunFault> {
+) -> Result<Vec<Station<K::Log>>, Unfinished> {
     let mut all = Vec::new(alloc);
-    for epoch in epochs {
-        for index in 0..config.logs() {
-            let id = LogId {
-                epoch: *epoch,
-                index,
-            };
-            put(&mut all, log_station(alloc, config, rack, state, id)?)?;
-        }
+    for index in 0..config.logs() {
+        put(&mut all, log_station(alloc, config, rack, state, index)?)?;
     }
     Ok(all)
 }
 
-/// The epochs that may come: the first, and one of each ballot.
-fn epochs(alloc: Global, ballots: &[Ballot]) -> Result<Vec<Epoch>, Memory> {
+/// The epochs that may come: one of each ballot.
+fn epochs(alloc: Global, ballots: &[(Ballot, Option<Shape>)]) -> Result<Vec<Epoch>, Memory> {
     let mut all = Vec::new(alloc);
-    all.push(first_epoch())?;
     for ballot in ballots {
-        if let Some(epoch) = ballot.epoch() {
+        if let Some(epoch) = ballot.0.epoch() {
             all.push(epoch)?;
         }
     }
     Ok(all)
 }
 
-/// All nodes that answer asks.
-pub(crate) fn directory<K: Rack, R: Wait>(
-    rt: &R,
+/// All nodes that answer asks and are there from the start.
+pub(crate) fn directory<K: Rack>(
     alloc: Global,
     config: &Config,
     rack: &K,
-    ballots: &[Ballot],
-) -> Result<Directory<K::Cell, K::Log>, RunFault> {
+    ballots: &[(Ballot, Option<Shape>)],
+) -> Result<Directory<K::Cell, K::Log>, Unfinished> {
     let first = first_generation(config);
     let state = CoordState::new(alloc, first)?;
-    let epochs = epochs(alloc, ballots)?;
     let cells = cells(alloc, config, rack, &state)?;
-    let logs = logs(alloc, config, rack, &state, epochs.as_slice())?;
-    let directory = Directory::new(alloc, cells, logs, epochs, first)?;
+    let logs = logs(alloc, config, rack, &state)?;
     let epoch = first_epoch();
     let sequencer = InMemory::new(Sequencer::new(alloc, epoch, version_one()));
     let housed = Housed::new(alloc, sequencer, NodeId::Sequencer { epoch });
-    directory.start(rt, housed);
-    Ok(directory)
+    let epochs = epochs(alloc, ballots)?;
+    Ok(Directory::new(alloc, cells, logs, housed, first, epochs.as_slice())?)
 }
 
 /// The storage servers, in the order of their tags.
@@ -198,7 +185,7 @@ pub(crate) fn storages<K: Rack>(
     alloc: Global,
     config: &Config,
     rack: &K,
-) -> Result<Vec<Storage<K::Store>>, RunFault> {
+) -> Result<Vec<Storage<K::Store>>, Unfinished> {
     let state = CoordState::new(alloc, first_generation(config))?;
     let mut all = Vec::new(alloc);
     for number in 0..32u8 {
@@ -215,7 +202,7 @@ fn storage<K: Rack>(
     rack: &K,
     number: u8,
     state: &CoordState,
-) -> Result<Storage<K::Store>, RunFault>
+) -> Result<Storage<K::Store>, Unfinished>
     requires { number < 32 }
 {
     let Some(tag) = Tag::new(number) else {
@@ -223,8 +210,8 @@ fn storage<K: Rack>(
     };
     match rack.store(alloc, tag) {
         Ok(store) => Ok(Storage::start(alloc, store, tag, state.copy()?)?),
-        Err(StoreFault::Memory) => Err(RunFault::Memory),
-        Err(_) => Err(RunFault::Rack),
+        Err(StoreFault::Memory) => Err(Unfinished::Memory),
+        Err(_) => Err(Unfinished::Rack),
     }
 }
 

@@ -2,6 +2,7 @@
 use denote.RattleType.{RattleType}
 use denote.Struct.Declared.{shape}
 use denote.Param.Send.{IsSend, IsSync, recorded_sync, sendable, struct_sync}
+use Rattle.core.proofs.once.Sent.{once_sync}
 use Rattle.std.proofs.Crossing.{crosses}
 use Rattle.fr_ask.proofs.sequencer.SeqAsk.TheSendSync as seq_ask
 use Rattle.fr_ask.specs.declared.named.Named as named
@@ -20,15 +21,33 @@ use Rattle.fr_register.specs.declared.ask.CellAsk.{CellAsk}
 use Rattle.fr_register.specs.declared.ask.CellTell.{CellTell}
 use Rattle.fr_register.specs.declared.cell.Cell.{Cell}
 use Rattle.fr_runtime_station.specs.contracts.directory.Directory as directory
-use Rattle.fr_runtime_station.specs.contracts.seat.Seat as seat
+use Rattle.fr_runtime_station.specs.contracts.epoch_nodes.EpochNodes as epoch_nodes
+use Rattle.fr_runtime_station.specs.contracts.epoch_nodes.Logs as logs
+use Rattle.fr_runtime_station.specs.contracts.epoch_nodes.Opened as opened
 use Rattle.fr_runtime_station.specs.contracts.station.Station as station
 
 module _ (N M A T : RattleType) (g : node.Ghosts N.Denot M.Denot A.Denot T.Denot) (h : machine.Ghosts M.Denot A.Denot T.Denot) (k : named.Ghosts M.Denot A.Denot T.Denot) where
+  station-send : IsSend (housed.the_row N M A T g h k) → IsSend (station.the_row N M A T g h k)
+  station-send s = search (sendable, crosses) depth 40
+
   station-sync : IsSend (housed.the_row N M A T g h k) → IsSync (station.the_row N M A T g h k)
   station-sync s = search (sendable, crosses) depth 40
 
-  seat-sync : IsSend (housed.the_row N M A T g h k) → IsSync (seat.the_row N M A T g h k)
-  seat-sync s = search (sendable, crosses) depth 40
+opened-send : IsSend opened.the_row
+opened-send = search (sendable, crosses, housed-send, in_memory.the_send, sequencer.the_send, seq_ask.the_send) depth 40
+
+opened-sync : IsSync opened.the_row
+opened-sync = search (sendable, crosses, housed-send, in_memory.the_send, sequencer.the_send, seq_ask.the_send) depth 40
+
+module _ (L : RattleType) (h : node.Ghosts L.Denot Log LogAsk LogTell) where
+  logs-send : IsSend L → IsSend (logs.the_row L h)
+  logs-send l = search (sendable, crosses, station-send, housed-send, log_ask.the_send) depth 40
+
+  logs-sync : IsSend L → IsSync (logs.the_row L h)
+  logs-sync l = search (sendable, crosses, station-sync, housed-send, log_ask.the_send) depth 40
+
+  nodes-sync : IsSend L → IsSync (epoch_nodes.the_row L h)
+  nodes-sync l = search (sendable, crosses, once_sync, logs-send, logs-sync, opened-send, opened-sync) depth 40
 
 module _ (C L : RattleType) (g : node.Ghosts C.Denot Cell CellAsk CellTell) (h : node.Ghosts L.Denot Log LogAsk LogTell) where
   pub directory-sync : IsSend C → IsSend L → IsSync (directory.the_row C L g h)
@@ -37,13 +56,10 @@ module _ (C L : RattleType) (g : node.Ghosts C.Denot Cell CellAsk CellTell) (h :
       recorded_sync _ _ _ S.to_one (struct_sync (shape S) (
         search (sendable, crosses, station-sync, housed-send, cell_ask.the_send) depth 40,
         (
-          search (sendable, crosses, station-sync, housed-send, log_ask.the_send) depth 40,
+          search (sendable, crosses) depth 40,
           (
-            search (sendable, crosses, seat-sync, housed-send, in_memory.the_send, sequencer.the_send, seq_ask.the_send) depth 40,
-            (
-              search (sendable, crosses) depth 40,
-              (search (sendable, crosses) depth 40, (search (sendable, crosses) depth 40, tt)),
-            ),
+            search (sendable, crosses, once_sync, logs-send, logs-sync, opened-send, opened-sync) depth 40,
+            (search (sendable, crosses, nodes-sync) depth 40, tt),
           ),
         ),
       ))

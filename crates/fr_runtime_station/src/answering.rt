@@ -1,5 +1,8 @@
 //! What lies under the lock of a station.
-ghost use Rattle.std.specs.Prelude.{◌≡◌, ◌<◌, IfOk, true};
+ghost use Rattle.std.specs.Prelude.{◌≡◌, ◌<◌, IfErr, IfOk, true};
+ghost use Rattle.fr_audit_journal.specs.declared.act.Act.{Act};
+ghost use Rattle.fr_runtime_housing.specs.Replays.{steps};
+ghost use Rattle.fr_runtime_housing.specs.Housing.{Asks, Enters, IsTrouble};
 ghost use Rattle.fr_runtime_station.specs.Answering.{answers};
 
 use fr_ask::Tell;
@@ -39,7 +42,11 @@ where
     ) -> Result<(Stamp, Tell), CallFault>
     where
         N: Drop,
-        ensures { IfOk result (λ told. stamp < told.0) }
+        ensures entered { IfOk result (λ told. Asks
+            (steps N.Plain.wrapped N.Plain.unwrapped N.Plain.wrapped_tell N.Plain.told N.Plain.after)
+            self.old.housed self.new.housed stamp from ask (told.0, told.1)) }
+        ensures above { IfOk result (λ told. stamp < told.0) }
+        ensures trouble { IfErr result (IsTrouble N.CanMeet) }
     {
         self.housed.ask(alloc, stamp, from, ask)
     }
@@ -48,7 +55,11 @@ where
     pub(crate) fn crash(&mut self, alloc: Global, stamp: Stamp) -> Result<Stamp, CallFault>
     where
         N: Drop,
-        ensures { IfOk result (λ at. stamp < at) }
+        ensures entered { IfOk result (λ at. Enters
+            (steps N.Plain.wrapped N.Plain.unwrapped N.Plain.wrapped_tell N.Plain.told N.Plain.after)
+            self.old.housed self.new.housed stamp at Act.Crashed) }
+        ensures above { IfOk result (λ at. stamp < at) }
+        ensures trouble { IfErr result (IsTrouble N.CanMeet) }
     {
         self.housed.crash(alloc, stamp)
     }

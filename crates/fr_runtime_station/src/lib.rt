@@ -2,14 +2,14 @@
 #![tactic(auto)]
 
 mod answering;
+mod chosen;
+mod closing;
 mod directory;
+mod epoch_nodes;
 mod faults;
-mod published;
-mod seat;
 mod station;
 
+pub use chosen::{Chosen, first_stamp};
 pub use directory::Directory;
 pub use faults::{Faults, NoFaults, Verdict};
-pub use published::{Chosen, Published, first_stamp};
-pub use seat::Seat;
 pub use station::Station;

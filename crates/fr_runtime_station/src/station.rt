@@ -1,5 +1,6 @@
 //! A node with its journal, which threads share.
-ghost use Rattle.std.specs.Prelude.{◌≡◌, ◌<◌, IfOk, true};
+ghost use Rattle.std.specs.Prelude.{◌≡◌, ◌<◌, IfErr, IfOk, true};
+ghost use Rattle.fr_runtime_housing.specs.Housing.{IsTrouble};
 ghost use Rattle.fr_runtime_station.specs.Answering.{answers};
 
 use crate::answering::Answering;
@@ -33,7 +34,8 @@ where
         }
     }
 
-    /// Asks the node, as [`Housed::ask`] does, once the lock is free. The stamp is above the caller's.
+    /// Asks the node, as [`Housed::ask`] does, once the lock is free. The stamp is above the caller's; a fault is one that
+    /// the node can meet, want of memory, or that it takes no call.
     pub fn call<R: Wait>(
         &self,
         rt: &R,
@@ -44,7 +46,8 @@ where
     ) -> Result<(Stamp, Tell), CallFault>
     where
         N: Drop,
-        ensures { IfOk result (λ told. stamp < told.0) }
+        ensures above { IfOk result (λ told. stamp < told.0) }
+        ensures trouble { IfErr result (IsTrouble N.CanMeet) }
     {
         self.lock.lock(rt).ask(alloc, stamp, from, ask)
     }
@@ -53,7 +56,8 @@ where
     pub fn crash<R: Wait>(&self, rt: &R, alloc: Global, stamp: Stamp) -> Result<Stamp, CallFault>
     where
         N: Drop,
-        ensures { IfOk result (λ at. stamp < at) }
+        ensures above { IfOk result (λ at. stamp < at) }
+        ensures trouble { IfErr result (IsTrouble N.CanMeet) }
     {
         self.lock.lock(rt).crash(alloc, stamp)
     }

@@ -1,7 +1,7 @@
 -- Accounts of journals that are one entry longer, and of several journals.
 use Rattle.std.proofs.Common.{refl, sym, ap, ◌∙◌}
 use Rattle.std.proofs.lemmas.List.{append-nil, append_assoc}
-use Rattle.std.specs.Prelude.{ℕ, Bool, true, false, ◌≡◌, ◌&&◌, ◌++◌, List, [], ◌∷◌, Some}
+use Rattle.std.specs.Prelude.{ℕ, Bool, true, false, ◌≡◌, ◌&&◌, ◌++◌, List, [], ◌∷◌, Option, Some}
 use Rattle.fr_proxy.specs.declared.outcome.Outcome.{Outcome}
 use Rattle.fr_proxy.specs.declared.outcome.Outcome.TheVariants.{Waiting, Committed, Ended}
 use Rattle.fr_audit_journal.specs.declared.act.Entry.{Entry}
@@ -11,7 +11,8 @@ use Rattle.fr_runtime_threads.specs.declared.order.Order.{Order}
 use Rattle.fr_runtime_threads.specs.declared.order.UnderWay.{UnderWay}
 use Rattle.fr_runtime_threads.specs.declared.order.UnderWay.TheVariants.{Nothing, Open, Said}
 use Rattle.fr_runtime_threads.specs.Account.{Account, account, after_act, after_entries, after_saying, all_given, all_outcomes, are_proxies, is_open_in, is_proxy, nothing, open_after, outcomes, said, told_after, waiting_if}
-use Rattle.fr_runtime_threads.specs.Begins.{starts_with_begun}
+use Rattle.fr_base.specs.Shape.{ShapeContent}
+use Rattle.fr_runtime_threads.specs.Begins.{StartsWithBegun}
 
 after-append : (a : Account) (es : List Entry) (e : Entry) → after_entries a (es ++ e ∷ []) ≡ after_act (after_entries a es) e.act
 after-append a [] e = refl
@@ -45,9 +46,9 @@ open-append (Said p) (Committed v) = refl
 open-append (Said p) Ended = refl
 
 -- a journal that starts with the beginning goes on to
-pub begun-append : (es : List Entry) (e : Entry) → starts_with_begun es ≡ true → starts_with_begun (es ++ e ∷ []) ≡ true
-begun-append [] e h = absurd (cc)
-begun-append (x ∷ es) e h = h
+pub begun-append : (shape : Option ShapeContent) (es : List Entry) (e : Entry) → StartsWithBegun shape es → StartsWithBegun shape (es ++ e ∷ [])
+begun-append shape [] e h = absurd (cc)
+begun-append shape (x ∷ es) e h = h
 
 pub all-given-append : (js : List JournalState) (j : JournalState) → all_given (js ++ j ∷ []) ≡ all_given js ++ (account j.entries).given
 all-given-append [] j = append-nil (account j.entries).given

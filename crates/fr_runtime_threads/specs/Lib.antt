@@ -1,2 +1,4 @@
 pub mod Account
 pub mod Begins
+pub mod NodeFaults
+pub mod StoreFaults

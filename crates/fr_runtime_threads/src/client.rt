@@ -6,14 +6,14 @@ ghost use Rattle.fr_runtime_threads.specs.Account.{account, all_given, all_outco
 use crate::door::{Door, send_all};
 use crate::fault::TurnFault;
 use crate::order::{Order, UnderWay};
+use crate::rack::Rack;
+use crate::site::Site;
 use crate::workload::Workload;
 use fr_audit_journal::Journal;
-use fr_base::{Memory, Node};
-use fr_log::Log;
+use fr_base::Memory;
 use fr_proxy::Outcome;
-use fr_register::Cell;
 use fr_run_event::Config;
-use fr_runtime_station::{Chosen, Directory, Faults, first_stamp};
+use fr_runtime_station::{Chosen, Faults, first_stamp};
 use fr_state::Generation;
 use std::alloc::Global;
 use std::snapshot::Snapshot;
@@ -146,23 +146,19 @@ impl<W: Workload + Drop> Client<W> {
 
     /// One turn: a batch is handed out where none is open, and each pending ask is sent once. False where there is no
     /// further batch.
-    fn turn<R: Wait, C: Node<Plain = Cell> + Drop, L: Node<Plain = Log> + Drop, F: Faults>(
+    fn turn<K: Rack, F: Faults, R: Wait>(
         &mut self,
-        rt: &R,
-        alloc: Global,
-        config: &Config,
-        directory: &Directory<C, L>,
-        faults: &F,
+        site: &Site<'_, K, F, R>,
     ) -> Result<bool, TurnFault>
         ensures first { self.new.first ≡ self.old.first }
         ensures number { self.new.number ≡ self.old.number }
     {
         if let UnderWay::Nothing = self.door.under_way() {
-            if !self.hand_out(alloc, config, directory.newest(rt))? {
+            if !self.hand_out(site.alloc, site.config, site.directory.newest())? {
                 return Ok(false);
             }
         }
-        send_all(rt, alloc, directory, faults, &mut self.door)?;
+        send_all(site, &mut self.door)?;
         self.settle()?;
         Ok(true)
     }
@@ -233,19 +229,9 @@ fn tell_waiting<W: Workload + Drop>(
 /// The turns of a workload, at the proxies of its number. Of what the proxies took and said the workload misses nothing:
 /// what it gave are the batches that they took, in order, and then the one that none took, if there is one; and it is
 /// told of each in turn what the proxy said, Waiting where that was nothing.
-pub fn serve<
-    R: Wait,
-    C: Node<Plain = Cell> + Drop,
-    L: Node<Plain = Log> + Drop,
-    F: Faults,
-    W: Workload + Drop,
->(
-    rt: &R,
-    alloc: Global,
-    config: &Config,
+pub fn serve<K: Rack, F: Faults, R: Wait, W: Workload + Drop>(
+    site: &Site<'_, K, F, R>,
     first: Generation,
-    directory: &Directory<C, L>,
-    faults: &F,
     number: u8,
     work: W,
     turns: u32,
@@ -255,9 +241,9 @@ pub fn serve<
     ensures heard { IfOk result (λ s. W.heard s.work ≡ W.heard work ++ s.told.items) }
     ensures places { IfOk result (λ s. are_proxies number s.journals.items ≡ true) }
 {
-    let mut client = Client::new(alloc, config, first, number, work)?;
+    let mut client = Client::new(site.alloc, site.config, first, number, work)?;
     for _turn in 0..turns {
-        if !client.turn(rt, alloc, config, directory, faults)? {
+        if !client.turn(site)? {
             break;
         }
     }

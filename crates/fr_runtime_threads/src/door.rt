@@ -7,15 +7,15 @@ ghost use Rattle.fr_runtime_threads.specs.Account.{account, after_saying, is_ope
 use crate::fault::TurnFault;
 use crate::notes::Notes;
 use crate::order::{Order, UnderWay};
+use crate::rack::Rack;
 use crate::sending::{Hearer, send};
+use crate::site::Site;
 use fr_ask::{Ask, Tell};
 use fr_audit_journal::{Act, Journal};
-use fr_base::{Epoch, Memory, Node, NodeId, Stamp, Version};
-use fr_log::Log;
+use fr_base::{Epoch, Memory, NodeId, Stamp, Version};
 use fr_proxy::{Outcome, Proxy};
-use fr_register::Cell;
 use fr_run_event::{Config, last_of_proxy};
-use fr_runtime_station::{Directory, Faults};
+use fr_runtime_station::Faults;
 use fr_state::Generation;
 use std::alloc::Global;
 use std::sync::Wait;
@@ -44,7 +44,7 @@ fn after_saying(under_way: UnderWay, outcome: Outcome) -> UnderWay
 }
 
 impl Door {
-    /// The proxy of a number in a generation, for a thread that has seen this stamp.
+    /// The proxy of a number in a generation, of as many logs as that has, for a thread that has seen this stamp.
     pub(crate) fn new(
         alloc: Global,
         config: &Config,
@@ -52,19 +52,19 @@ impl Door {
         generation: Generation,
         now: Stamp,
     ) -> Result<Self, Memory>
+        ensures logs { IfOk result (λ door. (door.proxy.m ≡ generation.m) × (door.proxy.k ≡ generation.k)) }
         ensures place { IfOk result (λ door. door.notes.journal.node ≡ NodeId.Proxy generation.epoch number) }
         ensures entries { IfOk result (λ door. door.notes.journal.entries ≡ []) }
         ensures shut { IfOk result (λ door. door.under_way ≡ UnderWay.Nothing) }
         ensures told { IfOk result (λ door. door.told.items ≡ []) }
     {
-        let _within = config.coordinators();
         let epoch = generation.epoch();
         let known = match generation.first().before() {
             Some(known) => known,
             None => Version::ZERO,
         };
         let map = config.map().copy()?;
-        let proxy = Proxy::new(epoch, number, config.logs(), config.degree(), map, known);
+        let proxy = Proxy::new(epoch, number, generation.m(), generation.k(), map, known);
         Ok(Door {
             proxy,
             notes: Notes::new(alloc, NodeId::Proxy { epoch, number }, now),
@@ -173,33 +173,28 @@ impl Door {
 }
 
 /// Sends each pending ask of a proxy once.
-pub(crate) fn send_all<
-    R: Wait,
-    C: Node<Plain = Cell> + Drop,
-    L: Node<Plain = Log> + Drop,
-    F: Faults,
->(
-    rt: &R,
-    alloc: Global,
-    directory: &Directory<C, L>,
-    faults: &F,
+pub(crate) fn send_all<K: Rack, F: Faults, R: Wait>(
+    site: &Site<'_, K, F, R>,
     door: &mut Door,
 ) -> Result<(), TurnFault>
     ensures place { door.new.notes.journal.node ≡ door.old.notes.journal.node }
     ensures given { (account door.new.notes.journal.entries).given ≡ (account door.old.notes.journal.entries).given }
     ensures told { door.new.told.items ≡ door.old.told.items }
 {
-    let asks = door.pending(alloc)?;
+    let asks = door.pending(site.alloc)?;
     for (to, ask) in asks.iter() {
-        send(rt, alloc, directory, faults, door, to, ask)?;
+        send(site, door, to, ask)?;
     }
     Ok(())
 }
 
 impl Hearer for Door {
+    ghost use Rattle.std.specs.Prelude.{None};
     ghost use Rattle.fr_runtime_threads.specs.Account.{account};
 
     ghost node = { λ d. d.notes.journal.node };
+
+    ghost shape = { λ d. None };
 
     ghost given = { λ d. (account d.notes.journal.entries).given };
 

@@ -1,7 +1,8 @@
 //! Why a thread ends early.
 ghost use Rattle.std.specs.Prelude.{◌≡◌};
+ghost use Rattle.fr_runtime_threads.specs.StoreFaults.{of_store};
 
-use fr_base::Memory as NoMemory;
+use fr_base::{Memory as NoMemory, NodeFault};
 use fr_undo::StoreFault;
 use thiserror::Error;
 
@@ -14,6 +15,9 @@ pub enum TurnFault {
     /// The store of a storage server failed.
     #[error("a store failed")]
     Store,
+    /// A log of a later generation could not be made.
+    #[error("a log could not be made")]
+    Log,
 }
 
 impl From<NoMemory> for TurnFault {
@@ -27,10 +31,34 @@ impl From<NoMemory> for TurnFault {
     }
 }
 
+impl From<NodeFault> for TurnFault {
+    ghost use Rattle.std.specs.Prelude.{◌≡◌};
+    ghost use Rattle.fr_runtime_threads.specs.NodeFaults.{of_node};
+
+    ghost from_gives = { λ fault made. made ≡ of_node fault };
+
+    fn from(fault: NodeFault) -> TurnFault {
+        match fault {
+            NodeFault::Device => TurnFault::Log,
+            NodeFault::Full => TurnFault::Log,
+            NodeFault::Failed => TurnFault::Log,
+            NodeFault::Memory => TurnFault::Memory,
+            NodeFault::Broken => TurnFault::Log,
+        }
+    }
+}
+
 /// What a fault of a store is to its thread.
-pub(crate) fn fault_of(fault: StoreFault) -> TurnFault {
+pub(crate) fn fault_of(fault: StoreFault) -> TurnFault
+    ensures { result ≡ of_store fault }
+{
     match fault {
+        StoreFault::Device => TurnFault::Store,
+        StoreFault::Full => TurnFault::Store,
+        StoreFault::Failed => TurnFault::Store,
         StoreFault::Memory => TurnFault::Memory,
-        _ => TurnFault::Store,
+        StoreFault::NotAfter => TurnFault::Store,
+        StoreFault::BelowFloor => TurnFault::Store,
+        StoreFault::AboveApplied => TurnFault::Store,
     }
 }

@@ -9,8 +9,10 @@ mod fault;
 mod notes;
 mod order;
 mod pulling;
+mod rack;
 mod recovery;
 mod sending;
+mod site;
 mod workload;
 
 pub use client::{Served, serve};
@@ -18,5 +20,7 @@ pub use crashes::crash;
 pub use fault::TurnFault;
 pub use order::Order;
 pub use pulling::pull;
+pub use rack::{PlainRack, Rack};
 pub use recovery::recover;
+pub use site::Site;
 pub use workload::Workload;

@@ -1,12 +1,12 @@
 //! The journal of a node that one thread owns.
-ghost use Rattle.std.specs.Prelude.{◌≡◌, ◌≤◌, ◌<◌, ◌+◌, ◌^◌, ◌++◌, ◌∷◌, [], Some, true, IfOk, IfSome, IsSome};
+ghost use Rattle.std.specs.Prelude.{◌≡◌, ◌≤◌, ◌<◌, ◌+◌, ◌^◌, ◌++◌, ◌∷◌, [], Some, IfOk, IfSome, IsSome};
 ghost use Rattle.fr_audit_journal.specs.Journal.{IsAbove};
 ghost use Rattle.fr_runtime_housing.specs.Housing.{last_number};
-ghost use Rattle.fr_runtime_threads.specs.Begins.{starts_with_begun};
+ghost use Rattle.fr_runtime_threads.specs.Begins.{StartsWithBegun};
 
 use fr_ask::Last;
 use fr_audit_journal::{Act, Entry, Journal};
-use fr_base::{Memory, NodeId, Stamp};
+use fr_base::{Memory, NodeId, Shape, Stamp};
 use fr_runtime_station::first_stamp;
 use std::alloc::Global;
 
@@ -31,16 +31,16 @@ impl Notes {
         }
     }
 
-    /// The journal of a recoverer that begins.
-    pub(crate) fn begun(alloc: Global, place: NodeId) -> Result<Self, Memory>
+    /// The journal of a recoverer that begins, to open a generation of this shape.
+    pub(crate) fn begun(alloc: Global, place: NodeId, shape: Option<Shape>) -> Result<Self, Memory>
         ensures place { IfOk result (λ notes. notes.journal.node ≡ place) }
-        ensures begun { IfOk result (λ notes. starts_with_begun notes.journal.entries ≡ true) }
+        ensures begun { IfOk result (λ notes. StartsWithBegun shape notes.journal.entries) }
     {
         let mut notes = Notes::new(alloc, place, first_stamp());
         let Some(stamp) = notes.next()? else {
             unreachable!();
         };
-        notes.enter(stamp, Act::Begun { shape: None });
+        notes.enter(stamp, Act::Begun { shape });
         Ok(notes)
     }
 

@@ -1,17 +1,19 @@
 //! The thread of a storage server: it pulls what its logs hold, and hears of later epochs.
-ghost use Rattle.std.specs.Prelude.{◌≡◌, ◌≤◌, IfOk};
+ghost use Rattle.std.specs.Prelude.{◌≡◌, ◌==◌, ◌+◌, ◌%◌, find, IfOk};
 ghost use Rattle.fr_base.specs.declared.place.NodeId.{NodeId};
 
 use crate::fault::{TurnFault, fault_of};
 use crate::notes::Notes;
+use crate::rack::Rack;
 use crate::sending::{Hearer, send};
+use crate::site::Site;
 use fr_ask::{Ask, Tell};
 use fr_audit_journal::{Act, Journal};
-use fr_base::{Node, NodeId, Stamp};
-use fr_log::{Log, LogAsk, LogTell};
-use fr_register::Cell;
-use fr_run_event::{Config, last_of_storage};
-use fr_runtime_station::{Directory, Faults, first_stamp};
+use fr_base::{Epoch, NodeId, Stamp, Tag};
+use fr_log::{LogAsk, LogTell};
+use fr_run_event::last_of_storage;
+use fr_runtime_station::{Faults, first_stamp};
+use fr_state::Generation;
 use fr_storage::{Storage, StorageFault};
 use fr_undo::ShardStore;
 use std::alloc::Global;
@@ -25,9 +27,11 @@ struct Puller<S: ShardStore> {
 }
 
 impl<S: ShardStore> Hearer for Puller<S> {
-    ghost use Rattle.std.specs.Prelude.{[]};
+    ghost use Rattle.std.specs.Prelude.{[], None};
 
     ghost node = { λ p. p.notes.journal.node };
+
+    ghost shape = { λ p. None };
 
     ghost given = { λ p. [] };
 
@@ -94,59 +98,59 @@ fn refused(heard: Result<(), StorageFault>) -> Result<(), TurnFault> {
     }
 }
 
-/// Which of so many logs is asked at a turn, after those of this number.
-fn by_turn(config: &Config, first: u8, turn: u32, count: u8) -> u8
-    requires some { 1 ≤ count }
+/// The generation of an epoch among these.
+fn of_epoch(gens: &[Generation], epoch: Epoch) -> Option<Generation>
+    ensures { result ≡ find (λ g. g.epoch == epoch) gens.now }
 {
-    let _within = config.coordinators();
-    let number = u64::from(first) + u64::from(turn % u32::from(count));
-    (number % u64::from(config.logs())) as u8
+    gens.iter().copied().find(|g| g.epoch() == epoch)
+}
+
+/// The log of a generation that is asked for a tag's records at a turn: one of those on which the tag stands, the next
+/// one at each turn.
+fn holder_at(generation: Generation, tag: Tag, turn: u32) -> NodeId
+    ensures { result ≡ NodeId.Log generation.epoch ((tag + turn % generation.k) % generation.m) }
+{
+    let number = u64::from(tag.get()) + u64::from(turn % u32::from(generation.k()));
+    NodeId::Log {
+        epoch: generation.epoch(),
+        index: (number % u64::from(generation.m())) as u8,
+    }
+}
+
+/// The log of a generation that is asked for its mark at a turn: the next one at each turn.
+fn log_at(generation: Generation, turn: u32) -> NodeId
+    ensures { result ≡ NodeId.Log generation.epoch (turn % generation.m) }
+{
+    NodeId::Log {
+        epoch: generation.epoch(),
+        index: (turn % u32::from(generation.m())) as u8,
+    }
 }
 
 /// One turn: it pulls from a holder of its tag, and asks a log of the newest epoch for its mark.
-fn pull_once<
-    R: Wait,
-    C: Node<Plain = Cell> + Drop,
-    L: Node<Plain = Log> + Drop,
-    F: Faults,
-    S: ShardStore,
->(
-    rt: &R,
-    alloc: Global,
-    config: &Config,
-    directory: &Directory<C, L>,
-    faults: &F,
+fn pull_once<K: Rack, F: Faults, R: Wait, S: ShardStore>(
+    site: &Site<'_, K, F, R>,
     puller: &mut Puller<S>,
     turn: u32,
 ) -> Result<(), TurnFault>
     ensures node { puller.new.notes.journal.node ≡ puller.old.notes.journal.node }
 {
-    let _within = config.coordinators();
     let (epoch, ask) = puller.storage.next_ask();
-    let tag = puller.storage.tag().get();
-    let index = by_turn(config, tag, turn, config.degree());
-    let to = NodeId::Log { epoch, index };
-    send(rt, alloc, directory, faults, puller, &to, &Ask::Log(ask))?;
-    let epoch = directory.newest(rt).generation.epoch();
-    let index = by_turn(config, 0, turn, config.logs());
-    let to = NodeId::Log { epoch, index };
-    let ask = Ask::Log(LogAsk::MarkAsked { epoch });
-    send(rt, alloc, directory, faults, puller, &to, &ask)
+    if let Some(source) = of_epoch(puller.storage.state().gens(), epoch) {
+        let to = holder_at(source, puller.storage.tag(), turn);
+        send(site, puller, &to, &Ask::Log(ask))?;
+    }
+    let newest = site.directory.newest().generation;
+    let to = log_at(newest, turn);
+    let ask = LogAsk::MarkAsked {
+        epoch: newest.epoch(),
+    };
+    send(site, puller, &to, &Ask::Log(ask))
 }
 
 /// The turns of a storage server, and its journal.
-pub fn pull<
-    R: Wait,
-    C: Node<Plain = Cell> + Drop,
-    L: Node<Plain = Log> + Drop,
-    F: Faults,
-    S: ShardStore + Drop,
->(
-    rt: &R,
-    alloc: Global,
-    config: &Config,
-    directory: &Directory<C, L>,
-    faults: &F,
+pub fn pull<K: Rack, F: Faults, R: Wait, S: ShardStore + Drop>(
+    site: &Site<'_, K, F, R>,
     storage: Storage<S>,
     turns: u32,
 ) -> Result<Journal, TurnFault>
@@ -155,14 +159,14 @@ pub fn pull<
     let place = NodeId::Storage { tag: storage.tag() };
     let mut puller = Puller {
         storage,
-        notes: Notes::new(alloc, place, first_stamp()),
+        notes: Notes::new(site.alloc, place, first_stamp()),
     };
     for number in 1..=turns {
-        pull_once(rt, alloc, config, directory, faults, &mut puller, number)?;
+        pull_once(site, &mut puller, number)?;
     }
     let Puller { storage, notes } = puller;
     let mut storage = storage;
-    match last_of_storage(alloc, &mut storage) {
+    match last_of_storage(site.alloc, &mut storage) {
         Ok(last) => Ok(notes.close(last)),
         Err(StorageFault::Store(fault)) => Err(fault_of(fault)),
         Err(_) => Err(TurnFault::Store),

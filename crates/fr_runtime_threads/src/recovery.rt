@@ -1,36 +1,41 @@
 //! The thread of a ballot: its recoverer begins when the faults say so, and goes on until it is chosen or lost.
-ghost use Rattle.std.specs.Prelude.{◌≡◌, ◌≢◌, ◌≤◌, ◌<◌, ◌+◌, ℕ, false, IfNone, IfOk, IfSome, IsSome, true};
+ghost use Rattle.std.specs.Prelude.{◌≡◌, ◌≢◌, ◌≤◌, ◌<◌, ◌+◌, ◌++◌, ◌∷◌, ℕ, [], length, false, IfNone, IfOk, IfSome, IsSome, OnOk, true};
 ghost use Rattle.fr_base.specs.declared.place.NodeId.{NodeId};
-ghost use Rattle.fr_runtime_threads.specs.Begins.{starts_with_begun};
+ghost use Rattle.fr_log.specs.LogState.{fresh_log};
+ghost use Rattle.fr_runtime_threads.specs.Begins.{StartsWithBegun};
 
 use crate::fault::TurnFault;
 use crate::notes::Notes;
+use crate::rack::Rack;
 use crate::sending::{Hearer, send};
-use fr_ask::{Ask, Tell};
+use crate::site::Site;
+use fr_ask::Tell;
 use fr_audit_journal::{Act, Journal};
-use fr_base::{Ballot, InMemory, Memory, Node, NodeId, Stamp};
+use fr_base::{Ballot, InMemory, LogId, Memory, NodeFault, NodeId, Shape, Stamp};
 use fr_epoch::{Phase, Recoverer};
-use fr_log::Log;
 use fr_proxy::Sequencer;
-use fr_register::Cell;
 use fr_run_event::{Config, last_of_recoverer};
 use fr_runtime_housing::Housed;
-use fr_runtime_station::{Chosen, Directory, Faults, first_stamp};
+use fr_runtime_station::{Chosen, Faults, Station, first_stamp};
+use fr_state::Generation;
 use std::alloc::Global;
 use std::sync::Wait;
 
-/// A recoverer and its journal.
+/// A recoverer, the shape of the generation that it is to open, where it was given one, and its journal.
 #[derive(Drop)]
 struct Recovery {
     recoverer: Recoverer,
+    shape: Option<Shape>,
     notes: Notes,
-    ghost begun: { starts_with_begun notes.journal.entries ≡ true },
+    ghost begun: { StartsWithBegun shape notes.journal.entries },
 }
 
 impl Hearer for Recovery {
     ghost use Rattle.std.specs.Prelude.{[]};
 
     ghost node = { λ r. r.notes.journal.node };
+
+    ghost shape = { λ r. r.shape };
 
     ghost given = { λ r. [] };
 
@@ -79,22 +84,74 @@ enum Shown {
     Epoch,
 }
 
-/// Begins a recoverer, at the stamp after the first.
-fn begin(alloc: Global, config: &Config, ballot: Ballot) -> Result<Recovery, Memory>
+/// Begins a recoverer that is to open a generation of this shape, at the stamp after the first.
+fn begin(
+    alloc: Global,
+    config: &Config,
+    ballot: Ballot,
+    shape: &Option<Shape>,
+) -> Result<Recovery, Memory>
     requires used { ballot ≢ 0 }
     ensures node { IfOk result (λ begun. begun.notes.journal.node ≡ NodeId.Recoverer ballot) }
+    ensures shape { IfOk result (λ begun. begun.shape ≡ shape.now) }
+    ensures begun { IfOk result (λ begun. begun.recoverer.shape ≡ shape.now) }
 {
     let map = config.map().copy()?;
-    let recoverer = Recoverer::begin(alloc, ballot, config.coordinators(), map, None);
-    let notes = Notes::begun(alloc, NodeId::Recoverer { ballot })?;
-    Ok(Recovery { recoverer, notes })
+    let recoverer = Recoverer::begin(alloc, ballot, config.coordinators(), map, *shape);
+    let notes = Notes::begun(alloc, NodeId::Recoverer { ballot }, *shape)?;
+    Ok(Recovery {
+        recoverer,
+        shape: *shape,
+        notes,
+    })
+}
+
+/// A log of a generation, fresh from the rack: it has the generation's number of logs, and holders of each tag.
+fn fresh_log<K: Rack>(
+    alloc: Global,
+    rack: &K,
+    generation: Generation,
+    index: u8,
+) -> Result<Housed<K::Log>, NodeFault>
+    requires place { index < generation.m }
+    ensures place { IfOk result (λ log. log.place ≡ NodeId.Log generation.epoch index) }
+    ensures fresh { IfOk result (λ log. log.state ≡ fresh_log generation.epoch index generation.m generation.k) }
+    ensures entries { IfOk result (λ log. log.entries ≡ []) }
+{
+    let epoch = generation.epoch();
+    let id = LogId { epoch, index };
+    let log = rack.log(alloc, id, generation.m(), generation.k())?;
+    Ok(Housed::new(alloc, log, NodeId::Log { epoch, index }))
+}
+
+/// The logs of a generation, fresh from the rack, in the order of their numbers.
+fn fresh_logs<K: Rack>(
+    alloc: Global,
+    rack: &K,
+    generation: Generation,
+) -> Result<Vec<Station<K::Log>>, NodeFault>
+    ensures { IfOk result (λ logs. length logs.items ≡ generation.m) }
+{
+    let mut logs = Vec::new(alloc);
+    for index in 0..generation.m() {
+        let log = fresh_log(alloc, rack, generation, index)?;
+        put(&mut logs, Station::new(log))?;
+    }
+    Ok(logs)
+}
+
+/// Puts an item behind the others.
+fn put<T: Drop>(all: &mut Vec<T>, item: T) -> Result<(), Memory>
+    ensures { OnOk result (all.new.items ≡ all.old.items ++ item ∷ []) }
+{
+    all.reserve(1)?;
+    all.push_reserved(item);
+    Ok(())
 }
 
 /// Publishes what a recoverer has come to: its logs once all is copied, its epoch once its state is chosen.
-fn show<R: Wait, C: Node<Plain = Cell> + Drop, L: Node<Plain = Log> + Drop>(
-    rt: &R,
-    alloc: Global,
-    directory: &Directory<C, L>,
+fn show<K: Rack, F, R: Wait>(
+    site: &Site<'_, K, F, R>,
     recovery: &Recovery,
     shown: Shown,
 ) -> Result<Shown, TurnFault> {
@@ -102,17 +159,19 @@ fn show<R: Wait, C: Node<Plain = Cell> + Drop, L: Node<Plain = Log> + Drop>(
         return Ok(shown);
     };
     let stamp = recovery.notes.seen();
+    let epoch = generation.epoch();
     let mut shown = shown;
     if shown == Shown::Nothing && recovery.recoverer.is_copied() {
-        directory.publish_logs(rt, generation.epoch(), stamp)?;
+        let logs = fresh_logs(site.alloc, site.rack, generation)?;
+        site.directory.publish_logs(site.rt, epoch, logs, stamp);
         shown = Shown::Logs;
     }
     if shown == Shown::Logs && recovery.recoverer.is_chosen() {
         if let Some(last) = generation.seeded_to().after() {
-            let epoch = generation.epoch();
-            let sequencer = InMemory::new(Sequencer::new(alloc, epoch, last));
-            let housed = Housed::new(alloc, sequencer, NodeId::Sequencer { epoch });
-            directory.publish_epoch(rt, housed, Chosen { generation, stamp })?;
+            let sequencer = InMemory::new(Sequencer::new(site.alloc, epoch, last));
+            let housed = Housed::new(site.alloc, sequencer, NodeId::Sequencer { epoch });
+            let chosen = Chosen { generation, stamp };
+            site.directory.publish_epoch(site.rt, housed, chosen);
             shown = Shown::Epoch;
         }
     }
@@ -120,21 +179,19 @@ fn show<R: Wait, C: Node<Plain = Cell> + Drop, L: Node<Plain = Log> + Drop>(
 }
 
 /// One turn: each pending ask is sent once.
-fn recover_once<R: Wait, C: Node<Plain = Cell> + Drop, L: Node<Plain = Log> + Drop, F: Faults>(
-    rt: &R,
-    alloc: Global,
-    directory: &Directory<C, L>,
-    faults: &F,
+fn recover_once<K: Rack, F: Faults, R: Wait>(
+    site: &Site<'_, K, F, R>,
     recovery: &mut Recovery,
     shown: Shown,
 ) -> Result<Shown, TurnFault>
     ensures node { recovery.new.notes.journal.node ≡ recovery.old.notes.journal.node }
+    ensures shape { recovery.new.shape ≡ recovery.old.shape }
 {
     let mut shown = shown;
-    let asks = recovery.recoverer.pending(alloc)?;
+    let asks = recovery.recoverer.pending(site.alloc)?;
     for (to, ask) in asks.iter() {
-        send(rt, alloc, directory, faults, recovery, to, ask)?;
-        shown = show(rt, alloc, directory, recovery, shown)?;
+        send(site, recovery, to, ask)?;
+        shown = show(site, recovery, shown)?;
     }
     Ok(shown)
 }
@@ -161,54 +218,53 @@ fn first_turn<F: Faults>(faults: &F, ballot: Ballot, turns: u32) -> Option<u32>
 }
 
 /// The turns of a recoverer that begins at this one, and its journal.
-fn recovered<R: Wait, C: Node<Plain = Cell> + Drop, L: Node<Plain = Log> + Drop, F: Faults>(
-    rt: &R,
-    alloc: Global,
-    config: &Config,
-    directory: &Directory<C, L>,
-    faults: &F,
+fn recovered<K: Rack, F: Faults, R: Wait>(
+    site: &Site<'_, K, F, R>,
     ballot: Ballot,
+    shape: Option<Shape>,
     from: u32,
     turns: u32,
 ) -> Result<Journal, TurnFault>
     requires used { ballot ≢ 0 }
     ensures place { IfOk result (λ journal. journal.node ≡ NodeId.Recoverer ballot) }
-    ensures begun { IfOk result (λ journal. starts_with_begun journal.entries ≡ true) }
+    ensures begun { IfOk result (λ journal. StartsWithBegun shape journal.entries) }
 {
-    let mut recovery = begin(alloc, config, ballot)?;
+    let mut recovery = begin(site.alloc, site.config, ballot, &shape)?;
     let mut shown = Shown::Nothing;
     for _turn in from..=turns {
-        shown = recover_once(rt, alloc, directory, faults, &mut recovery, shown)?;
-        if is_done(alloc, &recovery)? {
+        shown = recover_once(site, &mut recovery, shown)?;
+        if is_done(site.alloc, &recovery)? {
             break;
         }
     }
-    let Recovery { recoverer, notes } = recovery;
-    let last = last_of_recoverer(alloc, &recoverer)?;
+    let Recovery {
+        recoverer,
+        notes,
+        ..
+    } = recovery;
+    let last = last_of_recoverer(site.alloc, &recoverer)?;
     Ok(notes.close(last))
 }
 
-/// The turns of a ballot, and the journal of its recoverer, if that began.
-pub fn recover<R: Wait, C: Node<Plain = Cell> + Drop, L: Node<Plain = Log> + Drop, F: Faults>(
-    rt: &R,
-    alloc: Global,
-    config: &Config,
-    directory: &Directory<C, L>,
-    faults: &F,
+/// The turns of a ballot, and the journal of its recoverer, if that began. The recoverer opens a generation of this
+/// shape, or where none is given one of the shape that the one before has.
+pub fn recover<K: Rack, F: Faults, R: Wait>(
+    site: &Site<'_, K, F, R>,
     ballot: Ballot,
+    shape: Option<Shape>,
     turns: u32,
 ) -> Result<Option<Journal>, TurnFault>
     ensures place { IfOk result (λ done. IfSome done (λ journal. journal.node ≡ NodeId.Recoverer ballot)) }
-    ensures begun { IfOk result (λ done. IfSome done (λ journal. starts_with_begun journal.entries ≡ true)) }
-    ensures begins { ballot ≢ 0 → (turn : ℕ) → 1 ≤ turn → turn ≤ turns → F.begun faults.now ballot turn ≡ true
+    ensures begun { IfOk result (λ done. IfSome done (λ journal. StartsWithBegun shape journal.entries)) }
+    ensures begins { ballot ≢ 0 → (turn : ℕ) → 1 ≤ turn → turn ≤ turns → F.begun site.now.faults.now ballot turn ≡ true
         → IfOk result (λ done. IsSome done) }
 {
     if ballot.epoch().is_none() {
         return Ok(None);
     }
-    match first_turn(faults, ballot, turns) {
+    match first_turn(site.faults, ballot, turns) {
         Some(from) => {
-            let journal = recovered(rt, alloc, config, directory, faults, ballot, from, turns)?;
+            let journal = recovered(site, ballot, shape, from, turns)?;
             Ok(Some(journal))
         }
         None => Ok(None),

@@ -2,23 +2,27 @@
 ghost use Rattle.std.specs.Prelude.{◌≡◌};
 
 use crate::fault::TurnFault;
+use crate::rack::Rack;
+use crate::site::Site;
 use fr_ask::{Ask, Tell};
-use fr_base::{Memory, Node, NodeId, Stamp};
-use fr_log::Log;
-use fr_register::Cell;
-use fr_runtime_station::{Directory, Faults, Verdict};
+use fr_base::{Memory, NodeId, Stamp};
+use fr_runtime_station::{Faults, Verdict};
 use std::alloc::Global;
 use std::sync::Wait;
 
 /// A node that sends asks and hears what it is told.
 pub(crate) trait Hearer {
-    ghost use Rattle.std.specs.Prelude.{List};
+    ghost use Rattle.std.specs.Prelude.{List, Option};
+    ghost use Rattle.fr_base.specs.Shape.{ShapeContent};
     ghost use Rattle.fr_base.specs.declared.place.NodeId.{NodeId};
     ghost use Rattle.fr_proxy.specs.declared.outcome.Outcome.{Outcome};
     ghost use Rattle.fr_runtime_threads.specs.declared.order.Order.{Order};
 
     /// The node.
     ghost node: { Self → NodeId };
+
+    /// The shape of the generation that it is to open, for a recoverer that was given one.
+    ghost shape: { Self → Option ShapeContent };
 
     /// The batches that it took.
     ghost given: { Self → List Order };
@@ -36,84 +40,69 @@ pub(crate) trait Hearer {
     /// Hears what a node told at this stamp.
     fn hear(&mut self, alloc: Global, at: Stamp, from: NodeId, tell: Tell) -> Result<(), TurnFault>
         ensures node { node self.new ≡ node self.old }
+        ensures shape { shape self.new ≡ shape self.old }
         ensures given { given self.new ≡ given self.old }
         ensures told { told self.new ≡ told self.old };
 }
 
 /// Sends an ask, and has its sender hear what it is told, as the faults say.
-pub(crate) fn send<
-    R: Wait,
-    C: Node<Plain = Cell> + Drop,
-    L: Node<Plain = Log> + Drop,
-    F: Faults,
-    H: Hearer,
->(
-    rt: &R,
-    alloc: Global,
-    directory: &Directory<C, L>,
-    faults: &F,
+pub(crate) fn send<K: Rack, F: Faults, R: Wait, H: Hearer>(
+    site: &Site<'_, K, F, R>,
     hearer: &mut H,
     to: &NodeId,
     ask: &Ask,
 ) -> Result<(), TurnFault>
     ensures node { H.node hearer.new ≡ H.node hearer.old }
+    ensures shape { H.shape hearer.new ≡ H.shape hearer.old }
     ensures given { H.given hearer.new ≡ H.given hearer.old }
     ensures told { H.told hearer.new ≡ H.told hearer.old }
 {
-    match faults.verdict(*to, ask) {
+    match site.faults.verdict(*to, ask) {
         Verdict::DropAsk => Ok(()),
         Verdict::DropTell => {
-            let _lost = call(rt, alloc, directory, faults, hearer, to, ask)?;
+            let _lost = call(site, hearer, to, ask)?;
             Ok(())
         }
-        Verdict::Pass => exchange(rt, alloc, directory, faults, hearer, to, ask),
+        Verdict::Pass => exchange(site, hearer, to, ask),
         Verdict::Twice => {
-            exchange(rt, alloc, directory, faults, hearer, to, ask)?;
-            exchange(rt, alloc, directory, faults, hearer, to, ask)
+            exchange(site, hearer, to, ask)?;
+            exchange(site, hearer, to, ask)
         }
     }
 }
 
 /// Calls a node, and has the caller hear what it is told.
-fn exchange<
-    R: Wait,
-    C: Node<Plain = Cell> + Drop,
-    L: Node<Plain = Log> + Drop,
-    F: Faults,
-    H: Hearer,
->(
-    rt: &R,
-    alloc: Global,
-    directory: &Directory<C, L>,
-    faults: &F,
+fn exchange<K: Rack, F: Faults, R: Wait, H: Hearer>(
+    site: &Site<'_, K, F, R>,
     hearer: &mut H,
     to: &NodeId,
     ask: &Ask,
 ) -> Result<(), TurnFault>
     ensures node { H.node hearer.new ≡ H.node hearer.old }
+    ensures shape { H.shape hearer.new ≡ H.shape hearer.old }
     ensures given { H.given hearer.new ≡ H.given hearer.old }
     ensures told { H.told hearer.new ≡ H.told hearer.old }
 {
-    match call(rt, alloc, directory, faults, hearer, to, ask)? {
-        Some((at, tell)) => hearer.hear(alloc, at, *to, tell),
+    match call(site, hearer, to, ask)? {
+        Some((at, tell)) => hearer.hear(site.alloc, at, *to, tell),
         None => Ok(()),
     }
 }
 
 /// Calls a node: what it told, and the stamp of that. A call that is refused tells nothing.
-fn call<R: Wait, C: Node<Plain = Cell> + Drop, L: Node<Plain = Log> + Drop, F: Faults, H: Hearer>(
-    rt: &R,
-    alloc: Global,
-    directory: &Directory<C, L>,
-    faults: &F,
+fn call<K: Rack, F: Faults, R: Wait, H: Hearer>(
+    site: &Site<'_, K, F, R>,
     hearer: &H,
     to: &NodeId,
     ask: &Ask,
 ) -> Result<Option<(Stamp, Tell)>, Memory> {
     let sent = ask.copy()?;
-    let told = directory.call(rt, alloc, hearer.now(), hearer.place(), *to, sent);
+    let (now, place) = (hearer.now(), hearer.place());
+    let told = site
+        .directory
+        .call(site.rt, site.alloc, now, place, *to, sent);
     if told.is_some() {
-        faults.answered(*to, ask);
+        site.faults.answered(*to, ask);
     }
     Ok(told)
 }

@@ -1,5 +1,5 @@
 //! Clusters without faults.
-use crate::scene::{DEFAULTS, Numbers, Question, ballot, first_told, holds, journal_of};
+use crate::scene::{DEFAULTS, Numbers, Question, alike, ballot, first_told, holds, journal_of};
 use fr_ask::Last;
 use fr_audit_journal::Journal;
 use fr_base::{Bytes, NodeId};
@@ -29,7 +29,7 @@ impl Question for HaveOutcomes {
 
 #[test]
 fn each_batch_has_an_outcome(rt: HostRuntime) -> Result<(), Fail> {
-    let ballots = [ballot()?];
+    let ballots = [alike(ballot()?)];
     assert!(rt;
         holds(
             &rt,
@@ -70,7 +70,16 @@ fn a_recovery_ends_chosen(rt: HostRuntime) -> Result<(), Fail> {
     let ballot = ballot()?;
     let recoverer = NodeId::Recoverer { ballot };
     let chosen = IsChosen { recoverer };
-    assert!(rt; holds(&rt, rt.alloc(), DEFAULTS, &[ballot], &NoFaults, &chosen)?);
+    assert!(rt;
+        holds(
+            &rt,
+            rt.alloc(),
+            DEFAULTS,
+            &[alike(ballot)],
+            &NoFaults,
+            &chosen
+        )?
+    );
     Ok(())
 }
 

@@ -1,5 +1,5 @@
 //! Clusters in which asks are lost, repeated, and nodes crash.
-use crate::scene::{ALONE, Numbers, Question, entries_of, first_told, holds, holds_on, log};
+use crate::scene::{ALONE, Numbers, Question, entries_of, epoch, first_told, holds, holds_on, log};
 use crate::scripted::Pushes;
 use crate::watched::{Watch, WatchedRack};
 use fr_ask::Ask;
@@ -70,15 +70,36 @@ fn a_push_whose_tell_is_lost_is_sent_again(rt: HostRuntime) -> Result<(), Fail> 
     Ok(())
 }
 
-/// Of five batches ten pushes are entered of a log.
+fn is_heard(entry: &Entry, node: NodeId) -> bool {
+    match &entry.act {
+        Act::Heard { from, .. } => *from == node,
+        _ => false,
+    }
+}
+
+/// How many tells of a node are heard.
+fn tells(entries: &[Entry], from: NodeId) -> usize {
+    let mut tells = 0_usize;
+    for entry in entries {
+        if is_heard(entry, from) {
+            tells = tells.wrapping_add(1);
+        }
+    }
+    tells
+}
+
+/// Of five batches ten pushes are entered of a log, and their proxy hears ten tells of it.
 #[derive(Clone, Copy)]
 struct AreHeldTwice {
     log: NodeId,
+    proxy: NodeId,
 }
 
 impl Question for AreHeldTwice {
     fn is_so(&self, report: &Report, _works: &[Orders]) -> bool {
-        first_told(report).len() == 5 && pushes(entries_of(report, self.log)) == 10
+        first_told(report).len() == 5
+            && pushes(entries_of(report, self.log)) == 10
+            && tells(entries_of(report, self.proxy), self.log) == 10
     }
 }
 
@@ -89,8 +110,15 @@ const FIVE: Numbers = Numbers {
 };
 
 #[test]
-fn a_push_that_comes_twice_is_held_twice(rt: HostRuntime) -> Result<(), Fail> {
-    let held = AreHeldTwice { log: log(1)? };
+fn a_push_that_comes_twice_is_held_and_heard_twice(rt: HostRuntime) -> Result<(), Fail> {
+    let proxy = NodeId::Proxy {
+        epoch: epoch(257)?,
+        number: 0,
+    };
+    let held = AreHeldTwice {
+        log: log(1)?,
+        proxy,
+    };
     let faults = Pushes::new(Verdict::Twice, None);
     assert!(rt; holds(&rt, rt.alloc(), FIVE, &[], &faults, &held)?);
     Ok(())

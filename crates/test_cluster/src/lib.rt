@@ -4,6 +4,10 @@
 #[cfg(test)]
 mod defaults;
 #[cfg(test)]
+mod directories;
+#[cfg(test)]
+mod failing;
+#[cfg(test)]
 mod faulty;
 #[cfg(test)]
 mod flag;
@@ -12,10 +16,16 @@ mod journals;
 #[cfg(test)]
 mod meeting;
 #[cfg(test)]
+mod refusing;
+#[cfg(test)]
 mod rolled_back;
 #[cfg(test)]
 mod scene;
 #[cfg(test)]
 mod scripted;
+#[cfg(test)]
+mod shaped;
+#[cfg(test)]
+mod shapes;
 #[cfg(test)]
 mod watched;

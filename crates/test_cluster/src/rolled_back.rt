@@ -1,5 +1,5 @@
 //! A storage server that is ahead of what survives, and rolls back.
-use crate::scene::{DEFAULTS, Numbers, Question, ballot, entries_of, holds};
+use crate::scene::{DEFAULTS, Numbers, Question, alike, ballot, entries_of, holds};
 use crate::scripted::Overtaken;
 use fr_ask::Tell;
 use fr_audit_journal::{Act, Entry};
@@ -88,7 +88,7 @@ impl Question for RollsBack {
 #[test]
 fn a_recovery_rolls_a_storage_back(rt: HostRuntime) -> Result<(), Fail> {
     let tag = Tag::new(0).ok_or("a tag")?;
-    let ballots = [ballot()?];
+    let ballots = [alike(ballot()?)];
     let node = NodeId::Storage { tag };
     let rolled = RollsBack { node };
     assert!(rt; holds(&rt, rt.alloc(), TWO, &ballots, &Overtaken::new(), &rolled)?);

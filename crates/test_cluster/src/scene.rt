@@ -1,9 +1,9 @@
 //! Clusters in memory, and what their journals say.
 use fr_audit_journal::{Entry, Journal};
-use fr_base::{Ballot, Bytes, Epoch, NodeId};
+use fr_base::{Ballot, Bytes, Epoch, NodeId, Shape};
 use fr_proxy::Outcome;
 use fr_run_event::Config;
-use fr_runtime::{Cluster, Orders, PlainRack, Rack, Report};
+use fr_runtime::{Cluster, Orders, PlainRack, Rack, Report, RunFault};
 use fr_runtime_station::Faults;
 use std::alloc::Global;
 use std::sync::Wait;
@@ -22,7 +22,7 @@ pub(crate) struct Numbers {
     pub(crate) turns: u32,
 }
 
-/// What the program runs where no number is given, with fewer turns.
+/// What the program runs where no number is given.
 pub(crate) const DEFAULTS: Numbers = Numbers {
     coordinators: 3,
     logs: 4,
@@ -30,24 +30,28 @@ pub(crate) const DEFAULTS: Numbers = Numbers {
     storages: 2,
     proxies: 2,
     batches: 20,
-    turns: 1000,
+    turns: 10_000,
 };
 
 /// One workload and one storage server.
 pub(crate) const ALONE: Numbers = Numbers {
     storages: 1,
     proxies: 1,
-    turns: 10_000,
     ..DEFAULTS
 };
 
-fn epoch(number: u64) -> Result<Epoch, Fail> {
+pub(crate) fn epoch(number: u64) -> Result<Epoch, Fail> {
     Ok(Epoch::new(number).ok_or("an epoch")?)
 }
 
 /// The ballot of the first epoch after that of the start.
 pub(crate) fn ballot() -> Result<Ballot, Fail> {
     Ok(Ballot::new(513).ok_or("a ballot")?)
+}
+
+/// A ballot whose recoverer opens a generation of the shape of the one before.
+pub(crate) fn alike(ballot: Ballot) -> (Ballot, Option<Shape>) {
+    (ballot, None)
 }
 
 /// A log of the first epoch.
@@ -72,15 +76,16 @@ pub(crate) trait Question {
     fn is_so(&self, report: &Report, works: &[Orders]) -> bool;
 }
 
-fn config(alloc: Global, numbers: Numbers) -> Result<Config, Fail> {
+pub(crate) fn config(alloc: Global, numbers: Numbers) -> Result<Config, Fail> {
     let begins = begins(alloc, numbers.storages)?;
     let (coordinators, logs) = (numbers.coordinators, numbers.logs);
     Ok(Config::new(coordinators, logs, numbers.degree, begins, numbers.proxies)?)
 }
 
-fn works(alloc: Global, numbers: Numbers) -> Result<Vec<Orders>, Fail> {
+/// So many workloads.
+fn works(alloc: Global, numbers: Numbers, many: u8) -> Result<Vec<Orders>, Fail> {
     let mut works = Vec::new(alloc);
-    for number in 0..numbers.proxies {
+    for number in 0..many {
         works.push(Orders::new(alloc, number, numbers.storages, numbers.batches))?;
     }
     Ok(works)
@@ -88,15 +93,15 @@ fn works(alloc: Global, numbers: Numbers) -> Result<Vec<Orders>, Fail> {
 
 fn made(alloc: Global, numbers: Numbers) -> Result<(Config, Vec<Orders>), Fail> {
     let config = config(alloc, numbers)?;
-    let works = works(alloc, numbers)?;
+    let works = works(alloc, numbers, numbers.proxies)?;
     Ok((config, works))
 }
 
-fn run<K: Rack + Drop, F: Faults + Sync, R: Threads + Wait + Sync>(
+fn run<K: Rack + Sync + Drop, F: Faults + Sync, R: Threads + Wait + Sync>(
     rt: &R,
     alloc: Global,
     numbers: Numbers,
-    ballots: &[Ballot],
+    ballots: &[(Ballot, Option<Shape>)],
     rack: K,
     faults: &F,
 ) -> Result<(Report, Vec<Orders>), Fail> {
@@ -106,11 +111,16 @@ fn run<K: Rack + Drop, F: Faults + Sync, R: Threads + Wait + Sync>(
 }
 
 /// Runs a cluster over the nodes of a rack, with a recoverer for each of these ballots; whether this is so of it.
-pub(crate) fn holds_on<K: Rack + Drop, F: Faults + Sync, Q: Question, R: Threads + Wait + Sync>(
+pub(crate) fn holds_on<
+    K: Rack + Sync + Drop,
+    F: Faults + Sync,
+    Q: Question,
+    R: Threads + Wait + Sync,
+>(
     rt: &R,
     alloc: Global,
     numbers: Numbers,
-    ballots: &[Ballot],
+    ballots: &[(Ballot, Option<Shape>)],
     rack: K,
     faults: &F,
     question: &Q,
@@ -119,12 +129,31 @@ pub(crate) fn holds_on<K: Rack + Drop, F: Faults + Sync, Q: Question, R: Threads
     Ok(question.is_so(&report, works.as_slice()))
 }
 
-/// The same of a cluster in memory.
+/// Runs a cluster with so many workloads; why its run has no report, where it has none.
+pub(crate) fn fault_of<K: Rack + Sync + Drop, F: Faults + Sync, R: Threads + Wait + Sync>(
+    rt: &R,
+    alloc: Global,
+    numbers: Numbers,
+    ballots: &[(Ballot, Option<Shape>)],
+    rack: K,
+    many: u8,
+    faults: &F,
+) -> Result<Option<RunFault>, Fail> {
+    let config = config(alloc, numbers)?;
+    let works = works(alloc, numbers, many)?;
+    let turns = numbers.turns;
+    match Cluster::run(rt, alloc, config, ballots, turns, rack, works, faults) {
+        Ok(_) => Ok(None),
+        Err(fault) => Ok(Some(fault)),
+    }
+}
+
+/// What [`holds_on`] says of a cluster in memory.
 pub(crate) fn holds<F: Faults + Sync, Q: Question, R: Threads + Wait + Sync>(
     rt: &R,
     alloc: Global,
     numbers: Numbers,
-    ballots: &[Ballot],
+    ballots: &[(Ballot, Option<Shape>)],
     faults: &F,
     question: &Q,
 ) -> Result<bool, Fail> {

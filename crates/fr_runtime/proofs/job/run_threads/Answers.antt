@@ -8,7 +8,7 @@ pub returns : goal.returns
 returns g c =
     let given = g.W.Workload.given in
     let heard = g.W.Workload.heard in
-    let begun = g.F.Faults.begun c.args.faults.now in
+    let begun = g.F.Faults.begun c.args.site.now.faults.now in
     let turns = c.args.turns in
     let js = c.in_ok-jobs.jobs.items in
     let ds = c.in_ok-done.done.items in

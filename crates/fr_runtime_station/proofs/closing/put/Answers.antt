@@ -1,7 +1,7 @@
 use Rattle.std.proofs.Common.{ap, ◌∙◌, ◌≡◌, ◌++◌, ◌∷◌, []}
 use Rattle.fr_runtime_station.specs.Answering.{all_answer}
 use Rattle.fr_runtime_station.proofs.Journals.{answer-more}
-use Rattle.fr_runtime_station.proofs.directory.put.Goals as goal
+use Rattle.fr_runtime_station.proofs.closing.put.Goals as goal
 
 pub returns : goal.returns
 returns c =

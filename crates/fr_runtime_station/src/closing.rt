@@ -1,0 +1,61 @@
+//! The journals of stations, once no thread asks them any more.
+ghost use Rattle.std.specs.Prelude.{◌≡◌, OnOk, true};
+ghost use Rattle.fr_runtime_station.specs.Answering.{all_answer, answers};
+
+use crate::station::Station;
+use fr_audit_journal::Journal;
+use fr_base::{Machine, Memory, Node, NodeFault};
+use fr_runtime_housing::Housable;
+use std::alloc::Global;
+
+/// Puts the closed journals of stations behind others: of each, or of those alone in which something was entered.
+pub(crate) fn close_all<N: Node>(
+    alloc: Global,
+    stations: Vec<Station<N>>,
+    is_each: bool,
+    journals: &mut Vec<Journal>,
+) -> Result<(), NodeFault>
+where
+    N: Drop,
+    N::Plain: Housable,
+    <N::Plain as Machine>::Ask: Drop,
+    requires before { all_answer journals.old.items ≡ true }
+    ensures answers { OnOk result (all_answer journals.new.items ≡ true) }
+{
+    for station in stations {
+        close(alloc, station, is_each, journals)?;
+    }
+    Ok(())
+}
+
+/// The same of one station.
+pub(crate) fn close<N: Node>(
+    alloc: Global,
+    station: Station<N>,
+    is_each: bool,
+    journals: &mut Vec<Journal>,
+) -> Result<(), NodeFault>
+where
+    N: Drop,
+    N::Plain: Housable,
+    <N::Plain as Machine>::Ask: Drop,
+    requires before { all_answer journals.old.items ≡ true }
+    ensures answers { OnOk result (all_answer journals.new.items ≡ true) }
+{
+    let journal = station.into_inner().into_journal(alloc)?;
+    if is_each || !journal.entries().is_empty() {
+        put(journals, journal)?;
+    }
+    Ok(())
+}
+
+/// Puts a journal of a node that answers asks behind others.
+fn put(journals: &mut Vec<Journal>, journal: Journal) -> Result<(), Memory>
+    requires before { all_answer journals.old.items ≡ true }
+    requires place { answers journal.node ≡ true }
+    ensures answers { OnOk result (all_answer journals.new.items ≡ true) }
+{
+    journals.reserve(1)?;
+    journals.push_reserved(journal);
+    Ok(())
+}

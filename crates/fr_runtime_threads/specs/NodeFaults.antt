@@ -1,0 +1,13 @@
+-- What a fault of a node is to the thread that made it.
+use Rattle.fr_base.specs.declared.node.NodeFault.{NodeFault}
+use Rattle.fr_base.specs.declared.node.NodeFault.TheVariants.{Device, Full, Failed, Memory, Broken}
+use Rattle.fr_runtime_threads.specs.declared.fault.TurnFault.{TurnFault}
+use Rattle.fr_runtime_threads.specs.declared.fault.TurnFault.TheVariants as turn
+
+-- want of memory is one of memory, and else a log could not be made
+abbrev pub of_node : NodeFault → TurnFault
+of_node Device = turn.Log
+of_node Full = turn.Log
+of_node Failed = turn.Log
+of_node Memory = turn.Memory
+of_node Broken = turn.Log

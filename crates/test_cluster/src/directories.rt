@@ -1,0 +1,164 @@
+//! The nodes of epochs that come while threads run.
+use crate::scene::epoch;
+use fr_ask::Ask;
+use fr_base::{Epoch, InMemory, LogId, NodeId, Stamp, Tag, Version};
+use fr_log::{Log, LogAsk, Most};
+use fr_proxy::Sequencer;
+use fr_register::Cell;
+use fr_runtime_housing::Housed;
+use fr_runtime_station::{Chosen, Directory, Station};
+use fr_state::Generation;
+use std::alloc::Global;
+use std::process::Abort;
+use std::sync::Wait;
+use std::test::Fail;
+
+/// A directory in memory.
+type Plain = Directory<InMemory<Cell>, InMemory<Log>>;
+
+fn stamp(number: u64) -> Result<Stamp, Fail> {
+    Ok(Stamp::new(number).ok_or("a stamp")?)
+}
+
+/// A generation of 2 logs that both hold each tag.
+fn generation(epoch: Epoch) -> Result<Generation, Fail> {
+    let first = Version::new(1).ok_or("a version")?;
+    Ok(Generation::new(epoch, 2, 2, first, Version::ZERO).ok_or("a generation")?)
+}
+
+fn sequencer(alloc: Global, epoch: Epoch) -> Housed<InMemory<Sequencer>> {
+    let node = InMemory::new(Sequencer::new(alloc, epoch, Version::ZERO));
+    Housed::new(alloc, node, NodeId::Sequencer { epoch })
+}
+
+/// The logs of an epoch.
+fn logs(alloc: Global, epoch: Epoch) -> Result<Vec<Station<InMemory<Log>>>, Fail> {
+    let mut logs = Vec::new(alloc);
+    for index in 0..2 {
+        let log = InMemory::new(Log::new(alloc, LogId { epoch, index }, 2, 2));
+        logs.push(Station::new(Housed::new(alloc, log, NodeId::Log { epoch, index })))?;
+    }
+    Ok(logs)
+}
+
+/// No cell, the nodes of epoch 257, and the epochs 769 and 513, which may come.
+fn directory(alloc: Global) -> Result<Plain, Fail> {
+    let first = epoch(257)?;
+    let later = [epoch(769)?, epoch(513)?];
+    let cells = Vec::new(alloc);
+    let logs = logs(alloc, first)?;
+    let sequencer = sequencer(alloc, first);
+    Ok(Directory::new(alloc, cells, logs, sequencer, generation(first)?, &later)?)
+}
+
+/// The epochs that are chosen, each with its stamp, are these, and the newest is this one.
+fn has_epochs(
+    alloc: Global,
+    directory: &Plain,
+    wanted: &[(u64, u64)],
+    newest: u64,
+) -> Result<bool, Fail> {
+    let epochs = directory.epochs(alloc)?;
+    if epochs.len() != wanted.len() {
+        return Ok(false);
+    }
+    for (chosen, (epoch, stamp)) in epochs.iter().zip(wanted.iter()) {
+        if chosen.generation.epoch().get() != *epoch || chosen.stamp.get() != *stamp {
+            return Ok(false);
+        }
+    }
+    Ok(directory.newest().generation.epoch().get() == newest)
+}
+
+fn choose<R: Wait>(
+    rt: &R,
+    alloc: Global,
+    directory: &Plain,
+    number: u64,
+    at: u64,
+) -> Result<(), Fail> {
+    let epoch = epoch(number)?;
+    let chosen = Chosen {
+        generation: generation(epoch)?,
+        stamp: stamp(at)?,
+    };
+    directory.publish_epoch(rt, sequencer(alloc, epoch), chosen);
+    Ok(())
+}
+
+/// Whether epochs come, the greatest of which is the newest, whichever came last.
+fn come_and_go<R: Wait + Abort>(rt: &R, alloc: Global, directory: &Plain) -> Result<(), Fail> {
+    assert!(rt; has_epochs(alloc, directory, &[(257, 0)], 257)?);
+    choose(rt, alloc, directory, 769, 7)?;
+    assert!(rt; has_epochs(alloc, directory, &[(257, 0), (769, 7)], 769)?);
+    choose(rt, alloc, directory, 513, 9)?;
+    assert!(rt; has_epochs(alloc, directory, &[(257, 0), (769, 7), (513, 9)], 769)?);
+    choose(rt, alloc, directory, 513, 11)?;
+    choose(rt, alloc, directory, 1025, 12)?;
+    assert!(rt; has_epochs(alloc, directory, &[(257, 0), (769, 7), (513, 9)], 769)?);
+    assert!(rt; directory.sequencer(epoch(513)?).is_some());
+    assert!(rt; directory.sequencer(epoch(1025)?).is_none());
+    Ok(())
+}
+
+#[test]
+fn the_greatest_epoch_is_the_newest(rt: HostRuntime) -> Result<(), Fail> {
+    let directory = directory(rt.alloc())?;
+    come_and_go(&rt, rt.alloc(), &directory)
+}
+
+/// The stamp at which a log answers a peek of a caller that has seen stamp 3, where it answers.
+fn answers<R: Wait>(
+    rt: &R,
+    alloc: Global,
+    directory: &Plain,
+    epoch: Epoch,
+    index: u8,
+) -> Result<Option<u64>, Fail> {
+    let tag = Tag::new(0).ok_or("a tag")?;
+    let most = Most::new(1).ok_or("a most")?;
+    let after = Version::ZERO;
+    let ask = Ask::Log(LogAsk::Peek {
+        epoch,
+        tag,
+        after,
+        most,
+    });
+    let from = NodeId::Storage { tag };
+    let to = NodeId::Log { epoch, index };
+    match directory.call(rt, alloc, stamp(3)?, from, to, ask) {
+        Some((at, _)) => Ok(Some(at.get())),
+        None => Ok(None),
+    }
+}
+
+/// Logs of a later epoch answer nothing until they are there, and from then on above the stamp at which they came.
+fn logs_come<R: Wait + Abort>(rt: &R, alloc: Global, directory: &Plain) -> Result<(), Fail> {
+    let later = epoch(513)?;
+    assert!(rt; answers(rt, alloc, directory, epoch(257)?, 0)? == Some(4));
+    assert!(rt; answers(rt, alloc, directory, later, 0)?.is_none());
+    directory.publish_logs(rt, later, logs(alloc, later)?, stamp(8)?);
+    assert!(rt; answers(rt, alloc, directory, later, 1)? == Some(9));
+    assert!(rt; answers(rt, alloc, directory, later, 2)?.is_none());
+    let index = 1;
+    assert!(rt;
+        directory
+            .log(LogId {
+                epoch: later,
+                index
+            })
+            .is_some()
+    );
+    Ok(())
+}
+
+/// How many journals a directory ends with: those of 2 logs and a sequencer of the start, entries or none, and that of a
+/// later log that was asked.
+#[test]
+fn logs_are_there_from_their_stamp_on(rt: HostRuntime) -> Result<(), Fail> {
+    let directory = directory(rt.alloc())?;
+    logs_come(&rt, rt.alloc(), &directory)?;
+    let journals = directory.into_journals(rt.alloc())?;
+    assert_eq!(rt; journals.len(), 4);
+    Ok(())
+}
