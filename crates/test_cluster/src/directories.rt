@@ -1,4 +1,7 @@
 //! The nodes of epochs that come while threads run.
+ghost use Rattle.std.specs.Prelude.{◌≡◌, true};
+ghost use Rattle.fr_runtime_station.specs.Answering.{answers};
+
 use crate::scene::epoch;
 use fr_ask::Ask;
 use fr_base::{Epoch, InMemory, LogId, NodeId, Stamp, Tag, Version};
@@ -26,7 +29,9 @@ fn generation(epoch: Epoch) -> Result<Generation, Fail> {
     Ok(Generation::new(epoch, 2, 2, first, Version::ZERO).ok_or("a generation")?)
 }
 
-fn sequencer(alloc: Global, epoch: Epoch) -> Housed<InMemory<Sequencer>> {
+fn sequencer(alloc: Global, epoch: Epoch) -> Housed<InMemory<Sequencer>>
+    ensures place { answers result.place ≡ true }
+{
     let node = InMemory::new(Sequencer::new(alloc, epoch, Version::ZERO));
     Housed::new(alloc, node, NodeId::Sequencer { epoch })
 }

@@ -32,6 +32,14 @@ struct Stage {
     is_marked: Flag,
 }
 
+/// Whether a node is a log of an epoch.
+fn is_of_epoch(node: &NodeId, number: u64) -> bool {
+    match node {
+        NodeId::Log { epoch, .. } => epoch.get() == number,
+        _ => false,
+    }
+}
+
 /// How far the batches and the recoveries have come, and with which numbers logs were made.
 #[derive(Drop)]
 pub struct Stages {
@@ -112,13 +120,13 @@ impl Stages {
         (as_wanted, self.otherwise.load(Ordering::SeqCst))
     }
 
-    /// A push to a log was answered.
-    fn has_pushed(&self, epoch: u64, push: &Push) {
+    /// A push to a node was answered: where it is a mark, that generation's recovery has come so far.
+    fn has_pushed(&self, to: &NodeId, push: &Push) {
         if push.marked().is_none() {
             return;
         }
         for stage in self.stages.iter() {
-            if stage.planned.ballot == epoch {
+            if is_of_epoch(to, stage.planned.ballot) {
                 stage.is_marked.raise();
             }
         }
@@ -147,8 +155,9 @@ impl Faults for Stages {
     }
 
     fn answered(&self, to: NodeId, ask: &Ask) {
-        if let (NodeId::Log { epoch, .. }, Ask::Log(LogAsk::Push(push))) = (to, ask) {
-            self.has_pushed(epoch.get(), push);
+        match ask {
+            Ask::Log(LogAsk::Push(push)) => self.has_pushed(&to, push),
+            _ => {}
         }
     }
 
