@@ -1,5 +1,5 @@
 //! What a storage server asks a log for.
-use crate::exchange::{Exchange, ask_and_hear};
+use crate::exchange::{Exchange, ask_for_server};
 use crate::names::Refusal;
 use crate::script::Pull;
 use fr_ask::{Ask, Tell};
@@ -10,18 +10,30 @@ use fr_world::World;
 use std::alloc::Global;
 
 /// Has the storage server of a step ask its log, and hear what that tells; gives the line of the step, which begins
-/// with this word. The server that is not there asks nothing.
+/// with this word, beside the world after it. The server that is not there asks nothing.
 pub(crate) fn line_of(
     alloc: Global,
-    world: &mut World,
+    world: World,
     word: &str,
     pull: &Pull,
     ask: Option<LogAsk>,
-) -> Result<String, Memory> {
-    let refusal = match ask {
+) -> Result<(World, String), Memory> {
+    let (world, refusal) = match ask {
         Some(ask) => refusal_of(alloc, world, pull, ask)?,
-        None => Some(Refusal::Event(NotEnabled::NoSuchNode)),
+        None => (world, Some(Refusal::Event(NotEnabled::NoSuchNode))),
     };
+    let line = line_after(alloc, &world, word, pull, refusal)?;
+    Ok((world, line))
+}
+
+/// The line of a step of which this came.
+fn line_after(
+    alloc: Global,
+    world: &World,
+    word: &str,
+    pull: &Pull,
+    refusal: Option<Refusal>,
+) -> Result<String, Memory> {
     match refusal {
         Some(refusal) => refused_line(alloc, word, pull, &refusal),
         None => stands_line(alloc, world, word, pull),
@@ -54,23 +66,23 @@ fn stands_line(alloc: Global, world: &World, word: &str, pull: &Pull) -> Result<
     }
 }
 
-/// Asks a log, and has the storage server hear what it tells: why that was refused, where it was.
+/// Asks a log, and has the storage server hear what it tells: the world after that, and why it was refused, where it was.
 fn refusal_of(
     alloc: Global,
-    world: &mut World,
+    world: World,
     pull: &Pull,
     ask: LogAsk,
-) -> Result<Option<Refusal>, Memory> {
-    let from = NodeId::Storage { tag: pull.storage };
+) -> Result<(World, Option<Refusal>), Memory> {
     let to = NodeId::Log {
         epoch: pull.log.epoch,
         index: pull.log.index,
     };
-    match ask_and_hear(alloc, world, &from, &to, Ask::Log(ask)) {
-        Ok(done) => Ok(refusal_in(&done)),
-        Err(NotEnabled::Memory) => Err(Memory),
-        Err(why) => Ok(Some(Refusal::Event(why))),
-    }
+    let (world, done) = ask_for_server(alloc, world, pull.storage, &to, Ask::Log(ask))?;
+    let refusal = match done {
+        Ok(done) => refusal_in(&done),
+        Err(why) => Some(Refusal::Event(why)),
+    };
+    Ok((world, refusal))
 }
 
 /// Why the log refused the ask, or else the storage server the tell.
