@@ -2,6 +2,7 @@
 mod commit;
 mod lose;
 mod mark;
+mod pop;
 mod pull;
 mod push;
 mod recover;
@@ -19,6 +20,7 @@ pub(crate) fn line_of(alloc: Global, world: &mut World, act: Act) -> Result<Stri
         Act::Push(push) => push::line_of(alloc, world, &push),
         Act::Pull(pull) => pull::line_of(alloc, world, &pull),
         Act::Mark(mark) => mark::line_of(alloc, world, &mark),
+        Act::Pop(pop) => pop::line_of(alloc, world, &pop),
         Act::Recover(recover) => recover::line_of(alloc, world, &recover),
         Act::Lose(log) => lose::line_of(alloc, world, log),
     }

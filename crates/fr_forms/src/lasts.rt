@@ -4,6 +4,7 @@ use crate::fault::ScriptFault;
 use crate::fields::{Fields, variant};
 use crate::names;
 use crate::object::{Object, numbered, with_one};
+use crate::popped::{popped_fields, read_popped, with_popped};
 use crate::values::{read_rows, write_rows};
 use fr_ask::Last;
 use fr_base::{Bytes, Memory};
@@ -18,7 +19,7 @@ pub fn read_last(alloc: Global, value: Value) -> Result<Option<Last>, ScriptFaul
     let (name, content) = variant(value)?;
     match name.as_str() {
         names::CELL => read_cell(alloc, &Fields::new(content, 3)),
-        names::LOG => read_log(&Fields::new(content, 4)),
+        names::LOG => read_log(alloc, content),
         names::SEQUENCER => {
             let last = Fields::new(content, 1).version(names::LAST)?;
             Ok(Some(Last::Sequencer { last }))
@@ -41,12 +42,14 @@ fn read_cell(alloc: Global, fields: &Fields) -> Result<Option<Last>, ScriptFault
     }))
 }
 
-fn read_log(fields: &Fields) -> Result<Option<Last>, ScriptFault> {
+fn read_log(alloc: Global, content: Value) -> Result<Option<Last>, ScriptFault> {
+    let (mut fields, there) = popped_fields(content, 4);
     Ok(Some(Last::Log {
         seeded: fields.flag(names::SEEDED)?,
         durable: fields.version(names::DURABLE)?,
         known: fields.version(names::KNOWN)?,
         stopped: fields.flag(names::STOPPED)?,
+        popped: read_popped(alloc, &mut fields, there)?,
     }))
 }
 
@@ -89,12 +92,13 @@ pub fn write_last(alloc: Global, last: &Last) -> Result<Value, Memory> {
             durable,
             known,
             stopped,
+            popped,
         } => {
             let numbers = [(names::DURABLE, durable.get()), (names::KNOWN, known.get())];
-            Object::of(alloc, &numbers)?
+            let object = Object::of(alloc, &numbers)?
                 .with(names::SEEDED, Value::from(*seeded))?
-                .with(names::STOPPED, Value::from(*stopped))?
-                .named(names::LOG)
+                .with(names::STOPPED, Value::from(*stopped))?;
+            with_popped(alloc, object, popped)?.named(names::LOG)
         }
         Last::Sequencer { last } => {
             numbered(alloc, names::SEQUENCER, &[(names::LAST, last.get())])

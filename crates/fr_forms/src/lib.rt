@@ -12,6 +12,7 @@ pub mod names;
 mod nodes;
 pub mod object;
 mod outcomes;
+mod popped;
 mod records;
 mod sequencers;
 mod states;

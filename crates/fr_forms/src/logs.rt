@@ -2,7 +2,8 @@
 use crate::fault::ScriptFault;
 use crate::fields::{Fields, bare, variant};
 use crate::names;
-use crate::object::{bare_named, named, numbered, with_one};
+use crate::object::{Object, bare_named, named, numbered, with_one};
+use crate::popped::{popped_fields, read_popped, with_popped};
 use crate::records::{read_peeked, read_push, read_seed, write_peeked, write_push, write_seed};
 use crate::states::{read_state, write_state};
 use fr_base::Memory;
@@ -25,6 +26,7 @@ pub fn read_log_ask(alloc: Global, value: Value) -> Result<LogAsk, ScriptFault> 
             let epoch = Fields::new(content, 1).epoch(names::EPOCH)?;
             Ok(LogAsk::MarkAsked { epoch })
         }
+        names::POP => read_pop(&Fields::new(content, 3)),
         _ => Err(ScriptFault::BadScript),
     }
 }
@@ -36,6 +38,14 @@ fn read_peek(fields: &Fields) -> Result<LogAsk, ScriptFault> {
         tag: fields.tag(names::TAG)?,
         after: fields.version(names::AFTER)?,
         most: most.ok_or(ScriptFault::BadScript)?,
+    })
+}
+
+fn read_pop(fields: &Fields) -> Result<LogAsk, ScriptFault> {
+    Ok(LogAsk::Pop {
+        epoch: fields.epoch(names::EPOCH)?,
+        tag: fields.tag(names::TAG)?,
+        through: fields.version(names::THROUGH)?,
     })
 }
 
@@ -64,6 +74,19 @@ pub(crate) fn write_log_ask(alloc: Global, ask: &LogAsk) -> Result<Value, Memory
             names::MARK_ASKED,
             &[(names::EPOCH, epoch.get())],
         ),
+        LogAsk::Pop {
+            epoch,
+            tag,
+            through,
+        } => numbered(
+            alloc,
+            names::POP,
+            &[
+                (names::EPOCH, epoch.get()),
+                (names::TAG, tag.get() as u64),
+                (names::THROUGH, through.get()),
+            ],
+        ),
     }
 }
 
@@ -75,11 +98,15 @@ pub(crate) fn read_log_tell(alloc: Global, value: Value) -> Result<LogTell, Scri
             let version = Fields::new(content, 1).version(names::VERSION)?;
             Ok(LogTell::Held { version })
         }
-        names::LOCKED => read_locked(&Fields::new(content, 2)),
+        names::LOCKED => read_locked(alloc, content),
         names::PEEKED => Ok(LogTell::Peeked(read_peeked(alloc, &mut Fields::new(content, 5))?)),
         names::MARKED => {
             let state = read_state(alloc, Fields::new(content, 1).take(names::STATE)?)?;
             Ok(LogTell::Marked { state })
+        }
+        names::POPPED => {
+            let through = Fields::new(content, 1).version(names::THROUGH)?;
+            Ok(LogTell::Popped { through })
         }
         names::REFUSED => {
             let why = read_log_refusal(Fields::new(content, 1).take(names::WHY)?)?;
@@ -89,10 +116,12 @@ pub(crate) fn read_log_tell(alloc: Global, value: Value) -> Result<LogTell, Scri
     }
 }
 
-fn read_locked(fields: &Fields) -> Result<LogTell, ScriptFault> {
+fn read_locked(alloc: Global, content: Value) -> Result<LogTell, ScriptFault> {
+    let (mut fields, there) = popped_fields(content, 2);
     Ok(LogTell::Locked {
         durable: fields.version(names::DURABLE)?,
         known: fields.version(names::KNOWN)?,
+        popped: read_popped(alloc, &mut fields, there)?,
     })
 }
 
@@ -105,16 +134,24 @@ pub fn write_log_tell(alloc: Global, tell: &LogTell) -> Result<Value, Memory> {
             names::HELD,
             &[(names::VERSION, version.get())],
         ),
-        LogTell::Locked { durable, known } => numbered(
-            alloc,
-            names::LOCKED,
-            &[(names::DURABLE, durable.get()), (names::KNOWN, known.get())],
-        ),
+        LogTell::Locked {
+            durable,
+            known,
+            popped,
+        } => {
+            let numbers = [(names::DURABLE, durable.get()), (names::KNOWN, known.get())];
+            with_popped(alloc, Object::of(alloc, &numbers)?, popped)?.named(names::LOCKED)
+        }
         LogTell::Peeked(peeked) => named(alloc, names::PEEKED, write_peeked(alloc, peeked)?),
         LogTell::Marked { state } => {
             let state = write_state(alloc, state)?;
             with_one(alloc, names::MARKED, names::STATE, state)
         }
+        LogTell::Popped { through } => numbered(
+            alloc,
+            names::POPPED,
+            &[(names::THROUGH, through.get())],
+        ),
         LogTell::Refused { why } => {
             let why = write_log_refusal(alloc, why)?;
             with_one(alloc, names::REFUSED, names::WHY, why)
@@ -140,6 +177,10 @@ fn read_log_refusal(value: Value) -> Result<LogRefusal, ScriptFault> {
         }
         names::SEED_DIFFERS => bare(&content, LogRefusal::SeedDiffers),
         names::NO_MARK => bare(&content, LogRefusal::NoMark),
+        names::REMOVED => {
+            let through = Fields::new(content, 1).version(names::THROUGH)?;
+            Ok(LogRefusal::Removed { through })
+        }
         _ => Err(ScriptFault::BadScript),
     }
 }
@@ -163,5 +204,10 @@ fn write_log_refusal(alloc: Global, why: &LogRefusal) -> Result<Value, Memory> {
         ),
         LogRefusal::SeedDiffers => bare_named(alloc, names::SEED_DIFFERS),
         LogRefusal::NoMark => bare_named(alloc, names::NO_MARK),
+        LogRefusal::Removed { through } => numbered(
+            alloc,
+            names::REMOVED,
+            &[(names::THROUGH, through.get())],
+        ),
     }
 }

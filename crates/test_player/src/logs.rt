@@ -106,8 +106,8 @@ fn take_back(alloc: Global, log: &mut Log, given: Value) -> Result<Value, Wrong>
 fn ask_and_go_back(alloc: Global, log: &mut Log, ask: LogAsk) -> Result<LogTell, Memory>
     ensures { OnOk result (log.new ≡ log.old) }
 {
-    let place = log.place();
-    let tell = log.step(alloc, ask)?;
+    let place = log.place()?;
+    let tell = log.keep(alloc, ask)?;
     place_law();
     log.go_back(place);
     Ok(tell)

@@ -32,10 +32,11 @@ impl Plays<CoordState> for Files {
             "cut_of" => Ok(version_or_null(state.cut_of(epoch_of(&given)?))),
             "source_for" => { write_one(alloc, state.source_for(version_of(&given)?.get())) }
             "begins_with" => Ok(Value::from(state.begins_with(&read_state(alloc, given)?))),
+            "drop_before" => Ok(Value::from(state.drop_before(epoch_of(&given)?))),
             "state" => Ok(write_state(alloc, &state.copy()?)?),
             _ => no_such_word(
                 "rows of a coordinated_state: extend, bytes, read, end_of, cut_of, source_for, \
-                 begins_with, state",
+                 begins_with, drop_before, state",
             ),
         }
     }

@@ -9,6 +9,13 @@ use fr_run_event::{Answer, NotEnabled};
 use fr_world::World;
 use std::alloc::Global;
 
+/// What came of what a storage server asked: what the log told, or why that or its hear was refused.
+#[derive(Drop)]
+pub(crate) enum Asked {
+    Told(Tell),
+    Refused(Refusal),
+}
+
 /// Has the storage server of a step ask its log, and hear what that tells; gives the line of the step, which begins
 /// with this word. The server that is not there asks nothing.
 pub(crate) fn line_of(
@@ -18,18 +25,14 @@ pub(crate) fn line_of(
     pull: &Pull,
     ask: Option<LogAsk>,
 ) -> Result<String, Memory> {
-    let refusal = match ask {
-        Some(ask) => refusal_of(alloc, world, pull, ask)?,
-        None => Some(Refusal::Event(NotEnabled::NoSuchNode)),
-    };
-    match refusal {
-        Some(refusal) => refused_line(alloc, word, pull, &refusal),
-        None => stands_line(alloc, world, word, pull),
+    match ask_log(alloc, world, pull, ask)? {
+        Asked::Refused(refusal) => refused_line(alloc, word, pull, &refusal),
+        Asked::Told(_) => stands_line(alloc, world, word, pull),
     }
 }
 
 /// The line of a refused step.
-fn refused_line(
+pub(crate) fn refused_line(
     alloc: Global,
     word: &str,
     pull: &Pull,
@@ -54,22 +57,35 @@ fn stands_line(alloc: Global, world: &World, word: &str, pull: &Pull) -> Result<
     }
 }
 
-/// Asks a log, and has the storage server hear what it tells: why that was refused, where it was.
-fn refusal_of(
+/// Asks a log, and has the storage server hear what it tells. The server that is not there asks nothing.
+pub(crate) fn ask_log(
     alloc: Global,
     world: &mut World,
     pull: &Pull,
-    ask: LogAsk,
-) -> Result<Option<Refusal>, Memory> {
+    ask: Option<LogAsk>,
+) -> Result<Asked, Memory> {
+    let Some(ask) = ask else {
+        return Ok(Asked::Refused(Refusal::Event(NotEnabled::NoSuchNode)));
+    };
     let from = NodeId::Storage { tag: pull.storage };
     let to = NodeId::Log {
         epoch: pull.log.epoch,
         index: pull.log.index,
     };
     match ask_and_hear(alloc, world, &from, &to, Ask::Log(ask)) {
-        Ok(done) => Ok(refusal_in(&done)),
+        Ok(done) => Ok(asked_in(done)),
         Err(NotEnabled::Memory) => Err(Memory),
-        Err(why) => Ok(Some(Refusal::Event(why))),
+        Err(why) => Ok(Asked::Refused(Refusal::Event(why))),
+    }
+}
+
+/// What was told, unless the log refused the ask, or the storage server the tell.
+fn asked_in(done: Exchange) -> Asked {
+    let refusal = refusal_in(&done);
+    let Exchange { tell, .. } = done;
+    match refusal {
+        Some(refusal) => Asked::Refused(refusal),
+        None => Asked::Told(tell),
     }
 }
 
