@@ -83,14 +83,15 @@ def copied(tree):
 
 
 class Mutator:
-    """Draws mutations. All that it does follows from the random numbers that it is given."""
+    """Draws mutations. All that it does follows from the random numbers that it is given. Scripts are changed into one
+    another, and parts of the further pieces are put into them."""
 
-    def __init__(self, random, corpus):
+    def __init__(self, random, corpus, pieces=()):
         self.random = random
         self.corpus = corpus
         self.trees = []
         self.names = set()
-        for script in corpus:
+        for script in [*corpus, *pieces]:
             try:
                 tree = parse(script)
             except (ValueError, RecursionError):

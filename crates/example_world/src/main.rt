@@ -4,7 +4,7 @@
 mod many;
 
 use anyhow::Context;
-use fr_ask::{Ask, SeqAsk};
+use fr_ask::{Ask, SeqAsk, Tell};
 use fr_base::{Bytes, Epoch, NodeId, Step, Tag, Version};
 use fr_log::{LogAsk, Most};
 use fr_mutation::{Batch, Mutation};
@@ -113,22 +113,31 @@ fn serve(
     to: NodeId,
     ask: Ask,
 ) -> anyhow::Result<()> {
-    let asked = Event::Deliver { from, to, ask };
-    if let Answer::Told(tell) = happen(rt.alloc(), world, &asked)? {
-        println!(rt; "{to:?} tells {from:?}: {tell:?}")?;
-        let heard = Event::Hear {
-            by: from,
-            from: to,
-            tell,
-            taken: None,
-        };
-        hear(rt, world, &from, &heard)?;
+    match happen(rt.alloc(), world, &Event::Deliver { from, to, ask })? {
+        Answer::Told(tell) => hear(rt, world, from, to, tell),
+        _ => Ok(()),
     }
-    Ok(())
 }
 
-fn hear(rt: &HostRuntime, world: &mut World, node: &NodeId, heard: &Event) -> anyhow::Result<()> {
-    let answer = happen(rt.alloc(), world, heard)?;
+/// A node hears what another one tells.
+fn hear(
+    rt: &HostRuntime,
+    world: &mut World,
+    by: NodeId,
+    from: NodeId,
+    tell: Tell,
+) -> anyhow::Result<()> {
+    println!(rt; "{from:?} tells {by:?}: {tell:?}")?;
+    let heard = Event::Hear {
+        by,
+        from,
+        tell,
+        taken: None,
+    };
+    say(rt, by, &happen(rt.alloc(), world, &heard)?)
+}
+
+fn say(rt: &HostRuntime, node: NodeId, answer: &Answer) -> anyhow::Result<()> {
     println!(rt; "{node:?}: {answer:?}")?;
     Ok(())
 }

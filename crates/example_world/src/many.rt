@@ -61,7 +61,12 @@ fn first_exchange(alloc: Global) -> anyhow::Result<Exchange> {
 /// What is told at the start of a world.
 fn told(alloc: Global, from: NodeId, to: NodeId, ask: Ask) -> anyhow::Result<Tell> {
     let mut world = crate::start(alloc)?;
-    match crate::happen(alloc, &mut world, &Event::Deliver { from, to, ask })? {
+    told_in(alloc, &mut world, &Event::Deliver { from, to, ask })
+}
+
+/// What is told in an event.
+fn told_in(alloc: Global, world: &mut World, event: &Event) -> anyhow::Result<Tell> {
+    match crate::happen(alloc, world, event)? {
         Answer::Told(tell) => Ok(tell),
         _ => bail!("nothing was told"),
     }

@@ -1,6 +1,7 @@
 //! Asks that are pending: those whose tells a proxy or a recoverer wants.
 use fr_ask::Ask;
-use fr_base::{Memory, NodeId, Tag};
+use fr_base::{Ballot, Memory, NodeId, Tag};
+use fr_epoch::Phase;
 use fr_log::LogAsk;
 use fr_register::CellAsk;
 use fr_world::World;
@@ -57,20 +58,48 @@ pub(crate) fn pending_of(
     }
 }
 
-/// The pending ask for this to the cell or the log of this number, with the node that it goes to.
-pub(crate) fn pending_ask(
-    alloc: Global,
-    world: &World,
-    by: &NodeId,
+/// Whether a recoverer has asks for this pending, where it has any: each phase has those of its own, and what they are
+/// changes with what is told of them alone. It takes no memory, while a list of them may take much.
+pub(crate) fn is_wanted(world: &World, ballot: Ballot, purpose: &Purpose) -> bool {
+    match world.recoverer(ballot) {
+        Some(recoverer) => match (recoverer.phase(), purpose) {
+            (Phase::Reading, Purpose::Read) => true,
+            (Phase::Locking, Purpose::Lock) => true,
+            (Phase::Copying, Purpose::Peek { .. }) => !recoverer.is_copied(),
+            (Phase::Copying, Purpose::Seed) => recoverer.is_copied(),
+            (Phase::Writing, Purpose::Write) => true,
+            (Phase::Chosen { .. }, Purpose::Push) => true,
+            _ => false,
+        },
+        None => false,
+    }
+}
+
+/// Of a list of asks the one for this to the cell or the log of this number.
+pub(crate) fn listed<'a>(
+    asks: &'a [(NodeId, Ask)],
     purpose: &Purpose,
     index: u8,
-) -> Result<Option<(NodeId, Ask)>, Memory> {
-    for (to, ask) in pending_of(alloc, world, by)? {
-        if purpose.is_of(&ask) && has_index(&to, index) {
-            return Ok(Some((to, ask)));
+) -> Option<&'a (NodeId, Ask)> {
+    for asked in asks {
+        let (to, ask) = asked;
+        if purpose.is_of(ask) && has_index(to, index) {
+            return Some(asked);
         }
     }
-    Ok(None)
+    None
+}
+
+/// Numbers of cells or logs, each once, in the order in which they come first. What is asked again in the same step is
+/// told the same.
+pub(crate) fn distinct(alloc: Global, numbers: &[u8]) -> Result<Vec<u8>, Memory> {
+    let mut found = Vec::new(alloc);
+    for number in numbers {
+        if !found.contains(number) {
+            found.push(*number)?;
+        }
+    }
+    Ok(found)
 }
 
 /// Whether a node is the cell or the log of this number.

@@ -62,29 +62,31 @@ fn put_script<W: Write>(
     ensures fault { IfErr result (λ e. IsWriteFault calls.new e) }
     ensures done { OnOk result (calls.new ≡ calls.old) }
 {
-    let Ok(mut world) = World::start(alloc, script.config) else {
+    let Ok(world) = World::start(alloc, script.config) else {
         return Err(CliFault::Memory);
     };
-    put_steps(alloc, &mut world, script.acts, calls, writer)?;
+    let world = put_steps(alloc, world, script.acts, calls, writer)?;
     put_storages(alloc, &world, calls, writer)
 }
 
-/// Takes steps, and writes a line for each.
+/// Takes steps, and writes a line for each; gives the world after them.
 fn put_steps<W: Write>(
     alloc: Global,
-    world: &mut World,
+    world: World,
     acts: Vec<Act>,
     calls: &mut CallCounts,
     writer: &mut W,
-) -> Result<(), CliFault>
+) -> Result<World, CliFault>
     ensures fault { IfErr result (λ e. IsWriteFault calls.new e) }
     ensures done { OnOk result (calls.new ≡ calls.old) }
 {
+    let mut world = world;
     for act in acts {
-        let Ok(line) = line_of(alloc, world, act) else {
+        let Ok((next, line)) = line_of(alloc, world, act) else {
             return Err(CliFault::Memory);
         };
+        world = next;
         put(calls, writer, line.as_str())?;
     }
-    Ok(())
+    Ok(world)
 }

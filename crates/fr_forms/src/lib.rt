@@ -7,6 +7,7 @@ mod cells;
 mod fault;
 pub mod fields;
 mod lasts;
+pub mod lists;
 mod logs;
 pub mod names;
 mod nodes;

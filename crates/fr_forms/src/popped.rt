@@ -1,18 +1,19 @@
 //! How far the tags of a log are popped, which is left out where none is.
 use crate::fault::ScriptFault;
-use crate::fields::{Fields, items, pair, tag_of, version_of};
+use crate::fields::{Fields, items, tag_of, version_of};
+use crate::lists::{ReadItem, WriteItem, read_all, write_all, write_pair};
 use crate::names;
-use crate::object::{Object, pair_value};
-use fr_base::Memory;
+use crate::object::Object;
+use fr_base::{Memory, Tag};
 use fr_log::{PoppedTag, PoppedTags};
 use serde_json::Value;
 use std::alloc::Global;
 
-/// An object of so many members, or of one more where it says what is popped; and whether it says that.
-pub(crate) fn popped_fields(value: Value, without: u8) -> (Fields, bool) {
-    let there = value.get(names::POPPED).is_some();
-    let count = usize::from(without) + usize::from(there);
-    (Fields::new(value, count), there)
+/// Whether an object, which is to have so many members, or one more where it says what is popped, says that.
+pub(crate) fn says_popped(fields: &mut Fields, without: u8) -> bool {
+    let there = fields.all().get(names::POPPED).is_some();
+    fields.of(usize::from(without) + usize::from(there));
+    there
 }
 
 /// How far tags are popped, where the object says it: a list of pairs of a tag and a version, one at least, by rising
@@ -22,37 +23,50 @@ pub(crate) fn read_popped(
     fields: &mut Fields,
     there: bool,
 ) -> Result<PoppedTags, ScriptFault> {
-    let mut popped = Vec::new(alloc);
     if !there {
-        return Ok(PoppedTags::from_vec(popped));
+        return Ok(PoppedTags::from_vec(Vec::new(alloc)));
     }
-    for item in items(fields.take(names::POPPED)?)? {
-        let entry = read_popped_tag(item)?;
-        if !comes_after(&popped, entry) {
-            return Err(ScriptFault::BadScript);
-        }
-        popped.push(entry)?;
+    let popped = read_all(alloc, fields.take(names::POPPED)?)?;
+    if rise(popped.as_slice()) {
+        Ok(PoppedTags::from_vec(popped))
+    } else {
+        Err(ScriptFault::BadScript)
     }
-    if popped.is_empty() {
-        return Err(ScriptFault::BadScript);
-    }
-    Ok(PoppedTags::from_vec(popped))
 }
 
-/// Whether an entry's tag is above those of all entries before it, which rise.
-fn comes_after(popped: &[PoppedTag], entry: PoppedTag) -> bool {
-    match popped.last() {
-        Some(last) => last.tag < entry.tag,
+/// Whether there are entries, and their tags rise.
+fn rise(popped: &[PoppedTag]) -> bool {
+    let mut last = None;
+    for entry in popped {
+        if !comes_after(last, entry.tag) {
+            return false;
+        }
+        last = Some(entry.tag);
+    }
+    last.is_some()
+}
+
+fn comes_after(last: Option<Tag>, tag: Tag) -> bool {
+    match last {
+        Some(last) => last < tag,
         None => true,
     }
 }
 
-fn read_popped_tag(item: Value) -> Result<PoppedTag, ScriptFault> {
-    let (tag, version) = pair(item)?;
-    Ok(PoppedTag {
-        tag: tag_of(&tag)?,
-        version: version_of(&version)?,
-    })
+impl ReadItem for PoppedTag {
+    fn read(_alloc: Global, item: Value) -> Result<Self, ScriptFault> {
+        let items = items(item)?;
+        match items.as_slice() {
+            [tag, version] => popped_tag(tag, version),
+            _ => Err(ScriptFault::BadScript),
+        }
+    }
+}
+
+fn popped_tag(tag: &Value, version: &Value) -> Result<PoppedTag, ScriptFault> {
+    let tag = tag_of(tag)?;
+    let version = version_of(version)?;
+    Ok(PoppedTag { tag, version })
 }
 
 /// An object with how far tags are popped, where any is.
@@ -64,10 +78,12 @@ pub(crate) fn with_popped(
     if popped.as_slice().is_empty() {
         return Ok(object);
     }
-    let mut items = Vec::with_capacity(alloc, popped.as_slice().len())?;
-    for entry in popped.as_slice() {
-        let tag = Value::from(entry.tag.get() as u64);
-        items.push(pair_value(alloc, tag, Value::from(entry.version.get()))?)?;
+    object.and(names::POPPED, write_all(alloc, popped.as_slice()))
+}
+
+impl WriteItem for PoppedTag {
+    fn write(&self, alloc: Global) -> Result<Value, Memory> {
+        let version = Value::from(self.version.get());
+        write_pair(alloc, Value::from(self.tag.get() as u64), Ok(version))
     }
-    object.with(names::POPPED, Value::Array(items))
 }

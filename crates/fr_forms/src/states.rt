@@ -1,6 +1,7 @@
 //! Coordinated states.
 use crate::fault::ScriptFault;
 use crate::fields::{Fields, items};
+use crate::lists::{WriteItem, write_all};
 use crate::names;
 use crate::object::Object;
 use fr_base::Memory;
@@ -13,7 +14,10 @@ pub fn read_state(alloc: Global, value: Value) -> Result<CoordState, ScriptFault
     if value.as_object().is_none() {
         return read_generations(alloc, value);
     }
-    let mut fields = Fields::new(value, 2);
+    read_dropped(alloc, &mut Fields::new(value, 2))
+}
+
+fn read_dropped(alloc: Global, fields: &mut Fields) -> Result<CoordState, ScriptFault> {
     let dropped = fields.number(names::DROPPED)?;
     let state = read_generations(alloc, fields.take(names::GENS)?)?;
     with_dropped(alloc, dropped, &state)
@@ -76,32 +80,26 @@ fn read_generation(fields: &Fields) -> Result<Generation, ScriptFault> {
 
 /// The form of a coordinated state: the list of its generations, with how many were dropped before, where some were.
 pub fn write_state(alloc: Global, state: &CoordState) -> Result<Value, Memory> {
-    let generations = write_generations(alloc, state)?;
     if state.dropped() == 0 {
-        return Ok(generations);
+        return write_all(alloc, state.gens());
     }
+    let object = Object::of(alloc, &[(names::DROPPED, state.dropped())])?;
     Ok(
-        Object::of(alloc, &[(names::DROPPED, state.dropped())])?
-            .with(names::GENS, generations)?
+        object
+            .and(names::GENS, write_all(alloc, state.gens()))?
             .value(),
     )
 }
 
-fn write_generations(alloc: Global, state: &CoordState) -> Result<Value, Memory> {
-    let mut items = Vec::with_capacity(alloc, state.gens().len())?;
-    for generation in state.gens() {
-        items.push(write_generation(alloc, *generation)?)?;
+impl WriteItem for Generation {
+    fn write(&self, alloc: Global) -> Result<Value, Memory> {
+        let numbers = [
+            (names::EPOCH, self.epoch().get()),
+            (names::M, self.m() as u64),
+            (names::K, self.k() as u64),
+            (names::FIRST, self.first().get()),
+            (names::SEEDED_TO, self.seeded_to().get()),
+        ];
+        Ok(Object::of(alloc, &numbers)?.value())
     }
-    Ok(Value::Array(items))
-}
-
-fn write_generation(alloc: Global, generation: Generation) -> Result<Value, Memory> {
-    let numbers = [
-        (names::EPOCH, generation.epoch().get()),
-        (names::M, generation.m() as u64),
-        (names::K, generation.k() as u64),
-        (names::FIRST, generation.first().get()),
-        (names::SEEDED_TO, generation.seeded_to().get()),
-    ];
-    Ok(Object::of(alloc, &numbers)?.value())
 }

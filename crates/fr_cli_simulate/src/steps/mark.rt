@@ -7,8 +7,8 @@ use fr_world::World;
 use std::alloc::Global;
 
 /// Asks for the mark, and has the storage server hear it.
-pub(crate) fn line_of(alloc: Global, world: &mut World, mark: &Pull) -> Result<String, Memory> {
-    let ask = mark_ask(world, mark);
+pub(crate) fn line_of(alloc: Global, world: World, mark: &Pull) -> Result<(World, String), Memory> {
+    let ask = mark_ask(&world, mark);
     storing::line_of(alloc, world, "mark", mark, ask)
 }
 

@@ -10,11 +10,18 @@ use fr_world::World;
 use std::alloc::Global;
 
 /// Pops the tag of the storage server through its floor, and has it hear through which version that is done.
-pub(crate) fn line_of(alloc: Global, world: &mut World, pop: &Pull) -> Result<String, Memory> {
-    let ask = pop_ask(world, pop);
-    match storing::ask_log(alloc, world, pop, ask)? {
-        Asked::Refused(refusal) => storing::refused_line(alloc, "pop", pop, &refusal),
-        Asked::Told(Tell::Log(LogTell::Popped { through })) => popped_line(alloc, pop, through),
+pub(crate) fn line_of(alloc: Global, world: World, pop: &Pull) -> Result<(World, String), Memory> {
+    let ask = pop_ask(&world, pop);
+    let (world, asked) = storing::ask_log(alloc, world, pop, ask)?;
+    let line = line_after(alloc, pop, &asked)?;
+    Ok((world, line))
+}
+
+/// The line of a step of which this came.
+fn line_after(alloc: Global, pop: &Pull, asked: &Asked) -> Result<String, Memory> {
+    match asked {
+        Asked::Refused(refusal) => storing::refused_line(alloc, "pop", pop, refusal),
+        Asked::Told(Tell::Log(LogTell::Popped { through })) => popped_line(alloc, pop, *through),
         // Each Pop that is not refused is told so.
         Asked::Told(_) => {
             let refusal = Refusal::Event(NotEnabled::NeverSent);

@@ -10,8 +10,8 @@ use std::alloc::Global;
 const MOST: u8 = 100;
 
 /// Pulls what a log has after the version that the storage server applied.
-pub(crate) fn line_of(alloc: Global, world: &mut World, pull: &Pull) -> Result<String, Memory> {
-    let ask = peek(world, pull);
+pub(crate) fn line_of(alloc: Global, world: World, pull: &Pull) -> Result<(World, String), Memory> {
+    let ask = peek(&world, pull);
     storing::line_of(alloc, world, "pull", pull, ask)
 }
 

@@ -1,6 +1,6 @@
 //! The step `push`: a proxy pushes its open batch again.
-use crate::exchange::{Exchange, ask_pending};
-use crate::pending::{Purpose, pending_of};
+use crate::exchange::{Exchange, ask_listed};
+use crate::pending::{Purpose, distinct, pending_of};
 use crate::script::Push;
 use fr_ask::Ask;
 use fr_base::{Memory, NodeId, Version};
@@ -69,7 +69,8 @@ fn open_version(alloc: Global, world: &World, by: &NodeId) -> Result<Option<Vers
     Ok(None)
 }
 
-/// Delivers the pushes to these logs, and has the proxy hear each tell.
+/// Delivers the pushes to these logs, and has the proxy hear each tell, up to one by which the batch is committed or
+/// ended: until then the pushes to the other logs stay as they are, and from then on none is pending.
 pub(crate) fn push_to(
     alloc: Global,
     world: &mut World,
@@ -77,9 +78,12 @@ pub(crate) fn push_to(
     logs: &[u8],
 ) -> Result<Said, Memory> {
     let mut said = Said::Waiting;
-    for log in logs {
-        let done = ask_pending(alloc, world, by, &Purpose::Push, *log)?;
-        said = said.with(outcome_in(&done));
+    let asks = pending_of(alloc, world, by)?;
+    for log in &distinct(alloc, logs)? {
+        if said == Said::Waiting {
+            let done = ask_listed(alloc, world, by, asks.as_slice(), &Purpose::Push, *log)?;
+            said = said.with(outcome_in(&done));
+        }
     }
     Ok(said)
 }

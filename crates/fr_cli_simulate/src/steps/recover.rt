@@ -1,8 +1,9 @@
 //! The step `recover`: a recoverer begins, or goes on.
-use crate::exchange::ask_pending;
+use crate::exchange::ask_listed;
 use crate::names::event_name;
-use crate::pending::{Purpose, pending_ask};
+use crate::pending::{Purpose, distinct, is_wanted, listed, pending_of};
 use crate::script::Recover;
+use fr_ask::Ask;
 use fr_base::{Ballot, Memory, NodeId, Tag};
 use fr_run_event::{Event, NotEnabled, phase_text};
 use fr_world::World;
@@ -31,13 +32,36 @@ pub(crate) fn line_of(
             Err(why) => return refused(alloc, ballot, event_name(why)),
         }
     }
-    let by = NodeId::Recoverer { ballot };
-    ask_each(alloc, world, &by, &Purpose::Read, recover.read.as_slice())?;
-    ask_each(alloc, world, &by, &Purpose::Lock, recover.lock.as_slice())?;
-    copy(alloc, world, &by)?;
-    ask_each(alloc, world, &by, &Purpose::Seed, LOGS.as_slice())?;
-    ask_each(alloc, world, &by, &Purpose::Write, recover.write.as_slice())?;
-    ask_each(alloc, world, &by, &Purpose::Push, recover.mark.as_slice())?;
+    ask_each(
+        alloc,
+        world,
+        ballot,
+        &Purpose::Read,
+        recover.read.as_slice(),
+    )?;
+    ask_each(
+        alloc,
+        world,
+        ballot,
+        &Purpose::Lock,
+        recover.lock.as_slice(),
+    )?;
+    copy(alloc, world, ballot)?;
+    ask_each(alloc, world, ballot, &Purpose::Seed, LOGS.as_slice())?;
+    ask_each(
+        alloc,
+        world,
+        ballot,
+        &Purpose::Write,
+        recover.write.as_slice(),
+    )?;
+    ask_each(
+        alloc,
+        world,
+        ballot,
+        &Purpose::Push,
+        recover.mark.as_slice(),
+    )?;
     phase_line(alloc, world, ballot)
 }
 
@@ -58,24 +82,28 @@ fn phase_line(alloc: Global, world: &World, ballot: Ballot) -> Result<String, Me
     Ok(format!(in alloc; "recover {ballot} {phase}\n")?)
 }
 
-/// Makes the asks for this that are pending to the cells or logs of these numbers.
+/// Makes the asks for this that are pending to the cells or logs of these numbers, as long as there are any.
 fn ask_each(
     alloc: Global,
     world: &mut World,
-    by: &NodeId,
+    ballot: Ballot,
     purpose: &Purpose,
     indexes: &[u8],
 ) -> Result<(), Memory> {
-    for index in indexes {
-        ask_pending(alloc, world, by, purpose, *index)?;
+    let by = NodeId::Recoverer { ballot };
+    let asks = asks_of(alloc, world, ballot, purpose)?;
+    for index in &distinct(alloc, indexes)? {
+        if is_wanted(world, ballot, purpose) {
+            ask_listed(alloc, world, &by, asks.as_slice(), purpose, *index)?;
+        }
     }
     Ok(())
 }
 
 /// Makes the peeks that are pending, by tag and log, until none of them brings anything new.
-fn copy(alloc: Global, world: &mut World, by: &NodeId) -> Result<(), Memory> {
+fn copy(alloc: Global, world: &mut World, ballot: Ballot) -> Result<(), Memory> {
     for _ in 0..u64::MAX {
-        if !peek_each(alloc, world, by)? {
+        if !peek_each(alloc, world, ballot)? {
             return Ok(());
         }
     }
@@ -83,27 +111,74 @@ fn copy(alloc: Global, world: &mut World, by: &NodeId) -> Result<(), Memory> {
 }
 
 /// Makes the peeks that are pending once, by tag and log; answers whether one of them brought something new.
-fn peek_each(alloc: Global, world: &mut World, by: &NodeId) -> Result<bool, Memory> {
+fn peek_each(alloc: Global, world: &mut World, ballot: Ballot) -> Result<bool, Memory> {
     let mut is_new = false;
     for number in 0..32u8 {
         if let Some(tag) = Tag::new(number) {
-            for log in LOGS {
-                if peek(alloc, world, by, tag, log)? {
-                    is_new = true;
-                }
+            if peek_tag(alloc, world, ballot, tag)? {
+                is_new = true;
             }
         }
     }
     Ok(is_new)
 }
 
-/// Makes the peek of a tag to a log, where it is pending; answers whether it brought something new: then this peek
-/// is no longer pending.
-fn peek(alloc: Global, world: &mut World, by: &NodeId, tag: Tag, log: u8) -> Result<bool, Memory> {
+/// Makes those of a tag.
+fn peek_tag(alloc: Global, world: &mut World, ballot: Ballot, tag: Tag) -> Result<bool, Memory> {
     let purpose = Purpose::Peek { tag };
-    let before = pending_ask(alloc, world, by, &purpose, log)?;
-    if ask_pending(alloc, world, by, &purpose, log)?.is_none() {
+    let asks = asks_of(alloc, world, ballot, &purpose)?;
+    let mut is_new = false;
+    for log in LOGS {
+        if listed(asks.as_slice(), &purpose, log).is_some()
+            && peek(alloc, world, ballot, &purpose, log)?
+        {
+            is_new = true;
+        }
+    }
+    Ok(is_new)
+}
+
+/// Makes a peek to a log, where it is still pending; answers whether it brought something new: then this peek is no longer
+/// pending.
+fn peek(
+    alloc: Global,
+    world: &mut World,
+    ballot: Ballot,
+    purpose: &Purpose,
+    log: u8,
+) -> Result<bool, Memory> {
+    let by = NodeId::Recoverer { ballot };
+    let before = asks_of(alloc, world, ballot, purpose)?;
+    if ask_listed(alloc, world, &by, before.as_slice(), purpose, log)?.is_none() {
         return Ok(false);
     }
-    Ok(pending_ask(alloc, world, by, &purpose, log)? != before)
+    let after = asks_of(alloc, world, ballot, purpose)?;
+    let is_same = are_same(
+        listed(before.as_slice(), purpose, log),
+        listed(after.as_slice(), purpose, log),
+    );
+    Ok(!is_same)
+}
+
+/// The asks that are pending, where there are any for this.
+fn asks_of(
+    alloc: Global,
+    world: &World,
+    ballot: Ballot,
+    purpose: &Purpose,
+) -> Result<Vec<(NodeId, Ask)>, Memory> {
+    if is_wanted(world, ballot, purpose) {
+        pending_of(alloc, world, &NodeId::Recoverer { ballot })
+    } else {
+        Ok(Vec::new(alloc))
+    }
+}
+
+/// Whether two asks are one, or none.
+fn are_same(one: Option<&(NodeId, Ask)>, other: Option<&(NodeId, Ask)>) -> bool {
+    match (one, other) {
+        (Some((to, ask)), Some((node, asked))) => *to == *node && *ask == *asked,
+        (None, None) => true,
+        _ => false,
+    }
 }

@@ -1,5 +1,5 @@
 //! What a storage server asks a log for.
-use crate::exchange::{Exchange, ask_and_hear};
+use crate::exchange::{Exchange, ask_for_server};
 use crate::names::Refusal;
 use crate::script::Pull;
 use fr_ask::{Ask, Tell};
@@ -17,16 +17,29 @@ pub(crate) enum Asked {
 }
 
 /// Has the storage server of a step ask its log, and hear what that tells; gives the line of the step, which begins
-/// with this word. The server that is not there asks nothing.
+/// with this word, beside the world after it. The server that is not there asks nothing.
 pub(crate) fn line_of(
     alloc: Global,
-    world: &mut World,
+    world: World,
     word: &str,
     pull: &Pull,
     ask: Option<LogAsk>,
+) -> Result<(World, String), Memory> {
+    let (world, asked) = ask_log(alloc, world, pull, ask)?;
+    let line = line_after(alloc, &world, word, pull, &asked)?;
+    Ok((world, line))
+}
+
+/// The line of a step of which this came.
+fn line_after(
+    alloc: Global,
+    world: &World,
+    word: &str,
+    pull: &Pull,
+    asked: &Asked,
 ) -> Result<String, Memory> {
-    match ask_log(alloc, world, pull, ask)? {
-        Asked::Refused(refusal) => refused_line(alloc, word, pull, &refusal),
+    match asked {
+        Asked::Refused(refusal) => refused_line(alloc, word, pull, refusal),
         Asked::Told(_) => stands_line(alloc, world, word, pull),
     }
 }
@@ -57,26 +70,28 @@ fn stands_line(alloc: Global, world: &World, word: &str, pull: &Pull) -> Result<
     }
 }
 
-/// Asks a log, and has the storage server hear what it tells. The server that is not there asks nothing.
+/// Asks a log, and has the storage server hear what it tells: what came of it, beside the world after it. The server that
+/// is not there asks nothing.
 pub(crate) fn ask_log(
     alloc: Global,
-    world: &mut World,
+    world: World,
     pull: &Pull,
     ask: Option<LogAsk>,
-) -> Result<Asked, Memory> {
+) -> Result<(World, Asked), Memory> {
     let Some(ask) = ask else {
-        return Ok(Asked::Refused(Refusal::Event(NotEnabled::NoSuchNode)));
+        let refusal = Refusal::Event(NotEnabled::NoSuchNode);
+        return Ok((world, Asked::Refused(refusal)));
     };
-    let from = NodeId::Storage { tag: pull.storage };
     let to = NodeId::Log {
         epoch: pull.log.epoch,
         index: pull.log.index,
     };
-    match ask_and_hear(alloc, world, &from, &to, Ask::Log(ask)) {
-        Ok(done) => Ok(asked_in(done)),
-        Err(NotEnabled::Memory) => Err(Memory),
-        Err(why) => Ok(Asked::Refused(Refusal::Event(why))),
-    }
+    let (world, done) = ask_for_server(alloc, world, pull.storage, &to, Ask::Log(ask))?;
+    let asked = match done {
+        Ok(done) => asked_in(done),
+        Err(why) => Asked::Refused(Refusal::Event(why)),
+    };
+    Ok((world, asked))
 }
 
 /// What was told, unless the log refused the ask, or the storage server the tell.
