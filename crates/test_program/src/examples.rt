@@ -1,29 +1,25 @@
-//! Runs each script `NAME.json` of the folder as the program does, with the words of `NAME.words` (`apply`
-//! where there is no such file), and compares what it prints with `NAME.out`, and the status that it ends with
-//! with that of `NAME.status` (0 where there is no such file). It prints a line for each, and ends with status 1 where
-//! one differs or is missing.
-#![tactic(auto)]
-
+//! Runs each script `NAME.json` of the folder as the program does, with the words of `NAME.words` (`apply` where there
+//! is no such file), and compares what it prints with `NAME.out`, and the status that it ends with with that of
+//! `NAME.status` (0 where there is no such file). It prints a line for each.
 use fr_cli::{Ending, run_program};
 use std::alloc::{AllocError, Global};
-use std::process::ExitCode;
 use std::sync::Wait;
 use std::thread::Threads;
 use std::{fs, io};
 
-fn main(rt: HostRuntime) -> anyhow::Result<ExitCode> {
+/// Says of each script whether it prints what stands beside it, and answers whether all do.
+pub(crate) fn hold<H: Threads + Wait + Sync>(rt: &HostRuntime, threads: &H) -> io::Result<bool> {
     let alloc = rt.alloc();
-    let names = names_of(&rt, alloc)?;
-    let mut status = ExitCode::SUCCESS;
-    for name in &names {
-        if holds(&rt, &rt, alloc, name)? {
+    let mut all = true;
+    for name in &names_of(rt, alloc)? {
+        if holds(rt, threads, alloc, name)? {
             println!(rt; "{name} holds")?;
         } else {
             println!(rt; "{name} differs")?;
-            status = ExitCode::FAILURE;
+            all = false;
         }
     }
-    Ok(status)
+    Ok(all)
 }
 
 /// The names of the scripts, of their words, outputs and statuses, in order, each once.
