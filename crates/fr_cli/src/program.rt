@@ -2,7 +2,7 @@
 use crate::apply::apply_to;
 use crate::words::{Request, read_words};
 use fr_cli_audit::run_audit;
-use fr_cli_cluster::{ClusterOptions, Progress, cluster_counted, run_cluster};
+use fr_cli_cluster::{ClusterOptions, PlainRack, Progress, cluster_counted, run_cluster, storm_of};
 use fr_cli_end::run_end;
 use fr_cli_json::{CallCounts, CliFault};
 use fr_cli_simulate::run_simulate;
@@ -61,9 +61,8 @@ fn run_shown<H: Threads + Wait + Sync, E: Eprint + Sync, W: Write>(
     options: ClusterOptions,
     writer: &mut W,
 ) -> Result<u8, CliFault> {
-    let progress = Progress::new(terminal, options);
+    let storm = storm_of(options);
+    let progress = Progress::new(terminal, options, &storm);
     let mut calls = CallCounts::new();
-    let ended = cluster_counted(rt, alloc, options, &progress, &mut calls, writer);
-    progress.end();
-    ended
+    cluster_counted(rt, alloc, options, PlainRack, &progress, &mut calls, writer)
 }

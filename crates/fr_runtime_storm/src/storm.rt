@@ -7,10 +7,12 @@ use fr_ask::Ask;
 use fr_base::{Ballot, NodeId};
 use fr_runtime_station::{Faults, NoFaults, Verdict};
 use std::sync::atomic::{AtomicU64, Ordering};
+use std::thread::yield_now;
 
 /// Faults drawn from a seed. The asks of all threads and the crashes are the calls of one count: which of them gets which
 /// draw depends on the order in which threads come to it, and what a draw is on the seed and the count alone.
-/// Recoverers begin as with [`NoFaults`].
+/// Recoverers begin as with [`NoFaults`]. Other threads go first at each turn of the crashes and of a ballot that waits to
+/// begin, so that these stand between the turns of the others.
 #[derive(Drop)]
 pub struct Storm {
     /// What it draws from.
@@ -59,6 +61,7 @@ impl Faults for Storm {
         ensures drawn { (call : ℕ) × (result ≡ crash_at self.now.draws.strength self.now.draws.coordinators
             self.now.draws.logs turn (word_at self.now.draws.seed call)) }
     {
+        yield_now();
         if turn % 64 == 0 {
             let call = self.next_call();
             return self.draws.crash(call);
@@ -67,6 +70,7 @@ impl Faults for Storm {
     }
 
     fn begins(&self, ballot: Ballot, turn: u32) -> bool {
+        yield_now();
         NoFaults.begins(ballot, turn)
     }
 }

@@ -7,10 +7,12 @@ use fr_cli_cluster::{
 };
 use fr_cli_json::CallCounts;
 use fr_run_event::Config;
+use fr_runtime::PlainRack;
+use fr_runtime_station::NoFaults;
 use std::alloc::Global;
 use std::fmt::Display;
 use std::io;
-use std::io::Eprint;
+use std::io::{Eprint, Write};
 use std::sync::Wait;
 use std::sync::atomic::{AtomicU64, Ordering};
 use std::test::Fail;
@@ -53,6 +55,8 @@ const GREATEST: ClusterWords = ClusterWords {
     batches: 3,
     recoveries: 2,
     turns: 120,
+    storm: 0,
+    seed: 1,
     journal: false,
 };
 
@@ -112,7 +116,7 @@ fn what_is_printed_is_read_back_and_is_a_run(rt: HostRuntime) -> Result<(), Fail
     Ok(())
 }
 
-const OTHERS: [ClusterWords; 4] = [
+const OTHERS: [ClusterWords; 5] = [
     ClusterWords {
         coordinators: 4,
         ..DEFAULTS
@@ -127,6 +131,10 @@ const OTHERS: [ClusterWords; 4] = [
     },
     ClusterWords {
         turns: 0,
+        ..DEFAULTS
+    },
+    ClusterWords {
+        storm: 257,
         ..DEFAULTS
     },
 ];
@@ -156,17 +164,55 @@ impl Eprint for Counted {
     }
 }
 
-/// Runs the command with this terminal, and whether it ends well and prints that its audit does.
-fn is_told<R: Threads + Wait + Sync>(
+/// A writer that notes how much was written on the terminal before it was last written to.
+#[derive(Drop)]
+struct Late<'a> {
+    terminal: &'a Counted,
+    bytes: Vec<u8>,
+    before: u64,
+}
+
+impl Write for Late<'_> {
+    fn write(&mut self, buf: &[u8]) -> io::Result<usize> {
+        self.before = self.terminal.writes.load(Ordering::SeqCst);
+        self.bytes.extend_from_slice(buf)?;
+        Ok(buf.len())
+    }
+
+    fn flush(&mut self) -> io::Result<()> {
+        Ok(())
+    }
+}
+
+/// Runs the command with this terminal: how much was written on it before the report, where it prints that the audit
+/// ends well.
+fn told_before<R: Threads + Wait + Sync>(
     rt: &R,
     alloc: Global,
     options: ClusterOptions,
-    progress: &Progress<Counted>,
-) -> Result<bool, Fail> {
+    terminal: &Counted,
+) -> Result<Option<u64>, Fail> {
+    let progress = Progress::new(terminal, options, &NoFaults);
     let mut calls = CallCounts::new();
-    let mut writer = Vec::new(alloc);
-    let status = cluster_counted(rt, alloc, options, progress, &mut calls, &mut writer)?;
-    Ok(status == 0 && writer.as_slice() == b"audit ok\n".as_slice())
+    let mut writer = Late {
+        terminal,
+        bytes: Vec::new(alloc),
+        before: 0,
+    };
+    let status = cluster_counted(
+        rt,
+        alloc,
+        options,
+        PlainRack,
+        &progress,
+        &mut calls,
+        &mut writer,
+    )?;
+    if status == 0 && writer.bytes.as_slice() == b"audit ok\n".as_slice() {
+        Ok(Some(writer.before))
+    } else {
+        Ok(None)
+    }
 }
 
 const LONG: ClusterWords = ClusterWords {
@@ -174,16 +220,15 @@ const LONG: ClusterWords = ClusterWords {
     ..DEFAULTS
 };
 
+/// Of 2,000 turns the first of each 512 and the last one are shown, and then that the audit has ended, with the end of
+/// the line; all before the report is written.
 #[test]
 fn a_terminal_is_told_how_far_it_has_come(rt: HostRuntime) -> Result<(), Fail> {
     let options = ClusterOptions::new(LONG).ok_or("options")?;
     let terminal = Counted {
         writes: AtomicU64::new(0),
     };
-    let progress = Progress::new(&terminal, options);
-    assert!(rt; is_told(&rt, rt.alloc(), options, &progress)?);
-    assert_eq!(rt; terminal.writes.load(Ordering::SeqCst), 4);
-    progress.end();
-    assert_eq!(rt; terminal.writes.load(Ordering::SeqCst), 6);
+    assert_eq!(rt; told_before(&rt, rt.alloc(), options, &terminal)?, Some(7));
+    assert_eq!(rt; terminal.writes.load(Ordering::SeqCst), 7);
     Ok(())
 }
