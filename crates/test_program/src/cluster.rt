@@ -1,7 +1,7 @@
 //! The words of the command `cluster`.
 use crate::words::{chooses, is_refused};
 use clap::error::ErrorKind;
-use fr_cli::{ClusterOptions, ClusterWords, DEFAULTS, Request};
+use fr_cli::{ClusterOptions, ClusterWords, DEFAULTS, Request, StoreKind};
 use std::test::Fail;
 
 /// The greatest number of each word.
@@ -14,29 +14,44 @@ const MOST: ClusterWords = ClusterWords {
     batches: 1_000_000,
     recoveries: 100,
     turns: 1_000_000,
+    storm: 256,
+    seed: u64::MAX,
     journal: true,
 };
 
-/// Lines with the numbers that they choose.
-const CLUSTERS: [(&str, ClusterWords); 3] = [
-    ("fdbrec cluster", DEFAULTS),
-    ("fdbrec cluster --turns=10000 --proxies 2", DEFAULTS),
+/// Lines with the kind of store and the numbers that they choose.
+const CLUSTERS: [(&str, StoreKind, ClusterWords); 6] = [
+    ("fdbrec cluster", StoreKind::Map, DEFAULTS),
     (
-        "fdbrec cluster --journal --turns=1000000 --recoveries=100 --batches=1000000 --proxies=16 --storages=32 --degree=16 --logs=16 --coordinators=9",
+        "fdbrec cluster --turns=10000 --proxies 2",
+        StoreKind::Map,
+        DEFAULTS,
+    ),
+    (
+        "fdbrec cluster --journal --storm=256 --seed=18446744073709551615 --turns=1000000 --recoveries=100 --batches=1000000 --proxies=16 --storages=32 --degree=16 --logs=16 --coordinators=9",
+        StoreKind::Map,
         MOST,
     ),
+    (
+        "fdbrec cluster --storm=0 --seed=1",
+        StoreKind::Map,
+        DEFAULTS,
+    ),
+    ("fdbrec cluster --store=map", StoreKind::Map, DEFAULTS),
+    ("fdbrec cluster --store sql", StoreKind::Sql, DEFAULTS),
 ];
 
 #[test]
 fn words_choose_a_cluster(rt: HostRuntime) -> Result<(), Fail> {
-    for (line, words) in CLUSTERS {
-        let wanted = Request::Cluster(ClusterOptions::new(words).ok_or("options")?);
+    for (line, kind, words) in CLUSTERS {
+        let options = ClusterOptions::new(words).ok_or("options")?;
+        let wanted = Request::Cluster(kind, options);
         assert!(rt; chooses(rt.alloc(), line, &wanted)?, "{line}");
     }
     Ok(())
 }
 
-const REFUSED: [(&str, ErrorKind); 21] = [
+const REFUSED: [(&str, ErrorKind); 24] = [
     (
         "fdbrec cluster --coordinators=2",
         ErrorKind::ValueValidation,
@@ -66,9 +81,15 @@ const REFUSED: [(&str, ErrorKind); 21] = [
     ("fdbrec cluster --turns=1000001", ErrorKind::ValueValidation),
     ("fdbrec cluster --turns=0x10", ErrorKind::ValueValidation),
     ("fdbrec cluster --turns=-1", ErrorKind::ValueValidation),
-    ("fdbrec cluster --storm=0", ErrorKind::UnknownArgument),
-    ("fdbrec cluster --seed=1", ErrorKind::UnknownArgument),
-    ("fdbrec cluster --store=map", ErrorKind::UnknownArgument),
+    ("fdbrec cluster --storm=257", ErrorKind::ValueValidation),
+    ("fdbrec cluster --storm=-1", ErrorKind::ValueValidation),
+    (
+        "fdbrec cluster --seed=18446744073709551616",
+        ErrorKind::ValueValidation,
+    ),
+    ("fdbrec cluster --seed=-1", ErrorKind::ValueValidation),
+    ("fdbrec cluster --seed=0x10", ErrorKind::ValueValidation),
+    ("fdbrec cluster --store=tree", ErrorKind::InvalidValue),
     ("fdbrec cluster more", ErrorKind::UnknownArgument),
 ];
 

@@ -66,7 +66,7 @@ fn ends<H: Threads + Wait + Sync>(rt: &H, alloc: Global, row: Row) -> Result<boo
     )
 }
 
-const ROWS: [Row; 15] = [
+const ROWS: [Row; 18] = [
     Row {
         line: "fdbrec apply",
         input: "{\"ops\":[{\"advance\":{\"version\":4}}]}",
@@ -152,6 +152,27 @@ const ROWS: [Row; 15] = [
         writes: "audit ok\n",
     },
     Row {
+        line: "fdbrec cluster --turns 300 --store sql",
+        input: "",
+        how: How::Done,
+        status: 0,
+        writes: "audit ok\n",
+    },
+    Row {
+        line: "fdbrec cluster --turns 300 --recoveries 2 --storm 32 --seed 7",
+        input: "",
+        how: How::Done,
+        status: 0,
+        writes: "audit ok\n",
+    },
+    Row {
+        line: "fdbrec cluster --turns 300 --recoveries 2 --storm 32 --seed 8 --store sql",
+        input: "",
+        how: How::Done,
+        status: 0,
+        writes: "audit ok\n",
+    },
+    Row {
         line: "fdbrec cluster --logs=2 --degree=3",
         input: "",
         how: How::BadWords,
@@ -185,7 +206,7 @@ fn programs_end_as_their_words_and_inputs_say(rt: HostRuntime) -> Result<(), Fai
 }
 
 /// Lines that ask for help, with what they show.
-const SHOWN: [(&str, &str); 28] = [
+const SHOWN: [(&str, &str); 31] = [
     ("fdbrec --version", "fdbrec 0.1.0 (rattle logic "),
     ("fdbrec apply --help", "undo"),
     ("fdbrec apply --help", "forget"),
@@ -211,7 +232,10 @@ const SHOWN: [(&str, &str); 28] = [
     ("fdbrec simulate --help", "chosen pev P rv R"),
     ("fdbrec cluster --help", "--coordinators"),
     ("fdbrec cluster --help", "--recoveries"),
+    ("fdbrec cluster --help", "--storm"),
+    ("fdbrec cluster --help", "--seed"),
     ("fdbrec cluster --help", "--journal"),
+    ("fdbrec cluster --help", "--store"),
     ("fdbrec cluster --help", "[default: 10000]"),
     ("fdbrec cluster --help", "audit ok"),
 ];

@@ -2,6 +2,8 @@
 #![tactic(auto)]
 
 #[cfg(test)]
+mod adopts;
+#[cfg(test)]
 mod agrees;
 #[cfg(test)]
 mod calls;

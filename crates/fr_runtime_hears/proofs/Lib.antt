@@ -1,0 +1,4 @@
+mod Climbs
+mod Found
+mod Marks
+mod Peeks
