@@ -14,13 +14,13 @@ use fr_register::Cell;
 use serde_json::Value;
 use std::alloc::Global;
 use test_rows::{
-    NO_FORM, Plays, Scene, Wrong, no_such_word, read_sizes, take_nothing, told, write_state_of,
+    NO_FORM, Plays, Scene, Wrong, no_such_word, of_nothing, read_sizes, told, write_state_of,
 };
 
 /// Plays rows with a cell that was never asked.
 pub(crate) fn play_cell(alloc: Global, scene: Scene, at: &mut usize) -> Result<(), Wrong> {
-    take_nothing(alloc, scene)?;
-    scene.play(alloc, &Nodes, &mut Cell::new(alloc), at)
+    let cell = of_nothing(alloc, scene, Cell::new(alloc));
+    scene.play_made(alloc, &Nodes, cell, at)
 }
 
 impl Plays<Cell> for Nodes {
@@ -55,8 +55,8 @@ where
 
 /// Plays rows with a log that was never asked.
 pub(crate) fn play_log(alloc: Global, scene: Scene, at: &mut usize) -> Result<(), Wrong> {
-    let mut log = read_log(alloc, scene.given(alloc)?.of(4))?;
-    scene.play(alloc, &Nodes, &mut log, at)
+    let log = read_log(alloc, scene.given(alloc)?.of(4));
+    scene.play_made(alloc, &Nodes, log, at)
 }
 
 fn read_log(alloc: Global, fields: &Fields) -> Result<Log, Wrong> {
@@ -90,7 +90,10 @@ impl Plays<Log> for Nodes {
 
 /// What the copy of a log was made with.
 fn write_made(alloc: Global, log: Result<Log, Memory>) -> Result<Value, Wrong> {
-    let log = log?;
+    Ok(write_place(alloc, &log?)?)
+}
+
+fn write_place(alloc: Global, log: &Log) -> Result<Value, Memory> {
     let id = log.id();
     let numbers = [
         ("epoch", id.epoch.get()),
@@ -121,8 +124,8 @@ fn ask_and_go_back(alloc: Global, log: &mut Log, ask: LogAsk) -> Result<LogTell,
 
 /// Plays rows with a sequencer that gave nothing yet.
 pub(crate) fn play_sequencer(alloc: Global, scene: Scene, at: &mut usize) -> Result<(), Wrong> {
-    let mut sequencer = read_sequencer(alloc, scene.given(alloc)?.of(2))?;
-    scene.play(alloc, &Nodes, &mut sequencer, at)
+    let sequencer = read_sequencer(alloc, scene.given(alloc)?.of(2));
+    scene.play_made(alloc, &Nodes, sequencer, at)
 }
 
 fn read_sequencer(alloc: Global, fields: &Fields) -> Result<Sequencer, Wrong> {

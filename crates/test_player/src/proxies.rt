@@ -16,8 +16,8 @@ use test_rows::{
 
 /// Plays rows with a proxy that took nothing yet.
 pub(crate) fn play_proxy(alloc: Global, scene: Scene, at: &mut usize) -> Result<(), Wrong> {
-    let mut proxy = read_proxy(alloc, scene.given(alloc)?.of(6))?;
-    scene.play(alloc, &Nodes, &mut proxy, at)
+    let proxy = read_proxy(alloc, scene.given(alloc)?.of(6));
+    scene.play_made(alloc, &Nodes, proxy, at)
 }
 
 fn read_proxy(alloc: Global, fields: &mut Fields) -> Result<Proxy, Wrong> {
@@ -88,7 +88,11 @@ fn write_made(alloc: Global, proxy: &Proxy) -> Result<Value, Wrong> {
 fn submit(alloc: Global, proxy: &mut Proxy, fields: &mut Fields) -> Result<Value, Wrong> {
     let step = read_step(fields)?;
     let batch = read_batch(alloc, fields.take("batch")?)?;
-    match proxy.submit(step, batch) {
+    write_submitted(alloc, proxy.submit(step, batch))
+}
+
+fn write_submitted(alloc: Global, ask: Result<Ask, SubmitFault>) -> Result<Value, Wrong> {
+    match ask {
         Ok(ask) => told(alloc, &ask),
         Err(SubmitFault::TwoOpen) => write_name(alloc, "TwoOpen"),
         Err(SubmitFault::Over) => write_name(alloc, "Over"),

@@ -1,8 +1,8 @@
 //! Recoverers.
 use crate::nodes::{read_map, read_told, write_asks};
 use crate::subjects::Nodes;
-use fr_ask::Last;
-use fr_base::{Bytes, Memory, Shape};
+use fr_ask::{Ask, Last};
+use fr_base::{Bytes, Memory, NodeId, Shape};
 use fr_epoch::{Phase, Recoverer};
 use fr_forms::fields::Fields;
 use fr_forms::object::Object;
@@ -14,8 +14,8 @@ use test_rows::{NO_FORM, Plays, Scene, Wrong, no_such_word, told_all, write_last
 
 /// Plays rows with a recoverer that heard nothing.
 pub(crate) fn play_recoverer(alloc: Global, scene: Scene, at: &mut usize) -> Result<(), Wrong> {
-    let mut recoverer = read_recoverer(alloc, &mut scene.given(alloc)?)?;
-    scene.play(alloc, &Nodes, &mut recoverer, at)
+    let recoverer = read_recoverer(alloc, &mut scene.given(alloc)?);
+    scene.play_made(alloc, &Nodes, recoverer, at)
 }
 
 /// The shape of an object that has members for it, and is then to have five members, else three.
@@ -54,7 +54,7 @@ impl Plays<Recoverer> for Nodes {
         match word {
             "hear" => hear(alloc, recoverer, given.of(2)),
             "pending" => write_asks(alloc, recoverer.pending(alloc)),
-            "state" => write_phase(alloc, recoverer.copy(alloc)),
+            "state" => write_phase(alloc, phase_of(recoverer.copy(alloc))),
             "generation" => generation(alloc, recoverer),
             "copied" => Ok(Value::from(recoverer.is_copied())),
             "made" => write_made(alloc, recoverer),
@@ -68,13 +68,20 @@ impl Plays<Recoverer> for Nodes {
 /// The new asks of a recoverer that hears this.
 fn hear(alloc: Global, recoverer: &mut Recoverer, fields: &mut Fields) -> Result<Value, Wrong> {
     let (from, tell) = read_told(alloc, fields)?;
-    let asks = recoverer.hear(alloc, from, tell)?;
-    told_all(alloc, asks.as_slice())
+    write_heard(alloc, recoverer.hear(alloc, from, tell))
+}
+
+fn write_heard(alloc: Global, asks: Result<Vec<(NodeId, Ask)>, Memory>) -> Result<Value, Wrong> {
+    told_all(alloc, asks?.as_slice())
 }
 
 /// The phase of the copy of a recoverer.
-fn write_phase(alloc: Global, copied: Result<Recoverer, Memory>) -> Result<Value, Wrong> {
-    let phase = phase_text(alloc, copied?.phase())?;
+fn phase_of(copied: Result<Recoverer, Memory>) -> Result<Phase, Memory> {
+    Ok(copied?.phase())
+}
+
+fn write_phase(alloc: Global, phase: Result<Phase, Memory>) -> Result<Value, Wrong> {
+    let phase = phase_text(alloc, phase?)?;
     write_last_state(alloc, Ok(Last::Recoverer { phase }))
 }
 

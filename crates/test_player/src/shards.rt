@@ -15,8 +15,7 @@ use test_rows::{Plays, Scene, Wrong, no_such_word, read_sizes, write_name};
 /// Plays rows with a map of shards that begin at these keys.
 pub(crate) fn play_shards(alloc: Global, scene: Scene, at: &mut usize) -> Result<(), Wrong> {
     let begins = read_shards(alloc, scene.given(alloc)?.take_all())?;
-    let mut map = map_of(begins)?;
-    scene.play(alloc, &Nodes, &mut map, at)
+    scene.play_made(alloc, &Nodes, map_of(begins), at)
 }
 
 impl Plays<ShardMap> for Nodes {

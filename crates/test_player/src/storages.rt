@@ -43,8 +43,8 @@ fn play_over<S: ShardStore + Drop>(
     scene: Scene,
     at: &mut usize,
 ) -> Result<(), Wrong> {
-    let mut storage = start(alloc, store, fields)?;
-    scene.play(alloc, &Nodes, &mut storage, at)
+    let storage = start(alloc, store, fields);
+    scene.play_made(alloc, &Nodes, storage, at)
 }
 
 fn start<S: ShardStore + Drop>(
@@ -256,10 +256,14 @@ fn place_of<S: ShardStore + Drop>(alloc: Global, storage: &Storage<S>) -> Result
 /// Where the copy of a server stands, with its state.
 pub(crate) fn write_standing(alloc: Global, storage: &Storage<MapStore>) -> Result<Value, Wrong> {
     let copy = storage.copy(alloc)?;
-    let standing = place_of(alloc, &copy)?;
+    Ok(standing_of(alloc, &copy)?)
+}
+
+fn standing_of(alloc: Global, storage: &Storage<MapStore>) -> Result<Value, Memory> {
+    let place = place_of(alloc, storage)?;
     Ok(
-        standing
-            .and("state", write_state(alloc, copy.state()))?
+        place
+            .and("state", write_state(alloc, storage.state()))?
             .value(),
     )
 }

@@ -11,19 +11,19 @@ use fr_storage::Storage;
 use fr_undo::{MapStore, ShardStore, StoreFault};
 use serde_json::Value;
 use std::alloc::Global;
-use test_rows::{Plays, Scene, Wrong, no_such_word, take_nothing, write_name};
+use test_rows::{Plays, Scene, Wrong, no_such_word, of_nothing, write_name};
 use test_store_failing::FailsOnce;
 
 /// Plays rows with a store in which nothing was applied.
 pub(crate) fn play_store(alloc: Global, scene: Scene, at: &mut usize) -> Result<(), Wrong> {
-    take_nothing(alloc, scene)?;
-    scene.play(alloc, &Nodes, &mut MapStore::new(alloc), at)
+    let store = of_nothing(alloc, scene, MapStore::new(alloc));
+    scene.play_made(alloc, &Nodes, store, at)
 }
 
 /// The same with one that fails once.
 pub(crate) fn play_failing_store(alloc: Global, scene: Scene, at: &mut usize) -> Result<(), Wrong> {
-    let mut store = read_failing(alloc, scene.given(alloc)?.of(2))?;
-    scene.once().play(alloc, &Nodes, &mut store, at)
+    let store = read_failing(alloc, scene.given(alloc)?.of(2));
+    scene.once().play_made(alloc, &Nodes, store, at)
 }
 
 /// A store that fails in the call after so many others, which is done all the same, or not.
@@ -73,9 +73,9 @@ fn play_word<S: ShardStore>(
 ) -> Result<Value, Wrong> {
     match word {
         "apply" => apply(alloc, store, given.of(2)),
-        "undo" => write_done(alloc, store.undo_to(alloc, version_of(given.all())?)),
-        "forget" => write_done(alloc, store.forget_through(alloc, version_of(given.all())?)),
-        "advance" => write_done(alloc, store.advance(version_of(given.all())?)),
+        "undo" => undo(alloc, store, given.all()),
+        "forget" => forget(alloc, store, given.all()),
+        "advance" => advance(alloc, store, given.all()),
         "keep" => keep(alloc, store, given.all()),
         "kept" => write_kept(alloc, store.state_bytes(alloc)),
         "get" => get(alloc, store, given.all()),
@@ -93,6 +93,21 @@ fn apply<S: ShardStore>(alloc: Global, store: &mut S, fields: &mut Fields) -> Re
     let version = fields.version("version")?;
     let batch = read_batch(alloc, fields.take("batch")?)?;
     write_done(alloc, store.apply(alloc, version, &batch))
+}
+
+fn undo<S: ShardStore>(alloc: Global, store: &mut S, given: &Value) -> Result<Value, Wrong> {
+    let version = version_of(given)?;
+    write_done(alloc, store.undo_to(alloc, version))
+}
+
+fn forget<S: ShardStore>(alloc: Global, store: &mut S, given: &Value) -> Result<Value, Wrong> {
+    let version = version_of(given)?;
+    write_done(alloc, store.forget_through(alloc, version))
+}
+
+fn advance<S: ShardStore>(alloc: Global, store: &mut S, given: &Value) -> Result<Value, Wrong> {
+    let version = version_of(given)?;
+    write_done(alloc, store.advance(version))
 }
 
 fn keep<S: ShardStore>(alloc: Global, store: &mut S, given: &Value) -> Result<Value, Wrong> {

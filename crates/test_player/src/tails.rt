@@ -17,8 +17,8 @@ use test_rows::{NO_FORM, Plays, Scene, Wrong, no_such_word, read_sizes, write_na
 
 /// Plays rows with a copy that heard nothing.
 pub(crate) fn play_tail(alloc: Global, scene: Scene, at: &mut usize) -> Result<(), Wrong> {
-    let mut tail = read_tail(alloc, scene.given(alloc)?.of(6))?;
-    scene.play(alloc, &Nodes, &mut tail, at)
+    let tail = read_tail(alloc, scene.given(alloc)?.of(6));
+    scene.play_made(alloc, &Nodes, tail, at)
 }
 
 fn read_tail(alloc: Global, fields: &mut Fields) -> Result<Tail, Wrong> {

@@ -9,9 +9,13 @@ use test_rows::{Plays, Scene, Wrong, no_such_word, read_sizes, write_name};
 
 /// Plays rows with a tally that no log replied to.
 pub(crate) fn play_tally(alloc: Global, scene: Scene, at: &mut usize) -> Result<(), Wrong> {
-    let (m, k) = read_sizes(scene.given(alloc)?.of(2))?;
-    let mut tally = EndTally::new(m, k);
-    scene.play(alloc, &Nodes, &mut tally, at)
+    let tally = read_tally(scene.given(alloc)?.of(2));
+    scene.play_made(alloc, &Nodes, tally, at)
+}
+
+fn read_tally(fields: &Fields) -> Result<EndTally, Wrong> {
+    let (m, k) = read_sizes(fields)?;
+    Ok(EndTally::new(m, k))
 }
 
 impl Plays<EndTally> for Nodes {

@@ -13,8 +13,8 @@ use test_rows::{Plays, Scene, Wrong, no_such_word, write_name};
 
 /// Plays rows with a batch.
 pub(crate) fn play_batch(alloc: Global, scene: Scene, at: &mut usize) -> Result<(), Wrong> {
-    let mut batch = read_batch(alloc, scene.given(alloc)?.take_all())?;
-    scene.play(alloc, &Files, &mut batch, at)
+    let batch = read_batch(alloc, scene.given(alloc)?.take_all())?;
+    scene.play_made(alloc, &Files, Ok(batch), at)
 }
 
 impl Plays<Batch> for Files {

@@ -14,8 +14,8 @@ use test_rows::{Scene, Wrong, no_such_word, said, told, told_all, write_last_sta
 /// Plays rows with a cell over a file that is not there yet.
 pub(crate) fn play_cell(alloc: Global, scene: Scene, at: &mut usize) -> Result<(), Wrong> {
     let room = read_room(scene.given(alloc)?.of(1))?;
-    let mut place = Place::new(alloc, room, CellFile)?;
-    scene.play(alloc, &Files, &mut place, at)
+    let place = Place::new(alloc, room, CellFile);
+    scene.play_made(alloc, &Files, place, at)
 }
 
 /// A cell over a file.

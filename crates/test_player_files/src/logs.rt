@@ -16,8 +16,8 @@ use test_rows::{
 
 /// Plays rows with a log over a file that is not there yet.
 pub(crate) fn play_log(alloc: Global, scene: Scene, at: &mut usize) -> Result<(), Wrong> {
-    let mut place = read_place(alloc, scene.given(alloc)?.of(5))?;
-    scene.play(alloc, &Files, &mut place, at)
+    let place = read_place(alloc, scene.given(alloc)?.of(5));
+    scene.play_made(alloc, &Files, place, at)
 }
 
 fn read_place(alloc: Global, fields: &Fields) -> Result<Place<LogFile>, Wrong> {

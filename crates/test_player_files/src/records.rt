@@ -15,8 +15,8 @@ use test_rows::{NO_FORM, Scene, Wrong, no_such_word};
 /// Plays rows with a record file that is not there yet.
 pub(crate) fn play_records(alloc: Global, scene: Scene, at: &mut usize) -> Result<(), Wrong> {
     let room = read_room(scene.given(alloc)?.of(1))?;
-    let mut place = Place::new(alloc, room, RecordFile)?;
-    scene.play(alloc, &Files, &mut place, at)
+    let place = Place::new(alloc, room, RecordFile);
+    scene.play_made(alloc, &Files, place, at)
 }
 
 /// A record file.

@@ -12,8 +12,8 @@ use test_rows::{Plays, Scene, Wrong, no_such_word, write_name};
 
 /// Plays rows with a coordinated state.
 pub(crate) fn play_state(alloc: Global, scene: Scene, at: &mut usize) -> Result<(), Wrong> {
-    let mut state = read_state(alloc, scene.given(alloc)?.take_all())?;
-    scene.play(alloc, &Files, &mut state, at)
+    let state = read_state(alloc, scene.given(alloc)?.take_all())?;
+    scene.play_made(alloc, &Files, Ok(state), at)
 }
 
 impl Plays<CoordState> for Files {

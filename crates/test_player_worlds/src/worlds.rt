@@ -8,7 +8,7 @@ use fr_forms::read_node;
 use fr_world::{Answer, Event, NotEnabled, World};
 use serde_json::Value;
 use std::alloc::Global;
-use test_rows::{Plays, Scene, Wrong, no_such_word, said, write_last_state};
+use test_rows::{Plays, Scene, Wrong, no_such_word, played, said, write_last_state};
 
 /// The player of worlds.
 struct Worlds;
@@ -18,9 +18,8 @@ pub fn play(alloc: Global, scene: Scene, at: &mut usize) -> Result<bool, Wrong> 
     if scene.word() != "world" {
         return Ok(false);
     }
-    let mut played = start(alloc, scene.given(alloc)?.of(5))?;
-    scene.play(alloc, &Worlds, &mut played, at)?;
-    Ok(true)
+    let world = start(alloc, scene.given(alloc)?.of(5));
+    played(scene.play_made(alloc, &Worlds, world, at))
 }
 
 fn start(alloc: Global, fields: &mut Fields) -> Result<Played, Wrong> {

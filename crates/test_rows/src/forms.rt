@@ -49,11 +49,17 @@ pub fn write_name(alloc: Global, name: &str) -> Result<Value, Wrong> {
     Ok(write_text(alloc, name)?)
 }
 
-/// What is given with the first row of what is made of nothing.
-pub fn take_nothing(alloc: Global, scene: Scene) -> Result<(), Wrong> {
+/// What is made of nothing, where the first row gives nothing.
+pub fn of_nothing<T: Drop>(alloc: Global, scene: Scene, made: T) -> Result<T, Wrong> {
     if scene.given(alloc)?.all().is_null() {
-        Ok(())
+        Ok(made)
     } else {
         Err(Wrong::Form("this is made of nothing"))
     }
+}
+
+/// That a scenario was about something known, once it was played.
+pub fn played(done: Result<(), Wrong>) -> Result<bool, Wrong> {
+    done?;
+    Ok(true)
 }

@@ -11,7 +11,7 @@ mod rows;
 mod subject;
 mod wrong;
 
-pub use forms::{read_sizes, take_nothing, write_last_state, write_name, write_state_of};
+pub use forms::{of_nothing, played, read_sizes, write_last_state, write_name, write_state_of};
 pub use play::{Player, play_file};
 pub use report::Report;
 pub use subject::{Plays, Scene, no_such_word};

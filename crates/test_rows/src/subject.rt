@@ -79,6 +79,18 @@ impl<'t> Scene<'t> {
         Ok(Fields::new(json_or_null(alloc, self.made.given)?, 0))
     }
 
+    /// Plays the other rows with what the first one makes.
+    pub fn play_made<T: Drop, P: Plays<T>>(
+        &self,
+        alloc: Global,
+        player: &P,
+        made: Result<T, Wrong>,
+        at: &mut usize,
+    ) -> Result<(), Wrong> {
+        let mut subject = made?;
+        self.play(alloc, player, &mut subject, at)
+    }
+
     /// Plays the other rows in turn, up to one of which something else comes than is wanted. `at` is the line of the
     /// row that was played last.
     pub fn play<T, P: Plays<T>>(
