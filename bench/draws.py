@@ -1,0 +1,104 @@
+#!/usr/bin/env python3
+"""bench/draws.py
+
+Works out what a storm draws, from the published definitions of PCG32 (O'Neill's reference code in C) and of Rust's
+`seed_from_u64` (rand_core), and prints the tables that crates/test_storm compares. It first checks itself by published
+values. No code of this repository is used."""
+
+MASK = (1 << 64) - 1
+MULTIPLIER = 6364136223846793005
+
+
+def output(state):
+    """XSH RR: the high bits, rotated by the top five."""
+    word, turn = ((state >> 18) ^ state) >> 27 & 0xFFFFFFFF, state >> 59
+    return (word >> turn | word << (32 - turn) & 0xFFFFFFFF) & 0xFFFFFFFF
+
+
+class Pcg32:
+    def __init__(self, state, increment):
+        self.increment = increment | 1
+        self.state = ((state + self.increment) * MULTIPLIER + self.increment) & MASK
+
+    def word(self):
+        before = self.state
+        self.state = (before * MULTIPLIER + self.increment) & MASK
+        return output(before)
+
+
+def seed_bytes(number, length):
+    """The bytes of a seed that `seed_from_u64` makes: words of a generator with an increment of its own."""
+    found = b""
+    while len(found) < length:
+        number = (number * MULTIPLIER + 11634580027462260723) & MASK
+        found += output(number).to_bytes(4, "little")
+    return found
+
+
+def seeded(number):
+    """`Pcg32::seed_from_u64`, at a number that wraps."""
+    seed = seed_bytes(number & MASK, 16)
+    return Pcg32(int.from_bytes(seed[:8], "little"), int.from_bytes(seed[8:], "little"))
+
+
+def word_of(number):
+    return seeded(number).word()
+
+
+def verdict(strength, word):
+    return ("DropAsk", "DropTell", "Twice")[word // 256 % 3] if word % 256 < strength else "Pass"
+
+
+def crash(strength, coordinators, logs, word):
+    if word % 256 >= strength:
+        return "Nothing"
+    if word // 65536 % 2 == 0:
+        return f"Cell({word // 256 % coordinators})"
+    return f"Log({word // 256 % logs})"
+
+
+def orders(seed, number, shards, many):
+    """The batches of a workload: what each does, to which key, with which bytes; of a clear from where to where."""
+    generator = seeded(seed + number)
+    for _ in range(many):
+        word, operand = generator.word(), generator.word()
+        begin, key, kind = word % shards * 8, word // 256 % 4, word // 65536 % 4
+        if kind == 3:
+            yield "clear", bytes([begin]).hex(), bytes([begin, 2]).hex()
+        else:
+            yield ("set", "add", "xor")[kind], bytes([begin, key]).hex(), operand.to_bytes(4, "big").hex()
+
+
+def is_published():
+    """The first words of PCG's demonstration (state 42, stream 54), rand_pcg's first 64 bits of seed 0, and rand_core's
+    seed of 8 bytes of 0."""
+    reference = Pcg32(42, 54 << 1)
+    words = [0xA15C02B7, 0x7B47F409, 0xBA1D3330, 0x83D2F293, 0xBFA4784B, 0xCBED606E]
+    first = seeded(0)
+    return (
+        [reference.word() for _ in words] == words
+        and first.word() | first.word() << 32 == 18195738587432868099
+        and int.from_bytes(seed_bytes(0, 8), "little") == 5029875928683246316
+    )
+
+
+def main():
+    assert is_published()
+    print("the first word that a number gives:")
+    for number in (0, 1, 2, 3, 42, 2021, 1 << 32, 1 << 63, MASK):
+        print(f"  {number} {word_of(number)}")
+    print("asks 0 to 23 in a storm of seed 1 and strength 128:")
+    print("  " + " ".join(verdict(128, word_of(1 + call)) for call in range(24)))
+    print("words 0 to 3 of the greatest seed:")
+    print("  " + " ".join(str(word_of(MASK + call)) for call in range(4)))
+    for strength, many in ((100, 13), (256, 16)):
+        print(f"crashes of seed 7 and strength {strength}, with 5 coordinators and 6 logs:")
+        print("  " + " ".join(crash(strength, 5, 6, word_of(7 + call)) for call in range(many)))
+    for seed, number, shards, many in ((1, 0, 3, 12), (MASK, 2, 32, 8)):
+        print(f"batches of workload {number} in a storm of seed {seed}, over {shards} shards:")
+        for order in orders(seed, number, shards, many):
+            print("  " + " ".join(order))
+
+
+if __name__ == "__main__":
+    main()

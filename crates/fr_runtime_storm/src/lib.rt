@@ -1,0 +1,10 @@
+//! Storms: asks that are lost or repeated, nodes that crash and batches, each drawn from a seed.
+#![tactic(auto)]
+
+mod draws;
+mod orders;
+mod storm;
+
+pub use draws::{Draws, word_of};
+pub use orders::DrawnOrders;
+pub use storm::Storm;

@@ -1,0 +1,171 @@
+//! A workload of batches that are drawn from a seed.
+ghost use Rattle.std.specs.Prelude.{◌≡◌, ◌≤◌, ◌+◌, ◌%◌, ◌^◌, ◌∷◌, [], length, IfOk};
+ghost use Rattle.fr_runtime_storm.specs.Draws.{generator_of};
+ghost use Rattle.fr_runtime_storm.specs.Orders.{after_batches, begin_of, drawn_orders, key_of, mutation_of};
+
+use fr_base::{Bytes, Memory, Step};
+use fr_mutation::{AtomicOp, Batch, Mutation};
+use fr_proxy::Outcome;
+use fr_runtime_threads::{Order, Workload};
+use rand_core::SeedableRng;
+use rand_core::utils::NextWord;
+use rand_pcg::Pcg32;
+use std::alloc::Global;
+
+/// So many batches of one mutation each, with a step of 1, drawn from one generator that the seed and the workload's
+/// number give. By the first of two words a batch sets, adds to or combines by exclusive or one of four keys of a shard,
+/// or clears the first two of them; the second is the value or the parameter. It keeps what it gave and what it was told.
+#[derive(Drop)]
+pub struct DrawnOrders {
+    alloc: Global,
+    /// What its generator was seeded by.
+    pub seed: u64,
+    /// Over how many shards it draws.
+    pub shards: u8,
+    batches: u32,
+    next: u32,
+    rng: Pcg32,
+    given: Vec<Order>,
+    heard: Vec<Outcome>,
+    ghost some: { 1 ≤ shards },
+    ghost few: { shards ≤ 32 },
+    ghost stands: { rng ≡ after_batches (length given.items) (generator_of seed) },
+    ghost gave: { given.items ≡ drawn_orders shards (length given.items) (generator_of seed) },
+}
+
+impl DrawnOrders {
+    /// So many batches of the workload of this number in a storm of this seed, over so many shards.
+    pub fn new(alloc: Global, seed: u64, number: u8, shards: u8, batches: u32) -> Self
+        requires some { 1 ≤ shards }
+        requires few { shards ≤ 32 }
+        ensures seed { result.seed ≡ (seed + number) % 2 ^ 64 }
+        ensures shards { result.shards ≡ shards }
+        ensures given { ⟦<DrawnOrders as Workload>⟧.given result ≡ [] }
+        ensures heard { ⟦<DrawnOrders as Workload>⟧.heard result ≡ [] }
+    {
+        let seed = seed.wrapping_add(u64::from(number));
+        DrawnOrders {
+            alloc,
+            seed,
+            shards,
+            batches,
+            next: 0,
+            rng: Pcg32::seed_from_u64(seed),
+            given: Vec::new(alloc),
+            heard: Vec::new(alloc),
+        }
+    }
+
+    /// The batches that it gave, the oldest first.
+    pub fn given(&self) -> &[Order]
+        ensures { result.now ≡ drawn_orders self.now.shards (length result.now) (generator_of self.now.seed) }
+    {
+        self.given.as_slice()
+    }
+
+    /// What it was told of them, the oldest first.
+    pub fn heard(&self) -> &[Outcome]
+        ensures { result.now ≡ ⟦<DrawnOrders as Workload>⟧.heard self.now }
+    {
+        self.heard.as_slice()
+    }
+}
+
+/// One of four keys of a shard, of so many.
+fn key(alloc: Global, shards: u8, word: u32) -> Result<Bytes, Memory>
+    requires some { 1 ≤ shards }
+    requires few { shards ≤ 32 }
+    ensures { IfOk result (λ key. key ≡ key_of shards word) }
+{
+    Bytes::from_slice(alloc, &[begin(shards, word), (word / 256 % 4) as u8])
+}
+
+/// The byte at which a shard begins, of so many.
+fn begin(shards: u8, word: u32) -> u8
+    requires some { 1 ≤ shards }
+    requires few { shards ≤ 32 }
+    ensures { result ≡ begin_of shards word }
+{
+    (word % u32::from(shards) * 8) as u8
+}
+
+/// The mutation of two words, over so many shards.
+fn mutation(alloc: Global, shards: u8, word: u32, operand: u32) -> Result<Mutation, Memory>
+    requires some { 1 ≤ shards }
+    requires few { shards ≤ 32 }
+    ensures { IfOk result (λ mutation. mutation ≡ mutation_of shards word operand) }
+{
+    let kind = word / 65_536 % 4;
+    if kind == 3 {
+        return Ok(Mutation::Clear {
+            begin: Bytes::from_slice(alloc, &[begin(shards, word)])?,
+            end: Bytes::from_slice(alloc, &[begin(shards, word), 2])?,
+        });
+    }
+    let key = key(alloc, shards, word)?;
+    let operand = Bytes::from_slice(alloc, &operand.to_be_bytes())?;
+    Ok(match kind {
+        0 => Mutation::Set {
+            key,
+            value: operand,
+        },
+        1 => Mutation::Atomic {
+            op: AtomicOp::Add,
+            key,
+            param: operand,
+        },
+        _ => Mutation::Atomic {
+            op: AtomicOp::Xor,
+            key,
+            param: operand,
+        },
+    })
+}
+
+/// The batch of two words, over so many shards.
+fn batch(alloc: Global, shards: u8, word: u32, operand: u32) -> Result<Batch, Memory>
+    requires some { 1 ≤ shards }
+    requires few { shards ≤ 32 }
+    ensures { IfOk result (λ batch. batch ≡ mutation_of shards word operand ∷ []) }
+{
+    let mut mutations = Vec::new(alloc);
+    mutations.push(mutation(alloc, shards, word, operand)?)?;
+    match Batch::new(mutations) {
+        Ok(batch) => Ok(batch),
+        Err(_) => unreachable!(),
+    }
+}
+
+impl Workload for DrawnOrders {
+    ghost given = { λ o. o.given.items };
+
+    ghost heard = { λ o. o.heard.items };
+
+    fn next(&mut self) -> Result<Option<(Step, Batch)>, Memory> {
+        if self.next >= self.batches {
+            return Ok(None);
+        }
+        let Some(step) = Step::new(1) else {
+            unreachable!();
+        };
+        let mut rng = self.rng.clone()?;
+        let word = rng.next_word();
+        let operand = rng.next_word();
+        let batch = batch(self.alloc, self.shards, word, operand)?;
+        let order = Order {
+            step,
+            batch: batch.copy()?,
+        };
+        self.given.reserve(1)?;
+        self.given.push_reserved(order);
+        self.rng = rng;
+        self.next += 1;
+        Ok(Some((step, batch)))
+    }
+
+    fn told(&mut self, outcome: Outcome) -> Result<(), Memory> {
+        self.heard.reserve(1)?;
+        self.heard.push_reserved(outcome);
+        Ok(())
+    }
+}

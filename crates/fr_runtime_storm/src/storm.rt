@@ -1,0 +1,72 @@
+//! Faults that are drawn from a seed while threads run.
+ghost use Rattle.std.specs.Prelude.{◌≡◌, ◌≤◌, ℕ};
+ghost use Rattle.fr_runtime_storm.specs.Draws.{crash_at, verdict_of, word_at};
+
+use crate::draws::Draws;
+use fr_ask::Ask;
+use fr_base::{Ballot, NodeId};
+use fr_runtime_station::{Faults, NoFaults, Verdict};
+use std::sync::atomic::{AtomicU64, Ordering};
+
+/// Faults drawn from a seed. The asks of all threads and the crashes are the calls of one count: which of them gets which
+/// draw depends on the order in which threads come to it, and what a draw is on the seed and the count alone.
+/// Recoverers begin as with [`NoFaults`].
+#[derive(Drop)]
+pub struct Storm {
+    /// What it draws from.
+    pub draws: Draws,
+    calls: AtomicU64,
+    ghost cells: { 1 ≤ draws.coordinators },
+    ghost logs: { 1 ≤ draws.logs },
+}
+
+impl Storm {
+    /// A storm in which nothing was drawn yet.
+    pub fn new(draws: Draws) -> Self
+        requires cells { 1 ≤ draws.coordinators }
+        requires logs { 1 ≤ draws.logs }
+        ensures { result.draws ≡ draws }
+    {
+        Storm {
+            draws,
+            calls: AtomicU64::new(0),
+        }
+    }
+
+    /// The number of the next call.
+    fn next_call(&self) -> u64 {
+        self.calls.fetch_add(1, Ordering::SeqCst)
+    }
+}
+
+impl Faults for Storm {
+    ghost use Rattle.std.specs.Prelude.{◌+◌, ◌*◌, ◌/◌, ◌==◌};
+
+    ghost begun = { λ storm ballot turn. turn + 100 == 100 * (ballot / 256) };
+
+    fn verdict(&self, _to: NodeId, _ask: &Ask) -> Verdict
+        ensures drawn { (call : ℕ) × (result ≡ verdict_of self.now.draws.strength (word_at self.now.draws.seed call)) }
+    {
+        let call = self.next_call();
+        self.draws.verdict(call)
+    }
+
+    fn answered(&self, to: NodeId, ask: &Ask) {
+        NoFaults.answered(to, ask);
+    }
+
+    fn crash(&self, turn: u32) -> Option<NodeId>
+        ensures drawn { (call : ℕ) × (result ≡ crash_at self.now.draws.strength self.now.draws.coordinators
+            self.now.draws.logs turn (word_at self.now.draws.seed call)) }
+    {
+        if turn % 64 == 0 {
+            let call = self.next_call();
+            return self.draws.crash(call);
+        }
+        None
+    }
+
+    fn begins(&self, ballot: Ballot, turn: u32) -> bool {
+        NoFaults.begins(ballot, turn)
+    }
+}
