@@ -2,7 +2,6 @@
 use crate::ended::run;
 use std::alloc::{AllocError, Global};
 use std::sync::Wait;
-use std::test::Fail;
 use std::thread::Threads;
 
 const ROWS: [(&str, &str); 7] = [
@@ -52,14 +51,18 @@ fn prints_all<H: Threads + Wait + Sync>(
     Ok(true)
 }
 
-#[test]
-fn a_map_prints_these_lines(rt: HostRuntime) -> Result<(), Fail> {
-    assert!(rt; prints_all(&rt, rt.alloc(), "fdbrec apply --store map")?);
-    Ok(())
-}
+/// A store in a map, and one in tables.
+const LINES: [&str; 2] = ["fdbrec apply --store map", "fdbrec apply --store sql"];
 
-#[test]
-fn tables_print_these_lines(rt: HostRuntime) -> Result<(), Fail> {
-    assert!(rt; prints_all(&rt, rt.alloc(), "fdbrec apply --store sql")?);
-    Ok(())
+/// The first store, if there is one, that does not print this.
+pub(crate) fn first_wrong<H: Threads + Wait + Sync>(
+    rt: &H,
+    alloc: Global,
+) -> Result<Option<&'static str>, AllocError> {
+    for line in LINES {
+        if !prints_all(rt, alloc, line)? {
+            return Ok(Some(line));
+        }
+    }
+    Ok(None)
 }

@@ -2,7 +2,7 @@
 use crate::words::{chooses, is_refused};
 use clap::error::ErrorKind;
 use fr_cli::{ClusterOptions, ClusterWords, DEFAULTS, Request};
-use std::test::Fail;
+use std::alloc::{AllocError, Global};
 
 /// The greatest number of each word.
 const MOST: ClusterWords = ClusterWords {
@@ -27,13 +27,22 @@ const CLUSTERS: [(&str, ClusterWords); 3] = [
     ),
 ];
 
-#[test]
-fn words_choose_a_cluster(rt: HostRuntime) -> Result<(), Fail> {
-    for (line, words) in CLUSTERS {
-        let wanted = Request::Cluster(ClusterOptions::new(words).ok_or("options")?);
-        assert!(rt; chooses(rt.alloc(), line, &wanted)?, "{line}");
+/// Whether a line chooses a cluster of these numbers.
+fn chooses_cluster(alloc: Global, line: &str, words: ClusterWords) -> Result<bool, AllocError> {
+    match ClusterOptions::new(words) {
+        Some(options) => chooses(alloc, line, &Request::Cluster(options)),
+        None => Ok(false),
     }
-    Ok(())
+}
+
+/// The first line, if there is one, that does not choose its cluster.
+pub(crate) fn first_cluster(alloc: Global) -> Result<Option<&'static str>, AllocError> {
+    for (line, words) in CLUSTERS {
+        if !chooses_cluster(alloc, line, words)? {
+            return Ok(Some(line));
+        }
+    }
+    Ok(None)
 }
 
 const REFUSED: [(&str, ErrorKind); 21] = [
@@ -72,10 +81,12 @@ const REFUSED: [(&str, ErrorKind); 21] = [
     ("fdbrec cluster more", ErrorKind::UnknownArgument),
 ];
 
-#[test]
-fn other_clusters_are_refused(rt: HostRuntime) -> Result<(), Fail> {
+/// The first line, if there is one, that is not refused for its reason.
+pub(crate) fn first_refused(alloc: Global) -> Result<Option<&'static str>, AllocError> {
     for (line, kind) in REFUSED {
-        assert!(rt; is_refused(rt.alloc(), line, kind)?, "{line}");
+        if !is_refused(alloc, line, kind)? {
+            return Ok(Some(line));
+        }
     }
-    Ok(())
+    Ok(None)
 }

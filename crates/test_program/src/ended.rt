@@ -4,7 +4,6 @@ use fr_cli::{Ending, run_program};
 use fr_cli_json::CliFault;
 use std::alloc::{AllocError, Global};
 use std::sync::Wait;
-use std::test::Fail;
 use std::thread::Threads;
 
 /// How a program ends.
@@ -174,14 +173,17 @@ const ROWS: [Row; 15] = [
     },
 ];
 
-#[test]
-fn programs_end_as_their_words_and_inputs_say(rt: HostRuntime) -> Result<(), Fail> {
+/// The line of the first row, if there is one, of which a program ends otherwise.
+pub(crate) fn first_wrong<H: Threads + Wait + Sync>(
+    rt: &H,
+    alloc: Global,
+) -> Result<Option<&'static str>, AllocError> {
     for row in ROWS {
-        let line = row.line;
-        let input = row.input;
-        assert!(rt; ends(&rt, rt.alloc(), row)?, "{line} of {input}");
+        if !ends(rt, alloc, row)? {
+            return Ok(Some(row.line));
+        }
     }
-    Ok(())
+    Ok(None)
 }
 
 /// Lines that ask for help, with what they show.
@@ -233,30 +235,43 @@ fn has(all: &[u8], text: &[u8]) -> bool {
     !text.is_empty() && all.windows(text.len()).any(|at| at == text)
 }
 
-#[test]
-fn help_and_version_are_shown(rt: HostRuntime) -> Result<(), Fail> {
+/// The first line, if there is one, that does not show its text.
+pub(crate) fn first_unshown<H: Threads + Wait + Sync>(
+    rt: &H,
+    alloc: Global,
+) -> Result<Option<&'static str>, AllocError> {
     for (line, text) in SHOWN {
-        assert!(rt; shows(&rt, rt.alloc(), line, text)?, "{line}: {text}");
+        if !shows(rt, alloc, line, text)? {
+            return Ok(Some(text));
+        }
     }
-    Ok(())
+    Ok(None)
 }
 
-#[test]
-fn a_program_audits_what_a_cluster_prints(rt: HostRuntime) -> Result<(), Fail> {
-    let mut script = Vec::new(rt.alloc());
-    let line = "fdbrec cluster --turns=150 --journal";
-    let ending = run(&rt, rt.alloc(), line, b"".as_slice(), &mut script)?;
-    assert_eq!(rt; ending.status(), 0);
-    assert!(rt; script.starts_with(b"{\"config\":".as_slice()));
-    let mut written = Vec::new(rt.alloc());
-    let ending = run(
-        &rt,
-        rt.alloc(),
-        "fdbrec audit",
-        script.as_slice(),
-        &mut written,
-    )?;
-    assert_eq!(rt; ending.status(), 0);
-    assert!(rt; written.as_slice() == b"audit ok\n".as_slice());
-    Ok(())
+const CLUSTER: &str = "fdbrec cluster --turns=150 --journal";
+
+/// What a cluster prints of its journals is a run; else the line of the cluster.
+pub(crate) fn audits_a_cluster<H: Threads + Wait + Sync>(
+    rt: &H,
+    alloc: Global,
+) -> Result<Option<&'static str>, AllocError> {
+    let mut script = Vec::new(alloc);
+    let is_done = run(rt, alloc, CLUSTER, b"".as_slice(), &mut script)?.status() == 0;
+    let is_script = script.starts_with(b"{\"config\":".as_slice());
+    let is_run = is_audited(rt, alloc, script.as_slice())?;
+    Ok(if is_done && is_script && is_run {
+        None
+    } else {
+        Some(CLUSTER)
+    })
+}
+
+fn is_audited<H: Threads + Wait + Sync>(
+    rt: &H,
+    alloc: Global,
+    script: &[u8],
+) -> Result<bool, AllocError> {
+    let mut written = Vec::new(alloc);
+    let ending = run(rt, alloc, "fdbrec audit", script, &mut written)?;
+    Ok(ending.status() == 0 && written.as_slice() == b"audit ok\n".as_slice())
 }

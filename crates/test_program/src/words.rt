@@ -2,7 +2,6 @@
 use clap::error::ErrorKind;
 use fr_cli::{EndOptions, Request, StoreKind, read_words};
 use std::alloc::{AllocError, Global};
-use std::test::Fail;
 
 /// The words of a line, the first of which is the program's name.
 pub(crate) fn words_of(alloc: Global, line: &str) -> Result<Vec<String>, AllocError> {
@@ -39,12 +38,17 @@ const STORES: [(&str, StoreKind); 5] = [
     ("fdbrec apply --store=sql", StoreKind::Sql),
 ];
 
-#[test]
-fn words_choose_a_store(rt: HostRuntime) -> Result<(), Fail> {
+const SIMULATION: &str = "fdbrec simulate";
+
+/// The first line, if there is one, that does not choose its store, or the simulation.
+pub(crate) fn first_store(alloc: Global) -> Result<Option<&'static str>, AllocError> {
     for (line, kind) in STORES {
-        assert!(rt; chooses(rt.alloc(), line, &Request::Apply(kind))?, "{line}");
+        if !chooses(alloc, line, &Request::Apply(kind))? {
+            return Ok(Some(line));
+        }
     }
-    Ok(())
+    let is_chosen = chooses(alloc, SIMULATION, &Request::Simulate)?;
+    Ok(if is_chosen { None } else { Some(SIMULATION) })
 }
 
 /// A line, its logs and its degree.
@@ -55,19 +59,22 @@ const ENDS: [(&str, u8, u8); 4] = [
     ("fdbrec end --logs=1 --degree=1", 1, 1),
 ];
 
-#[test]
-fn words_choose_the_end_of_an_epoch(rt: HostRuntime) -> Result<(), Fail> {
-    for (line, logs, degree) in ENDS {
-        let wanted = Request::End(EndOptions::new(logs, degree).ok_or("options")?);
-        assert!(rt; chooses(rt.alloc(), line, &wanted)?, "{line}");
+/// Whether a line chooses the end of an epoch of so many logs.
+fn chooses_end(alloc: Global, line: &str, logs: u8, degree: u8) -> Result<bool, AllocError> {
+    match EndOptions::new(logs, degree) {
+        Some(options) => chooses(alloc, line, &Request::End(options)),
+        None => Ok(false),
     }
-    Ok(())
 }
 
-#[test]
-fn words_choose_a_simulation(rt: HostRuntime) -> Result<(), Fail> {
-    assert!(rt; chooses(rt.alloc(), "fdbrec simulate", &Request::Simulate)?);
-    Ok(())
+/// The first line, if there is one, that does not choose its end of an epoch.
+pub(crate) fn first_end(alloc: Global) -> Result<Option<&'static str>, AllocError> {
+    for (line, logs, degree) in ENDS {
+        if !chooses_end(alloc, line, logs, degree)? {
+            return Ok(Some(line));
+        }
+    }
+    Ok(None)
 }
 
 const REFUSED: [(&str, ErrorKind); 21] = [
@@ -109,10 +116,12 @@ const REFUSED: [(&str, ErrorKind); 21] = [
     ),
 ];
 
-#[test]
-fn other_words_are_refused(rt: HostRuntime) -> Result<(), Fail> {
+/// The first line, if there is one, that is not refused for its reason.
+pub(crate) fn first_refused(alloc: Global) -> Result<Option<&'static str>, AllocError> {
     for (line, kind) in REFUSED {
-        assert!(rt; is_refused(rt.alloc(), line, kind)?, "{line}");
+        if !is_refused(alloc, line, kind)? {
+            return Ok(Some(line));
+        }
     }
-    Ok(())
+    Ok(None)
 }

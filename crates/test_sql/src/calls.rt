@@ -52,7 +52,17 @@ fn holds(rows: &[(Bytes, Bytes)], wanted: &[(&[u8], &[u8])]) -> bool {
             && row.1.as_slice() == *value)
 }
 
-/// A store of `a`, `b` and `c` at version 3.
+/// Whether a store has these rows.
+fn has<S: ShardStore>(
+    alloc: Global,
+    store: &mut S,
+    wanted: &[(&[u8], &[u8])],
+) -> Result<bool, Fail> {
+    let rows = store.dump(alloc)?;
+    Ok(holds(rows.as_slice(), wanted))
+}
+
+/// A store in memory, of `a`, `b` and `c` at version 3.
 fn filled(alloc: Global) -> Result<SqlStore<MemStore>, Fail> {
     let mut store = SqlStore::in_memory(alloc)?;
     store.apply(alloc, at(3)?, &sets(alloc)?)?;
@@ -61,71 +71,111 @@ fn filled(alloc: Global) -> Result<SqlStore<MemStore>, Fail> {
 
 const SETS: [(&[u8], &[u8]); 3] = [(b"a", b""), (b"b", b"\x02"), (b"c", b"\x02")];
 
+const CLEARED: [(&[u8], &[u8]); 1] = [(b"c", b"\x03")];
+
+/// Whether a range that is cleared comes back with empty values.
+fn comes_back<S: ShardStore>(alloc: Global, store: &mut S) -> Result<bool, Fail> {
+    store.apply(alloc, at(5)?, &clears(alloc)?)?;
+    let is_cleared = store.undo_rows() == 6 && has(alloc, store, CLEARED.as_slice())?;
+    store.undo_to(alloc, at(4)?)?;
+    Ok(is_cleared && has(alloc, store, SETS.as_slice())? && store.undo_rows() == 3)
+}
+
 #[test]
 fn a_cleared_range_comes_back_with_empty_values(rt: HostRuntime) -> Result<(), Fail> {
-    let alloc = rt.alloc();
-    let mut store = filled(alloc)?;
-    store.apply(alloc, at(5)?, &clears(alloc)?)?;
-    assert_eq!(rt; store.undo_rows(), 6);
-    let left = [(b"c".as_slice(), b"\x03".as_slice())];
-    assert!(rt; holds(store.dump(alloc)?.as_slice(), left.as_slice()));
-    store.undo_to(alloc, at(4)?)?;
-    assert!(rt; holds(store.dump(alloc)?.as_slice(), SETS.as_slice()));
-    assert_eq!(rt; store.undo_rows(), 3);
+    let mut store = filled(rt.alloc())?;
+    assert!(rt; comes_back(rt.alloc(), &mut store)?);
     Ok(())
+}
+
+/// Whether the rows from `b` to `c` are that of `b` alone.
+fn has_range<S: ShardStore>(alloc: Global, store: &mut S) -> Result<bool, Fail> {
+    let begin = bytes(alloc, b"b")?;
+    let end = Some(bytes(alloc, b"c")?);
+    let rows = store.range(alloc, &Shard { begin, end })?;
+    Ok(holds(rows.as_slice(), &SETS[1..2]))
+}
+
+/// How long the value of `a` is, where it has one.
+fn length_of_a<S: ShardStore>(alloc: Global, store: &mut S) -> Result<Option<usize>, Fail> {
+    let key = bytes(alloc, b"a")?;
+    match store.get(alloc, &key)? {
+        Some(value) => Ok(Some(value.len())),
+        None => Ok(None),
+    }
+}
+
+/// Whether values and ranges are those that were set, and there are none where all is undone.
+fn reads<S: ShardStore>(alloc: Global, store: &mut S) -> Result<bool, Fail> {
+    let is_there = has_range(alloc, store)? && length_of_a(alloc, store)? == Some(0);
+    store.undo_to(alloc, at(0)?)?;
+    Ok(is_there && length_of_a(alloc, store)?.is_none() && store.applied().get() == 0)
 }
 
 #[test]
 fn values_and_ranges(rt: HostRuntime) -> Result<(), Fail> {
-    let alloc = rt.alloc();
-    let mut store = filled(alloc)?;
-    let shard = Shard {
-        begin: bytes(alloc, b"b")?,
-        end: Some(bytes(alloc, b"c")?),
-    };
-    assert!(rt; holds(store.range(alloc, &shard)?.as_slice(), &SETS[1..2]));
-    let held = store.get(alloc, &bytes(alloc, b"a")?)?;
-    assert!(rt; held.is_some_and(|value| value.as_slice().is_empty()));
-    store.undo_to(alloc, at(0)?)?;
-    assert!(rt; store.get(alloc, &bytes(alloc, b"a")?)?.is_none());
-    assert_eq!(rt; store.applied().get(), 0);
+    let mut store = filled(rt.alloc())?;
+    assert!(rt; reads(rt.alloc(), &mut store)?);
     Ok(())
+}
+
+/// Whether a store keeps these bytes.
+fn keeps<S: ShardStore>(alloc: Global, store: &mut S, wanted: &[u8]) -> Result<bool, Fail> {
+    let kept = store.state_bytes(alloc)?;
+    Ok(kept.as_slice() == wanted)
+}
+
+/// Whether a store keeps no bytes at first, and then those that are set, also where it is opened again.
+fn keeps_state<S: ShardStore>(alloc: Global, store: &mut S) -> Result<bool, Fail> {
+    let was_empty = keeps(alloc, store, b"".as_slice())?;
+    store.set_state(alloc, bytes(alloc, b"state")?)?;
+    store.reopen(alloc)?;
+    Ok(was_empty && !store.is_failed() && keeps(alloc, store, b"state".as_slice())?)
 }
 
 #[test]
 fn state_bytes_are_kept(rt: HostRuntime) -> Result<(), Fail> {
-    let alloc = rt.alloc();
-    let mut store = filled(alloc)?;
-    assert!(rt; store.state_bytes(alloc)?.as_slice().is_empty());
-    store.set_state(alloc, bytes(alloc, b"state")?)?;
-    store.reopen(alloc)?;
-    assert!(rt; !store.is_failed());
-    assert_eq!(rt; store.state_bytes(alloc)?.as_slice(), b"state".as_slice());
+    let mut store = filled(rt.alloc())?;
+    assert!(rt; keeps_state(rt.alloc(), &mut store)?);
     Ok(())
+}
+
+/// Whether versions that are not later, and those above what is applied, are refused.
+fn refuses<S: ShardStore>(alloc: Global, store: &mut S) -> Result<bool, Fail> {
+    let is_late = store.advance(at(3)?) == Err(StoreFault::NotAfter);
+    let batch = sets(alloc)?;
+    let is_again = store.apply(alloc, at(3)?, &batch) == Err(StoreFault::NotAfter);
+    let is_above = store.forget_through(alloc, at(4)?) == Err(StoreFault::AboveApplied);
+    Ok(is_late && is_again && is_above)
+}
+
+/// Whether what is below the floor is refused, and changes nothing.
+fn refuses_below<S: ShardStore>(alloc: Global, store: &mut S) -> Result<bool, Fail> {
+    store.forget_through(alloc, at(2)?)?;
+    let is_below = store.undo_to(alloc, at(1)?) == Err(StoreFault::BelowFloor);
+    Ok(is_below && store.undo_rows() == 3)
 }
 
 #[test]
 fn refusals(rt: HostRuntime) -> Result<(), Fail> {
-    let alloc = rt.alloc();
-    let mut store = filled(alloc)?;
-    assert!(rt; store.advance(at(3)?) == Err(StoreFault::NotAfter));
-    assert!(rt; store.apply(alloc, at(3)?, &sets(alloc)?) == Err(StoreFault::NotAfter));
-    assert!(rt; store.forget_through(alloc, at(4)?) == Err(StoreFault::AboveApplied));
-    store.forget_through(alloc, at(2)?)?;
-    assert!(rt; store.undo_to(alloc, at(1)?) == Err(StoreFault::BelowFloor));
-    assert_eq!(rt; store.undo_rows(), 3);
+    let mut store = filled(rt.alloc())?;
+    assert!(rt; refuses(rt.alloc(), &mut store)?);
+    assert!(rt; refuses_below(rt.alloc(), &mut store)?);
     Ok(())
+}
+
+/// Whether rows are forgotten that are not needed for undoing any more, and no others.
+fn forgets<S: ShardStore>(alloc: Global, store: &mut S) -> Result<bool, Fail> {
+    store.advance(at(6)?)?;
+    store.forget_through(alloc, at(3)?)?;
+    let is_there = has(alloc, store, SETS.as_slice())?;
+    let (undo_rows, floor) = (store.undo_rows(), store.floor().get());
+    Ok(is_there && undo_rows == 0 && floor == 3 && store.applied().get() == 6)
 }
 
 #[test]
 fn rows_are_forgotten(rt: HostRuntime) -> Result<(), Fail> {
-    let alloc = rt.alloc();
-    let mut store = filled(alloc)?;
-    store.advance(at(6)?)?;
-    store.forget_through(alloc, at(3)?)?;
-    assert_eq!(rt; store.undo_rows(), 0);
-    assert_eq!(rt; store.floor().get(), 3);
-    assert_eq!(rt; store.applied().get(), 6);
-    assert_eq!(rt; store.dump(alloc)?.len(), 3);
+    let mut store = filled(rt.alloc())?;
+    assert!(rt; forgets(rt.alloc(), &mut store)?);
     Ok(())
 }

@@ -1,7 +1,20 @@
-//! Tests of the store in SQL: each call, and seeded runs beside a map and plain lists.
+//! Tests of the store in SQL. In memory: each call, and seeded runs beside a map and plain lists. Over files: closed and
+//! opened again, over files that hold no store, on files that stop at each call, and on files that fail for a while.
 #![tactic(auto)]
 
+#[cfg(test)]
+mod again;
 #[cfg(test)]
 mod agrees;
 #[cfg(test)]
 mod calls;
+#[cfg(test)]
+mod faults;
+#[cfg(test)]
+mod gap;
+#[cfg(test)]
+mod made;
+#[cfg(test)]
+mod scene;
+#[cfg(test)]
+mod stops;
