@@ -1,23 +1,29 @@
 //! What cells are asked, and what they tell.
 use crate::fault::ScriptFault;
-use crate::fields::{Fields, bare, variant};
+use crate::fields::{Fields, variant};
+use crate::lists::WriteItem;
 use crate::names;
 use crate::object::{Object, bare_named, numbered};
-use fr_base::{Ballot, Memory};
+use fr_base::Memory;
 use fr_register::{CellAsk, CellTell, CellValue};
 use serde_json::Value;
 use std::alloc::Global;
 
 /// Reads what a cell is asked.
 pub fn read_cell_ask(alloc: Global, value: Value) -> Result<CellAsk, ScriptFault> {
-    let (name, content) = variant(value)?;
-    match name.as_str() {
+    let (name, mut content) = variant(value)?;
+    read_ask_named(alloc, name.as_str(), &mut content)
+}
+
+fn read_ask_named(alloc: Global, name: &str, content: &mut Fields) -> Result<CellAsk, ScriptFault> {
+    match name {
         names::READ => {
-            let ballot = Fields::new(content, 1).ballot(names::BALLOT)?;
+            let ballot = content.of(1).ballot(names::BALLOT)?;
             Ok(CellAsk::Read { ballot })
         }
         names::WRITE => {
-            let (ballot, value) = read_holding(alloc, names::BALLOT, &Fields::new(content, 2))?;
+            let ballot = content.of(2).ballot(names::BALLOT)?;
+            let value = read_cell_value(alloc, content)?;
             Ok(CellAsk::Write { ballot, value })
         }
         _ => Err(ScriptFault::BadScript),
@@ -34,22 +40,39 @@ pub(crate) fn write_cell_ask(alloc: Global, ask: &CellAsk) -> Result<Value, Memo
 }
 
 pub(crate) fn read_cell_tell(alloc: Global, value: Value) -> Result<CellTell, ScriptFault> {
-    let (name, content) = variant(value)?;
-    match name.as_str() {
-        names::PROMISE => {
-            let (written, value) = read_holding(alloc, names::WRITTEN, &Fields::new(content, 2))?;
-            Ok(CellTell::Promise { written, value })
-        }
+    let (name, mut content) = variant(value)?;
+    read_tell_named(alloc, name.as_str(), &mut content)
+}
+
+fn read_tell_named(
+    alloc: Global,
+    name: &str,
+    content: &mut Fields,
+) -> Result<CellTell, ScriptFault> {
+    match name {
+        names::PROMISE => read_promise(alloc, content.of(2)),
         names::WRITTEN => {
-            let ballot = Fields::new(content, 1).ballot(names::BALLOT)?;
+            let ballot = content.of(1).ballot(names::BALLOT)?;
             Ok(CellTell::Written { ballot })
         }
         names::REFUSED => {
-            let promised = Fields::new(content, 1).ballot(names::PROMISED)?;
+            let promised = content.of(1).ballot(names::PROMISED)?;
             Ok(CellTell::Refused { promised })
         }
-        names::TWO_VALUES => bare(&content, CellTell::TwoValues),
+        names::TWO_VALUES => content.bare(CellTell::TwoValues),
         _ => Err(ScriptFault::BadScript),
+    }
+}
+
+fn read_promise(alloc: Global, fields: &Fields) -> Result<CellTell, ScriptFault> {
+    let written = fields.ballot(names::WRITTEN)?;
+    let value = read_cell_value(alloc, fields)?;
+    Ok(CellTell::Promise { written, value })
+}
+
+impl WriteItem for CellTell {
+    fn write(&self, alloc: Global) -> Result<Value, Memory> {
+        write_cell_tell(alloc, self)
     }
 }
 
@@ -76,16 +99,6 @@ pub fn write_cell_tell(alloc: Global, tell: &CellTell) -> Result<Value, Memory> 
         ),
         CellTell::TwoValues => bare_named(alloc, names::TWO_VALUES),
     }
-}
-
-/// The ballot under a name, and the value of a cell.
-fn read_holding(
-    alloc: Global,
-    name: &str,
-    fields: &Fields,
-) -> Result<(Ballot, CellValue), ScriptFault> {
-    let ballot = fields.ballot(name)?;
-    Ok((ballot, read_cell_value(alloc, fields)?))
 }
 
 /// A variant that has these numbers, and the value of a cell.

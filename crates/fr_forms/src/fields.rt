@@ -15,30 +15,16 @@ pub(crate) const LAST_LOG: u8 = 15;
 pub(crate) const LAST_PROXY: u8 = 15;
 
 /// The name of a variant, and its content: an object of one member.
-pub fn variant(value: Value) -> Result<(String, Value), ScriptFault> {
-    into_one_member(value).ok_or(ScriptFault::BadScript)
+pub fn variant(value: Value) -> Result<(String, Fields), ScriptFault> {
+    match into_one_member(value) {
+        Some((name, content)) => Ok((name, Fields::new(content, 0))),
+        None => Err(ScriptFault::BadScript),
+    }
 }
 
 /// The items of an array.
 pub fn items(value: Value) -> Result<Vec<Value>, ScriptFault> {
     into_items(value).ok_or(ScriptFault::BadScript)
-}
-
-/// The two items of an array of two, the first one first.
-pub(crate) fn pair(value: Value) -> Result<(Value, Value), ScriptFault> {
-    let mut items = items(value)?;
-    match (items.pop(), items.pop(), items.pop()) {
-        (Some(second), Some(first), None) => Ok((first, second)),
-        _ => Err(ScriptFault::BadScript),
-    }
-}
-
-/// What a value is made of an object without members.
-pub fn bare<T: Drop>(content: &Value, made: T) -> Result<T, ScriptFault> {
-    match content.as_object() {
-        Some(members) if members.is_empty() => Ok(made),
-        _ => Err(ScriptFault::BadScript),
-    }
 }
 
 /// A number, at most so great, written in digits alone.
@@ -73,7 +59,7 @@ pub fn tag_of(value: &Value) -> Result<Tag, ScriptFault> {
     Tag::new(index_of(value, u8::MAX)?).ok_or(ScriptFault::BadScript)
 }
 
-/// An object of this many members, each of which is taken by its name.
+/// An object of so many members, each of which is taken by its name.
 #[derive(Drop)]
 pub struct Fields {
     value: Value,
@@ -84,6 +70,30 @@ impl Fields {
     /// A value, which is to be an object of this many members.
     pub fn new(value: Value, count: usize) -> Self {
         Fields { value, count }
+    }
+
+    /// The same value, which is to be an object of this many members.
+    pub fn of(&mut self, count: usize) -> &mut Self {
+        self.count = count;
+        self
+    }
+
+    /// What is made of an object without members.
+    pub fn bare<T: Drop>(&self, made: T) -> Result<T, ScriptFault> {
+        match self.value.as_object() {
+            Some(members) if members.is_empty() => Ok(made),
+            _ => Err(ScriptFault::BadScript),
+        }
+    }
+
+    /// The value, whatever it is.
+    pub fn all(&self) -> &Value {
+        &self.value
+    }
+
+    /// Takes the value out, whatever it is.
+    pub fn take_all(&mut self) -> Value {
+        self.value.take()
     }
 
     /// Takes the value under a name out.

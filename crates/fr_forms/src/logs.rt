@@ -1,48 +1,69 @@
 //! What logs are asked, and what they tell.
 use crate::fault::ScriptFault;
-use crate::fields::{Fields, bare, variant};
+use crate::fields::{Fields, variant};
+use crate::lists::WriteItem;
 use crate::names;
-use crate::object::{bare_named, named, numbered, with_one};
+use crate::object::{Object, bare_named, named, numbered, with_one};
+use crate::popped::{read_popped, says_popped, with_popped};
 use crate::records::{read_peeked, read_push, read_seed, write_peeked, write_push, write_seed};
 use crate::states::{read_state, write_state};
 use fr_base::Memory;
-use fr_log::{LogAsk, LogRefusal, LogTell, Most};
+use fr_log::{LogAsk, LogRefusal, LogTell, Most, PoppedTags};
 use serde_json::Value;
 use std::alloc::Global;
 
 /// Reads what a log is asked.
 pub fn read_log_ask(alloc: Global, value: Value) -> Result<LogAsk, ScriptFault> {
-    let (name, content) = variant(value)?;
-    match name.as_str() {
-        names::SEED => Ok(LogAsk::Seed(read_seed(alloc, &mut Fields::new(content, 4))?)),
-        names::PUSH => Ok(LogAsk::Push(read_push(alloc, &mut Fields::new(content, 6))?)),
+    let (name, mut content) = variant(value)?;
+    read_ask_named(alloc, name.as_str(), &mut content)
+}
+
+fn read_ask_named(alloc: Global, name: &str, content: &mut Fields) -> Result<LogAsk, ScriptFault> {
+    match name {
+        names::SEED => read_seed(alloc, content.of(4)).map(LogAsk::Seed),
+        names::PUSH => read_push(alloc, content.of(6)).map(LogAsk::Push),
         names::LOCK => {
-            let epoch = Fields::new(content, 1).epoch(names::EPOCH)?;
+            let epoch = content.of(1).epoch(names::EPOCH)?;
             Ok(LogAsk::Lock { epoch })
         }
-        names::PEEK => read_peek(&Fields::new(content, 4)),
+        names::PEEK => read_peek(content.of(4)),
         names::MARK_ASKED => {
-            let epoch = Fields::new(content, 1).epoch(names::EPOCH)?;
+            let epoch = content.of(1).epoch(names::EPOCH)?;
             Ok(LogAsk::MarkAsked { epoch })
         }
+        names::POP => read_pop(content.of(3)),
         _ => Err(ScriptFault::BadScript),
     }
 }
 
 fn read_peek(fields: &Fields) -> Result<LogAsk, ScriptFault> {
-    let most = Most::new(fields.index(names::MOST, u8::MAX)?);
+    let epoch = fields.epoch(names::EPOCH)?;
+    let tag = fields.tag(names::TAG)?;
+    let after = fields.version(names::AFTER)?;
+    let most = Most::new(fields.index(names::MOST, u8::MAX)?).ok_or(ScriptFault::BadScript)?;
     Ok(LogAsk::Peek {
-        epoch: fields.epoch(names::EPOCH)?,
-        tag: fields.tag(names::TAG)?,
-        after: fields.version(names::AFTER)?,
-        most: most.ok_or(ScriptFault::BadScript)?,
+        epoch,
+        tag,
+        after,
+        most,
+    })
+}
+
+fn read_pop(fields: &Fields) -> Result<LogAsk, ScriptFault> {
+    let epoch = fields.epoch(names::EPOCH)?;
+    let tag = fields.tag(names::TAG)?;
+    let through = fields.version(names::THROUGH)?;
+    Ok(LogAsk::Pop {
+        epoch,
+        tag,
+        through,
     })
 }
 
 pub(crate) fn write_log_ask(alloc: Global, ask: &LogAsk) -> Result<Value, Memory> {
     match ask {
-        LogAsk::Seed(seed) => named(alloc, names::SEED, write_seed(alloc, seed)?),
-        LogAsk::Push(push) => named(alloc, names::PUSH, write_push(alloc, push)?),
+        LogAsk::Seed(seed) => named(alloc, names::SEED, write_seed(alloc, seed)),
+        LogAsk::Push(push) => named(alloc, names::PUSH, write_push(alloc, push)),
         LogAsk::Lock { epoch } => numbered(alloc, names::LOCK, &[(names::EPOCH, epoch.get())]),
         LogAsk::Peek {
             epoch,
@@ -64,36 +85,74 @@ pub(crate) fn write_log_ask(alloc: Global, ask: &LogAsk) -> Result<Value, Memory
             names::MARK_ASKED,
             &[(names::EPOCH, epoch.get())],
         ),
+        LogAsk::Pop {
+            epoch,
+            tag,
+            through,
+        } => numbered(
+            alloc,
+            names::POP,
+            &[
+                (names::EPOCH, epoch.get()),
+                (names::TAG, tag.get() as u64),
+                (names::THROUGH, through.get()),
+            ],
+        ),
     }
 }
 
 pub(crate) fn read_log_tell(alloc: Global, value: Value) -> Result<LogTell, ScriptFault> {
-    let (name, content) = variant(value)?;
-    match name.as_str() {
-        names::SEEDED => bare(&content, LogTell::Seeded),
+    let (name, mut content) = variant(value)?;
+    read_tell_named(alloc, name.as_str(), &mut content)
+}
+
+fn read_tell_named(
+    alloc: Global,
+    name: &str,
+    content: &mut Fields,
+) -> Result<LogTell, ScriptFault> {
+    match name {
+        names::SEEDED => content.bare(LogTell::Seeded),
         names::HELD => {
-            let version = Fields::new(content, 1).version(names::VERSION)?;
+            let version = content.of(1).version(names::VERSION)?;
             Ok(LogTell::Held { version })
         }
-        names::LOCKED => read_locked(&Fields::new(content, 2)),
-        names::PEEKED => Ok(LogTell::Peeked(read_peeked(alloc, &mut Fields::new(content, 5))?)),
-        names::MARKED => {
-            let state = read_state(alloc, Fields::new(content, 1).take(names::STATE)?)?;
-            Ok(LogTell::Marked { state })
+        names::LOCKED => read_locked(alloc, content),
+        names::PEEKED => read_peeked(alloc, content.of(5)).map(LogTell::Peeked),
+        names::MARKED => read_marked(alloc, content.of(1)),
+        names::POPPED => {
+            let through = content.of(1).version(names::THROUGH)?;
+            Ok(LogTell::Popped { through })
         }
         names::REFUSED => {
-            let why = read_log_refusal(Fields::new(content, 1).take(names::WHY)?)?;
+            let why = read_log_refusal(content.of(1).take(names::WHY)?)?;
             Ok(LogTell::Refused { why })
         }
         _ => Err(ScriptFault::BadScript),
     }
 }
 
-fn read_locked(fields: &Fields) -> Result<LogTell, ScriptFault> {
+fn read_locked(alloc: Global, fields: &mut Fields) -> Result<LogTell, ScriptFault> {
+    let there = says_popped(fields, 2);
+    let durable = fields.version(names::DURABLE)?;
+    let known = fields.version(names::KNOWN)?;
+    let popped = read_popped(alloc, fields, there)?;
     Ok(LogTell::Locked {
-        durable: fields.version(names::DURABLE)?,
-        known: fields.version(names::KNOWN)?,
+        durable,
+        known,
+        popped,
     })
+}
+
+fn read_marked(alloc: Global, fields: &mut Fields) -> Result<LogTell, ScriptFault> {
+    let state = read_state(alloc, fields.take(names::STATE)?)?;
+    Ok(LogTell::Marked { state })
+}
+
+impl WriteItem for LogTell {
+    fn write(&self, alloc: Global) -> Result<Value, Memory> {
+        write_log_tell(alloc, self)
+    }
 }
 
 /// The form of what a log tells.
@@ -105,41 +164,73 @@ pub fn write_log_tell(alloc: Global, tell: &LogTell) -> Result<Value, Memory> {
             names::HELD,
             &[(names::VERSION, version.get())],
         ),
-        LogTell::Locked { durable, known } => numbered(
-            alloc,
-            names::LOCKED,
-            &[(names::DURABLE, durable.get()), (names::KNOWN, known.get())],
-        ),
-        LogTell::Peeked(peeked) => named(alloc, names::PEEKED, write_peeked(alloc, peeked)?),
+        LogTell::Locked {
+            durable,
+            known,
+            popped,
+        } => {
+            let numbers = [(names::DURABLE, durable.get()), (names::KNOWN, known.get())];
+            write_locked(alloc, &numbers, popped)
+        }
+        LogTell::Peeked(peeked) => named(alloc, names::PEEKED, write_peeked(alloc, peeked)),
         LogTell::Marked { state } => {
-            let state = write_state(alloc, state)?;
+            let state = write_state(alloc, state);
             with_one(alloc, names::MARKED, names::STATE, state)
         }
+        LogTell::Popped { through } => numbered(
+            alloc,
+            names::POPPED,
+            &[(names::THROUGH, through.get())],
+        ),
         LogTell::Refused { why } => {
-            let why = write_log_refusal(alloc, why)?;
+            let why = write_log_refusal(alloc, why);
             with_one(alloc, names::REFUSED, names::WHY, why)
         }
     }
 }
 
+fn write_locked(
+    alloc: Global,
+    numbers: &[(&str, u64)],
+    popped: &PoppedTags,
+) -> Result<Value, Memory> {
+    let object = Object::of(alloc, numbers)?;
+    with_popped(alloc, object, popped)?.named(names::LOCKED)
+}
+
 fn read_log_refusal(value: Value) -> Result<LogRefusal, ScriptFault> {
-    let (name, content) = variant(value)?;
-    match name.as_str() {
-        names::WRONG_EPOCH => bare(&content, LogRefusal::WrongEpoch),
-        names::UNSEEDED => bare(&content, LogRefusal::Unseeded),
-        names::STOPPED => bare(&content, LogRefusal::Stopped),
-        names::STALE => bare(&content, LogRefusal::Stale),
+    let (name, mut content) = variant(value)?;
+    read_refusal_named(name.as_str(), &mut content)
+}
+
+fn read_refusal_named(name: &str, content: &mut Fields) -> Result<LogRefusal, ScriptFault> {
+    match name {
         names::GAP => {
-            let durable = Fields::new(content, 1).version(names::DURABLE)?;
+            let durable = content.of(1).version(names::DURABLE)?;
             Ok(LogRefusal::Gap { durable })
         }
-        names::NOT_MINE => bare(&content, LogRefusal::NotMine),
         names::TOO_EARLY => {
-            let first = Fields::new(content, 1).version(names::FIRST)?;
+            let first = content.of(1).version(names::FIRST)?;
             Ok(LogRefusal::TooEarly { first })
         }
-        names::SEED_DIFFERS => bare(&content, LogRefusal::SeedDiffers),
-        names::NO_MARK => bare(&content, LogRefusal::NoMark),
+        names::REMOVED => {
+            let through = content.of(1).version(names::THROUGH)?;
+            Ok(LogRefusal::Removed { through })
+        }
+        _ => content.bare(bare_refusal(name)?),
+    }
+}
+
+/// The refusal without content of a name.
+fn bare_refusal(name: &str) -> Result<LogRefusal, ScriptFault> {
+    match name {
+        names::WRONG_EPOCH => Ok(LogRefusal::WrongEpoch),
+        names::UNSEEDED => Ok(LogRefusal::Unseeded),
+        names::STOPPED => Ok(LogRefusal::Stopped),
+        names::STALE => Ok(LogRefusal::Stale),
+        names::NOT_MINE => Ok(LogRefusal::NotMine),
+        names::SEED_DIFFERS => Ok(LogRefusal::SeedDiffers),
+        names::NO_MARK => Ok(LogRefusal::NoMark),
         _ => Err(ScriptFault::BadScript),
     }
 }
@@ -163,5 +254,10 @@ fn write_log_refusal(alloc: Global, why: &LogRefusal) -> Result<Value, Memory> {
         ),
         LogRefusal::SeedDiffers => bare_named(alloc, names::SEED_DIFFERS),
         LogRefusal::NoMark => bare_named(alloc, names::NO_MARK),
+        LogRefusal::Removed { through } => numbered(
+            alloc,
+            names::REMOVED,
+            &[(names::THROUGH, through.get())],
+        ),
     }
 }

@@ -60,6 +60,8 @@ pub const PEEK: &str = "peek";
 
 pub const MARK_ASKED: &str = "mark_asked";
 
+pub const POP: &str = "pop";
+
 pub const HELD: &str = "held";
 
 pub const LOCKED: &str = "locked";
@@ -83,6 +85,10 @@ pub const TOO_EARLY: &str = "too_early";
 pub const SEED_DIFFERS: &str = "seed_differs";
 
 pub const NO_MARK: &str = "no_mark";
+
+pub const REMOVED: &str = "removed";
+
+pub const POPPED: &str = "popped";
 
 pub const SET: &str = "set";
 
@@ -120,6 +126,8 @@ pub const COORDINATORS: &str = "coordinators";
 
 pub const DEGREE: &str = "degree";
 
+pub const DROPPED: &str = "dropped";
+
 pub const DURABLE: &str = "durable";
 
 pub const END: &str = "end";
@@ -133,6 +141,8 @@ pub const FIRST: &str = "first";
 pub const FLOOR: &str = "floor";
 
 pub const FROM: &str = "from";
+
+pub const GENS: &str = "gens";
 
 pub const INDEX: &str = "index";
 
@@ -189,6 +199,8 @@ pub const TAG: &str = "tag";
 pub const TAKEN: &str = "taken";
 
 pub const TELL: &str = "tell";
+
+pub const THROUGH: &str = "through";
 
 pub const UPTO: &str = "upto";
 

@@ -9,24 +9,29 @@ use std::alloc::Global;
 
 /// Reads a node.
 pub fn read_node(value: Value) -> Result<NodeId, ScriptFault> {
-    let (name, content) = variant(value)?;
-    match name.as_str() {
+    let (name, mut content) = variant(value)?;
+    read_kind(name.as_str(), &mut content)
+}
+
+/// Reads a node of the kind of a name.
+fn read_kind(kind: &str, content: &mut Fields) -> Result<NodeId, ScriptFault> {
+    match kind {
         names::CELL => {
-            let index = Fields::new(content, 1).index(names::INDEX, LAST_CELL)?;
+            let index = content.of(1).index(names::INDEX, LAST_CELL)?;
             Ok(NodeId::Cell { index })
         }
-        names::LOG => read_log(&Fields::new(content, 2)),
+        names::LOG => read_log(content.of(2)),
         names::SEQUENCER => {
-            let epoch = Fields::new(content, 1).epoch(names::EPOCH)?;
+            let epoch = content.of(1).epoch(names::EPOCH)?;
             Ok(NodeId::Sequencer { epoch })
         }
-        names::PROXY => read_proxy(&Fields::new(content, 2)),
+        names::PROXY => read_proxy(content.of(2)),
         names::RECOVERER => {
-            let ballot = Fields::new(content, 1).ballot(names::BALLOT)?;
+            let ballot = content.of(1).ballot(names::BALLOT)?;
             Ok(NodeId::Recoverer { ballot })
         }
         names::STORAGE => {
-            let tag = Fields::new(content, 1).tag(names::TAG)?;
+            let tag = content.of(1).tag(names::TAG)?;
             Ok(NodeId::Storage { tag })
         }
         _ => Err(ScriptFault::BadScript),
@@ -34,17 +39,15 @@ pub fn read_node(value: Value) -> Result<NodeId, ScriptFault> {
 }
 
 fn read_log(fields: &Fields) -> Result<NodeId, ScriptFault> {
-    Ok(NodeId::Log {
-        epoch: fields.epoch(names::EPOCH)?,
-        index: fields.index(names::INDEX, LAST_LOG)?,
-    })
+    let epoch = fields.epoch(names::EPOCH)?;
+    let index = fields.index(names::INDEX, LAST_LOG)?;
+    Ok(NodeId::Log { epoch, index })
 }
 
 fn read_proxy(fields: &Fields) -> Result<NodeId, ScriptFault> {
-    Ok(NodeId::Proxy {
-        epoch: fields.epoch(names::EPOCH)?,
-        number: fields.index(names::NUMBER, LAST_PROXY)?,
-    })
+    let epoch = fields.epoch(names::EPOCH)?;
+    let number = fields.index(names::NUMBER, LAST_PROXY)?;
+    Ok(NodeId::Proxy { epoch, number })
 }
 
 /// The form of a node.

@@ -26,6 +26,11 @@ impl Object {
         Ok(Object { alloc, members })
     }
 
+    /// With one member more, where there was memory for its value.
+    pub fn and(self, name: &str, value: Result<Value, Memory>) -> Result<Self, Memory> {
+        self.with(name, value?)
+    }
+
     /// With these numbers.
     pub fn of(alloc: Global, numbers: &[(&str, u64)]) -> Result<Self, Memory> {
         let mut object = Object::new(alloc);
@@ -48,8 +53,12 @@ impl Object {
 
     /// The object as the content of a variant.
     pub fn named(self, name: &str) -> Result<Value, Memory> {
-        let alloc = self.alloc;
-        named(alloc, name, self.value())
+        let Object { alloc, members } = self;
+        Ok(
+            Object::new(alloc)
+                .with(name, Value::Object(members))?
+                .value(),
+        )
     }
 }
 
@@ -63,9 +72,9 @@ pub(crate) fn with_one(
     alloc: Global,
     name: &str,
     member: &str,
-    value: Value,
+    value: Result<Value, Memory>,
 ) -> Result<Value, Memory> {
-    Object::new(alloc).with(member, value)?.named(name)
+    Object::new(alloc).and(member, value)?.named(name)
 }
 
 /// A variant without content.
@@ -74,8 +83,12 @@ pub fn bare_named(alloc: Global, name: &str) -> Result<Value, Memory> {
 }
 
 /// A variant with its content.
-pub(crate) fn named(alloc: Global, name: &str, content: Value) -> Result<Value, Memory> {
-    Ok(Object::new(alloc).with(name, content)?.value())
+pub(crate) fn named(
+    alloc: Global,
+    name: &str,
+    content: Result<Value, Memory>,
+) -> Result<Value, Memory> {
+    Ok(Object::new(alloc).and(name, content)?.value())
 }
 
 /// Bytes as a text of lower case hex.
@@ -83,10 +96,7 @@ pub fn hex_value(alloc: Global, bytes: &[u8]) -> Result<Value, Memory> {
     Ok(Value::String(hex::encode(alloc, bytes)?))
 }
 
-/// An array of two.
-pub(crate) fn pair_value(alloc: Global, first: Value, second: Value) -> Result<Value, Memory> {
-    let mut items = Vec::with_capacity(alloc, 2)?;
-    items.push(first)?;
-    items.push(second)?;
-    Ok(Value::Array(items))
+/// A text.
+pub fn write_text(alloc: Global, text: &str) -> Result<Value, Memory> {
+    Ok(Value::try_from_str(alloc, text)?)
 }

@@ -1,6 +1,6 @@
 //! What proxies say of their batches.
 use crate::fault::ScriptFault;
-use crate::fields::{Fields, bare, variant};
+use crate::fields::{Fields, variant};
 use crate::names;
 use crate::object::{bare_named, numbered};
 use fr_base::Memory;
@@ -13,14 +13,19 @@ pub fn read_outcome(value: Value) -> Result<Option<Outcome>, ScriptFault> {
     if value.is_null() {
         return Ok(None);
     }
-    let (name, content) = variant(value)?;
-    match name.as_str() {
-        names::WAITING => bare(&content, Some(Outcome::Waiting)),
+    let (name, mut content) = variant(value)?;
+    let outcome = read_named(name.as_str(), &mut content)?;
+    Ok(Some(outcome))
+}
+
+fn read_named(name: &str, content: &mut Fields) -> Result<Outcome, ScriptFault> {
+    match name {
+        names::WAITING => content.bare(Outcome::Waiting),
         names::COMMITTED => {
-            let version = Fields::new(content, 1).version(names::VERSION)?;
-            Ok(Some(Outcome::Committed { version }))
+            let version = content.of(1).version(names::VERSION)?;
+            Ok(Outcome::Committed { version })
         }
-        names::ENDED => bare(&content, Some(Outcome::Ended)),
+        names::ENDED => content.bare(Outcome::Ended),
         _ => Err(ScriptFault::BadScript),
     }
 }

@@ -1,6 +1,7 @@
 //! What sequencers are asked, and what they tell.
 use crate::fault::ScriptFault;
-use crate::fields::{Fields, LAST_PROXY, bare, variant};
+use crate::fields::{Fields, LAST_PROXY, variant};
+use crate::lists::WriteItem;
 use crate::names;
 use crate::object::{bare_named, numbered, with_one};
 use fr_ask::{SeqAsk, SeqRefusal, SeqTell};
@@ -13,18 +14,21 @@ const NO_REQUEST: u64 = 1 << 62;
 
 /// Reads what a sequencer is asked.
 pub fn read_seq_ask(value: Value) -> Result<SeqAsk, ScriptFault> {
-    let (name, content) = variant(value)?;
-    if name.as_str() != names::NEXT {
-        return Err(ScriptFault::BadScript);
-    }
-    read_next(&Fields::new(content, 3))
+    let (name, mut content) = variant(value)?;
+    read_next(name.as_str(), content.of(3))
 }
 
-fn read_next(fields: &Fields) -> Result<SeqAsk, ScriptFault> {
+fn read_next(name: &str, fields: &Fields) -> Result<SeqAsk, ScriptFault> {
+    if name != names::NEXT {
+        return Err(ScriptFault::BadScript);
+    }
+    let proxy = fields.index(names::PROXY, LAST_PROXY)?;
+    let request = read_request(fields)?;
+    let step = read_step(fields)?;
     Ok(SeqAsk::Next {
-        proxy: fields.index(names::PROXY, LAST_PROXY)?,
-        request: read_request(fields)?,
-        step: read_step(fields)?,
+        proxy,
+        request,
+        step,
     })
 }
 
@@ -46,11 +50,15 @@ pub(crate) fn write_seq_ask(alloc: Global, ask: &SeqAsk) -> Result<Value, Memory
 }
 
 pub(crate) fn read_seq_tell(value: Value) -> Result<SeqTell, ScriptFault> {
-    let (name, content) = variant(value)?;
-    match name.as_str() {
-        names::NUMBERED => read_numbered(&Fields::new(content, 3)),
+    let (name, mut content) = variant(value)?;
+    read_named(name.as_str(), &mut content)
+}
+
+fn read_named(name: &str, content: &mut Fields) -> Result<SeqTell, ScriptFault> {
+    match name {
+        names::NUMBERED => read_numbered(content.of(3)),
         names::REFUSED => {
-            let why = read_seq_refusal(Fields::new(content, 1).take(names::WHY)?)?;
+            let why = read_seq_refusal(content.of(1).take(names::WHY)?)?;
             Ok(SeqTell::Refused { why })
         }
         _ => Err(ScriptFault::BadScript),
@@ -58,11 +66,20 @@ pub(crate) fn read_seq_tell(value: Value) -> Result<SeqTell, ScriptFault> {
 }
 
 fn read_numbered(fields: &Fields) -> Result<SeqTell, ScriptFault> {
+    let request = read_request(fields)?;
+    let prev = fields.version(names::PREV)?;
+    let version = fields.version(names::VERSION)?;
     Ok(SeqTell::Numbered {
-        request: read_request(fields)?,
-        prev: fields.version(names::PREV)?,
-        version: fields.version(names::VERSION)?,
+        request,
+        prev,
+        version,
     })
+}
+
+impl WriteItem for SeqTell {
+    fn write(&self, alloc: Global) -> Result<Value, Memory> {
+        write_seq_tell(alloc, self)
+    }
 }
 
 /// The form of what a sequencer tells.
@@ -82,7 +99,7 @@ pub fn write_seq_tell(alloc: Global, tell: &SeqTell) -> Result<Value, Memory> {
             ],
         ),
         SeqTell::Refused { why } => {
-            let why = write_seq_refusal(alloc, *why)?;
+            let why = bare_named(alloc, refusal_name(*why));
             with_one(alloc, names::REFUSED, names::WHY, why)
         }
     }
@@ -90,17 +107,21 @@ pub fn write_seq_tell(alloc: Global, tell: &SeqTell) -> Result<Value, Memory> {
 
 fn read_seq_refusal(value: Value) -> Result<SeqRefusal, ScriptFault> {
     let (name, content) = variant(value)?;
-    match name.as_str() {
-        names::SPENT => bare(&content, SeqRefusal::Spent),
-        names::OUT_OF_TURN => bare(&content, SeqRefusal::OutOfTurn),
+    content.bare(refusal_of(name.as_str())?)
+}
+
+fn refusal_of(name: &str) -> Result<SeqRefusal, ScriptFault> {
+    match name {
+        names::SPENT => Ok(SeqRefusal::Spent),
+        names::OUT_OF_TURN => Ok(SeqRefusal::OutOfTurn),
         _ => Err(ScriptFault::BadScript),
     }
 }
 
-fn write_seq_refusal(alloc: Global, why: SeqRefusal) -> Result<Value, Memory> {
+fn refusal_name(why: SeqRefusal) -> &'static str {
     match why {
-        SeqRefusal::Spent => bare_named(alloc, names::SPENT),
-        SeqRefusal::OutOfTurn => bare_named(alloc, names::OUT_OF_TURN),
+        SeqRefusal::Spent => names::SPENT,
+        SeqRefusal::OutOfTurn => names::OUT_OF_TURN,
     }
 }
 

@@ -1,8 +1,9 @@
 //! Batches, rows, and the keys at which shards begin.
 use crate::fault::ScriptFault;
-use crate::fields::{items, pair};
+use crate::fields::items;
+use crate::lists::{ReadItem, WriteItem, read_all, write_all, write_pair};
 use crate::names;
-use crate::object::{Object, hex_value, pair_value};
+use crate::object::{Object, hex_value};
 use fr_ask::Rows;
 use fr_base::{Bytes, Memory};
 use fr_cli_json::tree::{read_batch as read_mutations, read_bytes};
@@ -21,29 +22,27 @@ pub fn read_batch(alloc: Global, value: Value) -> Result<Batch, ScriptFault> {
 
 /// The form of a batch.
 pub fn write_batch(alloc: Global, batch: &Batch) -> Result<Value, Memory> {
-    let mut items = Vec::with_capacity(alloc, batch.mutations().len())?;
-    for mutation in batch.mutations() {
-        items.push(write_mutation(alloc, mutation)?)?;
-    }
-    Ok(Value::Array(items))
+    write_all(alloc, batch.mutations())
 }
 
-fn write_mutation(alloc: Global, mutation: &Mutation) -> Result<Value, Memory> {
-    match mutation {
-        Mutation::Set { key, value } => {
-            two_texts(alloc, names::SET, (names::KEY, key), (names::VALUE, value))
-        }
-        Mutation::Clear { begin, end } => {
-            two_texts(
-                alloc,
-                names::CLEAR,
-                (names::BEGIN, begin),
-                (names::END, end),
-            )
-        }
-        Mutation::Atomic { op, key, param } => {
-            let operand = op.operand_name();
-            two_texts(alloc, op.name(), (names::KEY, key), (operand, param))
+impl WriteItem for Mutation {
+    fn write(&self, alloc: Global) -> Result<Value, Memory> {
+        match self {
+            Mutation::Set { key, value } => {
+                two_texts(alloc, names::SET, (names::KEY, key), (names::VALUE, value))
+            }
+            Mutation::Clear { begin, end } => {
+                two_texts(
+                    alloc,
+                    names::CLEAR,
+                    (names::BEGIN, begin),
+                    (names::END, end),
+                )
+            }
+            Mutation::Atomic { op, key, param } => {
+                let operand = op.operand_name();
+                two_texts(alloc, op.name(), (names::KEY, key), (operand, param))
+            }
         }
     }
 }
@@ -62,50 +61,56 @@ fn two_texts(
 }
 
 pub(crate) fn read_rows(alloc: Global, value: Value) -> Result<Rows, ScriptFault> {
-    let items = items(value)?;
-    let mut rows = Vec::with_capacity(alloc, items.len())?;
-    for item in items {
-        rows.push(read_row(alloc, item)?)?;
-    }
-    Ok(Rows::from_vec(rows))
+    Ok(Rows::from_vec(read_all(alloc, value)?))
 }
 
-fn read_row(alloc: Global, item: Value) -> Result<(Bytes, Bytes), ScriptFault> {
-    let (key, value) = pair(item)?;
-    let key = read_bytes(alloc, Some(&key))?;
-    Ok((key, read_bytes(alloc, Some(&value))?))
+/// A row: its key and its value.
+impl ReadItem for (Bytes, Bytes) {
+    fn read(alloc: Global, item: Value) -> Result<Self, ScriptFault> {
+        let items = items(item)?;
+        match items.as_slice() {
+            [key, value] => read_row(alloc, key, value),
+            _ => Err(ScriptFault::BadScript),
+        }
+    }
+}
+
+fn read_row(alloc: Global, key: &Value, value: &Value) -> Result<(Bytes, Bytes), ScriptFault> {
+    let key = read_bytes(alloc, Some(key))?;
+    let value = read_bytes(alloc, Some(value))?;
+    Ok((key, value))
 }
 
 /// The form of rows.
 pub fn write_rows(alloc: Global, rows: &Rows) -> Result<Value, Memory> {
-    let mut items = Vec::with_capacity(alloc, rows.len())?;
-    for (key, value) in rows.as_slice() {
-        items.push(write_row(alloc, key, value)?)?;
-    }
-    Ok(Value::Array(items))
+    write_all(alloc, rows.as_slice())
 }
 
-fn write_row(alloc: Global, key: &Bytes, value: &Bytes) -> Result<Value, Memory> {
-    let key = hex_value(alloc, key.as_slice())?;
-    let value = hex_value(alloc, value.as_slice())?;
-    pair_value(alloc, key, value)
+impl WriteItem for (Bytes, Bytes) {
+    fn write(&self, alloc: Global) -> Result<Value, Memory> {
+        let key = hex_value(alloc, self.0.as_slice())?;
+        write_pair(alloc, key, hex_value(alloc, self.1.as_slice()))
+    }
 }
 
 /// Reads the keys at which shards begin.
 pub fn read_shards(alloc: Global, value: Value) -> Result<Vec<Bytes>, ScriptFault> {
-    let items = items(value)?;
-    let mut shards = Vec::with_capacity(alloc, items.len())?;
-    for item in items {
-        shards.push(read_bytes(alloc, Some(&item))?)?;
+    read_all(alloc, value)
+}
+
+impl ReadItem for Bytes {
+    fn read(alloc: Global, item: Value) -> Result<Self, ScriptFault> {
+        Ok(read_bytes(alloc, Some(&item))?)
     }
-    Ok(shards)
 }
 
 /// The form of the keys at which shards begin.
 pub fn write_shards(alloc: Global, begins: &[Bytes]) -> Result<Value, Memory> {
-    let mut shards = Vec::with_capacity(alloc, begins.len())?;
-    for begin in begins {
-        shards.push(hex_value(alloc, begin.as_slice())?)?;
+    write_all(alloc, begins)
+}
+
+impl WriteItem for Bytes {
+    fn write(&self, alloc: Global) -> Result<Value, Memory> {
+        hex_value(alloc, self.as_slice())
     }
-    Ok(Value::Array(shards))
 }

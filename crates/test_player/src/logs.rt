@@ -2,28 +2,25 @@
 ghost use Rattle.std.specs.Prelude.{◌≡◌, OnOk};
 
 use crate::subjects::Nodes;
-use fr_ask::Named;
 use fr_base::{LogId, Machine, Memory};
 use fr_forms::fields::Fields;
+use fr_forms::lists::WriteItem;
 use fr_forms::object::Object;
-use fr_forms::{
-    read_cell_ask, read_log_ask, read_seq_ask, write_cell_tell, write_log_tell, write_seq_tell,
-};
+use fr_forms::{ScriptFault, read_cell_ask, read_log_ask, read_seq_ask};
 use fr_log::laws::place_law;
 use fr_log::{Log, LogAsk, LogTell};
 use fr_proxy::Sequencer;
 use fr_register::Cell;
 use serde_json::Value;
 use std::alloc::Global;
-use test_rows::{NO_FORM, Plays, Scene, Wrong, no_such_word, read_sizes, write_state_of};
+use test_rows::{
+    NO_FORM, Plays, Scene, Wrong, no_such_word, of_nothing, read_sizes, told, write_state_of,
+};
 
 /// Plays rows with a cell that was never asked.
 pub(crate) fn play_cell(alloc: Global, scene: Scene, at: &mut usize) -> Result<(), Wrong> {
-    if !scene.given(alloc)?.is_null() {
-        return Err(Wrong::Form("a cell is made of nothing"));
-    }
-    let mut cell = Cell::new(alloc);
-    scene.play(alloc, &Nodes, &mut cell, at)
+    let cell = of_nothing(alloc, scene, Cell::new(alloc));
+    scene.play_made(alloc, &Nodes, cell, at)
 }
 
 impl Plays<Cell> for Nodes {
@@ -32,23 +29,34 @@ impl Plays<Cell> for Nodes {
         alloc: Global,
         cell: &mut Cell,
         word: &str,
-        given: Value,
+        given: &mut Fields,
     ) -> Result<Value, Wrong> {
         match word {
-            "ask" => {
-                let told = cell.step(alloc, read_cell_ask(alloc, given)?)?;
-                Ok(write_cell_tell(alloc, &told)?)
-            }
-            "state" => write_state_of(alloc, &cell.copy()?.last(alloc)?),
+            "ask" => ask(alloc, cell, read_cell_ask(alloc, given.take_all())),
+            "state" => write_state_of(alloc, cell.copy()),
             _ => no_such_word("rows of a cell: ask, state"),
         }
     }
 }
 
+/// What a machine tells.
+fn ask<M: Machine>(
+    alloc: Global,
+    machine: &mut M,
+    given: Result<M::Ask, ScriptFault>,
+) -> Result<Value, Wrong>
+where
+    M::Ask: Drop,
+    M::Tell: WriteItem + Drop,
+{
+    let tell = machine.step(alloc, given?)?;
+    told(alloc, &tell)
+}
+
 /// Plays rows with a log that was never asked.
 pub(crate) fn play_log(alloc: Global, scene: Scene, at: &mut usize) -> Result<(), Wrong> {
-    let mut log = read_log(alloc, &Fields::new(scene.given(alloc)?, 4))?;
-    scene.play(alloc, &Nodes, &mut log, at)
+    let log = read_log(alloc, scene.given(alloc)?.of(4));
+    scene.play_made(alloc, &Nodes, log, at)
 }
 
 fn read_log(alloc: Global, fields: &Fields) -> Result<Log, Wrong> {
@@ -68,23 +76,24 @@ impl Plays<Log> for Nodes {
         alloc: Global,
         log: &mut Log,
         word: &str,
-        given: Value,
+        given: &mut Fields,
     ) -> Result<Value, Wrong> {
         match word {
-            "ask" => {
-                let told = log.step(alloc, read_log_ask(alloc, given)?)?;
-                Ok(write_log_tell(alloc, &told)?)
-            }
+            "ask" => ask(alloc, log, read_log_ask(alloc, given.take_all())),
             "take_back" => take_back(alloc, log, given),
-            "state" => write_state_of(alloc, &log.copy()?.last(alloc)?),
-            "made" => write_made(alloc, &log.copy()?),
+            "state" => write_state_of(alloc, log.copy()),
+            "made" => write_made(alloc, log.copy()),
             _ => no_such_word("rows of a log: ask, take_back, state, made"),
         }
     }
 }
 
-/// What a log was made with.
-fn write_made(alloc: Global, log: &Log) -> Result<Value, Wrong> {
+/// What the copy of a log was made with.
+fn write_made(alloc: Global, log: Result<Log, Memory>) -> Result<Value, Wrong> {
+    Ok(write_place(alloc, &log?)?)
+}
+
+fn write_place(alloc: Global, log: &Log) -> Result<Value, Memory> {
     let id = log.id();
     let numbers = [
         ("epoch", id.epoch.get()),
@@ -96,18 +105,18 @@ fn write_made(alloc: Global, log: &Log) -> Result<Value, Wrong> {
 }
 
 /// What a log tells, which then goes back to where it stood, as one does whose records could not be kept.
-fn take_back(alloc: Global, log: &mut Log, given: Value) -> Result<Value, Wrong>
+fn take_back(alloc: Global, log: &mut Log, given: &mut Fields) -> Result<Value, Wrong>
     ensures { OnOk result (log.new ≡ log.old) }
 {
-    let told = ask_and_go_back(alloc, log, read_log_ask(alloc, given)?)?;
-    Ok(write_log_tell(alloc, &told)?)
+    let ask = read_log_ask(alloc, given.take_all())?;
+    told(alloc, &ask_and_go_back(alloc, log, ask)?)
 }
 
 fn ask_and_go_back(alloc: Global, log: &mut Log, ask: LogAsk) -> Result<LogTell, Memory>
     ensures { OnOk result (log.new ≡ log.old) }
 {
-    let place = log.place();
-    let tell = log.step(alloc, ask)?;
+    let place = log.place()?;
+    let tell = log.keep(alloc, ask)?;
     place_law();
     log.go_back(place);
     Ok(tell)
@@ -115,9 +124,14 @@ fn ask_and_go_back(alloc: Global, log: &mut Log, ask: LogAsk) -> Result<LogTell,
 
 /// Plays rows with a sequencer that gave nothing yet.
 pub(crate) fn play_sequencer(alloc: Global, scene: Scene, at: &mut usize) -> Result<(), Wrong> {
-    let fields = Fields::new(scene.given(alloc)?, 2);
-    let mut sequencer = Sequencer::new(alloc, fields.epoch("epoch")?, fields.version("last")?);
-    scene.play(alloc, &Nodes, &mut sequencer, at)
+    let sequencer = read_sequencer(alloc, scene.given(alloc)?.of(2));
+    scene.play_made(alloc, &Nodes, sequencer, at)
+}
+
+fn read_sequencer(alloc: Global, fields: &Fields) -> Result<Sequencer, Wrong> {
+    let epoch = fields.epoch("epoch")?;
+    let last = fields.version("last")?;
+    Ok(Sequencer::new(alloc, epoch, last))
 }
 
 impl Plays<Sequencer> for Nodes {
@@ -126,14 +140,11 @@ impl Plays<Sequencer> for Nodes {
         alloc: Global,
         sequencer: &mut Sequencer,
         word: &str,
-        given: Value,
+        given: &mut Fields,
     ) -> Result<Value, Wrong> {
         match word {
-            "ask" => {
-                let told = sequencer.step(alloc, read_seq_ask(given)?)?;
-                Ok(write_seq_tell(alloc, &told)?)
-            }
-            "state" => write_state_of(alloc, &Named::last(&sequencer.copy()?, alloc)?),
+            "ask" => ask(alloc, sequencer, read_seq_ask(given.take_all())),
+            "state" => write_state_of(alloc, sequencer.copy()),
             _ => no_such_word("rows of a sequencer: ask, state"),
         }
     }

@@ -2,19 +2,22 @@
 use crate::nodes::{read_map, read_told, write_asks};
 use crate::subjects::Nodes;
 use fr_ask::{Ask, Last};
-use fr_base::{NodeId, Step};
+use fr_base::{Memory, NodeId};
 use fr_forms::fields::Fields;
+use fr_forms::lists::write_all;
 use fr_forms::object::Object;
-use fr_forms::{read_batch, write_ask, write_outcome, write_shards};
+use fr_forms::{read_batch, read_step, write_outcome, write_shards};
 use fr_proxy::{Outcome, Proxy, SubmitFault};
 use serde_json::Value;
 use std::alloc::Global;
-use test_rows::{Plays, Scene, Wrong, no_such_word, read_sizes, said, write_name, write_state_of};
+use test_rows::{
+    Plays, Scene, Wrong, no_such_word, read_sizes, said, told, write_last_state, write_name,
+};
 
 /// Plays rows with a proxy that took nothing yet.
 pub(crate) fn play_proxy(alloc: Global, scene: Scene, at: &mut usize) -> Result<(), Wrong> {
-    let mut proxy = read_proxy(alloc, &mut Fields::new(scene.given(alloc)?, 6))?;
-    scene.play(alloc, &Nodes, &mut proxy, at)
+    let proxy = read_proxy(alloc, scene.given(alloc)?.of(6));
+    scene.play_made(alloc, &Nodes, proxy, at)
 }
 
 fn read_proxy(alloc: Global, fields: &mut Fields) -> Result<Proxy, Wrong> {
@@ -32,24 +35,37 @@ impl Plays<Proxy> for Nodes {
         alloc: Global,
         proxy: &mut Proxy,
         word: &str,
-        given: Value,
+        given: &mut Fields,
     ) -> Result<Value, Wrong> {
         match word {
-            "submit" => submit(alloc, proxy, &mut Fields::new(given, 2)),
-            "hear" => {
-                let (from, tell) = read_told(alloc, given)?;
-                let (outcome, asks) = proxy.hear(alloc, from, &tell)?;
-                said(write_heard(alloc, outcome, asks.as_slice()))
-            }
-            "pending" => write_asks(alloc, proxy.pending(alloc)?.as_slice()),
-            "state" => {
-                let known = proxy.copy()?.known();
-                write_state_of(alloc, &Last::Proxy { known })
-            }
+            "submit" => submit(alloc, proxy, given.of(2)),
+            "hear" => hear(alloc, proxy, given.of(2)),
+            "pending" => write_asks(alloc, proxy.pending(alloc)),
+            "state" => write_known(alloc, proxy.copy()),
             "made" => write_made(alloc, proxy),
             _ => no_such_word("rows of a proxy: submit, hear, pending, state, made"),
         }
     }
+}
+
+/// What a proxy says of its batch, and asks, when it hears this.
+fn hear(alloc: Global, proxy: &mut Proxy, fields: &mut Fields) -> Result<Value, Wrong> {
+    let (from, tell) = read_told(alloc, fields)?;
+    let (outcome, asks) = proxy.hear(alloc, from, &tell)?;
+    said(write_heard(alloc, outcome, asks.as_slice()))
+}
+
+fn write_heard(alloc: Global, outcome: Outcome, asks: &[(NodeId, Ask)]) -> Result<Value, Wrong> {
+    let heard = Object::new(alloc)
+        .and("asks", write_all(alloc, asks))?
+        .and("outcome", write_outcome(alloc, &Some(outcome)))?;
+    Ok(heard.value())
+}
+
+/// What the copy of a proxy knows to be committed.
+fn write_known(alloc: Global, proxy: Result<Proxy, Memory>) -> Result<Value, Wrong> {
+    let known = proxy?.known();
+    write_last_state(alloc, Ok(Last::Proxy { known }))
 }
 
 /// What a proxy was made with, and what it knows now.
@@ -61,33 +77,25 @@ fn write_made(alloc: Global, proxy: &Proxy) -> Result<Value, Wrong> {
         ("k", u64::from(proxy.k())),
         ("known", proxy.known().get()),
     ];
-    let shards = write_shards(alloc, proxy.map().begins())?;
-    Ok(Object::of(alloc, &numbers)?.with("shards", shards)?.value())
+    let made = Object::of(alloc, &numbers)?;
+    Ok(
+        made.and("shards", write_shards(alloc, proxy.map().begins()))?
+            .value(),
+    )
 }
 
 /// What a proxy asks for a batch, or the name of why it does not take it.
 fn submit(alloc: Global, proxy: &mut Proxy, fields: &mut Fields) -> Result<Value, Wrong> {
-    let step = Step::new(fields.number("step")?).ok_or(Wrong::Form("no step"))?;
+    let step = read_step(fields)?;
     let batch = read_batch(alloc, fields.take("batch")?)?;
-    match proxy.submit(step, batch) {
-        Ok(ask) => said(write_given(alloc, &ask)),
+    write_submitted(alloc, proxy.submit(step, batch))
+}
+
+fn write_submitted(alloc: Global, ask: Result<Ask, SubmitFault>) -> Result<Value, Wrong> {
+    match ask {
+        Ok(ask) => told(alloc, &ask),
         Err(SubmitFault::TwoOpen) => write_name(alloc, "TwoOpen"),
         Err(SubmitFault::Over) => write_name(alloc, "Over"),
         Err(SubmitFault::Memory) => Err(Wrong::Memory),
     }
-}
-
-fn write_given(alloc: Global, ask: &Ask) -> Result<Value, Wrong> {
-    Ok(write_ask(alloc, ask)?)
-}
-
-fn write_heard(alloc: Global, outcome: Outcome, asks: &[(NodeId, Ask)]) -> Result<Value, Wrong> {
-    let asks = write_asks(alloc, asks)?;
-    let outcome = write_outcome(alloc, &Some(outcome))?;
-    Ok(
-        Object::new(alloc)
-            .with("asks", asks)?
-            .with("outcome", outcome)?
-            .value(),
-    )
 }

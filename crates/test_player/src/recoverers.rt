@@ -1,29 +1,31 @@
 //! Recoverers.
 use crate::nodes::{read_map, read_told, write_asks};
 use crate::subjects::Nodes;
-use fr_ask::Last;
-use fr_base::{Bytes, Shape};
-use fr_cli_json::tree::member_of;
+use fr_ask::{Ask, Last};
+use fr_base::{Bytes, Memory, NodeId, Shape};
 use fr_epoch::{Phase, Recoverer};
 use fr_forms::fields::Fields;
 use fr_forms::object::Object;
 use fr_forms::{write_shards, write_state};
 use fr_state::CoordState;
 use serde_json::Value;
-use std::alloc::Global;
-use test_rows::{NO_FORM, Plays, Scene, Wrong, no_such_word, said, write_state_of};
+use std::alloc::{AllocError, Global};
+use test_rows::{NO_FORM, Plays, Scene, Wrong, no_such_word, told_all, write_last_state};
 
 /// Plays rows with a recoverer that heard nothing.
 pub(crate) fn play_recoverer(alloc: Global, scene: Scene, at: &mut usize) -> Result<(), Wrong> {
-    let made = scene.given(alloc)?;
-    let mut recoverer = if member_of(&made, 5, "logs").is_some() {
-        let mut fields = Fields::new(made, 5);
-        let shape = read_shape(&fields)?;
-        read_recoverer(alloc, &mut fields, Some(shape))?
+    let recoverer = read_recoverer(alloc, &mut scene.given(alloc)?);
+    scene.play_made(alloc, &Nodes, recoverer, at)
+}
+
+/// The shape of an object that has members for it, and is then to have five members, else three.
+fn read_shape_in(fields: &mut Fields) -> Result<Option<Shape>, Wrong> {
+    if fields.of(5).value("logs").is_ok() {
+        Ok(Some(read_shape(fields)?))
     } else {
-        read_recoverer(alloc, &mut Fields::new(made, 3), None)?
-    };
-    scene.play(alloc, &Nodes, &mut recoverer, at)
+        fields.of(3);
+        Ok(None)
+    }
 }
 
 /// How many logs the next generation is to have, and on how many of them each tag is to stand.
@@ -32,11 +34,8 @@ fn read_shape(fields: &Fields) -> Result<Shape, Wrong> {
     Shape::new(m, fields.index("degree", u8::MAX)?).ok_or(NO_FORM)
 }
 
-fn read_recoverer(
-    alloc: Global,
-    fields: &mut Fields,
-    shape: Option<Shape>,
-) -> Result<Recoverer, Wrong> {
+fn read_recoverer(alloc: Global, fields: &mut Fields) -> Result<Recoverer, Wrong> {
+    let shape = read_shape_in(fields)?;
     let ballot = fields.epoch("ballot")?;
     let _above = ballot.get();
     let coordinators = fields.index("coordinators", u8::MAX)?;
@@ -50,19 +49,12 @@ impl Plays<Recoverer> for Nodes {
         alloc: Global,
         recoverer: &mut Recoverer,
         word: &str,
-        given: Value,
+        given: &mut Fields,
     ) -> Result<Value, Wrong> {
         match word {
-            "hear" => {
-                let (from, tell) = read_told(alloc, given)?;
-                let asks = recoverer.hear(alloc, from, tell)?;
-                said(write_asks(alloc, asks.as_slice()))
-            }
-            "pending" => write_asks(alloc, recoverer.pending(alloc)?.as_slice()),
-            "state" => {
-                let phase = phase_text(alloc, recoverer.copy(alloc)?.phase())?;
-                write_state_of(alloc, &Last::Recoverer { phase })
-            }
+            "hear" => hear(alloc, recoverer, given.of(2)),
+            "pending" => write_asks(alloc, recoverer.pending(alloc)),
+            "state" => write_phase(alloc, phase_of(recoverer.copy(alloc))),
             "generation" => generation(alloc, recoverer),
             "copied" => Ok(Value::from(recoverer.is_copied())),
             "made" => write_made(alloc, recoverer),
@@ -73,12 +65,36 @@ impl Plays<Recoverer> for Nodes {
     }
 }
 
+/// The new asks of a recoverer that hears this.
+fn hear(alloc: Global, recoverer: &mut Recoverer, fields: &mut Fields) -> Result<Value, Wrong> {
+    let (from, tell) = read_told(alloc, fields)?;
+    write_heard(alloc, recoverer.hear(alloc, from, tell))
+}
+
+fn write_heard(alloc: Global, asks: Result<Vec<(NodeId, Ask)>, Memory>) -> Result<Value, Wrong> {
+    told_all(alloc, asks?.as_slice())
+}
+
+/// The phase of the copy of a recoverer.
+fn phase_of(copied: Result<Recoverer, Memory>) -> Result<Phase, Memory> {
+    Ok(copied?.phase())
+}
+
+fn write_phase(alloc: Global, phase: Result<Phase, Memory>) -> Result<Value, Wrong> {
+    let phase = phase_text(alloc, phase?)?;
+    write_last_state(alloc, Ok(Last::Recoverer { phase }))
+}
+
 /// The generation that a recoverer is going to open, as the state of this one alone; null where there is none.
 fn generation(alloc: Global, recoverer: &Recoverer) -> Result<Value, Wrong> {
     match recoverer.generation() {
-        Some(generation) => Ok(write_state(alloc, &CoordState::new(alloc, generation)?)?),
+        Some(generation) => write_one(alloc, CoordState::new(alloc, generation)),
         None => Ok(Value::Null),
     }
+}
+
+fn write_one(alloc: Global, state: Result<CoordState, Memory>) -> Result<Value, Wrong> {
+    Ok(write_state(alloc, &state?)?)
 }
 
 /// What a recoverer was made with, but for the shape.
@@ -87,22 +103,28 @@ fn write_made(alloc: Global, recoverer: &Recoverer) -> Result<Value, Wrong> {
         ("ballot", recoverer.ballot().get()),
         ("coordinators", u64::from(recoverer.coordinators())),
     ];
-    let shards = write_shards(alloc, recoverer.map().begins())?;
-    Ok(Object::of(alloc, &numbers)?.with("shards", shards)?.value())
+    let made = Object::of(alloc, &numbers)?;
+    Ok(
+        made.and("shards", write_shards(alloc, recoverer.map().begins()))?
+            .value(),
+    )
 }
 
 /// The phase of a recoverer as text.
 fn phase_text(alloc: Global, phase: Phase) -> Result<Bytes, Wrong> {
-    let text = match phase {
-        Phase::Reading => String::from_str(alloc, "reading")?,
-        Phase::Locking => String::from_str(alloc, "locking")?,
-        Phase::Copying => String::from_str(alloc, "copying")?,
-        Phase::Writing => String::from_str(alloc, "writing")?,
+    match phase {
+        Phase::Reading => bytes_of(String::from_str(alloc, "reading")),
+        Phase::Locking => bytes_of(String::from_str(alloc, "locking")),
+        Phase::Copying => bytes_of(String::from_str(alloc, "copying")),
+        Phase::Writing => bytes_of(String::from_str(alloc, "writing")),
         Phase::Chosen { pev, rv } => {
             let (pev, rv) = (pev.get(), rv.get());
-            format!(in alloc; "chosen pev {pev} rv {rv}")?
+            bytes_of(format!(in alloc; "chosen pev {pev} rv {rv}"))
         }
-        Phase::Lost { why } => format!(in alloc; "lost {why}")?,
-    };
-    Ok(Bytes::from_vec(text.into_bytes()))
+        Phase::Lost { why } => bytes_of(format!(in alloc; "lost {why}")),
+    }
+}
+
+fn bytes_of(text: Result<String, AllocError>) -> Result<Bytes, Wrong> {
+    Ok(Bytes::from_vec(text?.into_bytes()))
 }

@@ -1,6 +1,7 @@
 //! Shards, which mutations concern which, and which logs hold which tag.
-use crate::nodes::read_logs;
+use crate::nodes::{map_of, read_logs};
 use crate::subjects::Nodes;
+use fr_base::{Bytes, Memory, Tag};
 use fr_cli_json::tree::read_bytes;
 use fr_forms::fields::{Fields, tag_of};
 use fr_forms::object::{Object, hex_value};
@@ -13,11 +14,8 @@ use test_rows::{Plays, Scene, Wrong, no_such_word, read_sizes, write_name};
 
 /// Plays rows with a map of shards that begin at these keys.
 pub(crate) fn play_shards(alloc: Global, scene: Scene, at: &mut usize) -> Result<(), Wrong> {
-    match ShardMap::new(read_shards(alloc, scene.given(alloc)?)?) {
-        Ok(mut map) => scene.play(alloc, &Nodes, &mut map, at),
-        Err(ShardFault::Memory) => Err(Wrong::Memory),
-        Err(_) => Err(Wrong::Form("these begins make no shards")),
-    }
+    let begins = read_shards(alloc, scene.given(alloc)?.take_all())?;
+    scene.play_made(alloc, &Nodes, map_of(begins), at)
 }
 
 impl Plays<ShardMap> for Nodes {
@@ -26,18 +24,18 @@ impl Plays<ShardMap> for Nodes {
         alloc: Global,
         map: &mut ShardMap,
         word: &str,
-        given: Value,
+        given: &mut Fields,
     ) -> Result<Value, Wrong> {
         match word {
-            "split" => split(alloc, map, &mut Fields::new(given, 3)),
-            "tags_of" => tags(alloc, map, given),
-            "tag_of" => Ok(Value::from(map.tag_of(&read_bytes(alloc, Some(&given))?).get())),
-            "shard_of" => write_shard(alloc, map.shard_of(alloc, tag_of(&given)?)?),
-            "holders" => held_by(alloc, &Fields::new(given, 3)),
-            "is_held" => is_held_by(&Fields::new(given, 4)),
-            "covers" => do_cover(alloc, &mut Fields::new(given, 3)),
-            "make" => make(alloc, given),
-            "state" => Ok(write_shards(alloc, map.copy()?.begins())?),
+            "split" => split(alloc, map, given.of(3)),
+            "tags_of" => tags(alloc, map, given.take_all()),
+            "tag_of" => tag_at(alloc, map, given.all()),
+            "shard_of" => write_shard(alloc, map.shard_of(alloc, tag_of(given.all())?)),
+            "holders" => held_by(alloc, given.of(3)),
+            "is_held" => is_held_by(given.of(4)),
+            "covers" => do_cover(alloc, given.of(3)),
+            "make" => make(alloc, given.take_all()),
+            "state" => write_map(alloc, map.copy()),
             _ => no_such_word(
                 "rows of shards: split, tags_of, tag_of, shard_of, holders, is_held, covers, make, \
                  state",
@@ -50,12 +48,13 @@ impl Plays<ShardMap> for Nodes {
 fn split(alloc: Global, map: &ShardMap, fields: &mut Fields) -> Result<Value, Wrong> {
     let (m, k) = read_sizes(fields)?;
     let batch = read_batch(alloc, fields.take("batch")?)?;
-    write_logs(alloc, map.split(alloc, &batch, m, k)?.as_slice())
+    write_logs(alloc, map.split(alloc, &batch, m, k))
 }
 
-fn write_logs(alloc: Global, logs: &[Vec<Body>]) -> Result<Value, Wrong> {
+fn write_logs(alloc: Global, logs: Result<Vec<Vec<Body>>, Memory>) -> Result<Value, Wrong> {
+    let logs = logs?;
     let mut made = Vec::new(alloc);
-    for bodies in logs {
+    for bodies in &logs {
         made.push(write_bodies(alloc, bodies.as_slice())?)?;
     }
     Ok(Value::Array(made))
@@ -64,39 +63,60 @@ fn write_logs(alloc: Global, logs: &[Vec<Body>]) -> Result<Value, Wrong> {
 /// The tags that a batch of one mutation concerns.
 fn tags(alloc: Global, map: &ShardMap, given: Value) -> Result<Value, Wrong> {
     let batch = read_batch(alloc, given)?;
-    let [mutation] = batch.mutations() else {
-        return Err(Wrong::Form("a batch of one mutation is wanted here"));
-    };
+    match batch.mutations() {
+        [mutation] => write_numbers(alloc, map.tags_of(alloc, mutation)),
+        _ => Err(Wrong::Form("a batch of one mutation is wanted here")),
+    }
+}
+
+/// Numbers of tags.
+fn write_numbers(alloc: Global, tags: Result<Vec<Tag>, Memory>) -> Result<Value, Wrong> {
+    let tags = tags?;
     let mut made = Vec::new(alloc);
-    for tag in map.tags_of(alloc, mutation)? {
+    for tag in &tags {
         made.push(Value::from(tag.get()))?;
     }
     Ok(Value::Array(made))
 }
 
+fn tag_at(alloc: Global, map: &ShardMap, given: &Value) -> Result<Value, Wrong> {
+    let key = read_bytes(alloc, Some(given))?;
+    Ok(Value::from(map.tag_of(&key).get()))
+}
+
+fn write_map(alloc: Global, map: Result<ShardMap, Memory>) -> Result<Value, Wrong> {
+    Ok(write_shards(alloc, map?.begins())?)
+}
+
 /// Where a shard begins and ends, with null for no end; null where there is no such shard.
-fn write_shard(alloc: Global, shard: Option<Shard>) -> Result<Value, Wrong> {
-    let Some(shard) = shard else {
-        return Ok(Value::Null);
-    };
-    let end = match &shard.end {
-        Some(end) => hex_value(alloc, end.as_slice())?,
-        None => Value::Null,
-    };
-    Ok(
-        Object::new(alloc)
-            .bytes("begin", shard.begin.as_slice())?
-            .with("end", end)?
-            .value(),
-    )
+fn write_shard(alloc: Global, shard: Result<Option<Shard>, Memory>) -> Result<Value, Wrong> {
+    match shard? {
+        Some(shard) => Ok(write_range(alloc, &shard)?),
+        None => Ok(Value::Null),
+    }
+}
+
+fn write_range(alloc: Global, shard: &Shard) -> Result<Value, Memory> {
+    let object = Object::new(alloc)
+        .bytes("begin", shard.begin.as_slice())?
+        .and("end", write_end(alloc, &shard.end))?;
+    Ok(object.value())
+}
+
+fn write_end(alloc: Global, end: &Option<Bytes>) -> Result<Value, Memory> {
+    match end {
+        Some(end) => hex_value(alloc, end.as_slice()),
+        None => Ok(Value::Null),
+    }
 }
 
 /// The logs that hold a tag.
 fn held_by(alloc: Global, fields: &Fields) -> Result<Value, Wrong> {
     let (m, k) = read_sizes(fields)?;
+    let logs = holders(alloc, fields.tag("tag")?, m, k)?;
     let mut made = Vec::new(alloc);
-    for log in holders(alloc, fields.tag("tag")?, m, k)? {
-        made.push(Value::from(log))?;
+    for log in &logs {
+        made.push(Value::from(*log))?;
     }
     Ok(Value::Array(made))
 }
@@ -104,7 +124,8 @@ fn held_by(alloc: Global, fields: &Fields) -> Result<Value, Wrong> {
 fn is_held_by(fields: &Fields) -> Result<Value, Wrong> {
     let (m, k) = read_sizes(fields)?;
     let log = fields.index("log", u8::MAX)?;
-    Ok(Value::from(is_held(fields.tag("tag")?, m, k, log)))
+    let tag = fields.tag("tag")?;
+    Ok(Value::from(is_held(tag, m, k, log)))
 }
 
 /// Whether a set of logs covers all tags.
@@ -116,7 +137,8 @@ fn do_cover(alloc: Global, fields: &mut Fields) -> Result<Value, Wrong> {
 
 /// Null where these begins make a map, and why not where they do not.
 fn make(alloc: Global, given: Value) -> Result<Value, Wrong> {
-    match ShardMap::new(read_shards(alloc, given)?) {
+    let begins = read_shards(alloc, given)?;
+    match ShardMap::new(begins) {
         Ok(_) => Ok(Value::Null),
         Err(ShardFault::NotSorted) => write_name(alloc, "NotSorted"),
         Err(ShardFault::Empty) => write_name(alloc, "Empty"),

@@ -1,11 +1,12 @@
 //! Storage servers, over a store in memory, and over one that fails once.
 use crate::stores::read_failing;
 use crate::subjects::Nodes;
-use fr_ask::{Ask, Rows, Tell};
-use fr_base::{Memory, Version};
+use fr_ask::{Ask, Tell};
+use fr_base::{Bytes, Epoch, Memory, Version};
 use fr_forms::fields::{Fields, items};
-use fr_forms::object::Object;
-use fr_forms::{read_state, read_tell, write_ask, write_rows, write_state};
+use fr_forms::lists::write_all;
+use fr_forms::object::{Object, write_text};
+use fr_forms::{ScriptFault, read_state, read_tell, write_ask, write_state};
 use fr_log::LogTell;
 use fr_storage::{Answer, Storage, StorageFault};
 use fr_undo::{MapStore, ShardStore, StoreFault};
@@ -15,11 +16,10 @@ use test_rows::{NO_FORM, Plays, Scene, Wrong, no_such_word, said, write_name};
 
 /// Plays rows with a storage server that applied nothing yet.
 pub(crate) fn play_storage(alloc: Global, scene: Scene, at: &mut usize) -> Result<(), Wrong> {
-    let store = MapStore::new(alloc);
     play_over(
         alloc,
-        store,
-        &mut Fields::new(scene.given(alloc)?, 2),
+        MapStore::new(alloc),
+        scene.given(alloc)?.of(2),
         scene,
         at,
     )
@@ -31,8 +31,8 @@ pub(crate) fn play_failing_storage(
     scene: Scene,
     at: &mut usize,
 ) -> Result<(), Wrong> {
-    let mut fields = Fields::new(scene.given(alloc)?, 4);
-    let store = read_failing(alloc, &fields)?;
+    let mut fields = scene.given(alloc)?;
+    let store = read_failing(alloc, fields.of(4))?;
     play_over(alloc, store, &mut fields, scene.once(), at)
 }
 
@@ -43,10 +43,19 @@ fn play_over<S: ShardStore + Drop>(
     scene: Scene,
     at: &mut usize,
 ) -> Result<(), Wrong> {
+    let storage = start(alloc, store, fields);
+    scene.play_made(alloc, &Nodes, storage, at)
+}
+
+fn start<S: ShardStore + Drop>(
+    alloc: Global,
+    store: S,
+    fields: &mut Fields,
+) -> Result<Storage<S>, Wrong> {
     let tag = fields.tag("tag")?;
     let state = read_state(alloc, fields.take("state")?)?;
     match Storage::start(alloc, store, tag, state) {
-        Ok(mut storage) => scene.play(alloc, &Nodes, &mut storage, at),
+        Ok(storage) => Ok(storage),
         Err(StorageFault::Store(StoreFault::Memory)) => Err(Wrong::Memory),
         Err(_) => Err(Wrong::Form("no storage server starts here")),
     }
@@ -58,32 +67,32 @@ impl<S: ShardStore + Drop> Plays<Storage<S>> for Nodes {
         alloc: Global,
         storage: &mut Storage<S>,
         word: &str,
-        given: Value,
+        given: &mut Fields,
     ) -> Result<Value, Wrong> {
         match word {
-            "hear" => {
-                let answer = read_answer(alloc, given)?;
-                write_done(alloc, storage.hear(alloc, answer))
-            }
-            "follow" => {
-                let answer = read_answer(alloc, given)?;
-                write_done(alloc, storage.follow(alloc, answer))
-            }
-            "follow_all" => {
-                let answers = read_answers(alloc, given)?;
-                write_followed(alloc, storage.follow_all(alloc, answers))
-            }
-            "break_off" => break_off(alloc, storage, &mut Fields::new(given, 3)),
+            "hear" => hear(alloc, storage, given.of(2)),
+            "follow" => follow(alloc, storage, given.of(2)),
+            "follow_all" => follow_all(alloc, storage, given),
+            "break_off" => break_off(alloc, storage, given.of(3)),
             "reopen" => write_done(alloc, storage.reopen(alloc)),
             "failed" => Ok(Value::from(storage.is_failed())),
-            "next" => Ok(write_ask(alloc, &Ask::Log(storage.next_ask().1))?),
-            "generations" => Ok(write_state(alloc, storage.state())?),
+            "next" => write_next(alloc, storage),
+            "generations" => generations(alloc, storage),
             "position" => position(alloc, storage),
-            "rows" => rows_of(alloc, storage),
+            "rows" => rows_of(alloc, storage.dump(alloc)),
             _ => no_such_word(
                 "rows of a storage server: hear, follow, follow_all, break_off, reopen, failed, \
                  next, generations, position, rows",
             ),
+        }
+    }
+
+    /// A list of answers goes on behind one for which there was no memory, so that where it stands says nothing.
+    fn kept_by(&self, word: &str) -> Option<&'static str> {
+        if word == "follow_all" {
+            None
+        } else {
+            Some("position")
         }
     }
 
@@ -100,14 +109,41 @@ impl<S: ShardStore + Drop> Plays<Storage<S>> for Nodes {
     }
 }
 
-/// What a log of an epoch tells a storage server.
-fn read_answer(alloc: Global, given: Value) -> Result<Answer, Wrong> {
-    read_answer_in(alloc, &mut Fields::new(given, 2))
+fn hear<S: ShardStore + Drop>(
+    alloc: Global,
+    storage: &mut Storage<S>,
+    fields: &mut Fields,
+) -> Result<Value, Wrong> {
+    let answer = read_answer(alloc, fields)?;
+    write_done(alloc, storage.hear(alloc, answer))
 }
 
-fn read_answer_in(alloc: Global, fields: &mut Fields) -> Result<Answer, Wrong> {
+fn follow<S: ShardStore + Drop>(
+    alloc: Global,
+    storage: &mut Storage<S>,
+    fields: &mut Fields,
+) -> Result<Value, Wrong> {
+    let answer = read_answer(alloc, fields)?;
+    write_done(alloc, storage.follow(alloc, answer))
+}
+
+fn follow_all<S: ShardStore + Drop>(
+    alloc: Global,
+    storage: &mut Storage<S>,
+    given: &mut Fields,
+) -> Result<Value, Wrong> {
+    let answers = read_answers(alloc, given.take_all())?;
+    write_followed(alloc, storage.follow_all(alloc, answers))
+}
+
+/// What a log of an epoch tells a storage server.
+fn read_answer(alloc: Global, fields: &mut Fields) -> Result<Answer, Wrong> {
     let epoch = fields.epoch("epoch")?;
-    match read_tell(alloc, fields.take("tell")?)? {
+    answer_of(epoch, read_tell(alloc, fields.take("tell")?))
+}
+
+fn answer_of(epoch: Epoch, tell: Result<Tell, ScriptFault>) -> Result<Answer, Wrong> {
+    match tell? {
         Tell::Log(LogTell::Marked { state }) => Ok(Answer::Marked(state)),
         Tell::Log(LogTell::Peeked(peeked)) => Ok(Answer::Peeked(epoch, peeked)),
         _ => Err(NO_FORM),
@@ -117,7 +153,7 @@ fn read_answer_in(alloc: Global, fields: &mut Fields) -> Result<Answer, Wrong> {
 fn read_answers(alloc: Global, given: Value) -> Result<Vec<Answer>, Wrong> {
     let mut answers = Vec::new(alloc);
     for item in items(given)? {
-        answers.push(read_answer(alloc, item)?)?;
+        answers.push(read_answer(alloc, &mut Fields::new(item, 2))?)?;
     }
     Ok(answers)
 }
@@ -129,8 +165,12 @@ fn break_off<S: ShardStore + Drop>(
     fields: &mut Fields,
 ) -> Result<Value, Wrong> {
     let version = fields.version("version")?;
-    let answer = read_answer_in(alloc, fields)?;
-    match break_off_at(alloc, storage, &answer, version) {
+    let answer = read_answer(alloc, fields)?;
+    write_broken_off(alloc, break_off_at(alloc, storage, &answer, version))
+}
+
+fn write_broken_off(alloc: Global, is_there: Result<bool, StorageFault>) -> Result<Value, Wrong> {
+    match is_there {
         Ok(is_there) => Ok(Value::from(is_there)),
         Err(fault) => write_fault(alloc, fault),
     }
@@ -185,8 +225,17 @@ fn write_store_fault(alloc: Global, name: &str, fault: StoreFault) -> Result<Val
     if fault == StoreFault::Memory {
         return Err(Wrong::Memory);
     }
-    let fault = write_name(alloc, fault.name())?;
-    Ok(Object::new(alloc).with(name, fault)?.value())
+    let object = Object::new(alloc);
+    Ok(object.and(name, write_text(alloc, fault.name()))?.value())
+}
+
+/// What the server asks next.
+fn write_next<S: ShardStore + Drop>(alloc: Global, storage: &Storage<S>) -> Result<Value, Wrong> {
+    Ok(write_ask(alloc, &Ask::Log(storage.next_ask().1))?)
+}
+
+fn generations<S: ShardStore + Drop>(alloc: Global, storage: &Storage<S>) -> Result<Value, Wrong> {
+    Ok(write_state(alloc, storage.state())?)
 }
 
 /// Where the server stands.
@@ -207,14 +256,22 @@ fn place_of<S: ShardStore + Drop>(alloc: Global, storage: &Storage<S>) -> Result
 /// Where the copy of a server stands, with its state.
 pub(crate) fn write_standing(alloc: Global, storage: &Storage<MapStore>) -> Result<Value, Wrong> {
     let copy = storage.copy(alloc)?;
-    let state = write_state(alloc, copy.state())?;
-    Ok(place_of(alloc, &copy)?.with("state", state)?.value())
+    Ok(standing_of(alloc, &copy)?)
+}
+
+fn standing_of(alloc: Global, storage: &Storage<MapStore>) -> Result<Value, Memory> {
+    let place = place_of(alloc, storage)?;
+    Ok(
+        place
+            .and("state", write_state(alloc, storage.state()))?
+            .value(),
+    )
 }
 
 /// What the server holds.
-fn rows_of<S: ShardStore + Drop>(alloc: Global, storage: &mut Storage<S>) -> Result<Value, Wrong> {
-    match storage.dump(alloc) {
-        Ok(rows) => Ok(write_rows(alloc, &Rows::from_vec(rows))?),
+fn rows_of(alloc: Global, rows: Result<Vec<(Bytes, Bytes)>, StorageFault>) -> Result<Value, Wrong> {
+    match rows {
+        Ok(rows) => Ok(write_all(alloc, rows.as_slice())?),
         Err(fault) => write_fault(alloc, fault),
     }
 }

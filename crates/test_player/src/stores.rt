@@ -1,38 +1,36 @@
 //! Stores in memory, and stores over a device that fails once.
 use crate::storages::{write_fault, write_standing};
 use crate::subjects::Nodes;
-use fr_ask::Rows;
-use fr_base::Bytes;
+use fr_base::{Bytes, Memory};
 use fr_cli_json::tree::read_bytes;
 use fr_forms::fields::{Fields, tag_of, version_of};
+use fr_forms::lists::write_all;
 use fr_forms::object::{Object, hex_value};
-use fr_forms::{read_batch, write_rows};
+use fr_forms::read_batch;
 use fr_storage::Storage;
 use fr_undo::{MapStore, ShardStore, StoreFault};
 use serde_json::Value;
 use std::alloc::Global;
-use test_rows::{Plays, Scene, Wrong, no_such_word, write_name};
+use test_rows::{Plays, Scene, Wrong, no_such_word, of_nothing, write_name};
 use test_store_failing::FailsOnce;
 
 /// Plays rows with a store in which nothing was applied.
 pub(crate) fn play_store(alloc: Global, scene: Scene, at: &mut usize) -> Result<(), Wrong> {
-    if !scene.given(alloc)?.is_null() {
-        return Err(Wrong::Form("a store is made of nothing"));
-    }
-    let mut store = MapStore::new(alloc);
-    scene.play(alloc, &Nodes, &mut store, at)
+    let store = of_nothing(alloc, scene, MapStore::new(alloc));
+    scene.play_made(alloc, &Nodes, store, at)
 }
 
 /// The same with one that fails once.
 pub(crate) fn play_failing_store(alloc: Global, scene: Scene, at: &mut usize) -> Result<(), Wrong> {
-    let mut store = read_failing(alloc, &Fields::new(scene.given(alloc)?, 2))?;
-    scene.once().play(alloc, &Nodes, &mut store, at)
+    let store = read_failing(alloc, scene.given(alloc)?.of(2));
+    scene.once().play_made(alloc, &Nodes, store, at)
 }
 
 /// A store that fails in the call after so many others, which is done all the same, or not.
 pub(crate) fn read_failing(alloc: Global, fields: &Fields) -> Result<FailsOnce, Wrong> {
     let calls = u32::from(fields.index("calls", u8::MAX)?);
-    Ok(FailsOnce::new(alloc, calls, fields.flag("done")?))
+    let is_done = fields.flag("done")?;
+    Ok(FailsOnce::new(alloc, calls, is_done))
 }
 
 impl Plays<MapStore> for Nodes {
@@ -41,11 +39,11 @@ impl Plays<MapStore> for Nodes {
         alloc: Global,
         store: &mut MapStore,
         word: &str,
-        given: Value,
+        given: &mut Fields,
     ) -> Result<Value, Wrong> {
         match word {
-            "state" => write_place(alloc, &store.copy(alloc)?),
-            "adopt" => adopt(alloc, store, &given),
+            "state" => copied_place(alloc, store.copy(alloc)),
+            "adopt" => adopt(alloc, store, given.all()),
             _ => play_word(alloc, store, word, given),
         }
     }
@@ -57,7 +55,7 @@ impl Plays<FailsOnce> for Nodes {
         alloc: Global,
         store: &mut FailsOnce,
         word: &str,
-        given: Value,
+        given: &mut Fields,
     ) -> Result<Value, Wrong> {
         match word {
             "state" => write_place(alloc, store),
@@ -71,20 +69,17 @@ fn play_word<S: ShardStore>(
     alloc: Global,
     store: &mut S,
     word: &str,
-    given: Value,
+    given: &mut Fields,
 ) -> Result<Value, Wrong> {
     match word {
-        "apply" => apply(alloc, store, &mut Fields::new(given, 2)),
-        "undo" => write_done(alloc, store.undo_to(alloc, version_of(&given)?)),
-        "forget" => write_done(alloc, store.forget_through(alloc, version_of(&given)?)),
-        "advance" => write_done(alloc, store.advance(version_of(&given)?)),
-        "keep" => write_done(
-            alloc,
-            store.set_state(alloc, read_bytes(alloc, Some(&given))?),
-        ),
+        "apply" => apply(alloc, store, given.of(2)),
+        "undo" => undo(alloc, store, given.all()),
+        "forget" => forget(alloc, store, given.all()),
+        "advance" => advance(alloc, store, given.all()),
+        "keep" => keep(alloc, store, given.all()),
         "kept" => write_kept(alloc, store.state_bytes(alloc)),
-        "get" => write_found(alloc, store.get(alloc, &read_bytes(alloc, Some(&given))?)),
-        "rows" => write_all(alloc, store.dump(alloc)),
+        "get" => get(alloc, store, given.all()),
+        "rows" => rows_of(alloc, store.dump(alloc)),
         "failed" => Ok(Value::from(store.is_failed())),
         "reopen" => write_done(alloc, store.reopen(alloc)),
         _ => no_such_word(
@@ -100,16 +95,49 @@ fn apply<S: ShardStore>(alloc: Global, store: &mut S, fields: &mut Fields) -> Re
     write_done(alloc, store.apply(alloc, version, &batch))
 }
 
+fn undo<S: ShardStore>(alloc: Global, store: &mut S, given: &Value) -> Result<Value, Wrong> {
+    let version = version_of(given)?;
+    write_done(alloc, store.undo_to(alloc, version))
+}
+
+fn forget<S: ShardStore>(alloc: Global, store: &mut S, given: &Value) -> Result<Value, Wrong> {
+    let version = version_of(given)?;
+    write_done(alloc, store.forget_through(alloc, version))
+}
+
+fn advance<S: ShardStore>(alloc: Global, store: &mut S, given: &Value) -> Result<Value, Wrong> {
+    let version = version_of(given)?;
+    write_done(alloc, store.advance(version))
+}
+
+fn keep<S: ShardStore>(alloc: Global, store: &mut S, given: &Value) -> Result<Value, Wrong> {
+    let bytes = read_bytes(alloc, Some(given))?;
+    write_done(alloc, store.set_state(alloc, bytes))
+}
+
+fn get<S: ShardStore>(alloc: Global, store: &mut S, given: &Value) -> Result<Value, Wrong> {
+    let key = read_bytes(alloc, Some(given))?;
+    write_found(alloc, store.get(alloc, &key))
+}
+
 /// Where a storage server stands that takes the store over, or why it does not. The store is then given back.
 fn adopt(alloc: Global, store: &mut MapStore, given: &Value) -> Result<Value, Wrong> {
-    match Storage::adopt(alloc, store.copy(alloc)?, tag_of(given)?) {
-        Ok(storage) => {
-            let standing = write_standing(alloc, &storage)?;
-            *store = storage.into_store();
-            Ok(standing)
-        }
+    let tag = tag_of(given)?;
+    let copy = store.copy(alloc)?;
+    match Storage::adopt(alloc, copy, tag) {
+        Ok(storage) => give_back(alloc, store, storage),
         Err(fault) => write_fault(alloc, fault),
     }
+}
+
+fn give_back(
+    alloc: Global,
+    store: &mut MapStore,
+    storage: Storage<MapStore>,
+) -> Result<Value, Wrong> {
+    let standing = write_standing(alloc, &storage)?;
+    *store = storage.into_store();
+    Ok(standing)
 }
 
 /// Null where the call was made, and why not where it was not.
@@ -143,11 +171,16 @@ fn write_found(alloc: Global, found: Result<Option<Bytes>, StoreFault>) -> Resul
     }
 }
 
-fn write_all(alloc: Global, rows: Result<Vec<(Bytes, Bytes)>, StoreFault>) -> Result<Value, Wrong> {
+fn rows_of(alloc: Global, rows: Result<Vec<(Bytes, Bytes)>, StoreFault>) -> Result<Value, Wrong> {
     match rows {
-        Ok(rows) => Ok(write_rows(alloc, &Rows::from_vec(rows))?),
+        Ok(rows) => Ok(write_all(alloc, rows.as_slice())?),
         Err(fault) => write_refusal(alloc, fault),
     }
+}
+
+/// The same as `write_place`, of a copy.
+fn copied_place(alloc: Global, store: Result<MapStore, Memory>) -> Result<Value, Wrong> {
+    write_place(alloc, &store?)
 }
 
 /// The version applied last, the floor, and how many undo rows there are.
@@ -157,9 +190,6 @@ fn write_place<S: ShardStore>(alloc: Global, store: &S) -> Result<Value, Wrong> 
         ("floor", store.floor().get()),
     ];
     let undo_rows = Value::from(store.undo_rows());
-    Ok(
-        Object::of(alloc, &place)?
-            .with("undo_rows", undo_rows)?
-            .value(),
-    )
+    let object = Object::of(alloc, &place)?;
+    Ok(object.with("undo_rows", undo_rows)?.value())
 }

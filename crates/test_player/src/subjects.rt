@@ -8,7 +8,7 @@ use crate::stores::{play_failing_store, play_store};
 use crate::tails::play_tail;
 use crate::tallies::play_tally;
 use std::alloc::Global;
-use test_rows::{Scene, Wrong};
+use test_rows::{Scene, Wrong, played};
 
 /// The player of nodes, and of what they are made of.
 pub(crate) struct Nodes;
@@ -16,19 +16,18 @@ pub(crate) struct Nodes;
 /// Plays a scenario of a node, or of what nodes are made of; false where it is about something else.
 pub fn play(alloc: Global, scene: Scene, at: &mut usize) -> Result<bool, Wrong> {
     match scene.word() {
-        "cell" => play_cell(alloc, scene, at)?,
-        "end_tally" => play_tally(alloc, scene, at)?,
-        "log" => play_log(alloc, scene, at)?,
-        "proxy" => play_proxy(alloc, scene, at)?,
-        "recoverer" => play_recoverer(alloc, scene, at)?,
-        "sequencer" => play_sequencer(alloc, scene, at)?,
-        "shards" => play_shards(alloc, scene, at)?,
-        "storage" => play_storage(alloc, scene, at)?,
-        "failing_storage" => play_failing_storage(alloc, scene, at)?,
-        "store" => play_store(alloc, scene, at)?,
-        "failing_store" => play_failing_store(alloc, scene, at)?,
-        "tail" => play_tail(alloc, scene, at)?,
-        _ => return Ok(false),
+        "cell" => played(play_cell(alloc, scene, at)),
+        "end_tally" => played(play_tally(alloc, scene, at)),
+        "log" => played(play_log(alloc, scene, at)),
+        "proxy" => played(play_proxy(alloc, scene, at)),
+        "recoverer" => played(play_recoverer(alloc, scene, at)),
+        "sequencer" => played(play_sequencer(alloc, scene, at)),
+        "shards" => played(play_shards(alloc, scene, at)),
+        "storage" => played(play_storage(alloc, scene, at)),
+        "failing_storage" => played(play_failing_storage(alloc, scene, at)),
+        "store" => played(play_store(alloc, scene, at)),
+        "failing_store" => played(play_failing_store(alloc, scene, at)),
+        "tail" => played(play_tail(alloc, scene, at)),
+        _ => Ok(false),
     }
-    Ok(true)
 }

@@ -4,11 +4,11 @@ ghost use Rattle.std.specs.Prelude.{◌+◌, ◌<◌, ◌≤◌, ◌^◌, IfOk};
 use crate::nodes::read_logs;
 use crate::subjects::Nodes;
 use fr_ask::{Ask, Tell};
-use fr_base::{LogId, Version};
+use fr_base::{LogId, Memory, Version};
 use fr_forms::fields::{Fields, tag_of};
 use fr_forms::object::Object;
-use fr_forms::{read_tell, write_ask};
-use fr_log::{LogAsk, LogTell};
+use fr_forms::{ScriptFault, read_tell, write_ask};
+use fr_log::{LogAsk, LogTell, Peeked, Seed};
 use fr_tags::MAX_SHARDS;
 use fr_tail::{Tail, TailFault};
 use serde_json::Value;
@@ -17,8 +17,8 @@ use test_rows::{NO_FORM, Plays, Scene, Wrong, no_such_word, read_sizes, write_na
 
 /// Plays rows with a copy that heard nothing.
 pub(crate) fn play_tail(alloc: Global, scene: Scene, at: &mut usize) -> Result<(), Wrong> {
-    let mut tail = read_tail(alloc, &mut Fields::new(scene.given(alloc)?, 6))?;
-    scene.play(alloc, &Nodes, &mut tail, at)
+    let tail = read_tail(alloc, scene.given(alloc)?.of(6));
+    scene.play_made(alloc, &Nodes, tail, at)
 }
 
 fn read_tail(alloc: Global, fields: &mut Fields) -> Result<Tail, Wrong> {
@@ -61,13 +61,13 @@ impl Plays<Tail> for Nodes {
         alloc: Global,
         tail: &mut Tail,
         word: &str,
-        given: Value,
+        given: &mut Fields,
     ) -> Result<Value, Wrong> {
         match word {
-            "hear" => hear(alloc, tail, &mut Fields::new(given, 2)),
-            "seed" => seed(alloc, tail, &Fields::new(given, 4)),
-            "reached" => Ok(Value::from(tail.reached(tag_of(&given)?).get())),
-            "state" => write_complete(alloc, &tail.copy(alloc)?),
+            "hear" => hear(alloc, tail, given.of(2)),
+            "seed" => seed(alloc, tail, given.of(4)),
+            "reached" => reached(tail, given),
+            "state" => write_complete(alloc, tail.copy(alloc)),
             _ => no_such_word("rows of a tail: hear, seed, reached, state"),
         }
     }
@@ -76,9 +76,7 @@ impl Plays<Tail> for Nodes {
 /// Null where what a log told is taken or changes nothing, and why not where it is refused.
 fn hear(alloc: Global, tail: &mut Tail, fields: &mut Fields) -> Result<Value, Wrong> {
     let log = fields.index("log", u8::MAX)?;
-    let Tell::Log(LogTell::Peeked(peeked)) = read_tell(alloc, fields.take("tell")?)? else {
-        return Err(NO_FORM);
-    };
+    let peeked = read_peeked(read_tell(alloc, fields.take("tell")?))?;
     match tail.hear(log, peeked.tag(), peeked) {
         Ok(()) => Ok(Value::Null),
         Err(TailFault::NotResponder) => write_name(alloc, "NotResponder"),
@@ -86,6 +84,19 @@ fn hear(alloc: Global, tail: &mut Tail, fields: &mut Fields) -> Result<Value, Wr
         Err(TailFault::ShortOfEnd) => write_name(alloc, "ShortOfEnd"),
         Err(TailFault::Memory) => Err(Wrong::Memory),
     }
+}
+
+/// What was peeked, where that was told.
+fn read_peeked(tell: Result<Tell, ScriptFault>) -> Result<Peeked, Wrong> {
+    match tell? {
+        Tell::Log(LogTell::Peeked(peeked)) => Ok(peeked),
+        _ => Err(NO_FORM),
+    }
+}
+
+/// The version through which a tag is copied.
+fn reached(tail: &Tail, given: &Fields) -> Result<Value, Wrong> {
+    Ok(Value::from(tail.reached(tag_of(given.all())?).get()))
 }
 
 /// What a new log is seeded with; null where the copy is not complete.
@@ -96,11 +107,14 @@ fn seed(alloc: Global, tail: &Tail, fields: &Fields) -> Result<Value, Wrong> {
     if !tail.complete() {
         return Ok(Value::Null);
     }
-    let seed = tail.seeds_for(alloc, LogId { epoch, index }, m, k)?;
-    Ok(write_ask(alloc, &Ask::Log(LogAsk::Seed(seed)))?)
+    write_seed(alloc, tail.seeds_for(alloc, LogId { epoch, index }, m, k))
 }
 
-fn write_complete(alloc: Global, tail: &Tail) -> Result<Value, Wrong> {
-    let complete = Value::from(tail.complete());
+fn write_seed(alloc: Global, seed: Result<Seed, Memory>) -> Result<Value, Wrong> {
+    Ok(write_ask(alloc, &Ask::Log(LogAsk::Seed(seed?)))?)
+}
+
+fn write_complete(alloc: Global, tail: Result<Tail, Memory>) -> Result<Value, Wrong> {
+    let complete = Value::from(tail?.complete());
     Ok(Object::new(alloc).with("complete", complete)?.value())
 }

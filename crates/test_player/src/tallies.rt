@@ -9,9 +9,13 @@ use test_rows::{Plays, Scene, Wrong, no_such_word, read_sizes, write_name};
 
 /// Plays rows with a tally that no log replied to.
 pub(crate) fn play_tally(alloc: Global, scene: Scene, at: &mut usize) -> Result<(), Wrong> {
-    let (m, k) = read_sizes(&Fields::new(scene.given(alloc)?, 2))?;
-    let mut tally = EndTally::new(m, k);
-    scene.play(alloc, &Nodes, &mut tally, at)
+    let tally = read_tally(scene.given(alloc)?.of(2));
+    scene.play_made(alloc, &Nodes, tally, at)
+}
+
+fn read_tally(fields: &Fields) -> Result<EndTally, Wrong> {
+    let (m, k) = read_sizes(fields)?;
+    Ok(EndTally::new(m, k))
 }
 
 impl Plays<EndTally> for Nodes {
@@ -20,10 +24,10 @@ impl Plays<EndTally> for Nodes {
         alloc: Global,
         tally: &mut EndTally,
         word: &str,
-        given: Value,
+        given: &mut Fields,
     ) -> Result<Value, Wrong> {
         match word {
-            "reply" => reply(alloc, tally, &Fields::new(given, 3)),
+            "reply" => reply(alloc, tally, given.of(3)),
             "state" => write_end(alloc, tally.copy().end()),
             _ => no_such_word("rows of an end_tally: reply, state"),
         }
@@ -33,7 +37,9 @@ impl Plays<EndTally> for Nodes {
 /// The end after a reply, or why the reply does not count.
 fn reply(alloc: Global, tally: &mut EndTally, fields: &Fields) -> Result<Value, Wrong> {
     let log = fields.index("log", u8::MAX)?;
-    match tally.hear(log, fields.version("durable")?, fields.version("known")?) {
+    let durable = fields.version("durable")?;
+    let known = fields.version("known")?;
+    match tally.hear(log, durable, known) {
         Ok(()) => write_end(alloc, tally.end()),
         Err(ReplyFault::Stranger) => write_name(alloc, "Stranger"),
         Err(ReplyFault::Differs) => write_name(alloc, "Differs"),

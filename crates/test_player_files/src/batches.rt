@@ -1,7 +1,10 @@
 //! Batches, and their bytes.
+use crate::states::write_bytes;
 use crate::subjects::Files;
+use fr_base::Memory;
 use fr_cli_json::tree::read_bytes;
-use fr_forms::object::{Object, hex_value};
+use fr_forms::fields::Fields;
+use fr_forms::object::Object;
 use fr_forms::{read_batch, write_batch};
 use fr_mutation::{Batch, DecodeFault, decode, encode};
 use serde_json::Value;
@@ -10,8 +13,8 @@ use test_rows::{Plays, Scene, Wrong, no_such_word, write_name};
 
 /// Plays rows with a batch.
 pub(crate) fn play_batch(alloc: Global, scene: Scene, at: &mut usize) -> Result<(), Wrong> {
-    let mut batch = read_batch(alloc, scene.given(alloc)?)?;
-    scene.play(alloc, &Files, &mut batch, at)
+    let batch = read_batch(alloc, scene.given(alloc)?.take_all())?;
+    scene.play_made(alloc, &Files, Ok(batch), at)
 }
 
 impl Plays<Batch> for Files {
@@ -20,32 +23,34 @@ impl Plays<Batch> for Files {
         alloc: Global,
         batch: &mut Batch,
         word: &str,
-        given: Value,
+        given: &mut Fields,
     ) -> Result<Value, Wrong> {
         match word {
-            "bytes" => Ok(hex_value(alloc, encode(alloc, batch)?.as_slice())?),
-            "read" => read(alloc, &given),
-            "state" => Ok(write_batch(alloc, &batch.copy()?)?),
+            "bytes" => write_bytes(alloc, encode(alloc, batch)),
+            "read" => read(alloc, given.all()),
+            "state" => write_copy(alloc, batch.copy()),
             _ => no_such_word("rows of a batch: bytes, read, state"),
         }
     }
 }
 
+fn write_copy(alloc: Global, batch: Result<Batch, Memory>) -> Result<Value, Wrong> {
+    Ok(write_batch(alloc, &batch?)?)
+}
+
 /// The batch with which bytes begin, and how many it takes; or why there is none.
 fn read(alloc: Global, given: &Value) -> Result<Value, Wrong> {
-    match decode(alloc, read_bytes(alloc, Some(given))?.as_slice()) {
-        Ok((batch, used)) => write_read(alloc, &batch, used),
+    let bytes = read_bytes(alloc, Some(given))?;
+    match decode(alloc, bytes.as_slice()) {
+        Ok((batch, used)) => Ok(write_read(alloc, &batch, used)?),
         Err(DecodeFault::Memory) => Err(Wrong::Memory),
         Err(fault) => write_name(alloc, fault.name()),
     }
 }
 
-fn write_read(alloc: Global, batch: &Batch, used: usize) -> Result<Value, Wrong> {
-    let batch = write_batch(alloc, batch)?;
-    Ok(
-        Object::new(alloc)
-            .with("batch", batch)?
-            .with("used", Value::from(used))?
-            .value(),
-    )
+fn write_read(alloc: Global, batch: &Batch, used: usize) -> Result<Value, Memory> {
+    let read = Object::new(alloc)
+        .with("used", Value::from(used))?
+        .and("batch", write_batch(alloc, batch))?;
+    Ok(read.value())
 }

@@ -4,17 +4,18 @@ use crate::subjects::Files;
 use fr_ask::Named;
 use fr_base::{Node, NodeFault, Reopened};
 use fr_forms::fields::{Fields, items};
-use fr_forms::{read_cell_ask, write_cell_tell};
+use fr_forms::read_cell_ask;
 use fr_record_node::FileNode;
-use fr_register::{Cell, CellTell};
+use fr_register::{Cell, CellAsk};
 use serde_json::Value;
 use std::alloc::Global;
-use test_rows::{Scene, Wrong, no_such_word, said, write_name, write_state_of};
+use test_rows::{Scene, Wrong, no_such_word, said, told, told_all, write_last_state, write_name};
 
 /// Plays rows with a cell over a file that is not there yet.
 pub(crate) fn play_cell(alloc: Global, scene: Scene, at: &mut usize) -> Result<(), Wrong> {
-    let room = read_room(&Fields::new(scene.given(alloc)?, 1))?;
-    scene.play(alloc, &Files, &mut Place::new(alloc, room, CellFile)?, at)
+    let room = read_room(scene.given(alloc)?.of(1))?;
+    let place = Place::new(alloc, room, CellFile);
+    scene.play_made(alloc, &Files, place, at)
 }
 
 /// A cell over a file.
@@ -43,16 +44,13 @@ impl Kept for CellFile {
         alloc: Global,
         file: &mut CellNode,
         word: &str,
-        given: Value,
+        given: &mut Fields,
     ) -> Result<Value, Wrong> {
         match word {
-            "ask" => {
-                let ask = read_cell_ask(alloc, given)?;
-                write_told(alloc, file.serve(alloc, ask))
-            }
+            "ask" => ask(alloc, file, given),
             "ask_all" => ask_all(alloc, file, given),
             "reopen" => write_reopened(alloc, file.reopen(alloc)),
-            "state" => write_state_of(alloc, &file.plain().last(alloc)?),
+            "state" => write_last_state(alloc, file.plain().last(alloc)),
             _ => no_such_word(
                 "rows of a cell over a file: ask, ask_all, reopen, state, close, read, calls, syncs",
             ),
@@ -60,30 +58,28 @@ impl Kept for CellFile {
     }
 }
 
-fn ask_all(alloc: Global, file: &mut CellNode, given: Value) -> Result<Value, Wrong> {
+fn ask(alloc: Global, file: &mut CellNode, given: &mut Fields) -> Result<Value, Wrong> {
+    let ask = read_cell_ask(alloc, given.take_all())?;
+    match file.serve(alloc, ask) {
+        Ok(tell) => told(alloc, &tell),
+        Err(fault) => write_node_fault(alloc, fault),
+    }
+}
+
+fn ask_all(alloc: Global, file: &mut CellNode, given: &mut Fields) -> Result<Value, Wrong> {
+    let asks = read_asks(alloc, given.take_all())?;
+    match file.serve_all(alloc, asks) {
+        Ok(tells) => told_all(alloc, tells.as_slice()),
+        Err(fault) => write_node_fault(alloc, fault),
+    }
+}
+
+fn read_asks(alloc: Global, given: Value) -> Result<Vec<CellAsk>, Wrong> {
     let mut asks = Vec::new(alloc);
     for item in items(given)? {
         asks.push(read_cell_ask(alloc, item)?)?;
     }
-    match file.serve_all(alloc, asks) {
-        Ok(tells) => said(write_all(alloc, tells.as_slice())),
-        Err(fault) => write_node_fault(alloc, fault),
-    }
-}
-
-fn write_all(alloc: Global, tells: &[CellTell]) -> Result<Value, Wrong> {
-    let mut items = Vec::new(alloc);
-    for tell in tells {
-        items.push(write_cell_tell(alloc, tell)?)?;
-    }
-    Ok(Value::Array(items))
-}
-
-fn write_told(alloc: Global, told: Result<CellTell, NodeFault>) -> Result<Value, Wrong> {
-    match told {
-        Ok(tell) => Ok(write_cell_tell(alloc, &tell)?),
-        Err(fault) => write_node_fault(alloc, fault),
-    }
+    Ok(asks)
 }
 
 /// Where a node stands that was opened again, or why it was not.

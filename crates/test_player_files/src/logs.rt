@@ -5,24 +5,25 @@ use crate::subjects::Files;
 use fr_ask::Named;
 use fr_base::{LogId, Node, NodeFault};
 use fr_forms::fields::{Fields, items};
-use fr_forms::{read_log_ask, write_log_tell};
-use fr_log::{Log, LogTell};
+use fr_forms::read_log_ask;
+use fr_log::{Log, LogAsk};
 use fr_record_log::LogNode;
 use serde_json::Value;
 use std::alloc::Global;
-use test_rows::{NO_FORM, Scene, Wrong, no_such_word, read_sizes, said, write_state_of};
+use test_rows::{
+    NO_FORM, Scene, Wrong, no_such_word, read_sizes, told, told_all, write_last_state,
+};
 
 /// Plays rows with a log over a file that is not there yet.
 pub(crate) fn play_log(alloc: Global, scene: Scene, at: &mut usize) -> Result<(), Wrong> {
-    let fields = Fields::new(scene.given(alloc)?, 5);
-    let room = read_room(&fields)?;
-    let fresh = read_fresh(alloc, &fields)?;
-    scene.play(
-        alloc,
-        &Files,
-        &mut Place::new(alloc, room, LogFile { fresh })?,
-        at,
-    )
+    let place = read_place(alloc, scene.given(alloc)?.of(5));
+    scene.play_made(alloc, &Files, place, at)
+}
+
+fn read_place(alloc: Global, fields: &Fields) -> Result<Place<LogFile>, Wrong> {
+    let room = read_room(fields)?;
+    let fresh = read_fresh(alloc, fields)?;
+    Place::new(alloc, room, LogFile { fresh })
 }
 
 /// The log that was never asked.
@@ -63,16 +64,13 @@ impl Kept for LogFile {
         alloc: Global,
         file: &mut LogNode<Disk>,
         word: &str,
-        given: Value,
+        given: &mut Fields,
     ) -> Result<Value, Wrong> {
         match word {
-            "ask" => {
-                let ask = read_log_ask(alloc, given)?;
-                write_told(alloc, file.serve(alloc, ask))
-            }
+            "ask" => ask(alloc, file, given),
             "ask_all" => ask_all(alloc, file, given),
             "reopen" => write_reopened(alloc, file.reopen(alloc)),
-            "state" => write_state_of(alloc, &file.plain().last(alloc)?),
+            "state" => write_last_state(alloc, file.plain().last(alloc)),
             _ => no_such_word(
                 "rows of a log over a file: ask, ask_all, reopen, state, close, read, calls, syncs",
             ),
@@ -80,28 +78,26 @@ impl Kept for LogFile {
     }
 }
 
-fn ask_all(alloc: Global, file: &mut LogNode<Disk>, given: Value) -> Result<Value, Wrong> {
+fn ask(alloc: Global, file: &mut LogNode<Disk>, given: &mut Fields) -> Result<Value, Wrong> {
+    let ask = read_log_ask(alloc, given.take_all())?;
+    match file.serve(alloc, ask) {
+        Ok(tell) => told(alloc, &tell),
+        Err(fault) => write_node_fault(alloc, fault),
+    }
+}
+
+fn ask_all(alloc: Global, file: &mut LogNode<Disk>, given: &mut Fields) -> Result<Value, Wrong> {
+    let asks = read_asks(alloc, given.take_all())?;
+    match file.serve_all(alloc, asks) {
+        Ok(tells) => told_all(alloc, tells.as_slice()),
+        Err(fault) => write_node_fault(alloc, fault),
+    }
+}
+
+fn read_asks(alloc: Global, given: Value) -> Result<Vec<LogAsk>, Wrong> {
     let mut asks = Vec::new(alloc);
     for item in items(given)? {
         asks.push(read_log_ask(alloc, item)?)?;
     }
-    match file.serve_all(alloc, asks) {
-        Ok(tells) => said(write_all(alloc, tells.as_slice())),
-        Err(fault) => write_node_fault(alloc, fault),
-    }
-}
-
-fn write_all(alloc: Global, tells: &[LogTell]) -> Result<Value, Wrong> {
-    let mut items = Vec::new(alloc);
-    for tell in tells {
-        items.push(write_log_tell(alloc, tell)?)?;
-    }
-    Ok(Value::Array(items))
-}
-
-fn write_told(alloc: Global, told: Result<LogTell, NodeFault>) -> Result<Value, Wrong> {
-    match told {
-        Ok(tell) => Ok(write_log_tell(alloc, &tell)?),
-        Err(fault) => write_node_fault(alloc, fault),
-    }
+    Ok(asks)
 }

@@ -2,9 +2,9 @@
 use crate::counting::Counting;
 use crate::subjects::Files;
 use fr_base::NodeFault;
-use fr_cli_json::tree::{into_one_member, read_bytes};
+use fr_cli_json::tree::read_bytes;
 use fr_device::{Device, DeviceFault, FaultyDevice, MemoryDevice};
-use fr_forms::fields::{Fields, index_of};
+use fr_forms::fields::{Fields, index_of, variant};
 use fr_forms::object::hex_value;
 use serde_json::Value;
 use std::alloc::Global;
@@ -33,7 +33,7 @@ pub(crate) trait Kept: Drop {
         alloc: Global,
         file: &mut Self::File,
         word: &str,
-        given: Value,
+        given: &mut Fields,
     ) -> Result<Value, Wrong>;
 }
 
@@ -70,7 +70,7 @@ impl<K: Kept> Place<K> {
     }
 
     /// The device under a plan of failures, for a file.
-    fn take_disk(&mut self, given: Value) -> Result<Disk, Wrong> {
+    fn take_disk(&mut self, given: &mut Fields) -> Result<Disk, Wrong> {
         let plan = read_plan(given)?;
         match self.device.take() {
             Some(device) => Ok(Counting::new(plan.over(device))),
@@ -106,25 +106,40 @@ impl<K: Kept> Place<K> {
         Ok(Value::Null)
     }
 
+    /// Null where a file stands on the device now that is made there, and why not where it does not.
+    fn format(&mut self, alloc: Global, given: &mut Fields) -> Result<Value, Wrong> {
+        let disk = self.take_disk(given)?;
+        let made = self.kept.format(alloc, disk);
+        said(self.opened(alloc, made))
+    }
+
+    /// The same of one that the device holds.
+    fn open(&mut self, alloc: Global, given: &mut Fields) -> Result<Value, Wrong> {
+        let disk = self.take_disk(given)?;
+        let found = self.kept.open(alloc, disk);
+        said(self.opened(alloc, found))
+    }
+
+    /// A byte stands now wherever something was written and not synced.
+    fn crash(&mut self, given: &Value) -> Result<Value, Wrong> {
+        let byte = index_of(given, u8::MAX)?;
+        self.device()?.crash(byte);
+        Ok(Value::Null)
+    }
+
     /// What comes of a row while no file is open.
-    fn play_closed(&mut self, alloc: Global, word: &str, given: Value) -> Result<Value, Wrong> {
+    fn play_closed(
+        &mut self,
+        alloc: Global,
+        word: &str,
+        given: &mut Fields,
+    ) -> Result<Value, Wrong> {
         match word {
-            "format" => {
-                let disk = self.take_disk(given)?;
-                let made = self.kept.format(alloc, disk);
-                said(self.opened(alloc, made))
-            }
-            "open" => {
-                let disk = self.take_disk(given)?;
-                let found = self.kept.open(alloc, disk);
-                said(self.opened(alloc, found))
-            }
-            "crash" => {
-                self.device()?.crash(index_of(&given, u8::MAX)?);
-                Ok(Value::Null)
-            }
+            "format" => self.format(alloc, given),
+            "open" => self.open(alloc, given),
+            "crash" => self.crash(given.all()),
             "sync" => write_done(alloc, self.device()?.sync()),
-            "write" => write_at(alloc, self.device()?, &Fields::new(given, 2)),
+            "write" => write_at(alloc, self.device()?, given.of(2)),
             "bytes" => Ok(hex_value(alloc, self.device()?.bytes())?),
             _ => no_such_word(
                 "rows of any file: read, calls, syncs; of one that is not open: format, open, crash, \
@@ -135,18 +150,23 @@ impl<K: Kept> Place<K> {
 
     /// Null where bytes are such a file, and why not where they are none.
     fn read(&self, alloc: Global, given: &Value) -> Result<Value, Wrong> {
-        let bytes = read_bytes(alloc, Some(given))?;
-        let mut device = MemoryDevice::new(alloc, self.room)?;
-        if device.write_at(0, bytes.as_slice()).is_err() || device.sync().is_err() {
-            return Err(Wrong::Form("the device has no room for these bytes"));
-        }
-        match self
-            .kept
-            .open(alloc, Counting::new(FaultyDevice::once(device, 0)))
-        {
+        let device = device_of(alloc, self.room, given)?;
+        let disk = Counting::new(FaultyDevice::once(device, 0));
+        match self.kept.open(alloc, disk) {
             Ok(_) => Ok(Value::Null),
             Err(fault) => write_node_fault(alloc, fault),
         }
+    }
+}
+
+/// A device with this room that holds bytes.
+fn device_of(alloc: Global, room: usize, given: &Value) -> Result<MemoryDevice, Wrong> {
+    let bytes = read_bytes(alloc, Some(given))?;
+    let mut device = MemoryDevice::new(alloc, room)?;
+    if device.write_at(0, bytes.as_slice()).is_ok() && device.sync().is_ok() {
+        Ok(device)
+    } else {
+        Err(Wrong::Form("the device has no room for these bytes"))
     }
 }
 
@@ -156,10 +176,10 @@ impl<K: Kept> Plays<Place<K>> for Files {
         alloc: Global,
         place: &mut Place<K>,
         word: &str,
-        given: Value,
+        given: &mut Fields,
     ) -> Result<Value, Wrong> {
         match word {
-            "read" => place.read(alloc, &given),
+            "read" => place.read(alloc, given.all()),
             "calls" => Ok(Value::from(place.calls)),
             "syncs" => Ok(Value::from(place.syncs)),
             "close" => place.close(),
@@ -190,15 +210,17 @@ impl Plan {
 }
 
 /// Of null the plan that no call fails.
-fn read_plan(given: Value) -> Result<Plan, Wrong> {
-    if given.is_null() {
+fn read_plan(given: &mut Fields) -> Result<Plan, Wrong> {
+    if given.all().is_null() {
         return Ok(Plan::Once(0));
     }
-    let Some((name, call)) = into_one_member(given) else {
-        return Err(NO_FORM);
-    };
-    let call = u64::from(index_of(&call, u8::MAX)?);
-    match name.as_str() {
+    let (name, call) = variant(given.take_all())?;
+    plan_of(name.as_str(), call.all())
+}
+
+fn plan_of(name: &str, call: &Value) -> Result<Plan, Wrong> {
+    let call = u64::from(index_of(call, u8::MAX)?);
+    match name {
         "once" => Ok(Plan::Once(call)),
         "from" => Ok(Plan::From(call)),
         _ => Err(NO_FORM),

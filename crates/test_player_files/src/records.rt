@@ -14,8 +14,9 @@ use test_rows::{NO_FORM, Scene, Wrong, no_such_word};
 
 /// Plays rows with a record file that is not there yet.
 pub(crate) fn play_records(alloc: Global, scene: Scene, at: &mut usize) -> Result<(), Wrong> {
-    let room = read_room(&Fields::new(scene.given(alloc)?, 1))?;
-    scene.play(alloc, &Files, &mut Place::new(alloc, room, RecordFile)?, at)
+    let room = read_room(scene.given(alloc)?.of(1))?;
+    let place = Place::new(alloc, room, RecordFile);
+    scene.play_made(alloc, &Files, place, at)
 }
 
 /// A record file.
@@ -42,15 +43,12 @@ impl Kept for RecordFile {
         alloc: Global,
         file: &mut Records<Disk>,
         word: &str,
-        given: Value,
+        given: &mut Fields,
     ) -> Result<Value, Wrong> {
         match word {
-            "append" => append(alloc, file, &read_bytes(alloc, Some(&given))?),
-            "group" => append_group(alloc, file, given),
-            "get" => {
-                let number = usize::from(index_of(&given, u8::MAX)?);
-                write_found(alloc, file.get(alloc, number))
-            }
+            "append" => append(alloc, file, given.all()),
+            "group" => append_group(alloc, file, given.take_all()),
+            "get" => get(alloc, file, given.all()),
             "count" => Ok(Value::from(file.len())),
             "failed" => Ok(Value::from(file.is_failed())),
             "reopen" => write_done(alloc, file.reopen(alloc)),
@@ -65,13 +63,22 @@ impl Kept for RecordFile {
 /// The longest record of a scenario.
 const LONGEST: usize = 65_535;
 
-fn append(alloc: Global, file: &mut Records<Disk>, record: &Bytes) -> Result<Value, Wrong> {
-    let record = record.as_slice();
+fn append(alloc: Global, file: &mut Records<Disk>, given: &Value) -> Result<Value, Wrong> {
+    let record = read_bytes(alloc, Some(given))?;
+    append_short(alloc, file, record.as_slice())
+}
+
+fn append_short(alloc: Global, file: &mut Records<Disk>, record: &[u8]) -> Result<Value, Wrong> {
     if record.len() <= LONGEST {
         write_done(alloc, file.append(alloc, record))
     } else {
         Err(NO_FORM)
     }
+}
+
+fn get(alloc: Global, file: &mut Records<Disk>, given: &Value) -> Result<Value, Wrong> {
+    let number = usize::from(index_of(given, u8::MAX)?);
+    write_found(alloc, file.get(alloc, number))
 }
 
 fn append_group(alloc: Global, file: &mut Records<Disk>, given: Value) -> Result<Value, Wrong> {

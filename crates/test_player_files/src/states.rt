@@ -1,8 +1,8 @@
 //! Coordinated states, and their bytes.
 use crate::subjects::Files;
-use fr_base::Version;
+use fr_base::{Memory, Version};
 use fr_cli_json::tree::read_bytes;
-use fr_forms::fields::{epoch_of, version_of};
+use fr_forms::fields::{Fields, epoch_of, version_of};
 use fr_forms::object::hex_value;
 use fr_forms::{read_state, write_state};
 use fr_state::{CoordState, DecodeFault, Generation, StateFault, decode, encode};
@@ -12,8 +12,8 @@ use test_rows::{Plays, Scene, Wrong, no_such_word, write_name};
 
 /// Plays rows with a coordinated state.
 pub(crate) fn play_state(alloc: Global, scene: Scene, at: &mut usize) -> Result<(), Wrong> {
-    let mut state = read_state(alloc, scene.given(alloc)?)?;
-    scene.play(alloc, &Files, &mut state, at)
+    let state = read_state(alloc, scene.given(alloc)?.take_all())?;
+    scene.play_made(alloc, &Files, Ok(state), at)
 }
 
 impl Plays<CoordState> for Files {
@@ -22,20 +22,21 @@ impl Plays<CoordState> for Files {
         alloc: Global,
         state: &mut CoordState,
         word: &str,
-        given: Value,
+        given: &mut Fields,
     ) -> Result<Value, Wrong> {
         match word {
-            "extend" => extend(alloc, state, given),
-            "bytes" => Ok(hex_value(alloc, encode(alloc, state)?.as_slice())?),
-            "read" => read(alloc, &given),
-            "end_of" => Ok(version_or_null(state.end_of(epoch_of(&given)?))),
-            "cut_of" => Ok(version_or_null(state.cut_of(epoch_of(&given)?))),
-            "source_for" => { write_one(alloc, state.source_for(version_of(&given)?.get())) }
-            "begins_with" => Ok(Value::from(state.begins_with(&read_state(alloc, given)?))),
-            "state" => Ok(write_state(alloc, &state.copy()?)?),
+            "extend" => extend(alloc, state, given.take_all()),
+            "bytes" => write_bytes(alloc, encode(alloc, state)),
+            "read" => read(alloc, given.all()),
+            "end_of" => Ok(version_or_null(state.end_of(epoch_of(given.all())?))),
+            "cut_of" => Ok(version_or_null(state.cut_of(epoch_of(given.all())?))),
+            "source_for" => { write_one(alloc, state.source_for(version_of(given.all())?.get())) }
+            "begins_with" => begins_with(alloc, state, given.take_all()),
+            "drop_before" => Ok(Value::from(state.drop_before(epoch_of(given.all())?))),
+            "state" => write_copy(alloc, state.copy()),
             _ => no_such_word(
                 "rows of a coordinated_state: extend, bytes, read, end_of, cut_of, source_for, \
-                 begins_with, state",
+                 begins_with, drop_before, state",
             ),
         }
     }
@@ -43,7 +44,8 @@ impl Plays<CoordState> for Files {
 
 /// Null where the state is extended by the one generation that is given, and why not where it is not.
 fn extend(alloc: Global, state: &mut CoordState, given: Value) -> Result<Value, Wrong> {
-    match state.extend(read_state(alloc, given)?.last()) {
+    let generation = read_state(alloc, given)?.last();
+    match state.extend(generation) {
         Ok(()) => Ok(Value::Null),
         Err(StateFault::NotLater) => write_name(alloc, "NotLater"),
         Err(StateFault::TooMany) => write_name(alloc, "TooMany"),
@@ -51,9 +53,29 @@ fn extend(alloc: Global, state: &mut CoordState, given: Value) -> Result<Value, 
     }
 }
 
+/// Bytes in hex.
+pub(crate) fn write_bytes(alloc: Global, bytes: Result<Vec<u8>, Memory>) -> Result<Value, Wrong> {
+    Ok(hex_value(alloc, bytes?.as_slice())?)
+}
+
+fn write_copy(alloc: Global, state: Result<CoordState, Memory>) -> Result<Value, Wrong> {
+    Ok(write_state(alloc, &state?)?)
+}
+
+/// Whether the state begins with another one.
+fn begins_with(alloc: Global, state: &CoordState, given: Value) -> Result<Value, Wrong> {
+    let other = read_state(alloc, given)?;
+    Ok(Value::from(state.begins_with(&other)))
+}
+
 /// The state that bytes are, or why they are none.
 fn read(alloc: Global, given: &Value) -> Result<Value, Wrong> {
-    match decode(alloc, read_bytes(alloc, Some(given))?.as_slice()) {
+    let bytes = read_bytes(alloc, Some(given))?;
+    write_read(alloc, decode(alloc, bytes.as_slice()))
+}
+
+fn write_read(alloc: Global, state: Result<CoordState, DecodeFault>) -> Result<Value, Wrong> {
+    match state {
         Ok(state) => Ok(write_state(alloc, &state)?),
         Err(DecodeFault::Short) => write_name(alloc, "Short"),
         Err(DecodeFault::BadForm) => write_name(alloc, "BadForm"),
@@ -72,7 +94,7 @@ fn version_or_null(version: Option<Version>) -> Value {
 /// A generation in a list, or null.
 fn write_one(alloc: Global, generation: Option<Generation>) -> Result<Value, Wrong> {
     match generation {
-        Some(generation) => Ok(write_state(alloc, &CoordState::new(alloc, generation)?)?),
+        Some(generation) => write_copy(alloc, CoordState::new(alloc, generation)),
         None => Ok(Value::Null),
     }
 }

@@ -5,7 +5,7 @@ use crate::logs::play_log;
 use crate::records::play_records;
 use crate::states::play_state;
 use std::alloc::Global;
-use test_rows::{Scene, Wrong};
+use test_rows::{Scene, Wrong, played};
 
 /// The player of what is kept.
 pub(crate) struct Files;
@@ -13,12 +13,11 @@ pub(crate) struct Files;
 /// Plays a scenario of what is kept; false where it is about something else.
 pub fn play(alloc: Global, scene: Scene, at: &mut usize) -> Result<bool, Wrong> {
     match scene.word() {
-        "batch" => play_batch(alloc, scene, at)?,
-        "coordinated_state" => play_state(alloc, scene, at)?,
-        "record_file" => play_records(alloc, scene, at)?,
-        "cell_file" => play_cell(alloc, scene, at)?,
-        "log_file" => play_log(alloc, scene, at)?,
-        _ => return Ok(false),
+        "batch" => played(play_batch(alloc, scene, at)),
+        "coordinated_state" => played(play_state(alloc, scene, at)),
+        "record_file" => played(play_records(alloc, scene, at)),
+        "cell_file" => played(play_cell(alloc, scene, at)),
+        "log_file" => played(play_log(alloc, scene, at)),
+        _ => Ok(false),
     }
-    Ok(true)
 }

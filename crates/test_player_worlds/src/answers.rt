@@ -1,5 +1,5 @@
 //! What comes of events.
-use fr_forms::object::Object;
+use fr_forms::object::{Object, write_text};
 use fr_forms::{write_outcome, write_tell};
 use fr_storage::StorageFault;
 use fr_undo::StoreFault;
@@ -23,8 +23,12 @@ fn write_refused(alloc: Global, fault: StorageFault) -> Result<Value, Wrong> {
     if fault == StorageFault::Store(StoreFault::Memory) {
         return Err(Wrong::Memory);
     }
-    let name = write_name(alloc, name_of(fault))?;
-    Ok(Object::new(alloc).with("refused", name)?.value())
+    let object = Object::new(alloc);
+    Ok(
+        object
+            .and("refused", write_text(alloc, name_of(fault)))?
+            .value(),
+    )
 }
 
 fn name_of(fault: StorageFault) -> &'static str {

@@ -2,8 +2,7 @@
 use crate::found;
 use fr_ask::{Ask, Tell};
 use fr_base::{LogId, NodeId, Shape, Version};
-use fr_cli_json::tree::member_of;
-use fr_forms::fields::{Fields, version_of};
+use fr_forms::fields::Fields;
 use fr_forms::{read_ask, read_batch, read_node, read_shards, read_step, read_tell};
 use fr_world::{Config, ConfigFault, Event, World};
 use serde_json::Value;
@@ -29,38 +28,49 @@ pub(crate) fn read_event(
     alloc: Global,
     world: &World,
     word: &str,
-    given: Value,
+    given: &mut Fields,
 ) -> Result<Option<Event>, Wrong> {
-    let event = match word {
-        "begin" => read_begin(given)?,
-        "deliver" => read_deliver(alloc, world, &mut Fields::new(given, 3))?,
-        "hear" => read_hear(alloc, world, given)?,
-        "submit" => read_submit(alloc, &mut Fields::new(given, 4))?,
-        "crash" => Event::Crash {
-            node: read_node(given)?,
-        },
-        "lose" => read_lose(&Fields::new(given, 2))?,
-        _ => return Ok(None),
-    };
-    Ok(Some(event))
+    match word {
+        "begin" => some(read_begin(given)),
+        "deliver" => some(read_deliver(alloc, world, given.of(3))),
+        "hear" => some(read_hear(alloc, world, given)),
+        "submit" => some(read_submit(alloc, given.of(4))),
+        "crash" => some(read_crash(given)),
+        "lose" => some(read_lose(given.of(2))),
+        _ => Ok(None),
+    }
+}
+
+fn some(event: Result<Event, Wrong>) -> Result<Option<Event>, Wrong> {
+    Ok(Some(event?))
 }
 
 /// A recoverer begins, with a shape or without one.
-fn read_begin(given: Value) -> Result<Event, Wrong> {
-    let has_shape = member_of(&given, 3, "logs").is_some();
-    let fields = Fields::new(given, if has_shape { 3 } else { 1 });
-    let ballot = fields.ballot("ballot")?;
-    let shape = if has_shape {
-        Some(read_shape(&fields)?)
-    } else {
-        None
-    };
+fn read_begin(given: &mut Fields) -> Result<Event, Wrong> {
+    let shape = read_shape_in(given)?;
+    let ballot = given.ballot("ballot")?;
     Ok(Event::Begin { ballot, shape })
+}
+
+/// The shape of an object that has members for it, and is then to have three members, else one.
+fn read_shape_in(fields: &mut Fields) -> Result<Option<Shape>, Wrong> {
+    if fields.of(3).value("logs").is_ok() {
+        Ok(Some(read_shape(fields)?))
+    } else {
+        fields.of(1);
+        Ok(None)
+    }
 }
 
 fn read_shape(fields: &Fields) -> Result<Shape, Wrong> {
     let m = fields.index("logs", u8::MAX)?;
-    Shape::new(m, fields.index("degree", u8::MAX)?).ok_or(NO_FORM)
+    let k = fields.index("degree", u8::MAX)?;
+    Shape::new(m, k).ok_or(NO_FORM)
+}
+
+fn read_crash(given: &mut Fields) -> Result<Event, Wrong> {
+    let node = read_node(given.take_all())?;
+    Ok(Event::Crash { node })
 }
 
 fn read_deliver(alloc: Global, world: &World, fields: &mut Fields) -> Result<Event, Wrong> {
@@ -85,27 +95,26 @@ fn read_asked(
 }
 
 /// Whether a node gave an ask to another.
-pub(crate) fn was_sent(alloc: Global, world: &World, fields: &mut Fields) -> Result<bool, Wrong> {
+pub(crate) fn was_sent(alloc: Global, world: &World, fields: &mut Fields) -> Result<Value, Wrong> {
     let from = read_node(fields.take("from")?)?;
     let to = read_node(fields.take("to")?)?;
     let ask = read_ask(alloc, fields.take("ask")?)?;
-    Ok(world.was_sent(from, to, &ask))
+    Ok(Value::from(world.was_sent(from, to, &ask)))
 }
 
 /// Whether a node told this to another.
-pub(crate) fn was_told(alloc: Global, world: &World, fields: &mut Fields) -> Result<bool, Wrong> {
+pub(crate) fn was_told(alloc: Global, world: &World, fields: &mut Fields) -> Result<Value, Wrong> {
     let by = read_node(fields.take("by")?)?;
     let to = read_node(fields.take("to")?)?;
     let tell = read_tell(alloc, fields.take("tell")?)?;
-    Ok(world.was_told(by, to, &tell))
+    Ok(Value::from(world.was_told(by, to, &tell)))
 }
 
-fn read_hear(alloc: Global, world: &World, given: Value) -> Result<Event, Wrong> {
-    let taken = read_taken(&given)?;
-    let mut fields = Fields::new(given, if taken.is_some() { 4 } else { 3 });
-    let by = read_node(fields.take("by")?)?;
-    let from = read_node(fields.take("from")?)?;
-    let tell = read_told(alloc, world, &by, &from, fields.take("tell")?)?;
+fn read_hear(alloc: Global, world: &World, given: &mut Fields) -> Result<Event, Wrong> {
+    let taken = read_taken(given)?;
+    let by = read_node(given.take("by")?)?;
+    let from = read_node(given.take("from")?)?;
+    let tell = read_told(alloc, world, &by, &from, given.take("tell")?)?;
     Ok(Event::Hear {
         by,
         from,
@@ -114,11 +123,13 @@ fn read_hear(alloc: Global, world: &World, given: Value) -> Result<Event, Wrong>
     })
 }
 
-/// The version at which a hear breaks off, where it does.
-fn read_taken(given: &Value) -> Result<Option<Version>, Wrong> {
-    match member_of(given, 4, "taken") {
-        Some(version) => Ok(Some(version_of(version)?)),
-        None => Ok(None),
+/// The version at which a hear breaks off, where it does: it is then one of four members, else there are three.
+fn read_taken(given: &mut Fields) -> Result<Option<Version>, Wrong> {
+    if given.of(4).value("taken").is_ok() {
+        Ok(Some(given.version("taken")?))
+    } else {
+        given.of(3);
+        Ok(None)
     }
 }
 

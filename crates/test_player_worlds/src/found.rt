@@ -29,13 +29,13 @@ fn ask_at(turn: &Turn, place: usize) -> Result<Ask, Wrong> {
     }
 }
 
-/// The ask of this number, from 0, that a node gave to another.
+/// The ask of this number, from 0, that a node gave to another: as a copy of its turn has it.
 pub(crate) fn ask(world: &World, from: &NodeId, to: &NodeId, number: usize) -> Result<Ask, Wrong> {
     let mut left = number;
     for turn in world.turns() {
         if let Some(place) = place_in(turn, from, to) {
             if left == 0 {
-                return ask_at(turn, place);
+                return ask_at(&turn.copy()?, place);
             }
             left = left.saturating_sub(1);
         }
@@ -66,13 +66,13 @@ fn told_in(turn: &Turn) -> Result<Tell, Wrong> {
     }
 }
 
-/// The tell of this number, from 0, that a node gave to another.
+/// The tell of this number, from 0, that a node gave to another: as a copy of its turn has it.
 pub(crate) fn tell(world: &World, by: &NodeId, to: &NodeId, number: usize) -> Result<Tell, Wrong> {
     let mut left = number;
     for turn in world.turns() {
         if has_told(turn, by, to) {
             if left == 0 {
-                return told_in(turn);
+                return told_in(&turn.copy()?);
             }
             left = left.saturating_sub(1);
         }

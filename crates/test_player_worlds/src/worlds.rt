@@ -1,14 +1,14 @@
 //! Worlds.
 use crate::answers::{write_answer, write_why};
 use crate::events::{read_config, read_event, was_sent, was_told};
-use fr_base::NodeId;
+use fr_base::Memory;
 use fr_forms::fields::Fields;
 use fr_forms::object::Object;
 use fr_forms::read_node;
 use fr_world::{Answer, Event, NotEnabled, World};
 use serde_json::Value;
 use std::alloc::Global;
-use test_rows::{Plays, Scene, Wrong, no_such_word, said, write_state_of};
+use test_rows::{Plays, Scene, Wrong, no_such_word, played, said, write_last_state};
 
 /// The player of worlds.
 struct Worlds;
@@ -18,13 +18,17 @@ pub fn play(alloc: Global, scene: Scene, at: &mut usize) -> Result<bool, Wrong> 
     if scene.word() != "world" {
         return Ok(false);
     }
-    let config = read_config(alloc, &mut Fields::new(scene.given(alloc)?, 5))?;
-    let mut played = Played {
-        world: World::start(alloc, config)?,
+    let world = start(alloc, scene.given(alloc)?.of(5));
+    played(scene.play_made(alloc, &Worlds, world, at))
+}
+
+fn start(alloc: Global, fields: &mut Fields) -> Result<Played, Wrong> {
+    let config = read_config(alloc, fields)?;
+    let world = World::start(alloc, config)?;
+    Ok(Played {
+        world,
         events: Vec::new(alloc),
-    };
-    scene.play(alloc, &Worlds, &mut played, at)?;
-    Ok(true)
+    })
 }
 
 /// A world, and all events that were to happen in it.
@@ -40,35 +44,43 @@ impl Plays<Played> for Worlds {
         alloc: Global,
         played: &mut Played,
         word: &str,
-        given: Value,
+        given: &mut Fields,
     ) -> Result<Value, Wrong> {
         match word {
-            "state" => state(alloc, &played.world, read_node(given)?),
-            "there" => Ok(Value::from(played.world.is_there(read_node(given)?))),
-            "gone" => Ok(Value::from(played.world.is_gone(read_node(given)?))),
-            "sent" => {
-                let fields = &mut Fields::new(given, 3);
-                Ok(Value::from(was_sent(alloc, &played.world, fields)?))
-            }
-            "told" => {
-                let fields = &mut Fields::new(given, 3);
-                Ok(Value::from(was_told(alloc, &played.world, fields)?))
-            }
+            "state" => state(alloc, &played.world, given),
+            "there" => there(&played.world, given),
+            "gone" => gone(&played.world, given),
+            "sent" => was_sent(alloc, &played.world, given.of(3)),
+            "told" => was_told(alloc, &played.world, given.of(3)),
             "turns" => Ok(Value::from(played.world.turns().len())),
             "replay" => replay(alloc, played),
-            _ => match read_event(alloc, &played.world, word, given)? {
-                Some(event) => happen(alloc, played, event),
-                None => no_such_word(
-                    "rows of a world: begin, deliver, hear, submit, crash, lose, state, there, gone, \
-                     sent, told, turns, replay",
-                ),
-            },
+            _ => happen(alloc, played, word, given),
         }
+    }
+
+    fn kept_by(&self, _word: &str) -> Option<&'static str> {
+        Some("turns")
+    }
+}
+
+/// What comes of an event.
+fn happen(
+    alloc: Global,
+    played: &mut Played,
+    word: &str,
+    given: &mut Fields,
+) -> Result<Value, Wrong> {
+    match read_event(alloc, &played.world, word, given)? {
+        Some(event) => take(alloc, played, event),
+        None => no_such_word(
+            "rows of a world: begin, deliver, hear, submit, crash, lose, state, there, gone, sent, \
+             told, turns, replay",
+        ),
     }
 }
 
 /// What comes of an event. Where memory is wanting the world stands as it was, and the event is tried again.
-fn happen(alloc: Global, played: &mut Played, event: Event) -> Result<Value, Wrong> {
+fn take(alloc: Global, played: &mut Played, event: Event) -> Result<Value, Wrong> {
     let turns = played.world.turns().len();
     let given = match played.world.step(alloc, &event) {
         Err(NotEnabled::Memory) if played.world.turns().len() == turns => {
@@ -76,29 +88,42 @@ fn happen(alloc: Global, played: &mut Played, event: Event) -> Result<Value, Wro
         }
         given => given,
     };
-    said(write_happened(alloc, played, event, given))
+    said(write_happened(alloc, &mut played.events, &event, given))
 }
 
-/// Keeps an event, and says what came of it.
+/// Keeps a copy of an event, and says a copy of what came of it.
 fn write_happened(
     alloc: Global,
-    played: &mut Played,
-    event: Event,
+    events: &mut Vec<Event>,
+    event: &Event,
     given: Result<Answer, NotEnabled>,
 ) -> Result<Value, Wrong> {
-    played.events.push(event)?;
+    events.push(event.copy()?)?;
     match given {
-        Ok(answer) => write_answer(alloc, &answer),
+        Ok(answer) => write_copy(alloc, answer.copy()),
         Err(why) => write_why(alloc, why),
     }
 }
 
+fn write_copy(alloc: Global, answer: Result<Answer, Memory>) -> Result<Value, Wrong> {
+    write_answer(alloc, &answer?)
+}
+
 /// What others see of a node's last state; null where it is not there.
-fn state(alloc: Global, world: &World, node: NodeId) -> Result<Value, Wrong> {
+fn state(alloc: Global, world: &World, given: &mut Fields) -> Result<Value, Wrong> {
+    let node = read_node(given.take_all())?;
     match world.last_of(alloc, node)? {
-        Some(last) => write_state_of(alloc, &last),
+        Some(last) => write_last_state(alloc, Ok(last)),
         None => Ok(Value::Null),
     }
+}
+
+fn there(world: &World, given: &mut Fields) -> Result<Value, Wrong> {
+    Ok(Value::from(world.is_there(read_node(given.take_all())?)))
+}
+
+fn gone(world: &World, given: &mut Fields) -> Result<Value, Wrong> {
+    Ok(Value::from(world.is_gone(read_node(given.take_all())?)))
 }
 
 /// How many turns the world has that begins anew with all events up to the first one that cannot happen, and the number
@@ -107,14 +132,13 @@ fn replay(alloc: Global, played: &Played) -> Result<Value, Wrong> {
     let config = played.world.config().copy()?;
     match World::replay(alloc, config, played.events.as_slice()) {
         Ok(world) => Ok(Value::from(world.turns().len())),
-        Err((number, why)) => {
-            let why = write_why(alloc, why)?;
-            Ok(
-                Object::new(alloc)
-                    .with("event", Value::from(number))?
-                    .with("why", why)?
-                    .value(),
-            )
-        }
+        Err((number, why)) => write_stop(alloc, number, write_why(alloc, why)?),
     }
+}
+
+fn write_stop(alloc: Global, number: usize, why: Value) -> Result<Value, Wrong> {
+    let stop = Object::new(alloc)
+        .with("event", Value::from(number))?
+        .with("why", why)?;
+    Ok(stop.value())
 }

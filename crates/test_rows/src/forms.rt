@@ -1,10 +1,13 @@
 //! Forms that several players read and write.
 ghost use Rattle.std.specs.Prelude.{◌≤◌, IfOk};
 
+use crate::subject::Scene;
 use crate::wrong::{NO_FORM, Wrong};
-use fr_ask::Last;
+use fr_ask::{Last, Named};
+use fr_base::Memory;
 use fr_cli_json::tree::into_one_member;
 use fr_forms::fields::Fields;
+use fr_forms::object::write_text;
 use fr_forms::write_last;
 use fr_tags::MAX_LOGS;
 use serde_json::Value;
@@ -25,9 +28,17 @@ pub fn read_sizes(fields: &Fields) -> Result<(u8, u8), Wrong>
     }
 }
 
+/// The last state of a copy, without the name of its kind.
+pub fn write_state_of<N: Named + Drop>(
+    alloc: Global,
+    copied: Result<N, Memory>,
+) -> Result<Value, Wrong> {
+    write_last_state(alloc, copied?.last(alloc))
+}
+
 /// A last state, without the name of its kind.
-pub fn write_state_of(alloc: Global, last: &Last) -> Result<Value, Wrong> {
-    match into_one_member(write_last(alloc, last)?) {
+pub fn write_last_state(alloc: Global, last: Result<Last, Memory>) -> Result<Value, Wrong> {
+    match into_one_member(write_last(alloc, &last?)?) {
         Some((_, content)) => Ok(content),
         None => Err(NO_FORM),
     }
@@ -35,5 +46,20 @@ pub fn write_state_of(alloc: Global, last: &Last) -> Result<Value, Wrong> {
 
 /// A name, as a text.
 pub fn write_name(alloc: Global, name: &str) -> Result<Value, Wrong> {
-    Ok(Value::try_from_str(alloc, name)?)
+    Ok(write_text(alloc, name)?)
+}
+
+/// What is made of nothing, where the first row gives nothing.
+pub fn of_nothing<T: Drop>(alloc: Global, scene: Scene, made: T) -> Result<T, Wrong> {
+    if scene.given(alloc)?.all().is_null() {
+        Ok(made)
+    } else {
+        Err(Wrong::Form("this is made of nothing"))
+    }
+}
+
+/// That a scenario was about something known, once it was played.
+pub fn played(done: Result<(), Wrong>) -> Result<bool, Wrong> {
+    done?;
+    Ok(true)
 }

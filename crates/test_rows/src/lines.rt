@@ -1,7 +1,7 @@
 //! What the lines of a scenario are.
 
 /// What a line is.
-#[derive(Clone, Copy, Debug, PartialEq, Eq)]
+#[derive(Clone, Copy)]
 pub(crate) enum Line<'t> {
     /// A sentence, or nothing.
     Prose,

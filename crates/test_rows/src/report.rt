@@ -70,17 +70,34 @@ impl Report {
         self.holds = false;
         let place = format!(in alloc; "{file}:{line}: ")?;
         self.text.push_str(place.as_str())?;
+        self.say(wrong)
+    }
+
+    /// What is wrong.
+    fn say(&mut self, wrong: &Wrong) -> Result<(), AllocError>
+        ensures { self.new ≡ self.old }
+    {
         match wrong {
-            Wrong::Memory | Wrong::Unsaid => return Err(AllocError),
-            Wrong::Form(what) => self.text.push_str(what)?,
-            Wrong::Differs { told, wanted } => {
-                self.text.push_str("told ")?;
-                self.text.push_str(text_of(told.as_slice()))?;
-                self.text.push_str("\n    wanted ")?;
-                self.text.push_str(text_of(wanted.as_slice()))?;
-            }
+            Wrong::Memory | Wrong::Unsaid => Err(AllocError),
+            Wrong::Form(what) => self.line(what),
+            Wrong::Differs { told, wanted } => self.differ(told.as_slice(), wanted.as_slice()),
         }
+    }
+
+    fn line(&mut self, text: &str) -> Result<(), AllocError>
+        ensures { self.new ≡ self.old }
+    {
+        self.text.push_str(text)?;
         self.text.push('\n')
+    }
+
+    fn differ(&mut self, told: &[u8], wanted: &[u8]) -> Result<(), AllocError>
+        ensures { self.new ≡ self.old }
+    {
+        self.text.push_str("told ")?;
+        self.line(text_of(told))?;
+        self.text.push_str("    wanted ")?;
+        self.line(text_of(wanted))
     }
 }
 

@@ -2,22 +2,28 @@
 ghost use Rattle.std.specs.Prelude.{◌≡◌, ◌↔◌, IsOk};
 
 use crate::rows::{Parts, Row, json_of, json_or_null};
-use crate::wrong::Wrong;
+use crate::wrong::{Wrong, said};
+use fr_forms::fields::Fields;
 use serde_json::Value;
 use std::alloc::Global;
 
 /// What plays the rows of scenarios about a `T`.
 pub trait Plays<T> {
     /// What comes of a row, in its form: of its word, and of what is given with it, null where that is nothing. The
-    /// word `state` looks at a copy. Where it answers that there is no memory nothing was done, or what was done is told
-    /// again: it is asked once more.
+    /// word `state` looks at a copy. Where it answers that there is no memory nothing was done: it is asked once more.
     fn play_row(
         &self,
         alloc: Global,
         subject: &mut T,
         word: &str,
-        given: Value,
+        given: &mut Fields,
     ) -> Result<Value, Wrong>;
+
+    /// The word, with nothing given, of what a row of a word leaves as it was where there is no memory; none where
+    /// nothing tells that, or a row can leave a part of what it does.
+    fn kept_by(&self, _word: &str) -> Option<&'static str> {
+        Some("state")
+    }
 
     /// Whether a subject answers nothing until it is opened again.
     fn has_failed(&self, _subject: &T) -> bool {
@@ -69,8 +75,20 @@ impl<'t> Scene<'t> {
     }
 
     /// What is given with it, null where that is nothing.
-    pub fn given(&self, alloc: Global) -> Result<Value, Wrong> {
-        json_or_null(alloc, self.made.given)
+    pub fn given(&self, alloc: Global) -> Result<Fields, Wrong> {
+        Ok(Fields::new(json_or_null(alloc, self.made.given)?, 0))
+    }
+
+    /// Plays the other rows with what the first one makes.
+    pub fn play_made<T: Drop, P: Plays<T>>(
+        &self,
+        alloc: Global,
+        player: &P,
+        made: Result<T, Wrong>,
+        at: &mut usize,
+    ) -> Result<(), Wrong> {
+        let mut subject = made?;
+        self.play(alloc, player, &mut subject, at)
     }
 
     /// Plays the other rows in turn, up to one of which something else comes than is wanted. `at` is the line of the
@@ -85,12 +103,10 @@ impl<'t> Scene<'t> {
         for row in self.rows {
             *at = row.line;
             let parts = row.parts();
-            let had_failed = player.has_failed(subject);
-            match play_row(alloc, player, subject, &parts) {
-                Err(Wrong::Memory) if !self.is_once => {
-                    play_again(alloc, player, subject, &parts, had_failed)?
-                }
-                played => played?,
+            if self.is_once {
+                play_row(alloc, player, subject, &parts)?;
+            } else {
+                play_or_again(alloc, player, subject, &parts)?;
             }
         }
         Ok(())
@@ -112,27 +128,87 @@ fn play_row<T, P: Plays<T>>(
     let Some(wanted) = parts.wanted else {
         return Err(Wrong::Form("no arrow and what is wanted behind it"));
     };
-    let wanted = json_of(alloc, wanted)?.to_vec(alloc)?;
-    let given = json_or_null(alloc, parts.given)?;
-    let told = player.play_row(alloc, subject, parts.word, given)?;
+    let wanted = text_of(alloc, json_of(alloc, wanted))?;
+    let told = tell(alloc, player, subject, parts)?;
+    compare(told, wanted)
+}
+
+/// What comes of a row, as text.
+fn tell<T, P: Plays<T>>(
+    alloc: Global,
+    player: &P,
+    subject: &mut T,
+    parts: &Parts,
+) -> Result<Vec<u8>, Wrong> {
+    let mut given = Fields::new(json_or_null(alloc, parts.given)?, 0);
+    let told = player.play_row(alloc, subject, parts.word, &mut given)?;
     match told.to_vec(alloc) {
-        Ok(told) => compare(told, wanted),
-        Err(_) => Err(Wrong::Unsaid),
+        Ok(text) => Ok(text),
+        Err(_) => said(text_of(alloc, Ok(told))),
     }
 }
 
-/// Plays a row again for which there was no memory. What it left failed that was not failed before is opened again.
+/// A value as text, where there is one.
+fn text_of(alloc: Global, value: Result<Value, Wrong>) -> Result<Vec<u8>, Wrong> {
+    Ok(value?.to_vec(alloc)?)
+}
+
+/// What is seen of a subject before a row.
+#[derive(Drop)]
+struct Before {
+    had_failed: bool,
+    kept: Option<Vec<u8>>,
+}
+
+/// Plays a row, and once more where there was no memory for it.
+fn play_or_again<T, P: Plays<T>>(
+    alloc: Global,
+    player: &P,
+    subject: &mut T,
+    parts: &Parts,
+) -> Result<(), Wrong> {
+    let before = Before {
+        had_failed: player.has_failed(subject),
+        kept: kept(alloc, player, subject, parts.word),
+    };
+    match play_row(alloc, player, subject, parts) {
+        Err(Wrong::Memory) => play_again(alloc, player, subject, parts, before),
+        played => played,
+    }
+}
+
+/// What a row of a word is to leave as it was where there is no memory; none where there is none to tell it either.
+fn kept<T, P: Plays<T>>(alloc: Global, player: &P, subject: &mut T, word: &str) -> Option<Vec<u8>> {
+    let word = player.kept_by(word)?;
+    let told = player.play_row(alloc, subject, word, &mut Fields::new(Value::Null, 0));
+    text_of(alloc, told).ok()
+}
+
+/// Plays a row again for which there was no memory. What it left failed that was not failed before is opened again, and
+/// anything else is where it was.
 fn play_again<T, P: Plays<T>>(
     alloc: Global,
     player: &P,
     subject: &mut T,
     parts: &Parts,
-    had_failed: bool,
+    before: Before,
 ) -> Result<(), Wrong> {
-    if player.has_failed(subject) && !had_failed {
+    if player.has_failed(subject) && !before.had_failed {
         player.settle(alloc, subject)?;
+    } else {
+        compare_kept(kept(alloc, player, subject, parts.word), before.kept)?;
     }
     play_row(alloc, player, subject, parts)
+}
+
+fn compare_kept(now: Option<Vec<u8>>, before: Option<Vec<u8>>) -> Result<(), Wrong> {
+    let Some(before) = before else {
+        return Ok(());
+    };
+    match now {
+        Some(now) => compare(now, before),
+        None => Ok(()),
+    }
 }
 
 /// Whether what was told is what is wanted, both written in one way.

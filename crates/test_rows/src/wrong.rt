@@ -2,8 +2,9 @@
 use fr_base::Memory;
 use fr_cli_json::CliFault;
 use fr_forms::ScriptFault;
+use fr_forms::lists::{WriteItem, write_all};
 use serde_json::Value;
-use std::alloc::{AllocError, AllocFailed};
+use std::alloc::{AllocError, AllocFailed, Global};
 
 /// Why a row does not hold.
 #[derive(Drop)]
@@ -19,11 +20,32 @@ pub enum Wrong {
 }
 
 /// What is said of something that is not to be done again, as it is where there is memory to say it.
-pub fn said(value: Result<Value, Wrong>) -> Result<Value, Wrong> {
+pub fn said<T: Drop>(value: Result<T, Wrong>) -> Result<T, Wrong> {
     match value {
         Err(Wrong::Memory) => Err(Wrong::Unsaid),
         value => value,
     }
+}
+
+/// What is told of something that was done, in its form. Where there is no memory for the form it is made once more,
+/// since the row is not to be played again.
+pub fn told<T: WriteItem>(alloc: Global, told: &T) -> Result<Value, Wrong> {
+    match told.write(alloc) {
+        Ok(value) => Ok(value),
+        Err(_) => said(written(told.write(alloc))),
+    }
+}
+
+/// The same of a list.
+pub fn told_all<T: WriteItem>(alloc: Global, told: &[T]) -> Result<Value, Wrong> {
+    match write_all(alloc, told) {
+        Ok(value) => Ok(value),
+        Err(_) => said(written(write_all(alloc, told))),
+    }
+}
+
+fn written(value: Result<Value, Memory>) -> Result<Value, Wrong> {
+    Ok(value?)
 }
 
 /// What is wrong with what is in no form that is known.
