@@ -45,8 +45,9 @@ fn read_kind(alloc: Global, words: &[String]) -> Result<StoreKind, Error> {
 }
 
 fn command<'a>(alloc: Global) -> Result<clap::Command<'a>, Error> {
-    let command = program_command(alloc)
-        .after_help("This program has one command of fdbrec, on a store in memory.")
-        .subcommand(apply_command(alloc)?)?;
-    Ok(command)
+    let apply = apply_command(alloc)?;
+    let command = program_command(alloc).after_help(
+        "This program has one command of fdbrec, on a store in memory.",
+    );
+    Ok(command.subcommand(apply)?)
 }

@@ -4,7 +4,9 @@ use Rattle.std.proofs.Common.{ap}
 use Rattle.std.proofs.lemmas.Bool.{and_parts, eq-eqb, eqb-true}
 use Rattle.fr_base.specs.Bytes.{bytes_eq}
 use Rattle.fr_base.specs.Same.{IsSameness, bytes_eq-IsSameness}
-use Rattle.fr_log.specs.Fields.{three, four}
+use Rattle.fr_log.specs.Fields.{three, four, five}
+use Rattle.std.specs.Cmp.Lexicographic.{pointwise}
+use Rattle.fr_log.specs.Popped.{is_same_popped, are_same_popped-IsSameness}
 use Rattle.fr_ask.specs.Rows.{is_same_rows, is_same_rows-IsSameness}
 use Rattle.fr_ask.specs.declared.last.Last.{Last}
 use Rattle.fr_ask.specs.declared.last.Last.TheVariants as last
@@ -15,7 +17,7 @@ is_same_bool a b = if a then b else not b
 -- whether two nodes of one kind stood at the same
 abbrev pub is_same_last : Last → Last → Bool
 is_same_last (last.Cell p w v) (last.Cell q x u) = (p == q) && ((w == x) && bytes_eq v u)
-is_same_last (last.Log s d k t) (last.Log r e l u) = is_same_bool s r && ((d == e) && ((k == l) && is_same_bool t u))
+is_same_last (last.Log s d k t p) (last.Log r e l u q) = is_same_bool s r && ((d == e) && ((k == l) && (is_same_bool t u && pointwise is_same_popped p q)))
 is_same_last (last.Sequencer v) (last.Sequencer w) = v == w
 is_same_last (last.Proxy v) (last.Proxy w) = v == w
 is_same_last (last.Recoverer p) (last.Recoverer q) = bytes_eq p q
@@ -40,7 +42,7 @@ is_same_last-IsSameness = record { itself = itself; same = same }
 
     itself : (a : Last) → is_same_last a a ≡ true
     itself (last.Cell p w v) = rw (equal p, equal w) (bytes_eq-IsSameness.itself v)
-    itself (last.Log s d k t) = rw (is_same_bool-itself s, equal d, equal k) (is_same_bool-itself t)
+    itself (last.Log s d k t p) = rw (is_same_bool-itself s, equal d, equal k, is_same_bool-itself t) (are_same_popped-IsSameness.itself p)
     itself (last.Sequencer v) = equal v
     itself (last.Proxy v) = equal v
     itself (last.Recoverer p) = bytes_eq-IsSameness.itself p
@@ -51,11 +53,12 @@ is_same_last-IsSameness = record { itself = itself; same = same }
         let h = and_parts (p == q) ((w == x) && bytes_eq v u) e in
         let i = and_parts (w == x) (bytes_eq v u) h.1 in
         three (λ a b c. last.Cell a b c) (eqb-true p q h.0) (eqb-true w x i.0) (bytes_eq-IsSameness.same v u i.1)
-    same (last.Log s d k t) (last.Log r f l u) e =
-        let h = and_parts (is_same_bool s r) ((d == f) && ((k == l) && is_same_bool t u)) e in
-        let i = and_parts (d == f) ((k == l) && is_same_bool t u) h.1 in
-        let j = and_parts (k == l) (is_same_bool t u) i.1 in
-        four (λ a b c z. last.Log a b c z) (is_same_bool-same s r h.0) (eqb-true d f i.0) (eqb-true k l j.0) (is_same_bool-same t u j.1)
+    same (last.Log s d k t p) (last.Log r f l u q) e =
+        let h = and_parts (is_same_bool s r) ((d == f) && ((k == l) && (is_same_bool t u && pointwise is_same_popped p q))) e in
+        let i = and_parts (d == f) ((k == l) && (is_same_bool t u && pointwise is_same_popped p q)) h.1 in
+        let j = and_parts (k == l) (is_same_bool t u && pointwise is_same_popped p q) i.1 in
+        let o = and_parts (is_same_bool t u) (pointwise is_same_popped p q) j.1 in
+        five (λ a b c z y. last.Log a b c z y) (is_same_bool-same s r h.0) (eqb-true d f i.0) (eqb-true k l j.0) (is_same_bool-same t u o.0) (are_same_popped-IsSameness.same p q o.1)
     same (last.Sequencer v) (last.Sequencer w) e = ap last.Sequencer (eqb-true v w e)
     same (last.Proxy v) (last.Proxy w) e = ap last.Proxy (eqb-true v w e)
     same (last.Recoverer p) (last.Recoverer q) e = ap last.Recoverer (bytes_eq-IsSameness.same p q e)

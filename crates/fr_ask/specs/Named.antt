@@ -55,4 +55,4 @@ abbrev pub last_of_cell : CellState → Last
 last_of_cell c = last.Cell c.promised c.written c.value
 
 abbrev pub last_of_log : LogState → Last
-last_of_log l = last.Log (is_some l.seed) (durable_of l) (known_of l) l.stopped
+last_of_log l = last.Log (is_some l.seed) (durable_of l) (known_of l) l.stopped l.popped

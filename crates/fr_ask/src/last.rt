@@ -3,6 +3,7 @@ ghost use Rattle.std.specs.Prelude.{◌≡◌, IfOk};
 
 use crate::rows::Rows;
 use fr_base::{Ballot, Bytes, Epoch, Memory, Version};
+use fr_log::PoppedTags;
 use fr_register::CellValue;
 
 /// Where a node stood at last.
@@ -15,12 +16,13 @@ pub enum Last {
         value: CellValue,
     },
     /// Whether a log has a seed, the greatest version that it holds and the greatest that it knows to be
-    /// committed (both 0 without a seed), and whether it was locked.
+    /// committed (both 0 without a seed), whether it was locked, and how far its tags are popped.
     Log {
         seeded: bool,
         durable: Version,
         known: Version,
         stopped: bool,
+        popped: PoppedTags,
     },
     /// The last version that a sequencer gave.
     Sequencer {
@@ -64,11 +66,13 @@ impl Last {
                 durable,
                 known,
                 stopped,
+                popped,
             } => Last::Log {
                 seeded: *seeded,
                 durable: *durable,
                 known: *known,
                 stopped: *stopped,
+                popped: popped.copy()?,
             },
             Last::Sequencer { last } => Last::Sequencer { last: *last },
             Last::Proxy { known } => Last::Proxy { known: *known },

@@ -108,6 +108,7 @@ impl Named for Log {
             durable: self.durable(),
             known: self.known(),
             stopped: self.stopped(),
+            popped: self.popped().copy()?,
         })
     }
 }

@@ -2,7 +2,7 @@
 use fr_ask::{Ask, Tell};
 use fr_audit_journal::Act;
 use fr_base::{Memory, NodeId, Shape, Version};
-use fr_forms::fields::{Fields, bare, variant, version_of};
+use fr_forms::fields::{Fields, variant, version_of};
 use fr_forms::object::{Object, bare_named, numbered};
 use fr_forms::{
     ScriptFault, names, read_ask, read_batch, read_node, read_outcome, read_step, read_tell,
@@ -12,17 +12,21 @@ use serde_json::Value;
 use std::alloc::Global;
 
 pub(crate) fn read_act(alloc: Global, value: Value) -> Result<Act, ScriptFault> {
-    let (name, content) = variant(value)?;
-    match name.as_str() {
-        names::ASKED => read_asked(alloc, &mut Fields::new(content, 3)),
-        names::HEARD => read_heard(alloc, &mut Fields::new(content, 4)),
-        names::SUBMITTED => read_submitted(alloc, &mut Fields::new(content, 2)),
+    let (name, mut content) = variant(value)?;
+    read_named(alloc, name.as_str(), &mut content)
+}
+
+fn read_named(alloc: Global, name: &str, content: &mut Fields) -> Result<Act, ScriptFault> {
+    match name {
+        names::ASKED => read_asked(alloc, content.of(3)),
+        names::HEARD => read_heard(alloc, content.of(4)),
+        names::SUBMITTED => read_submitted(alloc, content.of(2)),
         names::BEGUN => {
             let shape = read_shape(content)?;
             Ok(Act::Begun { shape })
         }
-        names::CRASHED => bare(&content, Act::Crashed),
-        names::LOST => bare(&content, Act::Lost),
+        names::CRASHED => content.bare(Act::Crashed),
+        names::LOST => content.bare(Act::Lost),
         _ => Err(ScriptFault::BadScript),
     }
 }
@@ -30,7 +34,11 @@ pub(crate) fn read_act(alloc: Global, value: Value) -> Result<Act, ScriptFault> 
 fn read_asked(alloc: Global, fields: &mut Fields) -> Result<Act, ScriptFault> {
     let from = read_node(fields.take(names::FROM)?)?;
     let ask = read_ask(alloc, fields.take(names::ASK)?)?;
-    let tell = read_tell(alloc, fields.take(names::TELL)?)?;
+    with_tell(from, ask, read_tell(alloc, fields.take(names::TELL)?))
+}
+
+fn with_tell(from: NodeId, ask: Ask, tell: Result<Tell, ScriptFault>) -> Result<Act, ScriptFault> {
+    let tell = tell?;
     Ok(Act::Asked { from, ask, tell })
 }
 
@@ -54,11 +62,11 @@ fn read_submitted(alloc: Global, fields: &mut Fields) -> Result<Act, ScriptFault
 }
 
 /// The shape with which a recoverer began: that of two members, or none where there is no member.
-fn read_shape(content: Value) -> Result<Option<Shape>, ScriptFault> {
-    if let Ok(none) = bare(&content, None) {
-        return Ok(none);
+fn read_shape(fields: &mut Fields) -> Result<Option<Shape>, ScriptFault> {
+    if fields.bare(()).is_ok() {
+        return Ok(None);
     }
-    let fields = Fields::new(content, 2);
+    let fields = fields.of(2);
     let logs = fields.index(names::LOGS, u8::MAX)?;
     let degree = fields.index(names::DEGREE, u8::MAX)?;
     let shape = Shape::new(logs, degree).ok_or(ScriptFault::BadScript)?;
@@ -81,14 +89,12 @@ pub(crate) fn write_act(alloc: Global, act: &Act) -> Result<Value, Memory> {
             tell,
             taken,
             outcome,
-        } => Object::new(alloc)
+        } => write_told(alloc, from, tell)?
             .with(names::TAKEN, write_taken(taken))?
-            .with(names::OUTCOME, write_outcome(alloc, outcome)?)?
-            .with(names::FROM, write_node(alloc, from)?)?
-            .with(names::TELL, write_tell(alloc, tell)?)?
+            .and(names::OUTCOME, write_outcome(alloc, outcome))?
             .named(names::HEARD),
         Act::Submitted { step, batch } => Object::of(alloc, &[(names::STEP, step.get())])?
-            .with(names::BATCH, write_batch(alloc, batch)?)?
+            .and(names::BATCH, write_batch(alloc, batch))?
             .named(names::SUBMITTED),
         Act::Begun { shape } => write_begun(alloc, shape),
         Act::Crashed => bare_named(alloc, names::CRASHED),
@@ -97,11 +103,16 @@ pub(crate) fn write_act(alloc: Global, act: &Act) -> Result<Value, Memory> {
 }
 
 fn write_asked(alloc: Global, from: &NodeId, ask: &Ask, tell: &Tell) -> Result<Value, Memory> {
-    Object::new(alloc)
-        .with(names::FROM, write_node(alloc, from)?)?
-        .with(names::ASK, write_ask(alloc, ask)?)?
-        .with(names::TELL, write_tell(alloc, tell)?)?
+    write_told(alloc, from, tell)?
+        .and(names::ASK, write_ask(alloc, ask))?
         .named(names::ASKED)
+}
+
+/// Another node, and what was told.
+fn write_told(alloc: Global, from: &NodeId, tell: &Tell) -> Result<Object, Memory> {
+    Object::new(alloc)
+        .and(names::FROM, write_node(alloc, from))?
+        .and(names::TELL, write_tell(alloc, tell))
 }
 
 fn write_begun(alloc: Global, shape: &Option<Shape>) -> Result<Value, Memory> {

@@ -11,15 +11,19 @@ use std::alloc::Global;
 /// A journal. One whose stamps do not rise is no script.
 pub(crate) fn read_journal(alloc: Global, fields: &mut Fields) -> Result<Journal, ScriptFault> {
     let node = read_node(fields.take(names::NODE)?)?;
-    let entries = items(fields.take(names::ENTRIES)?)?;
     let mut journal = Journal::new(alloc, node);
-    for entry in entries {
-        enter(&mut journal, read_entry(alloc, &mut Fields::new(entry, 2))?)?;
+    read_into(alloc, fields, &mut journal)?;
+    Ok(journal)
+}
+
+fn read_into(alloc: Global, fields: &mut Fields, journal: &mut Journal) -> Result<(), ScriptFault> {
+    for entry in items(fields.take(names::ENTRIES)?)? {
+        enter(journal, read_entry(alloc, &mut Fields::new(entry, 2))?)?;
     }
     if let Some(last) = read_last(alloc, fields.take(names::LAST)?)? {
         journal.close(last);
     }
-    Ok(journal)
+    Ok(())
 }
 
 fn enter(journal: &mut Journal, entry: Entry) -> Result<(), ScriptFault> {
@@ -37,13 +41,11 @@ fn read_entry(alloc: Global, fields: &mut Fields) -> Result<Entry, ScriptFault> 
 }
 
 pub(crate) fn write_journal(alloc: Global, journal: &Journal) -> Result<Value, Memory> {
-    Ok(
-        Object::new(alloc)
-            .with(names::NODE, write_node(alloc, &journal.node())?)?
-            .with(names::ENTRIES, write_entries(alloc, journal.entries())?)?
-            .with(names::LAST, write_last_in(alloc, journal)?)?
-            .value(),
-    )
+    let object = Object::new(alloc)
+        .and(names::NODE, write_node(alloc, &journal.node()))?
+        .and(names::ENTRIES, write_entries(alloc, journal.entries()))?
+        .and(names::LAST, write_last_in(alloc, journal))?;
+    Ok(object.value())
 }
 
 fn write_last_in(alloc: Global, journal: &Journal) -> Result<Value, Memory> {
@@ -53,19 +55,19 @@ fn write_last_in(alloc: Global, journal: &Journal) -> Result<Value, Memory> {
     }
 }
 
+fn write_entry(alloc: Global, entry: &Entry) -> Result<Value, Memory> {
+    let object = Object::of(alloc, &[(names::STAMP, entry.stamp.get())])?;
+    Ok(
+        object
+            .and(names::ACT, write_act(alloc, &entry.act))?
+            .value(),
+    )
+}
+
 fn write_entries(alloc: Global, entries: &[Entry]) -> Result<Value, Memory> {
     let mut items = Vec::with_capacity(alloc, entries.len())?;
     for entry in entries {
         items.push(write_entry(alloc, entry)?)?;
     }
     Ok(Value::Array(items))
-}
-
-fn write_entry(alloc: Global, entry: &Entry) -> Result<Value, Memory> {
-    let act = write_act(alloc, &entry.act)?;
-    Ok(
-        Object::of(alloc, &[(names::STAMP, entry.stamp.get())])?
-            .with(names::ACT, act)?
-            .value(),
-    )
 }

@@ -29,14 +29,22 @@ pub fn read_script(alloc: Global, text: &[u8]) -> Result<(Config, Vec<Journal>),
         Err(error) if error.is_memory() => return Err(ScriptFault::Memory),
         Err(_) => return Err(ScriptFault::BadScript),
     };
-    let mut fields = Fields::new(script, 2);
+    read_parts(alloc, &mut Fields::new(script, 2))
+}
+
+fn read_parts(alloc: Global, fields: &mut Fields) -> Result<(Config, Vec<Journal>), ScriptFault> {
     let config = read_config(alloc, &mut Fields::new(fields.take(names::CONFIG)?, 5))?;
-    let items = items(fields.take(names::JOURNALS)?)?;
+    let journals = read_journals(alloc, fields.take(names::JOURNALS)?)?;
+    Ok((config, journals))
+}
+
+fn read_journals(alloc: Global, value: Value) -> Result<Vec<Journal>, ScriptFault> {
+    let items = items(value)?;
     let mut journals = Vec::with_capacity(alloc, items.len())?;
     for item in items {
         journals.push(read_journal(alloc, &mut Fields::new(item, 3))?)?;
     }
-    Ok((config, journals))
+    Ok(journals)
 }
 
 /// Writes a config and journals as a script: members in the order of their names' bytes, without blanks. It is read
@@ -46,13 +54,17 @@ pub fn write_script(alloc: Global, config: &Config, journals: &[Journal]) -> Res
     ensures compact { IfOk result (λ text. text.items ≡ print (tokens text.items)) }
     ensures json { IfOk result (λ text. (d : Data) × IsInOrder text.items d) }
 {
+    let script = Object::new(alloc)
+        .and(names::CONFIG, write_config(alloc, config))?
+        .and(names::JOURNALS, write_journals(alloc, journals))?
+        .value();
+    Ok(script.to_vec(alloc)?)
+}
+
+fn write_journals(alloc: Global, journals: &[Journal]) -> Result<Value, Memory> {
     let mut items = Vec::with_capacity(alloc, journals.len())?;
     for journal in journals {
         items.push(write_journal(alloc, journal)?)?;
     }
-    let script = Object::new(alloc)
-        .with(names::CONFIG, write_config(alloc, config)?)?
-        .with(names::JOURNALS, Value::Array(items))?
-        .value();
-    Ok(script.to_vec(alloc)?)
+    Ok(Value::Array(items))
 }

@@ -28,10 +28,10 @@ pub(crate) fn write_config(alloc: Global, config: &Config) -> Result<Value, Memo
         (names::DEGREE, config.degree() as u64),
         (names::PROXIES, config.proxies() as u64),
     ];
-    let shards = write_shards(alloc, config.map().begins())?;
+    let object = Object::of(alloc, &numbers)?;
     Ok(
-        Object::of(alloc, &numbers)?
-            .with(names::SHARDS, shards)?
+        object
+            .and(names::SHARDS, write_shards(alloc, config.map().begins()))?
             .value(),
     )
 }

@@ -53,6 +53,8 @@ first epoch is 257, its first version 1. A step is one of
       a storage server applies what a log has for it
   {\"mark\":{\"storage\":S,\"epoch\":E,\"log\":I}}
       it hears of the epoch, and takes back what did not survive
+  {\"pop\":{\"storage\":S,\"epoch\":E,\"log\":I}}
+      it has the log let go of what it has for good
   {\"recover\":{\"ballot\":B,\"read\":[C,..],\"lock\":[I,..],\"write\":[C,..],\"mark\":[I,..]}}
       the recoverer of a ballot begins or goes on: it reads these cells, locks these logs, copies
       and seeds, writes to these cells, and gives these logs the mark
@@ -64,6 +66,7 @@ It prints a line for each step, and then where each storage server stands, with 
   commit E P V OUTCOME      the batch has version V: committed, ended or waiting; so for push
   commit E P ended          the batch was given no version
   pull S E V                the server stands at version V of epoch E; so for mark
+  pop S E V                 the log let go of the server's records through version V
   recover B PHASE           reading, locking, copying, writing, chosen pev P rv R (through P all is
                             known to be committed, through R the epoch takes over) or lost WHY
   lose E I                  the log is lost
@@ -143,9 +146,10 @@ Coordinators, logs, a sequencer and proxies run in memory, with a workload for e
 servers that pull, and recoverers. Each workload, storage server and recoverer has a thread, and takes
 turns in it: in a turn a workload hands out a batch, where it has none open, and its proxy sends each
 ask whose tell it wants once; a storage server asks one log for its records and one for the mark of
-the newest epoch; a recoverer sends each ask whose tell it wants once. Recovery I, counted from 1,
-begins at turn 100 I of its thread. No ask is lost and no node crashes. Batch J of workload W sets one
-key, of two bytes, 8 (J mod the number of storage servers) and W, to J, as four bytes.
+the newest epoch, and has one of its own epoch let go of what it has for good; a recoverer sends each
+ask whose tell it wants once. Recovery I, counted from 1, begins at turn 100 I of its thread. No ask
+is lost and no node crashes. Batch J of workload W sets one key, of two bytes, 8 (J mod the number of
+storage servers) and W, to J, as four bytes.
 
 Each node keeps a journal of what it did. Once all threads are at their end the journals are audited,
 as by the command audit, and one line is printed:

@@ -1,6 +1,6 @@
 //! The program `fdbrec` as a library: its words choose a command, which reads a script and prints lines.
 //! Each command is also a function over a reader and a writer, handed on here.
-//! `fdbrec` runs it over the words of its command line, `example_scripts` over those of each example.
+//! `fdbrec` runs it over the words of its command line, `test_program` over those of each example.
 #![tactic(auto)]
 
 mod apply;

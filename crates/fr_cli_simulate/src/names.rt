@@ -50,6 +50,7 @@ fn log_name(why: LogRefusal) -> &'static str {
         LogRefusal::TooEarly { .. } => "TooEarly",
         LogRefusal::SeedDiffers => "SeedDiffers",
         LogRefusal::NoMark => "NoMark",
+        LogRefusal::Removed { .. } => "Removed",
     }
 }
 

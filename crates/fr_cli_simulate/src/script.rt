@@ -29,6 +29,8 @@ pub(crate) enum Act {
     Pull(Pull),
     /// A storage server asks a log for the mark.
     Mark(Pull),
+    /// A storage server has a log let go of what it has for good.
+    Pop(Pull),
     /// A recoverer begins, or goes on.
     Recover(Recover),
     /// A log is lost.

@@ -2,6 +2,7 @@
 mod commit;
 mod lose;
 mod mark;
+mod pop;
 mod pull;
 mod push;
 mod recover;
@@ -20,6 +21,7 @@ pub(crate) fn line_of(alloc: Global, world: World, act: Act) -> Result<(World, S
         Act::Push(push) => push::line_of(alloc, &mut world, &push)?,
         Act::Pull(pull) => return pull::line_of(alloc, world, &pull),
         Act::Mark(mark) => return mark::line_of(alloc, world, &mark),
+        Act::Pop(pop) => return pop::line_of(alloc, world, &pop),
         Act::Recover(recover) => recover::line_of(alloc, &mut world, &recover)?,
         Act::Lose(log) => lose::line_of(alloc, &mut world, log)?,
     };

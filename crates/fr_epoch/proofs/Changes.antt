@@ -1,5 +1,5 @@
 -- Each hear of a recoverer is one of its changes.
-use Rattle.std.proofs.Common.{◌≡◌, ℕ, ◌+◌, ◌^◌, ◌<◌, ◌≤◌, Bool, true, false, cond, nat_lt, nat_le, ◌==◌, ◌&&◌, not, Option, None, Some, refl, ◌∙◌, ap}
+use Rattle.std.proofs.Common.{◌≡◌, ℕ, ◌+◌, ◌^◌, ◌<◌, ◌≤◌, Bool, true, false, cond, nat_lt, nat_le, ◌==◌, ◌&&◌, not, List, Option, None, Some, refl, ◌∙◌, ap}
 use Rattle.std.specs.Prelude.{Result, Ok, Err}
 use Rattle.std.proofs.lemmas.Bool.{and_parts, eqb-true, ltb-false, ltb-true, leb-false, not-true}
 use Rattle.fr_register.specs.Tally.{hear_read, hear_write, progress_of}
@@ -17,8 +17,9 @@ use Rattle.fr_log.specs.declared.ask.LogTell.TheVariants as log
 use Rattle.fr_log.specs.Peeked.{PeekedContent}
 use Rattle.fr_epoch.specs.EndTally.{EndState, is_covered, pev_of, rv_of}
 use Rattle.fr_epoch.specs.Recoverer.{RecState, Phase, Parent, Plan, Reading, Locking, Copying, Writing, Chosen, Lost, is_copied, is_written}
+use Rattle.fr_log.specs.declared.popped.PoppedTag.{PoppedTag}
 use Rattle.fr_epoch.specs.Words.{Word, OfCell, OfLog, Other, Nothing, Replied, Given, IsSeeded, IsMarked, is_in, word_of, heed_in, heed_locked, heed_lock, heed_peeked, heed_seeded, heed_copy, heed_held, heed_mark, is_newly_seeded, is_newly_marked}
-use Rattle.fr_epoch.specs.Hear.{lost, why_of, with_last, with_parent, after_reads, with_read, with_plan, ended, after_reply, with_lock, next_generation, with_seeded, after_writes, with_write, after_heed}
+use Rattle.fr_epoch.specs.Hear.{lost, why_of, with_last, with_parent, after_reads, with_read, with_plan, ended, after_reply, left_of, with_lock, next_generation, with_seeded, after_writes, with_write, after_heed}
 use Rattle.fr_epoch.specs.declared.why.LostWhy.TheVariants as why
 use Rattle.fr_epoch.specs.Change.{IsPromised, IsReplied, IsNewlySeeded, IsVoted, replied, Change, Stands, LosesReads, Reads, Finds, Locks, LosesLocks, Plans, Copies, Seeds, SeedsAll, Writes, LosesWrites, Chooses, Marks}
 use Rattle.fr_epoch.specs.Law.{HearIsChange}
@@ -42,50 +43,51 @@ read r w i t at (poll.Lost promised) e = LosesReads i t (why_of t) at
 
 -- ---- locking
 
-planned : (r : RecState) (w : Word) (p : Parent) (end : EndState) (i durable known : ℕ) → IsReplied r w p end i durable known → is_covered (replied end i durable known) ≡ true
+planned : (r : RecState) (w : Word) (p : Parent) (end : EndState) (i durable known : ℕ) (popped : List PoppedTag) → IsReplied r w p end i durable known popped → is_covered (replied end i durable known) ≡ true
     → pev_of (replied end i durable known) ≤ rv_of (replied end i durable known) → rv_of (replied end i durable known) + 1 < 2 ^ 62
-    → (o : Result CoordinatedState StateFault) → extended p.state (next_generation r p (replied end i durable known)) ≡ o
-    → Change r w (with_plan (with_lock r end i durable known) p (replied end i durable known) o)
-planned r w p end i durable known at cov low high (Ok s) e = Plans p end i durable known s at (record { covered = cov; within = low; below = high; state = e })
-planned r w p end i durable known at cov low high (Err fault.NotLater) e = LosesLocks p end i durable known why.NotLater at
-planned r w p end i durable known at cov low high (Err fault.TooMany) e = LosesLocks p end i durable known why.TooMany at
-planned r w p end i durable known at cov low high (Err fault.Memory) e = Locks p end i durable known at
+    → (o : Result CoordinatedState StateFault) → extended (left_of (with_lock r end i durable known popped) p) (next_generation r p (replied end i durable known)) ≡ o
+    → Change r w (with_plan (with_lock r end i durable known popped) p (replied end i durable known) o)
+planned r w p end i durable known popped at cov low high (Ok s) e = Plans p end i durable known popped s at (record { covered = cov; within = low; below = high; state = e })
+planned r w p end i durable known popped at cov low high (Err fault.NotLater) e = LosesLocks p end i durable known popped why.NotLater at
+planned r w p end i durable known popped at cov low high (Err fault.TooMany) e = LosesLocks p end i durable known popped why.TooMany at
+planned r w p end i durable known popped at cov low high (Err fault.Memory) e = Locks p end i durable known popped at
 
-reply : (r : RecState) (w : Word) (p : Parent) (end : EndState) (i durable known : ℕ) → IsReplied r w p end i durable known
-    → Change r w (after_reply (with_lock r end i durable known) p (Some (replied end i durable known)))
-reply r w p end i durable known at = go (is_covered (replied end i durable known)) refl
+reply : (r : RecState) (w : Word) (p : Parent) (end : EndState) (i durable known : ℕ) (popped : List PoppedTag) → IsReplied r w p end i durable known popped
+    → Change r w (after_reply (with_lock r end i durable known popped) p (Some (replied end i durable known)))
+reply r w p end i durable known popped at = go (is_covered (replied end i durable known)) refl
   where
     later : (b : Bool) → is_covered (replied end i durable known) ≡ true → pev_of (replied end i durable known) ≤ rv_of (replied end i durable known) → nat_le (2 ^ 62) (rv_of (replied end i durable known) + 1) ≡ b
-        → Change r w (cond b (lost (with_lock r end i durable known) why.Spent) (with_plan (with_lock r end i durable known) p (replied end i durable known) (extended p.state (next_generation r p (replied end i durable known)))))
-    later true cov le e = LosesLocks p end i durable known why.Spent at
-    later false cov le e = planned r w p end i durable known at cov le (leb-false (2 ^ 62) (rv_of (replied end i durable known) + 1) e) (extended p.state (next_generation r p (replied end i durable known))) refl
+        → Change r w (cond b (lost (with_lock r end i durable known popped) why.Spent) (with_plan (with_lock r end i durable known popped) p (replied end i durable known) (extended (left_of (with_lock r end i durable known popped) p) (next_generation r p (replied end i durable known)))))
+    later true cov le e = LosesLocks p end i durable known popped why.Spent at
+    later false cov le e = planned r w p end i durable known popped at cov le (leb-false (2 ^ 62) (rv_of (replied end i durable known) + 1) e) (extended (left_of (with_lock r end i durable known popped) p) (next_generation r p (replied end i durable known))) refl
 
     consistent : (b : Bool) → is_covered (replied end i durable known) ≡ true → nat_lt (rv_of (replied end i durable known)) (pev_of (replied end i durable known)) ≡ b
-        → Change r w (cond b (lost (with_lock r end i durable known) why.Inconsistent) (cond (nat_le (2 ^ 62) (rv_of (replied end i durable known) + 1)) (lost (with_lock r end i durable known) why.Spent)
-        (with_plan (with_lock r end i durable known) p (replied end i durable known) (extended p.state (next_generation r p (replied end i durable known))))))
-    consistent true cov e = LosesLocks p end i durable known why.Inconsistent at
+        → Change r w (cond b (lost (with_lock r end i durable known popped) why.Inconsistent) (cond (nat_le (2 ^ 62) (rv_of (replied end i durable known) + 1)) (lost (with_lock r end i durable known popped) why.Spent)
+        (with_plan (with_lock r end i durable known popped) p (replied end i durable known) (extended (left_of (with_lock r end i durable known popped) p) (next_generation r p (replied end i durable known))))))
+    consistent true cov e = LosesLocks p end i durable known popped why.Inconsistent at
     consistent false cov e = later (nat_le (2 ^ 62) (rv_of (replied end i durable known) + 1)) cov (ltb-false (rv_of (replied end i durable known)) (pev_of (replied end i durable known)) e) refl
 
-    go : (b : Bool) → is_covered (replied end i durable known) ≡ b → Change r w (cond b (ended (with_lock r end i durable known) p (replied end i durable known)) (with_lock r end i durable known))
+    go : (b : Bool) → is_covered (replied end i durable known) ≡ b → Change r w (cond b (ended (with_lock r end i durable known popped) p (replied end i durable known)) (with_lock r end i durable known popped))
     go true e = consistent (nat_lt (rv_of (replied end i durable known)) (pev_of (replied end i durable known))) e refl
-    go false e = Locks p end i durable known at
+    go false e = Locks p end i durable known popped at
 
-lock : (r : RecState) (w : Word) (e i durable known : ℕ) → r.phase ≡ Locking → w ≡ OfLog e i (log.Locked durable known) → (o : Option Parent) → r.parent ≡ o → (s : Option EndState) → r.end ≡ s
-    → Change r w (after_heed r (heed_locked o s e i durable known))
-lock r w e i durable known ph says None at s tally = Stands
-lock r w e i durable known ph says (Some p) at None tally = Stands
-lock r w e i durable known ph says (Some p) at (Some end) tally = go (e == p.last.epoch) refl
+lock : (r : RecState) (w : Word) (e i durable known : ℕ) (popped : List PoppedTag) → r.phase ≡ Locking → w ≡ OfLog e i (log.Locked durable known popped) → (o : Option Parent) → r.parent ≡ o → (s : Option EndState) → r.end ≡ s
+    → Change r w (after_heed r (heed_locked o s e i durable known popped))
+lock r w e i durable known popped ph says None at s tally = Stands
+lock r w e i durable known popped ph says (Some p) at None tally = Stands
+lock r w e i durable known popped ph says (Some p) at (Some end) tally = go (e == p.last.epoch) refl
   where
-    go : (b : Bool) → (e == p.last.epoch) ≡ b → Change r w (after_heed r (cond b (Replied p end i durable known) Nothing))
-    go true k = reply r w p end i durable known (record { phase = ph; parent = at; tally = tally; word = says ∙ ap (λ x. OfLog x i (log.Locked durable known)) (eqb-true e p.last.epoch k) })
+    go : (b : Bool) → (e == p.last.epoch) ≡ b → Change r w (after_heed r (cond b (Replied p end i durable known popped) Nothing))
+    go true k = reply r w p end i durable known popped (record { phase = ph; parent = at; tally = tally; word = says ∙ ap (λ x. OfLog x i (log.Locked durable known popped)) (eqb-true e p.last.epoch k) })
     go false k = Stands
 
 locking : (r : RecState) (w : Word) (e i : ℕ) (t : LogTell) → r.phase ≡ Locking → w ≡ OfLog e i t → Change r w (after_heed r (heed_lock r e i t))
 locking r w e i log.Seeded ph says = Stands
 locking r w e i (log.Held version) ph says = Stands
-locking r w e i (log.Locked durable known) ph says = lock r w e i durable known ph says r.parent refl r.end refl
+locking r w e i (log.Locked durable known popped) ph says = lock r w e i durable known popped ph says r.parent refl r.end refl
 locking r w e i (log.Peeked peeked) ph says = Stands
 locking r w e i (log.Marked state) ph says = Stands
+locking r w e i (log.Popped through) ph says = Stands
 locking r w e i (log.Refused why) ph says = Stands
 
 -- ---- copying
@@ -120,9 +122,10 @@ seed r w e i ph says (Some p) at = go (is_newly_seeded r p e i) refl
 copying : (r : RecState) (w : Word) (e i : ℕ) (t : LogTell) → r.phase ≡ Copying → w ≡ OfLog e i t → Change r w (after_heed r (heed_copy r e i t))
 copying r w e i log.Seeded ph says = seed r w e i ph says r.plan refl
 copying r w e i (log.Held version) ph says = Stands
-copying r w e i (log.Locked durable known) ph says = Stands
+copying r w e i (log.Locked durable known popped) ph says = Stands
 copying r w e i (log.Peeked peeked) ph says = copy r w e i peeked ph says r.parent refl r.plan refl
 copying r w e i (log.Marked state) ph says = Stands
+copying r w e i (log.Popped through) ph says = Stands
 copying r w e i (log.Refused why) ph says = Stands
 
 -- ---- writing, and chosen
@@ -154,9 +157,10 @@ held r w e i version ph says (Some p) at = go (is_newly_marked r p e i version) 
 chosen : (r : RecState) (w : Word) (e i : ℕ) (t : LogTell) → r.phase ≡ Chosen → w ≡ OfLog e i t → Change r w (after_heed r (heed_mark r e i t))
 chosen r w e i log.Seeded ph says = Stands
 chosen r w e i (log.Held version) ph says = held r w e i version ph says r.plan refl
-chosen r w e i (log.Locked durable known) ph says = Stands
+chosen r w e i (log.Locked durable known popped) ph says = Stands
 chosen r w e i (log.Peeked peeked) ph says = Stands
 chosen r w e i (log.Marked state) ph says = Stands
+chosen r w e i (log.Popped through) ph says = Stands
 chosen r w e i (log.Refused why) ph says = Stands
 
 -- ---- all phases

@@ -65,7 +65,7 @@ comes_by w r n (Finds i t s g at is) h = record {
   tallied = λ q e. (let k : Some (let p : Parent = record { state = s; last = g } in p) ≡ Some q = e in let d : (let p : Parent = record { state = s; last = g } in p) ≡ q = cc in
       (new_end g.m g.k, refl, ap (λ (p : Parent). p.last.m) d, ap (λ (p : Parent). p.last.k) d));
 }
-comes_by w r n (Locks p end i durable known at) h = record {
+comes_by w r n (Locks p end i durable known popped at) h = record {
   reading = h.reading;
   locking = h.locking;
   writing = h.writing;
@@ -73,7 +73,7 @@ comes_by w r n (Locks p end i durable known at) h = record {
   parentless = h.parentless;
   tallied = still_tallied r p end i durable known h at.parent at.tally;
 }
-comes_by w r n (LosesLocks p end i durable known why at) h = record {
+comes_by w r n (LosesLocks p end i durable known popped why at) h = record {
   reading = λ e. absurd (cc);
   locking = λ e. absurd (cc);
   writing = λ e. absurd (cc);
@@ -81,7 +81,7 @@ comes_by w r n (LosesLocks p end i durable known why at) h = record {
   parentless = h.parentless;
   tallied = still_tallied r p end i durable known h at.parent at.tally;
 }
-comes_by w r n (Plans p end i durable known s at is) h = record {
+comes_by w r n (Plans p end i durable known popped s at is) h = record {
   reading = λ e. absurd (cc);
   locking = λ e. absurd (cc);
   writing = λ e. absurd (cc);
@@ -177,10 +177,10 @@ grows complete w r n (Reads i t at) h = stands r n refl refl refl (λ s. absurd 
 grows complete w r n (Finds i t s g at is) h =
     stands r n refl refl refl (λ s. absurd (no_parent r.parent (h.reading at.phase) s)) (λ s. absurd (no_parent r.parent (h.reading at.phase) s)) refl (λ e. e)
     (λ e. let k : Reading ≡ Chosen = sym at.phase ∙ e in absurd (cc))
-grows complete w r n (Locks p end i durable known at) h = stands r n refl refl refl (λ e. refl) (λ e. refl) refl (λ e. e) (λ e. e)
-grows complete w r n (LosesLocks p end i durable known why at) h =
+grows complete w r n (Locks p end i durable known popped at) h = stands r n refl refl refl (λ e. refl) (λ e. refl) refl (λ e. e) (λ e. e)
+grows complete w r n (LosesLocks p end i durable known popped why at) h =
     stands r n refl refl refl (λ e. refl) (λ e. refl) refl (λ e. e) (λ e. let k : Locking ≡ Chosen = sym at.phase ∙ e in absurd (cc))
-grows complete w r n (Plans p end i durable known s at is) h = record {
+grows complete w r n (Plans p end i durable known popped s at is) h = record {
   ballot = refl;
   begins = refl;
   shape = refl;

@@ -65,9 +65,9 @@ last_kept law w r n (Finds i t s g at is) h = λ q e. (
     let p : Parent = record { state = s; last = g } in
     let d : p ≡ q = cc in
     subst (λ (x : Parent). IsGeneration x.last) d (read_last law (with_read r i t).reads.greatest.value s g is.value is.last))
-last_kept law w r n (Locks p end i durable known at) h = h.parent
-last_kept law w r n (LosesLocks p end i durable known why at) h = h.parent
-last_kept law w r n (Plans p end i durable known s at is) h = h.parent
+last_kept law w r n (Locks p end i durable known popped at) h = h.parent
+last_kept law w r n (LosesLocks p end i durable known popped why at) h = h.parent
+last_kept law w r n (Plans p end i durable known popped s at is) h = h.parent
 last_kept law w r n (Copies parent p i peeked at) h = h.parent
 last_kept law w r n (Seeds p i at l) h = h.parent
 last_kept law w r n (SeedsAll p i at l) h = h.parent
@@ -82,9 +82,9 @@ planned_kept w r n Stands h = h.generation
 planned_kept w r n (LosesReads i t why at) h = h.generation
 planned_kept w r n (Reads i t at) h = h.generation
 planned_kept w r n (Finds i t s g at is) h = h.generation
-planned_kept w r n (Locks p end i durable known at) h = h.generation
-planned_kept w r n (LosesLocks p end i durable known why at) h = h.generation
-planned_kept w r n (Plans p end i durable known s at is) h = λ q e. (
+planned_kept w r n (Locks p end i durable known popped at) h = h.generation
+planned_kept w r n (LosesLocks p end i durable known popped why at) h = h.generation
+planned_kept w r n (Plans p end i durable known popped s at is) h = λ q e. (
     let d : plan_of r p (replied end i durable known) s ≡ q = cc in
     subst (λ (x : Plan). IsGeneration x.generation) d (opened r h p (replied end i durable known) (h.parent p at.parent) is.within is.below))
 planned_kept w r n (Copies parent p i peeked at) h = λ q e. (

@@ -14,9 +14,9 @@ sound ends w r n Stands h = h
 sound ends w r n (LosesReads i t why at) h = h
 sound ends w r n (Reads i t at) h = h
 sound ends w r n (Finds i t s g at is) h = h
-sound ends w r n (Locks p end i durable known at) h = h
-sound ends w r n (LosesLocks p end i durable known why at) h = h
-sound ends w r n (Plans p end i durable known s at is) h = λ q e. (
+sound ends w r n (Locks p end i durable known popped at) h = h
+sound ends w r n (LosesLocks p end i durable known popped why at) h = h
+sound ends w r n (Plans p end i durable known popped s at is) h = λ q e. (
     let d : plan_of r p (replied end i durable known) s ≡ q = cc in
     subst (IsPlanOf r.ballot) d (record { epoch = refl; first = refl; seeded_to = refl }))
 sound ends w r n (Copies parent p i peeked at) h = λ q e. (

@@ -5,9 +5,11 @@ use Rattle.std.proofs.lemmas.Bool.{and_parts, leb-true, eq-eqb, eqb-true, ne_eqb
 use Rattle.std.proofs.lemmas.List.Elements.{All-nil, All-cons, All-append, All-head, All-tail}
 use Rattle.std.proofs.lemmas.Map.Steps.{length-le_from_distinct_below}
 use Rattle.fr_tail.specs.Tail.{TailState, is_complete, seed_for, after_hear as after_peeked}
-use Rattle.fr_epoch.specs.Recoverer.{RecState, Plan, is_written_in, mark_of}
+use Rattle.fr_state.specs.Generations.{CoordinatedState}
+use Rattle.fr_state.specs.Order.{extended}
+use Rattle.fr_epoch.specs.Recoverer.{RecState, Parent, Plan, is_written_in, mark_of}
 use Rattle.fr_epoch.specs.Words.{Word, word_of, is_in}
-use Rattle.fr_epoch.specs.Hear.{shape_after, plan_of, after_hear}
+use Rattle.fr_epoch.specs.Hear.{shape_after, left_of, plan_of, after_hear}
 use Rattle.fr_epoch.specs.Change.{replied, Change, Stands, LosesReads, Reads, Finds, Locks, LosesLocks, Plans, Copies, Seeds, SeedsAll, Writes, LosesWrites, Chooses, Marks}
 use Rattle.fr_epoch.specs.Law.{IsRecoverer}
 use Rattle.fr_epoch.specs.WriteLaw.{IsMadeOf, HasMadePlan, AreSeeded, HearKeepsMade, HearKeepsSeeded, WrittenIsSeeded, WriteIsParentExtended, MarkIsChosen, MarksAreOne, SeedIsOfCopied, SeedsAreOne}
@@ -19,8 +21,8 @@ none_made : (r n : RecState) → r.plan ≡ None → n.plan ≡ r.plan → HasMa
 none_made r n none same p e = let k : None ≡ Some p = sym none ∙ sym same ∙ e in absurd (cc)
 
 -- it stands, and what it comes from
-still : (r n : RecState) → n.shape ≡ r.shape → n.parent ≡ r.parent → n.end ≡ r.end → n.plan ≡ r.plan → HasMadePlan r → HasMadePlan n
-still r n shape parent end plan k q e =
+still : (r n : RecState) → n.shape ≡ r.shape → n.parent ≡ r.parent → n.end ≡ r.end → ((p : Parent) → left_of n p ≡ left_of r p) → n.plan ≡ r.plan → HasMadePlan r → HasMadePlan n
+still r n shape parent end left plan k q e =
     let was = k q (sym plan ∙ e) in
     let is = was.2 in (
       was.0,
@@ -35,7 +37,7 @@ still r n shape parent end plan k q e =
         k = is.k ∙ ap (λ o. (shape_after o was.0.last).k) (sym shape);
         first = is.first;
         seeded_to = is.seeded_to;
-        state = is.state;
+        state = ap (λ (x : CoordinatedState). extended x q.generation) (left was.0) ∙ is.state;
       },
     )
 
@@ -44,9 +46,9 @@ made w r n Stands h k = k
 made w r n (LosesReads i t why at) h k = none_made r n (h.parentless (h.reading at.phase)) refl
 made w r n (Reads i t at) h k = none_made r n (h.parentless (h.reading at.phase)) refl
 made w r n (Finds i t s g at is) h k = none_made r n (h.parentless (h.reading at.phase)) refl
-made w r n (Locks p end i durable known at) h k = none_made r n (h.locking at.phase) refl
-made w r n (LosesLocks p end i durable known why at) h k = none_made r n (h.locking at.phase) refl
-made w r n (Plans p end i durable known s at is) h k = λ q e. (
+made w r n (Locks p end i durable known popped at) h k = none_made r n (h.locking at.phase) refl
+made w r n (LosesLocks p end i durable known popped why at) h k = none_made r n (h.locking at.phase) refl
+made w r n (Plans p end i durable known popped s at is) h k = λ q e. (
     let d : plan_of r p (replied end i durable known) s ≡ q = cc in (
       p,
       replied end i durable known,
@@ -64,12 +66,12 @@ made w r n (Copies parent p i peeked at) h k = λ q e. (
       subst (λ x. IsMadeOf n x was.0 was.1) d
           (record { parent = is.parent; tally = is.tally; covered = is.covered; within = is.within; below = is.below; m = is.m; k = is.k; first = is.first; seeded_to = is.seeded_to; state = is.state }),
     ))
-made w r n (Seeds p i at l) h k = still r n refl refl refl refl k
-made w r n (SeedsAll p i at l) h k = still r n refl refl refl refl k
-made w r n (Writes i t at) h k = still r n refl refl refl refl k
-made w r n (LosesWrites i t why at) h k = still r n refl refl refl refl k
-made w r n (Chooses i t at l) h k = still r n refl refl refl refl k
-made w r n (Marks p i at) h k = still r n refl refl refl refl k
+made w r n (Seeds p i at l) h k = still r n refl refl refl (λ p. refl) refl k
+made w r n (SeedsAll p i at l) h k = still r n refl refl refl (λ p. refl) refl k
+made w r n (Writes i t at) h k = still r n refl refl refl (λ p. refl) refl k
+made w r n (LosesWrites i t why at) h k = still r n refl refl refl (λ p. refl) refl k
+made w r n (Chooses i t at l) h k = still r n refl refl refl (λ p. refl) refl k
+made w r n (Marks p i at) h k = still r n refl refl refl (λ p. refl) refl k
 
 pub hear_keeps_made : HearKeepsMade
 hear_keeps_made r from t h k = made (word_of from t) r (after_hear r from t) (hear_is_change r from t) h k
@@ -104,9 +106,9 @@ seeded w r n Stands h k = k
 seeded w r n (LosesReads i t why at) h k = k
 seeded w r n (Reads i t at) h k = k
 seeded w r n (Finds i t s g at is) h k = k
-seeded w r n (Locks p end i durable known at) h k = k
-seeded w r n (LosesLocks p end i durable known why at) h k = k
-seeded w r n (Plans p end i durable known s at is) h k = record {
+seeded w r n (Locks p end i durable known popped at) h k = k
+seeded w r n (LosesLocks p end i durable known popped why at) h k = k
+seeded w r n (Plans p end i durable known popped s at is) h k = record {
   none = λ e. absurd (cc);
   below = λ q e. subst (All (λ j. j < q.generation.m)) (sym (k.none (h.locking at.phase))) (All-nil (λ j. j < q.generation.m));
   distinct = k.distinct;

@@ -9,9 +9,12 @@ use Rattle.fr_state.specs.declared.fault.StateFault.{StateFault}
 use Rattle.fr_state.specs.declared.fault.StateFault.TheVariants as fault
 use Rattle.fr_ask.specs.declared.ask.Ask.{Ask}
 use Rattle.fr_tail.specs.Tail.{new_tail, is_complete}
+use Rattle.fr_log.specs.declared.popped.PoppedTag.{PoppedTag}
+use Rattle.std.specs.List.{range_with_len}
+use Rattle.fr_epoch.specs.Dropping.{left_by}
 use Rattle.fr_epoch.specs.EndTally.{EndState, new_end, responders, pev_of, rv_of}
 use Rattle.fr_epoch.specs.Recoverer.{RecState, Locking, Copying, Parent, Plan}
-use Rattle.fr_epoch.specs.Hear.{lost, shape_after}
+use Rattle.fr_epoch.specs.Hear.{lost, shape_after, shown_with}
 use Rattle.fr_epoch.specs.Lists.{lock_ask, unlocked, seed_ask, others, peeks_below}
 use Rattle.fr_epoch.specs.Standing.{plan_in}
 use Rattle.fr_epoch.specs.declared.standing.Draft.{Draft}
@@ -67,16 +70,16 @@ drafted ballot shape tags p end (Err fault.TooMany) = Err why.TooMany
 drafted ballot shape tags p end (Err fault.Memory) = Err why.TooMany
 
 -- the first reason why replies that cover give no plan, or the plan
-abbrev pub draft_of : ℕ → Option ShapeContent → ℕ → Parent → EndState → Result Plan LostWhy
-draft_of ballot shape tags p end =
+abbrev pub draft_of : ℕ → Option ShapeContent → ℕ → Parent → EndState → List PoppedTag → Result Plan LostWhy
+draft_of ballot shape tags p end shown =
     if nat_lt (rv_of end) (pev_of end) then Err why.Inconsistent
     else if nat_le (2 ^ 62) (rv_of end + 1) then Err why.Spent
-    else drafted ballot shape tags p end (extended p.state (generation_after ballot shape p end))
+    else drafted ballot shape tags p end (extended (left_by p.state shown (range_with_len 0 tags)) (generation_after ballot shape p end))
 
 -- the same of a parent that may not be there: then what was read is no state
-abbrev pub draft_in : ℕ → Option ShapeContent → ℕ → Option Parent → EndState → Result Plan LostWhy
-draft_in ballot shape tags None end = Err why.BadState
-draft_in ballot shape tags (Some p) end = draft_of ballot shape tags p end
+abbrev pub draft_in : ℕ → Option ShapeContent → ℕ → Option Parent → EndState → List PoppedTag → Result Plan LostWhy
+draft_in ballot shape tags None end shown = Err why.BadState
+draft_in ballot shape tags (Some p) end shown = draft_of ballot shape tags p end shown
 
 -- a plan as it is kept
 abbrev pub plan_result : Result Draft LostWhy → Result Plan LostWhy
@@ -99,3 +102,11 @@ copy_asks ballot old tags seeded p =
 abbrev pub draft_asks : ℕ → ℕ → ℕ → List ℕ → Result Plan LostWhy → List (NodeId × Ask)
 draft_asks ballot old tags seeded (Ok p) = copy_asks ballot old tags seeded p
 draft_asks ballot old tags seeded (Err why) = []
+
+-- what is shown once a reply counts, where there are replies
+abbrev pub shown_of_end : RecState → Option EndState → ℕ → List PoppedTag → List PoppedTag
+shown_of_end r None i popped = r.shown
+shown_of_end r (Some end) i popped = shown_with r.shown end i popped
+
+abbrev pub shown_in : RecState → ℕ → List PoppedTag → List PoppedTag
+shown_in r i popped = shown_of_end r r.end i popped

@@ -21,9 +21,13 @@ new_end m k = record { m = m; k = k; replies = [] }
 abbrev pub has_replied : EndState → ℕ → Bool
 has_replied s log = list_any (λ r. r.log == log) s.replies
 
--- the first reply of each log of the generation counts
+-- whether a reply of a log counts: the first of each log of the generation does
+abbrev pub counts : EndState → ℕ → Bool
+counts s log = nat_lt log s.m && not (has_replied s log)
+
+-- a tally with one more reply, where that counts
 abbrev pub with_reply : EndState → Reply → EndState
-with_reply s r = if nat_lt r.log s.m && not (has_replied s r.log) then record s { replies = s.replies ++ r ∷ [] } else s
+with_reply s r = if counts s r.log then record s { replies = s.replies ++ r ∷ [] } else s
 
 -- the first reply of a log
 abbrev pub reply_of : List Reply → ℕ → Option Reply

@@ -1,5 +1,5 @@
 -- What a recoverer is after one more tell: first its tallies and its copy absorb it, and then it advances, if it may.
-use Rattle.std.specs.Prelude.{ℕ, ◌+◌, ◌^◌, nat_lt, nat_le, ◌∷◌, [], ◌++◌, length, Option, None, Some, Result, Ok, Err, if◌then◌else◌, unwrap_or}
+use Rattle.std.specs.Prelude.{ℕ, ◌+◌, ◌^◌, nat_lt, nat_le, List, ◌∷◌, [], ◌++◌, length, Option, None, Some, Result, Ok, Err, if◌then◌else◌, unwrap_or}
 use Rattle.fr_base.specs.Shape.{ShapeContent}
 use Rattle.fr_base.specs.declared.place.NodeId.{NodeId}
 use Rattle.fr_register.specs.Tally.{hear_read, hear_write, progress_of}
@@ -16,7 +16,10 @@ use Rattle.fr_state.specs.declared.fault.StateFault.TheVariants as fault
 use Rattle.fr_log.specs.Peeked.{PeekedContent}
 use Rattle.fr_ask.specs.declared.tell.Tell.{Tell}
 use Rattle.fr_tail.specs.Tail.{new_tail, after_hear as after_peeked}
-use Rattle.fr_epoch.specs.EndTally.{EndState, new_end, with_reply, is_covered, responders, pev_of, rv_of}
+use Rattle.fr_log.specs.declared.popped.PoppedTag.{PoppedTag}
+use Rattle.std.specs.List.{range_with_len}
+use Rattle.fr_epoch.specs.Dropping.{left_by}
+use Rattle.fr_epoch.specs.EndTally.{EndState, new_end, counts, with_reply, is_covered, responders, pev_of, rv_of}
 use Rattle.fr_epoch.specs.Recoverer.{RecState, Parent, Plan, Locking, Copying, Writing, Chosen, Lost, is_written}
 use Rattle.fr_epoch.specs.Words.{Heed, Nothing, Promised, Replied, Given, IsSeeded, Voted, IsMarked, word_of, heed}
 use Rattle.fr_epoch.specs.declared.why.LostWhy.{LostWhy}
@@ -27,8 +30,15 @@ use Rattle.fr_epoch.specs.declared.why.LostWhy.TheVariants as why
 abbrev pub with_read : RecState → ℕ → CellTell → RecState
 with_read r i t = record r { reads = hear_read r.reads i t }
 
-abbrev pub with_lock : RecState → EndState → ℕ → ℕ → ℕ → RecState
-with_lock r end i durable known = record r { end = Some (with_reply end (record { log = i; durable = durable; known = known })) }
+-- what is shown popped counts with its reply
+abbrev pub shown_with : List PoppedTag → EndState → ℕ → List PoppedTag → List PoppedTag
+shown_with shown end i popped = if counts end i then shown ++ popped else shown
+
+abbrev pub with_lock : RecState → EndState → ℕ → ℕ → ℕ → List PoppedTag → RecState
+with_lock r end i durable known popped = record r {
+  end = Some (with_reply end (record { log = i; durable = durable; known = known }));
+  shown = shown_with r.shown end i popped;
+}
 
 abbrev pub with_tail : RecState → Plan → ℕ → PeekedContent → RecState
 with_tail r p i peeked = record r { plan = Some (record p { tail = after_peeked p.tail i peeked.tag peeked }) }
@@ -46,7 +56,7 @@ with_marked r i = record r { marked = r.marked ++ i ∷ [] }
 abbrev pub absorbed : RecState → Heed → RecState
 absorbed r Nothing = r
 absorbed r (Promised i t) = with_read r i t
-absorbed r (Replied p end i durable known) = with_lock r end i durable known
+absorbed r (Replied p end i durable known popped) = with_lock r end i durable known popped
 absorbed r (Given p i peeked) = with_tail r p i peeked
 absorbed r (IsSeeded p i) = with_seeded r i
 absorbed r (Voted i t) = with_write r i t
@@ -110,12 +120,16 @@ with_plan r p end (Err fault.NotLater) = lost r why.NotLater
 with_plan r p end (Err fault.TooMany) = lost r why.TooMany
 with_plan r p end (Err fault.Memory) = r
 
+-- what the recoverer goes on from: its parent, without the generations that what was shown lets drop
+abbrev pub left_of : RecState → Parent → CoordinatedState
+left_of r p = left_by p.state r.shown (range_with_len 0 (length r.begins))
+
 -- the replies cover: the end is fixed
 abbrev pub ended : RecState → Parent → EndState → RecState
 ended r p end =
     if nat_lt (rv_of end) (pev_of end) then lost r why.Inconsistent
     else if nat_le (2 ^ 62) (rv_of end + 1) then lost r why.Spent
-    else with_plan r p end (extended p.state (next_generation r p end))
+    else with_plan r p end (extended (left_of r p) (next_generation r p end))
 
 abbrev pub after_reply : RecState → Parent → Option EndState → RecState
 after_reply r p None = r
@@ -135,7 +149,7 @@ after_writes r t (poll.Lost promised) = lost r (why_of t)
 abbrev pub advanced : RecState → Heed → RecState
 advanced r Nothing = r
 advanced r (Promised i t) = after_reads r t (progress_of r.reads.poll)
-advanced r (Replied p end i durable known) = after_reply r p r.end
+advanced r (Replied p end i durable known popped) = after_reply r p r.end
 advanced r (Given p i peeked) = r
 advanced r (IsSeeded p i) = after_seeded r
 advanced r (Voted i t) = after_writes r t (progress_of r.writes.poll)

@@ -72,6 +72,7 @@ AccountsForLog r e i (log.Push q) = (e ≡ r.ballot) × (r.phase ≡ Chosen) × 
 AccountsForLog r e i (log.Lock epoch) = epoch ≡ e
 AccountsForLog r e i (log.Peek epoch tag after most) = epoch ≡ e
 AccountsForLog r e i (log.MarkAsked epoch) = ⊥
+AccountsForLog r e i (log.Pop epoch tag through) = ⊥
 
 -- an ask that the recoverer's state accounts for
 abbrev pub AccountsFor : RecState → NodeId → Ask → Type 0

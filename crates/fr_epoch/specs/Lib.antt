@@ -1,5 +1,7 @@
 pub mod EndTally
 pub mod EndLaw
+pub mod Dropping
+pub mod DroppingLaws
 pub mod Recoverer
 pub mod Words
 pub mod Hear

@@ -5,6 +5,7 @@ use Rattle.fr_register.specs.Poll.{ReadState, WriteState}
 use Rattle.fr_register.specs.Tally.{new_read, new_write}
 use Rattle.fr_state.specs.Generations.{LogGeneration, CoordinatedState}
 use Rattle.fr_log.specs.Push.{PushContent}
+use Rattle.fr_log.specs.declared.popped.PoppedTag.{PoppedTag}
 use Rattle.fr_tail.specs.Tail.{TailState, is_complete}
 use Rattle.fr_epoch.specs.EndTally.{EndState}
 use Rattle.fr_epoch.specs.declared.why.LostWhy.{LostWhy}
@@ -31,8 +32,9 @@ pub record Plan : Type 0 where
   pub tail : TailState
 
 -- a recoverer: its ballot, where the shards begin, the shape that the next generation is to have where one was given, how far it is, its
--- tally of promises, what they told, the replies to its locks from the moment that it has a parent, its plan, the new logs that are
--- seeded, its tally of writes, and the new logs that hold the mark. One that is lost keeps all but its phase
+-- tally of promises, what they told, the replies to its locks from the moment that it has a parent, what these showed popped, one reply
+-- after the other, its plan, the new logs that are seeded, its tally of writes, and the new logs that hold the mark. One that is lost
+-- keeps all but its phase
 pub record RecState : Type 0 where
   pub ballot : ℕ
   pub begins : List (List ℕ)
@@ -41,6 +43,7 @@ pub record RecState : Type 0 where
   pub reads : ReadState
   pub parent : Option Parent
   pub end : Option EndState
+  pub shown : List PoppedTag
   pub plan : Option Plan
   pub seeded : List ℕ
   pub writes : WriteState
@@ -56,6 +59,7 @@ new_recoverer ballot cells begins shape = record {
   reads = new_read cells ballot;
   parent = None;
   end = None;
+  shown = [];
   plan = None;
   seeded = [];
   writes = new_write cells ballot;

@@ -34,6 +34,7 @@ state_of s = record {
   reads = s.reads;
   parent = option_map parent_of s.parent;
   end = s.end;
+  shown = s.shown.items;
   plan = option_map plan_in s.plan;
   seeded = s.seeded.items;
   writes = s.writes;

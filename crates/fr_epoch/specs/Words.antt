@@ -6,6 +6,7 @@ use Rattle.fr_base.specs.declared.place.NodeId.TheVariants as node
 use Rattle.fr_register.specs.declared.ask.CellTell.{CellTell}
 use Rattle.fr_log.specs.declared.ask.LogTell.{LogTell}
 use Rattle.fr_log.specs.declared.ask.LogTell.TheVariants as log
+use Rattle.fr_log.specs.declared.popped.PoppedTag.{PoppedTag}
 use Rattle.fr_log.specs.Peeked.{PeekedContent}
 use Rattle.fr_ask.specs.declared.tell.Tell.{Tell}
 use Rattle.fr_ask.specs.declared.tell.Tell.TheVariants as tell
@@ -44,7 +45,7 @@ pub data Heed : Type 0 where
   -- what a cell told while it reads
   Promised : (cell : ℕ) (tell : CellTell) → Heed
   -- a log of the parent's last generation is locked
-  Replied : (p : Parent) (end : EndState) (log durable known : ℕ) → Heed
+  Replied : (p : Parent) (end : EndState) (log durable known : ℕ) (popped : List PoppedTag) → Heed
   -- what a log of that generation gave of a tag
   Given : (p : Plan) (log : ℕ) (peeked : PeekedContent) → Heed
   -- one more log of the new generation is seeded
@@ -63,17 +64,18 @@ heed_cell_reading (OfCell i t) = Promised i t
 heed_cell_reading (OfLog e i t) = Nothing
 heed_cell_reading Other = Nothing
 
-abbrev pub heed_locked : Option Parent → Option EndState → ℕ → ℕ → ℕ → ℕ → Heed
-heed_locked None end e i durable known = Nothing
-heed_locked (Some p) None e i durable known = Nothing
-heed_locked (Some p) (Some end) e i durable known = if e == p.last.epoch then Replied p end i durable known else Nothing
+abbrev pub heed_locked : Option Parent → Option EndState → ℕ → ℕ → ℕ → ℕ → List PoppedTag → Heed
+heed_locked None end e i durable known popped = Nothing
+heed_locked (Some p) None e i durable known popped = Nothing
+heed_locked (Some p) (Some end) e i durable known popped = if e == p.last.epoch then Replied p end i durable known popped else Nothing
 
 abbrev pub heed_lock : RecState → ℕ → ℕ → LogTell → Heed
 heed_lock r e i log.Seeded = Nothing
 heed_lock r e i (log.Held version) = Nothing
-heed_lock r e i (log.Locked durable known) = heed_locked r.parent r.end e i durable known
+heed_lock r e i (log.Locked durable known popped) = heed_locked r.parent r.end e i durable known popped
 heed_lock r e i (log.Peeked peeked) = Nothing
 heed_lock r e i (log.Marked state) = Nothing
+heed_lock r e i (log.Popped through) = Nothing
 heed_lock r e i (log.Refused why) = Nothing
 
 abbrev pub heed_peeked : Option Parent → Option Plan → ℕ → ℕ → PeekedContent → Heed
@@ -92,9 +94,10 @@ heed_seeded r (Some p) e i = if is_newly_seeded r p e i then IsSeeded p i else N
 abbrev pub heed_copy : RecState → ℕ → ℕ → LogTell → Heed
 heed_copy r e i log.Seeded = heed_seeded r r.plan e i
 heed_copy r e i (log.Held version) = Nothing
-heed_copy r e i (log.Locked durable known) = Nothing
+heed_copy r e i (log.Locked durable known popped) = Nothing
 heed_copy r e i (log.Peeked peeked) = heed_peeked r.parent r.plan e i peeked
 heed_copy r e i (log.Marked state) = Nothing
+heed_copy r e i (log.Popped through) = Nothing
 heed_copy r e i (log.Refused why) = Nothing
 
 abbrev pub heed_cell_writing : Word → Heed
@@ -113,9 +116,10 @@ heed_held r (Some p) e i version = if is_newly_marked r p e i version then IsMar
 abbrev pub heed_mark : RecState → ℕ → ℕ → LogTell → Heed
 heed_mark r e i log.Seeded = Nothing
 heed_mark r e i (log.Held version) = heed_held r r.plan e i version
-heed_mark r e i (log.Locked durable known) = Nothing
+heed_mark r e i (log.Locked durable known popped) = Nothing
 heed_mark r e i (log.Peeked peeked) = Nothing
 heed_mark r e i (log.Marked state) = Nothing
+heed_mark r e i (log.Popped through) = Nothing
 heed_mark r e i (log.Refused why) = Nothing
 
 -- what a log told

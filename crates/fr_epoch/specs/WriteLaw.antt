@@ -14,7 +14,7 @@ use Rattle.fr_state.specs.Spelling.{spelling}
 use Rattle.fr_epoch.specs.EndTally.{EndState, is_covered, pev_of, rv_of}
 use Rattle.fr_epoch.specs.Recoverer.{RecState, Parent, Plan, Chosen, is_copied, is_written}
 use Rattle.fr_epoch.specs.Words.{is_in}
-use Rattle.fr_epoch.specs.Hear.{shape_after, after_hear}
+use Rattle.fr_epoch.specs.Hear.{shape_after, left_of, after_hear}
 use Rattle.fr_epoch.specs.Law.{IsRecoverer, AccountsFor}
 
 -- what a plan comes from: the parent and the replies, which cover, and the parent's state with the new generation behind it, which has
@@ -29,7 +29,7 @@ pub record IsMadeOf (r : RecState) (p : Plan) (q : Parent) (e : EndState) : Type
   pub k : p.generation.k ≡ (shape_after r.shape q.last).k
   pub first : p.generation.first ≡ pev_of e + 1
   pub seeded_to : p.generation.seeded_to ≡ rv_of e
-  pub state : extended q.state p.generation ≡ Ok p.state
+  pub state : extended (left_of r q) p.generation ≡ Ok p.state
 
 -- each plan comes from some
 abbrev pub HasMadePlan : RecState → Type 0
@@ -53,11 +53,11 @@ HearKeepsSeeded =
 abbrev pub WrittenIsSeeded : Type 0
 WrittenIsSeeded = (r : RecState) (p : Plan) → r.plan ≡ Some p → AreSeeded r.plan r.seeded → is_written r ≡ true → (i : ℕ) → i < p.generation.m → is_in r.seeded i ≡ true
 
--- and then it is one state: the parent's with the new generation behind it
+-- and then it is one state: what is left of the parent's, with the new generation behind it
 abbrev pub WriteIsParentExtended : Type 0
 WriteIsParentExtended =
     (r : RecState) (cell b : ℕ) (x : List ℕ) → HasMadePlan r → AccountsFor r (node.Cell cell) (ask.Cell (Write b x))
-    → (b ≡ r.ballot) × (is_written r ≡ true) × ((p : Plan) × (q : Parent) × (r.plan ≡ Some p) × (r.parent ≡ Some q) × (extended q.state p.generation ≡ Ok p.state) × (x ≡ spelling p.state))
+    → (b ≡ r.ballot) × (is_written r ≡ true) × ((p : Plan) × (q : Parent) × (r.plan ≡ Some p) × (r.parent ≡ Some q) × (extended (left_of r q) p.generation ≡ Ok p.state) × (x ≡ spelling p.state))
 
 -- a mark is pushed only by a recoverer whose state is chosen, and all its marks are one push
 abbrev pub MarkIsChosen : Type 0

@@ -5,6 +5,8 @@ ghost use Rattle.fr_base.specs.Shape.{IsShape};
 ghost use Rattle.fr_state.specs.Generations.{IsGeneration};
 ghost use Rattle.fr_state.specs.Reading.{reading};
 ghost use Rattle.fr_epoch.specs.EndTally.{responders, is_covered, pev_of, rv_of};
+ghost use Rattle.std.specs.List.{range_with_len};
+ghost use Rattle.fr_epoch.specs.Dropping.{shown_of, greater, lesser, least_shown, left_by};
 ghost use Rattle.fr_epoch.specs.Hear.{shape_after};
 ghost use Rattle.fr_epoch.specs.Standing.{parent_of, plan_in};
 ghost use Rattle.fr_epoch.specs.Drafting.{parent_read, generation_after, draft_of, plan_result, copy_asks};
@@ -16,8 +18,9 @@ use crate::standing::{Draft, Found};
 use crate::why::LostWhy;
 use fr_ask::Ask;
 use fr_base::{Epoch, Memory, NodeId, Shape, Version};
+use fr_log::PoppedTag;
 use fr_register::CellValue;
-use fr_state::{DecodeFault, Generation, StateFault, decode, extend_law, next_law};
+use fr_state::{CoordState, DecodeFault, Generation, StateFault, decode, extend_law, next_law};
 use fr_tags::MAX_SHARDS;
 use fr_tail::Tail;
 use std::alloc::Global;
@@ -49,12 +52,13 @@ pub(crate) fn draft(
     tags: u8,
     found: &Found,
     end: &EndTally,
+    shown: &[PoppedTag],
 ) -> Result<Result<Draft, LostWhy>, Memory>
     requires shape { IfSome shape IsShape }
     requires tags { tags ≤ MAX_SHARDS }
     requires limits { IsGeneration found.now.last }
     requires covered { is_covered end.now ≡ true }
-    ensures plan { IfOk result (λ drafted. plan_result drafted ≡ draft_of epoch shape tags (parent_of found.now) end.now) }
+    ensures plan { IfOk result (λ drafted. plan_result drafted ≡ draft_of epoch shape tags (parent_of found.now) end.now shown.now) }
     ensures limits { IfOk result (λ drafted. IfOk drafted (λ draft. IsGeneration draft.generation)) }
 {
     let ends = match end.end() {
@@ -65,10 +69,11 @@ pub(crate) fn draft(
     if ends.rv.after().is_none() {
         return Ok(Err(LostWhy::Spent));
     }
-    drafted(alloc, epoch, shape, tags, found, end, ends)
+    drafted(alloc, epoch, shape, tags, found, end, shown, ends)
 }
 
-/// The plan from an end that is fixed. The copy reads the logs of the last generation.
+/// The plan from an end that is fixed: the generations of which every storage server has all are dropped, and
+/// the new one is appended. The copy reads the logs of the last generation.
 fn drafted(
     alloc: Global,
     epoch: Epoch,
@@ -76,6 +81,7 @@ fn drafted(
     tags: u8,
     found: &Found,
     end: &EndTally,
+    shown: &[PoppedTag],
     ends: EpochEnd,
 ) -> Result<Result<Draft, LostWhy>, Memory>
     requires shape { IfSome shape IsShape }
@@ -85,7 +91,7 @@ fn drafted(
     requires rv { ends.rv ≡ rv_of end.now }
     requires order { ends.pev ≤ ends.rv }
     requires room { ends.rv + 1 < 2 ^ 62 }
-    ensures plan { IfOk result (λ drafted. plan_result drafted ≡ draft_of epoch shape tags (parent_of found.now) end.now) }
+    ensures plan { IfOk result (λ drafted. plan_result drafted ≡ draft_of epoch shape tags (parent_of found.now) end.now shown.now) }
     ensures limits { IfOk result (λ drafted. IfOk drafted (λ draft. IsGeneration draft.generation)) }
 {
     extend_law();
@@ -93,6 +99,7 @@ fn drafted(
     let EpochEnd { pev, rv } = ends;
     let generation = generation_of(epoch, shape, last, pev, rv);
     let mut state = found.state.copy()?;
+    drop_popped(&mut state, shown, tags);
     match state.extend(generation) {
         Ok(()) => {
             let logs = responders(alloc, end)?;
@@ -106,6 +113,67 @@ fn drafted(
         Err(StateFault::NotLater) => Ok(Err(LostWhy::NotLater)),
         Err(StateFault::TooMany) => Ok(Err(LostWhy::TooMany)),
         Err(StateFault::Memory) => Err(Memory),
+    }
+}
+
+/// Drops the generations before the source of the version after the least one that is shown popped over all
+/// tags: every storage server has what these numbered.
+fn drop_popped(state: &mut CoordState, shown: &[PoppedTag], tags: u8)
+    requires { tags ≤ MAX_SHARDS }
+    ensures { state.new ≡ left_by state.old shown.now (range_with_len 0 tags) }
+{
+    if let Some(least) = least_shown(shown, tags) {
+        if let Some(source) = state.source_for(least.get() + 1) {
+            state.drop_before(source.epoch());
+        }
+    }
+}
+
+/// The least over all tags of the greatest version shown popped of each; none where one is not shown.
+fn least_shown(shown: &[PoppedTag], tags: u8) -> Option<Version>
+    requires { tags ≤ MAX_SHARDS }
+    ensures { result ≡ least_shown shown.now (range_with_len 0 tags) }
+{
+    let mut least = None;
+    for tag in 0..tags {
+        match shown_of(shown, tag) {
+            Some(version) => least = Some(lesser(least, version)),
+            None => return None,
+        }
+    }
+    least
+}
+
+/// The lesser of two versions, where there are two.
+fn lesser(least: Option<Version>, version: Version) -> Version
+    ensures { result ≡ lesser least version }
+{
+    match least {
+        Some(least) => least.min(version),
+        None => version,
+    }
+}
+
+/// The greatest version that is shown popped of a tag, if one is.
+fn shown_of(shown: &[PoppedTag], tag: u8) -> Option<Version>
+    ensures { result ≡ shown_of shown.now tag }
+{
+    let mut greatest = None;
+    for entry in shown {
+        if entry.tag.get() == tag {
+            greatest = Some(greater(greatest, entry.version));
+        }
+    }
+    greatest
+}
+
+/// The greater of two versions, where there are two.
+fn greater(greatest: Option<Version>, version: Version) -> Version
+    ensures { result ≡ greater greatest version }
+{
+    match greatest {
+        Some(greatest) => greatest.max(version),
+        None => version,
     }
 }
 

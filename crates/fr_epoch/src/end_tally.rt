@@ -1,6 +1,6 @@
 //! The tally of the replies to locks.
 ghost use Rattle.std.specs.Prelude.{◌≡◌, ◌≤◌, ◌<◌, ◌↔◌, true, false, Ok, Err, IfOk, OnErr};
-ghost use Rattle.fr_epoch.specs.EndTally.{new_end, reply_of, heard_reply, with_reply, differs, has_replied, is_covered, responders, pev_of, rv_of, end_of, greatest_known, least_durable};
+ghost use Rattle.fr_epoch.specs.EndTally.{new_end, reply_of, heard_reply, with_reply, differs, counts, has_replied, is_covered, responders, pev_of, rv_of, end_of, greatest_known, least_durable};
 ghost use Rattle.fr_epoch.specs.EndLaw.{IsEnd};
 
 use crate::end::{EpochEnd, Inconsistent, ReplyFault};
@@ -144,6 +144,13 @@ impl EndTally {
         ensures { result ≡ has_replied self.now log }
     {
         self.replies().iter().any(|reply| reply.log == log)
+    }
+
+    /// Whether a reply of a log counts: the first of each log does.
+    pub(crate) fn counts(&self, log: u8) -> bool
+        ensures { result ≡ counts self.now log }
+    {
+        log < self.m() && !self.has_replied(log)
     }
 
     /// Whether the replies cover.

@@ -83,9 +83,11 @@ impl Standing {
     {
         match self.stage {
             Stage::Locking => match tell {
-                LogTell::Locked { durable, known } => {
-                    self.hear_locked(alloc, epoch, index, durable, known)
-                }
+                LogTell::Locked {
+                    durable,
+                    known,
+                    popped,
+                } => self.hear_locked(alloc, epoch, index, durable, known, popped),
                 _ => Ok(Vec::new(alloc)),
             },
             Stage::Copying => match tell {

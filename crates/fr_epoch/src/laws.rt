@@ -1,10 +1,11 @@
 //! Laws of recoverers.
+ghost use Rattle.fr_epoch.specs.DroppingLaws.{LeftIsWithout, LeastIsShown};
 ghost use Rattle.fr_epoch.specs.EndLaw.{CoveredStays, EndIsOfReplies};
 ghost use Rattle.fr_epoch.specs.Kept.{HearKeepsKept, NewIsKept};
 ghost use Rattle.fr_epoch.specs.Law.{AccountedStays, HearGrows, HearIsChange, HearLeavesPlan, HearLeavesRecoverer, NewIsAccounted, PendingIsAccounted};
 ghost use Rattle.fr_epoch.specs.WriteLaw.{HearKeepsMade, HearKeepsSeeded, MarkIsChosen, MarksAreOne, SeedIsOfCopied, SeedsAreOne, WriteIsParentExtended, WrittenIsSeeded};
 
-use fr_state::next_law;
+use fr_state::{drop_law, next_law, source_law};
 use fr_tail::laws::tail_law;
 
 /// A recoverer only grows, and its state accounts for each ask that it ever gave.
@@ -51,4 +52,14 @@ pub fn kept_law()
 {
     next_law();
     tail_law();
+}
+
+/// What a recoverer goes on from is its parent without some of the first generations, never all, of which every
+/// tag was shown popped.
+pub fn dropping_law()
+    ensures left { LeftIsWithout }
+    ensures shown { LeastIsShown }
+{
+    drop_law();
+    source_law();
 }

@@ -2,6 +2,7 @@
 use crate::end_tally::EndTally;
 use crate::phase::Stage;
 use fr_base::{Epoch, Shape};
+use fr_log::PoppedTag;
 use fr_register::{ReadTally, WriteTally};
 use fr_state::{CoordState, Generation};
 use fr_tags::ShardMap;
@@ -25,8 +26,8 @@ pub(crate) struct Draft {
 
 /// How a recoverer stands: its epoch, how the keys are cut into shards, the shape that the next generation
 /// is to have where one was given, how far it is, its tally of promises, what they told, the replies to
-/// its locks, its plan, the new logs that are seeded, its tally of writes, and the new logs that hold the
-/// mark.
+/// its locks, what these showed popped, its plan, the new logs that are seeded, its tally of writes, and
+/// the new logs that hold the mark.
 #[derive(Debug, Drop)]
 pub(crate) struct Standing {
     pub(crate) epoch: Epoch,
@@ -36,6 +37,7 @@ pub(crate) struct Standing {
     pub(crate) reads: ReadTally,
     pub(crate) parent: Option<Found>,
     pub(crate) end: Option<EndTally>,
+    pub(crate) shown: Vec<PoppedTag>,
     pub(crate) plan: Option<Draft>,
     pub(crate) seeded: Vec<u8>,
     pub(crate) writes: WriteTally,

@@ -1,11 +1,13 @@
 -- What follows for pushes that form a chain, and for records that rise.
 use Rattle.std.proofs.Common.{◌≡◌, ℕ, zero, suc, ◌+◌, ◌<◌, ◌≤◌, true, ◌&&◌, ◌||◌, List, [], ◌∷◌, length, get_or, nat_lt, nat_le, eqb, inl, inr, arith, max}
 use Rattle.std.specs.Prelude.{fold}
-use Rattle.std.specs.List.{list_any}
 use Rattle.std.specs.List.Sorted.{IsNonDecreasingBy}
 use Rattle.std.proofs.lemmas.Bool.{and_parts, or_cases, ltb-true, eqb-true}
 use Rattle.fr_log.specs.declared.records.SeedRecord.{SeedRecord}
 use Rattle.fr_log.specs.Seed.{is_rising_from}
+use Rattle.fr_log.specs.declared.popped.PoppedTag.{PoppedTag}
+use Rattle.fr_log.specs.Popped.{left_push}
+use Rattle.fr_log.specs.Search.{is_found}
 use Rattle.fr_log.specs.Push.{PushContent, is_one_push, is_one_push-parts}
 
 -- ---- pushes
@@ -19,14 +21,14 @@ reach_above version [] = omega arith
 reach_above version (p ∷ ps) = let k = reach_above (max version p.version) ps in omega arith
 
 -- a push that is held is not above what the log reaches
-pub held_within_reach : (version : ℕ) (p : PushContent) (ps : List PushContent) → list_any (is_one_push p) ps ≡ true → p.version ≤ reach version ps
-held_within_reach version p [] held = absurd (cc)
-held_within_reach version p (q ∷ ps) held = elim (or_cases (is_one_push p q) (list_any (is_one_push p) ps) held) [
+pub held_within_reach : (popped : List PoppedTag) (version : ℕ) (p : PushContent) (ps : List PushContent) → is_found popped p ps ≡ true → p.version ≤ reach version ps
+held_within_reach popped version p [] held = absurd (cc)
+held_within_reach popped version p (q ∷ ps) held = elim (or_cases (is_one_push (left_push popped p) (left_push popped q)) (is_found popped p ps) held) [
   | inl here ↦
-      let same = (is_one_push-parts p q here).version in
+      let same : p.version ≡ q.version = (is_one_push-parts (left_push popped p) (left_push popped q) here).version in
       let k = reach_above (max version q.version) ps in
-      omega arith
-  | inr later ↦ held_within_reach (max version q.version) p ps later
+      omega (arith, same, k)
+  | inr later ↦ held_within_reach popped (max version q.version) p ps later
 ]
 
 -- ---- records of a seed

@@ -4,16 +4,16 @@ use Rattle.std.specs.Prelude.{is_none, IsSome}
 use Rattle.std.specs.List.{list_all}
 use Rattle.std.proofs.lemmas.Bool.{not-false, eqb-true}
 use Rattle.fr_log.specs.declared.ask.LogAsk.{LogAsk}
-use Rattle.fr_log.specs.declared.ask.LogAsk.TheVariants.{Seed, Push, Lock, Peek, MarkAsked}
-use Rattle.fr_log.specs.declared.ask.LogTell.TheVariants.{Seeded, Held, Refused}
+use Rattle.fr_log.specs.declared.ask.LogAsk.TheVariants.{Seed, Push, Lock, Peek, MarkAsked, Pop}
+use Rattle.fr_log.specs.declared.ask.LogTell.TheVariants.{Seeded, Held, Popped, Refused}
 use Rattle.fr_log.specs.declared.ask.LogRefusal.{LogRefusal}
 use Rattle.fr_log.specs.Seed.{SeedContent}
 use Rattle.fr_log.specs.Push.{PushContent}
 use Rattle.fr_log.specs.LogState.{LogState, holds, is_push_held}
-use Rattle.fr_log.specs.Refusal.{refusal_of, seed_refusal}
-use Rattle.fr_log.specs.Step.{answer_of, next_of, answer_unless, next_unless, granted_answer, granted_next}
+use Rattle.fr_log.specs.Refusal.{refusal_of, seed_refusal, pop_refusal}
+use Rattle.fr_log.specs.Step.{answer_of, next_of, answer_unless, next_unless, granted_answer, granted_next, popped_to, is_popped_to, with_popped}
 use Rattle.fr_log.specs.StepLaws.{passes, granted}
-use Rattle.fr_log.specs.Change.{with_seed, with_push, with_stop, IsFirst, IsNext, LogChange, Stands, Seeds, Holds, Stops}
+use Rattle.fr_log.specs.Change.{with_seed, with_push, with_stop, IsFirst, IsNext, IsFurther, LogChange, Stands, Seeds, Holds, Stops, Pops}
 use Rattle.fr_log.specs.Law.{AskIsChange, RefusedChangesNothing, TakenIsNext}
 use Rattle.fr_log.proofs.Pushing.{some_from, next_push}
 
@@ -63,6 +63,19 @@ stands : (l : LogState) (a : LogAsk) (o : Option LogRefusal) → granted_next l 
 stands l a (Some why) same e = refused l a why e
 stands l a None same e = granted l a e ∙ same
 
+pop_changes : (l : LogState) (epoch tag through : ℕ) (o : Option LogRefusal) → refusal_of l (Pop epoch tag through) ≡ o → (same : Bool) → is_popped_to l tag (popped_to l tag through) ≡ same
+    → LogChange l (Pop epoch tag through) (next_of l (Pop epoch tag through))
+pop_changes l epoch tag through (Some why) e same is = subst (LogChange l (Pop epoch tag through)) (sym (refused l (Pop epoch tag through) why e)) Stands
+pop_changes l epoch tag through None e true is =
+    let k : next_of l (Pop epoch tag through) ≡ l = granted l (Pop epoch tag through) e ∙ rw is refl in
+    subst (LogChange l (Pop epoch tag through)) (sym k) Stands
+pop_changes l epoch tag through None e false is =
+    let own = own_and_seeded l epoch _ _ _ e in
+    let c = passes (not (holds l tag)) _ _ own.2 in
+    let k : next_of l (Pop epoch tag through) ≡ with_popped l tag (popped_to l tag through) = granted l (Pop epoch tag through) e ∙ rw is refl in
+    subst (LogChange l (Pop epoch tag through)) (sym k)
+    (Pops tag through (ap (λ x. Pop x tag through) own.0) (record { granted = ap (λ x. pop_refusal l x tag) (sym own.0) ∙ e; seeded = own.1; held = not-false (holds l tag) c.0; further = is }))
+
 pub ask_is_change : AskIsChange
 ask_is_change l (Seed s) = seed_changes l s (refusal_of l (Seed s)) refl l.seed refl
 ask_is_change l (Push p) = push_changes l p (refusal_of l (Push p)) refl (is_push_held l p) refl
@@ -73,17 +86,20 @@ ask_is_change l (Peek epoch tag after most) =
 ask_is_change l (MarkAsked epoch) =
     let a = MarkAsked epoch in
     subst (LogChange l a) (sym (stands l a (refusal_of l a) refl refl)) Stands
+ask_is_change l (Pop epoch tag through) = pop_changes l epoch tag through (refusal_of l (Pop epoch tag through)) refl (is_popped_to l tag (popped_to l tag through)) refl
 
 -- what is true of the log, and after each way in which it changes, is true after an ask
 pub by_change : (P : LogState → Type 0) (l : LogState) (a : LogAsk) → P l → ((s : SeedContent) → a ≡ Seed s → IsFirst l s → P (with_seed l s)) → ((p : PushContent) → a ≡ Push p → IsNext l p → P (with_push l p))
-    → (a ≡ Lock l.epoch → IsSome l.seed → P (with_stop l)) → P (next_of l a)
-by_change P l a same seeds pushes stops = go (next_of l a) (ask_is_change l a)
+    → (a ≡ Lock l.epoch → IsSome l.seed → P (with_stop l))
+    → ((tag through : ℕ) → a ≡ Pop l.epoch tag through → IsFurther l tag through → P (with_popped l tag (popped_to l tag through))) → P (next_of l a)
+by_change P l a same seeds pushes stops pops = go (next_of l a) (ask_is_change l a)
   where
     go : (n : LogState) → LogChange l a n → P n
     go n Stands = same
     go n (Seeds s at is) = seeds s at is
     go n (Holds p at is) = pushes p at is
     go n (Stops at is) = stops at is
+    go n (Pops tag through at is) = pops tag through at is
 
 pub taken_is_next : TakenIsNext
 taken_is_next l p taken other = next_push l p taken other
@@ -107,3 +123,8 @@ refused_changes_nothing l (Lock epoch) why e = go (refusal_of l (Lock epoch)) re
     go None r = let k : granted_answer l (Lock epoch) ≡ Refused why = sym (told l (Lock epoch) None r) ∙ e in absurd (cc)
 refused_changes_nothing l (Peek epoch tag after most) why e = stands l (Peek epoch tag after most) (refusal_of l (Peek epoch tag after most)) refl refl
 refused_changes_nothing l (MarkAsked epoch) why e = stands l (MarkAsked epoch) (refusal_of l (MarkAsked epoch)) refl refl
+refused_changes_nothing l (Pop epoch tag through) why e = go (refusal_of l (Pop epoch tag through)) refl
+  where
+    go : (o : Option LogRefusal) → refusal_of l (Pop epoch tag through) ≡ o → next_of l (Pop epoch tag through) ≡ l
+    go (Some w) r = refused l (Pop epoch tag through) w r
+    go None r = let k : Popped (popped_to l tag through) ≡ Refused why = sym (told l (Pop epoch tag through) None r) ∙ e in absurd (cc)

@@ -3,6 +3,7 @@ use Rattle.std.proofs.Common.{◌≡◌, ℕ, Bool, List, [], ◌∷◌, ◌++�
 use Rattle.std.specs.Prelude.{is_some, IsSome}
 use Rattle.std.proofs.lemmas.List.{append-nil, take_at}
 use Rattle.fr_log.specs.Seed.{SeedContent}
+use Rattle.fr_log.specs.declared.popped.PoppedTag.{PoppedTag}
 use Rattle.fr_log.specs.Push.{PushContent}
 use Rattle.fr_log.specs.LogState.{LogState}
 use Rattle.fr_log.specs.Step.{next_of}
@@ -20,6 +21,7 @@ ask_extends l a =
     (λ s at first. record { epoch = refl; index = refl; m = refl; k = refl; seed = λ some. absurd (some_is_not_none l.seed first.unseeded some); pushes = ([], sym (append-nil l.pushes)); stopped = λ is. is })
     (λ p at next. record { epoch = refl; index = refl; m = refl; k = refl; seed = λ some. refl; pushes = (p ∷ [], refl); stopped = λ is. is })
     (λ at some. record { epoch = refl; index = refl; m = refl; k = refl; seed = λ s. refl; pushes = ([], sym (append-nil l.pushes)); stopped = λ is. refl })
+    (λ tag through at is. record { epoch = refl; index = refl; m = refl; k = refl; seed = λ s. refl; pushes = ([], sym (append-nil l.pushes)); stopped = λ s. s })
 
 extends_on : (l n o : LogState) → Extends l n → Extends n o → Extends l o
 extends_on l n o g h = record {
@@ -36,9 +38,9 @@ pub asks_extend : AsksExtend
 asks_extend l [] = extends_itself l
 asks_extend l (a ∷ asks) = extends_on l (next_of l a) (after_all (next_of l a) asks) (ask_extends l a) (asks_extend (next_of l a) asks)
 
-same_parts : (n : LogState) {epoch index m k : ℕ} {seed : Option SeedContent} {pushes : List PushContent} {stopped : Bool} (seed' : Option SeedContent) (pushes' : List PushContent)
+same_parts : (n : LogState) {epoch index m k : ℕ} {seed : Option SeedContent} {pushes : List PushContent} {stopped : Bool} {popped : List PoppedTag} (seed' : Option SeedContent) (pushes' : List PushContent)
     → n.epoch ≡ epoch → n.index ≡ index → n.m ≡ m → n.k ≡ k → seed' ≡ seed → pushes' ≡ pushes
-    → record n { seed = seed'; pushes = pushes'; stopped = stopped } ≡ record { epoch = epoch; index = index; m = m; k = k; seed = seed; pushes = pushes; stopped = stopped }
+    → record n { seed = seed'; pushes = pushes'; stopped = stopped; popped = popped } ≡ record { epoch = epoch; index = index; m = m; k = k; seed = seed; pushes = pushes; stopped = stopped; popped = popped }
 same_parts n seed' pushes' e i a b s p = cc
 
 pub back_is_before : BackIsBefore

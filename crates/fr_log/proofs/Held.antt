@@ -1,19 +1,23 @@
 -- The pushes that headers and shelves make.
-use Rattle.std.proofs.Common.{◌≡◌, ℕ, zero, suc, ◌+◌, ◌<◌, ◌≤◌, Bool, true, false, ◌&&◌, ◌||◌, List, [], ◌∷◌, ◌++◌, length, take, get_or, map, nat_lt, eqb, Option, None, Some, refl, sym, ◌∙◌, ap, subst, arith}
+use Rattle.std.proofs.Common.{◌≡◌, ℕ, zero, suc, ◌+◌, ◌<◌, ◌≤◌, Bool, true, false, ◌&&◌, ◌||◌, List, [], ◌∷◌, ◌++◌, length, take, get_or, map, cond, nat_lt, eqb, Option, None, Some, refl, sym, ◌∙◌, ap, subst, arith}
 use Rattle.std.specs.Prelude.{filter, IsTrue}
 use Rattle.std.specs.List.{AllByRecursion, slice_get}
 use Rattle.std.specs.List.Sorted.{IsNonDecreasingBy}
 use Rattle.std.specs.Cmp.Lexicographic.{pointwise}
-use Rattle.std.proofs.lemmas.Bool.{lt-ltb, le-ltb}
+use Rattle.std.proofs.lemmas.Bool.{lt-ltb, le-ltb, eqb-true}
 use Rattle.std.proofs.lemmas.List.Elements.{filter_map-append}
 use Rattle.fr_mutation.specs.declared.mutation.Mutation.{Mutation}
 use Rattle.fr_tags.specs.Bodies.{batch_of, is_rising_from, is_same_body}
 use Rattle.fr_log.specs.declared.pushes.header.PushHeader.{PushHeader}
 use Rattle.fr_log.specs.Fields.{two}
+use Rattle.fr_tags.specs.declared.body.Body.{Body}
+use Rattle.fr_log.specs.declared.popped.PoppedTag.{PoppedTag}
+use Rattle.fr_log.specs.Popped.{popped_at, left_bodies, left_push}
+use Rattle.fr_log.specs.SweptLaws.{body_left}
 use Rattle.fr_log.specs.Push.{PushContent, is_one_push, is_same_mark}
 use Rattle.fr_log.specs.LogState.{mark_among}
 use Rattle.fr_log.specs.Search.{is_found, pushed_records}
-use Rattle.fr_log.specs.Pushes.{Shelved, batch_at, as_record, at_version, AreBelow, cut, shelf_of, bodies_from, push_at, pushes_in, pushed_batch, pushed_batches, RiseFrom, ArePushedBelow, IsIndexed, header_of, is_headed}
+use Rattle.fr_log.specs.Pushes.{Shelved, batch_at, as_record, at_version, AreBelow, cut, above, with_body, shelf_of, bodies_from, push_at, pushes_in, pushed_batch, pushed_batches, RiseFrom, ArePushedBelow, IsIndexed, header_of, is_headed}
 use Rattle.fr_log.proofs.Searching.{another}
 use Rattle.fr_log.proofs.Shelves.{batch_new, batch_others, batch_cut, canonical, same_bodies}
 
@@ -210,41 +214,57 @@ and_last true true false d m = refl
 and_last true false c d m = refl
 and_last false b c d m = refl
 
-pub one_is : (p : PushContent) (ss : List (List Shelved)) (h : PushHeader) → (is_headed p h && pointwise is_same_body p.bodies (bodies_from h.version 0 ss)) ≡ is_one_push p (push_at ss h)
-one_is p ss h = and_last (eqb p.epoch h.epoch) (eqb p.prev h.prev) (eqb p.version h.version) (pointwise is_same_body p.bodies (bodies_from h.version 0 ss)) (is_same_mark p.mark h.mark)
+-- whether the bodies of both are the same at the version of the header
+abbrev pub are_same_left : List PoppedTag → PushContent → List (List Shelved) → PushHeader → Bool
+are_same_left ps p ss h = pointwise is_same_body (left_bodies ps h.version p.bodies) (left_bodies ps h.version (bodies_from h.version 0 ss))
+
+-- what is popped is told by the version, which is that of the header where the two are one
+pub one_is : (ps : List PoppedTag) (p : PushContent) (ss : List (List Shelved)) (h : PushHeader) → (is_headed p h && are_same_left ps p ss h) ≡ is_one_push (left_push ps p) (left_push ps (push_at ss h))
+one_is ps p ss h =
+    and_last (eqb p.epoch h.epoch) (eqb p.prev h.prev) (eqb p.version h.version) (are_same_left ps p ss h) (is_same_mark p.mark h.mark)
+    ∙ at_version_of (eqb p.version h.version) refl
+  where
+    rest : ℕ → Bool
+    rest v = pointwise is_same_body (left_bodies ps v p.bodies) (left_bodies ps h.version (bodies_from h.version 0 ss)) && is_same_mark p.mark h.mark
+
+    at_version_of : (b : Bool) → eqb p.version h.version ≡ b
+        → (eqb p.epoch h.epoch && (eqb p.prev h.prev && (eqb p.version h.version && rest h.version))) ≡ (eqb p.epoch h.epoch && (eqb p.prev h.prev && (eqb p.version h.version && rest p.version)))
+    at_version_of true e = ap (λ v. eqb p.epoch h.epoch && (eqb p.prev h.prev && (eqb p.version h.version && rest v))) (sym (eqb-true p.version h.version e))
+    at_version_of false e = rw e refl
 
 or_false : (a : Bool) → (a || false) ≡ a
 or_false true = refl
 or_false false = refl
 
-none_above : (p : PushContent) (ss : List (List Shelved)) (least : ℕ) (hs : List PushHeader) → RiseFrom least hs → p.version < least → is_found p (pushes_in ss hs) ≡ false
+none_above : (ps : List PoppedTag) (p : PushContent) (ss : List (List Shelved)) (least : ℕ) (hs : List PushHeader) → RiseFrom least hs → p.version < least → is_found ps p (pushes_in ss hs) ≡ false
 unfolding pushes_in
-none_above p ss least [] r less = refl
-none_above p ss least (h ∷ hs) (low, rest) less =
-    ap (λ t. t || is_found p (pushes_in ss hs)) (another p (push_at ss h) (λ e. absurd (omega (arith, e, low, less)))) ∙ none_above p ss (h.version + 1) hs rest (omega (arith, low, less))
+none_above ps p ss least [] r less = refl
+none_above ps p ss least (h ∷ hs) (low, rest) less =
+    ap (λ t. t || is_found ps p (pushes_in ss hs)) (another (left_push ps p) (left_push ps (push_at ss h)) (λ e. absurd (omega (arith, e, low, less)))) ∙ none_above ps p ss (h.version + 1) hs rest (omega (arith, low, less))
 
 -- it can only be the first that is not below its version
-pub found_in : (p : PushContent) (ss : List (List Shelved)) (least : ℕ) (hs : List PushHeader) (i : ℕ) (h : PushHeader) → RiseFrom least hs
+pub found_in : (ps : List PoppedTag) (p : PushContent) (ss : List (List Shelved)) (least : ℕ) (hs : List PushHeader) (i : ℕ) (h : PushHeader) → RiseFrom least hs
     → ((k : ℕ) (d : PushHeader) → k < i → (get_or hs k d).version < p.version) → ((k : ℕ) (d : PushHeader) → i ≤ k → k < length hs → p.version ≤ (get_or hs k d).version)
-    → i < length hs → h ≡ get_or hs i h → is_one_push p (push_at ss h) ≡ is_found p (pushes_in ss hs)
+    → i < length hs → h ≡ get_or hs i h → is_one_push (left_push ps p) (left_push ps (push_at ss h)) ≡ is_found ps p (pushes_in ss hs)
 unfolding pushes_in
-found_in p ss least [] i h r low high within is = absurd (omega (arith, within))
-found_in p ss least (g ∷ hs) zero h (from, rest) low high within is =
+found_in ps p ss least [] i h r low high within is = absurd (omega (arith, within))
+found_in ps p ss least (g ∷ hs) zero h (from, rest) low high within is =
     let up = high 0 g (omega arith) (omega arith) in
-    ap (λ x. is_one_push p (push_at ss x)) is
-    ∙ sym (ap (λ t. is_one_push p (push_at ss g) || t) (none_above p ss (g.version + 1) hs rest (omega (arith, up))) ∙ or_false (is_one_push p (push_at ss g)))
-found_in p ss least (g ∷ hs) (suc i) h (from, rest) low high within is =
+    let one : PushHeader → Bool = λ x. is_one_push (left_push ps p) (left_push ps (push_at ss x)) in
+    ap one is
+    ∙ sym (ap (λ t. one g || t) (none_above ps p ss (g.version + 1) hs rest (omega (arith, up))) ∙ or_false (one g))
+found_in ps p ss least (g ∷ hs) (suc i) h (from, rest) low high within is =
     let down = low 0 g (omega arith) in
-    found_in p ss (g.version + 1) hs i h rest (λ k d less. low (suc k) d (omega (arith, less))) (λ k d after inside. high (suc k) d (omega (arith, after)) (omega (arith, inside))) (omega (arith, within)) is
-    ∙ sym (ap (λ t. t || is_found p (pushes_in ss hs)) (another p (push_at ss g) (λ e. absurd (omega (arith, e, down)))))
+    found_in ps p ss (g.version + 1) hs i h rest (λ k d less. low (suc k) d (omega (arith, less))) (λ k d after inside. high (suc k) d (omega (arith, after)) (omega (arith, inside))) (omega (arith, within)) is
+    ∙ sym (ap (λ t. t || is_found ps p (pushes_in ss hs)) (another (left_push ps p) (left_push ps (push_at ss g)) (λ e. absurd (omega (arith, e, down)))))
 
-pub found_none : (p : PushContent) (ss : List (List Shelved)) (hs : List PushHeader) → ((k : ℕ) (d : PushHeader) → k < length hs → (get_or hs k d).version < p.version) → false ≡ is_found p (pushes_in ss hs)
+pub found_none : (ps : List PoppedTag) (p : PushContent) (ss : List (List Shelved)) (hs : List PushHeader) → ((k : ℕ) (d : PushHeader) → k < length hs → (get_or hs k d).version < p.version) → false ≡ is_found ps p (pushes_in ss hs)
 unfolding pushes_in
-found_none p ss [] low = refl
-found_none p ss (g ∷ hs) low =
+found_none ps p ss [] low = refl
+found_none ps p ss (g ∷ hs) low =
     let down = low 0 g (omega arith) in
-    found_none p ss hs (λ k d less. low (suc k) d (omega (arith, less)))
-    ∙ sym (ap (λ t. t || is_found p (pushes_in ss hs)) (another p (push_at ss g) (λ e. absurd (omega (arith, e, down)))))
+    found_none ps p ss hs (λ k d less. low (suc k) d (omega (arith, less)))
+    ∙ sym (ap (λ t. t || is_found ps p (pushes_in ss hs)) (another (left_push ps p) (left_push ps (push_at ss g)) (λ e. absurd (omega (arith, e, down)))))
 
 -- ---- the records of a tag
 
@@ -264,3 +284,81 @@ above_pushed tag after (p ∷ ps) = go (batch_of tag p.bodies) (nat_lt after p.v
 pub records_above : (tag after : ℕ) (ss : List (List Shelved)) (hs : List PushHeader) → IsIndexed ss hs
     → map as_record (filter (λ e. nat_lt after e.0) (shelf_of ss tag)) ≡ pushed_records tag (filter (λ p. nat_lt after p.version) (pushes_in ss hs))
 records_above tag after ss hs is = ap (λ es. map as_record (filter (λ e. nat_lt after e.0) es)) (is.agrees tag) ∙ above_pushed tag after (pushes_in ss hs)
+
+-- ---- what is popped taken out of the shelves
+
+batch_above : (v w : ℕ) (es : List Shelved) → batch_at v (above w es) ≡ cond (nat_lt w v) (batch_at v es) None
+batch_above v w [] = go (nat_lt w v)
+  where
+    go : (b : Bool) → ◌≡◌ {A = Option (List Mutation)} None (cond b None None)
+    go true = refl
+    go false = refl
+batch_above v w (e ∷ es) = go (batch_above v w es) (nat_lt w e.0) refl (eqb e.0 v) refl
+  where
+    go : batch_at v (above w es) ≡ cond (nat_lt w v) (batch_at v es) None → (a : Bool) → nat_lt w e.0 ≡ a → (b : Bool) → eqb e.0 v ≡ b
+        → batch_at v (above w (e ∷ es)) ≡ cond (nat_lt w v) (batch_at v (e ∷ es)) None
+    go rest true k false q = rw (k, q) rest
+    go rest false k false q = rw (k, q) rest
+    go rest true k true q =
+        let n : nat_lt w v ≡ true = ap (nat_lt w) (sym (eqb-true e.0 v q)) ∙ k in
+        rw (k, q, n) refl
+    go rest false k true q =
+        let n : nat_lt w v ≡ false = ap (nat_lt w) (sym (eqb-true e.0 v q)) ∙ k in
+        rw k (rest ∙ rw n refl)
+
+one_swept : (ps : List PoppedTag) (v tag : ℕ) (s z : List Shelved) (rest : List Body) → z ≡ above (popped_at ps tag) s
+    → with_body tag (batch_at v z) (left_bodies ps v rest) ≡ left_bodies ps v (with_body tag (batch_at v s) rest)
+one_swept ps v tag s z rest is = ap (λ o. with_body tag o (left_bodies ps v rest)) (ap (batch_at v) is ∙ batch_above v (popped_at ps tag) s) ∙ go (nat_lt (popped_at ps tag) v) refl (batch_at v s) refl
+  where
+    go : (a : Bool) → nat_lt (popped_at ps tag) v ≡ a → (o : Option (List Mutation)) → batch_at v s ≡ o
+        → with_body tag (cond (nat_lt (popped_at ps tag) v) (batch_at v s) None) (left_bodies ps v rest) ≡ left_bodies ps v (with_body tag (batch_at v s) rest)
+    go true e None k = rw (e, k) refl
+    go false e None k = rw (e, k) refl
+    go true e (Some b) k = rw (e, k) (rw e refl)
+    go false e (Some b) k = rw (e, k) (rw e refl)
+
+-- bodies of the shelves that are swept are those that are left
+bodies_swept : (ps : List PoppedTag) (v tag : ℕ) (ss ts : List (List Shelved)) → ((t : ℕ) → shelf_of ts t ≡ above (popped_at ps (tag + t)) (shelf_of ss t))
+    → bodies_from v tag ts ≡ left_bodies ps v (bodies_from v tag ss)
+unfolding bodies_from
+bodies_swept ps v tag [] [] h = refl
+bodies_swept ps v tag [] (z ∷ ts) h =
+    ap (λ o. with_body tag o (bodies_from v (tag + 1) ts)) (ap (batch_at v) (h 0) ∙ batch_above v (popped_at ps (tag + 0)) [] ∙ none_left (nat_lt (popped_at ps (tag + 0)) v))
+    ∙ bodies_swept ps v (tag + 1) [] ts (λ t. let up : tag + suc t ≡ tag + 1 + t = omega arith in h (suc t) ∙ ap (λ n. above (popped_at ps n) (shelf_of [] t)) up)
+  where
+    none_left : (b : Bool) → ◌≡◌ {A = Option (List Mutation)} (cond b None None) None
+    none_left true = refl
+    none_left false = refl
+bodies_swept ps v tag (s ∷ ss) [] h =
+    bodies_swept ps v (tag + 1) ss [] (λ t. let up : tag + suc t ≡ tag + 1 + t = omega arith in empty t ∙ h (suc t) ∙ ap (λ n. above (popped_at ps n) (shelf_of ss t)) up)
+    ∙ one_swept ps v tag s [] (bodies_from v (tag + 1) ss) (let here : tag + 0 ≡ tag = omega arith in h 0 ∙ ap (λ n. above (popped_at ps n) s) here)
+  where
+    empty : (t : ℕ) → shelf_of [] t ≡ shelf_of [] (suc t)
+    empty t = refl
+bodies_swept ps v tag (s ∷ ss) (z ∷ ts) h =
+    ap (λ xs. with_body tag (batch_at v z) xs) (bodies_swept ps v (tag + 1) ss ts (λ t. let up : tag + suc t ≡ tag + 1 + t = omega arith in h (suc t) ∙ ap (λ n. above (popped_at ps n) (shelf_of ss t)) up))
+    ∙ one_swept ps v tag s z (bodies_from v (tag + 1) ss) (let here : tag + 0 ≡ tag = omega arith in h 0 ∙ ap (λ n. above (popped_at ps n) s) here)
+
+pub swept_held : (ps : List PoppedTag) (ss ts : List (List Shelved)) (hs : List PushHeader) → ((t : ℕ) → shelf_of ts t ≡ above (popped_at ps t) (shelf_of ss t)) → pushes_in ts hs ≡ map (left_push ps) (pushes_in ss hs)
+unfolding pushes_in
+swept_held ps ss ts [] h = refl
+swept_held ps ss ts (g ∷ hs) h =
+    two (λ bs qs. record { epoch = g.epoch; prev = g.prev; version = g.version; known = g.known; bodies = bs; mark = g.mark } ∷ qs)
+    (bodies_swept ps g.version 0 ss ts (λ t. let same : t ≡ 0 + t = omega arith in h t ∙ ap (λ n. above (popped_at ps n) (shelf_of ss t)) same)) (swept_held ps ss ts hs h)
+
+batches_swept : (ps : List PoppedTag) (tag : ℕ) (qs : List PushContent) → pushed_batches tag (map (left_push ps) qs) ≡ above (popped_at ps tag) (pushed_batches tag qs)
+batches_swept ps tag [] = refl
+batches_swept ps tag (q ∷ qs) = go (batches_swept ps tag qs) (nat_lt (popped_at ps tag) q.version) refl (batch_of tag q.bodies) refl
+  where
+    go : pushed_batches tag (map (left_push ps) qs) ≡ above (popped_at ps tag) (pushed_batches tag qs) → (a : Bool) → nat_lt (popped_at ps tag) q.version ≡ a
+        → (o : Option (List Mutation)) → batch_of tag q.bodies ≡ o → pushed_batches tag (map (left_push ps) (q ∷ qs)) ≡ above (popped_at ps tag) (pushed_batches tag (q ∷ qs))
+    go rest true e None k = rw (body_left ps tag q.version q.bodies, e, k) rest
+    go rest true e (Some b) k = rw (body_left ps tag q.version q.bodies, e, k) (rw e (ap (λ es. (q.version, b) ∷ es) rest))
+    go rest false e None k = rw (body_left ps tag q.version q.bodies, e, k) rest
+    go rest false e (Some b) k = rw (body_left ps tag q.version q.bodies, e, k) (rw e rest)
+
+pub swept_indexed : (ps : List PoppedTag) (ss ts : List (List Shelved)) (hs : List PushHeader) → IsIndexed ss hs → ((t : ℕ) → shelf_of ts t ≡ above (popped_at ps t) (shelf_of ss t)) → IsIndexed ts hs
+swept_indexed ps ss ts hs is h = record {
+  rises = is.rises;
+  agrees = λ t. h t ∙ ap (above (popped_at ps t)) (is.agrees t) ∙ sym (batches_swept ps t (pushes_in ss hs)) ∙ ap (pushed_batches t) (sym (swept_held ps ss ts hs h));
+}

@@ -1,21 +1,26 @@
 -- What every log is, how it grows, and what raises its versions.
-use Rattle.std.proofs.Common.{◌≡◌, ℕ, ◌-◌, ◌<◌, ◌≤◌, Bool, true, false, not, List, [], ◌∷◌, ◌++◌, Option, None, Some, refl, sym, ◌∙◌, ap, subst, arith, max, append_assoc}
-use Rattle.std.specs.Prelude.{fold, is_none, IsSome, IfSome}
-use Rattle.std.specs.List.{All}
-use Rattle.std.proofs.lemmas.Bool.{and_parts, not-true, both_ways}
+use Rattle.std.proofs.Common.{◌≡◌, ℕ, ◌+◌, ◌-◌, ◌<◌, ◌≤◌, Bool, true, false, not, ◌&&◌, cond, nat_lt, nat_le, eqb, List, [], ◌∷◌, ◌++◌, Option, None, Some, refl, sym, ◌∙◌, ap, subst, arith, max, append_assoc}
+use Rattle.std.specs.Prelude.{fold, is_none, IsTrue, IsSome, IfSome}
+use Rattle.std.specs.List.{All, list_all}
+use Rattle.std.specs.Option.{unwrap_or}
+use Rattle.std.proofs.lemmas.Bool.{and_parts, and_from, not-true, both_ways, eqb-true, eqb-false, ltb-true, ltb-false, leb-true, le-leb}
 use Rattle.std.proofs.lemmas.List.{append-nil, map-append}
 use Rattle.std.proofs.lemmas.List.Elements.{All-head, All-tail, filter_map-append}
 use Rattle.fr_log.specs.declared.ask.LogAsk.TheVariants.{Push}
+use Rattle.fr_log.specs.declared.popped.PoppedTag.{PoppedTag}
+use Rattle.fr_log.specs.Popped.{popped_of, popped_at, raised, is_rising_popped}
+use Rattle.fr_log.specs.SweptLaws.{raised_here, raised_others}
+use Rattle.fr_log.specs.Fields.{two}
 use Rattle.fr_log.specs.Seed.{SeedContent, IsSeed}
 use Rattle.fr_log.specs.Push.{PushContent}
-use Rattle.fr_log.specs.LogState.{LogState, headers, headers_of, first_of, seeded_to_of, seed_records_of, pushed_record, durable_of, known_of, records_of, is_push_held}
+use Rattle.fr_log.specs.LogState.{LogState, holds, headers, headers_of, first_of, seeded_to_of, seed_records_of, pushed_record, durable_of, known_of, records_of, is_push_held}
 use Rattle.fr_log.specs.Search.{seeded_records, pushed_records}
-use Rattle.fr_log.specs.Chain.{IsChain, IsLog, IsOwnSeed}
+use Rattle.fr_log.specs.Chain.{IsChain, IsLog, IsOwnSeed, IsKept}
 use Rattle.fr_log.specs.Refusal.{push_refusal}
-use Rattle.fr_log.specs.Step.{next_of}
-use Rattle.fr_log.specs.Change.{with_seed, with_push, with_stop, IsFirst, IsNext}
+use Rattle.fr_log.specs.Step.{next_of, popped_to, with_popped}
+use Rattle.fr_log.specs.Change.{with_seed, with_push, with_stop, IsFirst, IsNext, IsFurther}
 use Rattle.fr_log.specs.StepLaws.{greatest, granted}
-use Rattle.fr_log.specs.Law.{IsLogAsk, after_all, AskLeavesLog, AsksLeaveLog, last_version, DurableIsLast, DurableIsBounded, KnownIsHeld, RecordsRise, StandsStill, Grows, AskGrows, AsksGrow, is_newly_held, FirstSeedSets, PushAdds, NewPushRaises, NothingElseRaises}
+use Rattle.fr_log.specs.Law.{IsLogAsk, after_all, AskLeavesLog, AsksLeaveLog, last_version, DurableIsLast, DurableIsBounded, KnownIsHeld, RecordsRise, StandsStill, Grows, IsSomeFrom, PoppedIsKnown, AskGrows, AsksGrow, is_newly_held, FirstSeedSets, PushAdds, NewPushRaises, NothingElseRaises}
 use Rattle.fr_log.proofs.Chains.{reach}
 use Rattle.fr_log.proofs.Rising.{rises_test, through_test, records_rise, records_through}
 use Rattle.fr_log.proofs.Pushing.{next_push, with_push_is_log, durable_more, known_more, some_is_not_none}
@@ -35,6 +40,10 @@ with_seed_is_log l s h first is = record {
   own_pushes = h.own_pushes;
   chain = subst (λ ps. IsChain s.seeded_to (headers ps)) (sym (h.unseeded first.unseeded)) tt;
   marked = h.marked;
+  unpopped = λ k. absurd (cc);
+  popped_rise = h.popped_rise;
+  popped_held = h.popped_held;
+  popped_known = ap (list_all (λ p. nat_le p.version (known_of (with_seed l s)))) (h.unpopped first.unseeded);
 }
 
 stopped_is_log : (l : LogState) → IsLog l → IsSome l.seed → IsLog (with_stop l)
@@ -49,11 +58,119 @@ stopped_is_log l h some = record {
   own_pushes = h.own_pushes;
   chain = h.chain;
   marked = h.marked;
+  unpopped = h.unpopped;
+  popped_rise = h.popped_rise;
+  popped_held = h.popped_held;
+  popped_known = h.popped_known;
 }
+
+-- ---- a tag popped further
+
+raised_rise : (least : ℕ) (ps : List PoppedTag) (tag v : ℕ) → least ≤ tag → is_rising_popped least ps ≡ true → is_rising_popped least (raised ps tag v) ≡ true
+raised_rise least [] tag v le h = and_from (nat_le least tag) true (le-leb least tag le) refl
+raised_rise least (p ∷ ps) tag v le h = go (raised_rise (p.tag + 1) ps tag v) (nat_lt tag p.tag) refl (eqb p.tag tag) refl
+  where
+    above_other : (a b : ℕ) → a ≤ b → (a ≡ b → ⊥) → a + 1 ≤ b
+    above_other a b low other = omega (arith, low, other)
+
+    parts : (nat_le least p.tag ≡ true) × (is_rising_popped (p.tag + 1) ps ≡ true)
+    parts = and_parts (nat_le least p.tag) (is_rising_popped (p.tag + 1) ps) h
+
+    go : (p.tag + 1 ≤ tag → is_rising_popped (p.tag + 1) ps ≡ true → is_rising_popped (p.tag + 1) (raised ps tag v) ≡ true)
+        → (a : Bool) → nat_lt tag p.tag ≡ a → (b : Bool) → eqb p.tag tag ≡ b → is_rising_popped least (raised (p ∷ ps) tag v) ≡ true
+    go rest true e b k =
+        let less = ltb-true tag p.tag e in
+        rw e (and_from (nat_le least tag) (nat_le (tag + 1) p.tag && is_rising_popped (p.tag + 1) ps) (le-leb least tag le)
+        (and_from (nat_le (tag + 1) p.tag) (is_rising_popped (p.tag + 1) ps) (le-leb (tag + 1) p.tag (omega (arith, less))) parts.1))
+    go rest false e true k =
+        let same : p.tag ≡ tag = eqb-true p.tag tag k in
+        rw (e, k) (and_from (nat_le least tag) (is_rising_popped (tag + 1) ps) (le-leb least tag le) (subst (λ t. is_rising_popped (t + 1) ps ≡ true) same parts.1))
+    go rest false e false k =
+        let low = ltb-false tag p.tag e in
+        let other = eqb-false p.tag tag k in
+        rw (e, k) (and_from (nat_le least p.tag) (is_rising_popped (p.tag + 1) (raised ps tag v)) parts.0
+        (rest (above_other p.tag tag low other) parts.1))
+
+raised_all : (f : PoppedTag → Bool) (ps : List PoppedTag) (tag v : ℕ) → f (record { tag = tag; version = v }) ≡ true → list_all f ps ≡ true → list_all f (raised ps tag v) ≡ true
+raised_all f [] tag v new h = and_from (f (record { tag = tag; version = v })) true new refl
+raised_all f (p ∷ ps) tag v new h = go (raised_all f ps tag v new parts.1) (nat_lt tag p.tag) refl (eqb p.tag tag) refl
+  where
+    parts : (f p ≡ true) × (list_all f ps ≡ true)
+    parts = and_parts (f p) (list_all f ps) h
+
+    go : list_all f (raised ps tag v) ≡ true → (a : Bool) → nat_lt tag p.tag ≡ a → (b : Bool) → eqb p.tag tag ≡ b → list_all f (raised (p ∷ ps) tag v) ≡ true
+    go rest true e b k = rw e (and_from (f (record { tag = tag; version = v })) (f p && list_all f ps) new h)
+    go rest false e true k = rw (e, k) (and_from (f (record { tag = tag; version = v })) (list_all f ps) new parts.1)
+    go rest false e false k = rw (e, k) (and_from (f p) (list_all f (raised ps tag v)) parts.0 rest)
+
+-- what is popped of a tag is as each entry is
+popped_is : (f : ℕ → ℕ → Bool) (ps : List PoppedTag) (tag v : ℕ) → list_all (λ p. f p.tag p.version) ps ≡ true → popped_of ps tag ≡ Some v → f tag v ≡ true
+popped_is f [] tag v h e = absurd (cc)
+popped_is f (p ∷ ps) tag v h e = go (popped_is f ps tag v parts.1) (eqb p.tag tag) refl
+  where
+    parts : (f p.tag p.version ≡ true) × (list_all (λ q. f q.tag q.version) ps ≡ true)
+    parts = and_parts (f p.tag p.version) (list_all (λ q. f q.tag q.version) ps) h
+
+    go : (popped_of ps tag ≡ Some v → f tag v ≡ true) → (b : Bool) → eqb p.tag tag ≡ b → f tag v ≡ true
+    go rest true k =
+        let is : Some p.version ≡ Some v = sym (ap (λ t. cond t (Some p.version) (popped_of ps tag)) k) ∙ e in
+        let same : p.version ≡ v = cc in
+        two (λ (x y : ℕ). f x y) (sym (eqb-true p.tag tag k)) (sym same) ∙ parts.0
+    go rest false k = rest (sym (ap (λ t. cond t (Some p.version) (popped_of ps tag)) k) ∙ e)
+
+pub popped_is_known : PoppedIsKnown
+popped_is_known l tag version h e = (
+  leb-true version (known_of l) (popped_is (λ t v. nat_le v (known_of l)) l.popped tag version h.popped_known e),
+  popped_is (λ t v. holds l t) l.popped tag version h.popped_held e,
+)
+
+-- what is popped of a tag is known, also where nothing is
+pub popped_low : (l : LogState) (tag : ℕ) → IsLog l → popped_at l.popped tag ≤ known_of l
+popped_low l tag h = go (popped_of l.popped tag) refl
+  where
+    go : (o : Option ℕ) → popped_of l.popped tag ≡ o → popped_at l.popped tag ≤ known_of l
+    go None e = let k : popped_at l.popped tag ≡ 0 = ap (λ o. unwrap_or o 0) e in omega (arith, k)
+    go (Some v) e =
+        let k : popped_at l.popped tag ≡ v = ap (λ o. unwrap_or o 0) e in
+        let low = (popped_is_known l tag v h e).0 in
+        omega (arith, k, low)
+
+pub raised_is_log : (l : LogState) (tag v : ℕ) → IsLog l → IsSome l.seed → IsTrue (holds l tag) → v ≤ known_of l → IsLog (with_popped l tag v)
+raised_is_log l tag v h seeded held known = record {
+  k_low = h.k_low;
+  k_high = h.k_high;
+  m_high = h.m_high;
+  index_high = h.index_high;
+  unseeded = h.unseeded;
+  unlocked = h.unlocked;
+  own_seed = h.own_seed;
+  own_pushes = h.own_pushes;
+  chain = h.chain;
+  marked = h.marked;
+  unpopped = λ none. absurd (some_is_not_none l.seed none seeded);
+  popped_rise = raised_rise 0 l.popped tag v (omega arith) h.popped_rise;
+  popped_held = raised_all (λ p. holds l p.tag) l.popped tag v held h.popped_held;
+  popped_known = raised_all (λ p. nat_le p.version (known_of l)) l.popped tag v (le-leb v (known_of l) known) h.popped_known;
+}
+
+pub raised_kept : (l n : LogState) (tag v durable known : ℕ) → l ≡ n → IsKept l durable known → IsSome n.seed → IsTrue (holds n tag) → v ≤ known_of n → IsKept (with_popped l tag v) durable known
+raised_kept l n tag v durable known same h seeded held low = record {
+  log = raised_is_log l tag v h.log (subst (λ x. IsSome x.seed) (sym same) seeded) (subst (λ x. IsTrue (holds x tag)) (sym same) held) (subst (λ x. v ≤ known_of x) (sym same) low);
+  durable_is = h.durable_is;
+  known_is = h.known_is;
+}
+
+-- a Pop raises no further than what is known
+pub popped_to_known : (l : LogState) (tag through : ℕ) → IsLog l → popped_to l tag through ≤ known_of l
+popped_to_known l tag through h = let k = popped_low l tag h in omega (arith, k)
+
+with_popped_is_log : (l : LogState) (tag through : ℕ) → IsLog l → IsFurther l tag through → IsLog (with_popped l tag (popped_to l tag through))
+with_popped_is_log l tag through h is = raised_is_log l tag (popped_to l tag through) h is.seeded is.held (popped_to_known l tag through h)
 
 pub ask_leaves_log : AskLeavesLog
 ask_leaves_log l a h is =
     by_change IsLog l a h (λ s at first. with_seed_is_log l s h first (subst IsLogAsk at is)) (λ p at next. with_push_is_log l p h next (subst IsLogAsk at is)) (λ at some. stopped_is_log l h some)
+    (λ tag through at further. with_popped_is_log l tag through h further)
 
 pub asks_leave_log : AsksLeaveLog
 asks_leave_log l [] h are = h
@@ -105,6 +222,9 @@ records_rise_law l tag h = (rises_test 0 (records_of l tag) (records_rise l tag 
 
 -- ---- growth
 
+popped_stays : (ps : List PoppedTag) (tag version : ℕ) → popped_of ps tag ≡ Some version → IsSomeFrom version (popped_of ps tag)
+popped_stays ps tag version e = subst (IsSomeFrom version) (sym e) (omega arith)
+
 grows_itself : (l : LogState) → Grows l l
 grows_itself l = record {
   epoch = refl;
@@ -117,6 +237,7 @@ grows_itself l = record {
   known = omega arith;
   stopped = λ is. is;
   still = λ some is. record { headers = refl; durable = refl; known = refl };
+  popped = popped_stays l.popped;
 }
 
 grows_seed : (l : LogState) (s : SeedContent) → l.seed ≡ None → Grows l (with_seed l s)
@@ -131,6 +252,7 @@ grows_seed l s none = record {
   known = greatest (λ p. p.known) (first_of l.seed - 1) (s.first - 1) l.pushes (let k = ap first_of none in omega arith);
   stopped = λ is. is;
   still = λ some is. absurd (some_is_not_none l.seed none some);
+  popped = popped_stays l.popped;
 }
 
 grows_push : (l : LogState) (p : PushContent) → l.stopped ≡ false → Grows l (with_push l p)
@@ -145,6 +267,7 @@ grows_push l p running = record {
   known = omega (arith, known_more l p);
   stopped = λ is. is;
   still = λ some is. absurd (both_ways l.stopped running is);
+  popped = popped_stays l.popped;
 }
 
 grows_stop : (l : LogState) → Grows l (with_stop l)
@@ -159,6 +282,34 @@ grows_stop l = record {
   known = omega arith;
   stopped = λ is. refl;
   still = λ some is. record { headers = refl; durable = refl; known = refl };
+  popped = popped_stays l.popped;
+}
+
+-- what is popped of a tag is no less, and there where it was
+popped_rises : (ps : List PoppedTag) (tag v : ℕ) → popped_at ps tag ≤ v → (other version : ℕ) → popped_of ps other ≡ Some version → IsSomeFrom version (popped_of (raised ps tag v) other)
+popped_rises ps tag v le other version e = go (eqb other tag) refl
+  where
+    go : (b : Bool) → eqb other tag ≡ b → IsSomeFrom version (popped_of (raised ps tag v) other)
+    go true k =
+        let same : other ≡ tag = eqb-true other tag k in
+        let here : popped_of (raised ps tag v) other ≡ Some v = ap (popped_of (raised ps tag v)) same ∙ raised_here ps tag v in
+        let was : popped_at ps tag ≡ version = ap (popped_at ps) (sym same) ∙ ap (λ o. unwrap_or o 0) e in
+        subst (IsSomeFrom version) (sym here) (omega (arith, was, le))
+    go false k = subst (IsSomeFrom version) (sym (raised_others ps tag v other (eqb-false other tag k) ∙ e)) (omega arith)
+
+grows_popped : (l : LogState) (tag v : ℕ) → popped_at l.popped tag ≤ v → Grows l (with_popped l tag v)
+grows_popped l tag v le = record {
+  epoch = refl;
+  index = refl;
+  m = refl;
+  k = refl;
+  seed = λ some. refl;
+  headers = ([], sym (append-nil (headers_of l)));
+  durable = omega arith;
+  known = omega arith;
+  stopped = λ is. is;
+  still = λ some is. record { headers = refl; durable = refl; known = refl };
+  popped = popped_rises l.popped tag v le;
 }
 
 grows_on : (l n o : LogState) → Grows l n → Grows n o → Grows l o
@@ -176,13 +327,23 @@ grows_on l n o g h = record {
       let a = g.still some is in
       let b = h.still (seeded some) (g.stopped is) in
       record { headers = b.headers ∙ a.headers; durable = b.durable ∙ a.durable; known = b.known ∙ a.known };
+  popped = λ tag version e. popped_on tag version (popped_of n.popped tag) refl (g.popped tag version e);
 }
   where
+    higher : (version w : ℕ) (found : Option ℕ) → version ≤ w → IsSomeFrom w found → IsSomeFrom version found
+    higher version w None le some = some
+    higher version w (Some x) le some = omega (arith, le, some)
+
+    popped_on : (tag version : ℕ) (found : Option ℕ) → popped_of n.popped tag ≡ found → IsSomeFrom version (popped_of n.popped tag) → IsSomeFrom version (popped_of o.popped tag)
+    popped_on tag version None e some = absurd (subst (IsSomeFrom version) e some)
+    popped_on tag version (Some w) e some = higher version w (popped_of o.popped tag) (subst (IsSomeFrom version) e some) (h.popped tag w e)
+
     seeded : IsSome l.seed → IsSome n.seed
     seeded some = subst (λ x. IsSome x) (sym (g.seed some)) some
 
 pub ask_grows : AskGrows
 ask_grows l a = by_change (Grows l) l a (grows_itself l) (λ s at first. grows_seed l s first.unseeded) (λ p at next. grows_push l p next.running) (λ at some. grows_stop l)
+    (λ tag through at is. grows_popped l tag (popped_to l tag through) (omega arith))
 
 pub asks_grow : AsksGrow
 asks_grow l [] = grows_itself l
@@ -236,3 +397,4 @@ pub nothing_else_raises : NothingElseRaises
 nothing_else_raises l a some not_new =
     by_change (StandsStill l) l a (record { headers = refl; durable = refl; known = refl }) (λ s at first. absurd (some_is_not_none l.seed first.unseeded some))
     (λ p at next. absurd (both_ways (is_newly_held l a) not_new (ap (is_newly_held l) at ∙ newly l p next))) (λ at k. record { headers = refl; durable = refl; known = refl })
+    (λ tag through at is. record { headers = refl; durable = refl; known = refl })

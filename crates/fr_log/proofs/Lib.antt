@@ -5,8 +5,10 @@ pub mod Pushing
 pub mod Changes
 pub mod Lawful
 pub mod Telling
+pub mod Letting
 pub mod Going
 pub mod Seedings
 pub mod SeedKept
 pub mod Shelves
 pub mod Held
+pub mod Popping

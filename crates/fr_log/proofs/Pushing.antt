@@ -1,12 +1,13 @@
 -- A push that is newly held.
-use Rattle.std.proofs.Common.{◌≡◌, ℕ, ◌+◌, ◌<◌, ◌≤◌, Bool, true, false, not, ◌&&◌, ◌||◌, List, [], ◌∷◌, ◌++◌, cond, nat_lt, eqb, Option, None, Some, refl, sym, ◌∙◌, ap, subst, arith, max}
+use Rattle.std.proofs.Common.{◌≡◌, ℕ, ◌+◌, ◌<◌, ◌≤◌, Bool, true, false, not, ◌&&◌, ◌||◌, List, [], ◌∷◌, ◌++◌, cond, nat_lt, nat_le, eqb, Option, None, Some, refl, sym, ◌∙◌, ap, subst, arith, max}
 use Rattle.std.specs.Prelude.{is_some, is_none, IsNone, IsSome}
 use Rattle.std.specs.List.{list_all, All}
-use Rattle.std.proofs.lemmas.Bool.{not-false, ltb-false, eqb-true, eqb-false, or_parts}
+use Rattle.std.proofs.lemmas.Bool.{not-false, ltb-false, eqb-true, eqb-false, or_parts, and_parts, and_from, leb-true, le-leb}
 use Rattle.std.proofs.lemmas.List.Sums.{fold-append}
 use Rattle.std.proofs.lemmas.List.Elements.{All-push, All-nil}
 use Rattle.std.specs.Ordering.{is_some_and, is_le, nat_cmp}
 use Rattle.fr_log.specs.declared.ask.LogRefusal.{LogRefusal}
+use Rattle.fr_log.specs.declared.popped.PoppedTag.{PoppedTag}
 use Rattle.fr_log.specs.Push.{PushContent, IsPush}
 use Rattle.fr_log.specs.LogState.{LogState, headers, holds, durable_of, known_of, seeded_to_of, first_of, is_push_held}
 use Rattle.fr_log.specs.Pushes.{ArePushedBelow}
@@ -89,6 +90,20 @@ pub some_is_not_none : {A : Type 0} (o : Option A) → o ≡ None → IsSome o �
 some_is_not_none None e some = absurd (cc)
 some_is_not_none (Some x) e some = absurd (cc)
 
+pub durable_more : (l : LogState) (p : PushContent) → durable_of (with_push l p) ≡ max (durable_of l) p.version
+durable_more l p = fold-append (λ v q. max v q.version) (seeded_to_of l.seed) l.pushes (p ∷ [])
+
+pub known_more : (l : LogState) (p : PushContent) → known_of (with_push l p) ≡ max (known_of l) p.known
+known_more l p = fold-append (λ v q. max v q.known) (Rattle.std.proofs.Common.◌-◌ (first_of l.seed) 1) l.pushes (p ∷ [])
+
+-- what is popped is known for good
+pub known_on : (ps : List PoppedTag) (a b : ℕ) → a ≤ b → list_all (λ p. nat_le p.version a) ps ≡ true → list_all (λ p. nat_le p.version b) ps ≡ true
+known_on [] a b le h = refl
+known_on (p ∷ ps) a b le h =
+    let parts = and_parts (nat_le p.version a) (list_all (λ q. nat_le q.version a) ps) h in
+    let low = leb-true p.version a parts.0 in
+    and_from (nat_le p.version b) (list_all (λ q. nat_le q.version b) ps) (le-leb p.version b (omega (arith, low, le))) (known_on ps a b le parts.1)
+
 pub with_push_is_log : (l : LogState) (p : PushContent) → IsLog l → IsNext l p → IsPush p → IsLog (with_push l p)
 with_push_is_log l p h next is = record {
   k_low = h.k_low;
@@ -101,13 +116,11 @@ with_push_is_log l p h next is = record {
   own_pushes = All-push (IsOwnPush l.epoch (holds l)) l.pushes p h.own_pushes (record { within = is; epoch = next.epoch; tags = next.tags });
   chain = chain_more (seeded_to_of l.seed) l.pushes p h.chain next.follows is;
   marked = marked_more (seeded_to_of l.seed) l.pushes p h.chain h.marked next.follows next.first_mark next.later_mark;
+  unpopped = h.unpopped;
+  popped_rise = h.popped_rise;
+  popped_held = h.popped_held;
+  popped_known = known_on l.popped (known_of l) (known_of (with_push l p)) (let k = known_more l p in omega (arith, k)) h.popped_known;
 }
-
-pub durable_more : (l : LogState) (p : PushContent) → durable_of (with_push l p) ≡ max (durable_of l) p.version
-durable_more l p = fold-append (λ v q. max v q.version) (seeded_to_of l.seed) l.pushes (p ∷ [])
-
-pub known_more : (l : LogState) (p : PushContent) → known_of (with_push l p) ≡ max (known_of l) p.known
-known_more l p = fold-append (λ v q. max v q.known) (Rattle.std.proofs.Common.◌-◌ (first_of l.seed) 1) l.pushes (p ∷ [])
 
 pub with_push_is_kept : (l : LogState) (p : PushContent) (durable known : ℕ) → IsKept l durable known → push_refusal l p ≡ None → is_push_held l p ≡ false → IsPush p
     → IsKept (with_push l p) p.version (max known p.known)
@@ -126,7 +139,7 @@ with_push_is_kept l p durable known h taken other is =
 
 -- a push that is held is not above what the log reaches, and one that is above is not held
 pub held_is_low : (l : LogState) (p : PushContent) → is_push_held l p ≡ true → p.version ≤ durable_of l
-held_is_low l p held = held_within_reach (seeded_to_of l.seed) p l.pushes held
+held_is_low l p held = held_within_reach l.popped (seeded_to_of l.seed) p l.pushes held
 
 pub unheld_is_high : (l : LogState) (p : PushContent) → push_refusal l p ≡ None → IsPush p → is_push_held l p ≡ false → durable_of l < p.version
 unheld_is_high l p taken is other = let follows = (next_push l p taken other).follows in let rises = is.rises in omega arith

@@ -1,5 +1,5 @@
 -- A log that takes one record more into its seed.
-use Rattle.std.proofs.Common.{◌≡◌, ℕ, ◌-◌, Bool, true, false, ◌&&◌, List, [], ◌∷◌, ◌++◌, Some, cond, refl, sym, ◌∙◌, ap, subst, max, Result, Ok, Err}
+use Rattle.std.proofs.Common.{◌≡◌, ℕ, ◌-◌, Bool, true, false, ◌&&◌, nat_le, List, [], ◌∷◌, ◌++◌, Some, cond, refl, sym, ◌∙◌, ap, subst, max, Result, Ok, Err}
 use Rattle.std.specs.Prelude.{fold, IfSome, OnErr, IfOk}
 use Rattle.std.specs.List.{list_all}
 use Rattle.std.proofs.lemmas.Bool.{and_parts}
@@ -34,6 +34,10 @@ module _ (l : LogState) (durable known : ℕ) (s : SeedContent) (kept : IsKept l
       own_pushes = kept.log.own_pushes;
       chain = subst (λ v. IsChain v (headers_of l)) (ap seeded_to_of seed_is ∙ sym seeded_to) kept.log.chain;
       marked = kept.log.marked;
+      unpopped = λ none. absurd (cc none);
+      popped_rise = kept.log.popped_rise;
+      popped_held = kept.log.popped_held;
+      popped_known = ap (λ v. list_all (λ p. nat_le p.version (fold (λ w q. max w q.known) (v - 1) l.pushes)) l.popped) (first ∙ sym (ap first_of seed_is)) ∙ kept.log.popped_known;
     };
     durable_is = kept.durable_is ∙ ap (λ v. fold (λ w p. max w p.version) v l.pushes) (ap seeded_to_of seed_is ∙ sym seeded_to);
     known_is = kept.known_is ∙ ap (λ v. fold (λ w p. max w p.known) (v - 1) l.pushes) (ap first_of seed_is ∙ sym first);
@@ -56,5 +60,5 @@ module _ (l : LogState) (durable known : ℕ) (s : SeedContent) (kept : IsKept l
   taken_is_kept r n (Err fault) is held after err = again n is err
 
 -- the last of three tests that all hold
-pub last_holds : (a b c d : Bool) → d ≡ true → d ≡ (a && (b && c)) → c ≡ true
-last_holds a b c d holds is = (and_parts b c (and_parts a (b && c) (sym is ∙ holds)).1).1
+pub last_holds : (a b c e d : Bool) → d ≡ true → d ≡ (a && (b && (c && e))) → e ≡ true
+last_holds a b c e d holds is = (and_parts c e (and_parts b (c && e) (and_parts a (b && (c && e)) (sym is ∙ holds)).1).1).1

@@ -4,7 +4,7 @@ use Rattle.std.specs.Prelude.{filter, IsSome, IfSome, Result, Ok, Err, OnErr}
 use Rattle.std.specs.List.{AllByRecursion}
 use Rattle.std.specs.Map.{lookup, keys_of}
 use Rattle.std.specs.BTreeMap.{insert_entry, is_at}
-use Rattle.std.specs.Ordering.{is_eq, is_lt, is_le, nat_cmp, match_ordering}
+use Rattle.std.specs.Ordering.{is_eq, is_lt, is_le, is_gt, nat_cmp, match_ordering}
 use Rattle.std.specs.Cmp.{nat_cmp_is}
 use Rattle.std.specs.declared.cmp.Ordering.TheVariants.{Less, Equal, Greater}
 use Rattle.std.proofs.lemmas.Bool.{and_parts, and_from, ltb-false, lt-ltb, le-ltb, leb-true, le-leb, eqb-true, eqb-false, eq-eqb, ne_eqb, cases_order}
@@ -15,8 +15,10 @@ use Rattle.fr_mutation.specs.Equal.{is_same_batch}
 use Rattle.fr_mutation.specs.declared.mutation.Mutation.{Mutation}
 use Rattle.fr_tags.specs.declared.body.Body.{Body}
 use Rattle.fr_tags.specs.Bodies.{batch_of, is_rising_from, is_same_body}
+use Rattle.fr_log.specs.declared.popped.PoppedTag.{PoppedTag}
+use Rattle.fr_log.specs.Popped.{popped_at, left_bodies, IsBodyLeftAtFirst}
 use Rattle.fr_log.specs.Fields.{two}
-use Rattle.fr_log.specs.Pushes.{Shelved, batch_at, at_version, AreBelow, cut, shelf_of, with_body, bodies_from}
+use Rattle.fr_log.specs.Pushes.{Shelved, batch_at, at_version, AreBelow, AreAbove, cut, above, shelf_of, with_body, bodies_from}
 
 -- ---- one shelf
 
@@ -107,6 +109,13 @@ higher a b lost = elim (cases_order a b) [
   | inr (inr more) ↦ more
 ]
 
+at_most : (a b : ℕ) → is_gt (nat_cmp a b) ≡ false → a ≤ b
+at_most a b won = elim (cases_order a b) [
+  | inl same ↦ omega (arith, same)
+  | inr (inl less) ↦ omega (arith, less)
+  | inr (inr more) ↦ let k : true ≡ false = ap is_gt (nat_cmp_is a b Greater more) ∙ won in absurd (cc)
+]
+
 -- all is below what the last is below
 pub below_last : (v last : ℕ) (es : List Shelved) → AllByRecursion (λ q. is_lt (nat_cmp last q) ≡ false) (keys_of es) → is_le (nat_cmp v last) ≡ false → AreBelow v es
 below_last v last [] h lost = tt
@@ -120,6 +129,24 @@ shrinks false n old is e = absurd (cc)
 pub cut_shrinks : (w : ℕ) (shelf next : List Shelved) (r : Option Shelved) → IsSome r → IfSome r (λ p. shelf ≡ next ++ p ∷ []) → ((es : List Shelved) (e : Shelved) → shelf ≡ es ++ e ∷ [] → w ≤ e.0) → cut w next ≡ cut w shelf
 cut_shrinks w shelf next None some e high = absurd (cc)
 cut_shrinks w shelf next (Some p) some e high = sym (ap (cut w) e ∙ cut_last w next p (high next p e))
+
+-- ---- the first ones are taken out
+
+pub above_all : (w : ℕ) (es : List Shelved) → AreAbove w es → above w es ≡ es
+above_all w [] h = refl
+above_all w (e ∷ es) (here, rest) = ap (λ t. cond t (e ∷ above w es) (above w es)) (lt-ltb w e.0 here) ∙ ap (λ xs. e ∷ xs) (above_all w es rest)
+
+above_less : (w : ℕ) (e : Shelved) (es : List Shelved) → e.0 ≤ w → above w (e ∷ es) ≡ above w es
+above_less w e es low = ap (λ t. cond t (e ∷ above w es) (above w es)) (le-ltb w e.0 low)
+
+pub above_shrinks : (w : ℕ) (shelf next : List Shelved) (r : Option Shelved) → IsSome r → IfSome r (λ p. shelf ≡ p ∷ next) → ((e : Shelved) (es : List Shelved) → shelf ≡ e ∷ es → e.0 ≤ w) → above w next ≡ above w shelf
+above_shrinks w shelf next None some e low = absurd (cc)
+above_shrinks w shelf next (Some p) some e low = sym (ap (above w) e ∙ above_less w p next (low p next e))
+
+-- all is above what the first is above
+pub above_first : (v first : ℕ) (es : List Shelved) → AllByRecursion (λ q. is_gt (nat_cmp first q) ≡ false) (keys_of es) → is_le (nat_cmp first v) ≡ false → AreAbove v es
+above_first v first [] h lost = tt
+above_first v first (e ∷ es) (here, rest) lost = (let a = at_most first e.0 here in let b = higher first v lost in omega (arith, a, b), above_first v first es rest lost)
 
 -- ---- shelves that take the bodies of one push, one after another
 
@@ -269,6 +296,46 @@ met v n ss d b [] x within some long is = absurd (omega (arith, long))
 met v n ss d b (y ∷ left) x within some long is =
     ap (λ bs. pointwise is_same_body (y ∷ left) bs) (bodies_one v n ss d b within some)
     ∙ ap (λ z. (eqb z.tag n && is_same_batch z.batch b) && pointwise is_same_body left (bodies_from v (n + 1) (drop (n + 1) ss))) (sym is)
+
+-- ---- the same where what is popped is passed over
+
+abbrev pub left_from : List PoppedTag → ℕ → ℕ → List (List Shelved) → List Body
+left_from ps v n ss = left_bodies ps v (bodies_from v n (drop n ss))
+
+pub popped_skips : (ps : List PoppedTag) (v n : ℕ) (ss : List (List Shelved)) (d : List Shelved) → n < length ss → v ≤ popped_at ps n → left_from ps v n ss ≡ left_from ps v (n + 1) ss
+popped_skips ps v n ss d within low = ap (left_bodies ps v) (bodies_next v n ss d within) ∙ go (batch_at v (get_or ss n d))
+  where
+    go : (o : Option (List Mutation)) → left_bodies ps v (with_body n o (bodies_from v (n + 1) (drop (n + 1) ss))) ≡ left_from ps v (n + 1) ss
+    go None = refl
+    go (Some b) = rw (le-ltb (popped_at ps n) v low) refl
+
+pub left_same : (ps : List PoppedTag) (v n : ℕ) (ss : List (List Shelved)) (d : List Shelved) → n < length ss → batch_at v (get_or ss n d) ≡ None → left_from ps v n ss ≡ left_from ps v (n + 1) ss
+left_same ps v n ss d within none = ap (left_bodies ps v) (bodies_same v n ss d within none)
+
+left_one : (ps : List PoppedTag) (v n : ℕ) (ss : List (List Shelved)) (d : List Shelved) (b : List Mutation) → n < length ss → batch_at v (get_or ss n d) ≡ Some b → popped_at ps n < v
+    → left_from ps v n ss ≡ record { tag = n; batch = b } ∷ left_from ps v (n + 1) ss
+left_one ps v n ss d b within some high = ap (left_bodies ps v) (bodies_one v n ss d b within some) ∙ rw (lt-ltb (popped_at ps n) v high) refl
+
+-- none is left to compare
+pub left_unmet : (ps : List PoppedTag) (v n : ℕ) (ss : List (List Shelved)) (d : List Shelved) (b : List Mutation) (left : List Body) → n < length ss → batch_at v (get_or ss n d) ≡ Some b → popped_at ps n < v
+    → length left < 1 → pointwise is_same_body (left_bodies ps v left) (left_from ps v n ss) ≡ false
+left_unmet ps v n ss d b [] within some high none = ap (λ bs. pointwise is_same_body [] bs) (left_one ps v n ss d b within some high)
+left_unmet ps v n ss d b (x ∷ left) within some high none = absurd (omega (arith, none))
+
+-- the next one is compared with that of the shelf
+pub left_met : (ps : List PoppedTag) (v n : ℕ) (ss : List (List Shelved)) (d : List Shelved) (b : List Mutation) (left : List Body) (x : Body) → n < length ss → batch_at v (get_or ss n d) ≡ Some b
+    → popped_at ps n < v → IsBodyLeftAtFirst ps v left → 1 ≤ length left → x ≡ get_or left 0 x
+    → pointwise is_same_body (left_bodies ps v left) (left_from ps v n ss) ≡ (eqb x.tag n && is_same_batch x.batch b) && pointwise is_same_body (left_bodies ps v (drop 1 left)) (left_from ps v (n + 1) ss)
+left_met ps v n ss d b [] x within some high first long is = absurd (omega (arith, long))
+left_met ps v n ss d b (y ∷ left) x within some high first long is =
+    ap (λ bs. pointwise is_same_body (left_bodies ps v (y ∷ left)) bs) (left_one ps v n ss d b within some high)
+    ∙ ap (λ t. pointwise is_same_body (cond t (y ∷ left_bodies ps v left) (left_bodies ps v left)) (record { tag = n; batch = b } ∷ left_from ps v (n + 1) ss)) first
+    ∙ ap (λ z. (eqb z.tag n && is_same_batch z.batch b) && pointwise is_same_body (left_bodies ps v left) (left_from ps v (n + 1) ss)) (sym is)
+
+-- none is left of what is left from its first on
+pub left_last : (ps : List PoppedTag) (v : ℕ) (left : List Body) → IsBodyLeftAtFirst ps v left → eqb (length left) 0 ≡ pointwise is_same_body (left_bodies ps v left) []
+left_last ps v [] first = refl
+left_last ps v (x ∷ left) first = ne_eqb (length (x ∷ left)) 0 (λ e. absurd (omega (arith, e))) ∙ sym (ap (λ t. pointwise is_same_body (cond t (x ∷ left_bodies ps v left) (left_bodies ps v left)) []) first)
 
 pub as_yes : (a : Bool) → false ≡ not a → a ≡ true
 as_yes true e = refl

@@ -2,43 +2,48 @@
 use Rattle.std.proofs.Common.{◌≡◌, ℕ, zero, suc, ◌+◌, ◌-◌, ◌<◌, ◌≤◌, Bool, true, false, not, ◌&&◌, List, [], ◌∷◌, length, take, cond, nat_lt, nat_le, eqb, Option, None, Some, refl, sym, ◌∙◌, ap, subst, inl, inr, arith}
 use Rattle.std.specs.Prelude.{filter, is_none, ◌⊎◌}
 use Rattle.std.specs.List.{list_any}
-use Rattle.std.proofs.lemmas.Bool.{ltb-true, ltb-false, le-leb, lt-leb, not-false, or_right, eqb-true}
+use Rattle.std.specs.Option.{option_map, option_map_or}
+use Rattle.std.proofs.lemmas.Bool.{ltb-true, ltb-false, le-ltb, le-leb, lt-leb, not-false, or_right, eqb-true}
 use Rattle.std.proofs.lemmas.List.{take_all}
 use Rattle.std.proofs.lemmas.List.Folds.{list_any-append}
 use Rattle.fr_state.specs.Generations.{CoordinatedState}
 use Rattle.fr_log.specs.declared.ask.LogAsk.{LogAsk}
-use Rattle.fr_log.specs.declared.ask.LogAsk.TheVariants.{Seed, Push, Lock, Peek, MarkAsked}
-use Rattle.fr_log.specs.declared.ask.LogTell.TheVariants.{Held, Locked, Peeked}
+use Rattle.fr_log.specs.declared.ask.LogAsk.TheVariants.{Seed, Push, Lock, Peek, MarkAsked, Pop}
+use Rattle.fr_log.specs.declared.ask.LogTell.TheVariants.{Held, Locked, Peeked, Popped, Refused}
 use Rattle.fr_log.specs.declared.ask.LogRefusal.{LogRefusal}
+use Rattle.fr_log.specs.declared.ask.LogRefusal.TheVariants.{WrongEpoch, Unseeded, NotMine, TooEarly, Removed}
+use Rattle.fr_log.specs.Popped.{popped_of, popped_at, left_push, left_seed}
+use Rattle.fr_log.specs.SweptLaws.{raised_here, granted_from}
 use Rattle.fr_log.specs.declared.records.PeekedRecord.{PeekedRecord}
 use Rattle.fr_log.specs.Seed.{SeedContent, is_same_seed, is_same_seed-IsSameness}
 use Rattle.fr_log.specs.Push.{PushContent, is_one_push, is_one_push-itself, is_one_push-parts}
 use Rattle.fr_log.specs.LogState.{LogState, holds, first_of, durable_of, records_of, is_push_held, mark_among}
 use Rattle.fr_log.specs.Refusal.{refusal_of, seed_refusal, push_refusal, has_other_seed}
-use Rattle.fr_log.specs.Step.{answer_of, next_of, granted_answer, mark_answer, peek_of, records_above, upto_of}
+use Rattle.fr_log.specs.Step.{answer_of, next_of, granted_answer, mark_answer, peek_of, records_above, upto_of, popped_to, is_popped_to, with_popped}
 use Rattle.fr_log.specs.Fields.{five}
 use Rattle.fr_log.specs.StepLaws.{passes, granted}
 use Rattle.fr_log.specs.Change.{with_seed, with_push}
 use Rattle.fr_log.specs.Answer.{IsAnswer, IsSeededAnswer, IsHeldAnswer}
-use Rattle.fr_log.specs.Law.{TellIsAnswer, HeldIsHeld, OnePushIsSame, SameSeedIsSame, LockedIsStopped, PeekIsWhole, PeekGoesOn}
+use Rattle.fr_log.specs.Law.{TellIsAnswer, HeldIsHeld, OnePushIsSame, SameSeedIsSame, LockedIsStopped, NotRemovedAbove, PeekIsWhole, PeekGoesOn}
 use Rattle.fr_log.proofs.Rising.{Rises, Through, above, records_rise, records_through, rises_above, through_above, rises_take, last_of, last_above}
 use Rattle.fr_log.proofs.Changes.{told, own_and_seeded}
 
 -- ---- which ask a tell answers
 
 -- a log that does not refuse a seed has it afterwards
-has_seed : (l : LogState) (s : SeedContent) → seed_refusal l s ≡ None → (held : Option SeedContent) → l.seed ≡ held → (next_of l (Seed s)).seed ≡ Some s
+has_seed : (l : LogState) (s : SeedContent) → seed_refusal l s ≡ None → (held : Option SeedContent) → l.seed ≡ held
+    → option_map (left_seed (next_of l (Seed s)).popped) (next_of l (Seed s)).seed ≡ Some (left_seed (next_of l (Seed s)).popped s)
 has_seed l s e None is =
     let k : next_of l (Seed s) ≡ with_seed l s = granted l (Seed s) e ∙ rw is refl in
-    ap (λ n. n.seed) k
+    ap (λ n. option_map (left_seed n.popped) n.seed) k ∙ ap (λ n. Some (left_seed n.popped s)) (sym k)
 has_seed l s e (Some t) is =
     let a = passes (not (eqb s.epoch l.epoch)) _ _ e in
     let b = passes _ _ _ a.1 in
-    let c = passes (has_other_seed l.seed s) _ _ b.1 in
-    let other : not (is_same_seed t s) ≡ false = ap (λ o. has_other_seed o s) (sym is) ∙ c.0 in
-    let same = is_same_seed-IsSameness.same t s (not-false (is_same_seed t s) other) in
+    let c = passes (has_other_seed l.popped l.seed s) _ _ b.1 in
+    let other : not (is_same_seed (left_seed l.popped t) (left_seed l.popped s)) ≡ false = ap (λ o. has_other_seed l.popped o s) (sym is) ∙ c.0 in
+    let same = is_same_seed-IsSameness.same (left_seed l.popped t) (left_seed l.popped s) (not-false (is_same_seed (left_seed l.popped t) (left_seed l.popped s)) other) in
     let k : next_of l (Seed s) ≡ l = granted l (Seed s) e ∙ rw is refl in
-    ap (λ n. n.seed) k ∙ is ∙ ap Some same
+    ap (λ n. option_map (left_seed n.popped) n.seed) k ∙ ap (option_map (left_seed l.popped)) is ∙ ap Some same ∙ ap (λ n. Some (left_seed n.popped s)) (sym k)
 
 seeded_answer : (l : LogState) (s : SeedContent) → seed_refusal l s ≡ None → IsSeededAnswer l (Seed s)
 seeded_answer l s e = record {
@@ -57,7 +62,8 @@ has_push l p taken true is =
 has_push l p taken false is =
     let k : next_of l (Push p) ≡ with_push l p = granted l (Push p) taken ∙ rw is refl in
     let with_it : is_push_held (with_push l p) p ≡ true =
-    list_any-append (is_one_push p) l.pushes (p ∷ []) ∙ or_right (is_push_held l p) (list_any (is_one_push p) (p ∷ [])) (rw (is_one_push-itself p) refl)
+    list_any-append (λ q. is_one_push (left_push l.popped p) (left_push l.popped q)) l.pushes (p ∷ [])
+    ∙ or_right (is_push_held l p) (list_any (λ q. is_one_push (left_push l.popped p) (left_push l.popped q)) (p ∷ [])) (rw (is_one_push-itself (left_push l.popped p)) refl)
     in
     ap (λ n. is_push_held n p) k ∙ with_it
 
@@ -80,6 +86,7 @@ peeked_answer l epoch tag after most e =
       seeded = own.1;
       held = not-false (holds l tag) c.0;
       early = ltb-false after (first_of l.seed - 1) d.0;
+      unpopped = granted_from l epoch tag after most e;
       value = refl;
     }
 
@@ -93,14 +100,45 @@ marked_answer l epoch e (Some state) is =
     let own = own_and_seeded l epoch _ _ _ e in
     record { ask = ap MarkAsked own.0; granted = e; seeded = own.1; mark = is }
 
+-- a tag that is popped through exactly a version
+popped_exactly : (o : Option ℕ) (v : ℕ) → option_map_or (λ x. eqb x v) o false ≡ true → o ≡ Some v
+popped_exactly None v e = absurd (cc)
+popped_exactly (Some x) v e = ap Some (eqb-true x v e)
+
+popped_after : (l : LogState) (epoch tag through : ℕ) → refusal_of l (Pop epoch tag through) ≡ None → (same : Bool) → is_popped_to l tag (popped_to l tag through) ≡ same
+    → popped_of (next_of l (Pop epoch tag through)).popped tag ≡ Some (popped_to l tag through)
+popped_after l epoch tag through e true is =
+    let k : next_of l (Pop epoch tag through) ≡ l = granted l (Pop epoch tag through) e ∙ rw is refl in
+    ap (λ n. popped_of n.popped tag) k ∙ popped_exactly (popped_of l.popped tag) (popped_to l tag through) is
+popped_after l epoch tag through e false is =
+    let k : next_of l (Pop epoch tag through) ≡ with_popped l tag (popped_to l tag through) = granted l (Pop epoch tag through) e ∙ rw is refl in
+    ap (λ n. popped_of n.popped tag) k ∙ raised_here l.popped tag (popped_to l tag through)
+
+popped_answer : (l : LogState) (epoch tag through : ℕ) → refusal_of l (Pop epoch tag through) ≡ None → (same : Bool) → is_popped_to l tag (popped_to l tag through) ≡ same
+    → IsAnswer l (Pop epoch tag through) (Popped (popped_to l tag through))
+popped_answer l epoch tag through e same is =
+    let own = own_and_seeded l epoch _ _ _ e in
+    let c = passes (not (holds l tag)) _ _ own.2 in
+    record {
+      tag = tag;
+      through = through;
+      ask = ap (λ x. Pop x tag through) own.0;
+      granted = e;
+      seeded = own.1;
+      held = not-false (holds l tag) c.0;
+      value = refl;
+      after = popped_after l epoch tag through e same is;
+    }
+
 granted_is_answer : (l : LogState) (a : LogAsk) → refusal_of l a ≡ None → IsAnswer l a (granted_answer l a)
 granted_is_answer l (Seed s) e = seeded_answer l s e
 granted_is_answer l (Push p) e = held_answer l p e
 granted_is_answer l (Lock epoch) e =
     let own = own_and_seeded l epoch _ _ _ e in
-    record { ask = ap Lock own.0; granted = e; seeded = own.1; durable_is = refl; known_is = refl; after = ap (λ n. n.stopped) (granted l (Lock epoch) e) }
+    record { ask = ap Lock own.0; granted = e; seeded = own.1; durable_is = refl; known_is = refl; popped_is = refl; after = ap (λ n. n.stopped) (granted l (Lock epoch) e) }
 granted_is_answer l (Peek epoch tag after most) e = peeked_answer l epoch tag after most e
 granted_is_answer l (MarkAsked epoch) e = marked_answer l epoch e (mark_among l.pushes) refl
+granted_is_answer l (Pop epoch tag through) e = popped_answer l epoch tag through e (is_popped_to l tag (popped_to l tag through)) refl
 
 pub tell_is_answer : TellIsAnswer
 tell_is_answer l a t is = subst (IsAnswer l a) is (go (refusal_of l a) refl)
@@ -119,9 +157,30 @@ held_is_held l p version e =
     cc' k = cc
 
 pub locked_is_stopped : LockedIsStopped
-locked_is_stopped l epoch durable known e =
-    let k = tell_is_answer l (Lock epoch) (Locked durable known) e in
-    (k.durable_is, k.known_is, k.seeded, k.after)
+locked_is_stopped l epoch durable known popped e =
+    let k = tell_is_answer l (Lock epoch) (Locked durable known popped) e in
+    (k.durable_is, k.known_is, k.popped_is, k.seeded, k.after)
+
+-- a peek from what is popped on passes the last test
+pub not_removed_above : NotRemovedAbove
+not_removed_above l epoch tag after most version le e = go (refusal_of l (Peek epoch tag after most)) refl
+  where
+    by : (a b c d f : Bool) (first popped : ℕ) → f ≡ false
+        → cond a (Some WrongEpoch) (cond b (Some Unseeded) (cond c (Some NotMine) (cond d (Some (TooEarly first)) (cond f (Some (Removed popped)) None)))) ≡ Some (Removed version) → ⊥
+    by true b c d f first popped p k = cc
+    by false true c d f first popped p k = cc
+    by false false true d f first popped p k = cc
+    by false false false true f first popped p k = cc
+    by false false false false true first popped p k = cc
+    by false false false false false first popped p k = cc
+
+    go : (o : Option LogRefusal) → refusal_of l (Peek epoch tag after most) ≡ o → ⊥
+    go None r = let k : Peeked (peek_of l tag after most) ≡ Refused (Removed version) = sym (told l (Peek epoch tag after most) None r) ∙ e in cc
+    go (Some why) r =
+        let k : Refused why ≡ Refused (Removed version) = sym (told l (Peek epoch tag after most) (Some why) r) ∙ e in
+        let same : why ≡ Removed version = cc in
+        by (not (eqb epoch l.epoch)) (is_none l.seed) (not (holds l tag)) (nat_lt after (first_of l.seed - 1)) (nat_lt after (popped_at l.popped tag)) (first_of l.seed) (popped_at l.popped tag)
+        (le-ltb after (popped_at l.popped tag) le) (r ∙ ap Some same)
 
 -- ---- when pushes and seeds are the same
 

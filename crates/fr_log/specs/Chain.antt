@@ -1,8 +1,9 @@
 -- What the pushes of a log are to one another.
-use Rattle.std.specs.Prelude.{◌≡◌, ℕ, ◌<◌, ◌≤◌, Bool, false, List, [], ◌∷◌, None, IsTrue, IsSome, IsNone, IfSome, All}
+use Rattle.std.specs.Prelude.{◌≡◌, ℕ, ◌<◌, ◌≤◌, nat_le, Bool, false, List, [], ◌∷◌, None, IsTrue, IsSome, IsNone, IfSome, All}
 use Rattle.std.specs.List.{list_all}
 use Rattle.fr_log.specs.Seed.{SeedContent, IsSeed}
 use Rattle.fr_log.specs.Push.{PushContent, IsPush}
+use Rattle.fr_log.specs.Popped.{is_rising_popped}
 use Rattle.fr_log.specs.LogState.{LogState, Header, holds, seeded_to_of, headers_of, durable_of, known_of}
 
 -- each push follows the one before it, and the first one this version
@@ -27,7 +28,8 @@ pub record IsOwnPush (e : ℕ) (is_mine : ℕ → Bool) (p : PushContent) : Type
   pub epoch : p.epoch ≡ e
   pub tags : IsTrue (list_all (λ b. is_mine b.tag) p.bodies)
 
--- what is true of every log: its pushes form one chain from its seed on, which begins with the mark
+-- what is true of every log: its pushes form one chain from its seed on, which begins with the mark; what is popped is known, and of
+-- tags that it holds
 pub record IsLog (l : LogState) : Type 0 where
   pub k_low : 1 ≤ l.k
   pub k_high : l.k ≤ l.m
@@ -39,6 +41,10 @@ pub record IsLog (l : LogState) : Type 0 where
   pub own_pushes : All (IsOwnPush l.epoch (holds l)) l.pushes
   pub chain : IsChain (seeded_to_of l.seed) (headers_of l)
   pub marked : BeginsWithMark (headers_of l)
+  pub unpopped : l.seed ≡ None → l.popped ≡ []
+  pub popped_rise : IsTrue (is_rising_popped 0 l.popped)
+  pub popped_held : IsTrue (list_all (λ p. holds l p.tag) l.popped)
+  pub popped_known : IsTrue (list_all (λ p. nat_le p.version (known_of l)) l.popped)
 
 -- the two numbers that are kept beside what they are read off
 pub record IsKept (l : LogState) (durable known : ℕ) : Type 0 where

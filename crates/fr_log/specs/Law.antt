@@ -1,18 +1,21 @@
 -- What is true of every log, over one ask and over every list of asks.
-use Rattle.std.specs.Prelude.{◌≡◌, ℕ, ◌-◌, ◌<◌, ◌≤◌, ◌↔◌, ◌⊎◌, Bool, true, false, ◌&&◌, not, nat_le, nat_lt, List, [], ◌∷◌, ◌++◌, None, fold, max, filter, is_none, IsTrue, IsSome, All}
+use Rattle.std.specs.Prelude.{◌≡◌, ◌≢◌, ℕ, ◌-◌, ◌<◌, ◌≤◌, ◌↔◌, ◌⊎◌, Bool, true, false, ◌&&◌, not, nat_le, nat_lt, List, [], ◌∷◌, ◌++◌, Option, None, Some, fold, max, filter, is_none, IsTrue, IsSome, All}
 use Rattle.std.specs.List.{list_all}
 use Rattle.fr_log.specs.declared.ask.LogAsk.{LogAsk}
-use Rattle.fr_log.specs.declared.ask.LogAsk.TheVariants.{Seed, Push, Lock, Peek, MarkAsked}
+use Rattle.fr_log.specs.declared.ask.LogAsk.TheVariants.{Seed, Push, Lock, Peek, MarkAsked, Pop}
 use Rattle.fr_log.specs.declared.ask.LogTell.{LogTell}
 use Rattle.fr_log.specs.declared.ask.LogTell.TheVariants.{Held, Locked, Refused}
 use Rattle.fr_log.specs.declared.ask.LogRefusal.{LogRefusal}
+use Rattle.fr_log.specs.declared.ask.LogRefusal.TheVariants.{Removed}
 use Rattle.fr_log.specs.Seed.{SeedContent, IsSeed, is_same_seed}
 use Rattle.fr_log.specs.Push.{PushContent, IsPush, is_one_push, AreOnePush}
 use Rattle.fr_log.specs.Peeked.{is_rising_from}
-use Rattle.fr_log.specs.LogState.{LogState, Header, first_of, seeded_to_of, durable_of, known_of, headers_of, records_of, is_push_held}
+use Rattle.fr_log.specs.LogState.{LogState, Header, swept, holds, first_of, seeded_to_of, durable_of, known_of, headers_of, records_of, is_push_held}
 use Rattle.fr_log.specs.Chain.{IsLog}
 use Rattle.fr_log.specs.Refusal.{push_refusal}
-use Rattle.fr_log.specs.Step.{answer_of, next_of, peek_of}
+use Rattle.fr_log.specs.declared.popped.PoppedTag.{PoppedTag}
+use Rattle.fr_log.specs.Popped.{popped_of, popped_at, raised}
+use Rattle.fr_log.specs.Step.{answer_of, next_of, peek_of, after_ask}
 use Rattle.fr_log.specs.Search.{seeded_records, pushed_records}
 use Rattle.fr_log.specs.Change.{with_seed, with_push, IsNext, LogChange}
 use Rattle.fr_log.specs.Answer.{IsAnswer}
@@ -25,6 +28,7 @@ IsLogAsk (Push p) = IsPush p
 IsLogAsk (Lock epoch) = Unit {0}
 IsLogAsk (Peek epoch tag after most) = Unit {0}
 IsLogAsk (MarkAsked epoch) = Unit {0}
+IsLogAsk (Pop epoch tag through) = Unit {0}
 
 -- a log after some asks
 abbrev pub after_all : LogState → List LogAsk → LogState
@@ -37,6 +41,7 @@ HasMost (Push p) = Unit {0}
 HasMost (Lock epoch) = Unit {0}
 HasMost (Peek epoch tag after most) = (1 ≤ most) × (most ≤ 100)
 HasMost (MarkAsked epoch) = Unit {0}
+HasMost (Pop epoch tag through) = Unit {0}
 
 -- the epoch for whose log an ask is
 abbrev pub epoch_of : LogAsk → ℕ
@@ -45,6 +50,7 @@ epoch_of (Push p) = p.epoch
 epoch_of (Lock epoch) = epoch
 epoch_of (Peek epoch tag after most) = epoch
 epoch_of (MarkAsked epoch) = epoch
+epoch_of (Pop epoch tag through) = epoch
 
 -- ---- what an ask makes of a log
 
@@ -110,6 +116,11 @@ pub record StandsStill (l n : LogState) : Type 0 where
   pub durable : durable_of n ≡ durable_of l
   pub known : known_of n ≡ known_of l
 
+-- there is one, not below this
+abbrev pub IsSomeFrom : ℕ → Option ℕ → Type 0
+IsSomeFrom least None = ⊥
+IsSomeFrom least (Some version) = least ≤ version
+
 -- n is l, or l later on
 pub record Grows (l n : LogState) : Type 0 where
   pub epoch : n.epoch ≡ l.epoch
@@ -122,6 +133,7 @@ pub record Grows (l n : LogState) : Type 0 where
   pub known : known_of l ≤ known_of n
   pub stopped : IsTrue l.stopped → IsTrue n.stopped
   pub still : IsSome l.seed → IsTrue l.stopped → StandsStill l n
+  pub popped : (tag version : ℕ) → popped_of l.popped tag ≡ Some version → IsSomeFrom version (popped_of n.popped tag)
 
 -- a log grows, whatever it is asked
 abbrev pub AskGrows : Type 0
@@ -139,6 +151,7 @@ is_newly_held l (Seed s) = false
 is_newly_held l (Lock epoch) = false
 is_newly_held l (Peek epoch tag after most) = false
 is_newly_held l (MarkAsked epoch) = false
+is_newly_held l (Pop epoch tag through) = false
 
 -- what a log is with its first seed: it has come as far as that goes, and has its records
 pub record IsSeededWith (s : SeedContent) (n : LogState) : Type 0 where
@@ -188,11 +201,11 @@ OnePushIsSame = (p q : PushContent) → IsTrue (is_one_push p q) ↔ AreOnePush 
 abbrev pub SameSeedIsSame : Type 0
 SameSeedIsSame = (s t : SeedContent) → IsTrue (is_same_seed s t) ↔ (s ≡ t)
 
--- a locked log is seeded and stopped, and told how far it has come
+-- a locked log is seeded and stopped, and told how far it has come, and how far its tags are popped
 abbrev pub LockedIsStopped : Type 0
 LockedIsStopped =
-    (l : LogState) (epoch durable known : ℕ) → answer_of l (Lock epoch) ≡ Locked durable known
-    → (durable ≡ durable_of l) × (known ≡ known_of l) × IsSome l.seed × IsTrue (next_of l (Lock epoch)).stopped
+    (l : LogState) (epoch durable known : ℕ) (popped : List PoppedTag) → answer_of l (Lock epoch) ≡ Locked durable known popped
+    → (durable ≡ durable_of l) × (known ≡ known_of l) × (popped ≡ l.popped) × IsSome l.seed × IsTrue (next_of l (Lock epoch)).stopped
 
 -- ---- peeks
 
@@ -207,3 +220,55 @@ abbrev pub PeekGoesOn : Type 0
 PeekGoesOn =
     (l : LogState) (tag after most : ℕ) → IsLog l → 1 ≤ most
     → ((peek_of l tag after most).upto ≤ durable_of l) × ((after < (peek_of l tag after most).upto) ⊎ ((peek_of l tag after most).upto ≡ durable_of l))
+
+-- ---- what is popped
+
+-- what is popped is known to be committed, and of a tag that the log holds
+abbrev pub PoppedIsKnown : Type 0
+PoppedIsKnown =
+    (l : LogState) (tag version : ℕ) → IsLog l → popped_of l.popped tag ≡ Some version → (version ≤ known_of l) × IsTrue (holds l tag)
+
+-- a peek from what is popped on is never answered that it is removed
+abbrev pub NotRemovedAbove : Type 0
+NotRemovedAbove =
+    (l : LogState) (epoch tag after most version : ℕ)
+    → popped_at l.popped tag ≤ after → answer_of l (Peek epoch tag after most) ≢ Refused (Removed version)
+
+-- a Pop raises what is popped of its tag and of no other
+pub record IsRaisedTo (ps : List PoppedTag) (tag version : ℕ) (qs : List PoppedTag) : Type 0 where
+  pub here : popped_of qs tag ≡ Some version
+  pub others : (other : ℕ) → other ≢ tag → popped_of qs other ≡ popped_of ps other
+
+abbrev pub RaisedIs : Type 0
+RaisedIs = (ps : List PoppedTag) (tag version : ℕ) → IsRaisedTo ps tag version (raised ps tag version)
+
+-- ---- what is let go
+
+-- a log that let go tells the same
+abbrev pub SweptTells : Type 0
+SweptTells = (l : LogState) (a : LogAsk) → answer_of (swept l) a ≡ answer_of l a
+
+-- and is the same once it let go again, whatever it is asked meanwhile
+abbrev pub SweptGoesOn : Type 0
+SweptGoesOn = (l : LogState) (a : LogAsk) → swept (next_of (swept l) a) ≡ swept (next_of l a)
+
+-- a log that let go lets nothing go
+abbrev pub SweptTwice : Type 0
+SweptTwice = (l : LogState) → swept (swept l) ≡ swept l
+
+-- so does one whose asks let go one by one
+abbrev pub LetsGoIsSwept : Type 0
+LetsGoIsSwept = (l : LogState) (a : LogAsk) → IsLog l → IsLogAsk a → swept l ≡ l → after_ask l a ≡ swept (next_of l a)
+
+-- what is left of a log is a log
+abbrev pub SweptIsLog : Type 0
+SweptIsLog = (l : LogState) → IsLog l → IsLog (swept l)
+
+-- nothing is let go of a log of which nothing is popped
+abbrev pub UnpoppedIsSwept : Type 0
+UnpoppedIsSwept = (l : LogState) → IsLog l → l.popped ≡ [] → swept l ≡ l
+
+-- the records of a tag that are left are those above what is popped
+abbrev pub SweptRecords : Type 0
+SweptRecords =
+    (l : LogState) (tag : ℕ) → records_of (swept l) tag ≡ filter (λ r. nat_lt (popped_at l.popped tag) r.version) (records_of l tag)

@@ -5,6 +5,7 @@ pub mod Seed
 pub mod Push
 pub mod Peeked
 pub mod Same
+pub mod Popped
 pub mod LogState
 pub mod Search
 pub mod Pushes
@@ -16,5 +17,6 @@ pub mod Change
 pub mod Seeding
 pub mod Answer
 pub mod Place
+pub mod SweptLaws
 pub mod StepLaws
 pub mod Law

@@ -9,9 +9,12 @@ use Rattle.fr_log.specs.declared.records.SeedRecord.{SeedRecord}
 use Rattle.fr_log.specs.declared.records.PeekedRecord.{PeekedRecord}
 use Rattle.fr_log.specs.Seed.{SeedContent}
 use Rattle.fr_log.specs.Push.{PushContent, is_one_push}
+use Rattle.fr_log.specs.declared.popped.PoppedTag.{PoppedTag}
+use Rattle.fr_log.specs.Popped.{left_push, left_seed}
 
 -- a log: its epoch and its number there, how many logs the epoch has (m) and on how many of them each tag stands (k), the seed
--- that it took, the pushes that it holds, the oldest first, and whether it was locked
+-- that it took, the pushes that it took, the oldest first, whether it was locked, and through which version each tag is popped, in
+-- the order of tags. What is popped of a tag is no longer told: this log still has it, and `swept` below lets it go
 pub record LogState : Type 0 where
   pub epoch : ℕ
   pub index : ℕ
@@ -20,10 +23,11 @@ pub record LogState : Type 0 where
   pub seed : Option SeedContent
   pub pushes : List PushContent
   pub stopped : Bool
+  pub popped : List PoppedTag
 
 -- a log that was never asked
 abbrev pub fresh_log : ℕ → ℕ → ℕ → ℕ → LogState
-fresh_log epoch index m k = record { epoch = epoch; index = index; m = m; k = k; seed = None; pushes = []; stopped = false }
+fresh_log epoch index m k = record { epoch = epoch; index = index; m = m; k = k; seed = None; pushes = []; stopped = false; popped = [] }
 
 -- the version at which the epoch starts, 0 where the log has no seed yet
 abbrev pub first_of : Option SeedContent → ℕ
@@ -52,9 +56,13 @@ known_of l = fold (λ version p. max version p.known) (first_of l.seed - 1) l.pu
 abbrev pub holds : LogState → ℕ → Bool
 holds l tag = is_held tag l.m l.k l.index
 
--- whether the log holds a push, whatever that tells of what is known
+-- what a log has once it let go of what is popped: headers and marks stay
+unfoldable pub swept : LogState → LogState
+swept l = record l { seed = option_map (left_seed l.popped) l.seed; pushes = map (left_push l.popped) l.pushes }
+
+-- whether the log holds a push, whatever that tells of what is known, and of tags at versions that are popped
 abbrev pub is_push_held : LogState → PushContent → Bool
-is_push_held l p = list_any (is_one_push p) l.pushes
+is_push_held l p = list_any (λ q. is_one_push (left_push l.popped p) (left_push l.popped q)) l.pushes
 
 -- the coordinated state of the mark, which is the first push
 abbrev pub mark_among : List PushContent → Option CoordinatedState

@@ -35,6 +35,14 @@ AreBelow version es = AllByRecursion (λ e. e.0 < version) es
 abbrev pub cut : ℕ → List Shelved → List Shelved
 cut version es = filter (λ e. nat_lt e.0 version) es
 
+-- all versions are above this one
+abbrev pub AreAbove : ℕ → List Shelved → Type 0
+AreAbove version es = AllByRecursion (λ e. version < e.0) es
+
+-- what stands above a version
+abbrev pub above : ℕ → List Shelved → List Shelved
+above version es = filter (λ e. nat_lt version e.0) es
+
 -- the shelf of a tag, of those of the tags 0, 1 and so on; it is empty where there are not so many
 abbrev pub shelf_of : List (List Shelved) → ℕ → List Shelved
 shelf_of shelves tag = slice_index_or shelves tag []

@@ -4,11 +4,13 @@ use Rattle.std.specs.List.{list_any, filter_map}
 use Rattle.fr_log.specs.declared.records.SeedRecord.{SeedRecord}
 use Rattle.fr_log.specs.declared.records.PeekedRecord.{PeekedRecord}
 use Rattle.fr_log.specs.Push.{PushContent, is_one_push}
+use Rattle.fr_log.specs.declared.popped.PoppedTag.{PoppedTag}
+use Rattle.fr_log.specs.Popped.{left_push}
 use Rattle.fr_log.specs.LogState.{seeded_record, pushed_record}
 
--- whether a push is among others, whatever it tells of what is known
-abbrev pub is_found : PushContent → List PushContent → Bool
-is_found p ps = list_any (is_one_push p) ps
+-- whether a push is among others, whatever it tells of what is known, and of what is popped
+abbrev pub is_found : List PoppedTag → PushContent → List PushContent → Bool
+is_found popped p ps = list_any (λ q. is_one_push (left_push popped p) (left_push popped q)) ps
 
 -- the records of a tag in a seed
 abbrev pub seeded_records : ℕ → List SeedRecord → List PeekedRecord

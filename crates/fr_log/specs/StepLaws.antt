@@ -8,13 +8,16 @@ use Rattle.std.proofs.lemmas.Bool.{or_right}
 use Rattle.fr_base.specs.HighWater.{NoneFell}
 use Rattle.fr_tags.specs.Placement.{is_held}
 use Rattle.fr_log.specs.declared.ask.LogAsk.{LogAsk}
-use Rattle.fr_log.specs.declared.ask.LogAsk.TheVariants.{Seed, Push, Lock, Peek, MarkAsked}
+use Rattle.fr_log.specs.declared.ask.LogAsk.TheVariants.{Seed, Push, Lock, Peek, MarkAsked, Pop}
 use Rattle.fr_log.specs.declared.ask.LogRefusal.{LogRefusal}
 use Rattle.fr_log.specs.Seed.{SeedContent, is_same_seed, is_same_seed-IsSameness}
 use Rattle.fr_log.specs.Push.{PushContent, is_one_push, is_one_push-itself}
-use Rattle.fr_log.specs.LogState.{LogState, durable_of, known_of, is_push_held, first_of, seeded_to_of}
+use Rattle.fr_log.specs.LogState.{LogState, swept, durable_of, known_of, is_push_held, first_of, seeded_to_of}
 use Rattle.fr_log.specs.Refusal.{refusal_of}
-use Rattle.fr_log.specs.Step.{answer_of, next_of, answer_unless, next_unless, granted_answer, granted_next}
+use Rattle.fr_log.specs.Popped.{left_push, left_seed}
+use Rattle.fr_log.specs.Step.{answer_of, next_of, after_ask, answer_unless, next_unless, granted_answer, granted_next, popped_to, is_popped_to, with_popped}
+use Rattle.fr_log.specs.declared.ask.LogTell.TheVariants.{Popped}
+use Rattle.fr_log.specs.SweptLaws.{raised_here, durable_same, known_same, refusal_same, popped_to_same, popped_same, swept_tells, some_swept}
 
 -- 1 for yes, 0 for no
 abbrev pub as_number : Bool → ℕ
@@ -75,7 +78,7 @@ new_seed l s none e =
     let n : LogState = record l { seed = Some s } in
     let a = passes (not (s.epoch == l.epoch)) _ _ e in
     let b = passes (not (list_all (λ r. is_held r.tag l.m l.k l.index) s.records)) _ _ a.1 in
-    let same : not (is_same_seed s s) ≡ false = rw (is_same_seed-IsSameness.itself s) refl in
+    let same : not (is_same_seed (left_seed l.popped s) (left_seed l.popped s)) ≡ false = rw (is_same_seed-IsSameness.itself (left_seed l.popped s)) refl in
     let again : refusal_of n (Seed s) ≡ None = rw (a.0, b.0, same) refl in
     moves l n (Seed s) (granted l (Seed s) e ∙ rw none refl) (told_granted n (Seed s) again ∙ sym (told_granted l (Seed s) e)) (granted n (Seed s) again) (
       low l.seed none,
@@ -94,7 +97,8 @@ new_push l p other e =
     let n : LogState = record l { pushes = l.pushes ++ p ∷ [] } in
     let a = passes (not (p.epoch == l.epoch)) _ _ e in
     let b = passes (is_none l.seed) _ _ a.1 in
-    let held : is_push_held n p ≡ true = list_any-append (is_one_push p) l.pushes (p ∷ []) ∙ or_right (is_push_held l p) (list_any (is_one_push p) (p ∷ [])) (rw (is_one_push-itself p) refl) in
+    let f : PushContent → Bool = λ q. is_one_push (left_push l.popped p) (left_push l.popped q) in
+    let held : is_push_held n p ≡ true = list_any-append f l.pushes (p ∷ []) ∙ or_right (is_push_held l p) (list_any f (p ∷ [])) (rw (is_one_push-itself (left_push l.popped p)) refl) in
     let again : refusal_of n (Push p) ≡ None = rw (a.0, b.0, held) refl in
     moves l n (Push p) (granted l (Push p) e ∙ rw other refl) (told_granted n (Push p) again ∙ sym (told_granted l (Push p) e))
     (granted n (Push p) again ∙ rw held refl)
@@ -129,9 +133,73 @@ lock_repeats : (l : LogState) (epoch : ℕ) → (o : Option LogRefusal) → refu
 lock_repeats l epoch (Some why) e = refused l (Lock epoch) why e
 lock_repeats l epoch None e = new_lock l epoch e
 
-pub repeats : (l : LogState) (a : LogAsk) → IsRepeatable l a
-repeats l (Seed s) = seed_repeats l s (refusal_of l (Seed s)) refl l.seed refl
-repeats l (Push p) = push_repeats l p (refusal_of l (Push p)) refl (is_push_held l p) refl
-repeats l (Lock epoch) = lock_repeats l epoch (refusal_of l (Lock epoch)) refl
-repeats l (Peek epoch tag after most) = other_repeats l (Peek epoch tag after most) refl (refusal_of l (Peek epoch tag after most)) refl
-repeats l (MarkAsked epoch) = other_repeats l (MarkAsked epoch) refl (refusal_of l (MarkAsked epoch)) refl
+-- ---- the same where what a Pop covers is let go at once
+
+-- an ask leaves a log in which it is answered as before, and which it then leaves as it is
+pub record IsRepeatableAfter (l : LogState) (a : LogAsk) : Type 0 where
+  pub told : answer_of (after_ask l a) a ≡ answer_of l a
+  pub after : after_ask (after_ask l a) a ≡ after_ask l a
+  pub high : NoneFell (log_high_water l) (log_high_water (after_ask l a))
+
+comes_to : (l n : LogState) (a : LogAsk) → after_ask l a ≡ n → answer_of n a ≡ answer_of l a → after_ask n a ≡ n
+    → NoneFell (log_high_water l) (log_high_water n) → IsRepeatableAfter l a
+comes_to l n a e told after high = record {
+  told = ap (λ x. answer_of x a) e ∙ told;
+  after = ap (λ x. after_ask x a) e ∙ after ∙ sym e;
+  high = subst (λ x. NoneFell (log_high_water l) (log_high_water x)) (sym e) high;
+}
+
+none_fell : (l : LogState) → NoneFell (log_high_water l) (log_high_water l)
+none_fell l = (omega arith, (omega arith, (omega arith, (omega arith, tt))))
+
+stopped_swept : (l : LogState) → as_number (swept l).stopped ≡ as_number l.stopped
+unfolding swept
+stopped_swept l = refl
+
+-- nothing of what never goes back is let go
+none_fell_swept : (l : LogState) → NoneFell (log_high_water l) (log_high_water (swept l))
+none_fell_swept l =
+    let a = ap as_number (some_swept l) in
+    let b = durable_same l in
+    let c = known_same l in
+    let d = stopped_swept l in
+    (omega (arith, a), (omega (arith, b), (omega (arith, c), (omega (arith, d), tt))))
+
+pop_repeats : (l : LogState) (epoch tag through : ℕ) → IsRepeatableAfter l (Pop epoch tag through)
+pop_repeats l epoch tag through = go (refusal_of l a) refl
+  where
+    a : LogAsk
+    a = Pop epoch tag through
+
+    v : ℕ
+    v = popped_to l tag through
+
+    n : LogState
+    n = with_popped l tag v
+
+    again : popped_to n tag through ≡ v
+    again = let k : Rattle.fr_log.specs.Popped.popped_at n.popped tag ≡ v = ap (λ o. Rattle.std.specs.Option.unwrap_or o 0) (raised_here l.popped tag v) in omega (arith, k)
+
+    further : refusal_of l a ≡ None → after_ask l a ≡ swept n → IsRepeatableAfter l a
+    further e is =
+        let r : refusal_of (swept n) a ≡ None = refusal_same n a ∙ e in
+        let p : popped_to (swept n) tag through ≡ v = popped_to_same n tag through ∙ again in
+        let t : is_popped_to (swept n) tag v ≡ true = popped_same n tag v ∙ rw (raised_here l.popped tag v, Rattle.std.proofs.lemmas.Bool.eq-eqb v v refl) refl in
+        comes_to l (swept n) a is (swept_tells n a ∙ told_granted n a e ∙ ap Popped again ∙ sym (told_granted l a e)) (rw (r, p, t) refl) (none_fell_swept n)
+
+    go : (o : Option LogRefusal) → refusal_of l a ≡ o → IsRepeatableAfter l a
+    go (Some why) e = comes_to l l a (rw e refl) refl (rw e refl) (none_fell l)
+    go None e = by (is_popped_to l tag v) refl
+      where
+        by : (b : Bool) → is_popped_to l tag v ≡ b → IsRepeatableAfter l a
+        by true k = comes_to l l a (rw (e, k) refl) refl (rw (e, k) refl) (none_fell l)
+        by false k = further e (rw (e, k) refl)
+
+pub repeats_after : (l : LogState) (a : LogAsk) → IsRepeatableAfter l a
+repeats_after l (Seed s) = let r = seed_repeats l s (refusal_of l (Seed s)) refl l.seed refl in record { told = r.told; after = r.after; high = r.high }
+repeats_after l (Push p) = let r = push_repeats l p (refusal_of l (Push p)) refl (is_push_held l p) refl in record { told = r.told; after = r.after; high = r.high }
+repeats_after l (Lock epoch) = let r = lock_repeats l epoch (refusal_of l (Lock epoch)) refl in record { told = r.told; after = r.after; high = r.high }
+repeats_after l (Peek epoch tag after most) =
+    let r = other_repeats l (Peek epoch tag after most) refl (refusal_of l (Peek epoch tag after most)) refl in record { told = r.told; after = r.after; high = r.high }
+repeats_after l (MarkAsked epoch) = let r = other_repeats l (MarkAsked epoch) refl (refusal_of l (MarkAsked epoch)) refl in record { told = r.told; after = r.after; high = r.high }
+repeats_after l (Pop epoch tag through) = pop_repeats l epoch tag through

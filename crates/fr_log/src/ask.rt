@@ -4,6 +4,7 @@ ghost use Rattle.fr_log.specs.Law.{IsLogAsk, epoch_of, HasMost};
 ghost use Rattle.fr_log.specs.Lists.{ask_holds_no_list, tell_holds_no_list};
 
 use crate::peeked::Peeked;
+use crate::popped::PoppedTags;
 use crate::push::Push;
 use crate::seed::Seed;
 use fr_base::{Epoch, Memory, Tag, Version};
@@ -72,6 +73,12 @@ pub enum LogAsk {
     MarkAsked {
         epoch: Epoch,
     },
+    /// To let go of the records of a tag through a version, which its storage server has for good.
+    Pop {
+        epoch: Epoch,
+        tag: Tag,
+        through: Version,
+    },
 }
 
 impl LogAsk {
@@ -84,7 +91,8 @@ impl LogAsk {
         match self {
             LogAsk::Seed(seed) => seed.epoch(),
             LogAsk::Push(push) => push.epoch(),
-            LogAsk::Lock { epoch } | LogAsk::MarkAsked { epoch } => *epoch,
+            LogAsk::Lock { epoch } | LogAsk::MarkAsked { epoch } | LogAsk::Pop { epoch, .. } =>
+                *epoch,
             LogAsk::Peek { epoch, most, .. } => {
                 let _within = most.get();
                 *epoch
@@ -107,16 +115,30 @@ pub enum LogTell {
     /// It holds the seed.
     Seeded,
     /// It holds the push of this version.
-    Held { version: Version },
-    /// It takes no further push; the greatest version that it holds, and the greatest one that it knows
-    /// to be committed.
-    Locked { durable: Version, known: Version },
+    Held {
+        version: Version,
+    },
+    /// It takes no further push; the greatest version that it holds, the greatest one that it knows to be
+    /// committed, and how far its tags are popped, by rising tags.
+    Locked {
+        durable: Version,
+        known: Version,
+        popped: PoppedTags,
+    },
     /// The records of a tag.
     Peeked(Peeked),
     /// The coordinated state of the epoch's mark.
-    Marked { state: CoordState },
+    Marked {
+        state: CoordState,
+    },
+    /// It let go of the records of the tag through this version, and of no others.
+    Popped {
+        through: Version,
+    },
     /// It did not do as asked, and nothing changed.
-    Refused { why: LogRefusal },
+    Refused {
+        why: LogRefusal,
+    },
 }
 
 impl LogTell {
@@ -151,4 +173,6 @@ pub enum LogRefusal {
     SeedDiffers,
     /// There is no mark before this push, or none to tell of.
     NoMark,
+    /// Records from a version on are asked for of which it let go; the version through which it did.
+    Removed { through: Version },
 }

@@ -4,6 +4,7 @@ ghost use Rattle.fr_log.specs.Law.{AskIsChange, RefusedChangesNothing, TakenIsNe
 ghost use Rattle.fr_log.specs.Law.{AskLeavesLog, AsksLeaveLog, DurableIsLast, DurableIsBounded, KnownIsHeld, RecordsRise};
 ghost use Rattle.fr_log.specs.Law.{AskGrows, AsksGrow, FirstSeedSets, PushAdds, NewPushRaises, NothingElseRaises};
 ghost use Rattle.fr_log.specs.Law.{TellIsAnswer, HeldIsHeld, OnePushIsSame, SameSeedIsSame, LockedIsStopped, PeekIsWhole, PeekGoesOn};
+ghost use Rattle.fr_log.specs.Law.{PoppedIsKnown, NotRemovedAbove, RaisedIs, SweptTells, SweptGoesOn, SweptTwice, LetsGoIsSwept, SweptIsLog, UnpoppedIsSwept, SweptRecords};
 ghost use Rattle.fr_log.specs.Same.{is_same_log_ask, is_same_log_tell};
 
 /// Two asks, and two tells, that `==` calls the same are the same, and no others.
@@ -13,14 +14,15 @@ pub fn same_law()
 {}
 
 /// The ways in which an ask changes a log: it stands, takes its first seed, holds one push more that
-/// follows the greatest version held, or is stopped. Where it is refused, it stands.
+/// follows the greatest version held, is stopped, or a tag of it is popped further. Where it is refused, it
+/// stands.
 pub fn change_law()
     ensures change { AskIsChange }
     ensures refused { RefusedChangesNothing }
     ensures taken { TakenIsNext }
 {}
 
-/// Nothing is lost of a log by what it is asked, so it can go back to what it was.
+/// Nothing is lost of a log by what it is asked, until it lets go, so it can go back to what it was.
 pub fn place_law()
     ensures ask { AskExtends }
     ensures asks { AsksExtend }
@@ -66,4 +68,24 @@ pub fn tell_law()
     ensures locked { LockedIsStopped }
     ensures peeked { PeekIsWhole }
     ensures further { PeekGoesOn }
+{}
+
+/// What is popped: it is known to be committed, a Pop raises it for its tag alone, and a peek from there on is
+/// never answered that it is removed.
+pub fn pop_law()
+    ensures known { PoppedIsKnown }
+    ensures above { NotRemovedAbove }
+    ensures raised { RaisedIs }
+{}
+
+/// What a log lets go: it tells the same afterwards, whenever it lets go, and what is left is a log with the
+/// records of each tag above what is popped of it.
+pub fn letting_law()
+    ensures tells { SweptTells }
+    ensures goes_on { SweptGoesOn }
+    ensures twice { SweptTwice }
+    ensures asks { LetsGoIsSwept }
+    ensures log { SweptIsLog }
+    ensures unpopped { UnpoppedIsSwept }
+    ensures records { SweptRecords }
 {}

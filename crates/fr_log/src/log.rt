@@ -2,15 +2,17 @@
 ghost use Rattle.std.specs.Prelude.{◌≡◌, ◌<◌, ◌≤◌, is_some, IfOk};
 ghost use Rattle.std.specs.List.{list_all};
 ghost use Rattle.std.specs.List.Sorted.{IsNonDecreasingBy};
-ghost use Rattle.std.specs.Option.{option_copied};
-ghost use Rattle.fr_log.specs.LogState.{fresh_log, first_of, seeded_to_of, seed_records_of, holds, durable_of, known_of, is_push_held, mark_among};
+ghost use Rattle.std.specs.Option.{option_copied, option_map};
+ghost use Rattle.fr_log.specs.LogState.{fresh_log, first_of, seeded_to_of, seed_records_of, holds, durable_of, known_of, is_push_held, mark_among, swept};
 ghost use Rattle.fr_log.specs.Chain.{IsLog};
+ghost use Rattle.fr_log.specs.Popped.{left_seed};
 
 mod place;
 mod refusal;
 mod seeding;
 mod step;
 
+use crate::popped::{PoppedTag, PoppedTags};
 use crate::push::Push;
 use crate::pushes::Pushes;
 use crate::records::SeedRecord;
@@ -24,7 +26,8 @@ use std::marker::Model;
 
 /// One log of a generation. It holds its seed and the pushes that followed it, which form one chain
 /// that begins with the mark; `durable` is the greatest version that it holds, `known` the greatest one
-/// that a push told to be committed. Once it is locked it takes no push. It is the transaction log of
+/// that a push told to be committed. Once it is locked it takes no push. What the storage server of a tag has
+/// for good is popped: the log lets go of these records, and keeps the headers. It is the transaction log of
 /// FoundationDB (Zhou et al., SIGMOD 2021, sections 2.3 and 2.4), without spilling.
 #[derive(Debug, Drop)]
 pub struct Log {
@@ -35,6 +38,7 @@ pub struct Log {
     durable: Version,
     known: Version,
     stopped: bool,
+    popped: PoppedTags,
 }
 
 impl Model for Log {
@@ -43,9 +47,9 @@ impl Model for Log {
 
     ghost Value = { LogState };
 
-    ghost view = { λ a. record { epoch = a.id.epoch; index = a.id.index; m = a.shape.m; k = a.shape.k; seed = a.seed; pushes = a.pushes; stopped = a.stopped } };
+    ghost view = { λ a. record { epoch = a.id.epoch; index = a.id.index; m = a.shape.m; k = a.shape.k; seed = a.seed; pushes = a.pushes; stopped = a.stopped; popped = a.popped } };
 
-    ghost invariant = { λ a. IsKept (record { epoch = a.id.epoch; index = a.id.index; m = a.shape.m; k = a.shape.k; seed = a.seed; pushes = a.pushes; stopped = a.stopped }) a.durable a.known };
+    ghost invariant = { λ a. IsKept (record { epoch = a.id.epoch; index = a.id.index; m = a.shape.m; k = a.shape.k; seed = a.seed; pushes = a.pushes; stopped = a.stopped; popped = a.popped }) a.durable a.known };
 }
 
 impl Log {
@@ -69,6 +73,7 @@ impl Log {
             durable: Version::ZERO,
             known: Version::ZERO,
             stopped: false,
+            popped: PoppedTags::new(alloc),
         }
     }
 
@@ -129,6 +134,23 @@ impl Log {
         self.stopped
     }
 
+    /// Through which version each tag is popped, by rising tags.
+    pub fn popped(&self) -> &PoppedTags
+        ensures value { result.now ≡ self.now.popped }
+        ensures sound { IsLog self.now }
+    {
+        &self.popped
+    }
+
+    /// Lets go of what is popped. It takes no memory.
+    pub fn settle(&mut self)
+        ensures after { self.new ≡ swept self.old }
+        ensures sound { IsLog self.new }
+    {
+        self.pushes.sweep(self.popped.as_slice());
+        sweep_seed(&mut self.seed, self.popped.as_slice());
+    }
+
     /// An equal log.
     pub fn copy(&self) -> Result<Self, Memory>
         ensures { IfOk result (λ log. log ≡ self.now) }
@@ -157,7 +179,7 @@ impl Log {
     fn is_push_held(&self, push: &Push) -> bool
         ensures { result ≡ is_push_held self.now push.now }
     {
-        self.pushes.has(push)
+        self.pushes.has(push, self.popped.as_slice())
     }
 
     fn mark(&self) -> Option<&CoordState>
@@ -193,6 +215,15 @@ impl Log {
     }
 }
 
+/// Lets go of the records of a seed that are popped, if there is a seed.
+fn sweep_seed(seed: &mut Option<Seed>, popped: &[PoppedTag])
+    ensures { seed.new ≡ option_map (left_seed popped.now) seed.old }
+{
+    if let Some(seed) = seed {
+        seed.sweep(popped);
+    }
+}
+
 impl Clone for Log {
     ghost use Rattle.std.specs.Prelude.{◌≡◌};
 
@@ -207,6 +238,7 @@ impl Clone for Log {
             durable: self.durable,
             known: self.known,
             stopped: self.stopped,
+            popped: self.popped.clone()?,
         })
     }
 }

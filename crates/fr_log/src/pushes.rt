@@ -1,15 +1,17 @@
 //! The pushes that a log holds: a chain of headers, and for each tag a shelf of batches.
-ghost use Rattle.std.specs.Prelude.{◌≡◌, ℕ, ◌<◌, ◌≤◌, ◌∷◌, ◌++◌, [], false, nat_lt, ◌==◌, length, take, filter, IsTrue, IfOk, OnOk, OnErr};
+ghost use Rattle.std.specs.Prelude.{◌≡◌, ℕ, ◌<◌, ◌≤◌, ◌∷◌, ◌++◌, [], false, nat_lt, ◌==◌, length, take, map, filter, IsTrue, IfOk, OnOk, OnErr};
 ghost use Rattle.std.specs.Option.{option_copied};
 ghost use Rattle.std.specs.Cmp.Lexicographic.{pointwise};
 ghost use Rattle.fr_tags.specs.Bodies.{batch_of, is_rising_from, is_same_body};
 ghost use Rattle.fr_log.specs.LogState.{mark_among};
 ghost use Rattle.fr_log.specs.Search.{is_found, pushed_records};
-ghost use Rattle.fr_log.specs.Pushes.{shelf_of, bodies_from, at_version, AreBelow, ArePushedBelow, cut};
+ghost use Rattle.fr_log.specs.Pushes.{shelf_of, bodies_from, at_version, AreBelow, ArePushedBelow, cut, above};
+ghost use Rattle.fr_log.specs.Popped.{popped_at, left_bodies, left_push, IsBodyLeftAtFirst};
 
 mod header;
 mod shelf;
 
+use crate::popped::{PoppedTag, popped_at};
 use crate::push::Push;
 use crate::records::PeekedRecord;
 use fr_base::{Memory, Tag, Version};
@@ -69,9 +71,10 @@ impl Pushes {
         }
     }
 
-    /// Whether a push is among them, whatever it tells of what is known. Its version is sought by halving.
-    pub(crate) fn has(&self, push: &Push) -> bool
-        ensures { result ≡ is_found push.now self.now }
+    /// Whether a push is among them, whatever it tells of what is known, and of what is popped. Its version is
+    /// sought by halving.
+    pub(crate) fn has(&self, push: &Push, popped: &[PoppedTag]) -> bool
+        ensures { result ≡ is_found popped.now push.now self.now }
     {
         let version = push.version();
         let at = self
@@ -79,7 +82,8 @@ impl Pushes {
             .partition_point(|header| header.version < version);
         match self.headers.get(at) {
             Some(header) => {
-                push.is_headed(header) && have_bodies(&self.shelves, header.version, push.bodies())
+                push.is_headed(header)
+                    && have_bodies(&self.shelves, header.version, push.bodies(), popped)
             }
             None => false,
         }
@@ -102,6 +106,13 @@ impl Pushes {
             Ok(()) => Ok(()),
             Err(_) => unreachable!(),
         }
+    }
+
+    /// Lets go of the batches that are popped: the cost is that of what goes. It takes no memory.
+    pub(crate) fn sweep(&mut self, popped: &[PoppedTag])
+        ensures { self.new ≡ map (left_push popped.now) self.old }
+    {
+        sweep_all(&mut self.shelves, popped);
     }
 
     /// Lets all go but the first ones. It takes no memory.
@@ -151,25 +162,54 @@ impl Clone for Pushes {
     }
 }
 
-/// Whether bodies are those that stand at a version.
-fn have_bodies(shelves: &[Shelf], version: Version, bodies: &[Body]) -> bool
-    ensures { result ≡ pointwise is_same_body bodies.now (bodies_from version 0 shelves.now) }
+/// Whether bodies are those that stand at a version, whatever the two have of what is popped.
+fn have_bodies(shelves: &[Shelf], version: Version, bodies: &[Body], popped: &[PoppedTag]) -> bool
+    ensures { result ≡ pointwise is_same_body (left_bodies popped.now version bodies.now) (left_bodies popped.now version (bodies_from version 0 shelves.now)) }
 {
-    let mut left = bodies;
+    let mut left = from_left(bodies, version, popped);
     for number in 0..shelves.len() {
-        if let Some(batch) = shelves[number].at(version) {
-            match left {
-                [body, rest @ ..] => {
-                    if usize::from(body.tag.get()) != number || body.batch != *batch {
-                        return false;
+        if through(number, popped) < version {
+            if let Some(batch) = shelves[number].at(version) {
+                match left {
+                    [body, rest @ ..] => {
+                        if usize::from(body.tag.get()) != number || body.batch != *batch {
+                            return false;
+                        }
+                        left = from_left(rest, version, popped);
                     }
-                    left = rest;
+                    [] => return false,
                 }
-                [] => return false,
             }
         }
     }
     left.is_empty()
+}
+
+/// Through which version the tag of a number is popped, 0 where it is not.
+fn through(number: usize, popped: &[PoppedTag]) -> Version
+    ensures { result ≡ popped_at popped.now number }
+{
+    for entry in popped {
+        if usize::from(entry.tag.get()) == number {
+            return entry.version;
+        }
+    }
+    Version::ZERO
+}
+
+/// The bodies from the first one on that is left at a version.
+fn from_left<'a>(bodies: &'a [Body], version: Version, popped: &[PoppedTag]) -> &'a [Body]
+    ensures same { left_bodies popped.now version result.now ≡ left_bodies popped.now version bodies.now }
+    ensures first { IsBodyLeftAtFirst popped.now version result.now }
+{
+    let mut rest = bodies;
+    while let [first, others @ ..] = rest {
+        if popped_at(popped, first.tag) < version {
+            break;
+        }
+        rest = others;
+    }
+    rest
 }
 
 /// Puts bodies on the shelves of their tags. Where memory is wanted, some of them stand there.
@@ -221,5 +261,14 @@ fn cut_all(shelves: &mut Vec<Shelf>, version: Version)
 {
     for number in 0..shelves.len() {
         shelves[number].cut_from(version);
+    }
+}
+
+/// Takes out of each shelf what is popped of its tag.
+fn sweep_all(shelves: &mut Vec<Shelf>, popped: &[PoppedTag])
+    ensures { (t : ℕ) → shelf_of shelves.new.items t ≡ above (popped_at popped.now t) (shelf_of shelves.old.items t) }
+{
+    for number in 0..shelves.len() {
+        shelves[number].cut_through(through(number, popped));
     }
 }

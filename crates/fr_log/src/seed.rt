@@ -4,8 +4,10 @@ ghost use Rattle.std.specs.List.{list_all};
 ghost use Rattle.std.specs.Cmp.{partial_equiv_from_equiv};
 ghost use Rattle.fr_base.specs.Same.{IsSameness-equivalence};
 ghost use Rattle.fr_log.specs.Seeding.{takes_record, with_record};
+ghost use Rattle.fr_log.specs.Popped.{left_seed};
 ghost use Rattle.fr_log.specs.Seed.{IsSeed, is_within, is_rising_from, is_same_seed, is_same_seed-IsSameness};
 
+use crate::popped::{PoppedTag, have_same_left, is_left};
 use crate::records::SeedRecord;
 use fr_base::{Epoch, Memory, Version};
 use std::alloc::AllocError;
@@ -111,6 +113,24 @@ impl Seed {
         }
         self.records.push(next)?;
         Ok(true)
+    }
+
+    /// Whether another seed is the same, whatever the two have of what is popped.
+    pub(crate) fn is_left_as(&self, other: &Seed, popped: &[PoppedTag]) -> bool
+        ensures { result ≡ is_same_seed (left_seed popped.now self.now) (left_seed popped.now other.now) }
+    {
+        self.epoch == other.epoch
+            && self.first == other.first
+            && self.seeded_to == other.seeded_to
+            && have_same_left(popped, &self.records, &other.records)
+    }
+
+    /// Lets go of the records that are popped. It takes no memory.
+    pub(crate) fn sweep(&mut self, popped: &[PoppedTag])
+        ensures after { self.new ≡ left_seed popped.now self.old }
+        ensures sound { IsSeed self.new }
+    {
+        self.records.retain(|record| is_left(popped, record));
     }
 
     /// An equal seed.

@@ -42,6 +42,7 @@ AccountsForLog p i (log.Push q) = (i < p.m) × (q.mark ≡ None)
 AccountsForLog p i (log.Lock epoch) = ⊥
 AccountsForLog p i (log.Peek epoch tag after most) = ⊥
 AccountsForLog p i (log.MarkAsked epoch) = ⊥
+AccountsForLog p i (log.Pop epoch tag through) = ⊥
 
 -- an ask that the proxy's state accounts for: one for a number, to its sequencer, or a push that is no mark, to a log of its epoch
 abbrev pub AccountsFor : ProxyState → NodeId → Ask → Type 0

@@ -148,13 +148,15 @@ heed_refusal why.NotMine = Ignored
 heed_refusal (why.TooEarly first) = Ignored
 heed_refusal why.SeedDiffers = Ignored
 heed_refusal why.NoMark = Ignored
+heed_refusal (why.Removed through) = Ignored
 
 abbrev pub heed_log : ProxyState → Open → ℕ → LogTell → Heeded
 heed_log p o index log.Seeded = Ignored
 heed_log p o index (log.Held version) = heed_held p o o.place index version
-heed_log p o index (log.Locked durable known) = Ignored
+heed_log p o index (log.Locked durable known popped) = Ignored
 heed_log p o index (log.Peeked peeked) = Ignored
 heed_log p o index (log.Marked state) = Ignored
+heed_log p o index (log.Popped through) = Ignored
 heed_log p o index (log.Refused why) = heed_refusal why
 
 -- whether this is a log of the proxy's generation

@@ -1,18 +1,21 @@
 -- The file of a run of asks.
-use Rattle.std.specs.Prelude.{◌≡◌, ℕ, List, ◌++◌, All, Some}
+use Rattle.std.specs.Prelude.{◌≡◌, ℕ, List, ◌++◌, fold, All, Some}
 use Rattle.fr_log.specs.declared.ask.LogAsk.{LogAsk}
 use Rattle.fr_log.specs.LogState.{LogState, fresh_log}
-use Rattle.fr_log.specs.Step.{answer_of, next_of}
-use Rattle.fr_log.specs.Law.{after_all}
+use Rattle.fr_log.specs.Step.{answer_of, after_ask}
 use Rattle.fr_record_node.specs.Several as several
 use Rattle.fr_record_node.specs.Replay.{replayed}
 use Rattle.fr_record_log.specs.Limits.{IsSoundAsk}
 use Rattle.fr_record_log.specs.Spelling.{written_log}
-use Rattle.fr_record_log.specs.LogFile.{replay_log, IsSoundLog}
+use Rattle.fr_record_log.specs.LogFile.{replay_log, IsSoundLog, IsFileAsk}
+
+-- a log after some asks, each of which lets go what it covers
+abbrev pub after_all : LogState → List LogAsk → LogState
+after_all l asks = fold after_ask l asks
 
 -- the records of asks, one after another
 abbrev pub written_all : LogState → List LogAsk → List (List ℕ)
-written_all l asks = several.written_all next_of written_log l asks
+written_all l asks = several.written_all after_ask written_log l asks
 
 -- the records of a list are those of its front, and then those of what is behind: a file has the same bytes, however
 -- many asks were served at once
@@ -23,7 +26,11 @@ WrittenApart = (l : LogState) (front behind : List LogAsk) → written_all l (fr
 abbrev pub ToldApart : Type 0
 ToldApart =
     (l : LogState) (front behind : List LogAsk)
-    → several.told_all next_of answer_of l (front ++ behind) ≡ several.told_all next_of answer_of l front ++ several.told_all next_of answer_of (after_all l front) behind
+    → several.told_all after_ask answer_of l (front ++ behind) ≡ several.told_all after_ask answer_of l front ++ several.told_all after_ask answer_of (after_all l front) behind
+
+-- what is true of every ask whose records are in a file is true of each ask within its limits
+abbrev pub AskIsFileAsk : Type 0
+AskIsFileAsk = (a : LogAsk) → IsSoundAsk a → IsFileAsk a
 
 -- the records of every list of asks lead a log where the asks do
 abbrev pub RunIsRead : Type 0

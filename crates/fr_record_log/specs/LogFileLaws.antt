@@ -1,33 +1,28 @@
--- What a log keeps, whatever it is asked or reads.
-use Rattle.std.specs.Prelude.{◌≡◌, ℕ, ◌==◌, Bool, true, false, not, is_none, List, [], ◌∷◌, ◌++◌, Option, None, Some, is_some, if◌then◌else◌, refl}
+-- What a log keeps, whatever it is asked or reads, and that what its asks let go may go later.
+use Rattle.std.specs.Prelude.{◌≡◌, ℕ, Bool, true, false, not, ◌&&◌, is_none, List, [], ◌∷◌, Option, None, Some, is_some, fold, All, if◌then◌else◌, refl}
 use Rattle.std.proofs.Common.{sym, ap, ◌∙◌, cond}
+use Rattle.std.proofs.lemmas.List.Elements.{All-head, All-tail}
 use Rattle.fr_log.specs.declared.ask.LogAsk.{LogAsk}
-use Rattle.fr_log.specs.declared.ask.LogAsk.TheVariants.{Seed, Push, Lock, Peek, MarkAsked}
+use Rattle.fr_log.specs.declared.ask.LogAsk.TheVariants.{Seed, Push, Lock, Peek, MarkAsked, Pop}
 use Rattle.fr_log.specs.declared.ask.LogRefusal.{LogRefusal}
-use Rattle.fr_log.specs.declared.ask.LogRefusal.TheVariants.{WrongEpoch, Unseeded}
-use Rattle.fr_log.specs.Push.{PushContent}
-use Rattle.fr_log.specs.LogState.{LogState, is_push_held}
-use Rattle.fr_log.specs.Refusal.{refusal_of, push_refusal, new_push_refusal, lock_refusal}
-use Rattle.fr_log.specs.Step.{next_of, next_unless, granted_next}
-use Rattle.fr_log.specs.Seeding.{changes, takes_seeded, with_seeded}
+use Rattle.fr_log.specs.Fields.{two}
+use Rattle.fr_log.specs.LogState.{LogState, swept, is_push_held}
+use Rattle.fr_log.specs.Refusal.{refusal_of}
+use Rattle.fr_log.specs.Step.{next_of, next_unless, granted_next, after_ask, lets_go, popped_to, is_popped_to, with_popped}
+use Rattle.fr_log.specs.SweptLaws.{refusal_same, some_swept, held_same, popped_same, popped_to_same, swept_goes_on}
+use Rattle.fr_log.specs.Seeding.{changes, takes_seeded, with_seeded, may_pop}
 use Rattle.fr_record_log.specs.declared.change.Change.{Change}
-use Rattle.fr_record_log.specs.declared.change.Change.TheVariants.{Asked, Seeded}
+use Rattle.fr_record_log.specs.declared.change.Change.TheVariants.{Asked, Seeded, Popped}
+use Rattle.fr_record_log.specs.Spelling.{spelled_head, spelled_popped, spelled_ask, written_log}
 use Rattle.fr_record_log.specs.Reading.{◌>>=◌, change_at}
-use Rattle.fr_record_log.specs.LogFile.{fresh_of, taken, replay_log, IsSoundLog}
+use Rattle.fr_record_log.specs.LogFile.{fresh_of, taken, replay_log, IsSettledLog, IsFileAsk}
 
--- what holds of a log, of a granted ask's log, holds of the log after the ask
-after_ask : (P : LogState → Type 0) (l : LogState) (a : LogAsk) → P l → (refusal_of l a ≡ None → P (granted_next l a)) → P (next_of l a)
-after_ask P l a here granted = go (refusal_of l a) refl
-  where
-    go : (o : Option LogRefusal) → refusal_of l a ≡ o → P (next_unless o l (granted_next l a))
-    go None e = granted e
-    go (Some why) e = here
-
-picked : (P : LogState → Type 0) (b : Bool) (x y : LogState) → P x → P y → P (cond b x y)
+pub picked : (P : LogState → Type 0) (b : Bool) (x y : LogState) → P x → P y → P (cond b x y)
 picked P true x y p q = p
 picked P false x y p q = q
 
--- the same log but for its seed, its pushes and its lock
+-- ---- the same log but for its seed, its pushes, its lock and what is popped
+
 abbrev Same : LogState → LogState → Type 0
 Same l n = fresh_of n ≡ fresh_of l
 
@@ -37,20 +32,38 @@ granted_same l (Push p) = picked (Same l) (is_push_held l p) l _ refl refl
 granted_same l (Lock epoch) = refl
 granted_same l (Peek epoch tag after most) = refl
 granted_same l (MarkAsked epoch) = refl
+granted_same l (Pop epoch tag through) =
+    picked (Same l) (is_popped_to l tag (popped_to l tag through)) l (with_popped l tag (popped_to l tag through)) refl refl
 
-pub same_fresh : (l : LogState) (a : LogAsk) → fresh_of (next_of l a) ≡ fresh_of l
-same_fresh l a = after_ask (Same l) l a refl (λ e. granted_same l a)
+pub next_same : (l : LogState) (a : LogAsk) → Same l (next_of l a)
+next_same l a = go (refusal_of l a)
+  where
+    go : (o : Option LogRefusal) → Same l (next_unless o l (granted_next l a))
+    go None = granted_same l a
+    go (Some why) = refl
+
+swept_same : (l : LogState) → Same l (swept l)
+unfolding swept
+swept_same l = refl
+
+pub same_fresh : (l : LogState) (a : LogAsk) → fresh_of (after_ask l a) ≡ fresh_of l
+same_fresh l a = picked (Same l) (lets_go l a) (swept (next_of l a)) (next_of l a) (swept_same (next_of l a) ∙ next_same l a) (next_same l a)
 
 taken_same : (l : LogState) (c : Change) (n : LogState) → taken l c ≡ Some n → fresh_of n ≡ fresh_of l
 taken_same l (Asked a) n e = go (changes l a) e
   where
-    go : (b : Bool) → (if b then Some (next_of l a) else None) ≡ Some n → fresh_of n ≡ fresh_of l
-    go true e = let same : next_of l a ≡ n = cc e in ap fresh_of (sym same) ∙ same_fresh l a
+    go : (b : Bool) → (if b then Some (after_ask l a) else None) ≡ Some n → fresh_of n ≡ fresh_of l
+    go true e = let same : after_ask l a ≡ n = cc e in ap fresh_of (sym same) ∙ same_fresh l a
     go false e = absurd (cc e)
 taken_same l (Seeded r) n e = go (takes_seeded l r) e
   where
     go : (b : Bool) → (if b then Some (with_seeded l r) else None) ≡ Some n → fresh_of n ≡ fresh_of l
     go true e = let same : with_seeded l r ≡ n = cc e in ap fresh_of (sym same)
+    go false e = absurd (cc e)
+taken_same l (Popped p) n e = go (may_pop l p.tag p.version) e
+  where
+    go : (b : Bool) → (if b then Some (swept (with_popped l p.tag p.version)) else None) ≡ Some n → fresh_of n ≡ fresh_of l
+    go true e = let same : swept (with_popped l p.tag p.version) ≡ n = cc e in ap fresh_of (sym same) ∙ swept_same (with_popped l p.tag p.version)
     go false e = absurd (cc e)
 
 pub same_read : (l n : LogState) (bytes : List ℕ) → replay_log l bytes ≡ Some n → fresh_of n ≡ fresh_of l
@@ -60,37 +73,42 @@ same_read l n bytes e = go (change_at l bytes) e
     go None e = absurd (cc e)
     go (Some c) e = taken_same l c n e
 
--- a log without a seed grants no push and no lock
-no_push : (l : LogState) (p : PushContent) → push_refusal l p ≡ None → l.seed ≡ None → ⊥
-no_push l p granted none = go (not (p.epoch == l.epoch)) granted
-  where
-    go : (b : Bool) → (if b then Some WrongEpoch else if is_none l.seed then Some Unseeded else if is_push_held l p then None else new_push_refusal l p) ≡ None → ⊥
-    go true e = cc e
-    go false e = unseeded (is_none l.seed) (ap is_none none) e
-      where
-        unseeded : (b : Bool) → b ≡ true → (if b then Some Unseeded else if is_push_held l p then None else new_push_refusal l p) ≡ None → ⊥
-        unseeded true is e = cc e
-        unseeded false is e = cc is
+-- ---- what may go later
 
-no_lock : (l : LogState) (epoch : ℕ) → lock_refusal l epoch ≡ None → l.seed ≡ None → ⊥
-no_lock l epoch granted none = go (not (epoch == l.epoch)) granted
-  where
-    go : (b : Bool) → (if b then Some WrongEpoch else if is_none l.seed then Some Unseeded else None) ≡ None → ⊥
-    go true e = cc e
-    go false e = unseeded (is_none l.seed) (ap is_none none) e
-      where
-        unseeded : (b : Bool) → b ≡ true → (if b then Some Unseeded else None) ≡ None → ⊥
-        unseeded true is e = cc e
-        unseeded false is e = cc is
+settles_from : (n m : LogState) (asks : List LogAsk) → swept n ≡ m → IsSettledLog m → All IsFileAsk asks → swept (fold next_of n asks) ≡ fold after_ask m asks
+settles_from n m [] e settled within = e
+settles_from n m (a ∷ asks) e settled within =
+    let ask = All-head IsFileAsk a asks within in
+    settles_from (next_of n a) (after_ask m a) asks (sym (swept_goes_on n a) ∙ ap (λ x. swept (next_of x a)) e ∙ sym (ask.later m settled)) (ask.stays m settled)
+    (All-tail IsFileAsk a asks within)
 
-granted_sound : (l : LogState) (a : LogAsk) → IsSoundLog l → refusal_of l a ≡ None → IsSoundLog (granted_next l a)
-granted_sound l (Seed s) sound granted =
-    picked IsSoundLog (is_some l.seed) l (record l { seed = Some s }) sound (record { epoch = sound.epoch; unseeded = λ none. absurd (cc none); unlocked = λ none. absurd (cc none) })
-granted_sound l (Push p) sound granted =
-    picked IsSoundLog (is_push_held l p) l (record l { pushes = l.pushes ++ p ∷ [] }) sound (record { epoch = sound.epoch; unseeded = λ none. absurd (no_push l p granted none); unlocked = sound.unlocked })
-granted_sound l (Lock epoch) sound granted = record { epoch = sound.epoch; unseeded = sound.unseeded; unlocked = λ none. absurd (no_lock l epoch granted none) }
-granted_sound l (Peek epoch tag after most) sound granted = sound
-granted_sound l (MarkAsked epoch) sound granted = sound
+pub settles : (l : LogState) (asks : List LogAsk) → IsSettledLog l → All IsFileAsk asks → swept (fold next_of l asks) ≡ fold after_ask l asks
+settles l asks settled within = settles_from l l asks settled.settled settled within
 
-pub stays_sound : (l : LogState) (a : LogAsk) → IsSoundLog l → IsSoundLog (next_of l a)
-stays_sound l a sound = after_ask IsSoundLog l a sound (granted_sound l a sound)
+-- ---- the records of an ask, whether or not something went before
+
+stopped_same : (l : LogState) → (swept l).stopped ≡ l.stopped
+unfolding swept
+stopped_same l = refl
+
+changes_same : (l : LogState) (a : LogAsk) → changes (swept l) a ≡ changes l a
+changes_same l (Seed s) = two (λ (x y : Bool). x && y) (ap is_none (refusal_same l (Seed s))) (ap not (some_swept l))
+changes_same l (Push p) = two (λ (x y : Bool). x && y) (ap is_none (refusal_same l (Push p))) (ap not (held_same l p))
+changes_same l (Lock epoch) = two (λ (x y : Bool). x && not y) (ap is_none (refusal_same l (Lock epoch))) (stopped_same l)
+changes_same l (Peek epoch tag after most) = refl
+changes_same l (MarkAsked epoch) = refl
+changes_same l (Pop epoch tag through) =
+    two (λ (x y : Bool). x && not y) (ap is_none (refusal_same l (Pop epoch tag through)))
+    (ap (is_popped_to (swept l) tag) (popped_to_same l tag through) ∙ popped_same l tag (popped_to l tag through))
+
+spelled_same : (l : LogState) (a : LogAsk) → spelled_ask (swept l) a ≡ spelled_ask l a
+unfolding swept spelled_head
+spelled_same l (Seed s) = refl
+spelled_same l (Push p) = refl
+spelled_same l (Lock epoch) = refl
+spelled_same l (Peek epoch tag after most) = refl
+spelled_same l (MarkAsked epoch) = refl
+spelled_same l (Pop epoch tag through) = ap (λ v. spelled_popped tag v ∷ []) (popped_to_same l tag through)
+
+pub written_same : (l : LogState) (a : LogAsk) → written_log (swept l) a ≡ written_log l a
+written_same l a = two (λ (b : Bool) (rs : List (List ℕ)). cond b rs []) (changes_same l a) (spelled_same l a)

@@ -11,6 +11,7 @@ use Rattle.fr_state.specs.Generations.{CoordinatedState}
 use Rattle.fr_state.specs.Reading.{reading}
 use Rattle.fr_log.specs.declared.records.SeedRecord.{SeedRecord}
 use Rattle.fr_log.specs.declared.ask.LogAsk.TheVariants.{Seed, Push, Lock}
+use Rattle.fr_log.specs.declared.popped.PoppedTag.{PoppedTag}
 use Rattle.fr_log.specs.Seed.{SeedContent}
 use Rattle.fr_log.specs.Push.{PushContent}
 use Rattle.fr_log.specs.LogState.{LogState}
@@ -18,7 +19,7 @@ use Rattle.fr_record_node.specs.declared.fault.ReadFault.{ReadFault}
 use Rattle.fr_record_node.specs.declared.fault.ReadFault.TheVariants.{Broken}
 use Rattle.fr_record_log.specs.declared.reading.Numbers.{Numbers}
 use Rattle.fr_record_log.specs.declared.change.Change.{Change}
-use Rattle.fr_record_log.specs.declared.change.Change.TheVariants.{Asked, Seeded}
+use Rattle.fr_record_log.specs.declared.change.Change.TheVariants.{Asked, Seeded, Popped}
 
 -- one step of reading after another: where one finds nothing, nothing is found
 infixl 10 ◌>>=◌
@@ -177,6 +178,13 @@ seeded_of bytes = do
 abbrev pub lock_of : LogState → List ℕ → Option Change
 lock_of l bytes = if is_end bytes then Some (Asked (Lock l.epoch)) else None
 
+-- the tag and the version that the bytes behind 06 spell
+unfoldable pub popped_of : List ℕ → Option PoppedTag
+popped_of bytes = do
+  tag ← tag_at bytes
+  version ← version_at tag.1
+  if is_end version.1 then Some (record { tag = tag.0; version = version.0 }) else None
+
 -- what a log does by a record of this kind
 abbrev pub change_of : LogState → ℕ → List ℕ → Option Change
 change_of l kind bytes =
@@ -185,6 +193,7 @@ change_of l kind bytes =
     else if kind == 3 then push_of l.epoch bytes >>= (λ p. Some (Asked (Push p)))
     else if kind == 4 then mark_of l.epoch bytes >>= (λ p. Some (Asked (Push p)))
     else if kind == 5 then lock_of l bytes
+    else if kind == 6 then popped_of bytes >>= (λ p. Some (Popped p))
     else None
 
 -- what a log does by a record

@@ -8,10 +8,11 @@ use Rattle.fr_state.specs.Generations.{CoordinatedState}
 use Rattle.fr_state.specs.Spelling.{spelling}
 use Rattle.fr_log.specs.declared.records.SeedRecord.{SeedRecord}
 use Rattle.fr_log.specs.declared.ask.LogAsk.{LogAsk}
-use Rattle.fr_log.specs.declared.ask.LogAsk.TheVariants.{Seed, Push, Lock, Peek, MarkAsked}
+use Rattle.fr_log.specs.declared.ask.LogAsk.TheVariants.{Seed, Push, Lock, Peek, MarkAsked, Pop}
 use Rattle.fr_log.specs.Seed.{SeedContent}
 use Rattle.fr_log.specs.Push.{PushContent}
 use Rattle.fr_log.specs.LogState.{LogState}
+use Rattle.fr_log.specs.Step.{popped_to}
 use Rattle.fr_log.specs.Seeding.{changes}
 
 -- 01, a seed but for its records: its epoch (8), the log's number (1), m (1), k (1), first (8), seeded_to (8)
@@ -21,6 +22,10 @@ spelled_head l s = 1 ∷ (to_be_bytes w64 s.epoch ++ (l.index ∷ l.m ∷ l.k �
 -- 02, a record of a seed: its version (8), its tag (1), its batch
 unfoldable pub spelled_seeded : SeedRecord → List ℕ
 spelled_seeded r = 2 ∷ (to_be_bytes w64 r.version ++ (r.tag ∷ spelled r.batch))
+
+-- 06, a tag that is popped: its number (1), the version through which it is (8)
+unfoldable pub spelled_popped : ℕ → ℕ → List ℕ
+spelled_popped tag version = 6 ∷ tag ∷ to_be_bytes w64 version
 
 -- a body: its tag (1), how many bytes its batch has (4), and these
 unfoldable pub spelled_body : Body → List ℕ
@@ -42,13 +47,15 @@ spelled_as (Some state) p = 4 ∷ (spelled_numbers p ++ spelling state)
 abbrev pub spelled_push : PushContent → List ℕ
 spelled_push p = spelled_as p.mark p
 
--- the records of an ask that changes a log: of a first seed one, and one for each of its records; of a push one; of a lock 05
+-- the records of an ask that changes a log: of a first seed one, and one for each of its records; of a push one; of a lock 05; of a Pop one,
+-- with the version through which its tag is then popped
 abbrev pub spelled_ask : LogState → LogAsk → List (List ℕ)
 spelled_ask l (Seed s) = spelled_head l s ∷ map spelled_seeded s.records
 spelled_ask l (Push p) = spelled_push p ∷ []
 spelled_ask l (Lock epoch) = (5 ∷ []) ∷ []
 spelled_ask l (Peek epoch tag after most) = []
 spelled_ask l (MarkAsked epoch) = []
+spelled_ask l (Pop epoch tag through) = spelled_popped tag (popped_to l tag through) ∷ []
 
 -- the records of an ask: none where it changes nothing
 abbrev pub written_log : LogState → LogAsk → List (List ℕ)

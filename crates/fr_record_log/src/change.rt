@@ -1,5 +1,5 @@
 //! What a log does by a record of its file.
-use fr_log::{LogAsk, SeedRecord};
+use fr_log::{LogAsk, PoppedTag, SeedRecord};
 
 /// What a log does by a record of its file.
 #[derive(Drop)]
@@ -8,4 +8,6 @@ pub(crate) enum Change {
     Asked(LogAsk),
     /// It takes one record more into its seed.
     Seeded(SeedRecord),
+    /// A tag of it is popped through a version, further than it was.
+    Popped(PoppedTag),
 }

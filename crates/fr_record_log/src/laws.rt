@@ -1,10 +1,24 @@
 //! The law of the files of logs.
-ghost use Rattle.fr_record_log.specs.Law.{RunIsRead, ReadIsRun, WrittenApart, ToldApart};
+ghost use Rattle.fr_record_log.specs.Law.{AskIsFileAsk, RunIsRead, ReadIsRun, WrittenApart, ToldApart};
 
 use crate::log_file::FileLog;
+use fr_log::laws::{chain_law, change_law, letting_law, pop_law, raise_law};
 use fr_mutation::spelling_is_read;
 use fr_record_node::laws;
 use fr_state::spelling_law;
+
+/// The records of each ask lead a log where the ask does, which keeps nothing of what it lets go.
+pub(crate) fn file_ask_law()
+    ensures { AskIsFileAsk }
+{
+    spelling_is_read();
+    spelling_law();
+    chain_law();
+    change_law();
+    raise_law();
+    pop_law();
+    letting_law();
+}
 
 /// The records of every list of asks lead a log where the asks do; and what the records of a file lead a log
 /// to that was never asked, some asks make of it.
@@ -12,8 +26,7 @@ pub fn run_law()
     ensures read { RunIsRead }
     ensures run { ReadIsRun }
 {
-    spelling_is_read();
-    spelling_law();
+    file_ask_law();
 }
 
 /// Asks that are served at once do what they do one after another: they have the same records, so that the file has the

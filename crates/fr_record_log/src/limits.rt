@@ -15,6 +15,7 @@ pub(crate) fn log_within_limits(log: &Log)
     ensures { IsSoundLog log.now }
 {
     let _epoch = log.id().epoch.get();
+    let _known = log.known().get();
 }
 
 /// An ask is within its limits.
@@ -24,6 +25,9 @@ pub(crate) fn ask_within_limits(ask: &LogAsk)
     match ask {
         LogAsk::Seed(seed) => seed_within_limits(seed),
         LogAsk::Push(push) => push_within_limits(push),
+        LogAsk::Pop { tag, through, .. } => {
+            let _numbers = (tag.get(), through.get());
+        }
         _ => {}
     }
 }

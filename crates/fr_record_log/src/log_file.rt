@@ -2,18 +2,18 @@
 ghost use Rattle.std.specs.Prelude.{◌≡◌, Err, None, Some, OnOk, OnErr};
 ghost use Rattle.fr_record_node.specs.declared.fault.ReadFault.{ReadFault};
 ghost use Rattle.fr_record_log.specs.declared.change.Change.{Change};
-ghost use Rattle.fr_record_log.specs.LogFile.{taken, IsSoundLog};
+ghost use Rattle.fr_log.specs.LogState.{swept};
+ghost use Rattle.fr_record_log.specs.LogFile.{taken, IsSettledLog};
 
 use crate::change::Change;
+use crate::laws::file_ask_law;
 use crate::limits::{ask_within_limits, log_within_limits};
 use crate::reading::change_at;
 use crate::spelling::spelled_ask;
 use fr_base::{Machine, Memory};
-use fr_log::laws::place_law;
-use fr_log::{Log, LogAsk, LogTell, Place, SeedRecord};
-use fr_mutation::spelling_is_read;
+use fr_log::laws::{chain_law, letting_law, place_law};
+use fr_log::{Log, LogAsk, LogTell, Place, PoppedTag, SeedRecord};
 use fr_record_node::{ReadFault, Recorded};
-use fr_state::spelling_law;
 use std::alloc::Global;
 use std::marker::Model;
 
@@ -48,9 +48,9 @@ impl FileLog {
 }
 
 impl Machine for FileLog {
-    ghost use Rattle.fr_log.specs.Step.{answer_of, next_of, IsAnsweredInPlace};
+    ghost use Rattle.fr_log.specs.Step.{answer_of, after_ask, IsAnsweredInPlace};
     ghost use Rattle.std.specs.Prelude.{⊤};
-    ghost use Rattle.fr_log.specs.StepLaws.{log_high_water, repeats};
+    ghost use Rattle.fr_log.specs.StepLaws.{log_high_water, repeats_after};
 
     type Ask = LogAsk;
 
@@ -60,7 +60,7 @@ impl Machine for FileLog {
 
     ghost told = { answer_of };
 
-    ghost after = { next_of };
+    ghost after = { after_ask };
 
     ghost high_water = { log_high_water };
 
@@ -68,11 +68,11 @@ impl Machine for FileLog {
 
     ghost stays_reached = { λ l a h. record {} };
 
-    ghost told_again = { λ l a h. (repeats l a).told };
+    ghost told_again = { λ l a h. (repeats_after l a).told };
 
-    ghost after_again = { λ l a h. (repeats l a).after };
+    ghost after_again = { λ l a h. (repeats_after l a).after };
 
-    ghost never_back = { λ l a h. (repeats l a).high };
+    ghost never_back = { λ l a h. (repeats_after l a).high };
 
     fn step(&mut self, alloc: Global, ask: LogAsk) -> Result<LogTell, Memory> {
         self.log.step(alloc, ask)
@@ -81,12 +81,16 @@ impl Machine for FileLog {
 
 /// Takes an ask that changes the log.
 fn take_ask(log: &mut Log, alloc: Global, ask: LogAsk) -> Result<(), ReadFault>
+    requires { IsSettledLog log.old }
     ensures ok { OnOk result (taken log.old (Change.Asked ask) ≡ Some log.new) }
     ensures broken { (result ≡ Err ReadFault.Broken) → taken log.old (Change.Asked ask) ≡ None }
     ensures err { OnErr result (log.new ≡ log.old) }
-    ensures sound { IsSoundLog log.new }
+    ensures settled { IsSettledLog log.new }
 {
+    chain_law();
+    letting_law();
     log_within_limits(log);
+    ask_within_limits(&ask);
     if !log.is_changed_by(&ask) {
         return Err(ReadFault::Broken);
     }
@@ -101,11 +105,13 @@ fn take_ask(log: &mut Log, alloc: Global, ask: LogAsk) -> Result<(), ReadFault>
 
 /// Takes one record more into the seed.
 fn take_seeded(log: &mut Log, next: SeedRecord) -> Result<(), ReadFault>
+    requires { IsSettledLog log.old }
     ensures ok { OnOk result (taken log.old (Change.Seeded next) ≡ Some log.new) }
     ensures broken { (result ≡ Err ReadFault.Broken) → taken log.old (Change.Seeded next) ≡ None }
     ensures err { OnErr result (log.new ≡ log.old) }
-    ensures sound { IsSoundLog log.new }
+    ensures settled { IsSettledLog log.new }
 {
+    letting_law();
     log_within_limits(log);
     match log.take_seeded(next) {
         Ok(true) => {
@@ -117,14 +123,37 @@ fn take_seeded(log: &mut Log, next: SeedRecord) -> Result<(), ReadFault>
     }
 }
 
+/// Pops a tag further.
+fn take_popped(log: &mut Log, popped: PoppedTag) -> Result<(), ReadFault>
+    requires { IsSettledLog log.old }
+    ensures ok { OnOk result (taken log.old (Change.Popped popped) ≡ Some log.new) }
+    ensures broken { (result ≡ Err ReadFault.Broken) → taken log.old (Change.Popped popped) ≡ None }
+    ensures err { OnErr result (log.new ≡ log.old) }
+    ensures settled { IsSettledLog log.new }
+{
+    letting_law();
+    log_within_limits(log);
+    match log.take_popped(popped) {
+        Ok(true) => {
+            log.settle();
+            log_within_limits(log);
+            Ok(())
+        }
+        Ok(false) => Err(ReadFault::Broken),
+        Err(_) => Err(ReadFault::Memory),
+    }
+}
+
 impl Recorded for FileLog {
-    ghost use Rattle.std.specs.Prelude.{◌≡◌, refl};
+    ghost use Rattle.std.specs.Prelude.{◌≡◌};
     ghost use Rattle.fr_log.specs.Step.{next_of};
+    ghost use Rattle.fr_log.specs.LogState.{swept};
+    ghost use Rattle.fr_log.specs.SweptLaws.{swept_tells};
     ghost use Rattle.fr_log.specs.Chain.{IsLog};
     ghost use Rattle.fr_log.specs.Place.{place_of};
     ghost use Rattle.fr_record_log.specs.Spelling.{written_log};
-    ghost use Rattle.fr_record_log.specs.LogFile.{fresh_of, replay_log, IsSoundLog, LeadsBack};
-    ghost use Rattle.fr_record_log.specs.LogFileLaws.{stays_sound, same_fresh, same_read};
+    ghost use Rattle.fr_record_log.specs.LogFile.{fresh_of, replay_log, IsSettledLog, IsFileAsk};
+    ghost use Rattle.fr_record_log.specs.LogFileLaws.{same_fresh, same_read, settles, written_same};
 
     type Place = Place;
 
@@ -134,33 +163,32 @@ impl Recorded for FileLog {
 
     ghost written = { written_log };
 
-    ghost IsSound = { IsSoundLog };
+    ghost IsSound = { IsSettledLog };
 
-    ghost IsAsk = { LeadsBack };
+    ghost IsAsk = { IsFileAsk };
 
     ghost kept = { next_of };
 
-    ghost settled = { λ l. l };
+    ghost settled = { swept };
 
     ghost IsPlaceOf = { λ l p. IsLog l × (p ≡ place_of l) };
 
-    ghost replays = { λ l a sound leads. leads l sound };
+    ghost replays = { λ l a settled ask. ask.leads l settled.sound };
 
-    ghost stays_sound = { λ l a sound leads. stays_sound l a sound };
+    ghost stays_sound = { λ l a settled ask. ask.stays l settled };
 
     ghost same_fresh = { same_fresh };
 
     ghost same_read = { same_read };
 
-    ghost settles = { λ l asks sound within. refl };
+    ghost settles = { settles };
 
-    ghost told_settled = { λ l a. refl };
+    ghost told_settled = { swept_tells };
 
-    ghost written_settled = { λ l a. refl };
+    ghost written_settled = { written_same };
 
     fn records(&self, alloc: Global, ask: &LogAsk) -> Result<Vec<Vec<u8>>, Memory> {
-        spelling_is_read();
-        spelling_law();
+        file_ask_law();
         ask_within_limits(ask);
         log_within_limits(&self.log);
         if self.log.is_changed_by(ask) {
@@ -171,14 +199,16 @@ impl Recorded for FileLog {
     }
 
     fn place(&self, _alloc: Global) -> Result<Place, Memory> {
-        Ok(self.log.place())
+        self.log.place()
     }
 
     fn keep(&mut self, alloc: Global, ask: LogAsk) -> Result<LogTell, Memory> {
-        self.log.step(alloc, ask)
+        self.log.keep(alloc, ask)
     }
 
-    fn settle(&mut self) {}
+    fn settle(&mut self) {
+        self.log.settle();
+    }
 
     fn go_back(&mut self, place: Place) {
         place_law();
@@ -198,6 +228,7 @@ impl Recorded for FileLog {
         match change {
             Change::Asked(ask) => take_ask(&mut self.log, alloc, ask),
             Change::Seeded(next) => take_seeded(&mut self.log, next),
+            Change::Popped(popped) => take_popped(&mut self.log, popped),
         }
     }
 }

@@ -2,21 +2,21 @@
 ghost use Rattle.std.specs.Prelude.{◌≡◌, ◌≢◌, ◌⊎◌, ◌||◌, ◌↔◌, ◌<◌, ◌≤◌, ◌+◌, ◌-◌, ◌^◌, ◌++◌, min, [], List, ℕ, None, Some, Err, IsOk, IfOk, OnOk, OnErr, IfErr, IsTrue, false};
 ghost use Rattle.fr_base.specs.Faults.{met_device};
 ghost use Rattle.fr_log.specs.LogState.{fresh_log};
-ghost use Rattle.fr_log.specs.Step.{answer_of, next_of};
-ghost use Rattle.fr_log.specs.Law.{after_all};
+ghost use Rattle.fr_log.specs.Step.{answer_of, after_ask};
 ghost use Rattle.fr_device.specs.Moments.{Throughout};
 ghost use Rattle.fr_record.specs.File.{StandsFor};
 ghost use Rattle.fr_record.specs.Failing.{FailsOnceMore};
 ghost use Rattle.fr_record_node.specs.Several.{told_all};
 ghost use Rattle.fr_record_node.specs.Node.{HasNoRoom, is_trouble};
 ghost use Rattle.fr_record_node.specs.Replay.{replayed, Opens};
-ghost use Rattle.fr_record_log.specs.LogFile.{fresh_of, replay_log};
-ghost use Rattle.fr_record_log.specs.Law.{written_all};
+ghost use Rattle.fr_record_log.specs.LogFile.{fresh_of, replay_log, IsSettledLog};
+ghost use Rattle.fr_record_log.specs.Law.{after_all, written_all};
 
 use crate::limits::log_within_limits;
 use crate::log_file::FileLog;
 use fr_base::{LogId, Machine, Node, NodeFault, Reopened};
 use fr_device::Device;
+use fr_log::laws::letting_law;
 use fr_log::{Log, LogAsk, LogTell};
 use fr_record_node::FileNode;
 use fr_tags::MAX_LOGS;
@@ -46,9 +46,13 @@ fn fresh(alloc: Global, id: LogId, m: u8, k: u8) -> FileLog
     requires fits { k ≤ m }
     requires limit { m ≤ MAX_LOGS }
     requires place { id.index < m }
-    ensures { result ≡ fresh_log id.epoch id.index m k }
+    ensures log { result ≡ fresh_log id.epoch id.index m k }
+    ensures settled { IsSettledLog result }
 {
-    FileLog::new(Log::new(alloc, id, m, k))
+    letting_law();
+    let log = Log::new(alloc, id, m, k);
+    log_within_limits(&log);
+    FileLog::new(log)
 }
 
 impl<D: Device> LogNode<D> {
@@ -71,7 +75,6 @@ impl<D: Device> LogNode<D> {
         ensures device { (result ≡ Err NodeFault.Device) → FailsOnceMore D.failures_of device }
     {
         let log = fresh(alloc, id, m, k);
-        log_within_limits(log.log());
         match FileNode::format(alloc, device, log) {
             Ok(node) => Ok(LogNode { node }),
             Err(fault) => Err(fault),
@@ -99,7 +102,6 @@ impl<D: Device> LogNode<D> {
         ensures never_failed { result ≢ Err NodeFault.Failed }
     {
         let log = fresh(alloc, id, m, k);
-        log_within_limits(log.log());
         match FileNode::open(alloc, device, log) {
             Ok(node) => Ok(LogNode { node }),
             Err(fault) => Err(fault),
@@ -111,7 +113,7 @@ impl<D: Device> LogNode<D> {
     /// Where no ask changes anything, as in an empty list, no call of the device is made. The file has the bytes that it
     /// would have had the asks been served apart. Memory holds the records of all asks at once, and a copy of each ask.
     pub fn serve_all(&mut self, alloc: Global, asks: Vec<LogAsk>) -> Result<Vec<LogTell>, NodeFault>
-        ensures told { IfOk result (λ tells. tells.items ≡ told_all next_of answer_of self.old.machine asks.items) }
+        ensures told { IfOk result (λ tells. tells.items ≡ told_all after_ask answer_of self.old.machine asks.items) }
         ensures after { OnOk result (self.new.machine ≡ after_all self.old.machine asks.items) }
         ensures records { OnOk result (self.new.records ≡ self.old.records ++ written_all self.old.machine asks.items) }
         ensures still { written_all self.old.machine asks.items ≡ [] → self.new.device ≡ self.old.device }

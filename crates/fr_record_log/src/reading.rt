@@ -1,12 +1,12 @@
 //! What the bytes of a record of a log are read as.
 ghost use Rattle.std.specs.Prelude.{◌≡◌, ◌<◌, ◌^◌, ◌++◌, ◌∷◌, [], IfOk, IfErr, OnOk};
 ghost use Rattle.fr_record_node.specs.declared.fault.ReadFault.{ReadFault};
-ghost use Rattle.fr_record_log.specs.Reading.{Finds, byte_at, bytes_at, number_at, length_at, version_at, tag_at, batch_of, state_of, text_at, bodies_of, numbers_at, push_of, mark_of, own_at, head_of, seeded_of, change_at};
+ghost use Rattle.fr_record_log.specs.Reading.{Finds, byte_at, bytes_at, number_at, length_at, version_at, tag_at, batch_of, state_of, text_at, bodies_of, numbers_at, push_of, mark_of, own_at, head_of, seeded_of, popped_of, change_at};
 
 use crate::change::Change;
-use crate::spelling::{HEAD, LOCK, MARK, PUSH, SEEDED};
+use crate::spelling::{HEAD, LOCK, MARK, POPPED, PUSH, SEEDED};
 use fr_base::{Epoch, Tag, Version};
-use fr_log::{Log, LogAsk, Push, Seed, SeedRecord};
+use fr_log::{Log, LogAsk, PoppedTag, Push, Seed, SeedRecord};
 use fr_mutation::{Batch, DecodeFault, decode};
 use fr_record_node::ReadFault;
 use fr_state::{CoordState, DecodeFault as StateFault, decode as decode_state};
@@ -286,6 +286,20 @@ fn seeded_of(alloc: Global, bytes: &[u8]) -> Result<SeedRecord, ReadFault>
     })
 }
 
+/// The tag and the version that the bytes behind its kind spell.
+#[tactic(auto, unfolding(crate::specs::Reading::popped_of))]
+fn popped_of(bytes: &[u8]) -> Result<PoppedTag, ReadFault>
+    ensures { Finds (λ x. x) result (popped_of bytes.now) }
+{
+    let (tag, rest) = tag_at(bytes)?;
+    let (version, rest) = version_at(rest)?;
+    if !rest.is_empty() {
+        return Err(ReadFault::Broken);
+    }
+    let (tag, version) = (tag_of(tag), version_of(version));
+    Ok(PoppedTag { tag, version })
+}
+
 /// What a log does by a record.
 #[tactic(auto, unfolding(crate::specs::Reading::change_at))]
 pub(crate) fn change_at(alloc: Global, log: &Log, bytes: &[u8]) -> Result<Change, ReadFault>
@@ -299,6 +313,7 @@ pub(crate) fn change_at(alloc: Global, log: &Log, bytes: &[u8]) -> Result<Change
         PUSH => Ok(Change::Asked(LogAsk::Push(push_of(alloc, epoch, rest)?))),
         MARK => Ok(Change::Asked(LogAsk::Push(mark_of(alloc, epoch, rest)?))),
         LOCK if rest.is_empty() => Ok(Change::Asked(LogAsk::Lock { epoch })),
+        POPPED => Ok(Change::Popped(popped_of(rest)?)),
         _ => Err(ReadFault::Broken),
     }
 }

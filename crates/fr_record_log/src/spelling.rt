@@ -3,9 +3,9 @@ ghost use Rattle.std.specs.Prelude.{◌≡◌, ◌<◌, ◌≤◌, ◌^◌, ◌+
 ghost use Rattle.fr_mutation.specs.CodecSpelling.{spelled};
 ghost use Rattle.fr_record.specs.Group.{records_of};
 ghost use Rattle.fr_record_log.specs.Limits.{IsSoundBody, IsSoundSeed, IsSoundPush, IsSoundAsk};
-ghost use Rattle.fr_record_log.specs.Spelling.{spelled_head, spelled_seeded, spelled_body, spelled_numbers, spelled_bodies, spelled_push, spelled_ask};
+ghost use Rattle.fr_record_log.specs.Spelling.{spelled_head, spelled_popped, spelled_seeded, spelled_body, spelled_numbers, spelled_bodies, spelled_push, spelled_ask};
 
-use fr_base::Memory;
+use fr_base::{Memory, Tag, Version};
 use fr_log::{Log, LogAsk, Push, Seed, SeedRecord};
 use fr_mutation::{Batch, encode as encode_batch};
 use fr_state::encode as encode_state;
@@ -22,6 +22,8 @@ pub(crate) const PUSH: u8 = 3;
 pub(crate) const MARK: u8 = 4;
 /// A lock.
 pub(crate) const LOCK: u8 = 5;
+/// A tag popped further.
+pub(crate) const POPPED: u8 = 6;
 
 /// The records of an ask that changes a log.
 pub(crate) fn spelled_ask(alloc: Global, log: &Log, ask: &LogAsk) -> Result<Vec<Vec<u8>>, Memory>
@@ -37,6 +39,9 @@ pub(crate) fn spelled_ask(alloc: Global, log: &Log, ask: &LogAsk) -> Result<Vec<
         }
         LogAsk::Push(push) => group.push(pushed(alloc, push)?)?,
         LogAsk::Lock { .. } => group.push(lock(alloc)?)?,
+        LogAsk::Pop { tag, through, .. } => {
+            group.push(popped(alloc, *tag, log.popped_to(*tag, *through))?)?;
+        }
         LogAsk::Peek { .. } | LogAsk::MarkAsked { .. } => {}
     }
     Ok(group)
@@ -56,6 +61,19 @@ fn head(alloc: Global, log: &Log, seed: &Seed) -> Result<Vec<u8>, Memory>
     bytes.push(log.k())?;
     bytes.extend_from_slice(&seed.first().get().to_be_bytes())?;
     bytes.extend_from_slice(&seed.seeded_to().get().to_be_bytes())?;
+    Ok(bytes)
+}
+
+/// The record of a tag that is popped through a version.
+#[tactic(auto, unfolding(crate::specs::Spelling::spelled_popped))]
+fn popped(alloc: Global, tag: Tag, version: Version) -> Result<Vec<u8>, Memory>
+    ensures bytes { IfOk result (λ bytes. bytes.items ≡ spelled_popped tag version) }
+    ensures short { IfOk result (λ bytes. length bytes.items < 2 ^ 32) }
+{
+    let mut bytes = Vec::with_capacity(alloc, 10)?;
+    bytes.push(POPPED)?;
+    bytes.push(tag.get())?;
+    bytes.extend_from_slice(&version.get().to_be_bytes())?;
     Ok(bytes)
 }
 

@@ -37,7 +37,7 @@ pub trait Recorded: Machine + Drop {
     /// The machine without what its asks let go.
     ghost settled: { Self → Self };
 
-    /// A machine within its limits.
+    /// A machine within its limits, which keeps nothing of what its asks let go.
     ghost IsSound: { Self → Type 0 };
 
     /// An ask within its limits.
@@ -50,8 +50,7 @@ pub trait Recorded: Machine + Drop {
     fn records(&self, alloc: Global, ask: &Self::Ask) -> Result<Vec<Vec<u8>>, Memory>
         ensures records { IfOk result (λ group. records_of group.items ≡ written self.now ask.now) }
         ensures short { IfOk result (λ group. All (λ v. length v.items < 2 ^ 32) group.items) }
-        ensures ask { IsAsk ask.now }
-        ensures sound { IsSound self.now };
+        ensures ask { IsAsk ask.now };
 
     /// Where the machine stands.
     fn place(&self, alloc: Global) -> Result<Self::Place, Memory>
@@ -78,6 +77,7 @@ pub trait Recorded: Machine + Drop {
 
     /// Takes the change that a record of a file stands for.
     fn read(&mut self, alloc: Global, change: &[u8]) -> Result<(), ReadFault>
+        requires sound { IsSound self.old }
         ensures ok { OnOk result (replay self.old change.now ≡ Some self.new) }
         ensures broken { (result ≡ Err ReadFault.Broken) → replay self.old change.now ≡ None }
         ensures err { OnErr result (self.new ≡ self.old) }
@@ -86,7 +86,7 @@ pub trait Recorded: Machine + Drop {
     /// The records of an ask bring the machine where the ask does.
     ghost replays: { (s : Self) (a : Self.Ask) → IsSound s → IsAsk a → replayed replay (Some s) (written s a) ≡ Some (Self.after s a) };
 
-    /// An ask leaves a machine within its limits.
+    /// An ask leaves a machine within its limits, and lets go of what it may.
     ghost stays_sound: { (s : Self) (a : Self.Ask) → IsSound s → IsAsk a → IsSound (Self.after s a) };
 
     /// An ask makes no other machine of it.

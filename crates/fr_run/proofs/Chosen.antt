@@ -1,28 +1,26 @@
--- Which epochs are chosen, that they stay so, and that their states are one chain.
-use Rattle.std.proofs.Common.{◌≡◌, ℕ, ◌*◌, ◌<◌, Bool, true, false, cond, nat_lt, ◌==◌, ◌||◌, List, [], ◌∷◌, ◌++◌, length, append_assoc, Option, None, Some, inl, inr, refl, sym, ◌∙◌, ap, subst, arith}
+-- Which epochs are chosen, and that they stay so.
+use Rattle.std.proofs.Common.{◌≡◌, ℕ, ◌*◌, ◌<◌, Bool, true, false, cond, ◌==◌, ◌||◌, List, [], ◌∷◌, length, Option, None, Some, inl, inr, refl, sym, ◌∙◌, ap, subst, arith}
 use Rattle.std.specs.List.{All, Contains}
-use Rattle.std.proofs.lemmas.Bool.{eqb-true, ltb-false, ltb-true}
+use Rattle.std.proofs.lemmas.Bool.{eqb-true}
 use Rattle.std.proofs.lemmas.List.Elements.{All-head, All-weaker}
 use Rattle.fr_register.specs.declared.ask.CellTell.TheVariants.{Written}
 use Rattle.fr_register.specs.Poll.{Stamped}
 use Rattle.fr_register.specs.History as register
 use Rattle.fr_register.specs.Chosen.{IsWrittenByMajority}
-use Rattle.fr_state.specs.Generations.{LogGeneration, CoordinatedState}
+use Rattle.fr_state.specs.Generations.{CoordinatedState}
 use Rattle.fr_state.specs.Spelling.{spelling}
 use Rattle.fr_epoch.specs.Recoverer.{RecState, Plan, Chosen, is_written_in}
 use Rattle.fr_run.specs.Config.{Config, first_epoch, first_generation, first_state, first_cell}
 use Rattle.fr_run.specs.Turn.{Turn, cell_turns}
 use Rattle.fr_run.specs.Nodes.{rec_at, plan_in, plan_at, generation_in, generation_at, is_open_in}
 use Rattle.fr_run.specs.Run.{IsTurn, IsRun}
-use Rattle.fr_run.specs.States.{state_in, state_of, line_of, pair_of, IsChosenEpoch}
-use Rattle.fr_run.specs.StateLaws.{IsFrontOf}
+use Rattle.fr_run.specs.States.{state_in, state_of, pair_of, IsChosenEpoch}
 use Rattle.fr_run.specs.ParentLaws.{parent_at}
-use Rattle.fr_run.specs.ChosenLaws.{OpenIsChosen, FirstIsChosen, FirstIsLeast, ChosenIsWritten, ChosenIsPlanned, StateLasts, ChosenLasts, ChosenIsBefore, ChosenAreChain}
+use Rattle.fr_run.specs.ChosenLaws.{OpenIsChosen, FirstIsChosen, FirstIsLeast, ChosenIsWritten, ChosenIsPlanned, StateLasts, ChosenLasts}
 use Rattle.fr_run.specs.Laws.{Laws}
 use Rattle.fr_run.proofs.Growth.{rec_is, plan_grows, generation_stays, opener}
 use Rattle.fr_run.proofs.Cells.{cell_turns_stay, written_is_state}
 use Rattle.fr_run.proofs.Register.{run_has_parents}
-use Rattle.fr_run.proofs.States.{recoverers_have_states, chosen_in_parent, front_itself}
 use Rattle.fr_run.proofs.Votes.{pair_in, has_votes}
 
 -- ---- plans as epochs
@@ -119,31 +117,3 @@ chosen_lasts laws c h t run is e chosen =
       ],
       same,
     )
-
--- ---- one chain
-
-pub chosen_is_before : Laws → ChosenIsBefore
-chosen_is_before laws c h config run a b low high less = elim (chosen_is_written laws c h run b high) [
-  | inl first ↦ (let k = first_is_least laws c h run a low in absurd (omega (arith, k, first, less)))
-  | inr k ↦ (
-      let plan = (recoverers_have_states laws c h config run b k.recoverer k.at).plan k.plan k.planned in
-      let own : List LogGeneration = k.plan.generation ∷ [] in
-      let front = chosen_in_parent laws c h config run a b k.recoverer plan.1.0 low k.at plan.1.1 less in
-      let here : line_of c h b ≡ k.plan.state.gens = ap (λ (s : CoordinatedState). s.gens) (state_planned laws c h run b k.recoverer k.at k.plan k.planned) in
-      record {
-        between = front.0;
-        own = k.plan.generation;
-        of = generation_planned laws c h run b k.recoverer k.at k.plan k.planned;
-        is = sym (append_assoc (line_of c h a) front.0 own) ∙ ap (λ xs. xs ++ own) front.1 ∙ sym plan.1.2 ∙ sym here;
-      })
-]
-
-pub chosen_are_chain : Laws → ChosenAreChain
-chosen_are_chain laws c h config run a b low high le = go (nat_lt a b) refl
-  where
-    go : (s : Bool) → nat_lt a b ≡ s → IsFrontOf (line_of c h a) (line_of c h b)
-    go true k = let j = chosen_is_before laws c h config run a b low high (ltb-true a b k) in (j.between ++ j.own ∷ [], j.is)
-    go false k =
-        let up = ltb-false a b k in
-        let same : a ≡ b = omega (arith, up, le) in
-        subst (λ x. IsFrontOf (line_of c h a) (line_of c h x)) same (front_itself (line_of c h a))

@@ -7,3 +7,4 @@ pub mod States
 pub mod Votes
 pub mod Chosen
 pub mod Parents
+pub mod Lines

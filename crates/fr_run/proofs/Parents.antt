@@ -1,5 +1,5 @@
 -- Where the state that a recoverer took over comes from: it is that of the epoch that it ends.
-use Rattle.std.proofs.Common.{◌≡◌, ℕ, ◌<◌, Bool, true, false, cond, ◌==◌, List, [], ◌∷◌, ◌++◌, Option, None, Some, inl, inr, ◌⊎◌, refl, sym, ◌∙◌, ap, subst}
+use Rattle.std.proofs.Common.{◌≡◌, ℕ, ◌<◌, Bool, true, false, cond, ◌==◌, List, drop, Option, None, Some, inl, inr, ◌⊎◌, refl, sym, ◌∙◌, ap, subst}
 use Rattle.std.proofs.lemmas.Bool.{eqb-true}
 use Rattle.fr_register.specs.Poll.{Stamped}
 use Rattle.fr_register.specs.Chosen.{IsKept, IsReady}
@@ -12,14 +12,14 @@ use Rattle.fr_run.specs.Turn.{Turn, cell_turns}
 use Rattle.fr_run.specs.Nodes.{rec_at, plan_in, plan_at, generation_in, generation_at}
 use Rattle.fr_run.specs.Run.{IsRun}
 use Rattle.fr_run.specs.Laws.{Laws}
-use Rattle.fr_run.specs.States.{state_of, line_of}
-use Rattle.fr_run.specs.StateLaws.{IsConfig, IsFrontOf, ChosenIsFront}
-use Rattle.fr_run.specs.LineLaws.{IsOfParent, ParentIsOfEpoch, ParentIsPlanned, LineOfPlan}
+use Rattle.fr_run.specs.States.{state_of}
+use Rattle.fr_run.specs.StateLaws.{IsConfig}
+use Rattle.fr_run.specs.LineLaws.{ParentIsPlanned}
 use Rattle.fr_run.specs.ParentLaws.{greatest_in, parent_at}
 use Rattle.fr_run.proofs.Growth.{rec_is}
 use Rattle.fr_run.proofs.Cells.{cells_have_history, first_within, written_is_state}
 use Rattle.fr_run.proofs.Register.{has_found, parent_is_greatest}
-use Rattle.fr_run.proofs.States.{first_is, last_more, one_spelling, recoverers_have_states, chosen_in_parent}
+use Rattle.fr_run.proofs.States.{first_is, last_more, one_spelling, recoverers_have_states}
 use Rattle.fr_run.proofs.Chosen.{state_planned, generation_planned}
 
 -- ---- plans
@@ -30,9 +30,16 @@ plan_is laws c h run b r at p e = (rec_is laws c h run b r at).kept.plan p e
 
 -- ---- where a parent comes from
 
--- a parent state is the first one, or the plan of a lower ballot
+-- a parent state is the first one
+pub record IsFirstBelow (c : Config) (h : List Turn) (b : ℕ) (s : CoordinatedState) : Type 0 where
+  pub ballot : (parent_at c h b).ballot ≡ first_epoch
+  pub below : first_epoch < b
+  pub is : first_state c ≡ s
+
+-- or the plan of a lower ballot
 pub record IsPlanBelow (c : Config) (h : List Turn) (b : ℕ) (s : CoordinatedState) : Type 0 where
   pub ballot : ℕ
+  pub ballot_is : (parent_at c h b).ballot ≡ ballot
   pub below : ballot < b
   pub recoverer : RecState
   pub at : rec_at c h ballot ≡ Some recoverer
@@ -41,14 +48,20 @@ pub record IsPlanBelow (c : Config) (h : List Turn) (b : ℕ) (s : CoordinatedSt
   pub written : is_written recoverer ≡ true
   pub is : plan.state ≡ s
 
-pub parent_comes : Laws → (c : Config) (h : List Turn) → IsConfig c → IsRun c h → (b : ℕ) (r : RecState) (p : Parent) → rec_at c h b ≡ Some r → r.parent ≡ Some p → (first_state c ≡ p.state) ⊎ IsPlanBelow c h b p.state
+pub parent_comes : Laws → (c : Config) (h : List Turn) → IsConfig c → IsRun c h → (b : ℕ) (r : RecState) (p : Parent) → rec_at c h b ≡ Some r → r.parent ≡ Some p
+    → IsFirstBelow c h b p.state ⊎ IsPlanBelow c h b p.state
 parent_comes laws c h config run b r p at parent = elim kept.holds [
-  | inl start ↦ inl (one_spelling laws (first_state c) p.state (first_is c config) par.0 (sym (ap (λ (s : Stamped). s.value) start) ∙ greatest))
+  | inl start ↦ inl (record {
+    ballot = ap (λ (s : Stamped). s.ballot) start;
+    below = subst (λ n. n < b) (ap (λ (s : Stamped). s.ballot) start) ready.below;
+    is = one_spelling laws (first_state c) p.state (first_is c config) par.0 (sym (ap (λ (s : Stamped). s.value) start) ∙ greatest);
+  })
   | inr w ↦ (
       let k = written_is_state laws c h run (parent_at c h b) (record { cell = ready.read.found.0; tell = _; comes = w }) in
       let states = (recoverers_have_states laws c h config run (parent_at c h b).ballot k.recoverer k.at).plan k.plan k.planned in
       inr (record {
         ballot = (parent_at c h b).ballot;
+        ballot_is = refl;
         below = ready.below;
         recoverer = k.recoverer;
         at = k.at;
@@ -85,8 +98,9 @@ first_last c p last first = (
 plan_last : Laws → (c : Config) (h : List Turn) → IsConfig c → IsRun c h → (b : ℕ) (p : Parent) → last_of p.state.gens ≡ Some p.last → (k : IsPlanBelow c h b p.state) → k.plan.generation ≡ p.last
 plan_last laws c h config run b p last k = (
     let states = (recoverers_have_states laws c h config run k.ballot k.recoverer k.at).plan k.plan k.planned in
-    let before : Parent = states.1.0 in
-    let found : Some k.plan.generation ≡ Some p.last = sym (ap last_of states.1.2 ∙ last_more before.state.gens k.plan.generation) ∙ ap (λ (s : CoordinatedState). last_of s.gens) k.is ∙ last in
+    let more = states.1.2 in
+    let gens = ap (λ (s : CoordinatedState). s.gens) more.is in
+    let found : Some k.plan.generation ≡ Some p.last = sym (ap last_of gens ∙ last_more (drop more.number states.1.0.state.gens) k.plan.generation) ∙ ap (λ (s : CoordinatedState). last_of s.gens) k.is ∙ last in
     let same : k.plan.generation ≡ p.last = cc in
     same)
 
@@ -95,21 +109,33 @@ plan_ballot laws c h config run b p last k =
     let own : k.plan.generation.epoch ≡ k.ballot = (plan_is laws c h run k.ballot k.recoverer k.at k.plan k.planned).epoch ∙ (rec_is laws c h run k.ballot k.recoverer k.at).ballot in
     sym own ∙ ap (λ (g : LogGeneration). g.epoch) (plan_last laws c h config run b p last k)
 
-of_parent : (c : Config) (h : List Turn) (p : Parent) → last_of p.state.gens ≡ Some p.last → state_of c h p.last.epoch ≡ p.state → generation_at c h p.last.epoch ≡ Some p.last → IsOfParent c h p
-of_parent c h p last state generation = record { state = state; generation = generation; last = ap (λ (s : CoordinatedState). last_of s.gens) state ∙ last }
+-- the state and the generation of the epoch that it ends, and that this is of a lower ballot
+pub record IsFromEpoch (c : Config) (h : List Turn) (b : ℕ) (p : Parent) : Type 0 where
+  pub state : state_of c h p.last.epoch ≡ p.state
+  pub generation : generation_at c h p.last.epoch ≡ Some p.last
+  pub ballot : (parent_at c h b).ballot ≡ p.last.epoch
+  pub below : p.last.epoch < b
 
-pub parent_is : Laws → ParentIsOfEpoch
-parent_is laws c h config run b r p at parent = elim (parent_comes laws c h config run b r p at parent) [
+pub parent_from : Laws → (c : Config) (h : List Turn) → IsConfig c → IsRun c h → (b : ℕ) (r : RecState) (p : Parent) → rec_at c h b ≡ Some r → r.parent ≡ Some p → IsFromEpoch c h b p
+parent_from laws c h config run b r p at parent = elim (parent_comes laws c h config run b r p at parent) [
   | inl first ↦ (
-      let same = first_last c p last first in
+      let same = first_last c p last first.is in
       let here : first_epoch ≡ p.last.epoch = ap (λ (g : LogGeneration). g.epoch) same in
-      of_parent c h p last (subst (λ e. state_of c h e ≡ p.state) here first) (subst (λ e. generation_at c h e ≡ Some p.last) here (ap Some same)))
+      record {
+        state = subst (λ e. state_of c h e ≡ p.state) here first.is;
+        generation = subst (λ e. generation_at c h e ≡ Some p.last) here (ap Some same);
+        ballot = first.ballot ∙ here;
+        below = subst (λ e. e < b) here first.below;
+      })
   | inr k ↦ (
       let same = plan_last laws c h config run b p last k in
       let here = plan_ballot laws c h config run b p last k in
-      of_parent c h p last
-      (subst (λ e. state_of c h e ≡ p.state) here (state_planned laws c h run k.ballot k.recoverer k.at k.plan k.planned ∙ k.is))
-      (subst (λ e. generation_at c h e ≡ Some p.last) here (generation_planned laws c h run k.ballot k.recoverer k.at k.plan k.planned ∙ ap Some same)))
+      record {
+        state = subst (λ e. state_of c h e ≡ p.state) here (state_planned laws c h run k.ballot k.recoverer k.at k.plan k.planned ∙ k.is);
+        generation = subst (λ e. generation_at c h e ≡ Some p.last) here (generation_planned laws c h run k.ballot k.recoverer k.at k.plan k.planned ∙ ap Some same);
+        ballot = k.ballot_is ∙ here;
+        below = subst (λ e. e < b) here k.below;
+      })
 ]
   where
     last : last_of p.state.gens ≡ Some p.last
@@ -117,7 +143,7 @@ parent_is laws c h config run b r p at parent = elim (parent_comes laws c h conf
 
 pub parent_is_planned : Laws → ParentIsPlanned
 parent_is_planned laws c h config run b r p at parent = elim (parent_comes laws c h config run b r p at parent) [
-  | inl first ↦ inl (sym (ap (λ (g : LogGeneration). g.epoch) (first_last c p last first)))
+  | inl first ↦ inl (sym (ap (λ (g : LogGeneration). g.epoch) (first_last c p last first.is)))
   | inr k ↦ (
       let here = plan_ballot laws c h config run b p last k in
       inr (record {
@@ -132,36 +158,6 @@ parent_is_planned laws c h config run b r p at parent = elim (parent_comes laws 
   where
     last : last_of p.state.gens ≡ Some p.last
     last = parent_last laws c h run b r p at parent
-
--- ---- lines
-
--- a ballot that has a plan has a parent, with whose line its own begins
-pub record HasLine (c : Config) (h : List Turn) (b : ℕ) (r : RecState) (q : Plan) : Type 0 where
-  pub parent : Parent
-  pub is : r.parent ≡ Some parent
-  pub line : line_of c h b ≡ line_of c h parent.last.epoch ++ q.generation ∷ []
-
-pub plan_line : Laws → (c : Config) (h : List Turn) → IsConfig c → IsRun c h → (b : ℕ) (r : RecState) (q : Plan) → rec_at c h b ≡ Some r → r.plan ≡ Some q → HasLine c h b r q
-plan_line laws c h config run b r q at planned =
-    let states = (recoverers_have_states laws c h config run b r at).plan q planned in
-    let p : Parent = states.1.0 in
-    let of = parent_is laws c h config run b r p at states.1.1 in
-    record {
-      parent = p;
-      is = states.1.1;
-      line = ap (λ (s : CoordinatedState). s.gens) (state_planned laws c h run b r at q planned) ∙ states.1.2 ∙ ap (λ (s : CoordinatedState). s.gens ++ q.generation ∷ []) (sym of.state);
-    }
-
-pub line_of_plan : Laws → LineOfPlan
-line_of_plan laws c h config run b r p q at parent planned =
-    let k = plan_line laws c h config run b r q at planned in
-    let two : Some k.parent ≡ Some p = sym k.is ∙ parent in
-    let same : k.parent ≡ p = cc in
-    k.line ∙ ap (λ (x : Parent). line_of c h x.last.epoch ++ q.generation ∷ []) same
-
-pub chosen_is_front : Laws → ChosenIsFront
-chosen_is_front laws c h config run a b r p chosen at parent less =
-    subst (λ (s : CoordinatedState). IsFrontOf (line_of c h a) s.gens) (sym (parent_is laws c h config run b r p at parent).state) (chosen_in_parent laws c h config run a b r p chosen at parent less)
 
 -- ---- the plan of an epoch
 

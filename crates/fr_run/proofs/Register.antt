@@ -161,9 +161,9 @@ change laws c h run b from t told r at come_by k n (Finds i u s g heard is) =
       found = λ p e. let d : record { state = s; last = g } ≡ p = cc in subst (λ (x : Parent). IsFound (with_last (with_read r i u) s (Some g)) x.state x.last) d (record { majority = is.majority; value = is.value; last = is.last });
       below = λ p e. reads_below laws c h run b r at heard.phase (hear_read r.reads i u) reads is.majority;
     }
-change laws c h run b from t told r at come_by k n (Locks p end i durable known is) = record { reads = k.reads; found = λ q d. still r n q refl (k.found q d); below = k.below }
-change laws c h run b from t told r at come_by k n (LosesLocks p end i durable known why is) = record { reads = k.reads; found = λ q d. still r n q refl (k.found q d); below = k.below }
-change laws c h run b from t told r at come_by k n (Plans p end i durable known s heard is) = record { reads = k.reads; found = λ q d. still r n q refl (k.found q d); below = k.below }
+change laws c h run b from t told r at come_by k n (Locks p end i durable known popped is) = record { reads = k.reads; found = λ q d. still r n q refl (k.found q d); below = k.below }
+change laws c h run b from t told r at come_by k n (LosesLocks p end i durable known popped why is) = record { reads = k.reads; found = λ q d. still r n q refl (k.found q d); below = k.below }
+change laws c h run b from t told r at come_by k n (Plans p end i durable known popped s heard is) = record { reads = k.reads; found = λ q d. still r n q refl (k.found q d); below = k.below }
 change laws c h run b from t told r at come_by k n (Copies parent p i peeked is) = record { reads = k.reads; found = λ q d. still r n q refl (k.found q d); below = k.below }
 change laws c h run b from t told r at come_by k n (Seeds p i is w) = record { reads = k.reads; found = λ q d. still r n q refl (k.found q d); below = k.below }
 change laws c h run b from t told r at come_by k n (SeedsAll p i is w) = record { reads = k.reads; found = λ q d. still r n q refl (k.found q d); below = k.below }

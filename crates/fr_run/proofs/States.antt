@@ -1,6 +1,6 @@
--- The states that recoverers take over and plan, and that the chosen ones are one chain.
-use Rattle.std.proofs.Common.{◌≡◌, ℕ, ◌<◌, Bool, true, false, cond, ◌==◌, List, [], ◌∷◌, ◌++◌, append-nil, append_assoc, Option, None, Some, inl, inr, refl, sym, ◌∙◌, ap, subst, arith}
-use Rattle.std.specs.List.{All, Contains}
+-- The states that recoverers take over and plan.
+use Rattle.std.proofs.Common.{◌≡◌, ℕ, Bool, true, false, cond, ◌==◌, List, [], ◌∷◌, ◌++◌, length, append-nil, append_assoc, Option, None, Some, inl, inr, refl, sym, ◌∙◌, ap, subst, arith}
+use Rattle.std.specs.List.{All, Contains, range_with_len}
 use Rattle.std.specs.Prelude.{IfSome, Ok}
 use Rattle.std.proofs.lemmas.List.Elements.{All-nil, All-push, All-head, All-tail}
 use Rattle.fr_base.specs.Shape.{ShapeContent}
@@ -11,7 +11,7 @@ use Rattle.fr_register.specs.Poll.{Stamped, ReadState}
 use Rattle.fr_register.specs.Tally.{hear_read, progress_of}
 use Rattle.fr_register.specs.Heard.{read_tally}
 use Rattle.fr_register.specs.History as register
-use Rattle.fr_register.specs.Chosen.{IsKept, IsHeldBy, IsReadByMajority, Descends, itself, by_parent}
+use Rattle.fr_register.specs.Chosen.{IsKept, IsHeldBy, IsReadByMajority}
 use Rattle.fr_state.specs.Generations.{LogGeneration, CoordinatedState, IsGeneration, IsCoordinatedState, last_of}
 use Rattle.fr_state.specs.Reading.{reading}
 use Rattle.fr_state.specs.Spelling.{spelling}
@@ -19,7 +19,7 @@ use Rattle.fr_ask.specs.declared.tell.Tell.{Tell}
 use Rattle.fr_tail.specs.Tail.{after_hear as after_peeked}
 use Rattle.fr_epoch.specs.Recoverer.{RecState, Parent, Plan, Reading, new_recoverer}
 use Rattle.fr_epoch.specs.Hear as rec
-use Rattle.fr_epoch.specs.Hear.{with_lock, next_generation, plan_of}
+use Rattle.fr_epoch.specs.Hear.{with_lock, left_of, next_generation, plan_of}
 use Rattle.fr_epoch.specs.Words.{word_of}
 use Rattle.fr_epoch.specs.Change.{replied, Change, Stands, LosesReads, Reads, Finds, Locks, LosesLocks, Plans, Copies, Seeds, SeedsAll, Writes, LosesWrites, Chooses, Marks}
 use Rattle.fr_epoch.specs.Kept as rec_kept
@@ -27,15 +27,14 @@ use Rattle.fr_epoch.specs.Law.{IsRecoverer}
 use Rattle.fr_run.specs.Config.{Config, first_epoch, first_generation, first_state, first_cell}
 use Rattle.fr_run.specs.Turn.{Turn, Told, cell_turns}
 use Rattle.fr_run.specs.Nodes.{rec_at, plan_in, plan_at}
-use Rattle.fr_run.specs.States.{state_in, state_of, pair_of, IsChosenEpoch}
+use Rattle.fr_run.specs.States.{state_in, state_of}
 use Rattle.fr_run.specs.Run.{IsRun}
 use Rattle.fr_run.specs.Laws.{Laws}
-use Rattle.fr_run.specs.StateLaws.{IsConfig, IsFrontOf, HasStates, RecoverersHaveStates}
-use Rattle.fr_run.specs.ParentLaws.{greatest_in, parent_at}
+use Rattle.fr_run.specs.StateLaws.{IsConfig, IsFrontOf, IsLeftAndMore, HasStates, RecoverersHaveStates}
 use Rattle.fr_run.proofs.ByTurn.{rec_by_turn}
 use Rattle.fr_run.proofs.Growth.{rec_is}
 use Rattle.fr_run.proofs.Cells.{cells_have_history, first_within, written_is_state}
-use Rattle.fr_run.proofs.Register.{HasRead, has_found, reads_more, cell_told, no_parent, parents_descend}
+use Rattle.fr_run.proofs.Register.{HasRead, has_found, reads_more, cell_told, no_parent}
 
 -- ---- states within their limits
 
@@ -55,6 +54,7 @@ first_is c k = record {
   ordered = tt;
   some = omega arith;
   few = omega arith;
+  below = omega arith;
 }
 
 -- the last of some generations is one of them
@@ -107,7 +107,7 @@ read_spells laws c h config run all b reads k majority = held_spells laws c h co
 new_has_states : (c : Config) (b : ℕ) (shape : Option ShapeContent) → HasStates (new_recoverer b c.cells c.begins shape)
 new_has_states c b shape = record { parent = λ p e. absurd (cc); plan = λ q e. absurd (cc) }
 
-no_plan : (r : RecState) → IsRecoverer r → r.phase ≡ Reading → (q : Plan) → r.plan ≡ Some q → ⊥
+pub no_plan : (r : RecState) → IsRecoverer r → r.phase ≡ Reading → (q : Plan) → r.plan ≡ Some q → ⊥
 no_plan r come_by ph q e = let k : None ≡ Some q = sym (come_by.parentless (come_by.reading ph)) ∙ e in absurd (cc)
 
 change : Laws → (c : Config) (h : List Turn) → IsConfig c → IsRun c h → ((b : ℕ) → IfSome (rec_at c h b) HasStates) → (b : ℕ) (from : NodeId) (t : Tell) → Told h from (node.Recoverer b) t → (r : RecState) → rec_at c h b ≡ Some r → HasStates r
@@ -132,26 +132,31 @@ change laws c h config run all b from t told r at k n (Finds i u s g heard is) k
           subst (λ (x : Parent). IsCoordinatedState x.state × ((hear_read r.reads i u).greatest.value ≡ spelling x.state)) m (subst (λ x. IsCoordinatedState x × ((hear_read r.reads i u).greatest.value ≡ spelling x)) d (z.within, z.is)));
       plan = λ q e. absurd (no_plan r (rec_is laws c h run b r at).kept.come_by heard.phase q e);
     }
-change laws c h config run all b from t told r at k n (Locks p end i durable known is) kept = record { parent = k.parent; plan = k.plan }
-change laws c h config run all b from t told r at k n (LosesLocks p end i durable known why is) kept = record { parent = k.parent; plan = k.plan }
-change laws c h config run all b from t told r at k n (Plans p end i durable known s heard is) kept =
+change laws c h config run all b from t told r at k n (Locks p end i durable known popped is) kept = record { parent = k.parent; plan = k.plan }
+change laws c h config run all b from t told r at k n (LosesLocks p end i durable known popped why is) kept = record { parent = k.parent; plan = k.plan }
+change laws c h config run all b from t told r at k n (Plans p end i durable known popped s heard is) kept =
     let e = heard.parent in
     let par = k.parent p e in
     let m = replied end i durable known in
-    let x = laws.extension p.state s (next_generation r p m) par.0 (kept.generation (plan_of r p m s) refl) is.state in
+    let locked = with_lock r end i durable known popped in
+    let left = laws.left p.state locked.shown (range_with_len 0 (length r.begins)) par.0 in
+    let rest : IsCoordinatedState (left_of locked p) = subst IsCoordinatedState (sym left.is) (laws.drop_is_state p.state left.number par.0 left.fewer) in
+    let x = laws.extension (left_of locked p) s (next_generation r p m) rest (kept.generation (plan_of r p m s) refl) is.state in
     record {
       parent = k.parent;
       plan = λ q d. (
           let f : plan_of r p m s ≡ q = cc in
-          subst (λ (y : Plan). IsCoordinatedState y.state × ((o : Parent) × (r.parent ≡ Some o) × (y.state.gens ≡ o.state.gens ++ y.generation ∷ []))) f
-          (x.0, (p, e, ap (λ (y : CoordinatedState). y.gens) x.1)));
+          subst (λ (y : Plan). IsCoordinatedState y.state × ((o : Parent) × (r.parent ≡ Some o) × IsLeftAndMore o y)) f
+          (x.0, (p, e, record { number = left.number; fewer = left.fewer; is = x.1 ∙ ap (λ (y : CoordinatedState). record y { gens = y.gens ++ next_generation r p m ∷ [] }) left.is })));
     }
 change laws c h config run all b from t told r at k n (Copies parent p i peeked is) kept = record {
   parent = k.parent;
   plan = λ q d. (
       let m : Plan = record { state = p.state; generation = p.generation; tail = after_peeked p.tail i peeked.tag peeked } in
       let f : m ≡ q = cc in
-      subst (λ (y : Plan). IsCoordinatedState y.state × ((o : Parent) × (r.parent ≡ Some o) × (y.state.gens ≡ o.state.gens ++ y.generation ∷ []))) f (k.plan p is.plan));
+      let was = k.plan p is.plan in
+      subst (λ (y : Plan). IsCoordinatedState y.state × ((o : Parent) × (r.parent ≡ Some o) × IsLeftAndMore o y)) f
+      (was.0, (was.1.0, was.1.1, record { number = was.1.2.number; fewer = was.1.2.fewer; is = was.1.2.is })));
 }
 change laws c h config run all b from t told r at k n (Seeds p i is w) kept = record { parent = k.parent; plan = k.plan }
 change laws c h config run all b from t told r at k n (SeedsAll p i is w) kept = record { parent = k.parent; plan = k.plan }
@@ -175,22 +180,8 @@ recoverers_have_states laws c h config run b r at = subst (λ o. IfSome o HasSta
 pub front_itself : (gens : List LogGeneration) → IsFrontOf gens gens
 front_itself gens = ([], append-nil gens)
 
-front_more : (front gens : List LogGeneration) (g : LogGeneration) → IsFrontOf front gens → IsFrontOf front (gens ++ g ∷ [])
+pub front_more : (front gens : List LogGeneration) (g : LogGeneration) → IsFrontOf front gens → IsFrontOf front (gens ++ g ∷ [])
 front_more front gens g (rest, e) = (rest ++ g ∷ [], sym (append_assoc front rest (g ∷ [])) ∙ ap (λ xs. xs ++ g ∷ []) e)
-
--- what descends from a pair that spells a state has that state's generations in front
-descends_front : Laws → (c : Config) (h : List Turn) → IsConfig c → IsRun c h → (p q : Stamped) → Descends (cell_turns h) (parent_at c h) p q → (x y : CoordinatedState) → IsCoordinatedState x → p.value ≡ spelling x
-    → IsCoordinatedState y → q.value ≡ spelling y → IsFrontOf y.gens x.gens
-descends_front laws c h config run p q itself x y i v j w = subst (λ (s : CoordinatedState). IsFrontOf y.gens s.gens) (one_spelling laws y x j i (sym w ∙ v)) (front_itself y.gens)
-descends_front laws c h config run p q (by_parent came d) x y i v j w =
-    let k = written_is_state laws c h run p came in
-    let states = recoverers_have_states laws c h config run p.ballot k.recoverer k.at in
-    let plan = states.plan k.plan k.planned in
-    let same : k.plan.state ≡ x = one_spelling laws k.plan.state x plan.0 i (sym k.value ∙ v) in
-    let par = states.parent plan.1.0 plan.1.1 in
-    let greatest : (parent_at c h p.ballot).value ≡ spelling plan.1.0.state = ap (λ o. (greatest_in o).value) k.at ∙ par.1 in
-    let below = descends_front laws c h config run (parent_at c h p.ballot) q d plan.1.0.state y par.0 greatest j w in
-    subst (λ (s : CoordinatedState). IsFrontOf y.gens s.gens) same (subst (IsFrontOf y.gens) (sym plan.1.2) (front_more y.gens plan.1.0.state.gens k.plan.generation below))
 
 -- the state of each epoch is within its limits
 pub state_is : Laws → (c : Config) (h : List Turn) → IsConfig c → IsRun c h → (e : ℕ) → IsCoordinatedState (state_of c h e)
@@ -204,11 +195,3 @@ state_is laws c h config run e = go (e == first_epoch)
     go : (s : Bool) → IsCoordinatedState (cond s (first_state c) (state_in c (plan_at c h e)))
     go true = first_is c config
     go false = planned (rec_at c h e) refl (plan_at c h e) refl
-
--- what a recoverer took over has the line of each chosen epoch of a lower ballot in front
-pub chosen_in_parent : Laws → (c : Config) (h : List Turn) → IsConfig c → IsRun c h → (a b : ℕ) (r : RecState) (p : Parent) → IsChosenEpoch c h a → rec_at c h b ≡ Some r → r.parent ≡ Some p → a < b → IsFrontOf (state_of c h a).gens p.state.gens
-chosen_in_parent laws c h config run a b r p chosen at e l =
-    let par = (recoverers_have_states laws c h config run b r at).parent p e in
-    let d = parents_descend laws c h run (pair_of c h a) b r p chosen at e l in
-    let greatest : (parent_at c h b).value ≡ spelling p.state = ap (λ o. (greatest_in o).value) at ∙ par.1 in
-    descends_front laws c h config run (parent_at c h b) (pair_of c h a) d p.state (state_of c h a) par.0 greatest (state_is laws c h config run a) refl

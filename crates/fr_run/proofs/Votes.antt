@@ -91,9 +91,9 @@ change laws c h run b from t told r at come_by k n Stands = k
 change laws c h run b from t told r at come_by k n (LosesReads i u why is) = record { unplanned = k.unplanned; planned = k.planned; majority = λ e. absurd (cc) }
 change laws c h run b from t told r at come_by k n (Reads i u is) = k
 change laws c h run b from t told r at come_by k n (Finds i u s g heard is) = record { unplanned = k.unplanned; planned = k.planned; majority = λ e. absurd (cc) }
-change laws c h run b from t told r at come_by k n (Locks p end i durable known is) = k
-change laws c h run b from t told r at come_by k n (LosesLocks p end i durable known why is) = record { unplanned = k.unplanned; planned = k.planned; majority = λ e. absurd (cc) }
-change laws c h run b from t told r at come_by k n (Plans p end i durable known s heard is) = record {
+change laws c h run b from t told r at come_by k n (Locks p end i durable known popped is) = k
+change laws c h run b from t told r at come_by k n (LosesLocks p end i durable known popped why is) = record { unplanned = k.unplanned; planned = k.planned; majority = λ e. absurd (cc) }
+change laws c h run b from t told r at come_by k n (Plans p end i durable known popped s heard is) = record {
   unplanned = λ e. absurd (cc);
   planned = λ q e. subst (IsFaithfulWrite c.cells (cell_turns h) (pair_in b q)) (sym (k.unplanned (come_by.locking heard.phase))) (laws.new_write c.cells (cell_turns h) (pair_in b q));
   majority = λ e. absurd (cc);

@@ -7,11 +7,16 @@ use Rattle.fr_proxy.specs.Heard as heard
 use Rattle.fr_epoch.specs.Kept as kept
 use Rattle.fr_epoch.specs.Law as rec
 use Rattle.fr_epoch.specs.WriteLaw as writes
+use Rattle.fr_epoch.specs.DroppingLaws as dropping
 
 pub record Laws : Type 0 where
   pub cells_hold : register.CellsHoldTheirLast
   pub promises_kept : register.PromisesAreKept
   pub extension : state.ExtensionIsState
+  pub drop_is_state : state.DropIsState
+  pub drop_keeps_last : state.DropKeepsLast
+  pub left : dropping.LeftIsWithout
+  pub shown : dropping.LeastIsShown
   pub spelled_is_read : state.SpelledIsRead
   pub log_grows : log.AskGrows
   pub logs_grow : log.AsksGrow

@@ -174,18 +174,20 @@ proxy_at c h epoch number = proxy_from (new_proxy_in c (generation_at c h epoch)
 abbrev pub calls_of_log : StorageState → ℕ → LogTell → List Call
 calls_of_log s e ltell.Seeded = []
 calls_of_log s e (ltell.Held version) = []
-calls_of_log s e (ltell.Locked durable known) = []
+calls_of_log s e (ltell.Locked durable known popped) = []
 calls_of_log s e (ltell.Peeked peeked) = storage.peeked_calls s e peeked
 calls_of_log s e (ltell.Marked state) = storage.marked_calls s state
+calls_of_log s e (ltell.Popped through) = []
 calls_of_log s e (ltell.Refused why) = []
 
 -- a storage server after the whole of a hear
 abbrev pub whole_hear : StorageState → ℕ → LogTell → StorageState
 whole_hear s e ltell.Seeded = s
 whole_hear s e (ltell.Held version) = s
-whole_hear s e (ltell.Locked durable known) = s
+whole_hear s e (ltell.Locked durable known popped) = s
 whole_hear s e (ltell.Peeked peeked) = storage.after_peeked s e peeked
 whole_hear s e (ltell.Marked state) = storage.after_marked s state
+whole_hear s e (ltell.Popped through) = s
 whole_hear s e (ltell.Refused why) = s
 
 -- and after one that broke off at a version

@@ -1,5 +1,6 @@
 -- Which turns may come next, and runs: lists of turns each of which may come after those before it.
-use Rattle.std.specs.Prelude.{◌≡◌, ◌≢◌, ◌⊎◌, ◌<◌, ◌≤◌, ◌^◌, ℕ, true, length, List, [], ◌∷◌, Option, None, Some, IsSome, IfSome, Contains}
+use Rattle.std.specs.Prelude.{◌≡◌, ◌≢◌, ◌⊎◌, ◌<◌, ◌≤◌, ◌^◌, ◌==◌, ℕ, true, length, List, [], ◌∷◌, Option, None, Some, IsSome, IfSome, Contains}
+use Rattle.std.specs.List.{list_any}
 use Rattle.fr_base.specs.Shape.{IsShape}
 use Rattle.fr_base.specs.declared.place.NodeId.{NodeId}
 use Rattle.fr_base.specs.declared.place.NodeId.TheVariants as node
@@ -27,10 +28,17 @@ pub record IsUp (c : Config) (h : List Turn) (who : NodeId) : Type 0 where
   pub there : is_there c h who ≡ true
   pub up : Contains h (Gone who) → ⊥
 
--- a storage server may ask each log for a mark, and for the records of its own tag
+-- an epoch of a generation that a storage server has
+abbrev pub IsOwnEpoch : storage.StorageState → ℕ → Type 0
+IsOwnEpoch s e = list_any (λ g. g.epoch == e) s.state.gens ≡ true
+
+-- a storage server may ask each log for a mark, for the records of its own tag, and, of a generation that it has, to let go of these through
+-- its floor
 abbrev pub StorageMayAsk : Config → List Turn → NodeId → LogAsk → Type 0
 StorageMayAsk c h (node.Storage t) (lask.Peek e tag after most) = (t ≡ tag) × (t < length c.begins)
 StorageMayAsk c h (node.Storage t) (lask.MarkAsked e) = t < length c.begins
+StorageMayAsk c h (node.Storage t) (lask.Pop e tag through) =
+    (t ≡ tag) × (t < length c.begins) × IsOwnEpoch (storage_at c h t) e × (through ≤ (storage_at c h t).store.floor)
 StorageMayAsk c h from a = ⊥
 
 -- the nodes that go: a log that is lost, and a sequencer, proxy or recoverer that crashes
@@ -55,9 +63,10 @@ Survives (node.Storage t) = Unit {0}
 abbrev pub fault_of_log : storage.StorageState → ℕ → LogTell → Option StorageFault
 fault_of_log s e ltell.Seeded = None
 fault_of_log s e (ltell.Held version) = None
-fault_of_log s e (ltell.Locked durable known) = None
+fault_of_log s e (ltell.Locked durable known popped) = None
 fault_of_log s e (ltell.Peeked peeked) = storage.peeked_fault s e peeked
 fault_of_log s e (ltell.Marked state) = storage.marked_fault s state
+fault_of_log s e (ltell.Popped through) = None
 fault_of_log s e (ltell.Refused why) = None
 
 abbrev pub fault_of : storage.StorageState → NodeId → Tell → Option StorageFault
@@ -84,6 +93,7 @@ WantsSome (lask.Push p) = Unit {0}
 WantsSome (lask.Lock e) = Unit {0}
 WantsSome (lask.Peek e tag after most) = 1 ≤ most
 WantsSome (lask.MarkAsked e) = Unit {0}
+WantsSome (lask.Pop e tag through) = Unit {0}
 
 -- a ballot that may begin: it is not the first epoch, and within its limits
 abbrev pub MayBegin : ℕ → Type 0

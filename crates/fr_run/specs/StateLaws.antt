@@ -1,5 +1,5 @@
 -- That the states of a run are within their limits, and those that are chosen one chain.
-use Rattle.std.specs.Prelude.{◌≡◌, ◌<◌, ◌≤◌, ℕ, List, [], ◌∷◌, ◌++◌, Some}
+use Rattle.std.specs.Prelude.{◌≡◌, ◌+◌, ◌<◌, ◌≤◌, ℕ, length, drop, List, [], ◌∷◌, ◌++◌, Some}
 use Rattle.fr_state.specs.Generations.{LogGeneration, IsCoordinatedState}
 use Rattle.fr_state.specs.Spelling.{spelling}
 use Rattle.fr_epoch.specs.Recoverer.{RecState, Parent, Plan}
@@ -19,10 +19,17 @@ pub record IsConfig (c : Config) : Type 0 where
 abbrev pub IsFrontOf : List LogGeneration → List LogGeneration → Type 0
 IsFrontOf front gens = (rest : List LogGeneration) × (front ++ rest ≡ gens)
 
--- a recoverer's states: its parent is spelled by the greatest pair that it was promised, and its plan has one generation more
+-- what a plan writes is what is left of its parent without some of the first generations, not all, and one generation more
+pub record IsLeftAndMore (p : Parent) (q : Plan) : Type 0 where
+  pub number : ℕ
+  pub fewer : number < length p.state.gens
+  pub is : q.state ≡ record { dropped = p.state.dropped + number; gens = drop number p.state.gens ++ q.generation ∷ [] }
+
+-- a recoverer's states: its parent is spelled by the greatest pair that it was promised, and its plan has one generation more, perhaps
+-- without some of the first ones
 pub record HasStates (r : RecState) : Type 0 where
   pub parent : (p : Parent) → r.parent ≡ Some p → IsCoordinatedState p.state × (r.reads.greatest.value ≡ spelling p.state)
-  pub plan : (q : Plan) → r.plan ≡ Some q → IsCoordinatedState q.state × ((p : Parent) × (r.parent ≡ Some p) × (q.state.gens ≡ p.state.gens ++ q.generation ∷ []))
+  pub plan : (q : Plan) → r.plan ≡ Some q → IsCoordinatedState q.state × ((p : Parent) × (r.parent ≡ Some p) × IsLeftAndMore p q)
 
 abbrev pub RecoverersHaveStates : Type 0
 RecoverersHaveStates = (c : Config) (h : List Turn) → IsConfig c → IsRun c h → (b : ℕ) (r : RecState) → rec_at c h b ≡ Some r → HasStates r

@@ -5,15 +5,15 @@ ghost use Rattle.fr_run.specs.ChosenLaws.{ChosenAreChain, ChosenIsBefore, Chosen
 ghost use Rattle.fr_run.specs.ChosenLaws.{FirstIsChosen, FirstIsLeast, OpenIsChosen, StateLasts, StatesAreWithin};
 ghost use Rattle.fr_run.specs.GrowthLaws.{CellsGrow, LogsGrow, ProxiesGrow, RecoverersGrow};
 ghost use Rattle.fr_run.specs.Laws.{Laws};
-ghost use Rattle.fr_run.specs.LineLaws.{LineOfPlan, ParentIsOfEpoch, ParentIsPlanned};
+ghost use Rattle.fr_run.specs.LineLaws.{DropsRise, LineLasts, LineOfFirst, LineOfPlan, LinesAreWithin, ParentIsOfEpoch, ParentIsPlanned, StateIsView};
 ghost use Rattle.fr_run.specs.ParentLaws.{ParentIsGreatest, ParentIsRead, ParentsDescend, RunHasParents};
 ghost use Rattle.fr_run.specs.StateLaws.{ChosenIsFront, RecoverersHaveStates};
 
-use fr_epoch::laws::{kept_law, recovery_law, write_law};
+use fr_epoch::laws::{dropping_law, kept_law, recovery_law, write_law};
 use fr_log::laws::{growth_law as log_growth_law, raise_law, tell_law};
 use fr_proxy::{account_law, growth_law as proxy_growth_law, heard_law};
 use fr_register::{answer_law, cell_law, faithful_law, parent_law, register_law};
-use fr_state::{extend_law, spelling_law};
+use fr_state::{drop_law, extend_law, spelling_law};
 
 /// The laws of the nodes, on which all laws of runs rest.
 pub fn node_laws()
@@ -25,6 +25,7 @@ pub fn node_laws()
     register_law();
     parent_law();
     extend_law();
+    drop_law();
     spelling_law();
     log_growth_law();
     raise_law();
@@ -35,6 +36,7 @@ pub fn node_laws()
     kept_law();
     recovery_law();
     write_law();
+    dropping_law();
 }
 
 /// At each turn each node that is there grows.
@@ -103,11 +105,17 @@ pub fn chosen_law()
 }
 
 /// What a recoverer took over is the state of the epoch that it ends: the first, or one that a lower ballot planned and
-/// might write. The line of its own plan is that epoch's, with one generation more.
+/// might write. The line of its own plan is that epoch's, with one generation more. The state of an epoch is what is
+/// left of its line without the generations that were dropped, and along a line no fewer are dropped later.
 pub fn line_law()
     ensures parent { ParentIsOfEpoch }
     ensures planned { ParentIsPlanned }
     ensures plan { LineOfPlan }
+    ensures first { LineOfFirst }
+    ensures lasts { LineLasts }
+    ensures view { StateIsView }
+    ensures within { LinesAreWithin }
+    ensures rises { DropsRise }
 {
     node_laws();
 }

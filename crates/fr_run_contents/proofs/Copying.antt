@@ -37,7 +37,7 @@ use Rattle.fr_run_contents.specs.Contents.{IsTrueCopy, IsTrueTell, part_records}
 use Rattle.fr_run_contents.specs.Laws.{Laws}
 use Rattle.fr_run_contents.proofs.PeekLists.{record_of, records_are_whole}
 use Rattle.fr_run_contents.proofs.Parts.{issued_rises, part_lasts}
-use Rattle.fr_run.proofs.Parents.{parent_is}
+use Rattle.fr_run.proofs.Lines.{parent_is}
 use Rattle.fr_run_contents.proofs.Stays.{top_rises}
 
 -- a copy is true, of an epoch that is planned and was numbered through the copy's end
@@ -112,9 +112,9 @@ change laws c h config run tells b from t told r at come_by k n (Finds i u s g h
   begins = k.begins;
   copy = λ p q e f. absurd (let none : None ≡ Some q = sym (come_by.parentless (come_by.reading heard.phase)) ∙ f in absurd (cc));
 }
-change laws c h config run tells b from t told r at come_by k n (Locks p end i durable known is) = same_copy c h r n refl refl refl k
-change laws c h config run tells b from t told r at come_by k n (LosesLocks p end i durable known why is) = same_copy c h r n refl refl refl k
-change laws c h config run tells b from t told r at come_by k n (Plans p' end i durable known s heard is) = record {
+change laws c h config run tells b from t told r at come_by k n (Locks p end i durable known popped is) = same_copy c h r n refl refl refl k
+change laws c h config run tells b from t told r at come_by k n (LosesLocks p end i durable known popped why is) = same_copy c h r n refl refl refl k
+change laws c h config run tells b from t told r at come_by k n (Plans p' end i durable known popped s heard is) = record {
   begins = k.begins;
   copy = λ p q e f. (
       let m = replied end i durable known in
@@ -126,7 +126,7 @@ change laws c h config run tells b from t told r at come_by k n (Plans p' end i 
         tags = length-map (range_with_len 0 (length r.begins)) (λ t. new_part (pev_of m)) ∙ length-range_with_len 0 (length r.begins) ∙ ap length k.begins;
         copied = laws.copy_starts (part_records c h p'.last.epoch) (wholes laws c h config run b r p' at heard.parent) (length r.begins) p'.last.m p'.last.k (responders m) (pev_of m) (rv_of m) is.within;
       } in
-      let stand = has_replied_too laws.nodes c h run b from t told r (all_stand_at r at) p' end i durable known heard p' heard.parent in
+      let stand = has_replied_too laws.nodes c h run b from t told r (all_stand_at r at) p' end i durable known popped heard p' heard.parent in
       let all : CopyIs c h p' (plan_of r p' m s) = record {
         is = copy;
         of = (parent_is laws.nodes c h config run b r p' at heard.parent).generation;

@@ -33,7 +33,8 @@ use Rattle.fr_run_versions.proofs.Known.{push_is_part}
 use Rattle.fr_run_versions.proofs.LogChanges.{IsTaken}
 use Rattle.fr_run_versions.proofs.Named.{IsNamed}
 use Rattle.fr_run.proofs.Chosen.{generation_planned}
-use Rattle.fr_run.proofs.Parents.{plan_is, parent_is, plan_line}
+use Rattle.fr_run.proofs.Parents.{plan_is}
+use Rattle.fr_run.proofs.Lines.{parent_is, plan_line}
 use Rattle.fr_run_contents.specs.Issued.{Entry, entry_of, issued}
 use Rattle.fr_run_contents.specs.Contents.{HasParts, IsTrueCopy, part_records}
 use Rattle.fr_run_contents.specs.Laws.{Laws}

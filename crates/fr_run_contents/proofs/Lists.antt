@@ -3,19 +3,20 @@ use Rattle.std.proofs.Common.{◌≡◌, ℕ, zero, suc, ◌<◌, ◌≤◌, Boo
 use Rattle.std.specs.List.{All, AllByRecursion}
 use Rattle.std.proofs.lemmas.Bool.{eqb-true}
 use Rattle.std.proofs.lemmas.List.Elements.{All-weaker, recursion_from_All}
-use Rattle.fr_state.specs.Generations.{LogGeneration, CoordinatedState, AreOrdered, last_of}
+use Rattle.fr_state.specs.Generations.{LogGeneration, AreOrdered, last_of}
 use Rattle.fr_epoch.specs.Recoverer.{RecState, Parent, Plan}
-use Rattle.fr_run.specs.Config.{Config, first_epoch, first_generation, first_state}
+use Rattle.fr_run.specs.Config.{Config, first_epoch, first_generation}
 use Rattle.fr_run.specs.Turn.{Turn}
 use Rattle.fr_run.specs.Nodes.{rec_at, plan_in, plan_at, generation_in, generation_at}
 use Rattle.fr_run.specs.Run.{IsTurn, IsRun}
-use Rattle.fr_run.specs.States.{state_in, state_of, line_of}
+use Rattle.fr_run.specs.States.{state_of, line_of}
 use Rattle.fr_run.specs.StateLaws.{IsConfig}
 use Rattle.fr_run.specs.Laws.{Laws}
 use Rattle.fr_run.proofs.Growth.{rec_is}
-use Rattle.fr_run.proofs.States.{last_more, state_is}
-use Rattle.fr_run.proofs.Chosen.{state_lasts}
-use Rattle.fr_run.proofs.Parents.{plan_is, parent_is, parent_is_planned, plan_line}
+use Rattle.fr_run.proofs.States.{last_more}
+use Rattle.fr_run.proofs.Chosen.{state_lasts, generation_planned}
+use Rattle.fr_run.proofs.Parents.{plan_is, parent_is_planned}
+use Rattle.fr_run.proofs.Lines.{parent_is, plan_line, lines_within, line_lasts}
 use Rattle.fr_run_versions.specs.Numbers.{top_at}
 use Rattle.fr_run_versions.proofs.Ends.{always_chained, seed_is_reached}
 use Rattle.fr_run_versions.proofs.Transport.{plans_are_lines, first_line}
@@ -74,14 +75,13 @@ planned_list laws c h config run e g at = go (e == first_epoch) refl at
     first k at =
         let here : e ≡ first_epoch = eqb-true e first_epoch k in
         let same : first_generation c ≡ g = cc in
-        let is : state_of c h e ≡ first_state c = ap (λ b. cond b (first_state c) (state_in c (plan_at c h e))) k in
         let line = first_line c h in
         record {
           own = ap (λ (x : LogGeneration). x.epoch) (sym same) ∙ sym here;
-          last = ap (λ (s : CoordinatedState). last_of s.gens) is ∙ ap Some same;
-          ordered = subst (λ (s : CoordinatedState). AreOrdered s.gens) (sym is) tt;
-          each = subst (λ (s : CoordinatedState). All (λ x. generation_at c h x.epoch ≡ Some x) s.gens) (sym is) line.each;
-          reached = subst (λ (s : CoordinatedState). AreReached (top_at c h) s.gens) (sym is) tt;
+          last = ap (λ x. last_of (line_of c h x)) here ∙ ap Some same;
+          ordered = subst (λ x. AreOrdered (line_of c h x)) (sym here) tt;
+          each = subst (λ x. All (λ y. generation_at c h y.epoch ≡ Some y) (line_of c h x)) (sym here) line.each;
+          reached = subst (λ x. AreReached (top_at c h) (line_of c h x)) (sym here) tt;
         }
 
     plan : (e == first_epoch) ≡ false → (o : Option RecState) → rec_at c h e ≡ o → generation_in (plan_in o) ≡ Some g → HasList c h e g
@@ -96,7 +96,7 @@ planned_list laws c h config run e g at = go (e == first_epoch) refl at
             record {
               own = ap (λ (x : LogGeneration). x.epoch) (sym same) ∙ (plan_is laws c h run e r at q planned).epoch ∙ (rec_is laws c h run e r at).ballot;
               last = ap last_of line.line ∙ last_more (line_of c h line.parent.last.epoch) q.generation ∙ ap Some same;
-              ordered = (state_is laws c h config run e).ordered;
+              ordered = (lines_within laws c h config run e q.generation (generation_planned laws c h run e r at q planned)).1;
               each = (plans_are_lines laws c h config run e r q at planned).each;
               reached = plans_are_reached laws c h config run (suc e) e (omega arith) r q at planned;
             }
@@ -121,3 +121,7 @@ list_gains laws c h t run is gens each =
 -- the state of an epoch that is planned stays
 pub planned_state_stays : Laws → (c : Config) (h : List Turn) (t : Turn) → IsRun c h → IsTurn c h t → (e : ℕ) (g : LogGeneration) → generation_at c h e ≡ Some g → state_of c (t ∷ h) e ≡ state_of c h e
 planned_state_stays laws c h t run is e g at = (state_lasts laws c h t run is e g at).1
+
+-- and its line
+pub planned_line_stays : Laws → (c : Config) (h : List Turn) (t : Turn) → IsConfig c → IsRun c h → IsTurn c h t → (e : ℕ) (g : LogGeneration) → generation_at c h e ≡ Some g → line_of c (t ∷ h) e ≡ line_of c h e
+planned_line_stays laws c h t config run is e g at = line_lasts laws c t h config (is, run) e g at

@@ -12,7 +12,7 @@ use Rattle.fr_run.specs.States.{line_of}
 use Rattle.fr_run.specs.StateLaws.{IsConfig}
 use Rattle.fr_run.specs.Laws.{Laws}
 use Rattle.fr_run.proofs.Chosen.{generation_planned}
-use Rattle.fr_run.proofs.Parents.{parent_is, line_of_plan}
+use Rattle.fr_run.proofs.Lines.{parent_is, line_of_plan}
 use Rattle.fr_run_versions.specs.Numbers.{top_at}
 use Rattle.fr_run_contents.specs.Issued.{entries, issued_of, issued}
 use Rattle.fr_run_contents.proofs.IssuedLists.{EntriesRise}

@@ -1,14 +1,14 @@
 -- A tag's part of what is issued: one part after another, the first records of a part, and parts that agree.
-use Rattle.std.proofs.Common.{◌≡◌, ℕ, suc, ◌<◌, ◌≤◌, Bool, true, false, cond, nat_lt, nat_le, List, [], ◌∷◌, ◌++◌, Option, None, Some, length, take, get_or, filter, filter_map, refl, sym, ◌∙◌, ap, inl, inr, arith, min}
+use Rattle.std.proofs.Common.{◌≡◌, ℕ, suc, ◌<◌, ◌≤◌, Bool, true, false, cond, nat_lt, nat_le, ◌&&◌, max, List, [], ◌∷◌, ◌++◌, Option, None, Some, length, take, get_or, filter, filter_map, refl, sym, ◌∙◌, ap, inl, inr, arith, min}
 use Rattle.std.specs.List.{AllByRecursion, cons_option}
 use Rattle.std.proofs.lemmas.List.Elements.{filter_map-append}
-use Rattle.std.proofs.lemmas.Bool.{cases_lt, cond-false, cond-true, leb-false}
+use Rattle.std.proofs.lemmas.Bool.{and_parts, cases_lt, cond-false, cond-true, leb-false, ltb-true, lt-ltb}
 use Rattle.fr_mutation.specs.declared.mutation.Mutation.{Mutation}
 use Rattle.fr_undo.specs.Canonical.{Commit, Rises, commits_through}
 use Rattle.fr_state.specs.Generations.{LogGeneration, AreOrdered}
 use Rattle.fr_run.specs.Config.{Config}
 use Rattle.fr_run_contents.specs.Issued.{Entry, issued_of, part_in}
-use Rattle.fr_run_contents.proofs.Versions.{RiseIn, through, between, rise_wider, rise_between, above_between, between_from_low, between_none, between_one, through_between, through_between_all, between_through, between_on, through_none, first_are_through, rise_within}
+use Rattle.fr_run_contents.proofs.Versions.{RiseIn, through, between, rise_wider, rise_between, kept_again, above_between, between_from_low, between_none, between_one, through_between, through_between_all, between_through, between_on, through_none, first_are_through, rise_within}
 use Rattle.fr_run_contents.proofs.IssuedLists.{version_of, EntriesRise, GainsAbove, Reaches, agree, issued_stays}
 
 abbrev pub commit_version : Commit → ℕ
@@ -109,6 +109,22 @@ pub part_above : (c : Config) (tag low after upto : ℕ) (xs : List Entry) → l
 part_above c tag low after upto xs le =
     kept_parts c tag (nat_lt after) (between version_of low upto xs)
     ∙ ap (parts_of c tag) (above_between version_of low after upto xs le)
+
+-- of a part what is above a version, at whatever version
+pub part_above_both : (c : Config) (tag low after upto : ℕ) (xs : List Entry) → filter (λ y. nat_lt after y.0) (part_of c tag low upto xs) ≡ part_of c tag (max low after) upto xs
+part_above_both c tag low after upto xs = elim (cases_lt after low) [
+  | inl below ↦
+      let same : low ≡ max low after = omega (arith, below) in
+      kept_parts c tag (nat_lt after) (between version_of low upto xs)
+      ∙ ap (parts_of c tag) (kept_again (λ (x : Entry). nat_lt after x.version) (λ (x : Entry). nat_lt low x.version && nat_le x.version upto) xs (λ x k. above x (and_parts (nat_lt low x.version) (nat_le x.version upto) k).0 below))
+      ∙ ap (λ v. part_of c tag v upto xs) same
+  | inr beyond ↦
+      let same : after ≡ max low after = omega (arith, beyond) in
+      part_above c tag low after upto xs (omega (arith, beyond)) ∙ ap (λ v. part_of c tag v upto xs) same
+]
+  where
+    above : (x : Entry) → nat_lt low x.version ≡ true → after < low → nat_lt after x.version ≡ true
+    above x k below = lt-ltb after x.version (let l = ltb-true low x.version k in omega (arith, l, below))
 
 -- there is no part between a version and one that is not above it
 pub part_none : (c : Config) (tag after upto : ℕ) (xs : List Entry) → upto ≤ after → part_of c tag after upto xs ≡ []

@@ -14,7 +14,7 @@ use Rattle.fr_run_contents.specs.Issued.{entries, issued_of, issued}
 use Rattle.fr_run_contents.proofs.Versions.{RiseIn, through, rise_wider}
 use Rattle.fr_run_contents.proofs.IssuedLists.{version_of, top_in, issued_sorted, issued_stays}
 use Rattle.fr_run_contents.proofs.PartLists.{part_of, part_stays}
-use Rattle.fr_run_contents.proofs.Lists.{planned_list, list_rises, list_gains, reaches, planned_state_stays}
+use Rattle.fr_run_contents.proofs.Lists.{planned_list, list_rises, list_gains, reaches, planned_line_stays}
 
 top_in_last : (top : ℕ → ℕ) (gens : List LogGeneration) (g : LogGeneration) → last_of gens ≡ Some g → top_in top gens ≡ top g.epoch
 top_in_last top [] g last = absurd (cc)
@@ -40,7 +40,7 @@ pub issued_lasts : Laws → (c : Config) (h : List Turn) (t : Turn) → IsConfig
 issued_lasts laws c h t config run is e g at upto le =
     let k = planned_list laws c h config run e g at in
     let low : upto ≤ top_at c h g.epoch = subst (λ x. upto ≤ top_at c h x) (sym k.own) le in
-    ap (λ s. through version_of upto (issued_of (entries c (t ∷ h)) s.gens)) (planned_state_stays laws c h t run is e g at)
+    ap (λ gens. through version_of upto (issued_of (entries c (t ∷ h)) gens)) (planned_line_stays laws c h t config run is e g at)
     ∙ issued_stays (entries c h) (entries c (t ∷ h)) (top_at c h) (line_of c h e) upto (list_gains laws c h t run is (line_of c h e) k.each) (reaches (top_at c h) (line_of c h e) g upto k.last low k.reached)
 
 -- so does each part through it
@@ -49,5 +49,5 @@ pub part_lasts : Laws → (c : Config) (h : List Turn) (t : Turn) → IsConfig c
 part_lasts laws c h t config run is e g at tag after upto le =
     let k = planned_list laws c h config run e g at in
     let low : upto ≤ top_at c h g.epoch = subst (λ x. upto ≤ top_at c h x) (sym k.own) le in
-    ap (λ s. part_of c tag after upto (issued_of (entries c (t ∷ h)) s.gens)) (planned_state_stays laws c h t run is e g at)
+    ap (λ gens. part_of c tag after upto (issued_of (entries c (t ∷ h)) gens)) (planned_line_stays laws c h t config run is e g at)
     ∙ part_stays (entries c h) (entries c (t ∷ h)) (top_at c h) (line_of c h e) c tag after upto (list_gains laws c h t run is (line_of c h e) k.each) (reaches (top_at c h) (line_of c h e) g upto k.last low k.reached)

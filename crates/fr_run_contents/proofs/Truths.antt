@@ -1,5 +1,5 @@
 -- In every run each log has its parts, each answer to a peek is one, and each copy has them.
-use Rattle.std.proofs.Common.{◌≡◌, ℕ, ◌<◌, ◌≤◌, Bool, true, false, cond, List, [], ◌∷◌, ◌++◌, ◌-◌, map, Option, None, Some, inl, inr, ◌⊎◌, refl, sym, ◌∙◌, ap, subst, arith}
+use Rattle.std.proofs.Common.{◌≡◌, ℕ, ◌<◌, ◌≤◌, Bool, true, false, cond, List, [], ◌∷◌, ◌++◌, ◌-◌, map, max, filter, nat_lt, Option, None, Some, inl, inr, ◌⊎◌, refl, sym, ◌∙◌, ap, subst, arith}
 use Rattle.std.specs.Prelude.{IfSome}
 use Rattle.fr_base.specs.declared.place.NodeId.{NodeId}
 use Rattle.fr_base.specs.declared.place.NodeId.TheVariants as node
@@ -7,6 +7,7 @@ use Rattle.fr_tags.specs.Placement.{is_held}
 use Rattle.fr_log.specs.declared.ask.LogAsk.{LogAsk}
 use Rattle.fr_log.specs.declared.ask.LogAsk.TheVariants.{Seed, Push}
 use Rattle.fr_log.specs.declared.records.PeekedRecord.{PeekedRecord}
+use Rattle.fr_log.specs.Popped.{popped_at}
 use Rattle.fr_log.specs.Push.{PushContent}
 use Rattle.fr_log.specs.Seed.{SeedContent}
 use Rattle.fr_log.specs.LogState.{LogState, durable_of}
@@ -27,9 +28,11 @@ use Rattle.fr_run_versions.proofs.LogChanges.{IsTaken, log_change}
 use Rattle.fr_run_versions.proofs.LogRule.{log_step, log_starts}
 use Rattle.fr_run_versions.proofs.Logs.{asked_log, durable_below, logs_are_own, no_push, no_seed}
 use Rattle.fr_run_versions.proofs.Named.{log_named}
-use Rattle.fr_run_contents.specs.Contents.{HasParts, IsTrueCopy, part_records, LogsHaveParts, PeeksAreTrue, CopiesAreTrue}
+use Rattle.fr_run_contents.specs.Contents.{HasParts, IsTrueCopy, part_records, LogsHaveParts, HasLeft, LogsHaveLeft, PeeksAreTrue, CopiesAreTrue}
 use Rattle.fr_run_contents.specs.Laws.{Laws}
-use Rattle.fr_run_contents.proofs.PeekLists.{record_of}
+use Rattle.fr_run_contents.proofs.PeekLists.{record_of, kept_records}
+use Rattle.fr_run_contents.proofs.PartLists.{part_of, part_above_both}
+use Rattle.fr_run_contents.specs.Issued.{issued}
 use Rattle.fr_run_contents.proofs.Parts.{part_lasts}
 use Rattle.fr_run_contents.proofs.Splits.{part_of_mark}
 use Rattle.fr_run_contents.proofs.Holds.{starts_low, seeded_has, pushed_has}
@@ -70,8 +73,9 @@ holds_at laws c h run e i l own parts = record { reached = durable_below c h e (
 asked : Laws → (c : Config) (h : List Turn) → IsConfig c → IsRun c h → ((b : ℕ) (r : RecState) (p : Parent) (q : Plan) → rec_at c h b ≡ Some r → r.parent ≡ Some p → r.plan ≡ Some q → IsTrueCopy c h p q)
     → (e i : ℕ) → i < logs_at c h e → Holds c h e i (log_at c h e i) → (from : NodeId) (a : LogAsk) → Sent h from (node.Log e i) (ask.Log a) ⊎ StorageMayAsk c h from a → Holds c h e i (next_of (log_at c h e i) a)
 asked laws c h config run copies e i below k from a came =
-    holds_at laws c h run e i (next_of l a) (asked_log laws.nodes c h run e i l own from a came)
-    (log_change (λ l. IfSome l.seed (HasParts c h e i l)) l a k.parts (λ s at free. seed s came at free) (λ q at took. push q came at took l.seed refl (logs_know laws.nodes c h run e i below).seed k.parts) k.parts)
+    holds_at laws c h run e i (next_of l a) (asked_log laws.nodes c h h run e i l own from a came)
+    (log_change (λ l. IfSome l.seed (HasParts c h e i l)) l a k.parts (λ s at free. seed s came at free) (λ q at took. push q came at took l.seed refl (logs_know laws.nodes c h run e i below).seed k.parts) k.parts
+    (λ ps. k.parts))
   where
     l : LogState
     l = log_at c h e i
@@ -126,6 +130,23 @@ are_true laws c (t ∷ h) config run = next laws c h t config run.1 run.0 (are_t
 
 pub logs_have_parts : Laws → LogsHaveParts
 logs_have_parts laws c h config run e i below = (let k = are_true laws c h config run in k.logs e i below)
+
+pub logs_have_left : Laws → LogsHaveLeft
+logs_have_left laws c h config run e i below = go (log_at c h e i).seed (logs_have_parts laws c h config run e i below)
+  where
+    l : LogState
+    l = log_at c h e i
+
+    left : (s : SeedContent) (tag : ℕ) (held : Bool) → filter (λ r. nat_lt (popped_at l.popped tag) r.version) (cond held (part_records c h e tag (s.first - 1) (durable_of l)) [])
+        ≡ cond held (part_records c h e tag (max (s.first - 1) (popped_at l.popped tag)) (durable_of l)) []
+    left s tag true =
+        kept_records (nat_lt (popped_at l.popped tag)) (part_of c tag (s.first - 1) (durable_of l) (issued c h e))
+        ∙ ap (map record_of) (part_above_both c tag (s.first - 1) (popped_at l.popped tag) (durable_of l) (issued c h e))
+    left s tag false = refl
+
+    go : (o : Option SeedContent) → IfSome o (HasParts c h e i l) → IfSome o (HasLeft c h e i l)
+    go None k = tt
+    go (Some s) k = λ tag inside. laws.left_records l tag ∙ ap (filter (λ r. nat_lt (popped_at l.popped tag) r.version)) (k tag inside) ∙ left s tag (is_held tag l.m l.k i)
 
 pub peeks_are_true : Laws → PeeksAreTrue
 peeks_are_true laws c h config run e i to peeked told = (let k = are_true laws c h config run in k.tells e i to peeked told)

@@ -1,5 +1,5 @@
 -- What logs hold, what they told, and what recoverers copied: parts of what their epochs issue.
-use Rattle.std.specs.Prelude.{◌≡◌, ◌<◌, ◌≤◌, ℕ, ◌-◌, true, List, [], map, Some, IfSome, if◌then◌else◌, length}
+use Rattle.std.specs.Prelude.{◌≡◌, ◌<◌, ◌≤◌, ℕ, ◌-◌, max, true, List, [], map, Some, IfSome, if◌then◌else◌, length}
 use Rattle.fr_base.specs.declared.place.NodeId.{NodeId}
 use Rattle.fr_base.specs.declared.place.NodeId.TheVariants as node
 use Rattle.fr_mutation.specs.declared.mutation.Mutation.{Mutation}
@@ -8,8 +8,9 @@ use Rattle.fr_tags.specs.Placement.{is_held}
 use Rattle.fr_log.specs.declared.records.PeekedRecord.{PeekedRecord}
 use Rattle.fr_log.specs.declared.ask.LogTell.TheVariants.{Peeked}
 use Rattle.fr_log.specs.Peeked.{PeekedContent}
+use Rattle.fr_log.specs.Popped.{popped_at}
 use Rattle.fr_log.specs.Seed.{SeedContent}
-use Rattle.fr_log.specs.LogState.{LogState, durable_of, known_of, records_of}
+use Rattle.fr_log.specs.LogState.{LogState, durable_of, known_of, records_of, swept}
 use Rattle.fr_ask.specs.declared.tell.Tell.TheVariants as tell
 use Rattle.fr_tail.specs.Copied.{IsCopied}
 use Rattle.fr_epoch.specs.Recoverer.{RecState, Parent, Plan}
@@ -36,6 +37,15 @@ HasParts c h e i l s = (tag : ℕ) → tag < length c.begins → records_of l ta
 
 abbrev pub LogsHaveParts : Type 0
 LogsHaveParts = (c : Config) (h : List Turn) → IsConfig c → IsRun c h → (e i : ℕ) → i < logs_at c h e → IfSome (log_at c h e i).seed (HasParts c h e i (log_at c h e i))
+
+-- of each tag that a log holds, what it has left is its part above what is popped of the tag
+abbrev pub HasLeft : Config → List Turn → ℕ → ℕ → LogState → SeedContent → Type 0
+HasLeft c h e i l s =
+    (tag : ℕ) → tag < length c.begins
+    → records_of (swept l) tag ≡ (if is_held tag l.m l.k i then part_records c h e tag (max (s.first - 1) (popped_at l.popped tag)) (durable_of l) else [])
+
+abbrev pub LogsHaveLeft : Type 0
+LogsHaveLeft = (c : Config) (h : List Turn) → IsConfig c → IsRun c h → (e i : ℕ) → i < logs_at c h e → IfSome (log_at c h e i).seed (HasLeft c h e i (log_at c h e i))
 
 -- ---- tells
 

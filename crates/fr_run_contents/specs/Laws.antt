@@ -1,6 +1,7 @@
 -- The laws of the crates below on which the laws of contents rest.
 use Rattle.fr_tags.specs.SplitLaw.{HeldTagsHaveTheirClips}
 use Rattle.fr_tail.specs.Copied.{NewIsCopied, HearCopies, CompleteIsCopied, SeedHasCopied}
+use Rattle.fr_log.specs.Law.{SweptRecords}
 use Rattle.fr_run.specs.Laws as history
 
 pub record Laws : Type 0 where
@@ -10,3 +11,4 @@ pub record Laws : Type 0 where
   pub copy_hears : HearCopies
   pub copy_complete : CompleteIsCopied
   pub copy_seeds : SeedHasCopied
+  pub left_records : SweptRecords

@@ -1,8 +1,9 @@
 //! Laws of contents.
-ghost use Rattle.fr_run_contents.specs.Contents.{CopiesAreTrue, LogsHaveParts, PeeksAreTrue};
+ghost use Rattle.fr_run_contents.specs.Contents.{CopiesAreTrue, LogsHaveLeft, LogsHaveParts, PeeksAreTrue};
 ghost use Rattle.fr_run_contents.specs.IssuedLaws.{FirstIssues, IssuedLasts, IssuedRises};
 ghost use Rattle.fr_run_contents.specs.Laws.{Laws};
 
+use fr_log::laws::letting_law;
 use fr_run::laws::node_laws;
 use fr_tags::laws::split_law;
 use fr_tail::laws::copy_law;
@@ -14,6 +15,7 @@ fn lower_laws()
     node_laws();
     split_law();
     copy_law();
+    letting_law();
 }
 
 /// What an epoch that is planned issues is in the order of versions, and through the last version that the
@@ -26,10 +28,12 @@ pub fn issued_law()
     lower_laws();
 }
 
-/// Each seeded log has exactly its tags' parts of what its epoch issues, through its durable version; each
+/// Each seeded log has exactly its tags' parts of what its epoch issues, through its durable version, and of these, once
+/// it let go of what it may, what is above the version that is popped of the tag; each
 /// answer to a peek is such a part; and so is what each recoverer copied.
 pub fn contents_law()
     ensures logs { LogsHaveParts }
+    ensures left { LogsHaveLeft }
     ensures peeks { PeeksAreTrue }
     ensures copies { CopiesAreTrue }
 {

@@ -117,9 +117,9 @@ limits_of b l n = l
 -- ---- turns
 
 log_came : (c : Config) (h : List Turn) (from : NodeId) (e i : ℕ) (a : LogAsk) → Sent h from (node.Log e i) (ask.Log a) ⊎ StorageMayAsk c h from a
-    → (was_sent h from (node.Log e i) (ask.Log a) || storage_may_ask c from a) ≡ true
-log_came c h from e i a (inl k) = or_left (was_sent h from (node.Log e i) (ask.Log a)) (storage_may_ask c from a) (is_sent h from (node.Log e i) (ask.Log a) k)
-log_came c h from e i a (inr k) = or_right (was_sent h from (node.Log e i) (ask.Log a)) (storage_may_ask c from a) (asks_may c h from a k)
+    → (was_sent h from (node.Log e i) (ask.Log a) || storage_may_ask c h from a) ≡ true
+log_came c h from e i a (inl k) = or_left (was_sent h from (node.Log e i) (ask.Log a)) (storage_may_ask c h from a) (is_sent h from (node.Log e i) (ask.Log a) k)
+log_came c h from e i a (inr k) = or_right (was_sent h from (node.Log e i) (ask.Log a)) (storage_may_ask c h from a) (asks_may c h from a k)
 
 gone_event : (c : Config) (h : List Turn) (who : NodeId) → IsUp c h who → MayGo who → IsEventOf c h (Gone who)
 gone_event c h (node.Cell i) up k = absurd k
@@ -182,7 +182,7 @@ turn_is_event c h (LogTurn from e i a t) run k =
       event = Deliver from (node.Log e i) (ask.Log a);
       limits = k.3;
       turn = is_up c h (node.Log e i) (delivered c h from (node.Log e i) (ask.Log a)) k.0
-          ∙ if_sent_is (was_sent h from (node.Log e i) (ask.Log a) || storage_may_ask c from a) (LogTurn from e i a (log.answer_of (log_at c h e i) a)) (log_came c h from e i a k.1);
+          ∙ if_sent_is (was_sent h from (node.Log e i) (ask.Log a) || storage_may_ask c h from a) (LogTurn from e i a (log.answer_of (log_at c h e i) a)) (log_came c h from e i a k.1);
     })
 turn_is_event c h (SeqTurn from e a t) run k =
     same_event c h (SeqTurn from e a (seq.answer_of (seq_at c h e) a)) (SeqTurn from e a t) (ap (λ x. SeqTurn from e a x) (sym k.2))

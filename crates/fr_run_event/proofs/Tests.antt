@@ -1,8 +1,8 @@
 -- The tests on turns answer yes exactly where what they test is so.
 use Rattle.std.proofs.Common.{◌≡◌, Bool, true, false, ◌==◌, ◌&&◌, ◌||◌, List, [], ◌∷◌, inl, inr, ◌⊎◌, refl, ◌∙◌, ap, subst}
 use Rattle.std.specs.List.{Contains, list_any}
-use Rattle.std.specs.Prelude.{nat_lt, length}
-use Rattle.std.proofs.lemmas.Bool.{and_parts, or_left, or_right, eqb-true, eq-eqb, ltb-true, lt-ltb}
+use Rattle.std.specs.Prelude.{nat_lt, nat_le, length}
+use Rattle.std.proofs.lemmas.Bool.{and_parts, or_left, or_right, eqb-true, eq-eqb, ltb-true, lt-ltb, leb-true, le-leb}
 use Rattle.fr_base.specs.Node.{is_same_node, is_same_node-IsSameness}
 use Rattle.fr_base.specs.declared.place.NodeId.{NodeId}
 use Rattle.fr_base.specs.declared.place.NodeId.TheVariants as node
@@ -16,6 +16,7 @@ use Rattle.fr_run.specs.Config.{Config}
 use Rattle.fr_run.specs.Turn.{Turn, Sending, Begun, CellTurn, LogTurn, SeqTurn, Submitted, ProxyHeard, RecHeard, StorageHeard, Gone, Crashed, actor_of, asks_of, Sent, TellsBy, Told}
 use Rattle.fr_run.specs.Run.{StorageMayAsk}
 use Rattle.fr_run.proofs.Cells.{Contains-here, Contains-later, Contains-none, Contains-cases}
+use Rattle.fr_run.specs.Nodes.{storage_at}
 use Rattle.fr_run_event.specs.Tests.{goes, is_gone, is_sending, gives, was_sent, tells, was_told, storage_may_ask}
 
 or_cases' : (x y : Bool) → (x || y) ≡ true → (x ≡ true) ⊎ (y ≡ true)
@@ -150,14 +151,26 @@ is_gone_from (t ∷ h) who e = elim (or_cases' (goes who t) (is_gone h who) e) [
 
 -- ---- what storage servers may ask
 
-pub may_ask : (c : Config) (h : List Turn) (from : NodeId) (a : LogAsk) → storage_may_ask c from a ≡ true → StorageMayAsk c h from a
+pub may_ask : (c : Config) (h : List Turn) (from : NodeId) (a : LogAsk) → storage_may_ask c h from a ≡ true → StorageMayAsk c h from a
 may_ask c h (node.Storage t) (lask.Peek e tag after most) k =
     let p = and_parts (t == tag) (nat_lt t (length c.begins)) k in
     (eqb-true t tag p.0, ltb-true t (length c.begins) p.1)
 may_ask c h (node.Storage t) (lask.MarkAsked e) k = ltb-true t (length c.begins) k
+may_ask c h (node.Storage t) (lask.Pop e tag through) k =
+    let own : Bool = list_any (λ g. g.epoch == e) (storage_at c h t).state.gens in
+    let low : Bool = nat_le through (storage_at c h t).store.floor in
+    let p = and_parts (t == tag) (nat_lt t (length c.begins) && (own && low)) k in
+    let q = and_parts (nat_lt t (length c.begins)) (own && low) p.1 in
+    let r = and_parts own low q.1 in
+    (eqb-true t tag p.0, ltb-true t (length c.begins) q.0, r.0, leb-true through (storage_at c h t).store.floor r.1)
 may_ask c h from a k = absurd (cc)
 
-pub asks_may : (c : Config) (h : List Turn) (from : NodeId) (a : LogAsk) → StorageMayAsk c h from a → storage_may_ask c from a ≡ true
+pub asks_may : (c : Config) (h : List Turn) (from : NodeId) (a : LogAsk) → StorageMayAsk c h from a → storage_may_ask c h from a ≡ true
 asks_may c h (node.Storage t) (lask.Peek e tag after most) k = both' (t == tag) (nat_lt t (length c.begins)) (eq-eqb t tag k.0) (lt-ltb t (length c.begins) k.1)
 asks_may c h (node.Storage t) (lask.MarkAsked e) k = lt-ltb t (length c.begins) k
+asks_may c h (node.Storage t) (lask.Pop e tag through) k =
+    let own : Bool = list_any (λ g. g.epoch == e) (storage_at c h t).state.gens in
+    let low : Bool = nat_le through (storage_at c h t).store.floor in
+    both' (t == tag) (nat_lt t (length c.begins) && (own && low)) (eq-eqb t tag k.0)
+    (both' (nat_lt t (length c.begins)) (own && low) (lt-ltb t (length c.begins) k.1) (both' own low k.2 (le-leb through (storage_at c h t).store.floor k.3)))
 asks_may c h from a k = absurd k

@@ -73,10 +73,10 @@ deliver : (c : Config) (h : List Turn) (from to : NodeId) (a : Ask) (t : Turn) �
 deliver c h from (node.Cell i) (ask.Cell a) t l up e =
     sent_turn c h _ t (was_sent h from (node.Cell i) (ask.Cell a)) (λ k. (ltb-true i c.cells up.there, sent_is h from (node.Cell i) (ask.Cell a) k, refl)) e
 deliver c h from (node.Log x i) (ask.Log a) t l up e =
-    sent_turn c h _ t (was_sent h from (node.Log x i) (ask.Log a) || storage_may_ask c from a)
-    (λ k. (up, came (or_cases' (was_sent h from (node.Log x i) (ask.Log a)) (storage_may_ask c from a) k), refl, l)) e
+    sent_turn c h _ t (was_sent h from (node.Log x i) (ask.Log a) || storage_may_ask c h from a)
+    (λ k. (up, came (or_cases' (was_sent h from (node.Log x i) (ask.Log a)) (storage_may_ask c h from a) k), refl, l)) e
   where
-    came : (was_sent h from (node.Log x i) (ask.Log a) ≡ true) ⊎ (storage_may_ask c from a ≡ true) → Sent h from (node.Log x i) (ask.Log a) ⊎ StorageMayAsk c h from a
+    came : (was_sent h from (node.Log x i) (ask.Log a) ≡ true) ⊎ (storage_may_ask c h from a ≡ true) → Sent h from (node.Log x i) (ask.Log a) ⊎ StorageMayAsk c h from a
     came (inl k) = inl (sent_is h from (node.Log x i) (ask.Log a) k)
     came (inr k) = inr (may_ask c h from a k)
 deliver c h from (node.Sequencer x) (ask.Seq a) t l up e =

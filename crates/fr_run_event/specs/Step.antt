@@ -43,7 +43,7 @@ if_sent sent t = if sent then Ok t else Err not_enabled.NeverSent
 abbrev pub delivered : Config → List Turn → NodeId → NodeId → Ask → Result Turn NotEnabled
 delivered c h from (node.Cell i) (ask.Cell a) = if_sent (was_sent h from (node.Cell i) (ask.Cell a)) (CellTurn from i a (cell.answer_of (cell_at c h i) a))
 delivered c h from (node.Log e i) (ask.Log a) =
-    if_sent (was_sent h from (node.Log e i) (ask.Log a) || storage_may_ask c from a) (LogTurn from e i a (log.answer_of (log_at c h e i) a))
+    if_sent (was_sent h from (node.Log e i) (ask.Log a) || storage_may_ask c h from a) (LogTurn from e i a (log.answer_of (log_at c h e i) a))
 delivered c h from (node.Sequencer e) (ask.Seq a) = if_sent (was_sent h from (node.Sequencer e) (ask.Seq a)) (SeqTurn from e a (seq.answer_of (seq_at c h e) a))
 delivered c h from to a = Err not_enabled.NeverSent
 

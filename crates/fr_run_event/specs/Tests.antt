@@ -1,5 +1,5 @@
 -- Tests on the turns of a world: who is gone, what was sent, what was told.
-use Rattle.std.specs.Prelude.{Bool, false, nat_lt, length, ◌==◌, ◌&&◌, List}
+use Rattle.std.specs.Prelude.{ℕ, Bool, false, nat_lt, nat_le, length, ◌==◌, ◌&&◌, List}
 use Rattle.std.specs.List.{list_any}
 use Rattle.fr_base.specs.Node.{is_same_node}
 use Rattle.fr_base.specs.declared.place.NodeId.{NodeId}
@@ -10,7 +10,9 @@ use Rattle.fr_ask.specs.Same.{is_same_ask, is_same_tell}
 use Rattle.fr_ask.specs.declared.ask.Ask.{Ask}
 use Rattle.fr_ask.specs.declared.tell.Tell.{Tell}
 use Rattle.fr_ask.specs.declared.tell.Tell.TheVariants as tell
+use Rattle.fr_storage.specs.Storage.{StorageState}
 use Rattle.fr_run.specs.Config.{Config}
+use Rattle.fr_run.specs.Nodes.{storage_at}
 use Rattle.fr_run.specs.Turn.{Turn, Sending, Begun, CellTurn, LogTurn, SeqTurn, Submitted, ProxyHeard, RecHeard, StorageHeard, Gone, Crashed, actor_of, asks_of}
 
 -- whether a turn took a node away
@@ -57,8 +59,14 @@ tells by to t (Crashed who) = false
 abbrev pub was_told : List Turn → NodeId → NodeId → Tell → Bool
 was_told h by to t = list_any (tells by to t) h
 
--- whether an ask is one that storage servers may give at any time: for a mark, and for records of the own tag
-abbrev pub storage_may_ask : Config → NodeId → LogAsk → Bool
-storage_may_ask c (node.Storage t) (lask.Peek e tag after most) = (t == tag) && nat_lt t (length c.begins)
-storage_may_ask c (node.Storage t) (lask.MarkAsked e) = nat_lt t (length c.begins)
-storage_may_ask c from a = false
+-- whether an epoch is that of a generation that a storage server has, and a version not above its floor
+abbrev pub may_pop : StorageState → ℕ → ℕ → Bool
+may_pop s e through = list_any (λ g. g.epoch == e) s.state.gens && nat_le through s.store.floor
+
+-- whether an ask is one that storage servers may give at any time: for a mark, for records of the own tag, and to let go of these through the
+-- floor, of a generation that the server has
+abbrev pub storage_may_ask : Config → List Turn → NodeId → LogAsk → Bool
+storage_may_ask c h (node.Storage t) (lask.Peek e tag after most) = (t == tag) && nat_lt t (length c.begins)
+storage_may_ask c h (node.Storage t) (lask.MarkAsked e) = nat_lt t (length c.begins)
+storage_may_ask c h (node.Storage t) (lask.Pop e tag through) = (t == tag) && (nat_lt t (length c.begins) && may_pop (storage_at c h t) e through)
+storage_may_ask c h from a = false

@@ -1,21 +1,21 @@
 -- What epochs have for a tag is pieces, and along the list of a planned epoch they agree.
-use Rattle.std.proofs.Common.{◌≡◌, ℕ, ◌≤◌, Bool, true, false, cond, ◌==◌, List, [], ◌∷◌, ◌++◌, append_assoc, Option, None, Some, refl, sym, ◌∙◌, ap, subst, arith}
+use Rattle.std.proofs.Common.{◌≡◌, ℕ, zero, suc, ◌≤◌, Bool, true, false, cond, ◌==◌, List, [], ◌∷◌, ◌++◌, append_assoc, Option, None, Some, refl, sym, ◌∙◌, ap, subst, arith}
 use Rattle.std.specs.Prelude.{slice_get}
 use Rattle.std.specs.List.{All, AllByRecursion}
 use Rattle.std.specs.Option.{option_map}
 use Rattle.std.proofs.lemmas.Bool.{eqb-true}
 use Rattle.std.proofs.lemmas.List.Elements.{All-tail}
-use Rattle.fr_state.specs.Generations.{LogGeneration, CoordinatedState, AreOrdered}
-use Rattle.fr_state.specs.LookUp.{next_of}
+use Rattle.fr_state.specs.Generations.{LogGeneration, AreOrdered, last_of}
+use Rattle.fr_state.specs.LookUp.{next_of, cut_of}
 use Rattle.fr_state.proofs.ListLemmas.{next_of-cons}
-use Rattle.fr_epoch.specs.Recoverer.{Plan}
+use Rattle.fr_epoch.specs.Recoverer.{RecState, Parent, Plan}
 use Rattle.fr_storage.specs.Storage.{epoch_of, own_epoch}
 use Rattle.fr_storage.specs.Follows.{ArePieces, Agrees}
-use Rattle.fr_run.specs.Config.{Config, first_epoch, first_generation, first_state}
+use Rattle.fr_run.specs.Config.{Config, first_epoch, first_generation}
 use Rattle.fr_run.specs.Turn.{Turn}
-use Rattle.fr_run.specs.Nodes.{plan_at, generation_in, generation_at}
+use Rattle.fr_run.specs.Nodes.{rec_at, plan_in, generation_in, generation_at}
 use Rattle.fr_run.specs.Run.{IsRun}
-use Rattle.fr_run.specs.States.{state_in, state_of, line_of}
+use Rattle.fr_run.specs.States.{state_of, line_with, line_in, line_from, line_of}
 use Rattle.fr_run.specs.StateLaws.{IsConfig}
 use Rattle.fr_run_versions.specs.Numbers.{top_at}
 use Rattle.fr_run_contents.specs.Issued.{entries, issued_of, issued, part}
@@ -26,28 +26,40 @@ use Rattle.fr_run_contents.proofs.Lists.{HasList, planned_list, list_rises}
 use Rattle.fr_run_contents.proofs.Parts.{issued_rises}
 use Rattle.fr_run_headline.specs.Agreement.{pieces_at}
 use Rattle.fr_run_headline.specs.Laws.{Laws}
+use Rattle.fr_run.proofs.Lines.{states_are_views}
 use Rattle.fr_run_versions.proofs.Behind.{front_is_state}
 
 -- ---- pieces
+
+-- the line of an epoch that is not planned is that of the first
+unplanned_line : (c : Config) (h : List Turn) (e : ℕ) → generation_at c h e ≡ None → line_of c h e ≡ first_generation c ∷ []
+unplanned_line c h zero k = refl
+unplanned_line c h (suc n) k = go (suc n == first_epoch) k
+  where
+    planned : (parent : Option Parent) (plan : Option Plan) → generation_in plan ≡ None → line_with c (line_from c h n) parent plan ≡ first_generation c ∷ []
+    planned None plan none = refl
+    planned (Some p) None none = refl
+    planned (Some p) (Some q) none = absurd (cc)
+
+    of_rec : (o : Option RecState) → generation_in (plan_in o) ≡ None → line_in c (line_from c h n) o ≡ first_generation c ∷ []
+    of_rec None none = refl
+    of_rec (Some r) none = planned r.parent r.plan none
+
+    go : (b : Bool) → cond b (Some (first_generation c)) (generation_in (plan_in (rec_at c h (suc n)))) ≡ None
+        → cond b (first_generation c ∷ []) (line_in c (line_from c h n) (rec_at c h (suc n))) ≡ first_generation c ∷ []
+    go true none = refl
+    go false none = of_rec (rec_at c h (suc n)) none
 
 -- what any epoch issues rises; one that is not planned issues what the first does
 any_rises : Laws → (c : Config) (h : List Turn) → IsConfig c → IsRun c h → (e : ℕ) → (b : ℕ) × RiseIn version_of 0 (issued c h e) b
 any_rises laws c h config run e = go (generation_at c h e) refl
   where
-    unplanned : (o : Option Plan) → generation_in o ≡ None → state_in c o ≡ first_state c
-    unplanned None k = refl
-    unplanned (Some q) k = absurd (cc)
-
-    start : (b : Bool) → cond b (Some (first_generation c)) (generation_in (plan_at c h e)) ≡ None → cond b (first_state c) (state_in c (plan_at c h e)) ≡ first_state c
-    start true k = refl
-    start false k = unplanned (plan_at c h e) k
-
     go : (o : Option LogGeneration) → generation_at c h e ≡ o → (b : ℕ) × RiseIn version_of 0 (issued c h e) b
     go (Some g) at = (top_at c h e, issued_rises laws.contents.nodes c h config run e g at)
     go None at =
-        let same : state_of c h e ≡ state_of c h first_epoch = start (e == first_epoch) at in
+        let same : line_of c h e ≡ first_generation c ∷ [] = unplanned_line c h e at in
         let first = issued_rises laws.contents.nodes c h config run first_epoch (first_generation c) refl in
-        (top_at c h first_epoch, subst (λ (s : CoordinatedState). RiseIn version_of 0 (issued_of (entries c h) s.gens) (top_at c h first_epoch)) (sym same) first)
+        (top_at c h first_epoch, subst (λ (gens : List LogGeneration). RiseIn version_of 0 (issued_of (entries c h) gens) (top_at c h first_epoch)) (sym same) first)
 
 pub parts_are_pieces : Laws → (c : Config) (h : List Turn) → IsConfig c → IsRun c h → (tag : ℕ) → ArePieces (pieces_at c h tag)
 parts_are_pieces laws c h config run tag = record {
@@ -114,11 +126,23 @@ front_issues laws c h config run e g at front own next rest is upto le =
 
 -- the epoch of a planned epoch's state is its own
 pub planned_epoch : Laws → (c : Config) (h : List Turn) → IsConfig c → IsRun c h → (e : ℕ) (g : LogGeneration) → generation_at c h e ≡ Some g → own_epoch (state_of c h e) ≡ e
-planned_epoch laws c h config run e g at = let k = planned_list laws.contents.nodes c h config run e g at in ap epoch_of k.last ∙ k.own
+planned_epoch laws c h config run e g at =
+    let k = planned_list laws.contents.nodes c h config run e g at in
+    let view = states_are_views laws.contents.nodes c h config run e g at in
+    ap epoch_of (ap last_of view.is ∙ laws.stores.drop_last (line_of c h e) (state_of c h e).dropped view.short ∙ k.last) ∙ k.own
 
-pub parts_agree : Laws → (c : Config) (h : List Turn) → IsConfig c → IsRun c h → (e : ℕ) (g : LogGeneration) → generation_at c h e ≡ Some g → (tag : ℕ) → Agrees (pieces_at c h tag) (state_of c h e)
-parts_agree laws c h config run e g at tag epoch cut after upto is le =
-    go (next_of (line_of c h e) epoch) refl is ∙ ap (λ x. part c h x tag after upto) (sym (planned_epoch laws c h config run e g at))
+-- a cut that a planned epoch's state names is its line's
+pub cut_in_line : Laws → (c : Config) (h : List Turn) → IsConfig c → IsRun c h → (e : ℕ) (g : LogGeneration) → generation_at c h e ≡ Some g → (epoch cut : ℕ) → cut_of (state_of c h e).gens epoch ≡ Some cut
+    → cut_of (line_of c h e) epoch ≡ Some cut
+cut_in_line laws c h config run e g at epoch cut here =
+    let list = planned_list laws.contents.nodes c h config run e g at in
+    let view = states_are_views laws.contents.nodes c h config run e g at in
+    laws.stores.drop_cut (line_of c h e) (state_of c h e).dropped epoch cut list.ordered (ap (λ xs. cut_of xs epoch) (sym view.is) ∙ here)
+
+-- along a line what epochs have agrees
+pub lines_agree : Laws → (c : Config) (h : List Turn) → IsConfig c → IsRun c h → (e : ℕ) (g : LogGeneration) → generation_at c h e ≡ Some g → (tag epoch cut after upto : ℕ) → cut_of (line_of c h e) epoch ≡ Some cut → upto ≤ cut
+    → part c h epoch tag after upto ≡ part c h e tag after upto
+lines_agree laws c h config run e g at tag epoch cut after upto is le = go (next_of (line_of c h e) epoch) refl is
   where
     go : (n : Option LogGeneration) → next_of (line_of c h e) epoch ≡ n → option_map (λ (next : LogGeneration). next.seeded_to) n ≡ Some cut → part c h epoch tag after upto ≡ part c h e tag after upto
     go None here k = absurd (cc)
@@ -127,3 +151,7 @@ parts_agree laws c h config run e g at tag epoch cut after upto is le =
         let s = split_at (line_of c h e) epoch next here in
         ap (λ x. part c h x tag after upto) (sym s.is)
         ∙ part_same c tag after upto upto (issued c h s.own.epoch) (issued c h e) (omega arith) (front_issues laws c h config run e g at s.before s.own next s.after s.are upto (omega (arith, le, same)))
+
+pub parts_agree : Laws → (c : Config) (h : List Turn) → IsConfig c → IsRun c h → (e : ℕ) (g : LogGeneration) → generation_at c h e ≡ Some g → (tag : ℕ) → Agrees (pieces_at c h tag) (state_of c h e)
+parts_agree laws c h config run e g at tag epoch cut after upto is le =
+    lines_agree laws c h config run e g at tag epoch cut after upto (cut_in_line laws c h config run e g at epoch cut is) le ∙ ap (λ x. part c h x tag after upto) (sym (planned_epoch laws c h config run e g at))

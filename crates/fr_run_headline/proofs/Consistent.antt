@@ -1,5 +1,5 @@
 -- No recoverer finds that a log knows a version to be committed that another one does not hold.
-use Rattle.std.proofs.Common.{◌≡◌, ◌≢◌, ℕ, ◌+◌, ◌<◌, ◌^◌, Bool, true, false, cond, nat_lt, nat_le, ◌==◌, [], ◌∷◌, Option, None, Some, refl, sym, ◌∙◌, ap, subst, arith}
+use Rattle.std.proofs.Common.{◌≡◌, ◌≢◌, ℕ, ◌+◌, ◌<◌, ◌^◌, Bool, true, false, cond, nat_lt, nat_le, ◌==◌, List, [], ◌∷◌, Option, None, Some, refl, sym, ◌∙◌, ap, subst, arith}
 use Rattle.std.specs.Prelude.{Result, Ok, Err}
 use Rattle.std.proofs.lemmas.Bool.{ltb-true}
 use Rattle.fr_register.specs.Tally.{progress_of}
@@ -14,10 +14,11 @@ use Rattle.fr_state.specs.declared.fault.DecodeFault.{DecodeFault}
 use Rattle.fr_state.specs.declared.fault.StateFault.{StateFault}
 use Rattle.fr_state.specs.declared.fault.StateFault.TheVariants as fault
 use Rattle.fr_log.specs.declared.ask.LogTell.TheVariants as ltell
+use Rattle.fr_log.specs.declared.popped.PoppedTag.{PoppedTag}
 use Rattle.fr_epoch.specs.EndTally.{EndState, is_covered, pev_of, rv_of}
 use Rattle.fr_epoch.specs.Recoverer.{RecState, Phase, Parent, Plan, Reading, Locking, Copying, Writing, Chosen, Lost, is_written, new_recoverer}
 use Rattle.fr_epoch.specs.Words.{Word, OfCell, OfLog, Other, Heed, Nothing, Promised, Replied, Given, IsSeeded, Voted, IsMarked, word_of, heed, heed_in, heed_locked, heed_peeked, heed_seeded, is_newly_seeded, heed_held, is_newly_marked}
-use Rattle.fr_epoch.specs.Hear.{lost, why_of, with_last, with_parent, after_reads, with_read, with_plan, ended, after_reply, with_lock, next_generation, with_seeded, after_writes, with_write, after_heed, after_hear}
+use Rattle.fr_epoch.specs.Hear.{lost, why_of, with_last, with_parent, after_reads, with_read, with_plan, ended, after_reply, with_lock, left_of, next_generation, with_seeded, after_writes, with_write, after_heed, after_hear}
 use Rattle.fr_epoch.specs.declared.why.LostWhy.TheVariants as why
 use Rattle.fr_run.proofs.ByTurn.{rec_by_turn}
 use Rattle.fr_run_versions.specs.LogLaws.{tally}
@@ -37,72 +38,75 @@ record AreAtOdds (n : RecState) : Type 0 where
 
 -- ---- what a reply is to a recoverer
 
-locked_parent : (o : Option Parent) (q : Option EndState) (e i d k : ℕ) (p : Parent) (end : EndState) (j f g : ℕ) → heed_locked o q e i d k ≡ Replied p end j f g → o ≡ Some p
-locked_parent None q e i d k p end j f g h = absurd (cc)
-locked_parent (Some x) None e i d k p end j f g h = absurd (cc)
-locked_parent (Some x) (Some y) e i d k p end j f g h = go (e == x.last.epoch) h
+locked_parent : (o : Option Parent) (q : Option EndState) (e i d k : ℕ) (ps : List PoppedTag) (p : Parent) (end : EndState) (j f g : ℕ) (l : List PoppedTag) → heed_locked o q e i d k ps ≡ Replied p end j f g l → o ≡ Some p
+locked_parent None q e i d k ps p end j f g l h = absurd (cc)
+locked_parent (Some x) None e i d k ps p end j f g l h = absurd (cc)
+locked_parent (Some x) (Some y) e i d k ps p end j f g l h = go (e == x.last.epoch) h
   where
-    go : (b : Bool) → cond b (Replied x y i d k) Nothing ≡ Replied p end j f g → Some x ≡ Some p
+    go : (b : Bool) → cond b (Replied x y i d k ps) Nothing ≡ Replied p end j f g l → Some x ≡ Some p
     go true h = let same : x ≡ p = cc in ap Some same
     go false h = absurd (cc)
 
-peeked_no : (o : Option Parent) (q : Option Plan) (e i : ℕ) (peeked : _) (p : Parent) (end : EndState) (j f g : ℕ) → heed_peeked o q e i peeked ≡ Replied p end j f g → ⊥
-peeked_no None q e i peeked p end j f g h = absurd (cc)
-peeked_no (Some x) None e i peeked p end j f g h = absurd (cc)
-peeked_no (Some x) (Some y) e i peeked p end j f g h = go (e == x.last.epoch) h
+peeked_no : (o : Option Parent) (q : Option Plan) (e i : ℕ) (peeked : _) (p : Parent) (end : EndState) (j f g : ℕ) (l : List PoppedTag) → heed_peeked o q e i peeked ≡ Replied p end j f g l → ⊥
+peeked_no None q e i peeked p end j f g l h = absurd (cc)
+peeked_no (Some x) None e i peeked p end j f g l h = absurd (cc)
+peeked_no (Some x) (Some y) e i peeked p end j f g l h = go (e == x.last.epoch) h
   where
-    go : (b : Bool) → cond b (Given y i peeked) Nothing ≡ Replied p end j f g → ⊥
+    go : (b : Bool) → cond b (Given y i peeked) Nothing ≡ Replied p end j f g l → ⊥
     go true h = absurd (cc)
     go false h = absurd (cc)
 
-seeded_no : (r : RecState) (q : Option Plan) (e i : ℕ) (p : Parent) (end : EndState) (j f g : ℕ) → heed_seeded r q e i ≡ Replied p end j f g → ⊥
-seeded_no r None e i p end j f g h = absurd (cc)
-seeded_no r (Some y) e i p end j f g h = go (is_newly_seeded r y e i) h
+seeded_no : (r : RecState) (q : Option Plan) (e i : ℕ) (p : Parent) (end : EndState) (j f g : ℕ) (l : List PoppedTag) → heed_seeded r q e i ≡ Replied p end j f g l → ⊥
+seeded_no r None e i p end j f g l h = absurd (cc)
+seeded_no r (Some y) e i p end j f g l h = go (is_newly_seeded r y e i) h
   where
-    go : (b : Bool) → cond b (IsSeeded y i) Nothing ≡ Replied p end j f g → ⊥
+    go : (b : Bool) → cond b (IsSeeded y i) Nothing ≡ Replied p end j f g l → ⊥
     go true h = absurd (cc)
     go false h = absurd (cc)
 
-held_no : (r : RecState) (q : Option Plan) (e i v : ℕ) (p : Parent) (end : EndState) (j f g : ℕ) → heed_held r q e i v ≡ Replied p end j f g → ⊥
-held_no r None e i v p end j f g h = absurd (cc)
-held_no r (Some y) e i v p end j f g h = go (is_newly_marked r y e i v) h
+held_no : (r : RecState) (q : Option Plan) (e i v : ℕ) (p : Parent) (end : EndState) (j f g : ℕ) (l : List PoppedTag) → heed_held r q e i v ≡ Replied p end j f g l → ⊥
+held_no r None e i v p end j f g l h = absurd (cc)
+held_no r (Some y) e i v p end j f g l h = go (is_newly_marked r y e i v) h
   where
-    go : (b : Bool) → cond b (IsMarked y i) Nothing ≡ Replied p end j f g → ⊥
+    go : (b : Bool) → cond b (IsMarked y i) Nothing ≡ Replied p end j f g l → ⊥
     go true h = absurd (cc)
     go false h = absurd (cc)
 
-replied_parent : (r : RecState) (ph : Phase) (w : Word) (p : Parent) (end : EndState) (j f g : ℕ) → heed_in ph r w ≡ Replied p end j f g → r.parent ≡ Some p
-replied_parent r Reading (OfCell i t) p end j f g h = absurd (cc)
-replied_parent r Reading (OfLog e i t) p end j f g h = absurd (cc)
-replied_parent r Reading Other p end j f g h = absurd (cc)
-replied_parent r Locking (OfCell i t) p end j f g h = absurd (cc)
-replied_parent r Locking (OfLog e i ltell.Seeded) p end j f g h = absurd (cc)
-replied_parent r Locking (OfLog e i (ltell.Held v)) p end j f g h = absurd (cc)
-replied_parent r Locking (OfLog e i (ltell.Locked d k)) p end j f g h = locked_parent r.parent r.end e i d k p end j f g h
-replied_parent r Locking (OfLog e i (ltell.Peeked x)) p end j f g h = absurd (cc)
-replied_parent r Locking (OfLog e i (ltell.Marked x)) p end j f g h = absurd (cc)
-replied_parent r Locking (OfLog e i (ltell.Refused x)) p end j f g h = absurd (cc)
-replied_parent r Locking Other p end j f g h = absurd (cc)
-replied_parent r Copying (OfCell i t) p end j f g h = absurd (cc)
-replied_parent r Copying (OfLog e i ltell.Seeded) p end j f g h = absurd (seeded_no r r.plan e i p end j f g h)
-replied_parent r Copying (OfLog e i (ltell.Held v)) p end j f g h = absurd (cc)
-replied_parent r Copying (OfLog e i (ltell.Locked d k)) p end j f g h = absurd (cc)
-replied_parent r Copying (OfLog e i (ltell.Peeked x)) p end j f g h = absurd (peeked_no r.parent r.plan e i x p end j f g h)
-replied_parent r Copying (OfLog e i (ltell.Marked x)) p end j f g h = absurd (cc)
-replied_parent r Copying (OfLog e i (ltell.Refused x)) p end j f g h = absurd (cc)
-replied_parent r Copying Other p end j f g h = absurd (cc)
-replied_parent r Writing (OfCell i t) p end j f g h = absurd (cc)
-replied_parent r Writing (OfLog e i t) p end j f g h = absurd (cc)
-replied_parent r Writing Other p end j f g h = absurd (cc)
-replied_parent r Chosen (OfCell i t) p end j f g h = absurd (cc)
-replied_parent r Chosen (OfLog e i ltell.Seeded) p end j f g h = absurd (cc)
-replied_parent r Chosen (OfLog e i (ltell.Held v)) p end j f g h = absurd (held_no r r.plan e i v p end j f g h)
-replied_parent r Chosen (OfLog e i (ltell.Locked d k)) p end j f g h = absurd (cc)
-replied_parent r Chosen (OfLog e i (ltell.Peeked x)) p end j f g h = absurd (cc)
-replied_parent r Chosen (OfLog e i (ltell.Marked x)) p end j f g h = absurd (cc)
-replied_parent r Chosen (OfLog e i (ltell.Refused x)) p end j f g h = absurd (cc)
-replied_parent r Chosen Other p end j f g h = absurd (cc)
-replied_parent r (Lost y) w p end j f g h = absurd (cc)
+replied_parent : (r : RecState) (ph : Phase) (w : Word) (p : Parent) (end : EndState) (j f g : ℕ) (l : List PoppedTag) → heed_in ph r w ≡ Replied p end j f g l → r.parent ≡ Some p
+replied_parent r Reading (OfCell i t) p end j f g l h = absurd (cc)
+replied_parent r Reading (OfLog e i t) p end j f g l h = absurd (cc)
+replied_parent r Reading Other p end j f g l h = absurd (cc)
+replied_parent r Locking (OfCell i t) p end j f g l h = absurd (cc)
+replied_parent r Locking (OfLog e i ltell.Seeded) p end j f g l h = absurd (cc)
+replied_parent r Locking (OfLog e i (ltell.Held v)) p end j f g l h = absurd (cc)
+replied_parent r Locking (OfLog e i (ltell.Locked d k ps)) p end j f g l h = locked_parent r.parent r.end e i d k ps p end j f g l h
+replied_parent r Locking (OfLog e i (ltell.Peeked x)) p end j f g l h = absurd (cc)
+replied_parent r Locking (OfLog e i (ltell.Marked x)) p end j f g l h = absurd (cc)
+replied_parent r Locking (OfLog e i (ltell.Popped v)) p end j f g l h = absurd (cc)
+replied_parent r Locking (OfLog e i (ltell.Refused x)) p end j f g l h = absurd (cc)
+replied_parent r Locking Other p end j f g l h = absurd (cc)
+replied_parent r Copying (OfCell i t) p end j f g l h = absurd (cc)
+replied_parent r Copying (OfLog e i ltell.Seeded) p end j f g l h = absurd (seeded_no r r.plan e i p end j f g l h)
+replied_parent r Copying (OfLog e i (ltell.Held v)) p end j f g l h = absurd (cc)
+replied_parent r Copying (OfLog e i (ltell.Locked d k ps)) p end j f g l h = absurd (cc)
+replied_parent r Copying (OfLog e i (ltell.Peeked x)) p end j f g l h = absurd (peeked_no r.parent r.plan e i x p end j f g l h)
+replied_parent r Copying (OfLog e i (ltell.Marked x)) p end j f g l h = absurd (cc)
+replied_parent r Copying (OfLog e i (ltell.Popped v)) p end j f g l h = absurd (cc)
+replied_parent r Copying (OfLog e i (ltell.Refused x)) p end j f g l h = absurd (cc)
+replied_parent r Copying Other p end j f g l h = absurd (cc)
+replied_parent r Writing (OfCell i t) p end j f g l h = absurd (cc)
+replied_parent r Writing (OfLog e i t) p end j f g l h = absurd (cc)
+replied_parent r Writing Other p end j f g l h = absurd (cc)
+replied_parent r Chosen (OfCell i t) p end j f g l h = absurd (cc)
+replied_parent r Chosen (OfLog e i ltell.Seeded) p end j f g l h = absurd (cc)
+replied_parent r Chosen (OfLog e i (ltell.Held v)) p end j f g l h = absurd (held_no r r.plan e i v p end j f g l h)
+replied_parent r Chosen (OfLog e i (ltell.Locked d k ps)) p end j f g l h = absurd (cc)
+replied_parent r Chosen (OfLog e i (ltell.Peeked x)) p end j f g l h = absurd (cc)
+replied_parent r Chosen (OfLog e i (ltell.Marked x)) p end j f g l h = absurd (cc)
+replied_parent r Chosen (OfLog e i (ltell.Popped v)) p end j f g l h = absurd (cc)
+replied_parent r Chosen (OfLog e i (ltell.Refused x)) p end j f g l h = absurd (cc)
+replied_parent r Chosen Other p end j f g l h = absurd (cc)
+replied_parent r (Lost y) w p end j f g l h = absurd (cc)
 
 -- ---- one hear
 
@@ -139,13 +143,13 @@ plan_no r p end (Err fault.Memory) not_before k = not_before k
 ended_odds : (r : RecState) (p : Parent) (end : EndState) → (IsAtOdds r → ⊥) → IsAtOdds (ended r p end) → (ended r p end ≡ lost r why.Inconsistent) × (rv_of end < pev_of end)
 ended_odds r p end not_before k = go (nat_lt (rv_of end) (pev_of end)) refl k
   where
-    spent : (b : Bool) → IsAtOdds (cond b (lost r why.Spent) (with_plan r p end (extended p.state (next_generation r p end)))) → ⊥
+    spent : (b : Bool) → IsAtOdds (cond b (lost r why.Spent) (with_plan r p end (extended (left_of r p) (next_generation r p end)))) → ⊥
     spent true k = absurd (cc)
-    spent false k = plan_no r p end (extended p.state (next_generation r p end)) not_before k
+    spent false k = plan_no r p end (extended (left_of r p) (next_generation r p end)) not_before k
 
     go : (b : Bool) → nat_lt (rv_of end) (pev_of end) ≡ b
-        → IsAtOdds (cond b (lost r why.Inconsistent) (cond (nat_le (2 ^ 62) (rv_of end + 1)) (lost r why.Spent) (with_plan r p end (extended p.state (next_generation r p end)))))
-        → (cond b (lost r why.Inconsistent) (cond (nat_le (2 ^ 62) (rv_of end + 1)) (lost r why.Spent) (with_plan r p end (extended p.state (next_generation r p end)))) ≡ lost r why.Inconsistent) × (rv_of end < pev_of end)
+        → IsAtOdds (cond b (lost r why.Inconsistent) (cond (nat_le (2 ^ 62) (rv_of end + 1)) (lost r why.Spent) (with_plan r p end (extended (left_of r p) (next_generation r p end)))))
+        → (cond b (lost r why.Inconsistent) (cond (nat_le (2 ^ 62) (rv_of end + 1)) (lost r why.Spent) (with_plan r p end (extended (left_of r p) (next_generation r p end)))) ≡ lost r why.Inconsistent) × (rv_of end < pev_of end)
     go true e k = (refl, ltb-true (rv_of end) (pev_of end) e)
     go false e k = absurd (spent (nat_le (2 ^ 62) (rv_of end + 1)) k)
 
@@ -169,7 +173,7 @@ hear_odds r w not_before k = go (heed r w) refl k
     go : (x : Heed) → heed r w ≡ x → IsAtOdds (after_heed r x) → AreAtOdds (after_heed r x)
     go Nothing e k = absurd (not_before k)
     go (Promised i u) e k = absurd (reads_no (with_read r i u) u (progress_of (with_read r i u).reads.poll) not_before k)
-    go (Replied p end i d f) e k = reply_odds (with_lock r end i d f) p _ (replied_parent r r.phase w p end i d f e) refl not_before k
+    go (Replied p end i d f ps) e k = reply_odds (with_lock r end i d f ps) p _ (replied_parent r r.phase w p end i d f ps e) refl not_before k
     go (Given p i peeked) e k = absurd (not_before k)
     go (IsSeeded p i) e k = absurd (seeded (is_written (with_seeded r i)) (with_seeded r i) not_before k)
     go (Voted i u) e k = absurd (writes_no (with_write r i u) u (progress_of (with_write r i u).writes.poll) not_before k)

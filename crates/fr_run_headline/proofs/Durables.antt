@@ -26,7 +26,7 @@ use Rattle.fr_run_contents.proofs.Versions.{through, through_twice}
 use Rattle.fr_run_contents.proofs.IssuedLists.{version_of}
 use Rattle.fr_run_contents.proofs.Lists.{planned_list}
 use Rattle.fr_run_headline.specs.Laws.{Laws}
-use Rattle.fr_run.proofs.States.{state_is}
+use Rattle.fr_run.proofs.Lines.{lines_within}
 use Rattle.fr_run.proofs.Chosen.{chosen_is_planned}
 use Rattle.fr_run_headline.proofs.Splits.{later_split, below_is_within, split_issues}
 
@@ -78,7 +78,7 @@ logs_within c h e g at = go (e == first_epoch) at
 pub has_log : Laws → (c : Config) (h : List Turn) → IsConfig c → IsRun c h → (e : ℕ) (g : LogGeneration) → generation_at c h e ≡ Some g → (1 ≤ g.k) × (g.k ≤ g.m)
 has_log laws c h config run e g at =
     let list = planned_list laws.contents.nodes c h config run e g at in
-    let is = last_is IsGeneration (line_of c h e) g list.last (state_is laws.contents.nodes c h config run e).limits in
+    let is = last_is IsGeneration (line_of c h e) g list.last (lines_within laws.contents.nodes c h config run e g at).0 in
     (is.k_low, is.k_high)
 
 -- each log of a chosen epoch is there and seeded

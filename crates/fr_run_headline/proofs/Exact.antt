@@ -1,7 +1,7 @@
 -- Storage servers have their shard of what their epochs issued, and after a rollback of what is committed.
 use Rattle.std.proofs.Common.{◌≡◌, ℕ, ◌<◌, ◌≤◌, Bool, true, false, cond, ◌==◌, List, ◌∷◌, Option, None, Some, refl, sym, ◌∙◌, ap, subst, arith}
-use Rattle.std.specs.Prelude.{unwrap_or}
-use Rattle.std.proofs.lemmas.Bool.{eq-eqb}
+use Rattle.std.specs.Prelude.{unwrap_or, length}
+use Rattle.std.proofs.lemmas.Bool.{eq-eqb, ltb-true}
 use Rattle.fr_base.specs.declared.place.NodeId.TheVariants as node
 use Rattle.fr_undo.specs.State.{StoreState}
 use Rattle.fr_state.specs.Generations.{LogGeneration, CoordinatedState}
@@ -9,6 +9,7 @@ use Rattle.fr_state.specs.LookUp.{cut_of}
 use Rattle.fr_log.specs.declared.ask.LogTell.TheVariants.{Marked}
 use Rattle.fr_ask.specs.declared.tell.Tell.TheVariants as tell
 use Rattle.fr_storage.specs.Storage.{StorageState, own_epoch, cut_in, after_marked}
+use Rattle.fr_storage.specs.Course.{LeavesOne}
 use Rattle.fr_storage.specs.Law.{MarkedLeads}
 use Rattle.fr_run.specs.Config.{Config}
 use Rattle.fr_run.specs.Turn.{Turn, StorageHeard}
@@ -32,8 +33,9 @@ use Rattle.fr_run.proofs.Chosen.{chosen_is_planned, chosen_lasts}
 use Rattle.fr_run_headline.proofs.Agreement.{planned_epoch}
 use Rattle.fr_run_headline.proofs.Floors.{below_lower}
 use Rattle.fr_run_headline.proofs.Hears.{mark_leads}
+use Rattle.fr_run_headline.proofs.Keeping.{viewed_cut}
 use Rattle.fr_run_headline.proofs.Splits.{IsLaterSplit, later_split}
-use Rattle.fr_run_headline.proofs.Following.{storages_follow}
+use Rattle.fr_run_headline.proofs.Following.{storages_follow, seen_at}
 use Rattle.fr_run_headline.proofs.Durables.{seed_is_below, IsCommittedThrough, below_is_committed}
 
 -- ---- every storage server
@@ -76,7 +78,7 @@ rolled_back_now laws c before tag epoch log x config run later latest is = recor
   kept = ap (λ (n : StorageState). n.state) now ∙ new;
   contents = shard_contents laws c h config run tag (storage_at c h tag) follows ∙ ap (λ xs. shard_of c tag (map_after xs)) (ap (λ y. through version_of (applied_at c h tag) (issued c h y)) mine ∙ through_committed.same);
   recovery = split.next.seeded_to;
-  is_cut = ap (λ (y : CoordinatedState). cut_of y.gens own) m.1 ∙ split.cut;
+  is_cut = ap (λ (y : CoordinatedState). cut_of y.gens own) m.1 ∙ viewed;
   within = within;
   committed = through_committed.within;
 }
@@ -108,8 +110,11 @@ rolled_back_now laws c before tag epoch log x config run later latest is = recor
     now : storage_at c h tag ≡ after_marked s x
     now = hear_is c before tag epoch log x
 
+    kept : LeavesOne (storage_at c before tag) (state_of c before epoch)
+    kept = seen_at laws c before config run.1 tag (ltb-true tag (length c.begins) run.0.0.actor.there) epoch m.0
+
     leads : MarkedLeads (pieces_at c before tag) s x
-    leads = subst (MarkedLeads (pieces_at c before tag) s) (sym m.1) (mark_leads laws c before config run.1 tag s was epoch m.0)
+    leads = subst (MarkedLeads (pieces_at c before tag) s) (sym m.1) (mark_leads laws c before config run.1 tag s was epoch m.0 kept)
 
     new : (after_marked s x).state ≡ x
     new = leads.state (omega (arith, later))
@@ -123,8 +128,11 @@ rolled_back_now laws c before tag epoch log x config run later latest is = recor
     split : IsLaterSplit c before own epoch g.0
     split = later_split laws c before config run.1 own epoch g.0 was.chosen m.0 g.1 (omega (arith, later, here))
 
+    viewed : cut_of (state_of c before epoch).gens own ≡ Some split.next.seeded_to
+    viewed = viewed_cut laws c before config run.1 tag s was epoch g.0 g.1 m.0 kept (omega (arith, later, here)) split
+
     cut : cut_in x own ≡ split.next.seeded_to
-    cut = ap (λ (y : CoordinatedState). cut_in y own) m.1 ∙ ap (λ (o : Option ℕ). unwrap_or o 0) split.cut
+    cut = ap (λ (y : CoordinatedState). cut_in y own) m.1 ∙ ap (λ (o : Option ℕ). unwrap_or o 0) viewed
 
     within : applied_at c h tag ≤ split.next.seeded_to
     within = (let at = ap (λ (n : StorageState). n.store.applied) now in let applied = leads.applied later in omega (arith, at, applied, cut))

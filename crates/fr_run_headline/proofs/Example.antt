@@ -26,6 +26,7 @@ use Rattle.fr_proxy.specs.Sequencer.{SeqState, new_sequencer, answer_of, next_un
 use Rattle.fr_proxy.specs.declared.number.Number.{Number}
 use Rattle.fr_proxy.specs.declared.outcome.Outcome.TheVariants.{Waiting, Committed}
 use Rattle.fr_epoch.specs.Recoverer.{RecState, new_recoverer}
+use Rattle.fr_storage.specs.Storage.{is_stranger}
 use Rattle.fr_run.specs.Config.{Config, first_state}
 use Rattle.fr_run.specs.Turn.{Turn, Begun, CellTurn, LogTurn, SeqTurn, Submitted, ProxyHeard, RecHeard, StorageHeard, Gone, Crashed, asks_of}
 use Rattle.fr_run.specs.Nodes.{rec_at}
@@ -112,7 +113,7 @@ abbrev first : CoordinatedState
 first = first_state c
 
 abbrev pub later : CoordinatedState
-later = record { gens = record { epoch = 257; m = 2; k = 2; first = 1; seeded_to = 0 } ∷ record { epoch = 513; m = 2; k = 2; first = 1; seeded_to = 2 } ∷ [] }
+later = record { dropped = 0; gens = record { epoch = 257; m = 2; k = 2; first = 1; seeded_to = 0 } ∷ record { epoch = 513; m = 2; k = 2; first = 1; seeded_to = 2 } ∷ [] }
 
 abbrev pub got : Option RecState → RecState
 got o = unwrap_or o (new_recoverer 513 1 ([] ∷ []) None)
@@ -291,7 +292,7 @@ unfolding row generation_at is_within
 turn17 = ((record { actor = (record { there = refl; up = λ k. none_gone h16 (node.Recoverer 513) refl k }); told = (inl (refl, refl, refl)) }), (got (rec_at c h16 513), refl, refl))
 
 abbrev t18 : Turn
-t18 = LogTurn (node.Recoverer 513) 257 1 (Lock 257) (Locked 2 0)
+t18 = LogTurn (node.Recoverer 513) 257 1 (Lock 257) (Locked 2 0 [])
 
 abbrev h18 : List Turn
 h18 = t18 ∷ h17
@@ -301,7 +302,7 @@ unfolding row generation_at is_within
 turn18 = ((record { there = refl; up = λ k. none_gone h17 (node.Log 257 1) refl k }), inl (inl (refl, at (asks_of t17) _ 1 refl refl)), refl, tt)
 
 abbrev t19 : Turn
-t19 = RecHeard 513 (node.Log 257 1) (tell.Log (Locked 2 0)) ((node.Log 257 1, ask.Log (Peek 257 0 0 100)) ∷ [])
+t19 = RecHeard 513 (node.Log 257 1) (tell.Log (Locked 2 0 [])) ((node.Log 257 1, ask.Log (Peek 257 0 0 100)) ∷ [])
 
 abbrev h19 : List Turn
 h19 = t19 ∷ h18
@@ -417,7 +418,7 @@ abbrev h30 : List Turn
 h30 = t30 ∷ h29
 
 turn30 : IsTurn c h29 t30
-unfolding row generation_at is_within
+unfolding row generation_at is_within is_stranger
 turn30 = ((record { actor = (record { there = refl; up = λ k. none_gone h29 (node.Storage 0) refl k }); told = (inl (refl, refl, refl)) }), refl, tt)
 
 pub is_run28 : IsRun c h28
@@ -427,7 +428,7 @@ is_run : IsRun c h30
 is_run = (turn30, (turn29, is_run28))
 
 pub rollback_happens : RollbackHappens
-unfolding row generation_at is_within
+unfolding row generation_at is_within is_stranger
 rollback_happens = record {
   config = c;
   run = h30;

@@ -29,7 +29,7 @@ use Rattle.fr_run_headline.specs.Storages.{IsSafeFloor}
 use Rattle.fr_run_headline.specs.Laws.{Laws}
 use Rattle.fr_run_versions.proofs.Behind.{front_is_state}
 use Rattle.fr_run_versions.proofs.Taking.{below_is_held_behind}
-use Rattle.fr_run_headline.proofs.Agreement.{split_at}
+use Rattle.fr_run_headline.proofs.Agreement.{split_at, cut_in_line}
 
 -- ---- lists
 
@@ -70,14 +70,14 @@ seed_is_numbered laws c h run e g at =
 
 -- no cut in a planned epoch's state is above what the epoch was seeded to
 pub cut_is_seeded : Laws → (c : Config) (h : List Turn) → IsConfig c → IsRun c h → (e : ℕ) (g : LogGeneration) → generation_at c h e ≡ Some g → (epoch : ℕ) → cut_in (state_of c h e) epoch ≤ g.seeded_to
-cut_is_seeded laws c h config run e g at epoch = go (cut_of (line_of c h e) epoch) refl
+cut_is_seeded laws c h config run e g at epoch = go (cut_of (state_of c h e).gens epoch) refl
   where
     list : HasList c h e g
     list = planned_list laws.contents.nodes c h config run e g at
 
-    go : (o : Option ℕ) → cut_of (line_of c h e) epoch ≡ o → unwrap_or o 0 ≤ g.seeded_to
+    go : (o : Option ℕ) → cut_of (state_of c h e).gens epoch ≡ o → unwrap_or o 0 ≤ g.seeded_to
     go None here = omega arith
-    go (Some cut) here = laws.stores.below_last (line_of c h e) g epoch cut list.ordered list.last here
+    go (Some cut) here = laws.stores.below_last (line_of c h e) g epoch cut list.ordered list.last (cut_in_line laws c h config run e g at epoch cut here)
 
 -- ---- later generations
 
@@ -105,6 +105,15 @@ floor_within_cut laws c h config run e own g at floor safe = go (next_of (line_o
         ∙ ap (λ (xs : List LogGeneration). xs ++ next ∷ s.after) place.is
         ∙ append_assoc place.front (safe.generation ∷ place.back) (next ∷ s.after) in
         taken_over laws c h config run e g at place.front safe.generation next (place.back ++ next ∷ s.after) all (Contains-append_right place.back (next ∷ s.after) next (Contains-here next s.after)) floor safe.below
+
+-- also as a chosen state still names it
+pub floor_in_view : Laws → (c : Config) (h : List Turn) → IsConfig c → IsRun c h → (e own : ℕ) (g : LogGeneration) → generation_at c h e ≡ Some g
+    → (floor : ℕ) → IsSafeFloor c h (line_of c h own) floor → IfSome (cut_of (state_of c h e).gens own) (λ cut. floor ≤ cut)
+floor_in_view laws c h config run e own g at floor safe = go (cut_of (state_of c h e).gens own) refl
+  where
+    go : (o : Option ℕ) → cut_of (state_of c h e).gens own ≡ o → IfSome o (λ cut. floor ≤ cut)
+    go None here = tt
+    go (Some cut) here = subst (λ (o : Option ℕ). IfSome o (λ n. floor ≤ n)) (cut_in_line laws c h config run e g at own cut here) (floor_within_cut laws c h config run e own g at floor safe)
 
 pub floor_in_front : (c : Config) (h : List Turn) (front gens : List LogGeneration) (floor : ℕ) → IsFrontOf front gens → IsSafeFloor c h front floor → IsSafeFloor c h gens floor
 floor_in_front c h front gens floor is k = record {

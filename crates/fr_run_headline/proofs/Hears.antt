@@ -1,26 +1,28 @@
 -- A hear of what a log told leaves a storage server of the run one that follows.
-use Rattle.std.proofs.Common.{◌≡◌, ℕ, ◌+◌, ◌-◌, ◌<◌, ◌≤◌, Bool, true, false, cond, not, max, min, nat_lt, ◌==◌, List, [], ◌∷◌, map, Option, None, Some, inl, inr, ◌⊎◌, refl, sym, ◌∙◌, ap, subst, arith}
+use Rattle.std.proofs.Common.{◌≡◌, ℕ, zero, suc, drop, ◌+◌, ◌-◌, ◌<◌, ◌≤◌, Bool, true, false, cond, not, max, min, nat_lt, ◌==◌, ◌||◌, List, [], ◌∷◌, map, Option, None, Some, inl, inr, refl, sym, ◌∙◌, ap, subst, arith}
 use Rattle.std.specs.Prelude.{IsSome, is_some, unwrap_or, length}
-use Rattle.std.specs.List.{Contains}
+use Rattle.std.specs.List.{Contains, list_any}
 use Rattle.std.specs.Option.{option_map}
-use Rattle.std.proofs.lemmas.Bool.{cases_lt, eqb-true}
+use Rattle.std.proofs.lemmas.Bool.{cases_lt, eqb-true, eq-eqb, or_right}
 use Rattle.fr_undo.specs.State.{StoreState}
 use Rattle.fr_undo.specs.Canonical.{Commit}
-use Rattle.fr_state.specs.Generations.{LogGeneration, CoordinatedState, IsCoordinatedState}
+use Rattle.fr_state.specs.Generations.{LogGeneration, CoordinatedState, IsCoordinatedState, last_of}
 use Rattle.fr_state.specs.LookUp.{next_of, end_of, cut_of, source_of}
 use Rattle.fr_log.specs.Peeked.{PeekedContent}
 use Rattle.fr_log.specs.LogState.{durable_of, known_of}
 use Rattle.fr_storage.specs.declared.fault.StorageFault.{StorageFault}
 use Rattle.fr_storage.specs.declared.fault.StorageFault.TheVariants.{NotMyGeneration, Hole}
 use Rattle.fr_storage.specs.Storage.{StorageState, epoch_of, own_epoch, cut_in, marked_fault, marked_calls, after_marked, peeked_fault, peeked_calls, after_peeked, target_of, cut_at, unless_fault, after_calls, is_epoch, broken_at}
-use Rattle.fr_storage.specs.Follows.{Agrees, IsTrueMark, IsTruePeek, commit_of, IsFrontOf}
+use Rattle.fr_state.specs.Same.{GoesOn}
+use Rattle.fr_storage.specs.Course.{LeavesOne}
+use Rattle.fr_storage.specs.Follows.{Agrees, IsTrueMark, IsTruePeek, IsLeftOf, commit_of}
 use Rattle.fr_storage.specs.Law.{MarkedLeads, PeekedLeads, BreaksAt}
-use Rattle.fr_storage.proofs.Generations.{HasLast, has_last, greatest}
+use Rattle.fr_storage.proofs.Generations.{HasLast, has_last, greatest, line_goes_on}
 use Rattle.fr_run.specs.Config.{Config}
 use Rattle.fr_run.specs.Turn.{Turn}
 use Rattle.fr_run.specs.Nodes.{generation_at, logs_at, log_at}
 use Rattle.fr_run.specs.Run.{IsRun}
-use Rattle.fr_run.specs.States.{state_of, line_of, IsChosenEpoch}
+use Rattle.fr_run.specs.States.{state_of, line_of, IsInLine, IsChosenEpoch}
 use Rattle.fr_run.specs.StateLaws.{IsConfig}
 use Rattle.fr_run_versions.specs.Numbers.{top_at}
 use Rattle.fr_run_versions.specs.Bounds.{IsBelow}
@@ -32,36 +34,73 @@ use Rattle.fr_run_contents.specs.Contents.{record_of_commit, part_records, IsTru
 use Rattle.fr_run_headline.specs.Agreement.{pieces_at}
 use Rattle.fr_run_headline.specs.Storages.{IsSafeFloor, IsStorageOf}
 use Rattle.fr_run_headline.specs.Laws.{Laws}
+use Rattle.fr_run.proofs.Cells.{Contains-later}
 use Rattle.fr_run.proofs.States.{state_is}
-use Rattle.fr_run.proofs.Chosen.{chosen_is_planned, chosen_are_chain}
+use Rattle.fr_run.proofs.Chosen.{chosen_is_planned}
+use Rattle.fr_run.proofs.Lines.{chosen_are_chain, states_are_views, dropped_rises}
 use Rattle.fr_run_headline.proofs.Agreement.{parts_are_pieces, parts_agree, planned_epoch}
-use Rattle.fr_run_headline.proofs.Floors.{seed_is_numbered, cut_is_seeded, floor_within_cut, floor_in_front, floor_lower, below_lower}
+use Rattle.fr_run_headline.proofs.Floors.{seed_is_numbered, cut_is_seeded, floor_in_view, floor_in_front, floor_lower, below_lower}
+use Rattle.fr_run_contents.proofs.Lists.{planned_list}
+use Rattle.fr_run_headline.proofs.Visible.{any_front}
 
 -- ---- a state
 
--- the state of a chosen epoch is true to a storage server of the run
-pub true_mark : Laws → (c : Config) (h : List Turn) → IsConfig c → IsRun c h → (tag : ℕ) (s : StorageState) → IsStorageOf c h tag s → (e : ℕ) → IsChosenEpoch c h e → IsTrueMark (pieces_at c h tag) s (state_of c h e)
-true_mark laws c h config run tag s k e chosen =
-    let g = chosen_is_planned laws.contents.nodes c h run e chosen in
-    record {
-      state = state_is laws.contents.nodes c h config run e;
-      agrees = parts_agree laws c h config run e g.0 g.1 tag;
-      chain = subst (λ (x : CoordinatedState). IsFrontOf x.gens (state_of c h e).gens ⊎ IsFrontOf (state_of c h e).gens x.gens) (sym k.state) (elim (cases_lt e own) [
-        | inl lt ↦ inr (chosen_are_chain laws.contents.nodes c h config run e own chosen k.chosen (omega (arith, lt)))
-        | inr ge ↦ inl (chosen_are_chain laws.contents.nodes c h config run own e k.chosen chosen ge)
-      ]);
-      floor = floor_within_cut laws c h config run e own g.0 g.1 s.store.floor k.floor;
-    }
+-- the last generation of a list is in it
+last_in : (gens : List LogGeneration) (e : ℕ) (g : LogGeneration) → last_of gens ≡ Some g → g.epoch ≡ e → list_any (λ x. x.epoch == e) gens ≡ true
+last_in [] e g is own = absurd (cc)
+last_in (x ∷ []) e g is own = let same : x ≡ g = cc in ap (λ b. b || false) (eq-eqb x.epoch e (ap (λ (y : LogGeneration). y.epoch) same ∙ own))
+last_in (x ∷ y ∷ gens) e g is own = or_right (x.epoch == e) (list_any (λ z. z.epoch == e) (y ∷ gens)) (last_in (y ∷ gens) e g is own)
+
+-- a later chosen state that left one of the server's generations goes on from the server's
+pub goes_on : Laws → (c : Config) (h : List Turn) → IsConfig c → IsRun c h → (tag : ℕ) (s : StorageState) → IsStorageOf c h tag s → (e : ℕ) → IsChosenEpoch c h e → LeavesOne s (state_of c h e) → own_epoch s.state < own_epoch (state_of c h e)
+    → GoesOn s.state (state_of c h e)
+goes_on laws c h config run tag s k e chosen kept later =
+    line_goes_on (line_of c h own) (line_of c h e) s.state (state_of c h e) (subst (IsLeftOf (line_of c h own)) (sym k.state) (left own mine.0 mine.1)) (left e g.0 g.1)
+    (chosen_are_chain laws.contents.nodes c h config run own e k.chosen chosen (omega (arith, later, here))) rise (kept later)
   where
     own : ℕ
     own = own_epoch s.state
 
-pub mark_leads : Laws → (c : Config) (h : List Turn) → IsConfig c → IsRun c h → (tag : ℕ) (s : StorageState) → IsStorageOf c h tag s → (e : ℕ) → IsChosenEpoch c h e → MarkedLeads (pieces_at c h tag) s (state_of c h e)
-mark_leads laws c h config run tag s k e chosen =
-    laws.marked (pieces_at c h tag) s (state_of c h e) (parts_are_pieces laws c h config run tag) k.follows (true_mark laws c h config run tag s k e chosen)
+    g : (g : LogGeneration) × (generation_at c h e ≡ Some g)
+    g = chosen_is_planned laws.contents.nodes c h run e chosen
 
-pub after_mark : Laws → (c : Config) (h : List Turn) → IsConfig c → IsRun c h → (tag : ℕ) (s : StorageState) → IsStorageOf c h tag s → (e : ℕ) → IsChosenEpoch c h e → IsStorageOf c h tag (after_marked s (state_of c h e))
-after_mark laws c h config run tag s k e chosen = elim (cases_lt own e) [
+    mine : (g : LogGeneration) × (generation_at c h (own_epoch s.state) ≡ Some g)
+    mine = chosen_is_planned laws.contents.nodes c h run (own_epoch s.state) k.chosen
+
+    here : own_epoch (state_of c h e) ≡ e
+    here = planned_epoch laws c h config run e g.0 g.1
+
+    left : (x : ℕ) (g : LogGeneration) → generation_at c h x ≡ Some g → IsLeftOf (line_of c h x) (state_of c h x)
+    left x g at = let v = states_are_views laws.contents.nodes c h config run x g at in record { short = v.short; is = v.is }
+
+    rise : s.state.dropped ≤ (state_of c h e).dropped
+    rise =
+        let front = chosen_are_chain laws.contents.nodes c h config run own e k.chosen chosen (omega (arith, later, here)) in
+        let list = planned_list laws.contents.nodes c h config run own mine.0 mine.1 in
+        let there : IsInLine c h own own = last_in (line_of c h own) own mine.0 list.last list.own in
+        let in_line : IsInLine c h e own = subst (λ (xs : List LogGeneration). list_any (λ g. g.epoch == own) xs ≡ true) front.1 (any_front (λ g. g.epoch == own) (line_of c h own) front.0 there) in
+        let low = dropped_rises laws.contents.nodes c h config run e own g.0 g.1 in_line in
+        let same = ap (λ (x : CoordinatedState). x.dropped) k.state in
+        omega (arith, low, same)
+
+-- the state of a chosen epoch that left one of its generations is true to a storage server of the run
+pub true_mark : Laws → (c : Config) (h : List Turn) → IsConfig c → IsRun c h → (tag : ℕ) (s : StorageState) → IsStorageOf c h tag s → (e : ℕ) → IsChosenEpoch c h e → LeavesOne s (state_of c h e) → IsTrueMark (pieces_at c h tag) s (state_of c h e)
+true_mark laws c h config run tag s k e chosen kept =
+    let g = chosen_is_planned laws.contents.nodes c h run e chosen in
+    record {
+      state = state_is laws.contents.nodes c h config run e;
+      agrees = parts_agree laws c h config run e g.0 g.1 tag;
+      later = λ lt. goes_on laws c h config run tag s k e chosen kept lt;
+      one = λ same. ap (state_of c h) (sym (planned_epoch laws c h config run e g.0 g.1) ∙ same) ∙ sym k.state;
+      floor = floor_in_view laws c h config run e (own_epoch s.state) g.0 g.1 s.store.floor k.floor;
+    }
+
+pub mark_leads : Laws → (c : Config) (h : List Turn) → IsConfig c → IsRun c h → (tag : ℕ) (s : StorageState) → IsStorageOf c h tag s → (e : ℕ) → IsChosenEpoch c h e → LeavesOne s (state_of c h e) → MarkedLeads (pieces_at c h tag) s (state_of c h e)
+mark_leads laws c h config run tag s k e chosen kept =
+    laws.marked (pieces_at c h tag) s (state_of c h e) (parts_are_pieces laws c h config run tag) k.follows (true_mark laws c h config run tag s k e chosen kept)
+
+pub after_mark : Laws → (c : Config) (h : List Turn) → IsConfig c → IsRun c h → (tag : ℕ) (s : StorageState) → IsStorageOf c h tag s → (e : ℕ) → IsChosenEpoch c h e → LeavesOne s (state_of c h e) → IsStorageOf c h tag (after_marked s (state_of c h e))
+after_mark laws c h config run tag s k e chosen kept = elim (cases_lt own e) [
   | inl lt ↦ (
       let same : (after_marked s x).state ≡ x = leads.state (omega (arith, lt, here)) in
       let epoch : own_epoch (after_marked s x).state ≡ e = ap own_epoch same ∙ here in
@@ -95,7 +134,7 @@ after_mark laws c h config run tag s k e chosen = elim (cases_lt own e) [
     here = planned_epoch laws c h config run e g.0 g.1
 
     leads : MarkedLeads (pieces_at c h tag) s (state_of c h e)
-    leads = mark_leads laws c h config run tag s k e chosen
+    leads = mark_leads laws c h config run tag s k e chosen kept
 
 -- ---- one that broke off
 
@@ -111,10 +150,10 @@ left_at c h tag s k version least most t left le = record {
   floor = subst (IsSafeFloor c h (line_of c h (own_epoch s.state))) (sym left.floor) k.floor;
 }
 
-pub broken_mark : Laws → (c : Config) (h : List Turn) → IsConfig c → IsRun c h → (tag : ℕ) (s : StorageState) → IsStorageOf c h tag s → (e : ℕ) → IsChosenEpoch c h e → marked_fault s (state_of c h e) ≡ None
+pub broken_mark : Laws → (c : Config) (h : List Turn) → IsConfig c → IsRun c h → (tag : ℕ) (s : StorageState) → IsStorageOf c h tag s → (e : ℕ) → IsChosenEpoch c h e → LeavesOne s (state_of c h e) → marked_fault s (state_of c h e) ≡ None
     → (version : ℕ) (t : StoreState) → broken_at s.store (marked_calls s (state_of c h e)) version ≡ Some t → BreaksAt (pieces_at c h tag) s version (min s.store.applied (cut_in (state_of c h e) (own_epoch s.state))) s.store.applied t
-broken_mark laws c h config run tag s k e chosen taken version t at =
-    laws.marked_breaks (pieces_at c h tag) s (state_of c h e) version t (parts_are_pieces laws c h config run tag) k.follows (true_mark laws c h config run tag s k e chosen) taken at
+broken_mark laws c h config run tag s k e chosen kept taken version t at =
+    laws.marked_breaks (pieces_at c h tag) s (state_of c h e) version t (parts_are_pieces laws c h config run tag) k.follows (true_mark laws c h config run tag s k e chosen kept) taken at
 
 -- ---- records
 
@@ -210,14 +249,21 @@ target_numbered laws c h config run tag s k e i p reached there taken = go (next
         let numbered = seed_is_numbered laws c h run own g.0 g.1 in
         omega (arith, le, low, in_own, same, seeded, numbered)
 
+-- what is left of a list is in it
+in_line : (n : ℕ) (gens : List LogGeneration) (g : LogGeneration) → Contains (drop n gens) g → Contains gens g
+in_line zero gens g k = k
+in_line (suc n) [] g k = k
+in_line (suc n) (x ∷ gens) g k = Contains-later x gens g (in_line n gens g k)
+
 -- the floor after records is safe
-floor_rises : Laws → (c : Config) (h : List Turn) → IsRun c h → (s : StorageState) → IsCoordinatedState s.state → s.state ≡ state_of c h (own_epoch s.state) → (e i : ℕ) (p : PeekedContent) → i < logs_at c h e → p.known ≤ known_of (log_at c h e i)
+floor_rises : Laws → (c : Config) (h : List Turn) → IsRun c h → (s : StorageState) → IsCoordinatedState s.state → s.state ≡ state_of c h (own_epoch s.state)
+    → (state_of c h (own_epoch s.state)).gens ≡ drop (state_of c h (own_epoch s.state)).dropped (line_of c h (own_epoch s.state)) → (e i : ℕ) (p : PeekedContent) → i < logs_at c h e → p.known ≤ known_of (log_at c h e i)
     → IsSafeFloor c h (line_of c h (own_epoch s.state)) s.store.floor → peeked_fault s e p ≡ None → (upto : ℕ) → IsSafeFloor c h (line_of c h (own_epoch s.state)) (max s.store.floor (min p.known upto))
-floor_rises laws c h run s is own e i p there known safe taken upto = elim (cases_lt s.store.floor (min p.known upto)) [
+floor_rises laws c h run s is own view e i p there known safe taken upto = elim (cases_lt s.store.floor (min p.known upto)) [
   | inl lt ↦ (
       let src = source_there laws s is e p taken in
       let below = log_known_below laws.contents.nodes c h run e i there in
-      record { generation = src.0; there = subst (λ (y : CoordinatedState). Contains y.gens src.0) own src.1; below = subst (λ y. IsBelow c h y (max s.store.floor (min p.known upto))) (sym src.2) (below_lower c h e (max s.store.floor (min p.known upto)) (known_of (log_at c h e i)) (omega (arith, lt, known)) below) })
+      record { generation = src.0; there = in_line (state_of c h (own_epoch s.state)).dropped (line_of c h (own_epoch s.state)) src.0 (subst (λ xs. Contains xs src.0) (ap (λ (y : CoordinatedState). y.gens) own ∙ view) src.1); below = subst (λ y. IsBelow c h y (max s.store.floor (min p.known upto))) (sym src.2) (below_lower c h e (max s.store.floor (min p.known upto)) (known_of (log_at c h e i)) (omega (arith, lt, known)) below) })
   | inr ge ↦ floor_lower c h (line_of c h (own_epoch s.state)) (max s.store.floor (min p.known upto)) s.store.floor (omega (arith, ge)) safe
 ]
 
@@ -243,7 +289,8 @@ after_peek laws c h config run tag s k e i p same inside told = go (peeked_fault
         let target = target_numbered laws c h config run tag s k e i p (told.upto (omega (arith, inside, same))) told.there at in
         let was = k.numbered in
         let low : n.store.applied ≤ top_at c h (own_epoch s.state) = omega (arith, applied, target, was) in
-        let floor = floor_rises laws c h run s k.follows.state k.state e i p told.there told.known k.floor at (max s.store.applied (target_of s e p)) in
+        let mine = chosen_is_planned laws.contents.nodes c h run (own_epoch s.state) k.chosen in
+        let floor = floor_rises laws c h run s k.follows.state k.state (states_are_views laws.contents.nodes c h config run (own_epoch s.state) mine.0 mine.1).is e i p told.there told.known k.floor at (max s.store.applied (target_of s e p)) in
         record {
           tag_is = tag_stays at;
           chosen = subst (IsChosenEpoch c h) (sym epoch) k.chosen;

@@ -1,22 +1,25 @@
 -- A hear undoes nothing of what is below in a generation of the server's own list.
-use Rattle.std.proofs.Common.{◌≡◌, ℕ, ◌<◌, ◌≤◌, Bool, true, false, cond, List, [], ◌∷◌, map, reverse, Option, None, Some, inl, inr, refl, sym, ◌∙◌, ap, subst, arith}
+use Rattle.std.proofs.Common.{◌≡◌, ℕ, ◌<◌, ◌≤◌, Bool, true, false, cond, ◌==◌, List, [], ◌∷◌, map, reverse, Option, None, Some, inl, inr, refl, sym, ◌∙◌, ap, subst, arith}
 use Rattle.std.specs.Prelude.{IfSome, unwrap_or, length}
-use Rattle.std.specs.List.{Contains}
+use Rattle.std.specs.List.{Contains, list_any}
 use Rattle.std.proofs.lemmas.Bool.{cases_lt}
 use Rattle.std.proofs.lemmas.List.Elements.{Contains-append_cases}
 use Rattle.fr_undo.specs.State.{StoreState}
 use Rattle.fr_state.specs.Generations.{LogGeneration, CoordinatedState}
+use Rattle.fr_state.specs.LookUp.{cut_of}
 use Rattle.fr_state.specs.Same.{is_same_state}
 use Rattle.fr_log.specs.Peeked.{PeekedContent}
 use Rattle.fr_storage.specs.declared.fault.StorageFault.{StorageFault}
 use Rattle.fr_storage.specs.Storage.{StorageState, Call, own_epoch, cut_in, marked_fault, marked_calls, after_marked, peeked_fault, peeked_calls, after_peeked, broken_at, is_broken_at, UndoTo, SetState}
 use Rattle.fr_state.specs.Spelling.{spelling}
+use Rattle.fr_storage.specs.Course.{LeavesOne}
 use Rattle.fr_storage.specs.Law.{MarkedLeads, PeekedLeads}
+use Rattle.fr_storage.proofs.Generations.{goes_cut}
 use Rattle.fr_run.specs.Config.{Config}
 use Rattle.fr_run.specs.Turn.{Turn}
 use Rattle.fr_run.specs.Nodes.{generation_at, mark_version}
 use Rattle.fr_run.specs.Run.{IsRun}
-use Rattle.fr_run.specs.States.{state_of, line_of, IsChosenEpoch}
+use Rattle.fr_run.specs.States.{state_of, line_of, IsInLine, IsChosenEpoch}
 use Rattle.fr_run.specs.StateLaws.{IsConfig}
 use Rattle.fr_run.proofs.Cells.{Contains-here, Contains-later, Contains-none, Contains-cases}
 use Rattle.fr_run_versions.specs.Numbers.{Numbering, numbers}
@@ -29,9 +32,12 @@ use Rattle.fr_run_headline.specs.Agreement.{pieces_at}
 use Rattle.fr_run_headline.specs.Storages.{IsSafeFloor, IsStorageOf}
 use Rattle.fr_run_headline.specs.Laws.{Laws}
 use Rattle.fr_run.proofs.Chosen.{chosen_is_planned}
-use Rattle.fr_run_headline.proofs.Agreement.{planned_epoch, parts_are_pieces}
+use Rattle.fr_run.proofs.States.{state_is}
+use Rattle.fr_run.proofs.Lines.{chosen_are_chain}
+use Rattle.fr_run_headline.proofs.Agreement.{planned_epoch, parts_are_pieces, cut_in_line}
 use Rattle.fr_run_headline.proofs.Floors.{floor_within_cut}
-use Rattle.fr_run_headline.proofs.Hears.{mark_leads, broken_mark, peek_leads, true_peek, own_agrees}
+use Rattle.fr_run_headline.proofs.Visible.{any_front}
+use Rattle.fr_run_headline.proofs.Hears.{goes_on, mark_leads, broken_mark, peek_leads, true_peek, own_agrees}
 use Rattle.fr_run_headline.proofs.Places.{through_keeps, same_has}
 use Rattle.fr_run_headline.proofs.Splits.{IsLaterSplit, later_split, split_issues}
 
@@ -80,20 +86,36 @@ has_on c h s n same le entry k = record {
   applied = (let was = k.applied in omega (arith, was, le));
 }
 
--- the cut of a later epoch is not below
-cut_above : Laws → (c : Config) (h : List Turn) → IsConfig c → IsRun c h → (tag : ℕ) (s : StorageState) → IsStorageOf c h tag s → (x : ℕ) (g : LogGeneration) → generation_at c h x ≡ Some g → (k : IsLaterSplit c h (own_epoch s.state) x g)
-    → (entry : Entry) → IsBelow c h entry.origin entry.version → HasIn c h s entry → (entry.version ≤ k.next.seeded_to) × (entry.version ≤ cut_in (state_of c h x) (own_epoch s.state))
-cut_above laws c h config run tag s is x g at k entry below has =
+-- a later epoch that left one of the server's generations still names the cut of the server's own
+pub viewed_cut : Laws → (c : Config) (h : List Turn) → IsConfig c → IsRun c h → (tag : ℕ) (s : StorageState) → IsStorageOf c h tag s → (x : ℕ) (g : LogGeneration) → generation_at c h x ≡ Some g → IsChosenEpoch c h x → LeavesOne s (state_of c h x)
+    → own_epoch s.state < x → (k : IsLaterSplit c h (own_epoch s.state) x g) → cut_of (state_of c h x).gens (own_epoch s.state) ≡ Some k.next.seeded_to
+viewed_cut laws c h config run tag s is x g at chosen kept lt k =
+    viewed ∙ sym (cut_in_line laws c h config run x g at (own_epoch s.state) (cut_in (state_of c h x) (own_epoch s.state)) viewed) ∙ k.cut
+  where
+    here : own_epoch (state_of c h x) ≡ x
+    here = planned_epoch laws c h config run x g at
+
+    later : own_epoch s.state < own_epoch (state_of c h x)
+    later = omega (arith, lt, here)
+
+    viewed : cut_of (state_of c h x).gens (own_epoch s.state) ≡ Some (cut_in (state_of c h x) (own_epoch s.state))
+    viewed = goes_cut laws.stores s.state (state_of c h x) is.follows.state (state_is laws.contents.nodes c h config run x) (goes_on laws c h config run tag s is x chosen kept later) later
+
+-- it is not below
+cut_above : Laws → (c : Config) (h : List Turn) → IsConfig c → IsRun c h → (tag : ℕ) (s : StorageState) → IsStorageOf c h tag s → (x : ℕ) (g : LogGeneration) → generation_at c h x ≡ Some g → IsChosenEpoch c h x → LeavesOne s (state_of c h x)
+    → own_epoch s.state < x → (k : IsLaterSplit c h (own_epoch s.state) x g) → (entry : Entry) → IsBelow c h entry.origin entry.version → HasIn c h s entry
+    → (entry.version ≤ k.next.seeded_to) × (entry.version ≤ cut_in (state_of c h x) (own_epoch s.state))
+cut_above laws c h config run tag s is x g at chosen kept lt k entry below has =
     let safe = floor_within_cut laws c h config run x (own_epoch s.state) g at entry.version (has_safe c h tag s is entry below has) in
     let low : entry.version ≤ k.next.seeded_to = subst (λ (o : Option ℕ). IfSome o (λ cut. entry.version ≤ cut)) k.cut safe in
-    let same : cut_in (state_of c h x) (own_epoch s.state) ≡ k.next.seeded_to = ap (λ (o : Option ℕ). unwrap_or o 0) k.cut in
+    let same : cut_in (state_of c h x) (own_epoch s.state) ≡ k.next.seeded_to = ap (λ (o : Option ℕ). unwrap_or o 0) (viewed_cut laws c h config run tag s is x g at chosen kept lt k) in
     (low, omega (arith, low, same))
 
-pub mark_keeps : Laws → (c : Config) (h : List Turn) → IsConfig c → IsRun c h → (tag : ℕ) (s : StorageState) → IsStorageOf c h tag s → (x : ℕ) → IsChosenEpoch c h x → (entry : Entry) → IsBelow c h entry.origin entry.version → HasIn c h s entry → HasIn c h (after_marked s (state_of c h x)) entry
-mark_keeps laws c h config run tag s is x chosen entry below has = elim (cases_lt own x) [
+pub mark_keeps : Laws → (c : Config) (h : List Turn) → IsConfig c → IsRun c h → (tag : ℕ) (s : StorageState) → IsStorageOf c h tag s → (x : ℕ) → IsChosenEpoch c h x → LeavesOne s (state_of c h x) → (entry : Entry) → IsBelow c h entry.origin entry.version → HasIn c h s entry → HasIn c h (after_marked s (state_of c h x)) entry
+mark_keeps laws c h config run tag s is x chosen kept entry below has = elim (cases_lt own x) [
   | inl lt ↦ (
       let k = later_split laws c h config run own x g.0 is.chosen chosen g.1 lt in
-      let above = cut_above laws c h config run tag s is x g.0 g.1 k entry below has in
+      let above = cut_above laws c h config run tag s is x g.0 g.1 chosen kept lt k entry below has in
       let cut = above.1 in
       let same : (after_marked s y).state ≡ y = leads.state (omega (arith, lt, here)) in
       let epoch : own_epoch (after_marked s y).state ≡ x = ap own_epoch same ∙ here in
@@ -119,7 +141,7 @@ mark_keeps laws c h config run tag s is x chosen entry below has = elim (cases_l
     here = planned_epoch laws c h config run x g.0 g.1
 
     leads : MarkedLeads (pieces_at c h tag) s (state_of c h x)
-    leads = mark_leads laws c h config run tag s is x chosen
+    leads = mark_leads laws c h config run tag s is x chosen kept
 
 -- calls that are none leave the store where they break off
 no_calls : (s : StoreState) (version : ℕ) (t : StoreState) → broken_at s [] version ≡ Some t → s ≡ t
@@ -129,14 +151,14 @@ no_calls s version t e = go (is_broken_at s version s) e
     go true e = cc
     go false e = absurd (cc)
 
-pub broken_mark_keeps : Laws → (c : Config) (h : List Turn) → IsConfig c → IsRun c h → (tag : ℕ) (s : StorageState) → IsStorageOf c h tag s → (x : ℕ) → IsChosenEpoch c h x → marked_fault s (state_of c h x) ≡ None
+pub broken_mark_keeps : Laws → (c : Config) (h : List Turn) → IsConfig c → IsRun c h → (tag : ℕ) (s : StorageState) → IsStorageOf c h tag s → (x : ℕ) → IsChosenEpoch c h x → LeavesOne s (state_of c h x) → marked_fault s (state_of c h x) ≡ None
     → (version : ℕ) (t : StoreState) → broken_at s.store (marked_calls s (state_of c h x)) version ≡ Some t → (entry : Entry) → IsBelow c h entry.origin entry.version → HasIn c h s entry → HasIn c h (record s { store = t }) entry
-broken_mark_keeps laws c h config run tag s is x chosen taken version t at entry below has = elim (cases_lt own x) [
+broken_mark_keeps laws c h config run tag s is x chosen kept taken version t at entry below has = elim (cases_lt own x) [
   | inl lt ↦ (
       let k = later_split laws c h config run own x g.0 is.chosen chosen g.1 lt in
-      let above = cut_above laws c h config run tag s is x g.0 g.1 k entry below has in
+      let above = cut_above laws c h config run tag s is x g.0 g.1 chosen kept lt k entry below has in
       let cut = above.1 in
-      let left = broken_mark laws c h config run tag s is x chosen taken version t at in
+      let left = broken_mark laws c h config run tag s is x chosen kept taken version t at in
       let low = left.low in
       let now = left.applied in
       let was = has.applied in
@@ -162,7 +184,7 @@ broken_mark_keeps laws c h config run tag s is x chosen taken version t at entry
     here = planned_epoch laws c h config run x g.0 g.1
 
     leads : MarkedLeads (pieces_at c h tag) s (state_of c h x)
-    leads = mark_leads laws c h config run tag s is x chosen
+    leads = mark_leads laws c h config run tag s is x chosen kept
 
 pub peek_keeps : Laws → (c : Config) (h : List Turn) → IsConfig c → IsRun c h → (tag : ℕ) (s : StorageState) → IsStorageOf c h tag s → (x i : ℕ) (p : PeekedContent) → p.tag ≡ tag → tag < length c.begins → IsTrueTell c h x i p
     → (entry : Entry) → HasIn c h s entry → HasIn c h (after_peeked s x p) entry
@@ -182,3 +204,49 @@ broken_peek_keeps laws c h config run tag s is x i p same inside told taken vers
     let low = left.low in
     let now = left.applied in
     has_on c h s (record s { store = t }) refl (omega (arith, low, now)) entry has
+
+-- ---- what a hear leaves of the floor and of the line
+
+-- a later state has the server's line in its own
+pub mark_line : Laws → (c : Config) (h : List Turn) → IsConfig c → IsRun c h → (tag : ℕ) (s : StorageState) → IsStorageOf c h tag s → (x : ℕ) → IsChosenEpoch c h x → LeavesOne s (state_of c h x)
+    → (e : ℕ) → IsInLine c h (own_epoch s.state) e → IsInLine c h (own_epoch (after_marked s (state_of c h x)).state) e
+mark_line laws c h config run tag s is x chosen kept e there = elim (cases_lt own x) [
+  | inl lt ↦ (
+      let same : (after_marked s (state_of c h x)).state ≡ state_of c h x = leads.state (omega (arith, lt, here)) in
+      let epoch : own_epoch (after_marked s (state_of c h x)).state ≡ x = ap own_epoch same ∙ here in
+      let front = chosen_are_chain laws.contents.nodes c h config run own x is.chosen chosen (omega (arith, lt)) in
+      let later : IsInLine c h x e = subst (λ (xs : List LogGeneration). list_any (λ g. g.epoch == e) xs ≡ true) front.1 (any_front (λ g. g.epoch == e) (line_of c h own) front.0 there) in
+      subst (λ z. IsInLine c h z e) (sym epoch) later)
+  | inr ge ↦ subst (λ (n : StorageState). IsInLine c h (own_epoch n.state) e) (sym (leads.stays (omega (arith, ge, here)))) there
+]
+  where
+    own : ℕ
+    own = own_epoch s.state
+
+    g : (g : LogGeneration) × (generation_at c h x ≡ Some g)
+    g = chosen_is_planned laws.contents.nodes c h run x chosen
+
+    here : own_epoch (state_of c h x) ≡ x
+    here = planned_epoch laws c h config run x g.0 g.1
+
+    leads : MarkedLeads (pieces_at c h tag) s (state_of c h x)
+    leads = mark_leads laws c h config run tag s is x chosen kept
+
+-- no floor comes down
+pub mark_floor : Laws → (c : Config) (h : List Turn) → IsConfig c → IsRun c h → (tag : ℕ) (s : StorageState) → IsStorageOf c h tag s → (x : ℕ) → IsChosenEpoch c h x → LeavesOne s (state_of c h x) → s.store.floor ≤ (after_marked s (state_of c h x)).store.floor
+mark_floor laws c h config run tag s is x chosen kept = let same = (mark_leads laws c h config run tag s is x chosen kept).floor in omega (arith, same)
+
+pub peek_floor : Laws → (c : Config) (h : List Turn) → IsConfig c → IsRun c h → (tag : ℕ) (s : StorageState) → IsStorageOf c h tag s → (x i : ℕ) (p : PeekedContent) → p.tag ≡ tag → tag < length c.begins → IsTrueTell c h x i p
+    → s.store.floor ≤ (after_peeked s x p).store.floor
+peek_floor laws c h config run tag s is x i p same inside told = go (peeked_fault s x p) refl
+  where
+    go : (o : Option StorageFault) → peeked_fault s x p ≡ o → s.store.floor ≤ (after_peeked s x p).store.floor
+    go (Some fault) at = (let stays = ap (λ (n : StorageState). n.store.floor) (laws.peeked_refused s x p fault at) in omega (arith, stays))
+    go None at = (let floor = (peek_leads laws c h config run tag s is x i p same inside told).floor at in omega (arith, floor))
+
+pub broken_peek_floor : Laws → (c : Config) (h : List Turn) → IsConfig c → IsRun c h → (tag : ℕ) (s : StorageState) → IsStorageOf c h tag s → (x i : ℕ) (p : PeekedContent) → p.tag ≡ tag → tag < length c.begins → IsTrueTell c h x i p → peeked_fault s x p ≡ None
+    → (version : ℕ) (t : StoreState) → broken_at s.store (peeked_calls s x p) version ≡ Some t → s.store.floor ≤ t.floor
+broken_peek_floor laws c h config run tag s is x i p same inside told taken version t at =
+    let left = laws.peeked_breaks (pieces_at c h tag) s x p version t (parts_are_pieces laws c h config run tag) is.follows (own_agrees laws c h config run tag s is) (true_peek c h tag x i p same inside told) taken at in
+    let floor = left.floor in
+    omega (arith, floor)

@@ -1,5 +1,6 @@
 pub mod Agreement
 pub mod Floors
+pub mod Visible
 pub mod Hears
 pub mod Places
 pub mod Splits
@@ -16,3 +17,4 @@ pub mod Ordering
 pub mod Example
 pub mod Recoveries
 pub mod Consistent
+pub mod Copies

@@ -23,7 +23,7 @@ use Rattle.fr_run_headline.specs.Example.{SurvivesTwoRecoveries}
 use Rattle.fr_run_headline.proofs.Example.{c, kept, later, none_gone, at, h28, is_run28}
 
 abbrev last : CoordinatedState
-last = record { gens = record { epoch = 257; m = 2; k = 2; first = 1; seeded_to = 0 } ∷ record { epoch = 513; m = 2; k = 2; first = 1; seeded_to = 2 } ∷ record { epoch = 769; m = 3; k = 1; first = 1; seeded_to = 3 } ∷ [] }
+last = record { dropped = 0; gens = record { epoch = 257; m = 2; k = 2; first = 1; seeded_to = 0 } ∷ record { epoch = 513; m = 2; k = 2; first = 1; seeded_to = 2 } ∷ record { epoch = 769; m = 3; k = 1; first = 1; seeded_to = 3 } ∷ [] }
 
 -- three logs, and each tag on one of them
 abbrev three : ShapeContent
@@ -63,7 +63,7 @@ unfolding row generation_at is_within
 turn31 = ((record { actor = (record { there = refl; up = λ k. none_gone h30 (node.Recoverer 769) refl k }); told = (inl (refl, refl, refl)) }), (got769 (rec_at c h30 769), refl, refl))
 
 abbrev t32 : Turn
-t32 = LogTurn (node.Recoverer 769) 513 0 (Lock 513) (Locked 3 0)
+t32 = LogTurn (node.Recoverer 769) 513 0 (Lock 513) (Locked 3 0 [])
 
 abbrev h32 : List Turn
 h32 = t32 ∷ h31
@@ -73,7 +73,7 @@ unfolding row generation_at is_within
 turn32 = ((record { there = refl; up = λ k. none_gone h31 (node.Log 513 0) refl k }), inl (inl (refl, at (asks_of t31) _ 0 refl refl)), refl, tt)
 
 abbrev t33 : Turn
-t33 = RecHeard 769 (node.Log 513 0) (tell.Log (Locked 3 0)) ((node.Log 513 0, ask.Log (Peek 513 0 0 100)) ∷ [])
+t33 = RecHeard 769 (node.Log 513 0) (tell.Log (Locked 3 0 [])) ((node.Log 513 0, ask.Log (Peek 513 0 0 100)) ∷ [])
 
 abbrev h33 : List Turn
 h33 = t33 ∷ h32

@@ -1,9 +1,9 @@
 -- Each committed version can be retrieved while fewer than k logs of each generation are lost.
-use Rattle.std.proofs.Common.{◌≡◌, ℕ, ◌+◌, ◌-◌, ◌<◌, ◌≤◌, Bool, true, false, cond, nat_lt, nat_le, ◌==◌, filter, map, List, [], ◌∷◌, ◌++◌, append_assoc, length, length-append, Option, None, Some, inl, inr, refl, sym, ◌∙◌, ap, subst, arith}
-use Rattle.std.specs.Prelude.{IfSome, IsSome, is_some}
-use Rattle.std.specs.List.{Contains}
+use Rattle.std.proofs.Common.{◌≡◌, ℕ, zero, suc, drop, ◌+◌, ◌-◌, ◌<◌, ◌≤◌, Bool, true, false, cond, nat_lt, nat_le, ◌==◌, max, filter, map, List, [], ◌∷◌, ◌++◌, append_assoc, length, length-append, Option, None, Some, inl, inr, refl, sym, ◌∙◌, ap, subst, arith}
+use Rattle.std.specs.Prelude.{IfSome, IsSome, is_some, slice_get}
+use Rattle.std.specs.List.{All, Contains}
 use Rattle.std.specs.Option.{option_map}
-use Rattle.std.proofs.lemmas.Bool.{cases_lt, eq-eqb}
+use Rattle.std.proofs.lemmas.Bool.{cases_lt, eq-eqb, ltb-true, ltb-false}
 use Rattle.std.proofs.lemmas.List.{same_from_push}
 use Rattle.std.proofs.lemmas.List.Elements.{All-contains, All-weaker, Contains-append_left, Contains-append_right}
 use Rattle.fr_base.specs.declared.place.NodeId.{NodeId}
@@ -12,24 +12,27 @@ use Rattle.fr_state.specs.Generations.{LogGeneration, IsGeneration, IsCoordinate
 use Rattle.fr_state.specs.LookUp.{next_of, end_of, cut_of, source_of}
 use Rattle.fr_tags.specs.Placement.{is_held, log_count}
 use Rattle.fr_log.specs.Seed.{SeedContent}
-use Rattle.fr_log.specs.LogState.{LogState, durable_of, records_of}
+use Rattle.fr_log.specs.Popped.{popped_at}
+use Rattle.fr_log.specs.LogState.{LogState, durable_of, records_of, swept}
 use Rattle.fr_epoch.specs.EndTally.{pev_of}
 use Rattle.fr_epoch.specs.Recoverer.{RecState, Parent, Plan}
 use Rattle.fr_storage.specs.Storage.{epoch_of}
 use Rattle.fr_storage.proofs.Generations.{greatest}
 use Rattle.fr_run.specs.Config.{Config, first_epoch, first_generation}
 use Rattle.fr_run.specs.Turn.{Turn, Begun, CellTurn, LogTurn, SeqTurn, Submitted, ProxyHeard, RecHeard, StorageHeard, Gone, Crashed}
-use Rattle.fr_run.specs.Nodes.{rec_at, generation_at, logs_at, log_at}
+use Rattle.fr_run.specs.Nodes.{rec_at, generation_at, logs_at, log_at, storage_at}
 use Rattle.fr_run.specs.Run.{IsRun}
 use Rattle.fr_run.specs.States.{state_of, line_of}
 use Rattle.fr_run.specs.StateLaws.{IsConfig}
+use Rattle.fr_run.specs.LineLaws.{IsView}
 use Rattle.fr_run.proofs.Cells.{Contains-here, Contains-later, Contains-none, Contains-cases}
-use Rattle.fr_run.proofs.Chosen.{first_is_chosen, chosen_is_planned, chosen_are_chain}
+use Rattle.fr_run.proofs.Chosen.{first_is_chosen, chosen_is_planned}
+use Rattle.fr_run.proofs.Lines.{parent_is, plan_line, chosen_are_chain, states_are_views, lines_within}
 use Rattle.fr_run.proofs.States.{last_more, state_is}
 use Rattle.fr_run_versions.specs.Bounds.{HasReached, AllReach, IsSeedAt}
 use Rattle.fr_run_versions.specs.LogLaws.{tally, StandsAt}
 use Rattle.fr_run_versions.specs.SeededLaws.{IsSeededEpoch}
-use Rattle.fr_run.proofs.Parents.{parent_is, plan_line, planned_by}
+use Rattle.fr_run.proofs.Parents.{planned_by}
 use Rattle.fr_run_versions.proofs.Behind.{front_is_state, behind_is_seeded}
 use Rattle.fr_run_versions.proofs.Ends.{end_is_of_replies}
 use Rattle.fr_run_versions.proofs.Known.{logs_know}
@@ -37,14 +40,15 @@ use Rattle.fr_run_versions.proofs.Locks.{replies_stand_still}
 use Rattle.fr_run_versions.proofs.Named.{IsNamed, log_named}
 use Rattle.fr_run_versions.proofs.Orders.{below_is_durable, known_fold, known_is_durable}
 use Rattle.fr_run_contents.specs.Issued.{issued, least_durable}
-use Rattle.fr_run_contents.specs.Contents.{HasParts, part_records}
+use Rattle.fr_run_contents.specs.Contents.{HasLeft, part_records}
 use Rattle.fr_run_contents.proofs.Lists.{HasList, planned_list}
 use Rattle.fr_run_contents.proofs.PartLists.{part_of, part_above, part_through, part_same}
 use Rattle.fr_run_contents.proofs.PeekLists.{record_of, kept_records}
-use Rattle.fr_run_contents.proofs.Truths.{logs_have_parts}
+use Rattle.fr_run_contents.proofs.Truths.{logs_have_left}
 use Rattle.fr_run_headline.specs.Retrievable.{lost_with, lost_after, lost_logs, records_at, IsRetrievable, CommittedIsRetrievable}
 use Rattle.fr_run_headline.specs.Laws.{Laws}
 use Rattle.fr_run_headline.proofs.Agreement.{split_at, front_issues}
+use Rattle.fr_run_headline.proofs.Following.{visible_is_safe, nothing_removed}
 use Rattle.fr_run_headline.proofs.Durables.{seeded_logs, least_is_below}
 
 -- ---- lost logs
@@ -140,19 +144,22 @@ end_is_reached laws c h config run e g at front own next rest is i there seeded 
 
 -- ---- one log
 
--- what a log of a generation has at a version is the generation's part there
+-- what a log of a generation has left at a version that is not popped is the generation's part there
 log_has : Laws → (c : Config) (h : List Turn) → IsConfig c → IsRun c h → (g : LogGeneration) → generation_at c h g.epoch ≡ Some g → (i tag version : ℕ) → tag < length c.begins → i < logs_at c h g.epoch → is_held tag g.m g.k i ≡ true
-    → g.first ≤ version → version ≤ durable_of (log_at c h g.epoch i) → (o : Option SeedContent) → (log_at c h g.epoch i).seed ≡ o → is_some o ≡ true
-    → records_at version (records_of (log_at c h g.epoch i) tag) ≡ part_records c h g.epoch tag (version - 1) version
-log_has laws c h config run g at i tag version inside there held first durable None seeded some = absurd (cc)
-log_has laws c h config run g at i tag version inside there held first durable (Some s) seeded some =
+    → g.first ≤ version → popped_at (log_at c h g.epoch i).popped tag < version → version ≤ durable_of (log_at c h g.epoch i) → (o : Option SeedContent) → (log_at c h g.epoch i).seed ≡ o → is_some o ≡ true
+    → records_at version (records_of (swept (log_at c h g.epoch i)) tag) ≡ part_records c h g.epoch tag (version - 1) version
+log_has laws c h config run g at i tag version inside there held first unpopped durable None seeded some = absurd (cc)
+log_has laws c h config run g at i tag version inside there held first unpopped durable (Some s) seeded some =
     ap (records_at version) whole
-    ∙ ap (filter (λ r. nat_le r.version version)) (kept_records (nat_lt (version - 1)) (part_of c tag (s.first - 1) (durable_of l) (issued c h g.epoch)) ∙ ap (map record_of) (part_above c tag (s.first - 1) (version - 1) (durable_of l) (issued c h g.epoch) (omega (arith, low, first))))
+    ∙ ap (filter (λ r. nat_le r.version version)) (kept_records (nat_lt (version - 1)) (part_of c tag bottom (durable_of l) (issued c h g.epoch)) ∙ ap (map record_of) (part_above c tag bottom (version - 1) (durable_of l) (issued c h g.epoch) (omega (arith, low, first, unpopped))))
     ∙ kept_records (λ v. nat_le v version) (part_of c tag (version - 1) (durable_of l) (issued c h g.epoch))
     ∙ ap (map record_of) (part_through c tag (version - 1) version (durable_of l) (issued c h g.epoch) durable)
   where
     l : LogState
     l = log_at c h g.epoch i
+
+    bottom : ℕ
+    bottom = max (s.first - 1) (popped_at l.popped tag)
 
     named : IsNamed c h g.epoch i (log_at c h g.epoch i)
     named = log_named laws.contents.nodes c h run g.epoch i there
@@ -166,11 +173,11 @@ log_has laws c h config run g at i tag version inside there held first durable (
         ∙ ap (λ k. is_held tag g.m k i) (named.k ∙ ap (λ (x : LogGeneration). x.k) generation)
         ∙ held
 
-    parts : HasParts c h g.epoch i l s
-    parts = subst (λ o. IfSome o (HasParts c h g.epoch i l)) seeded (logs_have_parts laws.contents c h config run g.epoch i there)
+    left : HasLeft c h g.epoch i l s
+    left = subst (λ o. IfSome o (HasLeft c h g.epoch i l)) seeded (logs_have_left laws.contents c h config run g.epoch i there)
 
-    whole : records_of l tag ≡ part_records c h g.epoch tag (s.first - 1) (durable_of l)
-    whole = parts tag inside ∙ ap (λ b. cond b (part_records c h g.epoch tag (s.first - 1) (durable_of l)) []) holds
+    whole : records_of (swept l) tag ≡ part_records c h g.epoch tag bottom (durable_of l)
+    whole = left tag inside ∙ ap (λ b. cond b (part_records c h g.epoch tag bottom (durable_of l)) []) holds
 
     seed : IsSeedAt c h g.epoch s
     seed = subst (λ o. IfSome o (IsSeedAt c h g.epoch)) seeded (logs_know laws.contents.nodes c h run g.epoch i there).seed
@@ -179,12 +186,13 @@ log_has laws c h config run g at i tag version inside there held first durable (
     low = seed.first ∙ (let two : Some seed.generation ≡ Some g = sym seed.of ∙ at in let one : seed.generation ≡ g = cc in ap (λ (x : LogGeneration). x.first) one)
 
 -- a holder that is left serves the version
-served : Laws → (c : Config) (h : List Turn) → IsConfig c → IsRun c h → (e tag version : ℕ) → tag < length c.begins → (src : LogGeneration) → source_of (line_of c h e) version ≡ Some src → generation_at c h src.epoch ≡ Some src
-    → src.first ≤ version → src.k ≤ src.m → log_count src.m (lost_logs h src.epoch) < src.k → AllReach c h src.epoch src version
+served : Laws → (c : Config) (h : List Turn) → IsConfig c → IsRun c h → (e tag version : ℕ) → tag < length c.begins → (src : LogGeneration) → source_of (state_of c h e).gens version ≡ Some src → generation_at c h src.epoch ≡ Some src
+    → (storage_at c h tag).store.floor < version → src.first ≤ version → src.k ≤ src.m → log_count src.m (lost_logs h src.epoch) < src.k → AllReach c h src.epoch src version
     → part_records c h src.epoch tag (version - 1) version ≡ part_records c h e tag (version - 1) version → IsRetrievable c h e tag version
-served laws c h config run e tag version inside src is at first le few all same =
+served laws c h config run e tag version inside src is at above first le few all same =
     let left = laws.holder_left tag src.m src.k (lost_logs h src.epoch) le few in
     let k = all left.0 left.1 in
+    let popped = nothing_removed laws c h config run src.epoch left.0 tag k.there in
     record {
       source = src;
       is_source = is;
@@ -195,16 +203,27 @@ served laws c h config run e tag version inside src is at first le few all same 
       held = left.2;
       seeded = k.seeded;
       durable = k.durable;
-      records = log_has laws c h config run src at left.0 tag version inside k.there left.2 first k.durable (log_at c h src.epoch left.0).seed refl k.seeded ∙ same;
+      left = omega (arith, popped, above);
+      records = log_has laws c h config run src at left.0 tag version inside k.there left.2 first (omega (arith, popped, above)) k.durable (log_at c h src.epoch left.0).seed refl k.seeded ∙ same;
     }
 
 -- ---- each version
 
+-- what stands first of what is left is left
+got_drop : (n : ℕ) (xs : List LogGeneration) (x : LogGeneration) → slice_get xs n ≡ Some x → Contains (drop n xs) x
+got_drop zero [] x e = absurd (cc)
+got_drop zero (y ∷ xs) x e = let same : y ≡ x = cc in subst (λ z. Contains (y ∷ xs) z) same (Contains-here y xs)
+got_drop (suc n) [] x e = absurd (cc)
+got_drop (suc n) (y ∷ xs) x e = got_drop n xs x e
+
 pub committed_is_retrievable : Laws → CommittedIsRetrievable
-committed_is_retrievable laws c h config run e latest few tag inside version low high = go (source_of gens version) refl
+committed_is_retrievable laws c h config run e latest few tag inside version floor high = go (source_of gens version) refl
   where
     gens : List LogGeneration
     gens = line_of c h e
+
+    low : 1 ≤ version
+    low = omega (arith, floor)
 
     is : IsCoordinatedState (state_of c h e)
     is = state_is laws.contents.nodes c h config run e
@@ -224,6 +243,33 @@ committed_is_retrievable laws c h config run e latest few tag inside version low
         let front = chosen_are_chain laws.contents.nodes c h config run first_epoch e (first_is_chosen c h) latest.chosen (latest.greatest first_epoch (first_is_chosen c h)) in
         subst (λ (xs : List LogGeneration). Contains xs (first_generation c)) front.1 (Contains-append_left (first_generation c ∷ []) front.0 (first_generation c) (Contains-here (first_generation c) []))
 
+    view : IsView (line_of c h e) (state_of c h e)
+    view = states_are_views laws.contents.nodes c h config run e g.0 g.1
+
+    all : All IsGeneration (line_of c h e)
+    all = (lines_within laws.contents.nodes c h config run e g.0 g.1).0
+
+    -- a generation that is left starts at or below the version
+    starts : (x : LogGeneration) × Contains (drop (state_of c h e).dropped (line_of c h e)) x × (x.first ≤ version)
+    starts = pick (nat_lt 0 (state_of c h e).dropped) refl
+      where
+        pick : (b : Bool) → nat_lt 0 (state_of c h e).dropped ≡ b → (x : LogGeneration) × Contains (drop (state_of c h e).dropped (line_of c h e)) x × (x.first ≤ version)
+        pick true k =
+            let v = visible_is_safe laws c h config run e g.0 g.1 (ltb-true 0 (state_of c h e).dropped k) tag inside in
+            let low = v.floor in
+            (v.first, got_drop (state_of c h e).dropped (line_of c h e) v.first v.left, omega (arith, low, floor))
+        pick false k =
+            let le = ltb-false 0 (state_of c h e).dropped k in
+            let none : 0 ≡ (state_of c h e).dropped = omega (arith, le) in
+            (first_generation c, subst (λ n. Contains (drop n (line_of c h e)) (first_generation c)) none first_there, omega (arith, floor))
+
+    -- so the version's source is left
+    same_source : source_of (state_of c h e).gens version ≡ source_of (line_of c h e) version
+    same_source = ap (λ xs. source_of xs version) view.is ∙ laws.keeps_source (line_of c h e) (state_of c h e).dropped version starts.0 starts.1 starts.2
+
+    few_of : (src : LogGeneration) → source_of gens version ≡ Some src → log_count src.m (lost_logs h src.epoch) < src.k
+    few_of src at = All-contains (λ x. log_count x.m (lost_logs h x.epoch) < x.k) (state_of c h e).gens src few ((laws.stores.source (state_of c h e).gens version src is.ordered is.limits).0 (same_source ∙ at)).0
+
     -- the last generation
     last_one : (src : LogGeneration) → Contains gens src → end_of gens src.epoch ≡ None → src ≡ g.0
     last_one src there none = elim (cases_lt src.epoch g.0.epoch) [
@@ -240,7 +286,7 @@ committed_is_retrievable laws c h config run e latest few tag inside version low
     ]
 
     limits : (src : LogGeneration) → Contains gens src → src.k ≤ src.m
-    limits src there = (All-contains IsGeneration gens src is.limits there).k_high
+    limits src there = (All-contains IsGeneration gens src all there).k_high
 
     found : (src : LogGeneration) → source_of gens version ≡ Some src → Contains gens src → src.first ≤ version → IfSome (end_of gens src.epoch) (λ end. version ≤ end) → (o : Option LogGeneration) → next_of gens src.epoch ≡ o → IsRetrievable c h e tag version
     found src at there first within None next =
@@ -248,7 +294,7 @@ committed_is_retrievable laws c h config run e latest few tag inside version low
         let same : src ≡ g.0 = last_one src there none in
         let epoch : src.epoch ≡ e = ap (λ (x : LogGeneration). x.epoch) same ∙ list.own in
         let below = least_is_below laws c h config run e g.0 latest.chosen g.1 in
-        served laws c h config run e tag version inside src at (own_is src there) first (limits src there) (All-contains (λ x. log_count x.m (lost_logs h x.epoch) < x.k) gens src few there)
+        served laws c h config run e tag version inside src (same_source ∙ at) (own_is src there) floor first (limits src there) (few_of src at)
         (λ i l. subst (λ x. HasReached c h x i version) (sym epoch) (reached i (subst (λ (x : LogGeneration). i < x.m) same l)))
         (ap (λ x. part_records c h x tag (version - 1) version) epoch)
       where
@@ -267,9 +313,9 @@ committed_is_retrievable laws c h config run e latest few tag inside version low
         let end : end_of gens src.epoch ≡ Some (next.first - 1) = ap (option_map (λ (n : LogGeneration). n.first - 1)) is_next in
         let cut : cut_of gens src.epoch ≡ Some next.seeded_to = ap (option_map (λ (n : LogGeneration). n.seeded_to)) is_next in
         let upto : version ≤ next.first - 1 = subst (λ (o : Option ℕ). IfSome o (λ n. version ≤ n)) end within in
-        let above = laws.stores.above_end gens src.epoch (next.first - 1) next.seeded_to is.limits end cut in
+        let above = laws.stores.above_end gens src.epoch (next.first - 1) next.seeded_to all end cut in
         let seeded = behind_is_seeded laws.contents.nodes c h config run e g.0 g.1 s.before src next s.after are in
-        served laws c h config run e tag version inside src at (own_is src there) first (limits src there) (All-contains (λ x. log_count x.m (lost_logs h x.epoch) < x.k) gens src few there)
+        served laws c h config run e tag version inside src (same_source ∙ at) (own_is src there) floor first (limits src there) (few_of src at)
         (λ i l. behind_reached src (own_is src there) seeded i l (λ here is. (let d = end_is_reached laws c h config run e g.0 g.1 s.before src next s.after are i here is in omega (arith, d, upto, low))))
         (ap (map record_of) (part_same c tag (version - 1) version version (issued c h src.epoch) (issued c h e) (omega arith) (front_issues laws c h config run e g.0 g.1 s.before src next s.after are version (omega (arith, upto, above)))))
       where
@@ -287,5 +333,5 @@ committed_is_retrievable laws c h config run e latest few tag inside version low
         let above = All-contains (λ x. version < x.first) gens (first_generation c) ((laws.source_none gens version).0 at) first_there in
         absurd (omega (arith, above, low))
     go (Some src) at =
-        let k = (laws.stores.source gens version src is.ordered is.limits).0 at in
+        let k = (laws.stores.source gens version src list.ordered all).0 at in
         found src at k.0 k.1 k.2 (next_of gens src.epoch) refl

@@ -17,7 +17,8 @@ use Rattle.fr_run_contents.proofs.Versions.{through}
 use Rattle.fr_run_contents.proofs.IssuedLists.{version_of}
 use Rattle.fr_run_contents.proofs.Lists.{HasList, planned_list}
 use Rattle.fr_run_headline.specs.Laws.{Laws}
-use Rattle.fr_run.proofs.Chosen.{chosen_is_planned, chosen_are_chain}
+use Rattle.fr_run.proofs.Chosen.{chosen_is_planned}
+use Rattle.fr_run.proofs.Lines.{chosen_are_chain}
 use Rattle.fr_run_headline.proofs.Agreement.{front_issues}
 use Rattle.fr_run_headline.proofs.Floors.{taken_over}
 use Rattle.fr_run_headline.proofs.Places.{IsLast, last_place}

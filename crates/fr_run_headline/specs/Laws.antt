@@ -2,7 +2,8 @@
 use Rattle.fr_mutation.specs.Law.{ValueAfterLaw, ClipLaw}
 use Rattle.fr_tags.specs.SplitLaw.{ClipsMakeThePartFromNothing}
 use Rattle.fr_tags.specs.CoverLaw.{HolderIsLeft}
-use Rattle.fr_state.specs.Laws.{NextTells, SourceIsNone}
+use Rattle.fr_state.specs.Laws.{NextTells, SourceIsNone, DropKeepsSource}
+use Rattle.fr_log.specs.Law.{NotRemovedAbove}
 use Rattle.fr_storage.specs.Law.{PeekedKeepsState, MarkedKeepsTag, MarkedRefused, PeekedRefused, MarkedFollows, PeekedFollows, MarkedBreaks, PeekedBreaks, FirstFollows, FollowsOn}
 use Rattle.fr_storage.specs.Laws as storage
 use Rattle.fr_run_contents.specs.Laws as contents
@@ -12,10 +13,12 @@ pub record Laws : Type 0 where
   pub stores : storage.Laws
   pub next_tells : NextTells
   pub source_none : SourceIsNone
+  pub keeps_source : DropKeepsSource
   pub holder_left : HolderIsLeft
   pub values : ValueAfterLaw
   pub clips : ClipLaw
   pub from_nothing : ClipsMakeThePartFromNothing
+  pub not_removed : NotRemovedAbove
   pub keeps_state : PeekedKeepsState
   pub keeps_tag : MarkedKeepsTag
   pub marked_refused : MarkedRefused

@@ -1,5 +1,6 @@
 pub mod Agreement
 pub mod Storages
+pub mod LetGo
 pub mod Committed
 pub mod Order
 pub mod Retrievable

@@ -12,13 +12,13 @@ use Rattle.fr_run.specs.Turn.{Turn}
 use Rattle.fr_run.specs.Nodes.{rec_at, generation_at, logs_at, log_at, storage_at}
 use Rattle.fr_run.specs.Run.{IsRun}
 use Rattle.fr_run.specs.Batches.{IsAcknowledged}
-use Rattle.fr_run.specs.States.{state_of, IsChosenEpoch}
+use Rattle.fr_run.specs.States.{state_of, line_of, IsChosenEpoch}
 use Rattle.fr_run.specs.StateLaws.{IsConfig}
 use Rattle.fr_run_versions.specs.BehindLaws.{IsTakenOver}
 
--- a version of an epoch is not above the cut of the epoch in the state of any epoch that is planned: no recovery that goes on from the epoch takes over less
+-- a version of an epoch is not above the cut of the epoch in the line of any epoch that is planned: no recovery that goes on from the epoch takes over less
 abbrev pub IsNeverCut : Config → List Turn → ℕ → ℕ → Type 0
-IsNeverCut c h e version = (x : ℕ) (g : LogGeneration) → generation_at c h x ≡ Some g → IfSome (cut_of (state_of c h x).gens e) (λ cut. version ≤ cut)
+IsNeverCut c h e version = (x : ℕ) (g : LogGeneration) → generation_at c h x ≡ Some g → IfSome (cut_of (line_of c h x) e) (λ cut. version ≤ cut)
 
 -- so is what a log of the epoch knows
 abbrev pub KnownIsNeverCut : Type 0

@@ -6,10 +6,11 @@ use Rattle.fr_state.specs.Generations.{LogGeneration}
 use Rattle.fr_state.specs.LookUp.{source_of}
 use Rattle.fr_tags.specs.Placement.{is_held, log_count}
 use Rattle.fr_log.specs.declared.records.PeekedRecord.{PeekedRecord}
-use Rattle.fr_log.specs.LogState.{durable_of, records_of}
+use Rattle.fr_log.specs.Popped.{popped_at}
+use Rattle.fr_log.specs.LogState.{durable_of, records_of, swept}
 use Rattle.fr_run.specs.Config.{Config}
 use Rattle.fr_run.specs.Turn.{Turn, Begun, CellTurn, LogTurn, SeqTurn, Submitted, ProxyHeard, RecHeard, StorageHeard, Gone, Crashed}
-use Rattle.fr_run.specs.Nodes.{logs_at, log_at}
+use Rattle.fr_run.specs.Nodes.{logs_at, log_at, storage_at}
 use Rattle.fr_run.specs.Run.{IsRun}
 use Rattle.fr_run.specs.States.{state_of, IsLatest}
 use Rattle.fr_run.specs.StateLaws.{IsConfig}
@@ -53,8 +54,8 @@ AreFewLost c h e = All (λ g. log_count g.m (lost_logs h g.epoch) < g.k) (state_
 abbrev pub records_at : ℕ → List PeekedRecord → List PeekedRecord
 records_at version records = filter (λ r. nat_le r.version version) (filter (λ r. nat_lt (version - 1) r.version) records)
 
--- a version's part of a tag can be had from a log of the version's source that is not lost, holds the tag, starts at or below the version and has come through it:
--- the log has exactly what the epoch issued of the tag at that version
+-- a version's part of a tag can be had from a log of the version's source that is not lost, holds the tag, starts at or below the version, has come through it and
+-- has not let it go: what the log has left is exactly what the epoch issued of the tag at that version
 pub record IsRetrievable (c : Config) (h : List Turn) (e tag version : ℕ) : Type 0 where
   pub source : LogGeneration
   pub is_source : source_of (state_of c h e).gens version ≡ Some source
@@ -65,10 +66,11 @@ pub record IsRetrievable (c : Config) (h : List Turn) (e tag version : ℕ) : Ty
   pub held : is_held tag source.m source.k log ≡ true
   pub seeded : IsSome (log_at c h source.epoch log).seed
   pub durable : version ≤ durable_of (log_at c h source.epoch log)
-  pub records : records_at version (records_of (log_at c h source.epoch log) tag) ≡ part_records c h e tag (version - 1) version
+  pub left : popped_at (log_at c h source.epoch log).popped tag < version
+  pub records : records_at version (records_of (swept (log_at c h source.epoch log)) tag) ≡ part_records c h e tag (version - 1) version
 
--- where fewer than k logs of each generation are lost, each version of the committed list can be retrieved for each tag
+-- where fewer than k logs of each generation are lost, each version of the committed list that is above the floor of a tag's storage server can be retrieved for the tag
 abbrev pub CommittedIsRetrievable : Type 0
 CommittedIsRetrievable =
     (c : Config) (h : List Turn) → IsConfig c → IsRun c h → (latest : ℕ) → IsLatest c h latest → AreFewLost c h latest → (tag : ℕ) → tag < length c.begins
-    → (version : ℕ) → 1 ≤ version → version ≤ least_durable c h latest → IsRetrievable c h latest tag version
+    → (version : ℕ) → (storage_at c h tag).store.floor < version → version ≤ least_durable c h latest → IsRetrievable c h latest tag version

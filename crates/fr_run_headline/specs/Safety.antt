@@ -3,9 +3,15 @@ use Rattle.std.specs.Prelude.{◌≡◌, ◌≢◌, ◌<◌, ◌≤◌, ℕ, tru
 use Rattle.fr_base.specs.declared.place.NodeId.{NodeId}
 use Rattle.fr_log.specs.Push.{PushContent}
 use Rattle.fr_log.specs.LogState.{known_of, durable_of}
+use Rattle.fr_log.specs.declared.ask.LogAsk.TheVariants.{Peek}
+use Rattle.fr_log.specs.declared.ask.LogTell.TheVariants.{Refused}
+use Rattle.fr_log.specs.declared.ask.LogRefusal.TheVariants.{Removed}
+use Rattle.fr_log.specs.Popped.{popped_at}
+use Rattle.fr_log.specs.Step.{answer_of}
 use Rattle.fr_ask.specs.declared.tell.Tell.{Tell}
 use Rattle.fr_epoch.specs.EndTally.{is_covered, pev_of, rv_of}
-use Rattle.fr_epoch.specs.Recoverer.{RecState, Lost}
+use Rattle.fr_epoch.specs.declared.reply.Reply.{Reply}
+use Rattle.fr_epoch.specs.Recoverer.{RecState, Parent, Plan, Lost}
 use Rattle.fr_epoch.specs.declared.why.LostWhy.TheVariants.{Inconsistent}
 use Rattle.fr_storage.specs.declared.fault.StorageFault.{StorageFault}
 use Rattle.fr_storage.specs.declared.fault.StorageFault.TheVariants.{Stranger, BelowFloor}
@@ -20,14 +26,14 @@ use Rattle.fr_run.specs.StateLaws.{IsConfig}
 use Rattle.fr_run_versions.specs.LogLaws.{tally}
 use Rattle.fr_run_versions.specs.BehindLaws.{IsReplied, IsTakenOver}
 use Rattle.fr_run_contents.specs.Issued.{Entry, least_durable, committed}
-use Rattle.fr_run_contents.specs.Contents.{HasParts}
+use Rattle.fr_run_contents.specs.Contents.{HasParts, HasLeft}
 use Rattle.fr_run_headline.specs.Committed.{IsFollowing, RolledBackIsExact, HasCommitted, HasBatch, AcknowledgedIsNeverUndone}
 use Rattle.fr_run_headline.specs.Order.{IsNeverCut}
 use Rattle.fr_run_headline.specs.Retrievable.{AreFewLost, IsRetrievable}
 
 -- the order of versions: what a log knows each seeded log of the epoch holds; what is known, what was acknowledged and each floor no recovery cuts off; no
--- recoverer finds its replies at odds; a log holds pushes, its mark among them, only of an epoch that is chosen; and a seeded log holds exactly its tags'
--- parts of what its epoch issues
+-- recoverer finds its replies at odds; a log holds pushes, its mark among them, only of an epoch that is chosen; a seeded log holds exactly its tags'
+-- parts of what its epoch issues, and of these, once it let go of what it may, what is above the version that is popped of the tag
 pub record AreOrdered (c : Config) (h : List Turn) : Type 0 where
   pub durable : (e i j : ℕ) → i < logs_at c h e → j < logs_at c h e → IsSome (log_at c h e j).seed → known_of (log_at c h e i) ≤ durable_of (log_at c h e j)
   pub known : (e i : ℕ) → i < logs_at c h e → IsNeverCut c h e (known_of (log_at c h e i))
@@ -36,6 +42,7 @@ pub record AreOrdered (c : Config) (h : List Turn) : Type 0 where
   pub consistent : (b : ℕ) (r : RecState) → rec_at c h b ≡ Some r → r.phase ≢ Lost Inconsistent
   pub marks : (e i : ℕ) (q : PushContent) → i < logs_at c h e → Contains (log_at c h e i).pushes q → IsChosenEpoch c h e × IfSome q.mark (λ x. x ≡ state_of c h e)
   pub parts : (e i : ℕ) → i < logs_at c h e → IfSome (log_at c h e i).seed (HasParts c h e i (log_at c h e i))
+  pub left : (e i : ℕ) → i < logs_at c h e → IfSome (log_at c h e i).seed (HasLeft c h e i (log_at c h e i))
 
 -- all of it, over whatever happened: what a recovery takes over, what storage servers hold, what is committed, and what can be retrieved
 pub record IsSafe (c : Config) (h : List Turn) : Type 0 where
@@ -59,9 +66,18 @@ pub record IsSafe (c : Config) (h : List Turn) : Type 0 where
   pub batches : (e version : ℕ) → IsAcknowledged h e version → HasBatch c h e version
   -- no acknowledged batch is ever undone
   pub acknowledged : AcknowledgedIsNeverUndone c h
-  -- while fewer than k logs of each generation are lost, each committed version can be retrieved for each tag
+  -- while fewer than k logs of each generation are lost, each committed version above the floor of a tag's storage server can be retrieved for the tag
   pub retrievable : (latest : ℕ) → IsLatest c h latest → AreFewLost c h latest → (tag : ℕ) → tag < length c.begins
-      → (version : ℕ) → 1 ≤ version → version ≤ least_durable c h latest → IsRetrievable c h latest tag version
+      → (version : ℕ) → (storage_at c h tag).store.floor < version → version ≤ least_durable c h latest → IsRetrievable c h latest tag version
+  -- no log has let go of a version above the floor of its tag's storage server
+  pub removed : (e i tag : ℕ) → i < logs_at c h e → popped_at (log_at c h e i).popped tag ≤ (storage_at c h tag).store.floor
+  -- so none would tell one that what it asks for is removed
+  pub never_removed : (e i tag after most version : ℕ) → i < logs_at c h e → (storage_at c h tag).store.applied ≤ after
+      → answer_of (log_at c h e i) (Peek e tag after most) ≢ Refused (Removed version)
+  -- nor would one that replied to a recoverer tell it so of what it copies, which is above pev
+  pub copies : (b : ℕ) (r : RecState) (p : Parent) (q : Plan) → rec_at c h b ≡ Some r → r.parent ≡ Some p → r.plan ≡ Some q
+      → (x : Reply) → Contains (tally r).replies x → (tag after most version : ℕ) → q.tail.pev ≤ after
+      → answer_of (log_at c h p.last.epoch x.log) (Peek p.last.epoch tag after most) ≢ Refused (Removed version)
   -- there is a committed list: its versions rise, through one that each log of its epoch has come to
   pub committed : HasCommitted c h
 

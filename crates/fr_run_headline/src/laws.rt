@@ -1,9 +1,10 @@
 //! Laws of storage servers, and of what is committed.
-ghost use Rattle.fr_run_headline.specs.Agreement.{PartsAgree, PartsArePieces};
+ghost use Rattle.fr_run_headline.specs.Agreement.{LinesAgree, PartsAgree, PartsArePieces};
 ghost use Rattle.fr_run_headline.specs.Committed.{AcknowledgedHasBatch, AcknowledgedIsCommitted, CommittedGrows};
 ghost use Rattle.fr_run_headline.specs.Committed.{CommittedIsThere, EveryStorageFollows, LatestIsThere};
 ghost use Rattle.fr_run_headline.specs.Example.{RollbackHappens, SurvivesTwoRecoveries};
 ghost use Rattle.fr_run_headline.specs.Headline.{Headline};
+ghost use Rattle.fr_run_headline.specs.LetGo.{CopyIsNeverRemoved, NeverRemoved, NothingRemovedAboveFloor, PoppedIsSafe, VisibleIsSafe};
 ghost use Rattle.fr_run_headline.specs.Order.{AcknowledgedIsNeverCut, FloorIsNeverCut, FloorIsTakenOver};
 ghost use Rattle.fr_run_headline.specs.Order.{HeldIsChosen, KnownIsNeverCut, NeverInconsistent};
 ghost use Rattle.fr_run_headline.specs.Retrievable.{CommittedIsRetrievable};
@@ -14,11 +15,14 @@ ghost use Rattle.fr_run_contents.specs.Laws as contents;
 ghost use Rattle.fr_storage.specs.Laws as storage;
 ghost use Rattle.fr_undo.specs.Law.{InverseLaw};
 
+use fr_log::laws::{letting_law, pop_law};
 use fr_mutation::{after_law, clip_law};
 use fr_run::laws::node_laws;
 use fr_run_contents::laws::contents_law;
 use fr_run_versions::laws::{order_law as version_law, replied_law};
-use fr_state::{cut_law, equal_law, front_law, source_law, spelling_law};
+use fr_state::{
+    cut_law, drop_law, equal_law, front_law, going_law, left_law, source_law, spelling_law,
+};
 use fr_storage::follow_law as hear_law;
 use fr_tags::laws::{cover_law, shard_fold_law, split_law};
 use fr_tail::laws::copy_law;
@@ -31,6 +35,7 @@ fn contents_laws()
     node_laws();
     split_law();
     copy_law();
+    letting_law();
 }
 
 /// The laws of stores and of lists of generations.
@@ -41,6 +46,9 @@ fn store_laws()
     source_law();
     cut_law();
     front_law();
+    drop_law();
+    left_law();
+    going_law();
     equal_law();
     spelling_law();
 }
@@ -53,6 +61,8 @@ fn lower_laws()
     store_laws();
     cut_law();
     source_law();
+    left_law();
+    pop_law();
     cover_law();
     after_law();
     clip_law();
@@ -60,10 +70,11 @@ fn lower_laws()
     hear_law();
 }
 
-/// What epochs have for a tag is pieces of commits, and along the generations of an epoch's state they agree
-/// through each cut.
+/// What epochs have for a tag is pieces of commits, and along the line of an epoch they agree through each cut, so
+/// along its state too.
 pub fn agree_law()
     ensures pieces { PartsArePieces }
+    ensures lines { LinesAgree }
     ensures agree { PartsAgree }
 {
     lower_laws();
@@ -77,6 +88,20 @@ pub fn follow_law()
     ensures exact { EveryStorageFollows }
     ensures taken { HearsAreTaken }
     ensures each { EachHearIsTaken }
+{
+    lower_laws();
+}
+
+/// No log has let go, of a tag, of more than the tag's storage server has for good. Of the generations that an
+/// epoch's state still shows the first one stands in the line of each storage server, which has all that those before
+/// it numbered. So none is ever told that what it asks for is removed, nor ever marked by a state that dropped all of
+/// its generations; and no recoverer would be told so of what it copies.
+pub fn let_go_law()
+    ensures popped { PoppedIsSafe }
+    ensures visible { VisibleIsSafe }
+    ensures removed { NothingRemovedAboveFloor }
+    ensures never { NeverRemoved }
+    ensures copies { CopyIsNeverRemoved }
 {
     lower_laws();
 }
@@ -138,6 +163,7 @@ pub fn safety_law()
     contents_law();
     order_law();
     follow_law();
+    let_go_law();
     committed_law();
     acknowledged_law();
     headline_law();

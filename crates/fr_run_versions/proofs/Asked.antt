@@ -17,7 +17,7 @@ use Rattle.fr_run.proofs.Accounts.{sent_is_accounted}
 use Rattle.fr_run.proofs.Chosen.{open_is_chosen}
 use Rattle.fr_run_versions.specs.TellLaws.{MarkedIsChosen, IsPeekAsked, PeekedIsAsked, PeekedIsOwn}
 use Rattle.fr_run_versions.proofs.Marks.{told_turn, marked_is_state}
-use Rattle.fr_run_versions.proofs.Logs.{may_later}
+use Rattle.fr_run_versions.proofs.Logs.{peek_later}
 use Rattle.fr_run_versions.proofs.Named.{log_named}
 
 pub marked_is_chosen : Laws → MarkedIsChosen
@@ -27,7 +27,7 @@ marked_is_chosen laws c h run e i to x told =
 
 -- what was asked stays asked
 asked_later : (c : Config) (h : List Turn) (t : Turn) (e i : ℕ) (from : NodeId) (tag after : ℕ) → IsPeekAsked c h e i from tag after → IsPeekAsked c (t ∷ h) e i from tag after
-asked_later c h t e i from tag after k = record { most = k.most; some = k.some; asked = elim k.asked [ inl sent ↦ inl (inr sent) | inr may ↦ inr (may_later c h t from (Peek e tag after k.most) may) ] }
+asked_later c h t e i from tag after k = record { most = k.most; some = k.some; asked = elim k.asked [ inl sent ↦ inl (inr sent) | inr may ↦ inr (peek_later c h t from e tag after k.most may) ] }
 
 pub peeked_is_asked : Laws → PeekedIsAsked
 peeked_is_asked laws c h run e i to p = told_turn c (λ h. IsPeekAsked c h e i to p.tag p.after) e i to (Peeked p) (λ h t run is k. asked_later c h t e i to p.tag p.after k) now h run

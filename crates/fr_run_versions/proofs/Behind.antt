@@ -13,8 +13,9 @@ use Rattle.fr_run.specs.States.{line_of}
 use Rattle.fr_run.specs.StateLaws.{IsConfig}
 use Rattle.fr_run.proofs.Growth.{rec_is}
 use Rattle.fr_run.proofs.States.{last_more}
-use Rattle.fr_run.proofs.States.{state_is as within}
-use Rattle.fr_run.proofs.Parents.{plan_is, parent_is_planned, plan_line, planned_by}
+use Rattle.fr_run.proofs.Chosen.{generation_planned}
+use Rattle.fr_run.proofs.Parents.{plan_is, parent_is_planned, planned_by}
+use Rattle.fr_run.proofs.Lines.{plan_line, lines_within}
 use Rattle.fr_run_versions.specs.SeededLaws.{IsSeededEpoch}
 use Rattle.fr_run_versions.specs.BehindLaws.{HasGenerations, GenerationsAreOwn, FrontIsState, BehindIsSeeded}
 use Rattle.fr_run_versions.proofs.Transport.{plans_are_lines, first_line}
@@ -110,7 +111,7 @@ plan_state laws c h config run b r q at planned =
       has = record {
         own = plan_own laws c h run b r q at planned;
         last = ap last_of k.1.is ∙ last_more (line_of c h k.0.last.epoch) q.generation;
-        ordered = (within laws c h config run b).ordered;
+        ordered = (lines_within laws c h config run b q.generation (generation_planned laws c h run b r at q planned)).1;
         each = (plans_are_lines laws c h config run b r q at planned).each;
       };
       behind = line_of c h k.0.last.epoch;

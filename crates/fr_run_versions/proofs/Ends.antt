@@ -11,7 +11,7 @@ use Rattle.fr_epoch.specs.declared.reply.Reply.{Reply}
 use Rattle.fr_epoch.specs.EndTally.{is_covered, least_durable, pev_of, rv_of}
 use Rattle.fr_epoch.specs.Recoverer.{RecState, Plan, Locking}
 use Rattle.fr_epoch.specs.Hear as rec
-use Rattle.fr_epoch.specs.Hear.{with_lock, plan_of}
+use Rattle.fr_epoch.specs.Hear.{plan_of}
 use Rattle.fr_epoch.specs.Words.{Word, word_of}
 use Rattle.fr_epoch.specs.Change.{replied, Change, Stands, LosesReads, Reads, Finds, Locks, LosesLocks, Plans, Copies, Seeds, SeedsAll, Writes, LosesWrites, Chooses, Marks}
 use Rattle.fr_epoch.specs.Law.{IsRecoverer}
@@ -44,9 +44,9 @@ change w r n Stands come_by k = k
 change w r n (LosesReads i t why is) come_by k = λ q e. keeps r n refl q (k q e)
 change w r n (Reads i t is) come_by k = λ q e. keeps r n refl q (k q e)
 change w r n (Finds i t s g heard is) come_by k = λ q e. absurd (let d : None ≡ Some q = sym (come_by.parentless (come_by.reading heard.phase)) ∙ e in absurd (cc))
-change w r n (Locks p end i durable known is) come_by k = λ q e. absurd (unplanned r come_by is.phase q e)
-change w r n (LosesLocks p end i durable known why is) come_by k = λ q e. absurd (unplanned r come_by is.phase q e)
-change w r n (Plans p end i durable known s heard is) come_by k = λ q e. (
+change w r n (Locks p end i durable known popped is) come_by k = λ q e. absurd (unplanned r come_by is.phase q e)
+change w r n (LosesLocks p end i durable known popped why is) come_by k = λ q e. absurd (unplanned r come_by is.phase q e)
+change w r n (Plans p end i durable known popped s heard is) come_by k = λ q e. (
     let d : plan_of r p (replied end i durable known) s ≡ q = cc in
     subst (IsEndOf n) d (record { covered = is.covered; within = is.within; first = refl; seeded_to = refl }))
 change w r n (Copies parent p i peeked is) come_by k = λ q e. (

@@ -163,7 +163,7 @@ seed_later laws c h t run is e (Some s) k = record { generation = k.generation; 
 asked : Laws → (c : Config) (h : List Turn) → IsRun c h → (e i : ℕ) (l : LogState) → IsKnowing c h e l → (from : NodeId) (a : LogAsk) → Sent h from (node.Log e i) (ask.Log a) ⊎ StorageMayAsk c h from a → IsKnowing c h e (next_of l a)
 asked laws c h run e i l k from a came =
     log_change (IsKnowing c h e) l a k (λ s at none. record { seed = seed s at came; pushes = k.pushes })
-    (λ q at took. record { seed = k.seed; pushes = All-push (λ q. IsBelow c h e q.known) l.pushes q k.pushes (push q at came) }) (record { seed = k.seed; pushes = k.pushes })
+    (λ q at took. record { seed = k.seed; pushes = All-push (λ q. IsBelow c h e q.known) l.pushes q k.pushes (push q at came) }) (record { seed = k.seed; pushes = k.pushes }) (λ ps. record { seed = k.seed; pushes = k.pushes })
   where
     seed : (s : SeedContent) → a ≡ Seed s → Sent h from (node.Log e i) (ask.Log a) ⊎ StorageMayAsk c h from a → IsSeedAt c h e s
     seed s at (inl sent) = seeds_are_at laws c h run from e i s (subst (λ x. Sent h from (node.Log e i) (ask.Log x)) at sent)

@@ -21,3 +21,5 @@ pub mod Behind
 pub mod Asked
 pub mod Taking
 pub mod Replies
+pub mod Shown
+pub mod Popping

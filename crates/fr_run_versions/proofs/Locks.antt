@@ -9,6 +9,7 @@ use Rattle.fr_base.specs.declared.place.NodeId.TheVariants as node
 use Rattle.fr_log.specs.declared.ask.LogAsk.{LogAsk}
 use Rattle.fr_log.specs.declared.ask.LogAsk.TheVariants.{Lock}
 use Rattle.fr_log.specs.declared.ask.LogTell.{LogTell}
+use Rattle.fr_log.specs.declared.popped.PoppedTag.{PoppedTag}
 use Rattle.fr_log.specs.declared.ask.LogTell.TheVariants as ltell
 use Rattle.fr_log.specs.LogState.{LogState, durable_of, known_of}
 use Rattle.fr_log.specs.Step.{answer_of, next_of}
@@ -18,7 +19,6 @@ use Rattle.fr_epoch.specs.declared.reply.Reply.{Reply}
 use Rattle.fr_epoch.specs.EndTally.{EndState, with_reply, has_replied}
 use Rattle.fr_epoch.specs.Recoverer.{RecState, Parent}
 use Rattle.fr_epoch.specs.Hear as rec
-use Rattle.fr_epoch.specs.Hear.{with_lock}
 use Rattle.fr_epoch.specs.Words.{OfLog, word_of}
 use Rattle.fr_epoch.specs.Change.{replied, IsReplied, Change, Stands, LosesReads, Reads, Finds, Locks, LosesLocks, Plans, Copies, Seeds, SeedsAll, Writes, LosesWrites, Chooses, Marks}
 use Rattle.fr_run.specs.Config.{Config}
@@ -47,39 +47,39 @@ stands_later laws c h t run is e i durable known k =
     }
 
 -- a log that is locked now stands still from now on
-locked_now : Laws → (c : Config) (h : List Turn) (from : NodeId) (e i : ℕ) (a : LogAsk) (t : LogTell) → IsRun c h → IsTurn c h (LogTurn from e i a t) → (durable known : ℕ) → t ≡ ltell.Locked durable known
+locked_now : Laws → (c : Config) (h : List Turn) (from : NodeId) (e i : ℕ) (a : LogAsk) (t : LogTell) → IsRun c h → IsTurn c h (LogTurn from e i a t) → (durable known : ℕ) (popped : List PoppedTag) → t ≡ ltell.Locked durable known popped
     → StandsAt c (LogTurn from e i a t ∷ h) e i durable known
-locked_now laws c h from e i a t run is durable known says =
+locked_now laws c h from e i a t run is durable known popped says =
     let l = log_at c h e i in
     let below = ltb-true i (logs_at c h e) is.0.there in
-    let ask = (laws.log_answers l a (ltell.Locked durable known) (sym is.2 ∙ says)).ask in
-    let lock : answer_of l (Lock l.epoch) ≡ ltell.Locked durable known = subst (λ x. answer_of l x ≡ ltell.Locked durable known) ask (sym is.2 ∙ says) in
-    let told = laws.locked_stopped l l.epoch durable known lock in
-    let still = laws.nothing_raises l (Lock l.epoch) told.2 refl in
+    let ask = (laws.log_answers l a (ltell.Locked durable known popped) (sym is.2 ∙ says)).ask in
+    let lock : answer_of l (Lock l.epoch) ≡ ltell.Locked durable known popped = subst (λ x. answer_of l x ≡ ltell.Locked durable known popped) ask (sym is.2 ∙ says) in
+    let told = laws.locked_stopped l l.epoch durable known popped lock in
+    let still = laws.nothing_raises l (Lock l.epoch) told.3 refl in
     let now : log_at c (LogTurn from e i a t ∷ h) e i ≡ next_of l (Lock l.epoch) =
     log_stays laws c h (LogTurn from e i a t) run is e i below ∙ (rw (eq-eqb e e refl, eq-eqb i i refl) (ap (next_of l) ask)) in
     let g = log_grows laws c h (LogTurn from e i a t) run is e i below in
     record {
       there = subst (λ n. i < n) (sym (logs_stay laws c h (LogTurn from e i a t) run is e i below)) below;
-      seeded = ap is_some (g.seed told.2) ∙ told.2;
-      stopped = subst (λ (x : LogState). IsTrue x.stopped) (sym now) told.3;
+      seeded = ap is_some (g.seed told.3) ∙ told.3;
+      stopped = subst (λ (x : LogState). IsTrue x.stopped) (sym now) told.4;
       durable_is = ap durable_of now ∙ (still.durable ∙ sym told.0);
       known_is = ap known_of now ∙ (still.known ∙ sym told.1);
     }
 
 pub locked_stands_still : Laws → LockedStandsStill
-locked_stands_still laws c [] run e i to durable known k = absurd k
-locked_stands_still laws c (t ∷ h) run e i to durable known (inr k) = stands_later laws c h t run.1 run.0 e i durable known (locked_stands_still laws c h run.1 e i to durable known k)
-locked_stands_still laws c (t ∷ h) run e i to durable known (inl k) = now t run.0 k
+locked_stands_still laws c [] run e i to durable known popped k = absurd k
+locked_stands_still laws c (t ∷ h) run e i to durable known popped (inr k) = stands_later laws c h t run.1 run.0 e i durable known (locked_stands_still laws c h run.1 e i to durable known popped k)
+locked_stands_still laws c (t ∷ h) run e i to durable known popped (inl k) = now t run.0 k
   where
-    now : (t : Turn) → IsTurn c h t → TellsBy t (node.Log e i) to (tell.Log (ltell.Locked durable known)) → StandsAt c (t ∷ h) e i durable known
+    now : (t : Turn) → IsTurn c h t → TellsBy t (node.Log e i) to (tell.Log (ltell.Locked durable known popped)) → StandsAt c (t ∷ h) e i durable known
     now (Begun b shape asks) is k = absurd k
     now (CellTurn from j a u) is (at, own, says) = let d : node.Cell j ≡ node.Log e i = at in absurd (cc)
     now (LogTurn from x j a u) is (at, own, says) =
         let d : x ≡ e = cc in
         let f : j ≡ i = cc in
-        let v : u ≡ ltell.Locked durable known = cc in
-        subst (λ y. StandsAt c (LogTurn from x j a u ∷ h) e y durable known) f (subst (λ y. StandsAt c (LogTurn from x j a u ∷ h) y j durable known) d (locked_now laws c h from x j a u run.1 is durable known v))
+        let v : u ≡ ltell.Locked durable known popped = cc in
+        subst (λ y. StandsAt c (LogTurn from x j a u ∷ h) e y durable known) f (subst (λ y. StandsAt c (LogTurn from x j a u ∷ h) y j durable known) d (locked_now laws c h from x j a u run.1 is durable known popped v))
     now (SeqTurn from x a u) is (at, own, says) = let d : node.Sequencer x ≡ node.Log e i = at in absurd (cc)
     now (Submitted x p step batch asks) is k = absurd k
     now (ProxyHeard x p from u outcome asks) is k = absurd k
@@ -119,14 +119,14 @@ one_more P s x all new = go (nat_lt x.log s.m && not (has_replied s x.log))
     go true = All-push P s.replies x all new
     go false = all
 
-pub has_replied_too : Laws → (c : Config) (h : List Turn) → IsRun c h → (b : ℕ) (from : NodeId) (t : Tell) → Told h from (node.Recoverer b) t → (r : RecState) → AllStand c h r → (p : Parent) (end : EndState) (i durable known : ℕ) → IsReplied r (word_of from t) p end i durable known
+pub has_replied_too : Laws → (c : Config) (h : List Turn) → IsRun c h → (b : ℕ) (from : NodeId) (t : Tell) → Told h from (node.Recoverer b) t → (r : RecState) → AllStand c h r → (p : Parent) (end : EndState) (i durable known : ℕ) (popped : List PoppedTag) → IsReplied r (word_of from t) p end i durable known popped
     → (q : Parent) → r.parent ≡ Some q → All (λ x. StandsAt c h q.last.epoch x.log x.durable x.known) (replied end i durable known).replies
-has_replied_too laws c h run b from t told r k p end i durable known is q e =
+has_replied_too laws c h run b from t told r k p end i durable known popped is q e =
     let says = is.word in
-    let w = of_log from t p.last.epoch i (ltell.Locked durable known) says in
-    let heard : Told h (node.Log p.last.epoch i) (node.Recoverer b) (tell.Log (ltell.Locked durable known)) =
+    let w = of_log from t p.last.epoch i (ltell.Locked durable known popped) says in
+    let heard : Told h (node.Log p.last.epoch i) (node.Recoverer b) (tell.Log (ltell.Locked durable known popped)) =
     subst (λ x. Told h (node.Log p.last.epoch i) (node.Recoverer b) x) w.said (subst (λ x. Told h x (node.Recoverer b) t) w.sender told) in
-    let stands = locked_stands_still laws c h run p.last.epoch i (node.Recoverer b) durable known heard in
+    let stands = locked_stands_still laws c h run p.last.epoch i (node.Recoverer b) durable known popped heard in
     let same : Some p ≡ Some q = sym is.parent ∙ e in
     let before : All (λ x. StandsAt c h q.last.epoch x.log x.durable x.known) end.replies = subst (λ o. All (λ x. StandsAt c h q.last.epoch x.log x.durable x.known) (tally_in o).replies) is.tally (k q e) in
     let d : p ≡ q = cc in
@@ -137,9 +137,9 @@ change laws c h run b from t told r at k n Stands = k
 change laws c h run b from t told r at k n (LosesReads i u why is) = k
 change laws c h run b from t told r at k n (Reads i u is) = k
 change laws c h run b from t told r at k n (Finds i u s g heard is) = λ p e. All-nil (λ x. StandsAt c h p.last.epoch x.log x.durable x.known)
-change laws c h run b from t told r at k n (Locks p end i durable known is) = has_replied_too laws c h run b from t told r k p end i durable known is
-change laws c h run b from t told r at k n (LosesLocks p end i durable known why is) = has_replied_too laws c h run b from t told r k p end i durable known is
-change laws c h run b from t told r at k n (Plans p end i durable known s heard is) = has_replied_too laws c h run b from t told r k p end i durable known heard
+change laws c h run b from t told r at k n (Locks p end i durable known popped is) = has_replied_too laws c h run b from t told r k p end i durable known popped is
+change laws c h run b from t told r at k n (LosesLocks p end i durable known popped why is) = has_replied_too laws c h run b from t told r k p end i durable known popped is
+change laws c h run b from t told r at k n (Plans p end i durable known popped s heard is) = has_replied_too laws c h run b from t told r k p end i durable known popped heard
 change laws c h run b from t told r at k n (Copies parent p i peeked is) = k
 change laws c h run b from t told r at k n (Seeds p i is w) = k
 change laws c h run b from t told r at k n (SeedsAll p i is w) = k

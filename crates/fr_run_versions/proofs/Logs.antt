@@ -9,7 +9,8 @@ use Rattle.fr_base.specs.declared.place.NodeId.{NodeId}
 use Rattle.fr_base.specs.declared.place.NodeId.TheVariants as node
 use Rattle.fr_state.specs.Generations.{CoordinatedState}
 use Rattle.fr_log.specs.declared.ask.LogAsk.{LogAsk}
-use Rattle.fr_log.specs.declared.ask.LogAsk.TheVariants.{Seed, Push, Peek, MarkAsked}
+use Rattle.fr_log.specs.declared.popped.PoppedTag.{PoppedTag}
+use Rattle.fr_log.specs.declared.ask.LogAsk.TheVariants.{Seed, Push, Peek}
 use Rattle.fr_log.specs.Seed.{SeedContent}
 use Rattle.fr_log.specs.Push.{PushContent}
 use Rattle.fr_log.specs.LogState.{LogState, durable_of, seeded_to_of}
@@ -57,11 +58,10 @@ log_by_own_turn c h (StorageHeard tag from t taken fault) is e i l P same takes 
 log_by_own_turn c h (Gone who) is e i l P same takes = same
 log_by_own_turn c h (Crashed who) is e i l P same takes = same
 
--- what a storage server may ask it may ask later on
-pub may_later : (c : Config) (h : List Turn) (t : Turn) (from : NodeId) (a : LogAsk) → StorageMayAsk c h from a → StorageMayAsk c (t ∷ h) from a
-may_later c h t (node.Storage tag) (Peek e u after most) k = k
-may_later c h t (node.Storage tag) (MarkAsked e) k = k
-may_later c h t from a k = absurd k
+-- records that a storage server may ask for it may ask for later on
+pub peek_later : (c : Config) (h : List Turn) (t : Turn) (from : NodeId) (e u after most : ℕ) → StorageMayAsk c h from (Peek e u after most) → StorageMayAsk c (t ∷ h) from (Peek e u after most)
+peek_later c h t (node.Storage tag) e u after most k = k
+peek_later c h t from e u after most k = absurd k
 
 -- no storage server seeds or pushes
 pub no_seed : (c : Config) (h : List Turn) (from : NodeId) (s : SeedContent) → StorageMayAsk c h from (Seed s) → ⊥
@@ -203,6 +203,14 @@ stopped_log c h e l k = record {
   whole = λ n given low. let j = k.whole n given low in record { push = j.push; held = j.held; at = j.at };
 }
 
+popped_log : (c : Config) (h : List Turn) (e : ℕ) (l : LogState) → IsLogOf c h e l → (ps : List PoppedTag) → IsLogOf c h e (record l { popped = ps })
+popped_log c h e l k ps = record {
+  unseeded = k.unseeded;
+  seeded = k.seeded;
+  each = k.each;
+  whole = λ n given low. let j = k.whole n given low in record { push = j.push; held = j.held; at = j.at };
+}
+
 seeded_log : Laws → (c : Config) (h : List Turn) → IsRun c h → (e : ℕ) (l : LogState) → IsLogOf c h e l → (s : SeedContent) → l.seed ≡ None → IsSeedOf c h e s → IsLogOf c h e (record l { seed = Some s })
 seeded_log laws c h run e l k s none is =
     let empty = k.unseeded none in
@@ -242,17 +250,18 @@ pushed_log laws c h run e l k q took own = record {
         record { push = j.push; held = Contains-append_left l.pushes (q ∷ []) j.push j.held; at = j.at }
 
 -- a log after an ask that was delivered to it
-pub asked_log : Laws → (c : Config) (h : List Turn) → IsRun c h → (e i : ℕ) (l : LogState) → IsLogOf c h e l → (from : NodeId) (a : LogAsk) → Sent h from (node.Log e i) (ask.Log a) ⊎ StorageMayAsk c h from a → IsLogOf c h e (next_of l a)
-asked_log laws c h run e i l k from a came =
+pub asked_log : Laws → (c : Config) (h g : List Turn) → IsRun c h → (e i : ℕ) (l : LogState) → IsLogOf c h e l → (from : NodeId) (a : LogAsk) → Sent h from (node.Log e i) (ask.Log a) ⊎ StorageMayAsk c g from a → IsLogOf c h e (next_of l a)
+asked_log laws c h g run e i l k from a came =
     log_change (IsLogOf c h e) l a k (λ s at none. seeded_log laws c h run e l k s none (seed s at came)) (λ q at took. pushed_log laws c h run e l k q took (push q at came)) (stopped_log c h e l k)
+    (λ ps. popped_log c h e l k ps)
   where
-    seed : (s : SeedContent) → a ≡ Seed s → Sent h from (node.Log e i) (ask.Log a) ⊎ StorageMayAsk c h from a → IsSeedOf c h e s
+    seed : (s : SeedContent) → a ≡ Seed s → Sent h from (node.Log e i) (ask.Log a) ⊎ StorageMayAsk c g from a → IsSeedOf c h e s
     seed s at (inl sent) = seeds_are_own laws c h run from e i s (subst (λ x. Sent h from (node.Log e i) (ask.Log x)) at sent)
-    seed s at (inr may) = absurd (no_seed c h from s (subst (StorageMayAsk c h from) at may))
+    seed s at (inr may) = absurd (no_seed c g from s (subst (StorageMayAsk c g from) at may))
 
-    push : (q : PushContent) → a ≡ Push q → Sent h from (node.Log e i) (ask.Log a) ⊎ StorageMayAsk c h from a → IsOfEpoch c h e q
+    push : (q : PushContent) → a ≡ Push q → Sent h from (node.Log e i) (ask.Log a) ⊎ StorageMayAsk c g from a → IsOfEpoch c h e q
     push q at (inl sent) = pushes_are_own laws c h run from e i q (subst (λ x. Sent h from (node.Log e i) (ask.Log x)) at sent)
-    push q at (inr may) = absurd (no_push c h from q (subst (StorageMayAsk c h from) at may))
+    push q at (inr may) = absurd (no_push c g from q (subst (StorageMayAsk c g from) at may))
 
 -- ---- runs
 
@@ -340,12 +349,13 @@ new_is laws c h run e i (Some p) = record {
   whole = λ n given low. absurd (let up = above_mark laws c h run e n given in omega (arith, up, low));
 }
 
--- a log that is there only now
+-- a log that is there only now was never asked
+pub made_log : Laws → (c : Config) (h : List Turn) (t : Turn) → IsRun c h → IsTurn c h t → (e i : ℕ) → nat_lt i (logs_at c h e) ≡ false → log_at c (t ∷ h) e i ≡ new_log c (t ∷ h) e i
+made_log laws c h t run is e i absent = let l = new_log c (t ∷ h) e i in ap (log_after t e i) (unasked_run laws c h run e i absent l) ∙ unasked laws c h t is e i absent l
+
 made_now : Laws → (c : Config) (h : List Turn) (t : Turn) → IsRun c h → IsTurn c h t → (e i : ℕ) → nat_lt i (logs_at c h e) ≡ false → i < logs_at c (t ∷ h) e → IsLogOf c (t ∷ h) e (log_at c (t ∷ h) e i)
 made_now laws c h t run is e i absent below =
-    let l = new_log c (t ∷ h) e i in
-    let same : log_at c (t ∷ h) e i ≡ l = ap (log_after t e i) (unasked_run laws c h run e i absent l) ∙ unasked laws c h t is e i absent l in
-    subst (IsLogOf c (t ∷ h) e) (sym same) (go (e == first_epoch) absent below)
+    subst (IsLogOf c (t ∷ h) e) (sym (made_log laws c h t run is e i absent)) (go (e == first_epoch) absent below)
   where
     go : (s : Bool) → nat_lt i (cond s c.m (logs_in (plan_at c h e))) ≡ false → i < cond s c.m (logs_in (plan_at c (t ∷ h) e)) → IsLogOf c (t ∷ h) e (cond s (first_log c i) (new_log_in (plan_at c (t ∷ h) e) e i))
     go true k l = let low = ltb-false i c.m k in absurd (omega (arith, low, l))
@@ -358,11 +368,11 @@ there_before laws c h t run is e i below k =
     let l = log_at c h e i in
     let later = log_later laws c h t run is e same l k in
     subst (IsLogOf c (t ∷ h) e) (sym (log_stays laws c h t run is e i below))
-    (log_by_own_turn c h t is e i l (IsLogOf c (t ∷ h) e) later (λ from a came. asked_log laws c (t ∷ h) (is, run) e i l later from a (lift from a came)))
+    (log_by_own_turn c h t is e i l (IsLogOf c (t ∷ h) e) later (λ from a came. asked_log laws c (t ∷ h) h (is, run) e i l later from a (lift from a came)))
   where
-    lift : (from : NodeId) (a : LogAsk) → Sent h from (node.Log e i) (ask.Log a) ⊎ StorageMayAsk c h from a → Sent (t ∷ h) from (node.Log e i) (ask.Log a) ⊎ StorageMayAsk c (t ∷ h) from a
+    lift : (from : NodeId) (a : LogAsk) → Sent h from (node.Log e i) (ask.Log a) ⊎ StorageMayAsk c h from a → Sent (t ∷ h) from (node.Log e i) (ask.Log a) ⊎ StorageMayAsk c h from a
     lift from a (inl s) = inl (inr s)
-    lift from a (inr m) = inr (may_later c h t from a m)
+    lift from a (inr m) = inr m
 
 log_next : Laws → (c : Config) (h : List Turn) (t : Turn) → IsRun c h → IsTurn c h t → (e i : ℕ) → (i < logs_at c h e → IsLogOf c h e (log_at c h e i)) → i < logs_at c (t ∷ h) e → IsLogOf c (t ∷ h) e (log_at c (t ∷ h) e i)
 log_next laws c h t run is e i before below = go (nat_lt i (logs_at c h e)) refl

@@ -2,6 +2,7 @@
 use Rattle.std.proofs.Common.{◌≡◌, ℕ, ◌<◌, Bool, true, false, cond, ◌==◌, List, [], ◌∷◌, Option, None, Some, inl, inr, ◌⊎◌, refl, sym, ◌∙◌, ap, subst}
 use Rattle.std.specs.Prelude.{IfSome, is_some}
 use Rattle.std.specs.List.{All}
+use Rattle.std.specs.Option.{option_map}
 use Rattle.std.proofs.lemmas.Bool.{eq-eqb, eqb-true, ltb-true, or_right}
 use Rattle.std.proofs.lemmas.List.Elements.{All-nil, All-push, All-head, All-weaker}
 use Rattle.fr_base.specs.declared.place.NodeId.{NodeId}
@@ -11,7 +12,9 @@ use Rattle.fr_log.specs.declared.ask.LogAsk.{LogAsk}
 use Rattle.fr_log.specs.declared.ask.LogAsk.TheVariants.{Push}
 use Rattle.fr_log.specs.declared.ask.LogTell.{LogTell}
 use Rattle.fr_log.specs.declared.ask.LogTell.TheVariants as ltell
+use Rattle.fr_log.specs.Popped.{left_seed}
 use Rattle.fr_log.specs.Push.{PushContent}
+use Rattle.fr_log.specs.Seed.{SeedContent}
 use Rattle.fr_log.specs.LogState.{LogState, mark_among}
 use Rattle.fr_log.specs.Step.{next_of}
 use Rattle.fr_ask.specs.declared.ask.Ask.TheVariants as ask
@@ -70,6 +73,11 @@ seeded_later laws c h t run is e i k = record {
   seeded = ap is_some ((log_grows laws c h t run is e i k.there).seed k.seeded) ∙ k.seeded;
 }
 
+-- a log that has something left of a seed has one
+some_seed : (f : SeedContent → SeedContent) (o : Option SeedContent) (s : SeedContent) → option_map f o ≡ Some s → is_some o ≡ true
+some_seed f None s e = absurd (cc)
+some_seed f (Some x) s e = refl
+
 pub seeded_is_seeded : Laws → (c : Config) (h : List Turn) → IsRun c h → (e i : ℕ) (to : NodeId) → Told h (node.Log e i) to (tell.Log ltell.Seeded) → IsSeededLog c h e i
 seeded_is_seeded laws c h run e i to = told_holds c (λ h. IsSeededLog c h e i) e i to ltell.Seeded (λ h t run is k. seeded_later laws c h t run is e i k) now h run
   where
@@ -80,7 +88,7 @@ seeded_is_seeded laws c h run e i to = told_holds c (λ h. IsSeededLog c h e i) 
         let after : log_at c (LogTurn from e i a ltell.Seeded ∷ h) e i ≡ next_of l a = log_stays laws c h (LogTurn from e i a ltell.Seeded) run is e i below ∙ rw (eq-eqb e e refl, eq-eqb i i refl) refl in
         record {
           there = subst (λ n. i < n) (sym (logs_stay laws c h (LogTurn from e i a ltell.Seeded) run is e i below)) below;
-          seeded = ap (λ (x : LogState). is_some x.seed) after ∙ ap is_some (laws.log_answers l a ltell.Seeded (sym is.2)).after;
+          seeded = ap (λ (x : LogState). is_some x.seed) after ∙ (let told = laws.log_answers l a ltell.Seeded (sym is.2) in some_seed (left_seed (next_of l a).popped) (next_of l a).seed (left_seed (next_of l a).popped told.seed) told.after);
         }
 
 -- ---- marks
@@ -119,7 +127,7 @@ AreMarked c h e l = All (λ (q : PushContent). IfSome q.mark (IsMarkOf c h e)) l
 
 asked : Laws → (c : Config) (h : List Turn) → IsRun c h → (e i : ℕ) (l : LogState) → AreMarked c h e l → (from : NodeId) (a : LogAsk) → Sent h from (node.Log e i) (ask.Log a) ⊎ StorageMayAsk c h from a → AreMarked c h e (next_of l a)
 asked laws c h run e i l k from a came =
-    log_change (AreMarked c h e) l a k (λ s at none. k) (λ q at took. All-push (λ (q : PushContent). IfSome q.mark (IsMarkOf c h e)) l.pushes q k (push q at came)) k
+    log_change (AreMarked c h e) l a k (λ s at none. k) (λ q at took. All-push (λ (q : PushContent). IfSome q.mark (IsMarkOf c h e)) l.pushes q k (push q at came)) k (λ ps. k)
   where
     push : (q : PushContent) → a ≡ Push q → Sent h from (node.Log e i) (ask.Log a) ⊎ StorageMayAsk c h from a → IfSome q.mark (IsMarkOf c h e)
     push q at (inl sent) = sent_mark laws c h run from e i q (subst (λ x. Sent h from (node.Log e i) (ask.Log x)) at sent)

@@ -22,7 +22,8 @@ use Rattle.fr_run.proofs.ByTurn.{rec_by_turn}
 use Rattle.fr_run.proofs.Cells.{Contains-here}
 use Rattle.fr_run.proofs.Chosen.{open_is_chosen, first_is_least}
 use Rattle.fr_run.specs.LineLaws.{IsOfParent}
-use Rattle.fr_run.proofs.Parents.{parent_is, planned_by, chosen_is_front}
+use Rattle.fr_run.proofs.Parents.{planned_by}
+use Rattle.fr_run.proofs.Lines.{parent_is, chosen_is_front}
 use Rattle.fr_run_versions.specs.Bounds.{IsBelow}
 use Rattle.fr_run_versions.specs.LogLaws.{tally_in, tally, StandsAt}
 use Rattle.fr_run_versions.specs.BoundLaws.{RepliesAgree}
@@ -48,9 +49,9 @@ change w r n Stands k = k
 change w r n (LosesReads i t why is) k = k
 change w r n (Reads i t is) k = k
 change w r n (Finds i t s g heard is) k = λ none. absurd (cc)
-change w r n (Locks p end i durable known is) k = λ none. absurd (both r p is.parent none)
-change w r n (LosesLocks p end i durable known why is) k = λ none. absurd (both r p is.parent none)
-change w r n (Plans p end i durable known s heard is) k = λ none. absurd (both r p heard.parent none)
+change w r n (Locks p end i durable known popped is) k = λ none. absurd (both r p is.parent none)
+change w r n (LosesLocks p end i durable known popped why is) k = λ none. absurd (both r p is.parent none)
+change w r n (Plans p end i durable known popped s heard is) k = λ none. absurd (both r p heard.parent none)
 change w r n (Copies parent p i peeked is) k = k
 change w r n (Seeds p i is l) k = k
 change w r n (SeedsAll p i is l) k = k

@@ -27,8 +27,8 @@ use Rattle.fr_run.specs.StateLaws.{IsConfig}
 use Rattle.fr_run.proofs.ByTurn.{rec_by_turn}
 use Rattle.fr_run.proofs.Growth.{rec_is, log_grows}
 use Rattle.fr_run.proofs.Accounts.{cell_ask_is_own}
-use Rattle.fr_run.proofs.States.{last_is, last_more, state_is}
-use Rattle.fr_run.proofs.Parents.{plan_line}
+use Rattle.fr_run.proofs.States.{last_is, last_more}
+use Rattle.fr_run.proofs.Lines.{plan_line, lines_within}
 use Rattle.fr_run.proofs.Chosen.{other_epoch, generation_planned, chosen_is_written}
 use Rattle.fr_run_versions.specs.Bounds.{IsSeededLog}
 use Rattle.fr_run_versions.specs.SeededLaws.{IsSeededEpoch, CountedIsSeeded, AllCountedIsSeeded, WritingIsSeeded, SentIsSeeded, ChosenIsSeeded}
@@ -58,9 +58,9 @@ change laws c h run b from t told r own k n Stands = k
 change laws c h run b from t told r own k n (LosesReads i u why is) = k
 change laws c h run b from t told r own k n (Reads i u is) = k
 change laws c h run b from t told r own k n (Finds i u s g heard is) = k
-change laws c h run b from t told r own k n (Locks p end i durable known is) = k
-change laws c h run b from t told r own k n (LosesLocks p end i durable known why is) = k
-change laws c h run b from t told r own k n (Plans p end i durable known s heard is) = k
+change laws c h run b from t told r own k n (Locks p end i durable known popped is) = k
+change laws c h run b from t told r own k n (LosesLocks p end i durable known popped why is) = k
+change laws c h run b from t told r own k n (Plans p end i durable known popped s heard is) = k
 change laws c h run b from t told r own k n (Copies parent p i peeked is) = k
 change laws c h run b from t told r own k n (Seeds p i is w) = one_more laws c h run b from t told r own k p i is
 change laws c h run b from t told r own k n (SeedsAll p i is w) = one_more laws c h run b from t told r own k p i is
@@ -108,7 +108,7 @@ counted_is_seeded laws c h run b r at i e = found (IsSeededLog c h b) r.seeded i
 planned_within : Laws → (c : Config) (h : List Turn) → IsConfig c → IsRun c h → (b : ℕ) (r : RecState) → rec_at c h b ≡ Some r → (q : Plan) → r.plan ≡ Some q → IsGeneration q.generation
 planned_within laws c h config run b r at q planned =
     let k = plan_line laws c h config run b r q at planned in
-    last_is IsGeneration (line_of c h b) q.generation (ap last_of k.line ∙ last_more (line_of c h k.parent.last.epoch) q.generation) (state_is laws c h config run b).limits
+    last_is IsGeneration (line_of c h b) q.generation (ap last_of k.line ∙ last_more (line_of c h k.parent.last.epoch) q.generation) (lines_within laws c h config run b q.generation (generation_planned laws c h run b r at q planned)).0
 
 -- an epoch has none of its logs, or all
 logs_are : Laws → (c : Config) (h : List Turn) → IsRun c h → (b : ℕ) (r : RecState) → rec_at c h b ≡ Some r → (q : Plan) → r.plan ≡ Some q → 0 < logs_at c h b → logs_at c h b ≡ q.generation.m

@@ -11,8 +11,10 @@ use Rattle.fr_run.specs.Laws.{Laws}
 use Rattle.fr_run.specs.States.{line_of}
 use Rattle.fr_run.specs.StateLaws.{IsConfig}
 use Rattle.fr_run.proofs.Cells.{Contains-here, Contains-none, Contains-cases}
-use Rattle.fr_run.proofs.Chosen.{open_is_chosen, chosen_is_planned, chosen_are_chain}
-use Rattle.fr_run.proofs.Parents.{planned_by, plan_line, chosen_is_front}
+use Rattle.fr_run.proofs.Chosen.{open_is_chosen, chosen_is_planned}
+use Rattle.fr_run.proofs.Lines.{chosen_are_chain}
+use Rattle.fr_run.proofs.Parents.{planned_by}
+use Rattle.fr_run.proofs.Lines.{plan_line, chosen_is_front}
 use Rattle.fr_run_versions.specs.Bounds.{IsBelow}
 use Rattle.fr_run_versions.specs.BehindLaws.{BelowIsHeldBehind, BelowStaysBelow, ChosenStaysBelow, AcknowledgedIsKept}
 use Rattle.fr_run_versions.proofs.Acks.{acknowledged_is_safe}

@@ -10,6 +10,8 @@ use Rattle.fr_log.specs.declared.ask.LogAsk.{LogAsk}
 use Rattle.fr_log.specs.declared.ask.LogAsk.TheVariants.{Push}
 use Rattle.fr_log.specs.declared.ask.LogTell.{LogTell}
 use Rattle.fr_log.specs.declared.ask.LogTell.TheVariants as ltell
+use Rattle.fr_log.specs.declared.popped.PoppedTag.{PoppedTag}
+use Rattle.fr_log.specs.Popped.{left_push}
 use Rattle.fr_log.specs.Push.{PushContent, is_one_push}
 use Rattle.fr_log.specs.Seed.{SeedContent}
 use Rattle.fr_log.specs.LogState.{LogState, seeded_to_of}
@@ -31,7 +33,7 @@ use Rattle.fr_run_versions.proofs.Logs.{logs_stay, logs_are_own}
 
 -- a push that is held is held later on
 push_stays : (l : LogState) (q : PushContent) (a : LogAsk) → Contains l.pushes q → Contains (next_of l a).pushes q
-push_stays l q a k = log_change (λ n. Contains n.pushes q) l a k (λ s e none. k) (λ p e took. Contains-append_left l.pushes (p ∷ []) q k) k
+push_stays l q a k = log_change (λ n. Contains n.pushes q) l a k (λ s e none. k) (λ p e took. Contains-append_left l.pushes (p ∷ []) q k) k (λ ps. k)
 
 pub has_push_later : Laws → (c : Config) (h : List Turn) (t : Turn) → IsRun c h → IsTurn c h t → (e i v : ℕ) → HasPushAt c h e i v → HasPushAt c (t ∷ h) e i v
 has_push_later laws c h t run is e i v k = record {
@@ -77,14 +79,15 @@ push_is_reached laws c h run e i v k = record {
 
 -- ---- Held
 
--- one of some pushes has this version, where one of them is the same as a push of that version
-one_held : Laws → (p : PushContent) (ps : List PushContent) → list_any (is_one_push p) ps ≡ true → (q : PushContent) × Contains ps q × (q.version ≡ p.version)
-one_held laws p [] k = absurd (cc)
-one_held laws p (q ∷ ps) k = go (λ j. one_held laws p ps j) (is_one_push p q) refl k
+-- one of some pushes has this version, where one of them is, but for what is popped, the same as a push of that version
+one_held : Laws → (popped : List PoppedTag) (p : PushContent) (ps : List PushContent) → list_any (λ q. is_one_push (left_push popped p) (left_push popped q)) ps ≡ true
+    → (q : PushContent) × Contains ps q × (q.version ≡ p.version)
+one_held laws popped p [] k = absurd (cc)
+one_held laws popped p (q ∷ ps) k = go (λ j. one_held laws popped p ps j) (is_one_push (left_push popped p) (left_push popped q)) refl k
   where
-    go : (list_any (is_one_push p) ps ≡ true → (x : PushContent) × Contains ps x × (x.version ≡ p.version)) → (b : Bool) → is_one_push p q ≡ b → (b || list_any (is_one_push p) ps) ≡ true
+    go : (list_any (λ x. is_one_push (left_push popped p) (left_push popped x)) ps ≡ true → (x : PushContent) × Contains ps x × (x.version ≡ p.version)) → (b : Bool) → is_one_push (left_push popped p) (left_push popped q) ≡ b → (b || list_any (λ x. is_one_push (left_push popped p) (left_push popped x)) ps) ≡ true
         → (x : PushContent) × Contains (q ∷ ps) x × (x.version ≡ p.version)
-    go rest true e k = (q, Contains-here q ps, sym ((laws.one_push p q).0 e).version)
+    go rest true e k = (q, Contains-here q ps, sym ((laws.one_push (left_push popped p) (left_push popped q)).0 e).version)
     go rest false e k = let r = rest k in (r.0, Contains-later q ps r.0 r.1, r.2)
 
 held_now : Laws → (c : Config) (h : List Turn) (from : NodeId) (e i : ℕ) (a : LogAsk) (u : LogTell) → IsRun c h → IsTurn c h (LogTurn from e i a u) → (v : ℕ) → u ≡ ltell.Held v → HasPushAt c (LogTurn from e i a u ∷ h) e i v
@@ -94,7 +97,7 @@ held_now laws c h from e i a u run is v says =
     let asked = laws.log_answers l a (ltell.Held v) (sym is.2 ∙ says) in
     let told = laws.held_held l asked.push v (subst (λ x. answer_of l x ≡ ltell.Held v) asked.ask (sym is.2 ∙ says)) in
     let now : log_at c (LogTurn from e i a u ∷ h) e i ≡ next_of l (Push asked.push) = log_stays laws c h (LogTurn from e i a u) run is e i below ∙ (rw (eq-eqb e e refl, eq-eqb i i refl) refl ∙ ap (next_of l) asked.ask) in
-    let one = one_held laws asked.push (next_of l (Push asked.push)).pushes told.1 in
+    let one = one_held laws (next_of l (Push asked.push)).popped asked.push (next_of l (Push asked.push)).pushes told.1 in
     record {
       there = subst (λ n. i < n) (sym (logs_stay laws c h (LogTurn from e i a u) run is e i below)) below;
       push = one.0;

@@ -22,7 +22,8 @@ use Rattle.fr_run.proofs.Growth.{rec_is}
 use Rattle.fr_run.proofs.Cells.{Contains-later}
 use Rattle.fr_run.proofs.States.{last_is}
 use Rattle.fr_run.proofs.Chosen.{generation_planned}
-use Rattle.fr_run.proofs.Parents.{plan_is, parent_is, parent_is_planned, plan_line}
+use Rattle.fr_run.proofs.Parents.{plan_is, parent_is_planned}
+use Rattle.fr_run.proofs.Lines.{parent_is, plan_line}
 use Rattle.fr_run_versions.proofs.Locks.{replies_stand_still}
 use Rattle.fr_run_versions.proofs.Ends.{end_is_of_replies}
 use Rattle.fr_run_versions.proofs.Tells.{from_start}

@@ -8,3 +8,4 @@ pub mod BoundLaws
 pub mod SeededLaws
 pub mod TellLaws
 pub mod BehindLaws
+pub mod ShownLaws

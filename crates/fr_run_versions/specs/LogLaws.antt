@@ -5,6 +5,7 @@ use Rattle.fr_base.specs.declared.place.NodeId.{NodeId}
 use Rattle.fr_base.specs.declared.place.NodeId.TheVariants as node
 use Rattle.fr_log.specs.LogState.{durable_of, known_of}
 use Rattle.fr_log.specs.declared.ask.LogTell.TheVariants.{Locked}
+use Rattle.fr_log.specs.declared.popped.PoppedTag.{PoppedTag}
 use Rattle.fr_log.specs.Seed.{SeedContent}
 use Rattle.fr_log.specs.Push.{PushContent}
 use Rattle.fr_log.specs.declared.ask.LogAsk.TheVariants.{Seed, Push}
@@ -41,7 +42,8 @@ pub record StandsAt (c : Config) (h : List Turn) (e i durable known : ℕ) : Typ
 -- what a log told at a lock is so from then on
 abbrev pub LockedStandsStill : Type 0
 LockedStandsStill =
-    (c : Config) (h : List Turn) → IsRun c h → (e i : ℕ) (to : NodeId) (durable known : ℕ) → Told h (node.Log e i) to (tell.Log (Locked durable known)) → StandsAt c h e i durable known
+    (c : Config) (h : List Turn) → IsRun c h → (e i : ℕ) (to : NodeId) (durable known : ℕ) (popped : List PoppedTag)
+    → Told h (node.Log e i) to (tell.Log (Locked durable known popped)) → StandsAt c h e i durable known
 
 -- the replies that a recoverer heard, none before it has a parent
 abbrev pub tally_in : Option EndState → EndState

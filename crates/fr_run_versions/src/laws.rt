@@ -11,6 +11,7 @@ ghost use Rattle.fr_run_versions.specs.LogLaws.{EndIsOfReplies, LockedStandsStil
 ghost use Rattle.fr_run_versions.specs.LogLaws.{RepliesStandStill, SeedIsReached, SeedsAreOwn};
 ghost use Rattle.fr_run_versions.specs.NumberLaws.{NumbersChain, NumbersTold};
 ghost use Rattle.fr_run_versions.specs.SeededLaws.{AllCountedIsSeeded, ChosenIsSeeded, CountedIsSeeded, SentIsSeeded, WritingIsSeeded};
+ghost use Rattle.fr_run_versions.specs.ShownLaws.{DropsArePopped, LockedIsPopped, ShownIsPopped};
 ghost use Rattle.fr_run_versions.specs.TellLaws.{MarkedIsChosen, PeekedIsAsked, PeekedIsOwn};
 
 use fr_run::laws::node_laws;
@@ -42,6 +43,16 @@ pub fn logs_law()
 pub fn locks_law()
     ensures told { LockedStandsStill }
     ensures replies { RepliesStandStill }
+{
+    node_laws();
+}
+
+/// What a log told at a lock to be popped is, and so is what a recoverer was shown. Where a plan drops generations, the
+/// first one that it leaves starts, for each tag, at most one version above what a log of the epoch that it ends has popped.
+pub fn shown_law()
+    ensures told { LockedIsPopped }
+    ensures shown { ShownIsPopped }
+    ensures dropped { DropsArePopped }
 {
     node_laws();
 }

@@ -127,7 +127,8 @@ fn log_at(generation: Generation, turn: u32) -> NodeId
     }
 }
 
-/// One turn: it pulls from a holder of its tag, and asks a log of the newest epoch for its mark.
+/// One turn: it pulls from a holder of its tag, asks a log of the newest epoch for its mark, and has a holder of its own
+/// epoch let go of what it has for good.
 fn pull_once<K: Rack, F: Faults, R: Wait, S: ShardStore>(
     site: &Site<'_, K, F, R>,
     puller: &mut Puller<S>,
@@ -136,8 +137,9 @@ fn pull_once<K: Rack, F: Faults, R: Wait, S: ShardStore>(
     ensures node { puller.new.notes.journal.node ≡ puller.old.notes.journal.node }
 {
     let (epoch, ask) = puller.storage.next_ask();
+    let tag = puller.storage.tag();
     if let Some(source) = of_epoch(puller.storage.state().gens(), epoch) {
-        let to = holder_at(source, puller.storage.tag(), turn);
+        let to = holder_at(source, tag, turn);
         send(site, puller, &to, &Ask::Log(ask))?;
     }
     let newest = site.directory.newest().generation;
@@ -145,6 +147,14 @@ fn pull_once<K: Rack, F: Faults, R: Wait, S: ShardStore>(
     let ask = LogAsk::MarkAsked {
         epoch: newest.epoch(),
     };
+    send(site, puller, &to, &Ask::Log(ask))?;
+    let own = puller.storage.state().last();
+    let ask = LogAsk::Pop {
+        epoch: own.epoch(),
+        tag,
+        through: puller.storage.floor(),
+    };
+    let to = holder_at(own, tag, turn);
     send(site, puller, &to, &Ask::Log(ask))
 }
 

@@ -4,6 +4,7 @@ pub mod StateLemmas
 pub mod LastLemmas
 pub mod ListLemmas
 pub mod LookUpLemmas
+pub mod DropLemmas
 pub mod ExtendLemmas
 pub mod SameLemmas
 pub mod BigEndianLemmas

@@ -30,7 +30,7 @@ all_later g [] o = tt
 all_later g (next ∷ gens) o = all_follow g next gens o.0 o.1
 
 -- one that stands further back
-follows_front : (x : LogGeneration) (before : List LogGeneration) (g : LogGeneration) (after : List LogGeneration) → AreOrdered (x ∷ (before ++ g ∷ after)) → Follows x g
+pub follows_front : (x : LogGeneration) (before : List LogGeneration) (g : LogGeneration) (after : List LogGeneration) → AreOrdered (x ∷ (before ++ g ∷ after)) → Follows x g
 follows_front x [] g after o = o.0
 follows_front x (y ∷ before) g after o = Follows-trans x y g o.0 (follows_front y before g after o.1)
 

@@ -1,10 +1,10 @@
 -- The order of generations: the test and the fact, and a list with one generation more.
-use Rattle.std.proofs.Common.{◌≡◌, suc, ◌-◌, ◌<◌, ◌&&◌, Bool, true, false, List, [], ◌∷◌, ◌++◌, length, Some, Ok, refl, sym, ap, ◌∙◌, arith}
+use Rattle.std.proofs.Common.{◌≡◌, suc, ◌-◌, ◌<◌, ◌&&◌, Bool, true, false, List, [], ◌∷◌, ◌++◌, length, Some, Ok, refl, sym, ap, subst, ◌∙◌, arith}
 use Rattle.std.specs.Prelude.{slice_get}
 use Rattle.std.proofs.lemmas.Bool.{true≢false, and_parts, and_from, ltb-true, leb-true, lt-ltb, le-leb}
 use Rattle.std.proofs.lemmas.List.{length-append}
 use Rattle.std.proofs.lemmas.List.Elements.{All-push}
-use Rattle.fr_state.specs.Generations.{LogGeneration, CoordinatedState, IsGeneration, IsCoordinatedState, Follows, AreOrdered, last_of}
+use Rattle.fr_state.specs.Generations.{LogGeneration, CoordinatedState, IsGeneration, IsCoordinatedState, Follows, AreOrdered, last_of, first_epoch_of}
 use Rattle.fr_state.specs.Order.{may_follow, is_ordered, extended}
 
 -- ---- the test and the fact
@@ -72,4 +72,9 @@ extended_sound s g sound limits o lt = record {
   ordered = o;
   some = omega (arith, length-append s.gens (g ∷ []));
   few = omega (arith, length-append s.gens (g ∷ []));
+  below = first_stays s.gens refl;
 }
+  where
+    first_stays : (gens : List LogGeneration) → s.gens ≡ gens → s.dropped < first_epoch_of (gens ++ g ∷ [])
+    first_stays [] e = let none : length s.gens ≡ 0 = ap length e in let some = sound.some in absurd (omega (arith, none, some))
+    first_stays (x ∷ gens) e = subst (λ (t : List LogGeneration). s.dropped < first_epoch_of t) e sound.below

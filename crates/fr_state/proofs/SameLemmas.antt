@@ -1,7 +1,7 @@
 -- Two states that `==` calls the same are one, and a list begins with another where the test says so.
-use Rattle.std.proofs.Common.{◌≡◌, ℕ, true, List, [], ◌∷◌, ◌++◌, length, take, get_or, refl, sym, ap, subst, ◌∙◌, take-append-drop}
+use Rattle.std.proofs.Common.{◌≡◌, ℕ, true, eqb, List, [], ◌∷◌, ◌++◌, length, take, get_or, refl, sym, ap, subst, ◌∙◌, take-append-drop}
 use Rattle.std.specs.Cmp.Lexicographic.{pointwise, same_text, lists_equiv, on_texts_equal}
-use Rattle.std.proofs.lemmas.Bool.{and_parts}
+use Rattle.std.proofs.lemmas.Bool.{and_parts, eqb-true}
 use Rattle.fr_state.specs.Generations.{LogGeneration, CoordinatedState}
 use Rattle.fr_state.specs.Same.{numbers_of, is_same_generation, is_same_state, is_same_state_equiv, begins_with, IsFront}
 use Rattle.fr_state.specs.Laws.{BeginsIsExact}
@@ -25,8 +25,14 @@ same_generations (g ∷ gens) (h ∷ more) e =
     let rest = same_generations gens more p.1 in
     cc
 
+same_parts : (d e : ℕ) (gens more : List LogGeneration) → d ≡ e → gens ≡ more
+    → ◌≡◌ {A = CoordinatedState} (record { dropped = d; gens = gens }) (record { dropped = e; gens = more })
+same_parts d e gens more p q = rw (p, q) refl
+
 pub same_state : (s t : CoordinatedState) → is_same_state s t ≡ true → s ≡ t
-same_state s t e = ap (λ (gens : List LogGeneration). record { gens = gens }) (same_generations s.gens t.gens e)
+same_state s t e =
+    let p = and_parts (eqb s.dropped t.dropped) (pointwise is_same_generation s.gens t.gens) e in
+    same_parts s.dropped t.dropped s.gens t.gens (eqb-true s.dropped t.dropped p.0) (same_generations s.gens t.gens p.1)
 
 pub is_same_itself : (s t : CoordinatedState) → s ≡ t → is_same_state s t ≡ true
 is_same_itself s t e = subst (λ (u : CoordinatedState). is_same_state s u ≡ true) e (is_same_state_equiv.refl s)

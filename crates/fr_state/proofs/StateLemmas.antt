@@ -1,13 +1,15 @@
 -- What was read is a state.
-use Rattle.std.proofs.Common.{◌≡◌, ℕ, zero, suc, ◌≤◌, ◌&&◌, Bool, true, false, cond, eqb, leb, List, [], ◌∷◌, length, drop, Result, Ok, Err, refl, ap, arith}
+use Rattle.std.proofs.Common.{◌≡◌, ℕ, zero, suc, ◌≤◌, ◌&&◌, Bool, true, false, cond, leb, ltb, List, [], ◌∷◌, length, drop, Ok, Err, refl, ap, arith}
 use Rattle.std.specs.Prelude.{All}
 use Rattle.std.specs.List.{list_all}
 use Rattle.std.proofs.lemmas.Bool.{and_parts, and_from, ltb-true, leb-true, lt-ltb, le-leb}
 use Rattle.std.proofs.lemmas.List.Elements.{All-nil, All-cons, All-head, All-tail}
 use Rattle.fr_state.specs.declared.fault.DecodeFault.{DecodeFault}
-use Rattle.fr_state.specs.declared.fault.DecodeFault.TheVariants.{Short, BadForm}
-use Rattle.fr_state.specs.Generations.{LogGeneration, IsGeneration, IsCoordinatedState}
-use Rattle.fr_state.specs.Reading.{header_at, generations_at, is_within, is_list}
+use Rattle.fr_state.specs.declared.fault.DecodeFault.TheVariants.{BadForm}
+use Rattle.std.specs.Int.{w64}
+use Rattle.fr_state.specs.BigEndian.{number_at}
+use Rattle.fr_state.specs.Generations.{LogGeneration, IsGeneration, IsCoordinatedState, first_epoch_of}
+use Rattle.fr_state.specs.Reading.{count_at, generation_at, generations_at, is_within, is_list, are_left}
 use Rattle.fr_state.proofs.OrderLemmas.{AreOrdered-test}
 
 -- ---- the limits: the test and the fact
@@ -57,29 +59,36 @@ pub length-generations_at : (n : ℕ) (bytes : List ℕ) → length (generations
 length-generations_at zero bytes = refl
 length-generations_at (suc n) bytes = ap suc (length-generations_at n (drop 26 bytes))
 
-pub list_sound : (n : ℕ) (bytes : List ℕ) → (1 ≤ n) × (n ≤ 64) → is_list (generations_at n bytes) ≡ true → IsCoordinatedState (record { gens = generations_at n bytes })
-list_sound n bytes count e =
-    let a = and_parts _ _ e in
+-- the first one's number, where there is one
+pub first_epoch_at : (n : ℕ) (bytes : List ℕ) → 1 ≤ n → first_epoch_of (generations_at n bytes) ≡ number_at w64 0 bytes
+unfolding generation_at
+first_epoch_at zero bytes h = absurd (omega arith)
+first_epoch_at (suc n) bytes h = refl
+
+pub list_sound : (dropped n : ℕ) (bytes : List ℕ) → (1 ≤ n) × (n ≤ 64) → are_left dropped (generations_at n bytes) ≡ true → IsCoordinatedState (record { dropped = dropped; gens = generations_at n bytes })
+list_sound dropped n bytes count e =
+    let w = and_parts (is_list (generations_at n bytes)) (ltb dropped (first_epoch_of (generations_at n bytes))) e in
+    let a = and_parts _ _ w.0 in
     record {
       limits = All-within (generations_at n bytes) a.0;
       ordered = AreOrdered-test (generations_at n bytes) a.1;
       some = omega (arith, length-generations_at n bytes);
       few = omega (arith, length-generations_at n bytes);
+      below = ltb-true dropped (first_epoch_of (generations_at n bytes)) w.1;
     }
+
+-- the test of the code, once the rows are a list
+pub left_first : (dropped n : ℕ) (bytes : List ℕ) → 1 ≤ n → is_list (generations_at n bytes) ≡ true → ltb dropped (number_at w64 0 bytes) ≡ are_left dropped (generations_at n bytes)
+left_first dropped n bytes some listed = rw (listed, first_epoch_at n bytes some) refl
 
 taken : {A : Type 0} (b : Bool) (x y : A) (fault : DecodeFault) → cond b (Ok x) (Err fault) ≡ Ok y → (b ≡ true) × (x ≡ y)
 taken true x y fault e = (refl, cc)
 taken false x y fault e = absurd cc
 
-pub header_count : (bytes : List ℕ) (n : ℕ) (rest : List ℕ) → header_at bytes ≡ Ok (n, rest) → (1 ≤ n) × (n ≤ 64)
-header_count [] n rest e = absurd cc
-header_count (format ∷ []) n rest e = absurd (one_byte (eqb format 1) n rest e)
-  where
-    one_byte : (b : Bool) (n : ℕ) (rest : List ℕ) → ◌≡◌ {A = Result (ℕ × List ℕ) DecodeFault} (cond b (Err Short) (Err BadForm)) (Ok (n, rest)) → ⊥
-    one_byte true n rest e = cc
-    one_byte false n rest e = cc
-header_count (format ∷ count ∷ bytes) n rest e =
-    let t = taken (eqb format 1 && (leb 1 count && leb count 64)) (count, bytes) (n, rest) BadForm e in
-    let a = and_parts _ _ (and_parts _ _ t.0).1 in
+pub counted : (bytes : List ℕ) (n : ℕ) (rest : List ℕ) → count_at bytes ≡ Ok (n, rest) → (1 ≤ n) × (n ≤ 64)
+counted [] n rest e = absurd cc
+counted (count ∷ bytes) n rest e =
+    let t = taken (leb 1 count && leb count 64) (count, bytes) (n, rest) BadForm e in
+    let a = and_parts _ _ t.0 in
     let k : count ≡ n = ap (λ (p : ℕ × List ℕ). p.0) t.1 in
     rw (← k) (leb-true _ _ a.0, leb-true _ _ a.1)

@@ -40,13 +40,20 @@ last_of [] = None
 last_of (g ∷ []) = Some g
 last_of (g ∷ next ∷ gens) = last_of (next ∷ gens)
 
--- what the coordinators keep: the generations, from the oldest to the current one
+-- the epoch of the first of some generations, 0 where there is none
+abbrev pub first_epoch_of : List LogGeneration → ℕ
+first_epoch_of [] = 0
+first_epoch_of (g ∷ gens) = g.epoch
+
+-- what the coordinators keep: how many generations were dropped, and those that are left, from the oldest to the current one
 pub record CoordinatedState : Type 0 where
+  pub dropped : ℕ
   pub gens : List LogGeneration
 
--- 1 to 64 generations, each within its limits, in order
+-- 1 to 64 generations, each within its limits, in order; fewer were dropped than the epoch of the first one that is left says
 pub record IsCoordinatedState (s : CoordinatedState) : Type 0 where
   pub limits : All IsGeneration s.gens
   pub ordered : AreOrdered s.gens
   pub some : 1 ≤ length s.gens
   pub few : length s.gens ≤ 64
+  pub below : s.dropped < first_epoch_of s.gens

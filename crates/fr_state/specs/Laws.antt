@@ -1,13 +1,13 @@
 -- What holds of every ordered list of generations, and of the bytes of a state.
-use Rattle.std.specs.Prelude.{◌≡◌, ◌≢◌, ◌↔◌, ℕ, ◌-◌, ◌<◌, ◌≤◌, List, [], ◌∷◌, ◌++◌, ◌*◌, ◌+◌, ◌⊎◌, Some, None, Contains, IsSome, IfSome, length, Ok, Err, All, AllPairs, IsTrue}
+use Rattle.std.specs.Prelude.{◌≡◌, ◌≢◌, ◌↔◌, ℕ, ◌+◌, ◌-◌, ◌<◌, ◌≤◌, List, [], ◌∷◌, ◌++◌, ◌⊎◌, Some, None, Contains, IsSome, IfSome, length, drop, Ok, Err, All, AllPairs, IsTrue}
 use Rattle.fr_state.specs.declared.fault.StateFault.TheVariants.{NotLater, TooMany}
 use Rattle.fr_state.specs.BigEndian.{AreBytes}
 use Rattle.fr_state.specs.Generations.{LogGeneration, CoordinatedState, IsGeneration, IsCoordinatedState, Follows, AreOrdered, last_of}
-use Rattle.fr_state.specs.Order.{extended}
+use Rattle.fr_state.specs.Order.{extended, without_first, dropped_before}
 use Rattle.fr_state.specs.LookUp.{next_of, end_of, cut_of, source_of, owner_of}
 use Rattle.fr_state.specs.Reading.{reading}
-use Rattle.fr_state.specs.Same.{is_same_state, begins_with, IsFront}
-use Rattle.fr_state.specs.Spelling.{spelling}
+use Rattle.fr_state.specs.Same.{is_same_state, begins_with, IsFront, goes_on, GoesOn}
+use Rattle.fr_state.specs.Spelling.{spelling, length_spelled}
 
 -- ---- order
 
@@ -169,6 +169,78 @@ TooManyIsExact =
     (s : CoordinatedState) (g : LogGeneration)
     → (extended s g ≡ Err TooMany) ↔ (AreOrdered (s.gens ++ g ∷ []) × (64 ≤ length s.gens))
 
+-- ---- without the first generations
+
+-- while one generation at least is left, it is a state
+abbrev pub DropIsState : Type 0
+DropIsState = (s : CoordinatedState) (n : ℕ) → IsCoordinatedState s → n < length s.gens → IsCoordinatedState (without_first s n)
+
+-- what is left from the generation of an epoch on is the state without its first generations, one of which at least is left
+pub record IsWithoutFirst (s t : CoordinatedState) : Type 0 where
+  pub number : ℕ
+  pub fewer : number < length s.gens
+  pub is : t ≡ without_first s number
+
+abbrev pub DroppedIsWithout : Type 0
+DroppedIsWithout = (s t : CoordinatedState) (epoch : ℕ) → dropped_before s epoch ≡ Some t → IsWithoutFirst s t
+
+-- the generation of that epoch is the first one that is left
+pub record IsLeftFirst (s : CoordinatedState) (g : LogGeneration) (t : CoordinatedState) : Type 0 where
+  pub before : List LogGeneration
+  pub after : List LogGeneration
+  pub were : s.gens ≡ before ++ g ∷ after
+  pub are : t ≡ record { dropped = s.dropped + length before; gens = g ∷ after }
+
+abbrev pub DroppedBeginsThere : Type 0
+DroppedBeginsThere =
+    (s : CoordinatedState) (g : LogGeneration) → AreOrdered s.gens → Contains s.gens g
+    → (t : CoordinatedState) × (dropped_before s g.epoch ≡ Some t) × IsLeftFirst s g t
+
+-- the last generation stays the last
+abbrev pub DropKeepsLast : Type 0
+DropKeepsLast = (gens : List LogGeneration) (n : ℕ) → n < length gens → last_of (drop n gens) ≡ last_of gens
+
+-- what is left is ordered
+abbrev pub DropKeepsOrder : Type 0
+DropKeepsOrder = (gens : List LogGeneration) (n : ℕ) → AreOrdered gens → AreOrdered (drop n gens)
+
+-- each generation that is left keeps its end and its cut
+abbrev pub DropKeepsBounds : Type 0
+DropKeepsBounds =
+    (gens : List LogGeneration) (n : ℕ) (g : LogGeneration) → AreOrdered gens → Contains (drop n gens) g
+    → (end_of (drop n gens) g.epoch ≡ end_of gens g.epoch) × (cut_of (drop n gens) g.epoch ≡ cut_of gens g.epoch)
+
+-- an end among those that are left is one among all
+abbrev pub DropHasEnd : Type 0
+DropHasEnd =
+    (gens : List LogGeneration) (n epoch end : ℕ) → AreOrdered gens → end_of (drop n gens) epoch ≡ Some end → end_of gens epoch ≡ Some end
+
+-- so is a cut
+abbrev pub DropHasCut : Type 0
+DropHasCut =
+    (gens : List LogGeneration) (n epoch cut : ℕ) → AreOrdered gens → cut_of (drop n gens) epoch ≡ Some cut → cut_of gens epoch ≡ Some cut
+
+-- a source among those that are left is the source among all
+abbrev pub DropHasSource : Type 0
+DropHasSource =
+    (gens : List LogGeneration) (n version : ℕ) (g : LogGeneration) → source_of (drop n gens) version ≡ Some g → source_of gens version ≡ Some g
+
+-- and where one that is left starts at or below the version, the source is among them
+abbrev pub DropKeepsSource : Type 0
+DropKeepsSource =
+    (gens : List LogGeneration) (n version : ℕ) (g : LogGeneration)
+    → Contains (drop n gens) g → g.first ≤ version → source_of (drop n gens) version ≡ source_of gens version
+
+-- whether a state goes on from another is told exactly
+abbrev pub GoesOnIsExact : Type 0
+GoesOnIsExact = (own s : CoordinatedState) → IsTrue (goes_on own s) ↔ GoesOn own s
+
+-- a state with one generation more goes on from the one before, also where generations were dropped first
+abbrev pub ExtensionGoesOn : Type 0
+ExtensionGoesOn =
+    (s : CoordinatedState) (n : ℕ) (g : LogGeneration)
+    → n < length s.gens → GoesOn s (record { dropped = s.dropped + n; gens = drop n s.gens ++ g ∷ [] })
+
 -- ---- equality and bytes
 
 -- two states that `==` calls the same are one
@@ -185,9 +257,9 @@ ReadIsSpelled =
     (bytes : List ℕ) (s : CoordinatedState)
     → AreBytes bytes → reading bytes ≡ Ok s → IsCoordinatedState s × (bytes ≡ spelling s)
 
--- a spelling has 2 bytes and 26 for each generation, so it fits a cell
+-- a spelling has 2 bytes, or 10 where generations were dropped, and 26 for each generation that is left, so it fits a cell
 abbrev pub SpellingFits : Type 0
-SpellingFits = (s : CoordinatedState) → IsCoordinatedState s → (length (spelling s) ≡ 2 + 26 * length s.gens) × (length (spelling s) ≤ 4096)
+SpellingFits = (s : CoordinatedState) → IsCoordinatedState s → (length (spelling s) ≡ length_spelled s) × (length (spelling s) ≤ 4096)
 
 -- states of one spelling are one
 abbrev pub OneSpellingOneState : Type 0

@@ -1,5 +1,6 @@
--- The order of generations as a test, and a list with one generation more.
-use Rattle.std.specs.Prelude.{Bool, true, ◌&&◌, nat_lt, nat_le, List, [], ◌∷◌, ◌++◌, length, Result, Ok, Err, if◌then◌else◌}
+-- The order of generations as a test, a list with one generation more, and one without its first generations.
+use Rattle.std.specs.Prelude.{ℕ, ◌+◌, Bool, true, ◌&&◌, ◌==◌, nat_lt, nat_le, List, [], ◌∷◌, ◌++◌, length, drop, position, Option, Result, Ok, Err, if◌then◌else◌}
+use Rattle.std.specs.Option.{option_map}
 use Rattle.fr_state.specs.declared.fault.StateFault.{StateFault}
 use Rattle.fr_state.specs.declared.fault.StateFault.TheVariants.{NotLater, TooMany}
 use Rattle.fr_state.specs.Generations.{LogGeneration, CoordinatedState}
@@ -20,3 +21,11 @@ extended s g =
     if is_ordered (s.gens ++ g ∷ [])
     then (if nat_lt (length s.gens) 64 then Ok (record s { gens = s.gens ++ g ∷ [] }) else Err TooMany)
     else Err NotLater
+
+-- the state without its first generations, so many
+abbrev pub without_first : CoordinatedState → ℕ → CoordinatedState
+without_first s n = record { dropped = s.dropped + n; gens = drop n s.gens }
+
+-- the state without the generations before that of an epoch; none where the epoch is not there
+abbrev pub dropped_before : CoordinatedState → ℕ → Option CoordinatedState
+dropped_before s epoch = option_map (without_first s) (position (λ g. g.epoch == epoch) s.gens)

@@ -5,7 +5,7 @@ use Rattle.std.specs.Int.{w64}
 use Rattle.fr_state.specs.declared.fault.DecodeFault.{DecodeFault}
 use Rattle.fr_state.specs.declared.fault.DecodeFault.TheVariants.{Short, BadForm, Trailing}
 use Rattle.fr_state.specs.BigEndian.{number_at}
-use Rattle.fr_state.specs.Generations.{LogGeneration, CoordinatedState}
+use Rattle.fr_state.specs.Generations.{LogGeneration, CoordinatedState, first_epoch_of}
 use Rattle.fr_state.specs.Order.{is_ordered}
 
 -- one step of reading after another: the first fault is the answer
@@ -14,11 +14,21 @@ abbrev pub ◌>>=◌ : {A B : Type 0} → Result A DecodeFault → (A → Result
 (Ok x) >>= f = f x
 (Err fault) >>= f = Err fault
 
+-- how many generations were dropped, which is some in format 2, and the bytes after that number
+abbrev pub dropped_at : List ℕ → Result (ℕ × List ℕ) DecodeFault
+dropped_at bytes =
+    if nat_lt (length bytes) 8 then Err Short
+    else (if number_at w64 0 bytes == 0 then Err BadForm else Ok (number_at w64 0 bytes, drop 8 bytes))
+
+-- how many generations were dropped, by the format, and the bytes after that
+abbrev pub start_at : List ℕ → Result (ℕ × List ℕ) DecodeFault
+start_at [] = Err Short
+start_at (format ∷ bytes) = if format == 1 then Ok (0, bytes) else (if format == 2 then dropped_at bytes else Err BadForm)
+
 -- how many generations there are, and the bytes after that number
-abbrev pub header_at : List ℕ → Result (ℕ × List ℕ) DecodeFault
-header_at [] = Err Short
-header_at (format ∷ []) = if format == 1 then Err Short else Err BadForm
-header_at (format ∷ n ∷ bytes) = if format == 1 && (nat_le 1 n && nat_le n 64) then Ok (n, bytes) else Err BadForm
+abbrev pub count_at : List ℕ → Result (ℕ × List ℕ) DecodeFault
+count_at [] = Err Short
+count_at (n ∷ bytes) = if nat_le 1 n && nat_le n 64 then Ok (n, bytes) else Err BadForm
 
 -- the generation that the first 26 bytes spell, whether or not it is within its limits
 unfoldable pub generation_at : List ℕ → LogGeneration
@@ -45,16 +55,21 @@ is_within g =
 abbrev pub is_list : List LogGeneration → Bool
 is_list gens = list_all is_within gens && is_ordered gens
 
--- the state of n generations that all of the bytes spell
-abbrev pub state_at : ℕ → List ℕ → Result CoordinatedState DecodeFault
-state_at n bytes =
+-- whether they are, and fewer were dropped before them than the epoch of the first one says
+abbrev pub are_left : ℕ → List LogGeneration → Bool
+are_left dropped gens = is_list gens && nat_lt dropped (first_epoch_of gens)
+
+-- the state of n generations that all of the bytes spell, after so many that were dropped
+abbrev pub state_at : ℕ → ℕ → List ℕ → Result CoordinatedState DecodeFault
+state_at dropped n bytes =
     if nat_lt (length bytes) (26 * n) then Err Short
-    else (if is_list (generations_at n bytes)
-    then (if nat_lt (26 * n) (length bytes) then Err Trailing else Ok (record { gens = generations_at n bytes }))
+    else (if are_left dropped (generations_at n bytes)
+    then (if nat_lt (26 * n) (length bytes) then Err Trailing else Ok (record { dropped = dropped; gens = generations_at n bytes }))
     else Err BadForm)
 
 -- all of the bytes
 abbrev pub reading : List ℕ → Result CoordinatedState DecodeFault
 reading bytes = do
-  header ← header_at bytes
-  state_at header.0 header.1
+  start ← start_at bytes
+  count ← count_at start.1
+  state_at start.0 count.0 count.1

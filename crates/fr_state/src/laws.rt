@@ -4,6 +4,9 @@ ghost use Rattle.fr_state.specs.Laws.{LastIsThere, LastIsWithin, LastOrNext, Beg
 ghost use Rattle.fr_state.specs.Laws.{NextTells, LastIsOpen, EarlierIsClosed, AbsentIsOpen, CutIsAtLeastSeed, EndIsAtMostCut, CutIsAtMostLast};
 ghost use Rattle.fr_state.specs.Laws.{FrontKeepsEnd, FrontKeepsCut, FrontKeepsSource, FrontKeepsOwner};
 ghost use Rattle.fr_state.specs.Laws.{ExtensionIsState, FollowerExtends, NotLaterIsExact, TooManyIsExact};
+ghost use Rattle.fr_state.specs.Laws.{DropIsState, DroppedIsWithout, DroppedBeginsThere, DropKeepsLast, DropKeepsOrder};
+ghost use Rattle.fr_state.specs.Laws.{DropKeepsBounds, DropHasEnd, DropHasCut, DropHasSource, DropKeepsSource};
+ghost use Rattle.fr_state.specs.Laws.{GoesOnIsExact, ExtensionGoesOn};
 ghost use Rattle.fr_state.specs.Laws.{SameIsEqual, SpelledIsRead, ReadIsSpelled, NoSpellingGoesOn};
 
 /// Of any two generations of an ordered list the later one has the greater epoch, and neither starts
@@ -59,6 +62,30 @@ pub fn extend_law()
     ensures follower { FollowerExtends }
     ensures not_later { NotLaterIsExact }
     ensures too_many { TooManyIsExact }
+{}
+
+/// What is left of a state without its first generations, while one of them is left.
+pub fn drop_law()
+    ensures state { DropIsState }
+    ensures without { DroppedIsWithout }
+    ensures begins { DroppedBeginsThere }
+    ensures last { DropKeepsLast }
+    ensures order { DropKeepsOrder }
+{}
+
+/// Ends, cuts and sources of the generations that are left are those of all.
+pub fn left_law()
+    ensures bounds { DropKeepsBounds }
+    ensures end { DropHasEnd }
+    ensures cut { DropHasCut }
+    ensures source { DropHasSource }
+    ensures kept { DropKeepsSource }
+{}
+
+/// When a state goes on from another, and that one with a generation more does.
+pub fn going_law()
+    ensures exact { GoesOnIsExact }
+    ensures extension { ExtensionGoesOn }
 {}
 
 /// Two states that `==` calls the same are one.

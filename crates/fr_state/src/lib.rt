@@ -12,8 +12,8 @@ mod state;
 pub use fault::{DecodeFault, StateFault};
 pub use generation::Generation;
 pub use laws::{
-    cut_law, equal_law, extend_law, front_law, next_law, order_law, owner_law, source_law,
-    spelling_law,
+    cut_law, drop_law, equal_law, extend_law, front_law, going_law, left_law, next_law, order_law,
+    owner_law, source_law, spelling_law,
 };
 pub use reading::decode;
 pub use spelling::encode;

@@ -15,7 +15,7 @@ pub(crate) fn next_of(gens: &[Generation], epoch: Epoch) -> Option<Generation>
 }
 
 /// Where the generation of an epoch stands.
-fn place_of(gens: &[Generation], epoch: Epoch) -> Option<usize>
+pub(crate) fn place_of(gens: &[Generation], epoch: Epoch) -> Option<usize>
     ensures place { result ≡ position (λ g. g.epoch == epoch) gens.now }
     ensures within { IfSome result (λ at. at < length gens.now) }
 {

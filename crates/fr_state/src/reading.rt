@@ -1,24 +1,26 @@
 //! A state from bytes.
-ghost use Rattle.std.specs.Prelude.{◌≡◌, ◌≢◌, ◌+◌, ◌*◌, ◌≤◌, IsTrue, IfOk, IfErr, IsOk, MatchOption, MatchResult, length, if◌then◌else◌};
+ghost use Rattle.std.specs.Prelude.{◌≡◌, ◌≢◌, ◌+◌, ◌*◌, ◌≤◌, ◌&&◌, nat_lt, IsTrue, IfOk, IfErr, IsOk, MatchOption, MatchResult, length, if◌then◌else◌};
 ghost use Rattle.std.specs.Int.{w64};
 ghost use Rattle.std.specs.List.{list_all};
 ghost use Rattle.fr_state.specs.BigEndian.{number_at};
-ghost use Rattle.fr_state.specs.Generations.{CoordinatedState, IsCoordinatedState};
+ghost use Rattle.fr_state.specs.Generations.{CoordinatedState, IsCoordinatedState, first_epoch_of};
 ghost use Rattle.fr_state.specs.Order.{may_follow};
-ghost use Rattle.fr_state.specs.Reading.{header_at, generation_at, generations_at, is_within, is_list, reading};
+ghost use Rattle.fr_state.specs.Reading.{dropped_at, start_at, count_at, generation_at, generations_at, is_within, is_list, are_left, state_at, reading};
 ghost use Rattle.fr_state.specs.Spelling.{spelling};
 
 use crate::fault::DecodeFault;
 use crate::generation::Generation;
-use crate::spelling::{FORMAT, ROW};
+use crate::spelling::{ROW, SHORTENED, WHOLE};
 use crate::state::{CoordState, MOST_GENERATIONS};
 use fr_base::{Epoch, Memory, Version};
 use std::alloc::Global;
 
-/// The state that the bytes spell, all of them. The first fault is answered: Short where the format or the
-/// number of generations is missing, BadForm where one of them is wrong, the format before the number;
-/// Short where bytes of the generations are missing; BadForm where a generation is not within its limits
-/// or the list is not in order; Trailing where bytes follow; Memory last.
+/// The state that the bytes spell, all of them. The first fault is answered: Short where the format is
+/// missing, BadForm where it is not known; in format 2 Short where the number of generations that were
+/// dropped is missing, BadForm where it is 0; Short where the number of generations is missing, BadForm where
+/// it is wrong; Short where bytes of the generations are missing; BadForm where a generation is not within
+/// its limits, the list is not in order or as many were dropped as the first epoch says, or more; Trailing
+/// where bytes follow; Memory last.
 pub fn decode(alloc: Global, bytes: &[u8]) -> Result<CoordState, DecodeFault>
     ensures ok { IfOk result (λ s. reading bytes.now ≡ Ok s) }
     ensures refused { IfErr result (λ fault. fault ≢ DecodeFault.Memory → reading bytes.now ≡ Err fault) }
@@ -38,32 +40,70 @@ fn state_of(alloc: Global, bytes: &[u8]) -> Result<CoordState, DecodeFault>
     ensures refused { IfErr result (λ fault. fault ≢ DecodeFault.Memory → reading bytes.now ≡ Err fault) }
     ensures memory { result ≡ Err DecodeFault.Memory → IsOk (reading bytes.now) }
 {
-    let (count, rest) = header(bytes)?;
+    let (dropped, counted) = start(bytes)?;
+    let (count, rest) = count(counted)?;
     let end = ROW * count;
     if rest.len() < end {
         return Err(DecodeFault::Short);
     }
-    if !is_list(count, rest) {
+    if !are_left(dropped, count, rest) {
         return Err(DecodeFault::BadForm);
     }
     if rest.len() > end {
         return Err(DecodeFault::Trailing);
     }
-    Ok(CoordState::from_ordered(generations(alloc, count, rest)?))
+    Ok(CoordState::from_ordered(dropped, generations(alloc, count, rest)?))
+}
+
+/// How many generations were dropped, by the format, and the bytes after that.
+fn start(bytes: &[u8]) -> Result<(u64, &[u8]), DecodeFault>
+    ensures ok { IfOk result (λ h. start_at bytes.now ≡ Ok (h.0, h.1.now)) }
+    ensures err { IfErr result (λ fault. start_at bytes.now ≡ Err fault) }
+{
+    match bytes {
+        [] => Err(DecodeFault::Short),
+        [WHOLE, rest @ ..] => Ok((0, rest)),
+        [SHORTENED, rest @ ..] => dropped(rest),
+        _ => Err(DecodeFault::BadForm),
+    }
+}
+
+/// How many generations were dropped, which is some, and the bytes after that number.
+fn dropped(bytes: &[u8]) -> Result<(u64, &[u8]), DecodeFault>
+    ensures ok { IfOk result (λ h. dropped_at bytes.now ≡ Ok (h.0, h.1.now)) }
+    ensures err { IfErr result (λ fault. dropped_at bytes.now ≡ Err fault) }
+{
+    if bytes.len() < 8 {
+        return Err(DecodeFault::Short);
+    }
+    match number(bytes, 0) {
+        0 => Err(DecodeFault::BadForm),
+        dropped => Ok((dropped, &bytes[8..])),
+    }
 }
 
 /// How many generations there are, and the bytes after that number.
-fn header(bytes: &[u8]) -> Result<(usize, &[u8]), DecodeFault>
-    ensures ok { IfOk result (λ h. header_at bytes.now ≡ Ok (h.0, h.1.now)) }
-    ensures err { IfErr result (λ fault. header_at bytes.now ≡ Err fault) }
+fn count(bytes: &[u8]) -> Result<(usize, &[u8]), DecodeFault>
+    ensures ok { IfOk result (λ h. count_at bytes.now ≡ Ok (h.0, h.1.now)) }
+    ensures err { IfErr result (λ fault. count_at bytes.now ≡ Err fault) }
 {
     match bytes {
-        [] | [FORMAT] => Err(DecodeFault::Short),
-        [FORMAT, count, rest @ ..] if 1 <= *count && *count as usize <= MOST_GENERATIONS => {
+        [] => Err(DecodeFault::Short),
+        [count, rest @ ..] if 1 <= *count && *count as usize <= MOST_GENERATIONS => {
             Ok((*count as usize, rest))
         }
         _ => Err(DecodeFault::BadForm),
     }
+}
+
+/// Whether the first `count` rows spell generations within their limits and in order, and fewer were dropped
+/// before them than the epoch of the first one says.
+fn are_left(dropped: u64, count: usize, bytes: &[u8]) -> bool
+    requires some { 1 ≤ count }
+    requires room { 26 * count ≤ length bytes.now }
+    ensures { result ≡ are_left dropped (generations_at count bytes.now) }
+{
+    is_list(count, bytes) && dropped < number(bytes, 0)
 }
 
 /// Whether the first `count` rows spell generations within their limits and in order.

@@ -1,14 +1,15 @@
 //! The coordinated state.
-ghost use Rattle.std.specs.Prelude.{◌≡◌, ◌↔◌, IsTrue, ◌∷◌, ◌++◌, [], length, Some, Ok, Err, IfOk, OnOk, OnErr};
+ghost use Rattle.std.specs.Prelude.{◌≡◌, ◌↔◌, IsTrue, ◌∷◌, ◌++◌, [], length, ◌<◌, Some, Ok, Err, IfOk, OnOk, OnErr, is_some, unwrap_or};
 ghost use Rattle.std.specs.Cmp.{partial_equiv_from_equiv};
+ghost use Rattle.std.specs.Cmp.Lexicographic.{pointwise};
 ghost use Rattle.fr_state.specs.Generations.{CoordinatedState, IsCoordinatedState, AreOrdered, last_of};
-ghost use Rattle.fr_state.specs.Order.{extended};
-ghost use Rattle.fr_state.specs.Same.{is_same_state, is_same_state_equiv, begins_with, IsFront};
+ghost use Rattle.fr_state.specs.Order.{extended, without_first, dropped_before};
+ghost use Rattle.fr_state.specs.Same.{is_same_generation, is_same_state, is_same_state_equiv, goes_on, GoesOn};
 ghost use Rattle.fr_state.specs.LookUp.{end_of, cut_of, source_of};
 
 use crate::fault::StateFault;
 use crate::generation::Generation;
-use crate::look_up::{next_of, source_for};
+use crate::look_up::{next_of, place_of, source_for};
 use fr_base::{Epoch, Memory, Version};
 use std::alloc::{AllocError, Global};
 use std::marker::Model;
@@ -16,11 +17,13 @@ use std::marker::Model;
 /// How many generations a state can have.
 pub(crate) const MOST_GENERATIONS: usize = 64;
 
-/// What the coordinators keep: the generations of logs, 1 to 64 of them, from the oldest to the current
-/// one. Epochs rise along the list; `first` and `seeded_to` do not fall. Contracts see it as a record
-/// with the list of generations.
+/// What the coordinators keep: how many generations of logs were dropped, whose records every storage server
+/// has for good, and those that are left, 1 to 64 of them, from the oldest to the current one. Epochs rise
+/// along the list; `first` and `seeded_to` do not fall. Contracts see it as a record of the number and the
+/// list.
 #[derive(Debug, Drop)]
 pub struct CoordState {
+    dropped: u64,
     gens: Vec<Generation>,
 }
 
@@ -29,30 +32,39 @@ impl Model for CoordState {
 
     ghost Value = { CoordinatedState };
 
-    ghost view = { λ s. record { gens = s.gens.items } };
+    ghost view = { λ s. record { dropped = s.dropped; gens = s.gens.items } };
 
-    ghost invariant = { λ s. IsCoordinatedState (record { gens = s.gens.items }) };
+    ghost invariant = { λ s. IsCoordinatedState (record { dropped = s.dropped; gens = s.gens.items }) };
 }
 
 impl CoordState {
     /// The state of one generation.
     pub fn new(alloc: Global, generation: Generation) -> Result<Self, Memory>
-        ensures { IfOk result (λ s. s ≡ record { gens = generation ∷ [] }) }
+        ensures { IfOk result (λ s. s ≡ record { dropped = 0; gens = generation ∷ [] }) }
     {
         let mut gens = Vec::with_capacity(alloc, 1)?;
         gens.push(generation)?;
-        Ok(CoordState { gens })
+        Ok(CoordState { dropped: 0, gens })
     }
 
-    /// The state of these generations. It takes no memory.
-    pub(crate) fn from_ordered(gens: Vec<Generation>) -> Self
-        requires { IsCoordinatedState (record { gens = gens.items }) }
-        ensures { result ≡ record { gens = gens.items } }
+    /// The state of these generations, after so many that were dropped. It takes no memory.
+    pub(crate) fn from_ordered(dropped: u64, gens: Vec<Generation>) -> Self
+        requires { IsCoordinatedState (record { dropped = dropped; gens = gens.items }) }
+        ensures { result ≡ record { dropped = dropped; gens = gens.items } }
     {
-        CoordState { gens }
+        CoordState { dropped, gens }
     }
 
-    /// The generations, from the oldest to the current one.
+    /// How many generations were dropped, from the first one of all on: fewer than the epoch of the first one
+    /// that is left says.
+    pub fn dropped(&self) -> u64
+        ensures value { result ≡ self.now.dropped }
+        ensures sound { IsCoordinatedState self.now }
+    {
+        self.dropped
+    }
+
+    /// The generations that are left, from the oldest to the current one.
     pub fn gens(&self) -> &[Generation]
         ensures value { result.now ≡ self.now.gens }
         ensures sound { IsCoordinatedState self.now }
@@ -88,6 +100,39 @@ impl CoordState {
         Ok(())
     }
 
+    /// Drops the generations before that of an epoch. It is false, and nothing changes, where the epoch is not
+    /// there. It takes no memory.
+    pub fn drop_before(&mut self, epoch: Epoch) -> bool
+        ensures there { result ≡ is_some (dropped_before self.old epoch) }
+        ensures after { self.new ≡ unwrap_or (dropped_before self.old epoch) self.old }
+    {
+        match place_of(&self.gens, epoch) {
+            Some(at) => {
+                self.drop_first(at);
+                true
+            }
+            None => false,
+        }
+    }
+
+    /// Drops the first generations, so many. It takes no memory.
+    fn drop_first(&mut self, number: usize)
+        requires { number < length self.old.gens }
+        ensures { self.new ≡ without_first self.old number }
+    {
+        let left = self.gens.len() - number;
+        self.gens.rotate_left(number);
+        self.gens.truncate(left);
+        self.dropped += number as u64;
+    }
+
+    /// Whether the same generations are left.
+    fn has_gens(&self, other: &CoordState) -> bool
+        ensures { result ≡ pointwise is_same_generation self.now.gens other.now.gens }
+    {
+        self.gens.as_slice() == other.gens.as_slice()
+    }
+
     /// The end of an epoch's generation: the version before the one at which the next generation starts.
     /// `None` for the last generation and for an epoch that is not there. It takes no memory.
     pub fn end_of(&self, epoch: Epoch) -> Option<Version>
@@ -114,13 +159,21 @@ impl CoordState {
         source_for(&self.gens, version)
     }
 
-    /// Whether this state begins with the generations of another one, as it does where it was made of
-    /// that one by `extend`. It takes no memory.
-    pub fn begins_with(&self, front: &CoordState) -> bool
-        ensures value { result ≡ begins_with self.now.gens front.now.gens }
-        ensures exact { IsTrue result ↔ IsFront front.now.gens self.now.gens }
+    /// Whether this state goes on from another one, as it does where it was made of that one by
+    /// `drop_before` and `extend`: it dropped no fewer generations, one of the other's is left at least, and it
+    /// begins with those that are left. It takes no memory.
+    pub fn begins_with(&self, own: &CoordState) -> bool
+        ensures value { result ≡ goes_on own.now self.now }
+        ensures exact { IsTrue result ↔ GoesOn own.now self.now }
     {
-        self.gens.starts_with(front.gens())
+        if self.dropped < own.dropped {
+            return false;
+        }
+        let more = self.dropped - own.dropped;
+        if own.gens.len() as u64 <= more {
+            return false;
+        }
+        self.gens.starts_with(&own.gens[more as usize..])
     }
 
     /// An equal state.
@@ -138,6 +191,7 @@ impl Clone for CoordState {
 
     fn clone(&self) -> Result<Self, AllocError> {
         Ok(CoordState {
+            dropped: self.dropped,
             gens: self.gens.clone()?,
         })
     }
@@ -149,7 +203,7 @@ impl PartialEq for CoordState {
     ghost laws = { partial_equiv_from_equiv is_same_state_equiv };
 
     fn eq(&self, other: &CoordState) -> bool {
-        self.gens.as_slice() == other.gens.as_slice()
+        self.dropped == other.dropped && self.has_gens(other)
     }
 }
 

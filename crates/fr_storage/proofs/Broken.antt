@@ -1,6 +1,6 @@
 -- Where the calls of a store break off at a version, and the first calls that lead there.
 use Rattle.std.proofs.Common.{◌≡◌, ℕ, ◌<◌, ◌≤◌, Bool, true, false, cond, ◌&&◌, ◌||◌, nat_lt, nat_le, max, List, [], ◌∷◌, ◌++◌, map, Option, None, Some, inl, inr, refl, sym, ap, ◌∙◌, subst, arith}
-use Rattle.std.specs.Prelude.{◌==◌, find, filter, reverse}
+use Rattle.std.specs.Prelude.{◌==◌, find, filter, reverse, is_some}
 use Rattle.std.specs.Option.{option_or}
 use Rattle.std.proofs.lemmas.Bool.{and_parts, and_right, and_left, or_parts, cases_order, eq-eqb, eqb-true, eqb-false, false_from_ne_true, ne_eqb, le-leb, lt-leb, lt-ltb, le-ltb, ltb-true}
 use Rattle.std.proofs.lemmas.List.{reverse-append}
@@ -80,6 +80,18 @@ plain s v t keeps = go (t.applied == v)
 
 pub at_own : (s : StoreState) (v : ℕ) (t : StoreState) → Keeps s t → t.applied ≡ v → here_at s v t ≡ Some t
 at_own s v t keeps e = plain s v t keeps ∙ ap (λ (b : Bool). cond b (Some t) None) (eq-eqb t.applied v e)
+
+-- calls break off at the version from which they start
+pub breaks_first : (s : StoreState) (calls : List Call) (v : ℕ) → s.applied ≡ v → is_some (broken_at s calls v) ≡ true
+breaks_first s calls v at = ap is_some (broken_is_last s calls v) ∙ go calls
+  where
+    either : (o : Option StoreState) → is_some (option_or o (here_at s v s)) ≡ true
+    either None = ap is_some (at_own s v s (keeps_itself s) at)
+    either (Some t) = refl
+
+    go : (calls : List Call) → is_some (last_at s v s calls) ≡ true
+    go [] = ap is_some (at_own s v s (keeps_itself s) at)
+    go (call ∷ calls) = either (last_at s v (called s call) calls)
 
 pub at_other : (s : StoreState) (v : ℕ) (t : StoreState) → Keeps s t → (t.applied ≡ v → ⊥) → here_at s v t ≡ None
 at_other s v t keeps ne = plain s v t keeps ∙ ap (λ (b : Bool). cond b (Some t) None) (ne_eqb t.applied v ne)

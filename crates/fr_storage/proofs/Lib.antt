@@ -7,6 +7,7 @@ pub mod Course
 pub mod Generations
 pub mod Hears
 pub mod Left
+pub mod MarkOff
 pub mod Marked
 pub mod Peeked
 pub mod Peeks

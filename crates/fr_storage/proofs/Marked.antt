@@ -1,25 +1,25 @@
 -- A storage server that follows goes on following at a true state.
 use Rattle.std.proofs.Common.{◌≡◌, ℕ, ◌<◌, ◌≤◌, true, false, min, List, [], ◌∷◌, Option, None, Some, inl, inr, refl, sym, ap, ◌∙◌, subst, arith}
-use Rattle.std.specs.Prelude.{◌⊎◌, IfSome, All}
+use Rattle.std.specs.Prelude.{IfSome, All}
 use Rattle.std.specs.List.{AllByRecursion}
-use Rattle.std.proofs.lemmas.Bool.{lt-ltb, le-ltb, false_from_ne_true}
+use Rattle.std.proofs.lemmas.Bool.{lt-ltb, le-ltb, ne_eqb, cases_order, false_from_ne_true}
 use Rattle.std.proofs.lemmas.List.Elements.{All-from_recursion}
 use Rattle.fr_undo.specs.State.{StoreState}
 use Rattle.fr_undo.specs.Undo.{undone, with_bytes}
 use Rattle.fr_undo.specs.Canonical.{Commit, canonical}
-use Rattle.fr_state.specs.Generations.{LogGeneration, CoordinatedState}
+use Rattle.fr_state.specs.Generations.{CoordinatedState}
 use Rattle.fr_state.specs.LookUp.{cut_of}
-use Rattle.fr_state.specs.Same.{is_same_state}
+use Rattle.fr_state.specs.Same.{is_same_state, GoesOn}
 use Rattle.fr_state.specs.Spelling.{spelling}
 use Rattle.fr_storage.specs.declared.fault.StorageFault.{StorageFault}
 use Rattle.fr_storage.specs.declared.fault.StorageFault.TheVariants.{Older}
-use Rattle.fr_storage.specs.Storage.{StorageState, Call, UndoTo, SetState, own_epoch, cut_in, stages, after_calls, marked_fault, marked_calls, after_marked, unless_fault}
-use Rattle.fr_storage.specs.Follows.{Pieces, ArePieces, HasPieces, Follows, IsFrontOf, IsTrueMark}
+use Rattle.fr_storage.specs.Storage.{StorageState, Call, UndoTo, SetState, own_epoch, cut_in, stages, after_calls, marked_fault, marked_calls, after_marked, unless_fault, is_stranger}
+use Rattle.fr_storage.specs.Follows.{Pieces, ArePieces, HasPieces, Follows, IsTrueMark}
 use Rattle.fr_storage.specs.Laws.{Laws}
 use Rattle.fr_storage.specs.Law.{IsMarkStage, MarkedLeads, MarkedFollows}
 use Rattle.fr_storage.proofs.Pieces.{piece_through}
 use Rattle.fr_storage.proofs.Peeks.{store_at, leads_on}
-use Rattle.fr_storage.proofs.Generations.{grows, front_cut, front_passes}
+use Rattle.fr_storage.proofs.Generations.{goes_cut}
 
 -- ---- the same state, an earlier one, a later one
 
@@ -69,9 +69,13 @@ older pieces s x follows lt = record {
     is : after_marked s x ≡ s
     is = ap (λ (o : Option StorageFault). unless_fault o s (record { tag = s.tag; state = x; store = after_calls s.store (marked_calls s x) })) refused
 
+no_stranger : Laws → (own x : CoordinatedState) → GoesOn own x → own_epoch own < own_epoch x → is_stranger own x ≡ false
+unfolding is_stranger
+no_stranger laws own x goes lt = rw (ne_eqb (own_epoch x) (own_epoch own) (λ e. omega (arith, e, lt)), (laws.goes own x).1 goes) refl
+
 later : Laws → (pieces : Pieces) (s : StorageState) (x : CoordinatedState) → ArePieces pieces → Follows pieces s → IsTrueMark pieces s x
-    → IsFrontOf s.state.gens x.gens → own_epoch s.state < own_epoch x → MarkedLeads pieces s x
-later laws pieces s x are follows mark front lt = record {
+    → GoesOn s.state x → own_epoch s.state < own_epoch x → MarkedLeads pieces s x
+later laws pieces s x are follows mark goes lt = record {
   taken = inl none;
   follows = subst (Follows pieces) (sym is) moved;
   each = λ taken.
@@ -94,7 +98,7 @@ later laws pieces s x are follows mark front lt = record {
     cut = cut_in x own
 
     cut_is : cut_of x.gens own ≡ Some cut
-    cut_is = front_cut laws s.state x follows.state mark.state front lt
+    cut_is = goes_cut laws s.state x follows.state mark.state goes lt
 
     floor_within : s.store.floor ≤ cut
     floor_within = subst (λ (o : Option ℕ). IfSome o (λ c. s.store.floor ≤ c)) cut_is mark.floor
@@ -103,7 +107,7 @@ later laws pieces s x are follows mark front lt = record {
     other = false_from_ne_true (is_same_state x s.state) (λ e. let k : own_epoch x ≡ own = ap own_epoch ((laws.same x s.state).0 e) in omega arith)
 
     none : marked_fault s x ≡ None
-    none = rw (le-ltb (own_epoch x) own (omega arith), other, front_passes laws s.state.gens x.gens front, le-ltb cut s.store.floor floor_within) refl
+    none = rw (le-ltb (own_epoch x) own (omega arith), other, no_stranger laws s.state x goes lt, le-ltb cut s.store.floor floor_within) refl
 
     calls : marked_calls s x ≡ UndoTo cut ∷ SetState (spelling x) ∷ []
     calls = rw other refl
@@ -143,17 +147,8 @@ later laws pieces s x are follows mark front lt = record {
         ∙ ap (λ (t : StoreState). record { tag = s.tag; state = x; store = with_bytes t (spelling x) }) undo
 
 pub marked_follows : Laws → MarkedFollows
-marked_follows laws pieces s x are follows mark = go mark.chain
-  where
-    equal : s.state.gens ≡ x.gens → MarkedLeads pieces s x
-    equal e = subst (MarkedLeads pieces s) (ap (λ (gens : List LogGeneration). record { gens = gens }) e) (same laws pieces s follows)
-
-    go : IsFrontOf s.state.gens x.gens ⊎ IsFrontOf x.gens s.state.gens → MarkedLeads pieces s x
-    go (inl front) = elim (grows s.state.gens x.gens front.0 follows.state.some front.1 mark.state.ordered) [
-      | inl e ↦ equal e
-      | inr lt ↦ later laws pieces s x are follows mark front lt
-    ]
-    go (inr front) = elim (grows x.gens s.state.gens front.0 mark.state.some front.1 follows.state.ordered) [
-      | inl e ↦ equal (sym e)
-      | inr lt ↦ older pieces s x follows lt
-    ]
+marked_follows laws pieces s x are follows mark = elim (cases_order (own_epoch x) (own_epoch s.state)) [
+  | inl e ↦ subst (MarkedLeads pieces s) (sym (mark.one e)) (same laws pieces s follows)
+  | inr (inl less) ↦ older pieces s x follows less
+  | inr (inr more) ↦ later laws pieces s x are follows mark (mark.later more) more
+]

@@ -1,16 +1,18 @@
 -- A storage server whose store was called.
-use Rattle.std.proofs.Common.{◌≡◌, ℕ, zero, suc, Bool, true, false, cond, nat_lt, List, [], ◌∷◌, ◌++◌, map, Option, None, refl, sym, ap, ◌∙◌, subst, arith}
-use Rattle.std.specs.Prelude.{Contains}
+use Rattle.std.proofs.Common.{◌≡◌, ℕ, ◌+◌, zero, suc, Bool, true, false, cond, nat_lt, List, [], ◌∷◌, ◌++◌, map, Option, None, Some, refl, sym, ap, ◌∙◌, subst, arith}
+use Rattle.std.specs.Prelude.{Contains, IfSome, not, Err}
 use Rattle.fr_undo.specs.State.{StoreState}
 use Rattle.fr_log.specs.declared.records.PeekedRecord.{PeekedRecord}
 use Rattle.fr_log.specs.Peeked.{PeekedContent}
 use Rattle.fr_state.specs.Generations.{CoordinatedState, IsCoordinatedState}
 use Rattle.fr_state.specs.Same.{is_same_state}
 use Rattle.fr_state.specs.Spelling.{spelling}
-use Rattle.fr_state.specs.LookUp.{end_of}
+use Rattle.fr_state.specs.LookUp.{source_of, end_of}
+use Rattle.fr_undo.specs.declared.fault.StoreFault.{StoreFault}
 use Rattle.fr_storage.specs.declared.fault.StorageFault.{StorageFault}
-use Rattle.fr_storage.specs.Storage.{StorageState, Call, Advance, Forget, UndoTo, SetState, called, after_calls, stages, apply_of, advance_calls, forget_calls, records_between, reached, cut_at, cut_in, own_epoch, marked_fault, marked_calls, peeked_calls, unless_fault}
-use Rattle.fr_storage.specs.Server.{Server, storage_of, IsSpelled, IsServer, IsWhole, LeavesStages}
+use Rattle.fr_storage.specs.declared.fault.StorageFault.TheVariants.{Older, Stranger, BelowFloor, NotMyGeneration, Hole, Store}
+use Rattle.fr_storage.specs.Storage.{StorageState, Call, Advance, Forget, UndoTo, SetState, called, after_calls, stages, apply_of, advance_calls, forget_calls, records_between, reached, cut_at, cut_in, own_epoch, is_stranger, marked_fault, marked_calls, is_epoch, peeked_fault, peeked_calls, unless_fault}
+use Rattle.fr_storage.specs.Server.{Server, storage_of, store_fault, IsSpelled, IsServer, IsWhole, LeavesStages}
 use Rattle.fr_storage.specs.Pull.{pull_calls}
 use Rattle.fr_storage.proofs.Left.{first_stage, last_stage, one_stage}
 
@@ -128,3 +130,23 @@ stays s x same e none =
     (λ i. record { tag = s.tag; state = sym e i; store = s.store })
     ∙ ap (λ (calls : List Call). record { tag = s.tag; state = x; store = after_calls s.store calls }) (sym (ap (λ (b : Bool). cond b [] (UndoTo (cut_in x (own_epoch s.state)) ∷ SetState (spelling x) ∷ [])) same))
     ∙ sym (taken (marked_fault s x) s (record { tag = s.tag; state = x; store = after_calls s.store (marked_calls s x) }) none)
+
+-- no state is refused as a fault of the store
+pub no_store_fault : (s : StorageState) (x : CoordinatedState) (f : StorageFault) (fault : StoreFault) → marked_fault s x ≡ Some f → f ≡ Store fault → ⊥
+no_store_fault s x f fault e is = go (nat_lt (own_epoch x) (own_epoch s.state)) (is_same_state x s.state) (is_stranger s.state x) (nat_lt (cut_in x (own_epoch s.state)) s.store.floor) e
+  where
+    go : (a b d k : Bool) → cond a (Some Older) (cond b None (cond d (Some Stranger) (cond k (Some BelowFloor) None))) ≡ Some f → ⊥
+    go true b d k e = let own : Older ≡ f = cc in let same : Older ≡ Store fault = own ∙ is in absurd cc
+    go false true d k e = absurd cc
+    go false false true k e = let own : Stranger ≡ f = cc in let same : Stranger ≡ Store fault = own ∙ is in absurd cc
+    go false false false true e = let own : BelowFloor ≡ f = cc in let same : BelowFloor ≡ Store fault = own ∙ is in absurd cc
+    go false false false false e = absurd cc
+
+-- nor is an answer of a log
+pub no_store_trouble : (T : Type 0) (s : StorageState) (epoch : ℕ) (peeked : PeekedContent) (f : StorageFault) (P : StoreFault → Type 0) → peeked_fault s epoch peeked ≡ Some f → IfSome (store_fault {T = T} (Err f)) P
+no_store_trouble T s epoch peeked f P = go (is_epoch epoch (source_of s.state.gens (s.store.applied + 1))) (nat_lt s.store.applied peeked.after)
+  where
+    go : (a b : Bool) → cond (not a) (Some NotMyGeneration) (cond b (Some Hole) None) ≡ Some f → IfSome (store_fault {T = T} (Err f)) P
+    go false b e = let own : NotMyGeneration ≡ f = cc in subst (λ (g : StorageFault). IfSome (store_fault {T = T} (Err g)) P) own tt
+    go true true e = let own : Hole ≡ f = cc in subst (λ (g : StorageFault). IfSome (store_fault {T = T} (Err g)) P) own tt
+    go true false e = absurd cc

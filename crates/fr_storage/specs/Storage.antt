@@ -1,13 +1,12 @@
 -- The state of a storage server, and the calls of its store at each tell.
-use Rattle.std.specs.Prelude.{ℕ, ◌+◌, Bool, true, false, nat_lt, nat_le, ◌==◌, ◌&&◌, not, min, max, List, [], ◌∷◌, ◌++◌, length, take, fold, map, filter, find, reverse, Option, None, Some, unwrap_or, if◌then◌else◌}
-use Rattle.std.specs.Cmp.Lexicographic.{pointwise}
+use Rattle.std.specs.Prelude.{ℕ, ◌+◌, Bool, true, false, nat_lt, nat_le, ◌==◌, ◌&&◌, ◌||◌, not, min, max, List, [], ◌∷◌, ◌++◌, fold, map, filter, find, reverse, Option, None, Some, unwrap_or, if◌then◌else◌}
 use Rattle.fr_base.specs.Bytes.{bytes_eq}
 use Rattle.fr_mutation.specs.declared.mutation.Mutation.{Mutation}
 use Rattle.fr_undo.specs.State.{StoreState}
 use Rattle.fr_undo.specs.Undo.{extended, undone, forgotten, advanced, with_bytes}
 use Rattle.fr_state.specs.Generations.{LogGeneration, CoordinatedState, last_of}
 use Rattle.fr_state.specs.LookUp.{source_of, end_of, cut_of}
-use Rattle.fr_state.specs.Same.{is_same_generation, is_same_state}
+use Rattle.fr_state.specs.Same.{is_same_state, goes_on}
 use Rattle.fr_state.specs.Spelling.{spelling}
 use Rattle.fr_log.specs.declared.records.PeekedRecord.{PeekedRecord}
 use Rattle.fr_log.specs.declared.ask.LogAsk.{LogAsk}
@@ -59,20 +58,20 @@ epoch_of (Some g) = g.epoch
 abbrev pub own_epoch : CoordinatedState → ℕ
 own_epoch x = epoch_of (last_of x.gens)
 
--- whether a list of generations is the front of another
-abbrev pub is_front : List LogGeneration → List LogGeneration → Bool
-is_front own gens = pointwise is_same_generation own (take (length own) gens)
-
 -- the version to which a storage of an epoch is undone by a later state: the epoch's cut there
 abbrev pub cut_in : CoordinatedState → ℕ → ℕ
 cut_in x epoch = unwrap_or (cut_of x.gens epoch) 0
+
+-- whether a state does not go on from another, which it is not
+unfoldable pub is_stranger : CoordinatedState → CoordinatedState → Bool
+is_stranger own x = (own_epoch x == own_epoch own) || not (goes_on own x)
 
 -- why a state is refused
 abbrev pub marked_fault : StorageState → CoordinatedState → Option StorageFault
 marked_fault s x =
     if nat_lt (own_epoch x) (own_epoch s.state) then Some Older
     else if is_same_state x s.state then None
-    else if not (is_front s.state.gens x.gens) then Some Stranger
+    else if is_stranger s.state x then Some Stranger
     else if nat_lt (cut_in x (own_epoch s.state)) s.store.floor then Some BelowFloor
     else None
 

@@ -11,8 +11,9 @@ pub enum StorageFault {
     /// The state is of an earlier epoch than the own.
     #[error("the state is of an earlier epoch")]
     Older,
-    /// The own generations are not the front of the state's.
-    #[error("the own generations are not the first ones of the state")]
+    /// The state is another one of the own epoch, or does not go on from the own one: it does not begin with
+    /// the own generations that it did not drop, or dropped all of them.
+    #[error("the state does not go on from the own one")]
     Stranger,
     /// The cut of the own epoch is below the floor, so undo rows that are wanted are gone.
     #[error("the cut of the own epoch is below the floor")]

@@ -32,7 +32,7 @@ cell_may law w from i a up sent =
     law w.config w.turns (Deliver from (node.Cell i) (ask.Cell a)) (CellTurn from i a (cell.answer_of (cell_at w.config w.turns i) a)) tt
     (delivery w from (node.Cell i) (ask.Cell a) up ∙ ap (λ b. if_sent b (CellTurn from i a (cell.answer_of (cell_at w.config w.turns i) a))) sent)
 
-pub log_may : EventIsTurn → (w : WorldState) (from : NodeId) (e i : ℕ) (a : LogAsk) → WantsSome a → why_not_up w (node.Log e i) ≡ None → (was_sent w.turns from (node.Log e i) (ask.Log a) || storage_may_ask w.config from a) ≡ true
+pub log_may : EventIsTurn → (w : WorldState) (from : NodeId) (e i : ℕ) (a : LogAsk) → WantsSome a → why_not_up w (node.Log e i) ≡ None → (was_sent w.turns from (node.Log e i) (ask.Log a) || storage_may_ask w.config w.turns from a) ≡ true
     → IsTurn w.config w.turns (LogTurn from e i a (log.answer_of (log_at w.config w.turns e i) a))
 log_may law w from e i a wants up sent =
     law w.config w.turns (Deliver from (node.Log e i) (ask.Log a)) (LogTurn from e i a (log.answer_of (log_at w.config w.turns e i) a)) wants

@@ -6,7 +6,8 @@ ghost use Rattle.fr_log.specs.Step.{answer_of, next_of};
 ghost use Rattle.fr_world_nodes.specs.Parts.{pair_cmp};
 
 use crate::told::Told;
-use fr_base::{Epoch, Machine, Memory};
+use fr_base::{Epoch, Memory};
+use fr_log::laws::place_law;
 use fr_log::{Log, LogAsk, LogTell};
 use std::alloc::Global;
 use std::collections::BTreeMap;
@@ -28,7 +29,7 @@ pub fn keep_log(
     }
 }
 
-/// Asks a log that was made. Want of memory changes nothing.
+/// Asks a log that was made: it lets nothing go, which no tell shows. Want of memory changes nothing.
 pub fn ask_log(
     alloc: Global,
     logs: &mut BTreeMap<(Epoch, u8), Log>,
@@ -57,8 +58,9 @@ fn ask(alloc: Global, log: &mut Log, ask: LogAsk) -> Result<Told<LogTell>, Memor
     ensures after { OnOk result (log.new ≡ next_of log.old ask) }
     ensures err { OnErr result (log.new ≡ log.old) }
 {
-    let place = log.place();
-    let kept = log.step(alloc, ask)?;
+    place_law();
+    let place = log.place()?;
+    let kept = log.keep(alloc, ask)?;
     match kept.copy() {
         Ok(handed) => Ok(Told { kept, handed }),
         Err(fault) => {

@@ -4,7 +4,7 @@ ghost use Rattle.std.specs.Prelude.{◌≡◌, ◌<◌, false, [], IfOk};
 ghost use Rattle.fr_run.specs.Config.{first_generation, first_state, first_cell, first_log, first_storage};
 ghost use Rattle.fr_world_nodes.specs.Parts.{server_of, AreCells, AreStorages};
 
-use fr_base::{Ballot, Epoch, LogId, Machine, Memory, Tag, Version};
+use fr_base::{Ballot, Epoch, LogId, Memory, Tag, Version};
 use fr_log::{Log, LogAsk, Push, Seed};
 use fr_register::{Cell, CellValue};
 use fr_run_event::Config;
@@ -95,12 +95,12 @@ pub fn log(alloc: Global, config: &Config, index: u8) -> Result<Log, Memory>
     let Some(seed) = Seed::new(epoch, version_one(), Version::ZERO, Vec::new(alloc)) else {
         unreachable!();
     };
-    log.step(alloc, LogAsk::Seed(seed))?;
+    log.keep(alloc, LogAsk::Seed(seed))?;
     let state = state(alloc, config)?;
     let Some(mark) = Push::mark(alloc, epoch, Version::ZERO, Version::ZERO, state) else {
         unreachable!();
     };
-    log.step(alloc, LogAsk::Push(mark))?;
+    log.keep(alloc, LogAsk::Push(mark))?;
     Ok(log)
 }
 

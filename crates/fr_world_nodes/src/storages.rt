@@ -1,5 +1,6 @@
 //! The storage servers of a world.
-ghost use Rattle.std.specs.Prelude.{◌≡◌, ◌&&◌, false, true, not, is_some, IfOk, IsTrue, None, OnOk, Some};
+ghost use Rattle.std.specs.Prelude.{◌≡◌, ◌==◌, ◌&&◌, List, false, true, not, is_some, IfOk, IsTrue, None, OnOk, Some};
+ghost use Rattle.std.specs.List.{list_any};
 ghost use Rattle.fr_run.specs.Nodes.{whole_hear, part_hear, storage_hear};
 ghost use Rattle.fr_run.specs.Run.{fault_of, fault_of_log};
 ghost use Rattle.fr_storage.specs.Server.{met_store, refusal_of};
@@ -7,12 +8,14 @@ ghost use Rattle.fr_ask.specs.declared.tell.Tell.TheVariants as told;
 ghost use Rattle.fr_run_event.specs.Tests as tests;
 ghost use Rattle.fr_run_event.specs.Step.{breaks_in, may_break};
 ghost use Rattle.fr_run_event.specs.Last as last;
-ghost use Rattle.fr_world_nodes.specs.Parts.{server_of, is_ok_true};
+ghost use Rattle.fr_run.specs.Turn.{Turn};
+ghost use Rattle.fr_world_nodes.specs.Parts.{server_of, is_ok_true, AreStorages};
 
 use fr_ask::{Last, Tell};
 use fr_base::{Epoch, Memory, NodeId, Version};
 use fr_log::{LogAsk, LogTell};
 use fr_run_event::{Config, last_of_storage};
+use fr_state::Generation;
 use fr_storage::{Storage, StorageFault};
 use fr_undo::MapStore;
 use std::alloc::Global;
@@ -222,9 +225,15 @@ pub fn last_of_copy(alloc: Global, server: &Storage<MapStore>) -> Result<Last, M
     }
 }
 
-/// Whether an ask is one that storage servers may give at any time: for a mark, and for records of the own tag.
-pub fn storage_may_ask(config: &Config, from: &NodeId, ask: &LogAsk) -> bool
-    ensures { result ≡ tests.storage_may_ask config.now from.now ask.now }
+/// Whether an ask is one that storage servers may give at any time: for a mark, for records of the own tag, and to let go
+/// of these through the floor, of a generation that the server has.
+pub fn storage_may_ask(
+    config: &Config,
+    servers: &[Storage<MapStore>],
+    from: &NodeId,
+    ask: &LogAsk,
+) -> bool
+    ensures { (h : List Turn) → AreStorages config.now h servers.now → result ≡ tests.storage_may_ask config.now h from.now ask.now }
 {
     match (from, ask) {
         (NodeId::Storage { tag }, LogAsk::Peek { tag: asked, .. }) => {
@@ -233,6 +242,34 @@ pub fn storage_may_ask(config: &Config, from: &NodeId, ask: &LogAsk) -> bool
         (NodeId::Storage { tag }, LogAsk::MarkAsked { .. }) => {
             usize::from(tag.get()) < config.map().begins().len()
         }
+        (
+            NodeId::Storage { tag },
+            LogAsk::Pop {
+                epoch,
+                tag: asked,
+                through,
+            },
+        ) => {
+            tag.get() == asked.get()
+                && match servers.get(usize::from(tag.get())) {
+                    Some(server) => may_pop(server, *epoch, *through),
+                    None => false,
+                }
+        }
         _ => false,
     }
+}
+
+/// Whether an epoch is that of a generation that a server has, and a version not above its floor.
+fn may_pop(server: &Storage<MapStore>, epoch: Epoch, through: Version) -> bool
+    ensures { server.now.failed ≡ false → result ≡ tests.may_pop (server_of server.now) epoch through }
+{
+    has_epoch(server.state().gens(), epoch) && through <= server.floor()
+}
+
+/// Whether one of some generations is of an epoch.
+fn has_epoch(gens: &[Generation], epoch: Epoch) -> bool
+    ensures { result ≡ list_any (λ g. g.epoch == epoch) gens.now }
+{
+    gens.iter().any(|generation| generation.epoch() == epoch)
 }

@@ -54,6 +54,7 @@ log_ask_row (lask.Push p) = (4, p.epoch, p.prev, p.version, p.known)
 log_ask_row (lask.Lock e) = (5, e, 0, 0, 0)
 log_ask_row (lask.Peek e t after most) = (6, e, t, after, most)
 log_ask_row (lask.MarkAsked e) = (7, e, 0, 0, 0)
+log_ask_row (lask.Pop e t through) = (21, e, t, through, 0)
 
 abbrev pub seq_ask_row : SeqAsk → WordRow
 seq_ask_row (sask.Next p r s) = (8, p, r, s, 0)
@@ -81,13 +82,15 @@ refusal_row why.NotMine = (18, 5, 0, 0, 0)
 refusal_row (why.TooEarly first) = (18, 6, first, 0, 0)
 refusal_row why.SeedDiffers = (18, 7, 0, 0, 0)
 refusal_row why.NoMark = (18, 8, 0, 0, 0)
+refusal_row (why.Removed through) = (18, 9, through, 0, 0)
 
 abbrev pub log_tell_row : LogTell → WordRow
 log_tell_row ltell.Seeded = (13, 0, 0, 0, 0)
 log_tell_row (ltell.Held v) = (14, v, 0, 0, 0)
-log_tell_row (ltell.Locked durable known) = (15, durable, known, 0, 0)
+log_tell_row (ltell.Locked durable known popped) = (15, durable, known, 0, 0)
 log_tell_row (ltell.Peeked p) = (16, p.tag, p.after, p.upto, p.known)
 log_tell_row (ltell.Marked state) = (17, 0, 0, 0, 0)
+log_tell_row (ltell.Popped through) = (22, through, 0, 0, 0)
 log_tell_row (ltell.Refused reason) = refusal_row reason
 
 abbrev pub seq_tell_row : SeqTell → WordRow

@@ -131,6 +131,11 @@ fn log_ask_row(ask: &LogAsk) -> WordRow
             u64::from(most.get()),
         ),
         LogAsk::MarkAsked { epoch } => (7, epoch.get(), 0, 0, 0),
+        LogAsk::Pop {
+            epoch,
+            tag,
+            through,
+        } => (21, epoch.get(), u64::from(tag.get()), through.get(), 0),
     }
 }
 
@@ -161,7 +166,7 @@ fn log_tell_row(tell: &LogTell) -> WordRow
     match tell {
         LogTell::Seeded => (13, 0, 0, 0, 0),
         LogTell::Held { version } => (14, version.get(), 0, 0, 0),
-        LogTell::Locked { durable, known } => (15, durable.get(), known.get(), 0, 0),
+        LogTell::Locked { durable, known, .. } => (15, durable.get(), known.get(), 0, 0),
         LogTell::Peeked(peeked) => {
             let (tag, after) = (peeked.tag(), peeked.after());
             (
@@ -173,6 +178,7 @@ fn log_tell_row(tell: &LogTell) -> WordRow
             )
         }
         LogTell::Marked { .. } => (17, 0, 0, 0, 0),
+        LogTell::Popped { through } => (22, through.get(), 0, 0, 0),
         LogTell::Refused { why } => refusal_row(why),
     }
 }
@@ -190,6 +196,7 @@ fn refusal_row(why: &LogRefusal) -> WordRow
         LogRefusal::TooEarly { first } => (18, 6, first.get(), 0, 0),
         LogRefusal::SeedDiffers => (18, 7, 0, 0, 0),
         LogRefusal::NoMark => (18, 8, 0, 0, 0),
+        LogRefusal::Removed { through } => (18, 9, through.get(), 0, 0),
     }
 }
 

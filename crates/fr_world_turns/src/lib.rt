@@ -2,6 +2,7 @@
 //! logarithm of how much happened.
 #![tactic(auto)]
 
+mod copying;
 mod entering;
 mod finding;
 mod keys;

@@ -2,8 +2,8 @@
 use crate::made::{at, ballot, bytes, epoch};
 use crate::named::{next, read, value, write};
 use fr_ask::{Last, Named, Rows, SeqTell};
-use fr_base::{Ballot, Bytes, Epoch, LogId, Machine, Memory};
-use fr_log::Log;
+use fr_base::{Ballot, Bytes, Epoch, LogId, Machine, Memory, Tag};
+use fr_log::{Log, PoppedTag, PoppedTags};
 use fr_proxy::Sequencer;
 use fr_register::{Cell, CellValue};
 use std::alloc::Global;
@@ -14,8 +14,8 @@ use std::test::Fail;
 enum Stood {
     /// A cell promised ballot 514, and has this value of one byte written at 513.
     Cell(u8),
-    /// A log that has nothing.
-    Log,
+    /// A log that has nothing, of which these tags are popped through these versions.
+    Log(&'static [(u8, u64)]),
     /// A sequencer gave this version last.
     Sequencer(u64),
     /// A proxy knows this version.
@@ -41,13 +41,29 @@ fn cell_stood(alloc: Global, byte: u8) -> Result<Last, Fail> {
     Ok(cell_last(promised, written, value))
 }
 
-fn log_stood() -> Result<Last, Fail> {
+fn popped_tag((tag, version): (u8, u64)) -> Result<PoppedTag, Fail> {
+    let tag = Tag::new(tag).ok_or("a tag")?;
+    let version = at(version)?;
+    Ok(PoppedTag { tag, version })
+}
+
+fn popped_tags(alloc: Global, pairs: &[(u8, u64)]) -> Result<PoppedTags, Fail> {
+    let mut entries = Vec::new(alloc);
+    for pair in pairs {
+        entries.push(popped_tag(*pair)?)?;
+    }
+    Ok(PoppedTags::from_vec(entries))
+}
+
+fn log_stood(alloc: Global, pairs: &[(u8, u64)]) -> Result<Last, Fail> {
     let none = at(0)?;
+    let popped = popped_tags(alloc, pairs)?;
     Ok(Last::Log {
         seeded: false,
         durable: none,
         known: none,
         stopped: false,
+        popped,
     })
 }
 
@@ -94,7 +110,7 @@ fn storage_stood(alloc: Global, value: u8) -> Result<Last, Fail> {
 fn last_of(alloc: Global, stood: Stood) -> Result<Last, Fail> {
     match stood {
         Stood::Cell(byte) => cell_stood(alloc, byte),
-        Stood::Log => log_stood(),
+        Stood::Log(popped) => log_stood(alloc, popped),
         Stood::Sequencer(last) => sequencer_stood(last),
         Stood::Proxy(known) => proxy_stood(known),
         Stood::Recoverer(phase) => recoverer_stood(alloc, phase),
@@ -103,10 +119,14 @@ fn last_of(alloc: Global, stood: Stood) -> Result<Last, Fail> {
 }
 
 /// No two of these are the same, and each is the same as itself and its copy.
-const LASTS: [Stood; 9] = [
+const LASTS: [Stood; 13] = [
     Stood::Cell(7),
     Stood::Cell(8),
-    Stood::Log,
+    Stood::Log(&[]),
+    Stood::Log(&[(0, 0)]),
+    Stood::Log(&[(0, 2)]),
+    Stood::Log(&[(1, 2)]),
+    Stood::Log(&[(0, 2), (1, 2)]),
     Stood::Sequencer(5),
     Stood::Proxy(2),
     Stood::Proxy(3),
@@ -204,7 +224,7 @@ fn new_log(alloc: Global, epoch: Epoch) -> Log {
 #[test]
 fn a_log_stood_at_last(rt: HostRuntime) -> Result<(), Fail> {
     let log = new_log(rt.alloc(), epoch(257)?);
-    assert!(rt; stands(rt.alloc(), &log, Stood::Log)?);
+    assert!(rt; stands(rt.alloc(), &log, Stood::Log(&[]))?);
     Ok(())
 }
 

@@ -14,6 +14,12 @@ const TWO: [u8; 54] = [
     0, 0, 2, 1, 4, 2, 0, 0, 0, 0, 0, 0, 0, 10, 0, 0, 0, 0, 0, 0, 0, 10,
 ];
 
+/// Epochs 513 and 769, 2 logs and degree 2 each, first 3, seeded to 3 and 4, behind one that was dropped.
+const LEFT: [u8; 62] = [
+    2, 0, 0, 0, 0, 0, 0, 0, 1, 2, 0, 0, 0, 0, 0, 0, 2, 1, 2, 2, 0, 0, 0, 0, 0, 0, 0, 3, 0, 0, 0, 0,
+    0, 0, 0, 3, 0, 0, 0, 0, 0, 0, 3, 1, 2, 2, 0, 0, 0, 0, 0, 0, 0, 3, 0, 0, 0, 0, 0, 0, 0, 4,
+];
+
 fn is_spelled(alloc: Global, state: &CoordState, bytes: &[u8]) -> Result<bool, Fail> {
     Ok(encode(alloc, state)?.as_slice() == bytes)
 }
@@ -44,5 +50,6 @@ fn change_each_byte(alloc: Global, row: &[u8]) -> Result<bool, Fail> {
 fn a_changed_byte_is_refused_or_read_as_it_is(rt: HostRuntime) -> Result<(), Fail> {
     assert!(rt; change_each_byte(rt.alloc(), &ONE)?);
     assert!(rt; change_each_byte(rt.alloc(), &TWO)?);
+    assert!(rt; change_each_byte(rt.alloc(), &LEFT)?);
     Ok(())
 }

@@ -29,7 +29,7 @@ const CONFIGS: [&str; 8] = [
     r#"{"coordinators":1,"degree":1,"logs":1,"proxies":1}"#,
 ];
 
-const ASKS: [&str; 28] = [
+const ASKS: [&str; 33] = [
     r#"{}"#,
     r#"null"#,
     r#"{"cell":{}}"#,
@@ -58,9 +58,14 @@ const ASKS: [&str; 28] = [
     r#"{"log":{"push":{"bodies":[],"epoch":257,"known":0,"mark":[{"epoch":257,"first":1,"k":1,"m":1,"seeded_to":0}],"prev":1,"version":3}}}"#,
     r#"{"seq":{"next":{"proxy":16,"request":1,"step":1}}}"#,
     r#"{"seq":{"next":{"proxy":0,"request":0,"step":1}}}"#,
+    r#"{"log":{"pop":{"epoch":257,"tag":0}}}"#,
+    r#"{"log":{"pop":{"epoch":255,"tag":0,"through":0}}}"#,
+    r#"{"log":{"pop":{"epoch":257,"tag":32,"through":0}}}"#,
+    r#"{"log":{"pop":{"epoch":257,"tag":0,"through":4611686018427387904}}}"#,
+    r#"{"log":{"push":{"bodies":[[0,[]]],"epoch":513,"known":0,"mark":{"dropped":1,"gens":[{"epoch":513,"first":1,"k":1,"m":1,"seeded_to":0}]},"prev":1,"version":2}}}"#,
 ];
 
-const TELLS: [&str; 12] = [
+const TELLS: [&str; 25] = [
     r#"{"cell":{"two_values":null}}"#,
     r#"{"cell":{"two_values":{"why":0}}}"#,
     r#"{"log":{"seeded":[]}}"#,
@@ -73,6 +78,19 @@ const TELLS: [&str; 12] = [
     r#"{"log":{"peeked":{"after":0,"known":0,"records":[{"batch":[{"clear":{"begin":"62","end":"61"}}],"version":1}],"tag":0,"upto":1}}}"#,
     r#"{"seq":{"numbered":{"prev":1,"request":4611686018427387904,"version":2}}}"#,
     r#"{"seq":{"refused":{"why":{"stopped":{}}}}}"#,
+    r#"{"log":{"locked":{"durable":9,"known":8,"popped":[]}}}"#,
+    r#"{"log":{"locked":{"durable":9,"known":8,"popped":null}}}"#,
+    r#"{"log":{"locked":{"durable":9,"known":8,"popped":[[0,8,0]]}}}"#,
+    r#"{"log":{"locked":{"durable":9,"known":8,"popped":[[2,8],[0,8]]}}}"#,
+    r#"{"log":{"locked":{"durable":9,"known":8,"popped":[[2,8],[2,8]]}}}"#,
+    r#"{"log":{"locked":{"durable":9,"known":8,"popped":[[32,8]]}}}"#,
+    r#"{"log":{"popped":{"through":4611686018427387904}}}"#,
+    r#"{"log":{"refused":{"why":{"removed":{}}}}}"#,
+    r#"{"log":{"marked":{"state":{"dropped":0,"gens":[{"epoch":513,"first":3,"k":2,"m":2,"seeded_to":3}]}}}}"#,
+    r#"{"log":{"marked":{"state":{"dropped":513,"gens":[{"epoch":513,"first":3,"k":2,"m":2,"seeded_to":3}]}}}}"#,
+    r#"{"log":{"marked":{"state":{"dropped":1,"gens":[]}}}}"#,
+    r#"{"log":{"marked":{"state":{"gens":[{"epoch":513,"first":3,"k":2,"m":2,"seeded_to":3}]}}}}"#,
+    r#"{"log":{"marked":{"state":{"dropped":1,"gens":[{"epoch":513,"first":3,"k":2,"m":2,"seeded_to":3}],"more":0}}}}"#,
 ];
 
 const ACTS: [&str; 27] = [
@@ -116,13 +134,15 @@ const NODES: [&str; 8] = [
     r#"{"storage":0}"#,
 ];
 
-const LASTS: [&str; 6] = [
+const LASTS: [&str; 8] = [
     r#"{}"#,
     r#"{"log":{"durable":0,"known":0,"seeded":0,"stopped":false}}"#,
     r#"{"recoverer":{"phase":null}}"#,
     r#"{"storage":{"epoch":257,"floor":0,"rows":[["61"]],"version":0}}"#,
     r#"{"storage":{"epoch":257,"floor":0,"rows":[["61","1"]],"version":0}}"#,
     r#"{"sequencer":{"last":null}}"#,
+    r#"{"log":{"durable":0,"known":0,"popped":[],"seeded":true,"stopped":false}}"#,
+    r#"{"log":{"durable":0,"known":0,"popped":[[1,0],[0,0]],"seeded":true,"stopped":false}}"#,
 ];
 
 const ENTRIES: [&str; 5] = [

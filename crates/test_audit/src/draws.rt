@@ -1,7 +1,7 @@
 //! Journals drawn at random, within their limits and else of any kind.
 ghost use Rattle.std.specs.Prelude.{◌<◌};
 
-use crate::draws_of_logs::{draw_log_ask, draw_log_tell};
+use crate::draws_of_logs::{draw_log_ask, draw_log_tell, draw_popped_tags};
 use fr_ask::{Ask, Last, Rows, SeqAsk, SeqRefusal, SeqTell, Tell};
 use fr_audit_journal::{Act, Entry, Journal};
 use fr_base::{Ballot, Bytes, Epoch, NodeId, Shape, Stamp, Step, Tag, Version};
@@ -296,11 +296,13 @@ impl Draws {
         let stopped = self.flag();
         let durable = self.version()?;
         let known = self.version()?;
+        let popped = draw_popped_tags(self)?;
         Ok(Last::Log {
             seeded,
             durable,
             known,
             stopped,
+            popped,
         })
     }
 

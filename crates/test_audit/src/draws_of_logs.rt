@@ -1,21 +1,35 @@
 //! What logs are asked and tell, drawn at random.
 use crate::draws::Draws;
-use fr_base::{Epoch, Version};
-use fr_log::{LogAsk, LogRefusal, LogTell, Most, Peeked, PeekedRecord, Push, Seed, SeedRecord};
+use fr_base::{Epoch, Tag, Version};
+use fr_log::{
+    LogAsk, LogRefusal, LogTell, Most, Peeked, PeekedRecord, PoppedTag, PoppedTags, Push, Seed,
+    SeedRecord,
+};
 use fr_state::{CoordState, Generation};
 use fr_tags::Body;
 use std::test::Fail;
 
 pub fn draw_log_ask(draws: &mut Draws) -> Result<LogAsk, Fail> {
     let epoch = draws.epoch()?;
-    match draws.number(6) {
+    match draws.number(7) {
         0 => Ok(LogAsk::Seed(draw_seed(draws)?)),
         1 => Ok(LogAsk::Push(draw_push(draws)?)),
         2 => Ok(LogAsk::Push(draw_mark(draws)?)),
         3 => Ok(LogAsk::Lock { epoch }),
         4 => Ok(LogAsk::MarkAsked { epoch }),
+        5 => draw_pop(draws, epoch),
         _ => draw_peek(draws, epoch),
     }
+}
+
+fn draw_pop(draws: &mut Draws, epoch: Epoch) -> Result<LogAsk, Fail> {
+    let tag = draws.tag()?;
+    let through = draws.version()?;
+    Ok(LogAsk::Pop {
+        epoch,
+        tag,
+        through,
+    })
 }
 
 fn draw_peek(draws: &mut Draws, epoch: Epoch) -> Result<LogAsk, Fail> {
@@ -90,7 +104,7 @@ fn generation(epoch: Epoch, m: u8, k: u8, version: Version) -> Result<Generation
     Ok(Generation::new(epoch, m, k, version, version).ok_or("generation")?)
 }
 
-/// A state of two generations, or of one.
+/// A state of two generations, or of one, perhaps the second of two.
 fn draw_state(draws: &mut Draws) -> Result<CoordState, Fail> {
     let version = draws.small()?.after().ok_or("version")?;
     let epoch = draws.epoch()?;
@@ -100,17 +114,21 @@ fn draw_state(draws: &mut Draws) -> Result<CoordState, Fail> {
     let mut state = CoordState::new(draws.alloc, first)?;
     if later > epoch {
         state.extend(next)?;
+        if draws.flag() {
+            state.drop_before(later);
+        }
     }
     Ok(state)
 }
 
 pub fn draw_log_tell(draws: &mut Draws) -> Result<LogTell, Fail> {
-    match draws.number(8) {
+    match draws.number(9) {
         0 => Ok(LogTell::Seeded),
         1 => draw_held(draws),
         2 => draw_locked(draws),
         3 | 4 => Ok(LogTell::Peeked(draw_peeked(draws)?)),
         5 => draw_marked(draws),
+        6 => draw_popped(draws),
         _ => draw_refused(draws),
     }
 }
@@ -123,7 +141,35 @@ fn draw_held(draws: &mut Draws) -> Result<LogTell, Fail> {
 fn draw_locked(draws: &mut Draws) -> Result<LogTell, Fail> {
     let durable = draws.version()?;
     let known = draws.version()?;
-    Ok(LogTell::Locked { durable, known })
+    Ok(LogTell::Locked {
+        durable,
+        known,
+        popped: draw_popped_tags(draws)?,
+    })
+}
+
+/// Up to two tags, the lesser one first.
+pub fn draw_popped_tags(draws: &mut Draws) -> Result<PoppedTags, Fail> {
+    let mut popped = Vec::new(draws.alloc);
+    let first = draws.tag()?;
+    let second = draws.tag()?;
+    if draws.flag() {
+        popped.push(popped_tag(draws, first)?)?;
+        if first < second {
+            popped.push(popped_tag(draws, second)?)?;
+        }
+    }
+    Ok(PoppedTags::from_vec(popped))
+}
+
+fn popped_tag(draws: &mut Draws, tag: Tag) -> Result<PoppedTag, Fail> {
+    let version = draws.version()?;
+    Ok(PoppedTag { tag, version })
+}
+
+fn draw_popped(draws: &mut Draws) -> Result<LogTell, Fail> {
+    let through = draws.version()?;
+    Ok(LogTell::Popped { through })
 }
 
 fn draw_marked(draws: &mut Draws) -> Result<LogTell, Fail> {
@@ -165,7 +211,7 @@ fn draw_peeked(draws: &mut Draws) -> Result<Peeked, Fail> {
 
 fn draw_refusal(draws: &mut Draws) -> Result<LogRefusal, Fail> {
     let version = draws.version()?;
-    Ok(match draws.number(9) {
+    Ok(match draws.number(10) {
         0 => LogRefusal::WrongEpoch,
         1 => LogRefusal::Unseeded,
         2 => LogRefusal::Stopped,
@@ -174,6 +220,7 @@ fn draw_refusal(draws: &mut Draws) -> Result<LogRefusal, Fail> {
         5 => LogRefusal::NotMine,
         6 => LogRefusal::TooEarly { first: version },
         7 => LogRefusal::SeedDiffers,
+        8 => LogRefusal::Removed { through: version },
         _ => LogRefusal::NoMark,
     })
 }

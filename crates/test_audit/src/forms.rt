@@ -6,7 +6,7 @@ use std::alloc::Global;
 use std::process::Abort;
 use std::test::Fail;
 
-const ASKS: [&str; 12] = [
+const ASKS: [&str; 14] = [
     r#"{"cell":{"read":{"ballot":0}}}"#,
     r#"{"cell":{"write":{"ballot":281474976710655,"value":"00ff"}}}"#,
     r#"{"log":{"seed":{"epoch":256,"first":1,"records":[],"seeded_to":0}}}"#,
@@ -19,9 +19,11 @@ const ASKS: [&str; 12] = [
     r#"{"log":{"mark_asked":{"epoch":257}}}"#,
     r#"{"seq":{"next":{"proxy":15,"request":4611686018427387903,"step":1000000}}}"#,
     r#"{"seq":{"next":{"proxy":0,"request":1,"step":1}}}"#,
+    r#"{"log":{"pop":{"epoch":257,"tag":31,"through":4611686018427387903}}}"#,
+    r#"{"log":{"push":{"bodies":[],"epoch":513,"known":4,"mark":{"dropped":512,"gens":[{"epoch":513,"first":5,"k":16,"m":16,"seeded_to":7}]},"prev":7,"version":8}}}"#,
 ];
 
-const TELLS: [&str; 26] = [
+const TELLS: [&str; 31] = [
     r#"{"cell":{"promise":{"value":"","written":0}}}"#,
     r#"{"cell":{"promise":{"value":"79","written":513}}}"#,
     r#"{"cell":{"written":{"ballot":513}}}"#,
@@ -48,6 +50,11 @@ const TELLS: [&str; 26] = [
     r#"{"log":{"peeked":{"after":0,"known":0,"records":[{"batch":[{"and":{"key":"61","param":"05"}}],"version":1}],"tag":0,"upto":1}}}"#,
     r#"{"log":{"peeked":{"after":0,"known":0,"records":[{"batch":[{"or":{"key":"61","param":"05"}}],"version":1}],"tag":0,"upto":1}}}"#,
     r#"{"log":{"peeked":{"after":0,"known":0,"records":[{"batch":[{"min":{"key":"61","param":"05"}}],"version":1}],"tag":0,"upto":1}}}"#,
+    r#"{"log":{"locked":{"durable":9,"known":8,"popped":[[0,8]]}}}"#,
+    r#"{"log":{"locked":{"durable":9,"known":8,"popped":[[0,0],[2,8],[31,4611686018427387903]]}}}"#,
+    r#"{"log":{"popped":{"through":0}}}"#,
+    r#"{"log":{"refused":{"why":{"removed":{"through":2}}}}}"#,
+    r#"{"log":{"marked":{"state":{"dropped":1,"gens":[{"epoch":513,"first":3,"k":2,"m":2,"seeded_to":3},{"epoch":769,"first":3,"k":2,"m":2,"seeded_to":4}]}}}}"#,
 ];
 
 const ACTS: [&str; 12] = [
@@ -76,7 +83,7 @@ const NODES: [&str; 8] = [
     r#"{"storage":{"tag":31}}"#,
 ];
 
-const LASTS: [&str; 9] = [
+const LASTS: [&str; 10] = [
     r#"null"#,
     r#"{"cell":{"promised":513,"value":"0a","written":0}}"#,
     r#"{"log":{"durable":0,"known":0,"seeded":false,"stopped":false}}"#,
@@ -86,6 +93,7 @@ const LASTS: [&str; 9] = [
     r#"{"recoverer":{"phase":"chosen pev 0 rv 1"}}"#,
     r#"{"storage":{"epoch":257,"floor":0,"rows":[],"version":0}}"#,
     r#"{"storage":{"epoch":513,"floor":1,"rows":[["","01"],["61",""]],"version":9}}"#,
+    r#"{"log":{"durable":4,"known":3,"popped":[[1,3],[2,0]],"seeded":true,"stopped":true}}"#,
 ];
 
 const CONFIGS: [&str; 3] = [

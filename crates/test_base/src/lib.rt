@@ -6,6 +6,8 @@ mod batch_bytes;
 #[cfg(test)]
 mod mutation;
 #[cfg(test)]
+mod nodes;
+#[cfg(test)]
 mod numbers;
 #[cfg(test)]
 mod register;

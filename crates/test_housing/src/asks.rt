@@ -153,7 +153,7 @@ fn refused(why: LogRefusal) -> Told {
 fn told_of_log(tell: &LogTell) -> Told {
     match tell {
         LogTell::Held { version } => Told::Held(version.get()),
-        LogTell::Locked { durable, known } => Told::Locked(durable.get(), known.get()),
+        LogTell::Locked { durable, known, .. } => Told::Locked(durable.get(), known.get()),
         LogTell::Refused { why } => refused(*why),
         _ => Told::Other,
     }

@@ -21,6 +21,7 @@ pub(crate) fn choose(
         Kind::Again => again_or_submit(alloc, dice, world, seen),
         Kind::Pull => Ok(chosen::pull(alloc, dice, world, seen)?),
         Kind::Mark => Ok(chosen::mark(dice, world, seen)),
+        Kind::Pop => Ok(chosen::pop(alloc, dice, world, seen)?),
         Kind::Begin => Ok(chosen::begin(dice, seen)),
         Kind::Crash => Ok(chosen::crash(dice, world, seen)),
         Kind::Lose => Ok(chosen::lose(dice, world, seen)),

@@ -6,7 +6,7 @@ use crate::epochs;
 use crate::seen::Seen;
 use crate::setting::shape;
 use fr_ask::{Ask, Last};
-use fr_base::{Ballot, Epoch, LogId, Memory, NodeId, Step, Tag};
+use fr_base::{Ballot, Epoch, LogId, Memory, NodeId, Step, Tag, Version};
 use fr_epoch::Phase;
 use fr_log::{LogAsk, Most};
 use fr_world::{Event, World};
@@ -150,6 +150,50 @@ fn mark_of(dice: &mut Dice, world: &World, seen: &Seen) -> Option<Event> {
         to: NodeId::Log { epoch, index },
         ask: Ask::Log(LogAsk::MarkAsked { epoch }),
     })
+}
+
+/// A storage server has a log let go of its tag's records: mostly a holder of a generation that it has, through its
+/// floor.
+pub(crate) fn pop(
+    alloc: Global,
+    dice: &mut Dice,
+    world: &World,
+    seen: &Seen,
+) -> Result<Choice, Memory> {
+    let event = match passed(dice, world, seen) {
+        Some((tag, epoch, through)) => Some(Event::Deliver {
+            from: NodeId::Storage { tag },
+            to: holder(alloc, dice, world, tag, epoch)?,
+            ask: Ask::Log(LogAsk::Pop {
+                epoch,
+                tag,
+                through,
+            }),
+        }),
+        None => None,
+    };
+    Ok(of(Kind::Pop, event))
+}
+
+/// A tag, an epoch, and the floor of the tag's storage server; sometimes the version after that, which it never asks
+/// away.
+fn passed(dice: &mut Dice, world: &World, seen: &Seen) -> Option<(Tag, Epoch, Version)> {
+    let tag = epochs::tag(dice, world)?;
+    let server = world.storage(tag)?;
+    let gens = server.state().gens();
+    let own = gens.get(dice.place(gens.len()))?.epoch();
+    let epoch = if dice.is_one_of(10) {
+        epochs::epoch(dice, world, seen)?
+    } else {
+        own
+    };
+    let floor = server.floor();
+    let through = if dice.is_one_of(20) {
+        floor.after()?
+    } else {
+        floor
+    };
+    Some((tag, epoch, through))
 }
 
 /// A recoverer begins.

@@ -149,7 +149,7 @@ pub(crate) fn tell_of(tell: &LogTell) -> Tell {
     match tell {
         LogTell::Seeded => Tell::Seeded,
         LogTell::Held { version } => Tell::Held(version.get()),
-        LogTell::Locked { durable, known } => Tell::Locked(durable.get(), known.get()),
+        LogTell::Locked { durable, known, .. } => Tell::Locked(durable.get(), known.get()),
         LogTell::Refused { why } => refused(*why),
         _ => Tell::Other,
     }

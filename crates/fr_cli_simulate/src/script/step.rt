@@ -28,6 +28,7 @@ pub(crate) fn read_step(alloc: Global, value: Value) -> Result<Act, CliFault>
         "push" => Ok(Act::Push(read_push(alloc, &fields)?)),
         "pull" => Ok(Act::Pull(read_pull(&fields)?)),
         "mark" => Ok(Act::Mark(read_pull(&fields)?)),
+        "pop" => Ok(Act::Pop(read_pull(&fields)?)),
         "recover" => Ok(Act::Recover(read_recover(alloc, &fields)?)),
         "lose" => Ok(Act::Lose(Fields::new(&fields, 2).log()?)),
         _ => Err(CliFault::BadScript),

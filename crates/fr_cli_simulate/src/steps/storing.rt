@@ -9,6 +9,13 @@ use fr_run_event::{Answer, NotEnabled};
 use fr_world::World;
 use std::alloc::Global;
 
+/// What came of what a storage server asked: what the log told, or why that or its hear was refused.
+#[derive(Drop)]
+pub(crate) enum Asked {
+    Told(Tell),
+    Refused(Refusal),
+}
+
 /// Has the storage server of a step ask its log, and hear what that tells; gives the line of the step, which begins
 /// with this word, beside the world after it. The server that is not there asks nothing.
 pub(crate) fn line_of(
@@ -18,11 +25,8 @@ pub(crate) fn line_of(
     pull: &Pull,
     ask: Option<LogAsk>,
 ) -> Result<(World, String), Memory> {
-    let (world, refusal) = match ask {
-        Some(ask) => refusal_of(alloc, world, pull, ask)?,
-        None => (world, Some(Refusal::Event(NotEnabled::NoSuchNode))),
-    };
-    let line = line_after(alloc, &world, word, pull, refusal)?;
+    let (world, asked) = ask_log(alloc, world, pull, ask)?;
+    let line = line_after(alloc, &world, word, pull, &asked)?;
     Ok((world, line))
 }
 
@@ -32,16 +36,16 @@ fn line_after(
     world: &World,
     word: &str,
     pull: &Pull,
-    refusal: Option<Refusal>,
+    asked: &Asked,
 ) -> Result<String, Memory> {
-    match refusal {
-        Some(refusal) => refused_line(alloc, word, pull, &refusal),
-        None => stands_line(alloc, world, word, pull),
+    match asked {
+        Asked::Refused(refusal) => refused_line(alloc, word, pull, refusal),
+        Asked::Told(_) => stands_line(alloc, world, word, pull),
     }
 }
 
 /// The line of a refused step.
-fn refused_line(
+pub(crate) fn refused_line(
     alloc: Global,
     word: &str,
     pull: &Pull,
@@ -66,23 +70,38 @@ fn stands_line(alloc: Global, world: &World, word: &str, pull: &Pull) -> Result<
     }
 }
 
-/// Asks a log, and has the storage server hear what it tells: the world after that, and why it was refused, where it was.
-fn refusal_of(
+/// Asks a log, and has the storage server hear what it tells: what came of it, beside the world after it. The server that
+/// is not there asks nothing.
+pub(crate) fn ask_log(
     alloc: Global,
     world: World,
     pull: &Pull,
-    ask: LogAsk,
-) -> Result<(World, Option<Refusal>), Memory> {
+    ask: Option<LogAsk>,
+) -> Result<(World, Asked), Memory> {
+    let Some(ask) = ask else {
+        let refusal = Refusal::Event(NotEnabled::NoSuchNode);
+        return Ok((world, Asked::Refused(refusal)));
+    };
     let to = NodeId::Log {
         epoch: pull.log.epoch,
         index: pull.log.index,
     };
     let (world, done) = ask_for_server(alloc, world, pull.storage, &to, Ask::Log(ask))?;
-    let refusal = match done {
-        Ok(done) => refusal_in(&done),
-        Err(why) => Some(Refusal::Event(why)),
+    let asked = match done {
+        Ok(done) => asked_in(done),
+        Err(why) => Asked::Refused(Refusal::Event(why)),
     };
-    Ok((world, refusal))
+    Ok((world, asked))
+}
+
+/// What was told, unless the log refused the ask, or the storage server the tell.
+fn asked_in(done: Exchange) -> Asked {
+    let refusal = refusal_in(&done);
+    let Exchange { tell, .. } = done;
+    match refusal {
+        Some(refusal) => Asked::Refused(refusal),
+        None => Asked::Told(tell),
+    }
 }
 
 /// Why the log refused the ask, or else the storage server the tell.

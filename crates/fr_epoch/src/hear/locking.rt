@@ -10,7 +10,7 @@ ghost use Rattle.fr_epoch.specs.Steps.{replied_in};
 ghost use Rattle.fr_epoch.specs.Hear.{after_hear};
 ghost use Rattle.fr_epoch.specs.Kept.{IsKept};
 ghost use Rattle.fr_epoch.specs.Standing.{state_of};
-ghost use Rattle.fr_epoch.specs.Drafting.{with_draft, plan_result, draft_asks, draft_in};
+ghost use Rattle.fr_epoch.specs.Drafting.{with_draft, plan_result, draft_asks, draft_in, shown_in};
 ghost use Rattle.fr_state.specs.Generations.{IsGeneration};
 
 use crate::draft::{copy_asks, draft};
@@ -20,6 +20,7 @@ use crate::standing::{Draft, Standing};
 use crate::why::LostWhy;
 use fr_ask::Ask;
 use fr_base::{Epoch, Memory, NodeId, Version};
+use fr_log::{PoppedTag, PoppedTags};
 use fr_tags::MAX_SHARDS;
 use std::alloc::Global;
 
@@ -33,22 +34,25 @@ impl Standing {
         index: u8,
         durable: Version,
         known: Version,
+        popped: PoppedTags,
     ) -> Result<Vec<(NodeId, Ask)>, Memory>
         requires locking { self.old.stage ≡ Stage.Locking }
         requires sound { IsKept (state_of self.old) }
-        ensures asks { IfOk result (λ asks. asks.items ≡ new_asks (state_of self.old) (NodeId.Log epoch index) (Tell.Log (LogTell.Locked durable known))) }
+        ensures asks { IfOk result (λ asks. asks.items ≡ new_asks (state_of self.old) (NodeId.Log epoch index) (Tell.Log (LogTell.Locked durable known popped))) }
         ensures state { OnOk result (state_of self.new ≡ after_hear (state_of self.old) (NodeId.Log epoch index)
-            (Tell.Log (LogTell.Locked durable known))) }
+            (Tell.Log (LogTell.Locked durable known popped))) }
         ensures err { OnErr result (state_of self.new ≡ state_of self.old) }
     {
         let Some(end) = self.replied(epoch, index, durable, known) else {
             return Ok(Vec::new(alloc));
         };
+        let shown = self.shown_with(index, &popped)?;
         if !end.is_covered() {
             self.end = Some(end);
+            self.shown = shown;
             return Ok(Vec::new(alloc));
         }
-        let drafted = self.draft(alloc, &end)?;
+        let drafted = self.draft(alloc, &end, &shown)?;
         let tags = self.tags();
         let asks = draft_asks(
             alloc,
@@ -59,8 +63,22 @@ impl Standing {
             self.seeded.as_slice(),
         )?;
         self.end = Some(end);
+        self.shown = shown;
         self.plan_on(drafted);
         Ok(asks)
+    }
+
+    /// What is shown popped, with what a reply shows, where that is the first of its log.
+    fn shown_with(&self, index: u8, popped: &PoppedTags) -> Result<Vec<PoppedTag>, Memory>
+        ensures { IfOk result (λ shown. shown.items ≡ shown_in (state_of self.now) index popped.now) }
+    {
+        let mut shown = self.shown.clone()?;
+        if let Some(end) = &self.end {
+            if end.counts(index) {
+                shown.extend_from_slice(popped.as_slice())?;
+            }
+        }
+        Ok(shown)
     }
 
     /// The replies with one more, if it is of a log of the parent's last generation.
@@ -83,16 +101,29 @@ impl Standing {
     }
 
     /// The plan behind the parent that it found, or why there is none.
-    fn draft(&self, alloc: Global, end: &EndTally) -> Result<Result<Draft, LostWhy>, Memory>
+    fn draft(
+        &self,
+        alloc: Global,
+        end: &EndTally,
+        shown: &[PoppedTag],
+    ) -> Result<Result<Draft, LostWhy>, Memory>
         requires sound { IsKept (state_of self.now) }
         requires found { IsSome self.now.parent }
         requires covered { is_covered end.now ≡ true }
         ensures plan { IfOk result (λ drafted. plan_result drafted ≡ draft_in self.now.epoch self.now.shape
-            (length self.now.map) (state_of self.now).parent end.now) }
+            (length self.now.map) (state_of self.now).parent end.now shown.now) }
         ensures limits { IfOk result (λ drafted. IfOk drafted (λ draft. IsGeneration draft.generation)) }
     {
         match &self.parent {
-            Some(found) => draft(alloc, self.epoch, self.shape, self.tags(), found, end),
+            Some(found) => draft(
+                alloc,
+                self.epoch,
+                self.shape,
+                self.tags(),
+                found,
+                end,
+                shown,
+            ),
             None => unreachable!(),
         }
     }

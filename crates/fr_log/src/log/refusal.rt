@@ -1,9 +1,10 @@
 //! Which asks a log refuses, and why.
 ghost use Rattle.std.specs.Prelude.{◌≡◌};
-ghost use Rattle.fr_log.specs.Refusal.{seed_refusal, push_refusal, new_push_refusal, lock_refusal, peek_refusal, mark_refusal};
+ghost use Rattle.fr_log.specs.Refusal.{seed_refusal, push_refusal, new_push_refusal, lock_refusal, peek_refusal, mark_refusal, pop_refusal};
 
 use super::Log;
 use crate::ask::LogRefusal;
+use crate::popped::popped_at;
 use crate::push::Push;
 use crate::seed::Seed;
 use fr_base::{Epoch, Tag, Version};
@@ -19,7 +20,9 @@ impl Log {
             return Some(LogRefusal::NotMine);
         }
         match &self.seed {
-            Some(held) if held != seed => Some(LogRefusal::SeedDiffers),
+            Some(held) if !held.is_left_as(seed, self.popped.as_slice()) => Some(
+                LogRefusal::SeedDiffers,
+            ),
             _ => None,
         }
     }
@@ -86,6 +89,25 @@ impl Log {
             Some(LogRefusal::NotMine)
         } else if after.get() < first.get().saturating_sub(1) {
             Some(LogRefusal::TooEarly { first })
+        } else {
+            let through = popped_at(self.popped.as_slice(), tag);
+            if after < through {
+                Some(LogRefusal::Removed { through })
+            } else {
+                None
+            }
+        }
+    }
+
+    pub(super) fn pop_refusal(&self, epoch: Epoch, tag: Tag) -> Option<LogRefusal>
+        ensures { result ≡ pop_refusal self.now epoch tag }
+    {
+        if epoch != self.id.epoch {
+            Some(LogRefusal::WrongEpoch)
+        } else if self.seed.is_none() {
+            Some(LogRefusal::Unseeded)
+        } else if !self.holds(tag) {
+            Some(LogRefusal::NotMine)
         } else {
             None
         }

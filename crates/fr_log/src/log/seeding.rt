@@ -1,16 +1,18 @@
 //! A log that is read back: which asks change it, and its seed record by record.
-ghost use Rattle.std.specs.Prelude.{◌≡◌, ◌&&◌, not, IfOk, OnErr};
-ghost use Rattle.fr_log.specs.Seeding.{changes, is_empty, takes_seeded, next_seeded};
+ghost use Rattle.std.specs.Prelude.{◌≡◌, ◌&&◌, not, if◌then◌else◌, IfOk, OnErr};
+ghost use Rattle.fr_log.specs.Seeding.{changes, is_empty, is_unpopped, takes_seeded, next_seeded, is_further, may_pop};
+ghost use Rattle.fr_log.specs.Step.{with_popped};
 ghost use Rattle.fr_log.specs.LogState.{holds};
 
 use super::Log;
 use crate::ask::LogAsk;
+use crate::popped::{PoppedTag, popped_of};
 use crate::records::SeedRecord;
-use fr_base::{Memory, Tag};
+use fr_base::{Memory, Tag, Version};
 
 impl Log {
-    /// Whether an ask would change it: a first seed, a push that it does not hold yet, and a first lock do,
-    /// where they are not refused. It takes no memory.
+    /// Whether an ask would change it: a first seed, a push that it does not hold yet, a first lock, and a Pop
+    /// that comes further do, where they are not refused. It takes no memory.
     pub fn is_changed_by(&self, ask: &LogAsk) -> bool
         ensures { result ≡ changes self.now ask.now }
     {
@@ -19,11 +21,12 @@ impl Log {
             LogAsk::Push(push) => self.push_refusal(push).is_none() && !self.is_push_held(push),
             LogAsk::Lock { epoch } => self.lock_refusal(*epoch).is_none() && !self.stopped,
             LogAsk::Peek { .. } | LogAsk::MarkAsked { .. } => false,
+            LogAsk::Pop { .. } => self.lets_go(ask),
         }
     }
 
     /// Takes one record more into its seed, as where a log is read back record by record. It is false, and
-    /// nothing changes, where no such seed is one: without a seed, after the first push or a lock, with a
+    /// nothing changes, where no such seed is one: without a seed, after the first push, a lock or a Pop, with a
     /// tag of another log, a version outside of the seed's, or a record that does not stand behind the last.
     pub fn take_seeded(&mut self, next: SeedRecord) -> Result<bool, Memory>
         ensures taken { IfOk result (λ taken. taken ≡ takes_seeded self.old next) }
@@ -39,10 +42,48 @@ impl Log {
         }
     }
 
+    /// Pops a tag through a version, as where a log is read back record by record, and lets nothing go. It is false,
+    /// and nothing changes, where no Pop brought it there: without a seed, with a tag of another log, a version that
+    /// is not known to be committed, or one that is not further than the tag was popped.
+    pub fn take_popped(&mut self, next: PoppedTag) -> Result<bool, Memory>
+        ensures taken { IfOk result (λ taken. taken ≡ may_pop self.old next.tag next.version) }
+        ensures after { IfOk result (λ taken. self.new ≡ (if taken then with_popped self.old next.tag next.version else self.old)) }
+        ensures err { OnErr result (self.new ≡ self.old) }
+    {
+        if !self.may_pop(next.tag, next.version) {
+            return Ok(false);
+        }
+        self.raise(next.tag, next.version)?;
+        Ok(true)
+    }
+
+    /// Whether a Pop may have brought a tag to this version.
+    fn may_pop(&self, tag: Tag, version: Version) -> bool
+        ensures { result ≡ may_pop self.now tag version }
+    {
+        self.seed.is_some()
+            && self.holds(tag)
+            && version <= self.known
+            && is_further(popped_of(self.popped.as_slice(), tag), version)
+    }
+
     /// Whether nothing stands in the way of one more record of a tag in its seed, if it has one.
     fn is_seeding(&self, tag: Tag) -> bool
-        ensures { result ≡ (not self.now.stopped && (is_empty self.now.pushes && holds self.now tag)) }
+        ensures { result ≡ (not self.now.stopped && (is_unpopped self.now.popped && (is_empty self.now.pushes && holds self.now tag))) }
     {
-        !self.stopped && self.pushes.len() == 0 && self.holds(tag)
+        !self.stopped
+            && self.popped.as_slice().is_empty()
+            && self.pushes.len() == 0
+            && self.holds(tag)
+    }
+}
+
+/// Whether a version is further than a tag is popped.
+fn is_further(popped: Option<Version>, version: Version) -> bool
+    ensures { result ≡ is_further popped version }
+{
+    match popped {
+        Some(popped) => popped < version,
+        None => true,
     }
 }

@@ -1,14 +1,15 @@
 //! What a log does with an ask.
-ghost use Rattle.std.specs.Prelude.{◌≡◌, ◌-◌, ◌∷◌, ◌++◌, [], max, false, None, IfOk, OnOk, OnErr, IsOk, IsTrue};
-ghost use Rattle.fr_log.specs.LogState.{is_push_held};
+ghost use Rattle.std.specs.Prelude.{◌≡◌, ◌≤◌, ◌-◌, ◌∷◌, ◌++◌, [], max, false, None, IfOk, OnOk, OnErr, IsOk, IsTrue, IsSome};
+ghost use Rattle.fr_log.specs.LogState.{is_push_held, holds, known_of};
 ghost use Rattle.fr_log.specs.Refusal.{push_refusal};
-ghost use Rattle.fr_log.specs.Step.{answer_of, next_of, granted_next, IsAnsweredInPlace, peek_of};
+ghost use Rattle.fr_log.specs.Step.{answer_of, next_of, granted_next, popped_to, with_popped, lets_go, IsAnsweredInPlace, peek_of};
 ghost use Rattle.fr_log.specs.declared.ask.LogAsk.{LogAsk};
 ghost use Rattle.fr_log.specs.declared.ask.LogTell.{LogTell};
 
 use super::Log;
 use crate::ask::{LogAsk, LogTell, Most};
 use crate::peeked::Peeked;
+use crate::popped::{popped_at, popped_of};
 use crate::push::Push;
 use crate::search::{gather, seeded_above, upto};
 use crate::seed::Seed;
@@ -76,17 +77,107 @@ impl Log {
         Ok(())
     }
 
-    fn lock(&mut self, epoch: Epoch) -> LogTell
-        ensures told { result ≡ answer_of self.old (LogAsk.Lock epoch) }
-        ensures after { self.new ≡ next_of self.old (LogAsk.Lock epoch) }
+    /// Takes no further push: how far it has come is copied first.
+    fn lock(&mut self, epoch: Epoch) -> Result<LogTell, Memory>
+        ensures told { IfOk result (λ tell. tell ≡ answer_of self.old (LogAsk.Lock epoch)) }
+        ensures after { IfOk result (λ _. self.new ≡ next_of self.old (LogAsk.Lock epoch)) }
+        ensures err { OnErr result (self.new ≡ self.old) }
+        ensures free { IsAnsweredInPlace self.old (LogAsk.Lock epoch) → IsOk result }
     {
         if let Some(why) = self.lock_refusal(epoch) {
-            return LogTell::Refused { why };
+            return Ok(LogTell::Refused { why });
         }
+        let popped = self.popped.clone()?;
         self.stopped = true;
-        LogTell::Locked {
+        Ok(LogTell::Locked {
             durable: self.durable,
             known: self.known,
+            popped,
+        })
+    }
+
+    /// Pops a tag: what that covers is still there.
+    fn pop(&mut self, epoch: Epoch, tag: Tag, through: Version) -> Result<LogTell, Memory>
+        ensures told { IfOk result (λ tell. tell ≡ answer_of self.old (LogAsk.Pop epoch tag through)) }
+        ensures after { IfOk result (λ _. self.new ≡ next_of self.old (LogAsk.Pop epoch tag through)) }
+        ensures err { OnErr result (self.new ≡ self.old) }
+        ensures free { IsAnsweredInPlace self.old (LogAsk.Pop epoch tag through) → IsOk result }
+    {
+        if let Some(why) = self.pop_refusal(epoch, tag) {
+            return Ok(LogTell::Refused { why });
+        }
+        let through = self.popped_to(tag, through);
+        if popped_of(self.popped.as_slice(), tag) != Some(through) {
+            self.raise(tag, through)?;
+        }
+        Ok(LogTell::Popped { through })
+    }
+
+    /// Pops a tag of its own through a version that is known to be committed.
+    pub(super) fn raise(&mut self, tag: Tag, version: Version) -> Result<(), Memory>
+        requires seeded { IsSome self.old.seed }
+        requires mine { IsTrue (holds self.old tag) }
+        requires known { version ≤ known_of self.old }
+        ensures after { OnOk result (self.new ≡ with_popped self.old tag version) }
+        ensures err { OnErr result (self.new ≡ self.old) }
+    {
+        self.popped.raise(tag, version)?;
+        Ok(())
+    }
+
+    /// Through which version a Pop lets a tag be popped.
+    pub fn popped_to(&self, tag: Tag, through: Version) -> Version
+        ensures { result ≡ popped_to self.now tag through }
+    {
+        let known = if through < self.known {
+            through
+        } else {
+            self.known
+        };
+        later(popped_at(self.popped.as_slice(), tag), known)
+    }
+
+    /// Whether an ask lets something go: a Pop that comes further does, where it is not refused. It takes no memory.
+    pub(super) fn lets_go(&self, ask: &LogAsk) -> bool
+        ensures { result ≡ lets_go self.now ask.now }
+    {
+        match ask {
+            LogAsk::Pop {
+                epoch,
+                tag,
+                through,
+            } => {
+                self.pop_refusal(*epoch, *tag).is_none()
+                    && popped_of(self.popped.as_slice(), *tag)
+                        != Some(self.popped_to(*tag, *through))
+            }
+            _ => false,
+        }
+    }
+
+    /// Answers an ask, and lets nothing go. Want of memory changes nothing.
+    pub fn keep(&mut self, alloc: Global, ask: LogAsk) -> Result<LogTell, Memory>
+        ensures told { IfOk result (λ tell. tell ≡ answer_of self.old ask) }
+        ensures after { IfOk result (λ _. self.new ≡ next_of self.old ask) }
+        ensures err { OnErr result (self.new ≡ self.old) }
+        ensures free { IsAnsweredInPlace self.old ask → IsOk result }
+    {
+        match ask {
+            LogAsk::Seed(seed) => Ok(self.take_seed(seed)),
+            LogAsk::Push(push) => self.take_push(alloc, push),
+            LogAsk::Lock { epoch } => self.lock(epoch),
+            LogAsk::Peek {
+                epoch,
+                tag,
+                after,
+                most,
+            } => self.peek(alloc, epoch, tag, after, most),
+            LogAsk::MarkAsked { epoch } => self.tell_mark(epoch),
+            LogAsk::Pop {
+                epoch,
+                tag,
+                through,
+            } => self.pop(epoch, tag, through),
         }
     }
 
@@ -144,9 +235,9 @@ fn later(a: Version, b: Version) -> Version
 }
 
 impl Machine for Log {
-    ghost use Rattle.fr_log.specs.Step.{answer_of, next_of, IsAnsweredInPlace};
+    ghost use Rattle.fr_log.specs.Step.{answer_of, after_ask, IsAnsweredInPlace};
     ghost use Rattle.std.specs.Prelude.{⊤};
-    ghost use Rattle.fr_log.specs.StepLaws.{log_high_water, repeats};
+    ghost use Rattle.fr_log.specs.StepLaws.{log_high_water, repeats_after};
 
     type Ask = LogAsk;
 
@@ -156,7 +247,7 @@ impl Machine for Log {
 
     ghost told = { answer_of };
 
-    ghost after = { next_of };
+    ghost after = { after_ask };
 
     ghost high_water = { log_high_water };
 
@@ -164,24 +255,18 @@ impl Machine for Log {
 
     ghost stays_reached = { λ l a h. record {} };
 
-    ghost told_again = { λ l a h. (repeats l a).told };
+    ghost told_again = { λ l a h. (repeats_after l a).told };
 
-    ghost after_again = { λ l a h. (repeats l a).after };
+    ghost after_again = { λ l a h. (repeats_after l a).after };
 
-    ghost never_back = { λ l a h. (repeats l a).high };
+    ghost never_back = { λ l a h. (repeats_after l a).high };
 
     fn step(&mut self, alloc: Global, ask: LogAsk) -> Result<LogTell, Memory> {
-        match ask {
-            LogAsk::Seed(seed) => Ok(self.take_seed(seed)),
-            LogAsk::Push(push) => self.take_push(alloc, push),
-            LogAsk::Lock { epoch } => Ok(self.lock(epoch)),
-            LogAsk::Peek {
-                epoch,
-                tag,
-                after,
-                most,
-            } => self.peek(alloc, epoch, tag, after, most),
-            LogAsk::MarkAsked { epoch } => self.tell_mark(epoch),
+        let goes = self.lets_go(&ask);
+        let tell = self.keep(alloc, ask)?;
+        if goes {
+            self.settle();
         }
+        Ok(tell)
     }
 }

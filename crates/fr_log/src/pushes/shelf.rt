@@ -1,7 +1,7 @@
 //! The batches of one tag, by their versions.
 ghost use Rattle.std.specs.Prelude.{◌≡◌, ◌<◌, ◌≤◌, false, List, ◌∷◌, ◌++◌, [], nat_lt, length, take, map, filter, IsTrue, IfOk, OnOk, OnErr};
 ghost use Rattle.std.specs.Option.{option_copied};
-ghost use Rattle.fr_log.specs.Pushes.{Shelved, batch_at, as_record, AreBelow, cut};
+ghost use Rattle.fr_log.specs.Pushes.{Shelved, batch_at, as_record, AreBelow, AreAbove, cut, above};
 
 use crate::records::PeekedRecord;
 use fr_base::{Memory, Version};
@@ -60,6 +60,27 @@ impl Shelf {
     {
         while self.reaches(version) {
             self.batches.pop_last();
+        }
+    }
+
+    /// Takes out what stands at a version or below it: the cost is that of what goes. It takes no memory.
+    pub(crate) fn cut_through(&mut self, version: Version)
+        ensures { self.new ≡ above version self.old }
+    {
+        while self.starts_by(version) {
+            self.batches.pop_first();
+        }
+    }
+
+    /// Whether something stands at a version or below it.
+    fn starts_by(&self, version: Version) -> bool
+        ensures yes { IsTrue result → (e : Shelved) (es : List Shelved) → self.now ≡ e ∷ es → e.0 ≤ version }
+        ensures some { IsTrue result → 0 < length self.now }
+        ensures no { result ≡ false → AreAbove version self.now }
+    {
+        match self.batches.first_key_value() {
+            Some((first, _)) => *first <= version,
+            None => false,
         }
     }
 

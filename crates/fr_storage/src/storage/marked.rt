@@ -3,7 +3,7 @@ ghost use Rattle.std.specs.Prelude.{◌≡◌, ◌≢◌, ◌≤◌, ◌↔◌, 
 ghost use Rattle.fr_state.specs.Same.{is_same_state};
 ghost use Rattle.fr_state.specs.Spelling.{spelling};
 ghost use Rattle.fr_storage.specs.declared.fault.StorageFault.{StorageFault};
-ghost use Rattle.fr_storage.specs.Storage.{StorageState, UndoTo, SetState, own_epoch, cut_in, is_front, after_calls, marked_fault, marked_calls, after_marked};
+ghost use Rattle.fr_storage.specs.Storage.{StorageState, UndoTo, SetState, own_epoch, cut_in, is_stranger, after_calls, marked_fault, marked_calls, after_marked};
 ghost use Rattle.fr_storage.specs.Server.{storage_of, kept_of, met_store, refusal_of, store_fault, IsMarkTrouble, IsWhole, LeavesStages};
 
 mod broken;
@@ -16,10 +16,11 @@ use fr_undo::{ShardStore, StoreFault};
 use std::alloc::Global;
 
 impl<S: ShardStore> Storage<S> {
-    /// Hears the coordinated state of a mark, as a log tells it. Where the own generations are the front of
-    /// the state's, the server undoes what is above the cut of its own epoch, keeps the state, and stands at
-    /// the state's epoch from then on. The own state changes nothing. No other call takes back what was
-    /// applied, but [`break_off_marked`](Storage::break_off_marked), which is this one in part.
+    /// Hears the coordinated state of a mark, as a log tells it. Where a later state goes on from the own one,
+    /// which is to say that it begins with the own generations that it did not drop, the server undoes what is
+    /// above the cut of its own epoch, keeps the state, and stands at the state's epoch from then on. The own
+    /// state changes nothing. No other call takes back what was applied, but
+    /// [`break_off_marked`](Storage::break_off_marked), which is this one in part.
     pub fn hear_marked(&mut self, alloc: Global, state: CoordState) -> Result<(), StorageFault>
         ensures ok { OnOk result (storage_of S.state self.new ≡ after_marked (storage_of S.state self.old) state) }
         ensures position { OnOk result (self.new.applied ≡ (after_marked (storage_of S.state self.old) state).store.applied) }
@@ -72,13 +73,21 @@ impl<S: ShardStore> Storage<S> {
         if self.keeps(state) {
             return None;
         }
-        if !begins_with(state, &self.state) {
+        if self.is_stranger(state) {
             return Some(StorageFault::Stranger);
         }
         if self.cut_in(state) < self.floor {
             return Some(StorageFault::BelowFloor);
         }
         None
+    }
+
+    /// Whether a state does not go on from the one that the server keeps, which it is not.
+    #[tactic(auto, unfolding(crate::specs::Storage::is_stranger))]
+    fn is_stranger(&self, state: &CoordState) -> bool
+        ensures { result ≡ is_stranger self.now.state state.now }
+    {
+        state.last().epoch() == self.state.last().epoch() || !state.begins_with(&self.state)
     }
 
     /// Whether a state is the one that the server keeps.
@@ -97,13 +106,6 @@ impl<S: ShardStore> Storage<S> {
         let own = self.state.last().epoch();
         state.cut_of(own).unwrap_or(Version::ZERO)
     }
-}
-
-/// Whether the generations of a state begin with those of another.
-fn begins_with(state: &CoordState, front: &CoordState) -> bool
-    ensures { result ≡ is_front front.now.gens state.now.gens }
-{
-    state.gens().starts_with(front.gens())
 }
 
 /// Undoes a store to a version, and sets the bytes of a state.

@@ -50,7 +50,7 @@ impl Nodes {
             },
             Ask::Log(ask) => match to {
                 NodeId::Log { epoch, index } => {
-                    let may = sent || storage_may_ask(&self.config, &from, ask);
+                    let may = sent || storage_may_ask(&self.config, &self.storages, &from, ask);
                     self.to_log(alloc, from, LogId { epoch, index }, ask, may)
                 }
                 _ => Err(NotEnabled::NeverSent),

@@ -4,6 +4,6 @@ use Rattle.fr_record_log.proofs.laws.run_law.Goals as goal
 
 pub returns : goal.returns
 returns c = record {
-  read = run_is_read c.spelling_is_read.ensures c.spelling_law.ensures.again;
+  read = run_is_read c.file_ask_law.ensures;
   run = read_is_run;
 }

@@ -1,5 +1,6 @@
 use Rattle.fr_run.proofs.States.{state_is}
-use Rattle.fr_run.proofs.Chosen.{open_is_chosen, first_is_chosen, first_is_least, chosen_is_written, chosen_is_planned, state_lasts, chosen_lasts, chosen_is_before, chosen_are_chain}
+use Rattle.fr_run.proofs.Chosen.{open_is_chosen, first_is_chosen, first_is_least, chosen_is_written, chosen_is_planned, state_lasts, chosen_lasts}
+use Rattle.fr_run.proofs.Lines.{chosen_is_before, chosen_are_chain}
 use Rattle.fr_run.proofs.laws.chosen_law.Goals as goal
 
 pub returns : goal.returns

@@ -1,5 +1,5 @@
 use Rattle.fr_run.proofs.States.{recoverers_have_states}
-use Rattle.fr_run.proofs.Parents.{chosen_is_front}
+use Rattle.fr_run.proofs.Lines.{chosen_is_front}
 use Rattle.fr_run.proofs.laws.states_law.Goals as goal
 
 pub returns : goal.returns

@@ -8,4 +8,5 @@ returns c = record {
   copy_hears = c.copy_law.ensures.hear;
   copy_complete = c.copy_law.ensures.complete;
   copy_seeds = c.copy_law.ensures.seeds;
+  left_records = c.letting_law.ensures.records;
 }

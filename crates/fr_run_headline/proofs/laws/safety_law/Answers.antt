@@ -12,6 +12,7 @@ returns c = record {
       consistent = c.order_law-2.ensures.consistent config h run;
       marks = c.order_law-2.ensures.held config h is run;
       parts = c.contents_law.ensures.logs config h is run;
+      left = c.contents_law.ensures.left config h is run;
     };
     replies = c.order_law.ensures.replies config h run;
     replied = c.replied_law.ensures.acknowledged config h is run;
@@ -23,6 +24,9 @@ returns c = record {
     batches = c.acknowledged_law.ensures.committed config h is run;
     acknowledged = (c.headline_law.ensures.headline config h is run).1;
     retrievable = c.headline_law.ensures.retrievable config h is run;
+    removed = c.let_go_law.ensures.removed config h is run;
+    never_removed = c.let_go_law.ensures.never config h is run;
+    copies = c.let_go_law.ensures.copies config h is run;
     committed = c.committed_law.ensures.there config h is run;
   };
   turns = λ config h t is run. c.committed_law.ensures.grows config h (t ∷ []) is run;

@@ -12,5 +12,8 @@ returns c = record {
   below_last = c.cut_law.ensures.below_last;
   front_cut = c.front_law.ensures.cut;
   same = c.equal_law.ensures;
+  goes = c.going_law.ensures.exact;
+  drop_last = c.drop_law.ensures.last;
+  drop_cut = c.left_law.ensures.cut;
   spelled = c.spelling_law.ensures.again;
 }

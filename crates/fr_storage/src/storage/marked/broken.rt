@@ -60,6 +60,7 @@ impl<S: ShardStore> Storage<S> {
             return Ok(version == self.applied);
         }
         spelling_law();
+        let _sound = state.dropped();
         let cut = self.cut_in(state);
         if version != self.applied.min(cut) {
             return Ok(version == self.applied);

@@ -37,7 +37,7 @@ returns-in_err-push-clause-not_later c =
 pub invariant_of-self-2 : goal.invariant_of-self-2
 invariant_of-self-2 c =
     let after : may_follow c.last.result c.args.generation ≡ true = cc (c.may_precede.ensures, c.if-not-may_precede.false) in
-    let s : CoordinatedState = record { gens = c.self.inside.gens.items } in
+    let s : CoordinatedState = record { dropped = c.self.inside.dropped; gens = c.self.inside.gens.items } in
     let last : last_of s.gens ≡ Some c.last.result = ap (λ (t : CoordinatedState). last_of t.gens) c.self.view_is ∙ c.last.ensures.value in
     let room : length s.gens < 64 = omega arith in
     let limits : IsGeneration c.args.generation = search rules in
@@ -46,7 +46,7 @@ invariant_of-self-2 c =
 pub returns-clause-ok : goal.returns-clause-ok
 returns-clause-ok c =
     let after : may_follow c.last.result c.args.generation ≡ true = cc (c.may_precede.ensures, c.if-not-may_precede.false) in
-    let s : CoordinatedState = record { gens = c.self.inside.gens.items } in
+    let s : CoordinatedState = record { dropped = c.self.inside.dropped; gens = c.self.inside.gens.items } in
     let last : last_of s.gens ≡ Some c.last.result = ap (λ (t : CoordinatedState). last_of t.gens) c.self.view_is ∙ c.last.ensures.value in
     let room : length s.gens < 64 = omega arith in
     rw (← c.self.view_is, c.in_ok-push.ensures.items) (extended-Ok s c.args.generation (ordered s c.last.result c.args.generation c.self.invariant last after) room)

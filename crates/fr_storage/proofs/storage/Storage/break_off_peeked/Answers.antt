@@ -1,4 +1,4 @@
-use Rattle.std.proofs.Common.{Some, ◌≡◌, Option, List, subst, sym, ap, ◌∙◌}
+use Rattle.std.proofs.Common.{Bool, Some, ◌≡◌, Option, List, subst, sym, ap, ◌∙◌}
 use Rattle.std.specs.Prelude.{is_some, unwrap_or}
 use Rattle.std.proofs.lemmas.Bool.{eqb-true}
 use Rattle.fr_undo.specs.State.{StoreState}
@@ -6,7 +6,7 @@ use Rattle.fr_state.specs.LookUp.{end_of}
 use Rattle.fr_storage.specs.Storage.{records_between, Call, after_calls, peeked_calls}
 use Rattle.fr_storage.specs.Broken.{calls_through, after_broken}
 use Rattle.fr_storage.specs.Server.{Server, storage_of, IsSpelled, IsServer, LeavesStages}
-use Rattle.fr_storage.proofs.Servers.{opened, own_spelled, broken, rests, pulled_bytes, ended}
+use Rattle.fr_storage.proofs.Servers.{opened, own_spelled, broken, rests, pulled_bytes, ended, no_store_trouble}
 use Rattle.fr_storage.proofs.Pulls.{rise}
 use Rattle.fr_storage.proofs.BreakOff.{Off, not_none, off_here, off_nowhere, off_there, off_none, off_leaves, off_seen}
 use Rattle.fr_storage.proofs.storage.Storage.break_off_peeked.Goals as goal
@@ -172,3 +172,7 @@ returns-in-Err-clause-leaves g c fine =
     let M = store.MayLeave c.pull_through.new.store in
     off_seen g.S.ShardStore.state s c.args.self.now c.self.view_is (c.self.invariant.applied c.if-self.false) c.args.epoch c.args.peeked.now c.records-records.ensures.sound c.args.version c.end_of.result c.end_of.ensures off M
     (subst (λ (cs : List Call). LeavesStages M (store.state c.self.inside.store) cs) part c.in-Err.ensures.leaves)
+
+pub returns-in-Some-clause-in_place : goal.returns-in-Some-clause-in_place
+returns-in-Some-clause-in_place g c none =
+    no_store_trouble Bool (storage_of g.S.ShardStore.state c.args.self.now) c.args.epoch c.args.peeked.now c.in-Some.refusal _ (sym c.peeked_refusal.ensures ∙ c.in-Some.is)

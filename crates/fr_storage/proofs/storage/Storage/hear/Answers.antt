@@ -1,7 +1,7 @@
-use Rattle.std.proofs.Common.{subst}
+use Rattle.std.proofs.Common.{sym, subst}
 use Rattle.fr_storage.specs.declared.answer.Answer.{Answer}
-use Rattle.fr_storage.specs.Course.{Mark, Records, IsTrueHeard, IsChosenBy}
-use Rattle.fr_storage.specs.Server.{storage_of}
+use Rattle.fr_storage.specs.Course.{Mark, Records, calls_of, IsTrueHeard, IsChosenBy}
+use Rattle.fr_storage.specs.Server.{storage_of, LeavesStages}
 use Rattle.fr_storage.specs.Standing.{heard_of}
 use Rattle.fr_storage.proofs.Standing.{heard_stands}
 use Rattle.fr_storage.proofs.storage.Storage.hear.Goals as goal
@@ -21,3 +21,9 @@ returns-in-Peeked-clause-stands g c pieces is_chosen are one trues standing =
     heard_stands store.state store.MayLeave c.storage_law.ensures.hear c.args.self.now c.hear_peeked.new.self (Records c.in-Peeked.epoch c.in-Peeked.peeked) c.hear_peeked.result
     (record { ok = h.ok; failed = h.failed; refused = h.refused; same = h.same; err = h.err; fails = h.fails; leaves = h.leaves; still = h.still })
     pieces is_chosen are one (λ fine. subst (λ (answer : Answer). IsTrueHeard pieces (IsChosenBy is_chosen) (storage_of store.state c.args.self.now) (heard_of answer)) c.in-Peeked.is (trues.works fine).0) standing
+
+pub returns-in-Marked-clause-leaves : goal.returns-in-Marked-clause-leaves
+returns-in-Marked-clause-leaves g c fine =
+    let store = g.S.ShardStore in
+    subst (λ (answer : Answer). LeavesStages (store.MayLeave c.hear_marked.new.self.store) (store.state c.args.self.now.store) (calls_of (storage_of store.state c.args.self.now) (heard_of answer))) (sym c.in-Marked.is)
+    (c.hear_marked.ensures.leaves fine)

@@ -3,7 +3,7 @@ use Rattle.fr_undo.specs.State.{StoreState}
 use Rattle.fr_storage.specs.Storage.{StorageState, Call, after_calls, records_between, new_records, peeked_fault, peeked_calls}
 use Rattle.fr_storage.specs.Pull.{pull_calls}
 use Rattle.fr_storage.specs.Server.{Server, storage_of, IsServer, IsSpelled, LeavesStages}
-use Rattle.fr_storage.proofs.Servers.{opened, own_spelled, broken, rests, pulls, bytes_pulled, pulled_bytes, ended, taken}
+use Rattle.fr_storage.proofs.Servers.{opened, own_spelled, broken, rests, pulls, bytes_pulled, pulled_bytes, ended, taken, no_store_trouble}
 use Rattle.fr_storage.proofs.storage.Storage.hear_peeked.Goals as goal
 
 pub returns-in-Some-clause-leaves : goal.returns-in-Some-clause-leaves
@@ -107,3 +107,7 @@ returns-in-Err-clause-leaves g c fine =
     let M = store.MayLeave c.pull.new.store in
     subst (λ (cs : List Call). LeavesStages M (store.state c.args.self.now.store) cs) calls
     (subst (λ (v : Server g.row.S.Denot). LeavesStages M (store.state v.store) (pull_calls (store.state c.self.inside.store) c.end_of.result peeked)) c.self.view_is c.in-Err.ensures.leaves)
+
+pub returns-in-Some-clause-in_place : goal.returns-in-Some-clause-in_place
+returns-in-Some-clause-in_place g c none =
+    no_store_trouble (Unit {0}) (storage_of g.S.ShardStore.state c.args.self.now) c.args.epoch c.args.peeked.now c.in-Some.refusal _ (sym c.peeked_refusal.ensures ∙ c.in-Some.is)

@@ -4,6 +4,7 @@ use Rattle.fr_ask.specs.declared.ask.Ask.TheVariants as ask
 use Rattle.fr_base.specs.declared.place.NodeId.TheVariants as node
 use Rattle.fr_run_event.specs.Limits.{AskHasLimits}
 use Rattle.fr_run_event.specs.Tests.{was_sent, storage_may_ask}
+use Rattle.fr_world_nodes.specs.Parts.{AreStorages}
 use Rattle.fr_world.specs.World.{state_of}
 use Rattle.fr_world.proofs.Delivered.{cell_may, log_may, sequencer_may, sent_of, up_of, or_first, or_second}
 use Rattle.fr_world.proofs.nodes.Nodes.delivered.Goals as goal
@@ -23,10 +24,10 @@ to_log-requires-clause-turn c may =
     let to = node.Log c.in-Log-to.epoch c.in-Log-to.index in
     let a = ask.Log c.in-Log.ask in
     let sent = sent_of c.args.self.now.turns.turns c.args.from c.args.to to c.args.ask.now a c.was_sent-sent.result c.in-Log-to.is c.in-Log.is c.was_sent-sent.ensures in
-    let tests : c.if-sent.may ≡ (was_sent c.args.self.now.turns.turns c.args.from to a || storage_may_ask c.args.self.now.config c.args.from c.in-Log.ask) =
+    let tests : c.if-sent.may ≡ (was_sent c.args.self.now.turns.turns c.args.from to a || storage_may_ask c.args.self.now.config c.args.self.now.turns.turns c.args.from c.in-Log.ask) =
     elim c.if-sent.branch [
-      | then-sent b ↦ or_first c.if-sent.may c.was_sent-sent.result (was_sent c.args.self.now.turns.turns c.args.from to a) (storage_may_ask c.args.self.now.config c.args.from c.in-Log.ask) sent b.if-sent.true b.may-is
-      | else-sent b ↦ or_second c.if-sent.may c.was_sent-sent.result (was_sent c.args.self.now.turns.turns c.args.from to a) (storage_may_ask c.args.self.now.config c.args.from c.in-Log.ask) b.storage_may_ask-may.result sent b.if-sent.false b.storage_may_ask-may.ensures b.may-is
+      | then-sent b ↦ or_first c.if-sent.may c.was_sent-sent.result (was_sent c.args.self.now.turns.turns c.args.from to a) (storage_may_ask c.args.self.now.config c.args.self.now.turns.turns c.args.from c.in-Log.ask) sent b.if-sent.true b.may-is
+      | else-sent b ↦ or_second c.if-sent.may c.was_sent-sent.result (was_sent c.args.self.now.turns.turns c.args.from to a) (storage_may_ask c.args.self.now.config c.args.self.now.turns.turns c.args.from c.in-Log.ask) b.storage_may_ask-may.result sent b.if-sent.false (b.storage_may_ask-may.ensures c.args.self.now.turns.turns (subst (AreStorages c.args.self.now.config c.args.self.now.turns.turns) (sym b.deref.ensures.value) c.requires.kept.storages_are)) b.may-is
     ] in
     log_may c.step_law.ensures.turn w c.args.from c.in-Log-to.epoch c.in-Log-to.index c.in-Log.ask (subst AskHasLimits c.in-Log.is c.requires.limits)
     (up_of w c.args.to to c.in-Log-to.is (sym c.why_not_up.ensures ∙ c.in_default.is)) (sym tests ∙ may)
