@@ -94,33 +94,70 @@ def after(contents, batch, shard):
     return made
 
 
+class State(list):
+    """The generations of a coordinated state, each (epoch, m, k, first, seeded_to), and how many were dropped before
+    them."""
+
+    def __init__(self, generations, dropped=0):
+        super().__init__(generations)
+        self.dropped = dropped
+
+    def __eq__(self, other):
+        return list.__eq__(self, other) and self.dropped == other.dropped
+
+    def __ne__(self, other):
+        return not self == other
+
+    __hash__ = None
+
+    def followed_by(self, generation):
+        return State([*self, generation], self.dropped)
+
+    def without(self, count):
+        """Without its first generations, so many."""
+        return State(self[count:], self.dropped + count)
+
+    def begins_with(self, own):
+        """Whether it begins with what is left of another state's generations, of which it may have dropped more."""
+        more = self.dropped - own.dropped
+        return more >= 0 and self[: max(0, len(own) - more)] == own[more:]
+
+    def goes_on(self, own):
+        """The same, where one at least is left."""
+        return self.begins_with(own) and self.dropped - own.dropped < len(own)
+
+
 def state_of(text):
-    """The generations that a value of a cell spells, each (epoch, m, k, first, seeded_to)."""
+    """The state that a value of a cell spells."""
     data = hexed(text)
-    if len(data) < 2 or data[0] != 1 or len(data) != 2 + 26 * data[1]:
+    dropped = int.from_bytes(data[1:9], "big") if data[:1] == b"\x02" else 0
+    data = data[9:] if dropped else data[1:] if data[:1] == b"\x01" else b""
+    if not data or len(data) != 1 + 26 * data[0]:
         raise ValueError("no coordinated state")
     found = []
-    for at in range(2, len(data), 26):
+    for at in range(1, len(data), 26):
         number = lambda a, b: int.from_bytes(data[at + a : at + b], "big")
         found.append((number(0, 8), number(8, 9), number(9, 10), number(10, 18), number(18, 26)))
-    return found
+    return State(found, dropped)
 
 
 def bytes_of(state):
-    """The bytes of generations, in hex."""
-    parts = [bytes([1, len(state)])]
+    """The bytes of a state, in hex."""
+    parts = [b"\x02" + state.dropped.to_bytes(8, "big") if state.dropped else b"\x01", bytes([len(state)])]
     for epoch, m, k, first, seeded_to in state:
         parts.append(epoch.to_bytes(8, "big") + bytes([m, k]) + first.to_bytes(8, "big") + seeded_to.to_bytes(8, "big"))
     return b"".join(parts).hex()
 
 
-def state_in(items):
-    """The generations of a state in a script's JSON."""
-    return [(it["epoch"], it["m"], it["k"], it["first"], it["seeded_to"]) for it in items]
+def state_in(it):
+    """A state in a script's JSON: the list of its generations, in an object with how many were dropped where some were."""
+    dropped, items = (it["dropped"], it["gens"]) if isinstance(it, dict) else (0, it)
+    return State([(each["epoch"], each["m"], each["k"], each["first"], each["seeded_to"]) for each in items], dropped)
 
 
 def json_of(state):
-    return [{"epoch": e, "m": m, "k": k, "first": f, "seeded_to": s} for e, m, k, f, s in state]
+    items = [{"epoch": e, "m": m, "k": k, "first": f, "seeded_to": s} for e, m, k, f, s in state]
+    return {"dropped": state.dropped, "gens": items} if state.dropped else items
 
 
 def generation_of(state, epoch):

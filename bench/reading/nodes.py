@@ -20,7 +20,7 @@ class Nodes:
     def __init__(self, config):
         self.config = config
         self.shards = batches.shards(config["shards"])
-        first = [(FIRST, config["logs"], config["degree"], 1, 0)]
+        first = batches.State([(FIRST, config["logs"], config["degree"], 1, 0)])
         self.cells = [rules.Cell(batches.bytes_of(first)) for _ in range(config["coordinators"])]
         self.storages = [rules.Storage(first) for _ in self.shards]
         self.recoverers, self.logs, self.sequencers, self.proxies = {}, {}, {}, {}
@@ -99,6 +99,11 @@ class Nodes:
             self.may_push(it["epoch"], it["number"], said, name["log"]["index"])
         elif who == "storage" and word == "peek":
             want(said["tag"] == it["tag"], "a storage server peeks at another tag")
+        elif who == "storage" and word == "pop":
+            server = self.storages[it["tag"]]
+            want(said["tag"] == it["tag"], "a storage server pops another tag")
+            want(said["epoch"] in [each[0] for each in server.state], "a storage server pops a generation that it has not")
+            want(said["through"] <= server.floor, "a storage server pops above its floor")
         else:
             want((who, word) in (("storage", "mark_asked"), ("proxy", "next")), who, "asks", word)
 

@@ -21,8 +21,8 @@ def commit_by_half(proxy, node, tell):
 def known_alone(recoverer):
     """The next epoch takes over what is known to be committed, and not all that may be."""
     replies = recoverer.replies
-    pev = max(known for _, known in replies.values())
-    recoverer.replies = {at: (pev, known) for at, (_, known) in replies.items()}
+    pev = max(known for _, known, _ in replies.values())
+    recoverer.replies = {at: (pev, known, popped) for at, (_, known, popped) in replies.items()}
     RIGHT[rules.Recoverer, "plan"](recoverer)
     recoverer.replies = replies
 
@@ -42,12 +42,25 @@ def below_promise(cell, name, what):
 
 def never_stopped(log, _):
     """A log that is locked goes on taking pushes."""
-    return {"locked": {"durable": log.durable, "known": log.known}}
+    return {"locked": {"durable": log.durable, "known": log.known, **log.shown()}}
+
+
+def popped_above_known(log, pop):
+    """A log pops through what it is asked, and not through what is known."""
+    known, log.known = log.known, pop["through"] + 3
+    tell = RIGHT[rules.Log, "pop"](log, {**pop, "through": pop["through"] + 3})
+    log.known = known
+    return tell
+
+
+def dropped_by_the_greatest(recoverer, shown):
+    """A recoverer drops what one tag's server is past, and not what all are."""
+    return max(shown[tag] for tag in range(recoverer.tags))
 
 
 def newest_cut(storage, state, taken):
     """A server undoes to the last generation's cut, and not to that of the epoch that it leaves."""
-    if state[: len(storage.state)] == storage.state and taken is None and state != storage.state:
+    if state.goes_on(storage.state) and taken is None and state != storage.state:
         storage.version, storage.state = min(storage.version, state[-1][4]), state
         return None
     return RIGHT[rules.Storage, "hear_marked"](storage, state, taken)
@@ -55,7 +68,7 @@ def newest_cut(storage, state, taken):
 
 def never_undone(storage, state, taken):
     """A server keeps the state that it hears, and undoes nothing."""
-    if state[: len(storage.state)] == storage.state and taken is None:
+    if state.goes_on(storage.state) and taken is None:
         storage.state = state
         return None
     return RIGHT[rules.Storage, "hear_marked"](storage, state, taken)
@@ -67,6 +80,8 @@ WRONG = {
     opened_as_first: (nodes.Nodes, "open"),
     below_promise: (rules.Cell, "ask"),
     never_stopped: (rules.Log, "lock"),
+    popped_above_known: (rules.Log, "pop"),
+    dropped_by_the_greatest: (rules.Recoverer, "passed"),
     newest_cut: (rules.Storage, "hear_marked"),
     never_undone: (rules.Storage, "hear_marked"),
 }
@@ -91,7 +106,8 @@ class Player:
         self.nodes = nodes.Nodes(self.config)
         self.sent, self.told, self.lines, self.journals = [], [], [], {}
         self.rows = [[(0, {})] for _ in self.config["shards"]]
-        self.weights = {**self.WEIGHTS, "pull": dice.choice([10, 40, 120]), "begin": dice.choice([2, 4, 8])}
+        pull, begin = dice.choice([10, 40, 120]), dice.choice([2, 4, 8])
+        self.weights = {**self.WEIGHTS, "pull": pull, "begin": begin, "pop": dice.choice([0, 10, 60])}
         self.round = 1
         self.stamp = 0
 
@@ -258,11 +274,19 @@ class Player:
     def pull(self, number):
         tag = self.dice.randrange(len(self.config["shards"]))
         server = self.nodes.storages[tag]
-        epoch = batches.source_of(server.state, server.version + 1) or FIRST
+        epoch = batches.source_of(server.state, server.version + 1) or server.state[0][0]
         ask = {"log": {"peek": {"after": server.version, "epoch": epoch, "most": 100, "tag": tag}}}
         _, m, k, _, _ = batches.generation_of(server.state, epoch)
         index = (tag + self.dice.randrange(k)) % m
         self.deliver(number, "pull", {"storage": {"tag": tag}}, {"log": {"epoch": epoch, "index": index}}, ask)
+
+    def pop(self, number):
+        tag = self.dice.randrange(len(self.config["shards"]))
+        server = self.nodes.storages[tag]
+        epoch, m, k, _, _ = self.dice.choice(server.state)
+        ask = {"log": {"pop": {"epoch": epoch, "tag": tag, "through": server.floor}}}
+        to = {"log": {"epoch": epoch, "index": (tag + self.dice.randrange(k)) % m}}
+        self.deliver(number, "pop", {"storage": {"tag": tag}}, to, ask)
 
     def mark(self, number):
         by = {"storage": {"tag": self.dice.randrange(len(self.config["shards"]))}}

@@ -5,6 +5,8 @@ rows        a storage server's rows are those of the batches of its shard throug
 rollback    one that rolled back holds what is committed, and has applied at most the recovery version
 kept        what was acknowledged is in the committed list, and no storage server that applied it takes it back
 agreement   chosen states are one chain, and what logs tell, of whatever generation, is what was issued at that version
+removed     no log lets go of a version above the floor of its tag's storage server, and none of these is told that what
+            it asks for from its applied version on is gone
 """
 
 from . import batches
@@ -19,7 +21,7 @@ class Promises:
         self.skip = skip
         self.majority = config["coordinators"] // 2 + 1
         self.shards = batches.shards(config["shards"])
-        first = [(FIRST, config["logs"], config["degree"], 1, 0)]
+        first = batches.State([(FIRST, config["logs"], config["degree"], 1, 0)])
         self.states = {FIRST: first}
         self.takers = {}
         self.chosen = [FIRST]
@@ -28,6 +30,8 @@ class Promises:
         self.committed = [(1, None)]
         self.kept = {}
         self.stands = [(FIRST, 0) for _ in self.shards]
+        self.floors = [0 for _ in self.shards]
+        self.popped = {}
         self.folds = {}
         self.lost = set()
 
@@ -38,7 +42,7 @@ class Promises:
         if epoch not in self.issued_of:
             state = self.states[epoch]
             seeded_to = state[-1][4]
-            front = [] if len(state) == 1 else [it for it in self.issued(state[-2][0]) if it[0] <= seeded_to]
+            front = [] if epoch == FIRST else [it for it in self.issued(state[-2][0]) if it[0] <= seeded_to]
             self.issued_of[epoch] = front + [(seeded_to + 1, None)] + self.own.setdefault(epoch, [])
         return self.issued_of[epoch]
 
@@ -76,8 +80,9 @@ class Promises:
             made.append(rows if batch is None or at == self.skip else batches.after(rows, batch, self.shards[tag]))
         return made[size]
 
-    def stand(self, tag, epoch, version, rows):
+    def stand(self, tag, epoch, version, rows, floor):
         """A storage server stands here, after it heard something."""
+        self.floors[tag] = floor
         old_epoch, old = self.stands[tag]
         want(epoch in self.chosen, "rollback: the server of tag", tag, "keeps a state that is not chosen")
         want(epoch >= old_epoch, "rollback: the server of tag", tag, "goes back to an earlier epoch")
@@ -136,6 +141,12 @@ class Promises:
                 self.seed(name["log"]["epoch"], said)
         elif kind == "log" and told == "peeked":
             self.peeked(name["log"]["epoch"], it)
+        elif kind == "log" and told == "popped":
+            want(it["through"] <= self.floors[said["tag"]], "removed: tag", said["tag"], "is popped above its floor")
+            self.popped[name["log"]["epoch"], name["log"]["index"], said["tag"]] = it["through"]
+        elif kind == "log" and told == "refused" and "removed" in it["why"] and "storage" in what["from"]:
+            applied = self.stands[said["tag"]][1]
+            want(said["after"] < applied, "removed: tag", said["tag"], "is refused what is above", said["after"])
 
     def numbered(self, epoch, proxy, it):
         given = self.submitted[epoch, proxy]
@@ -154,8 +165,8 @@ class Promises:
     def choose(self, ballot):
         for other in self.chosen:
             old, new = sorted((other, ballot))
-            front = self.states[new][: len(self.states[old])]
-            want(front == self.states[old], "agreement: the states of", old, "and", new, "are no chain")
+            goes_on = self.states[new].begins_with(self.states[old])
+            want(goes_on, "agreement: the states of", old, "and", new, "are no chain")
         self.chosen = sorted(self.chosen + [ballot])
         self.look()
 
@@ -201,8 +212,11 @@ class Promises:
         if any(sum(1 for it in self.lost if it[0] == gen[0]) >= gen[2] for gen in state):
             return
         for version, _ in self.committed:
-            source, m, k, _, _ = batches.generation_of(state, batches.source_of(state, version) or FIRST)
-            for tag, (_, applied) in enumerate(self.stands):
+            wanted = [tag for tag, (_, applied) in enumerate(self.stands) if applied < version]
+            source = batches.source_of(state, version)
+            want(source or not wanted, "kept: version", version, "is of a generation that was dropped")
+            for tag in wanted:
+                _, m, k, _, _ = batches.generation_of(state, source)
                 holders = [(source, (tag + each) % m) for each in range(k)]
-                can = [it for it in holders if it not in self.lost and self.durable.get(it, -1) >= version]
-                want(version <= applied or can, "kept: version", version, "cannot be had for tag", tag)
+                has = lambda it: self.durable.get(it, -1) >= version > self.popped.get((*it, tag), 0)
+                want(any(it not in self.lost and has(it) for it in holders), "kept: version", version, "cannot be had for tag", tag)

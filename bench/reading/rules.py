@@ -28,6 +28,7 @@ class Log:
         self.seed = None
         self.pushes = {}
         self.records = {}
+        self.popped = {}
         self.durable = self.known = 0
         self.stopped = False
 
@@ -55,16 +56,22 @@ class Log:
             return refused("unseeded")
         return getattr(self, name)(what)
 
+    def is_left(self, tag, version):
+        """Whether a tag's batch of a version is not popped."""
+        return self.popped.get(tag, 0) < version
+
     def seeded(self, seed):
         if any(not self.holds(record["tag"]) for record in seed["records"]):
             return refused("not_mine")
         if self.seed is None:
             self.take_seed(seed)
-        return {"seeded": {}} if self.seed == seed else refused("seed_differs")
+        left = lambda it: {**it, "records": [each for each in it["records"] if self.is_left(each["tag"], each["version"])]}
+        return {"seeded": {}} if left(self.seed) == left(seed) else refused("seed_differs")
 
     def push(self, push):
         held = self.pushes.get(push["version"])
-        if held is not None and all(held[name] == push[name] for name in ("prev", "bodies", "mark")):
+        left = lambda it: [it["prev"], it["mark"], [body for body in it["bodies"] if self.is_left(body[0], it["version"])]]
+        if held is not None and left(held) == left(push):
             return {"held": {"version": push["version"]}}
         if self.stopped:
             return refused("stopped")
@@ -85,7 +92,19 @@ class Log:
 
     def lock(self, _):
         self.stopped = True
-        return {"locked": {"durable": self.durable, "known": self.known}}
+        return {"locked": {"durable": self.durable, "known": self.known, **self.shown()}}
+
+    def shown(self):
+        """What is popped, by rising tags; nothing where nothing is."""
+        return {"popped": [[tag, self.popped[tag]] for tag in sorted(self.popped)]} if self.popped else {}
+
+    def pop(self, pop):
+        tag = pop["tag"]
+        if not self.holds(tag):
+            return refused("not_mine")
+        self.popped[tag] = max(self.popped.get(tag, 0), min(pop["through"], self.known))
+        self.records[tag] = [each for each in self.records.get(tag, []) if self.is_left(tag, each[0])]
+        return {"popped": {"through": self.popped[tag]}}
 
     def peek(self, peek):
         if not self.holds(peek["tag"]):
@@ -93,6 +112,8 @@ class Log:
         first = self.seed["first"]
         if peek["after"] < first - 1:
             return refused("too_early", first=first)
+        if peek["after"] < self.popped.get(peek["tag"], 0):
+            return refused("removed", through=self.popped[peek["tag"]])
         above = [each for each in self.records.get(peek["tag"], []) if each[0] > peek["after"]]
         given = above[: peek["most"]]
         upto = given[-1][0] if len(above) > len(given) else self.durable
@@ -107,7 +128,7 @@ class Log:
 
     def last(self):
         seeded = self.seed is not None
-        return {"durable": self.durable, "known": self.known, "seeded": seeded, "stopped": self.stopped}
+        return {"durable": self.durable, "known": self.known, **self.shown(), "seeded": seeded, "stopped": self.stopped}
 
 
 class Cell:
@@ -253,7 +274,7 @@ class Recoverer:
     def hear_log(self, epoch, index, name, said):
         old = self.parent[-1][0] if self.parent else None
         if self.phase == "locking" and name == "locked" and epoch == old and index < self.m:
-            self.replies.setdefault(index, (said["durable"], said["known"]))
+            self.replies.setdefault(index, (said["durable"], said["known"], said.get("popped", [])))
             if len(self.replies) > self.m - self.k:
                 self.plan()
         elif self.phase == "copying" and name == "peeked" and epoch == old and index in self.replies:
@@ -271,19 +292,36 @@ class Recoverer:
 
     def plan(self):
         """What the replies say, once they cover."""
-        self.pev = max(known for _, known in self.replies.values())
-        self.rv = min(durable for durable, _ in self.replies.values())
+        self.pev = max(known for _, known, _ in self.replies.values())
+        self.rv = min(durable for durable, _, _ in self.replies.values())
+        left = self.left()
         want(self.pev <= self.rv, "the replies of one epoch's logs are inconsistent")
         if self.rv + 1 >= 2**62:
             self.phase = "lost Spent"
         elif self.ballot <= self.parent[-1][0]:
             self.phase = "lost NotLater"
-        elif len(self.parent) == 64:
+        elif len(left) == 64:
             self.phase = "lost TooMany"
         else:
             self.phase = "copying"
-            self.state = self.parent + [(self.ballot, *self.own(), self.pev + 1, self.rv)]
+            self.state = left.followed_by((self.ballot, *self.own(), self.pev + 1, self.rv))
             self.reached = [self.pev] * self.tags
+
+    def left(self):
+        """The parent without the generations that no storage server asks for again."""
+        shown = {}
+        for _, _, popped in self.replies.values():
+            for tag, version in popped:
+                shown[tag] = max(shown.get(tag, 0), version)
+        if set(range(self.tags)) - set(shown):
+            return self.parent
+        last = self.passed(shown)
+        places = [at for at, generation in enumerate(self.parent) if generation[3] <= last + 1]
+        return self.parent.without(places[-1] if places else 0)
+
+    def passed(self, shown):
+        """The version that all storage servers are past, by what is shown of each tag."""
+        return min(shown[tag] for tag in range(self.tags))
 
     def last(self):
         return {"phase": self.phase}
@@ -310,7 +348,9 @@ class Storage:
         own = self.state[-1][0]
         if state[-1][0] < own:
             return "Older"
-        if state[: len(self.state)] != self.state:
+        if state == self.state:
+            return None
+        if state[-1][0] == own or not state.goes_on(self.state):
             return "Stranger"
         cut = batches.cut_of(state, own)
         if cut is not None and cut < self.floor:

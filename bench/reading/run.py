@@ -90,7 +90,7 @@ class Run:
             where = (it.state[-1][0], it.version, it.floor)
             want((epoch, version, floor) == where, "the server of tag", tag, "is to stand at", where)
         if self.promises:
-            self.promises.stand(tag, epoch, version, rows)
+            self.promises.stand(tag, epoch, version, rows, floor)
         old = self.stands[tag]
         if version < old[1]:
             self.undone.append(old[1] - version)
@@ -108,7 +108,7 @@ class Run:
                 want(seen == wanted, name, "is to stand at", wanted, "and stands at", seen)
             if kind == "storage" and self.promises:
                 tag = name["storage"]["tag"]
-                self.promises.stand(tag, said["epoch"], said["version"], rows_of(said["rows"]))
+                self.promises.stand(tag, said["epoch"], said["version"], rows_of(said["rows"]), said["floor"])
         if self.promises:
             self.promises.end()
 

@@ -89,7 +89,7 @@ def less_taken_over(lines, script):
         state = batches.state_of(ask["value"])
         epoch, m, k, first, seeded_to = state[-1]
         if seeded_to in kept and first <= seeded_to:
-            short = batches.bytes_of(state[:-1] + [(epoch, m, k, first, seeded_to - 1)])
+            short = batches.bytes_of(batches.State([*state[:-1], (epoch, m, k, first, seeded_to - 1)], state.dropped))
             old = ask["value"]
             for _, other, _ in tells(script, "written"):
                 if other["ask"]["cell"]["write"]["value"] == old:

@@ -2,7 +2,7 @@
 
 use crate::batch::Batch;
 use crate::forms::{object, variants, Ballot, Count, Empty, Epoch, Stamp, Step, Version};
-use crate::messages::{Ask, CellValue, LogAsk, NodeId, Tell};
+use crate::messages::{Ask, CellValue, LogAsk, NodeId, PoppedForm, Tell};
 use crate::proxy::Outcome;
 use crate::script::Bytes;
 use crate::state::Shape;
@@ -75,7 +75,14 @@ pub enum Last {
 
 object! { CellLast { promised: u64 as Ballot, value: Rc<[u8]> as CellValue, written: u64 as Ballot } }
 object! {
-    LogLast { durable: u64 as Version, known: u64 as Version, seeded: bool as bool, stopped: bool as bool }
+    LogLast {
+        durable: u64 as Version,
+        known: u64 as Version,
+        seeded: bool as bool,
+        stopped: bool as bool,
+    } maybe {
+        popped: Vec<(u8, u64)> as PoppedForm,
+    }
 }
 object! { SequencerLast { last: u64 as Version } }
 object! { ProxyLast { known: u64 as Version } }
@@ -224,7 +231,8 @@ impl Audit {
         Ok(())
     }
 
-    /// Storage servers may ask any log for its mark, and for records of their own tag, at any time.
+    /// Storage servers may ask any log for its mark, and for records of their own tag, at any time; and a log of a
+    /// generation that they have to let go of what they have for good.
     fn is_sent_by_itself(&self, (from, to, ask): &(NodeId, NodeId, Ask)) -> bool {
         let (NodeId::Storage(tag), NodeId::Log(_), Ask::Log(ask)) = (from, to, ask) else {
             return false;
@@ -232,6 +240,10 @@ impl Audit {
         let is_own = match ask {
             LogAsk::Peek(peek) => peek.tag == *tag,
             LogAsk::MarkAsked { .. } => true,
+            LogAsk::Pop(pop) => {
+                let storage = self.world.storage(*tag);
+                pop.tag == *tag && storage.is_some_and(|storage| storage.may_pop(pop.epoch, pop.through))
+            }
             _ => false,
         };
         is_own && self.world.storage(*tag).is_some()
@@ -267,7 +279,9 @@ impl Audit {
             }),
             (NodeId::Log(id), Some(Last::Log(last))) => world.log(id).is_some_and(|log| {
                 let stands = (log.is_seeded(), log.durable, log.known, log.stopped);
+                let popped = log.popped.iter().map(|(tag, version)| (*tag, *version));
                 stands == (last.seeded, last.durable, last.known, last.stopped)
+                    && popped.eq(last.popped.iter().flatten().copied())
             }),
             (NodeId::Sequencer(epoch), Some(Last::Sequencer(last))) => {
                 world.sequencer(epoch).is_some_and(|sequencer| sequencer.last == last.last)

@@ -106,6 +106,7 @@ fn log_ask_of(ask: &LogAsk) -> Value {
             json!({"peek": {"after": peek.after, "epoch": peek.epoch, "most": peek.most, "tag": peek.tag}})
         }
         LogAsk::MarkAsked { epoch } => json!({"mark_asked": {"epoch": epoch}}),
+        LogAsk::Pop(pop) => json!({"pop": {"epoch": pop.epoch, "tag": pop.tag, "through": pop.through}}),
     }
 }
 
@@ -132,7 +133,9 @@ fn log_tell_of(tell: &LogTell) -> Value {
     match tell {
         LogTell::Seeded => json!({"seeded": {}}),
         LogTell::Held { version } => json!({"held": {"version": version}}),
-        LogTell::Locked { durable, known } => json!({"locked": {"durable": durable, "known": known}}),
+        LogTell::Locked { durable, known, popped } => {
+            json!({"locked": with_popped(json!({"durable": durable, "known": known}), popped)})
+        }
         LogTell::Peeked(peeked) => {
             let record = |it: &crate::messages::Record| json!({"batch": batch_of(&it.batch), "version": it.version});
             let records: Vec<Value> = peeked.records.iter().map(record).collect();
@@ -140,6 +143,7 @@ fn log_tell_of(tell: &LogTell) -> Value {
                 "upto": peeked.upto}})
         }
         LogTell::Marked { state } => json!({"marked": {"state": state_of(state)}}),
+        LogTell::Popped { through } => json!({"popped": {"through": through}}),
         LogTell::Refused(why) => json!({"refused": {"why": match why {
             LogRefusal::WrongEpoch => json!({"wrong_epoch": {}}),
             LogRefusal::Unseeded => json!({"unseeded": {}}),
@@ -150,6 +154,7 @@ fn log_tell_of(tell: &LogTell) -> Value {
             LogRefusal::TooEarly { first } => json!({"too_early": {"first": first}}),
             LogRefusal::SeedDiffers => json!({"seed_differs": {}}),
             LogRefusal::NoMark => json!({"no_mark": {}}),
+            LogRefusal::Removed { through } => json!({"removed": {"through": through}}),
         }}}),
     }
 }
@@ -158,7 +163,19 @@ fn state_of(state: &State) -> Value {
     let generation = |it: &crate::state::Generation| {
         json!({"epoch": it.epoch, "first": it.first, "k": it.k, "m": it.m, "seeded_to": it.seeded_to})
     };
-    state.generations().iter().map(generation).collect()
+    let generations: Value = state.generations().iter().map(generation).collect();
+    match state.dropped() {
+        0 => generations,
+        dropped => json!({"dropped": dropped, "gens": generations}),
+    }
+}
+
+/// An object with how far tags are popped, where any is.
+fn with_popped(mut object: Value, popped: &[(u8, u64)]) -> Value {
+    if !popped.is_empty() {
+        object["popped"] = json!(popped);
+    }
+    object
 }
 
 fn batch_of(batch: &Batch) -> Value {
@@ -190,7 +207,9 @@ fn last_of(world: &World, node: NodeId) -> Value {
         }),
         NodeId::Log(id) => world.log(id).map(|log| {
             let (durable, known, seeded, stopped) = (log.durable, log.known, log.is_seeded(), log.stopped);
-            json!({"log": {"durable": durable, "known": known, "seeded": seeded, "stopped": stopped}})
+            let popped: Vec<(u8, u64)> = log.popped.iter().map(|(tag, version)| (*tag, *version)).collect();
+            let last = json!({"durable": durable, "known": known, "seeded": seeded, "stopped": stopped});
+            json!({"log": with_popped(last, &popped)})
         }),
         NodeId::Sequencer(epoch) => world.sequencer(epoch).map(|it| json!({"sequencer": {"last": it.last}})),
         NodeId::Proxy(epoch, number) => world.proxy(epoch, number).map(|it| json!({"proxy": {"known": it.known}})),

@@ -1,6 +1,7 @@
 //! Logs.
 
-use crate::messages::{LogAsk, LogId, LogRefusal, LogTell, Peek, Peeked, Push, Record, Seed};
+use crate::batch::Batch;
+use crate::messages::{LogAsk, LogId, LogRefusal, LogTell, Peek, Peeked, Pop, Push, Record, Seed, SeedRecord};
 use crate::state::Generation;
 use std::collections::BTreeMap;
 use std::rc::Rc;
@@ -12,8 +13,10 @@ pub struct Log {
     k: u8,
     seed: Option<Rc<Seed>>,
     pushes: Vec<Rc<Push>>,
-    /// What a tag has, the records of the seed and those of the pushes, in rising versions.
+    /// What a tag has, the records of the seed and those of the pushes, in rising versions, but for those popped.
     records: BTreeMap<u8, Vec<Record>>,
+    /// Through which version a tag was popped.
+    pub popped: BTreeMap<u8, u64>,
     pub durable: u64,
     pub known: u64,
     pub stopped: bool,
@@ -21,8 +24,8 @@ pub struct Log {
 
 impl Log {
     pub fn new(id: LogId, m: u8, k: u8) -> Self {
-        let (pushes, records) = (Vec::new(), BTreeMap::new());
-        Log { id, m, k, seed: None, pushes, records, durable: 0, known: 0, stopped: false }
+        let (pushes, records, popped) = (Vec::new(), BTreeMap::new(), BTreeMap::new());
+        Log { id, m, k, seed: None, pushes, records, popped, durable: 0, known: 0, stopped: false }
     }
 
     pub fn is_seeded(&self) -> bool {
@@ -38,6 +41,7 @@ impl Log {
             LogAsk::Seed { epoch, .. } => (*epoch, true),
             LogAsk::Push(push) => (push.epoch, false),
             LogAsk::Peek(peek) => (peek.epoch, false),
+            LogAsk::Pop(pop) => (pop.epoch, false),
             LogAsk::Lock { epoch } | LogAsk::MarkAsked { epoch } => (*epoch, false),
         };
         if epoch != self.id.epoch {
@@ -51,10 +55,12 @@ impl Log {
             LogAsk::Push(push) => self.take_push(push),
             LogAsk::Lock { .. } => {
                 self.stopped = true;
-                Ok(LogTell::Locked { durable: self.durable, known: self.known })
+                let popped = self.popped.iter().map(|(tag, version)| (*tag, *version)).collect();
+                Ok(LogTell::Locked { durable: self.durable, known: self.known, popped })
             }
             LogAsk::Peek(peek) => self.peek(peek),
             LogAsk::MarkAsked { .. } => self.mark(),
+            LogAsk::Pop(pop) => self.pop(pop),
         }
         .unwrap_or_else(LogTell::Refused)
     }
@@ -64,7 +70,10 @@ impl Log {
             return Err(LogRefusal::NotMine);
         }
         if let Some(held) = &self.seed {
-            return if held == seed { Ok(LogTell::Seeded) } else { Err(LogRefusal::SeedDiffers) };
+            let is_left = |record: &&SeedRecord| self.popped_of(record.tag) < record.version;
+            let is_first = (held.first, held.seeded_to) == (seed.first, seed.seeded_to);
+            let is_same = held.records.iter().filter(is_left).eq(seed.records.iter().filter(is_left));
+            return if is_first && is_same { Ok(LogTell::Seeded) } else { Err(LogRefusal::SeedDiffers) };
         }
         for record in &seed.records {
             let batch = record.batch.clone();
@@ -80,7 +89,7 @@ impl Log {
         let held = LogTell::Held { version: push.version };
         let seeded_to = self.seed.as_ref().map_or(0, |seed| seed.seeded_to);
         if let Ok(place) = self.pushes.binary_search_by_key(&push.version, |held| held.version) {
-            if push.is_again(&self.pushes[place]) {
+            if self.is_again(push, &self.pushes[place]) {
                 return Ok(held);
             }
         }
@@ -109,6 +118,31 @@ impl Log {
         Ok(held)
     }
 
+    /// Whether it is the same push, what was known and what is popped aside.
+    fn is_again(&self, push: &Push, held: &Push) -> bool {
+        let is_left = |body: &&(u8, Rc<Batch>)| self.popped_of(body.0) < push.version;
+        (push.prev, push.version) == (held.prev, held.version)
+            && push.mark == held.mark
+            && push.bodies.iter().filter(is_left).eq(held.bodies.iter().filter(is_left))
+    }
+
+    fn popped_of(&self, tag: u8) -> u64 {
+        self.popped.get(&tag).copied().unwrap_or(0)
+    }
+
+    /// Lets go of a tag's records through a version, which is known to be committed.
+    fn pop(&mut self, pop: &Pop) -> Result<LogTell, LogRefusal> {
+        if !self.holds(pop.tag) {
+            return Err(LogRefusal::NotMine);
+        }
+        let through = self.popped_of(pop.tag).max(pop.through.min(self.known));
+        self.popped.insert(pop.tag, through);
+        if let Some(records) = self.records.get_mut(&pop.tag) {
+            records.drain(..records.partition_point(|record| record.version <= through));
+        }
+        Ok(LogTell::Popped { through })
+    }
+
     fn peek(&self, peek: &Peek) -> Result<LogTell, LogRefusal> {
         if !self.holds(peek.tag) {
             return Err(LogRefusal::NotMine);
@@ -116,6 +150,10 @@ impl Log {
         let first = self.seed.as_ref().map_or(0, |seed| seed.first);
         if peek.after + 1 < first {
             return Err(LogRefusal::TooEarly { first });
+        }
+        let through = self.popped_of(peek.tag);
+        if peek.after < through {
+            return Err(LogRefusal::Removed { through });
         }
         let all = self.records.get(&peek.tag).map_or(&[][..], Vec::as_slice);
         let above = &all[all.partition_point(|record| record.version <= peek.after)..];

@@ -137,15 +137,18 @@ pub enum LogAsk {
     Lock { epoch: u64 },
     Peek(Peek),
     MarkAsked { epoch: u64 },
+    Pop(Pop),
 }
 
 #[derive(Clone, Debug, PartialEq, Eq, Hash)]
 pub enum LogTell {
     Seeded,
     Held { version: u64 },
-    Locked { durable: u64, known: u64 },
+    /// With how far tags are popped, in rising tags.
+    Locked { durable: u64, known: u64, popped: Vec<(u8, u64)> },
     Peeked(Rc<Peeked>),
     Marked { state: Rc<State> },
+    Popped { through: u64 },
     Refused(LogRefusal),
 }
 
@@ -160,6 +163,7 @@ pub enum LogRefusal {
     TooEarly { first: u64 },
     SeedDiffers,
     NoMark,
+    Removed { through: u64 },
 }
 
 impl LogRefusal {
@@ -174,6 +178,7 @@ impl LogRefusal {
             LogRefusal::TooEarly { .. } => "TooEarly",
             LogRefusal::SeedDiffers => "SeedDiffers",
             LogRefusal::NoMark => "NoMark",
+            LogRefusal::Removed { .. } => "Removed",
         }
     }
 }
@@ -232,11 +237,6 @@ impl Push {
         let are_rising = self.bodies.is_sorted_by(|one, next| one.0 < next.0);
         is_next && self.known <= self.prev && are_rising && !(has_bodies && self.mark.is_some())
     }
-
-    /// Whether it is the same push, what was known aside.
-    pub fn is_again(&self, held: &Push) -> bool {
-        (self.prev, self.version) == (held.prev, held.version) && self.mark == held.mark && self.bodies == held.bodies
-    }
 }
 
 impl Hash for Push {
@@ -249,6 +249,12 @@ object! {
     /// What is asked for: the records of a tag above a version.
     #[derive(Clone, Copy, Debug, PartialEq, Eq, Hash)]
     Peek { after: u64 as Version, epoch: u64 as Epoch, most: u8 as Most, tag: u8 as Tag }
+}
+
+object! {
+    /// A tag's records through a version are not needed any more.
+    #[derive(Clone, Copy, Debug, PartialEq, Eq, Hash)]
+    Pop { epoch: u64 as Epoch, tag: u8 as Tag, through: u64 as Version }
 }
 
 object! {
@@ -301,9 +307,32 @@ object! {
     }
 }
 object! { HeldForm { version: u64 as Version } }
-object! { LockedForm { durable: u64 as Version, known: u64 as Version } }
+object! {
+    LockedForm { durable: u64 as Version, known: u64 as Version } maybe { popped: Vec<(u8, u64)> as PoppedForm }
+}
+object! { PoppedThroughForm { through: u64 as Version } }
 object! { MarkedForm { state: State as State } }
 object! { LogRefusedForm { why: LogRefusal as LogRefusal } }
+/// How far tags are popped: in rising tags, and never none, since the member is left out then.
+pub struct PoppedForm(Vec<(u8, u64)>);
+
+impl<'de> serde::Deserialize<'de> for PoppedForm {
+    fn deserialize<D: serde::Deserializer<'de>>(deserializer: D) -> Result<Self, D::Error> {
+        let pairs = Vec::<(Tag, Version)>::deserialize(deserializer)?;
+        let popped: Vec<(u8, u64)> = pairs.into_iter().map(|(tag, version)| (tag.0, version.0)).collect();
+        if popped.is_empty() || !popped.is_sorted_by(|one, next| one.0 < next.0) {
+            return Err(serde::de::Error::custom("popped tags that do not rise, or none"));
+        }
+        Ok(PoppedForm(popped))
+    }
+}
+
+impl From<PoppedForm> for Vec<(u8, u64)> {
+    fn from(popped: PoppedForm) -> Self {
+        popped.0
+    }
+}
+
 object! { GapForm { durable: u64 as Version } }
 object! { TooEarlyForm { first: u64 as Version } }
 
@@ -327,6 +356,7 @@ variants! {
         "lock": EpochId => |it| Some(LogAsk::Lock { epoch: it.epoch }),
         "peek": Peek => |it| Some(LogAsk::Peek(it)),
         "mark_asked": EpochId => |it| Some(LogAsk::MarkAsked { epoch: it.epoch }),
+        "pop": Pop => |it| Some(LogAsk::Pop(it)),
     }
 }
 
@@ -334,9 +364,13 @@ variants! {
     LogTell {
         "seeded": Empty => |_| Some(LogTell::Seeded),
         "held": HeldForm => |it| Some(LogTell::Held { version: it.version }),
-        "locked": LockedForm => |it| Some(LogTell::Locked { durable: it.durable, known: it.known }),
+        "locked": LockedForm => |it| {
+            let popped = it.popped.unwrap_or_default();
+            Some(LogTell::Locked { durable: it.durable, known: it.known, popped })
+        },
         "peeked": Peeked => |it| it.is_right().then(|| LogTell::Peeked(Rc::new(it))),
         "marked": MarkedForm => |it| Some(LogTell::Marked { state: Rc::new(it.state) }),
+        "popped": PoppedThroughForm => |it| Some(LogTell::Popped { through: it.through }),
         "refused": LogRefusedForm => |it| Some(LogTell::Refused(it.why)),
     }
 }
@@ -352,6 +386,7 @@ variants! {
         "too_early": TooEarlyForm => |it| Some(LogRefusal::TooEarly { first: it.first }),
         "seed_differs": Empty => |_| Some(LogRefusal::SeedDiffers),
         "no_mark": Empty => |_| Some(LogRefusal::NoMark),
+        "removed": PoppedThroughForm => |it| Some(LogRefusal::Removed { through: it.through }),
     }
 }
 

@@ -19,6 +19,8 @@ pub struct Recoverer {
     parent: Option<State>,
     /// What the logs of the parent's last generation replied: durable and known.
     replies: BTreeMap<u8, (u64, u64)>,
+    /// Through which version these replies showed a tag popped, the greatest one of each.
+    shown: BTreeMap<u8, u64>,
     plan: Option<Plan>,
 }
 
@@ -71,6 +73,7 @@ impl Recoverer {
             writes: Tally::of_writes(cells, ballot),
             parent: None,
             replies: BTreeMap::new(),
+            shown: BTreeMap::new(),
             plan: None,
         }
     }
@@ -129,10 +132,16 @@ impl Recoverer {
 
     fn hear_log(&mut self, log: LogId, tell: &LogTell) -> bool {
         match (self.phase, tell) {
-            (Phase::Locking, LogTell::Locked { durable, known }) => {
+            (Phase::Locking, LogTell::Locked { durable, known, popped }) => {
                 let generation = *self.parent.as_ref().expect("who locks has a parent").last();
                 if log.epoch == generation.epoch && log.index < generation.m {
-                    self.replies.entry(log.index).or_insert((*durable, *known));
+                    if !self.replies.contains_key(&log.index) {
+                        self.replies.insert(log.index, (*durable, *known));
+                        for (tag, version) in popped {
+                            let shown = self.shown.entry(*tag).or_insert(*version);
+                            *shown = (*shown).max(*version);
+                        }
+                    }
                     if self.replies.len() > usize::from(generation.m - generation.k) {
                         self.make_plan();
                     }
@@ -181,7 +190,13 @@ impl Recoverer {
             self.phase = Phase::Lost("Spent");
             return;
         }
-        let state = match parent.extended(new) {
+        // What every storage server has for good needs no generation any more.
+        let shown: Option<Vec<u64>> = (0..self.tags).map(|tag| self.shown.get(&tag).copied()).collect();
+        let left = match shown.and_then(|versions| versions.into_iter().min()) {
+            Some(version) => parent.drop_before(version + 1),
+            None => parent.clone(),
+        };
+        let state = match left.extended(new) {
             Ok(state) => Rc::new(state),
             Err(fault) => {
                 self.phase = Phase::Lost(match fault {

@@ -4,7 +4,7 @@ use crate::batch::{Batch, BatchFault};
 use crate::journal::Journals;
 use crate::forms::{object, variants, Ballot, CellPlace, Count, Epoch, Place, Step, Tag};
 use crate::lines::push_row;
-use crate::messages::{Ask, CellAsk, LogAsk, LogId, LogTell, NodeId, Tell};
+use crate::messages::{Ask, CellAsk, LogAsk, LogId, LogTell, NodeId, Pop, Tell};
 use crate::proxy::Outcome;
 use crate::script::Mutations;
 use crate::state::Shape;
@@ -45,6 +45,7 @@ pub enum StepForm {
     Push(PushForm),
     Pull(StorageForm),
     Mark(StorageForm),
+    Pop(StorageForm),
     Recover(RecoverForm, Option<Shape>),
     Lose(LogId),
 }
@@ -61,6 +62,7 @@ variants! {
         "push": PushForm => |it| Some(StepForm::Push(it)),
         "pull": StorageForm => |it| Some(StepForm::Pull(it)),
         "mark": StorageForm => |it| Some(StepForm::Mark(it)),
+        "pop": StorageForm => |it| Some(StepForm::Pop(it)),
         "recover": RecoverForm => |it| {
             let shape = Shape::of_members(it.logs, it.degree)?;
             Some(StepForm::Recover(it, shape))
@@ -121,6 +123,10 @@ fn take_steps(play: &mut Play, steps: Vec<StepForm>, output: &mut impl Write) ->
                 let ask = Some(LogAsk::MarkAsked { epoch });
                 write_storage("mark", storage, play.ask_log(storage, LogId { epoch, index: log }, ask), output)?;
             }
+            StepForm::Pop(StorageForm { storage, epoch, log }) => match play.pop(storage, LogId { epoch, index: log }) {
+                Ok(through) => writeln!(output, "pop {storage} {epoch} {through}")?,
+                Err(fault) => writeln!(output, "pop {storage} refused {fault}")?,
+            },
             StepForm::Recover(step, shape) => match play.recover(&step, shape) {
                 Ok(()) => {
                     let phase = play.world.recoverer(step.ballot).expect("it has begun").phase;
@@ -233,7 +239,26 @@ impl Play {
     /// A storage server asks a log and hears what it tells. Where it then stands.
     fn ask_log(&mut self, tag: u8, log: LogId, ask: Option<LogAsk>) -> Result<(u64, u64), &'static str> {
         self.world.storage(tag).ok_or("NoSuchNode")?;
-        let ask = ask.ok_or("NoSuchNode")?;
+        self.tell_of(tag, log, ask.ok_or("NoSuchNode")?)?;
+        let storage = self.world.storage(tag).expect("it was there before");
+        Ok((storage.epoch(), storage.store.applied()))
+    }
+
+    /// A storage server has a log let go of its tag's records through its floor. The version through which that is done.
+    fn pop(&mut self, tag: u8, log: LogId) -> Result<u64, &'static str> {
+        let storage = self.world.storage(tag).ok_or("NoSuchNode")?;
+        let through = storage.store.floor();
+        if !storage.may_pop(log.epoch, through) {
+            return Err(self.world.why_not_up(log).unwrap_or(NotEnabled::NeverSent).name());
+        }
+        match self.tell_of(tag, log, LogAsk::Pop(Pop { epoch: log.epoch, tag, through }))? {
+            Tell::Log(LogTell::Popped { through }) => Ok(through),
+            tell => unreachable!("a Pop is told {tell:?}"),
+        }
+    }
+
+    /// What a log tells a storage server, which hears it, unless that or the ask is refused.
+    fn tell_of(&mut self, tag: u8, log: LogId, ask: LogAsk) -> Result<Tell, &'static str> {
         let (by, to) = (NodeId::Storage(tag), NodeId::Log(log));
         let tell = self.deliver(by, to, &Ask::Log(ask)).map_err(NotEnabled::name)?;
         let heard = self.hear(by, to, &tell).map_err(NotEnabled::name)?;
@@ -243,8 +268,7 @@ impl Play {
         if let Heard::Storage(Err(fault)) = heard {
             return Err(fault.name());
         }
-        let storage = self.world.storage(tag).expect("it was there before");
-        Ok((storage.epoch(), storage.store.applied()))
+        Ok(tell)
     }
 
     /// A shape counts where the recoverer begins with this step.

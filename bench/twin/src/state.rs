@@ -1,7 +1,9 @@
 //! The coordinated state: a list of generations.
 
-use crate::forms::{object, Count, Epoch, Version};
-use serde::de::{Deserialize, Deserializer, Error};
+use crate::forms::{object, Count, Epoch, Number, Version};
+use serde::de::value::{MapAccessDeserializer, SeqAccessDeserializer};
+use serde::de::{Deserialize, Deserializer, Error, MapAccess, SeqAccess, Visitor};
+use std::fmt;
 
 pub const LAST_VERSION: u64 = (1 << 62) - 1;
 const MOST_GENERATIONS: usize = 64;
@@ -37,9 +39,12 @@ impl Shape {
     }
 }
 
-/// Generations, the oldest first and the current one last; never none.
+/// Generations, the oldest first and the current one last; never none. Of older ones it is known how many were dropped.
 #[derive(Clone, Debug, PartialEq, Eq, Hash)]
-pub struct State(Vec<Generation>);
+pub struct State {
+    dropped: u64,
+    generations: Vec<Generation>,
+}
 
 /// Why a state takes no further generation.
 #[derive(Clone, Copy, Debug, PartialEq)]
@@ -66,41 +71,54 @@ impl Generation {
 }
 
 impl State {
-    pub fn new(generations: Vec<Generation>) -> Option<Self> {
+    pub fn new(dropped: u64, generations: Vec<Generation>) -> Option<Self> {
         let is_long = (1..=MOST_GENERATIONS).contains(&generations.len());
         let are_within = generations.iter().all(Generation::is_within_limits);
         let are_ordered = generations.windows(2).all(|pair| pair[1].may_follow(&pair[0]));
-        (is_long && are_within && are_ordered).then_some(State(generations))
+        let are_before = generations.first().is_some_and(|first| dropped < first.epoch);
+        (is_long && are_within && are_ordered && are_before).then_some(State { dropped, generations })
     }
 
     pub fn last(&self) -> &Generation {
-        &self.0[self.0.len() - 1]
+        &self.generations[self.generations.len() - 1]
     }
 
     pub fn generations(&self) -> &[Generation] {
-        &self.0
+        &self.generations
+    }
+
+    pub fn dropped(&self) -> u64 {
+        self.dropped
+    }
+
+    /// Without the generations before the last one that begins at a version or below; all of it where none does.
+    pub fn drop_before(&self, version: u64) -> State {
+        let is_begun = |generation: &Generation| generation.first <= version;
+        let out = self.generations.iter().rposition(is_begun).unwrap_or(0);
+        State { dropped: self.dropped + out as u64, generations: self.generations[out..].to_vec() }
     }
 
     pub fn extended(&self, generation: Generation) -> Result<State, ExtendFault> {
         if !generation.may_follow(self.last()) {
             return Err(ExtendFault::NotLater);
         }
-        if self.0.len() == MOST_GENERATIONS {
+        if self.generations.len() == MOST_GENERATIONS {
             return Err(ExtendFault::TooMany);
         }
-        let mut generations = self.0.clone();
+        let mut generations = self.generations.clone();
         generations.push(generation);
-        Ok(State(generations))
+        Ok(State { dropped: self.dropped, generations })
     }
 
-    /// The generation that is to be asked for a version: the last one that starts at it or below.
-    pub fn source_of(&self, version: u64) -> Option<&Generation> {
-        self.0.iter().rev().find(|generation| generation.first <= version)
+    /// The generation that is to be asked for a version: the last one that starts at it or below, or else the first one.
+    pub fn source_of(&self, version: u64) -> &Generation {
+        let source = self.generations.iter().rev().find(|generation| generation.first <= version);
+        source.unwrap_or(&self.generations[0])
     }
 
     fn next_of(&self, epoch: u64) -> Option<&Generation> {
-        let place = self.0.iter().position(|generation| generation.epoch == epoch)?;
-        self.0.get(place + 1)
+        let place = self.generations.iter().position(|generation| generation.epoch == epoch)?;
+        self.generations.get(place + 1)
     }
 
     /// The last version of an epoch's own that counts, where a next one has been opened.
@@ -113,13 +131,21 @@ impl State {
         self.next_of(epoch).map(|next| next.seeded_to)
     }
 
-    pub fn begins_with(&self, front: &State) -> bool {
-        self.0.starts_with(&front.0)
+    /// Whether it goes on from another state: it dropped as many generations or more, but not all, and begins with those
+    /// of the other one that it did not drop.
+    pub fn goes_on_from(&self, own: &State) -> bool {
+        let left = self.dropped.checked_sub(own.dropped).and_then(|more| usize::try_from(more).ok());
+        let left = left.and_then(|more| own.generations.get(more..)).unwrap_or_default();
+        !left.is_empty() && self.generations.starts_with(left)
     }
 
     pub fn encode(&self) -> Vec<u8> {
-        let mut bytes = vec![1, self.0.len() as u8];
-        for each in &self.0 {
+        let mut bytes = vec![if self.dropped == 0 { 1 } else { 2 }];
+        if self.dropped > 0 {
+            bytes.extend(self.dropped.to_be_bytes());
+        }
+        bytes.push(self.generations.len() as u8);
+        for each in &self.generations {
             bytes.extend(each.epoch.to_be_bytes());
             bytes.extend([each.m, each.k]);
             bytes.extend(each.first.to_be_bytes());
@@ -129,11 +155,17 @@ impl State {
     }
 
     pub fn decode(bytes: &[u8]) -> Option<State> {
-        let (&[format, number], mut rest) = bytes.split_first_chunk()?;
-        if format != 1 || rest.len() != 26 * usize::from(number) {
+        let (format, mut rest) = bytes.split_first()?;
+        let mut dropped = 0;
+        if *format == 2 {
+            let (number, behind) = rest.split_first_chunk()?;
+            (dropped, rest) = (u64::from_be_bytes(*number), behind);
+        }
+        let (number, mut rest) = rest.split_first()?;
+        if !matches!((format, dropped), (1, 0) | (2, 1..)) || rest.len() != 26 * usize::from(*number) {
             return None;
         }
-        let mut generations = Vec::with_capacity(usize::from(number));
+        let mut generations = Vec::with_capacity(usize::from(*number));
         while let Some((chunk, others)) = rest.split_first_chunk::<26>() {
             let number_at = |at: usize| u64::from_be_bytes(chunk[at..at + 8].try_into().expect("eight bytes"));
             generations.push(Generation {
@@ -145,12 +177,35 @@ impl State {
             });
             rest = others;
         }
-        State::new(generations)
+        State::new(dropped, generations)
+    }
+}
+
+object! { DroppedForm { dropped: u64 as Number<u64, 1, { (1 << 48) - 1 }>, gens: Vec<Generation> as Vec<Generation> } }
+
+/// A list of generations, or an object that says too how many were dropped.
+struct Form;
+
+impl<'de> Visitor<'de> for Form {
+    type Value = State;
+
+    fn expecting(&self, f: &mut fmt::Formatter) -> fmt::Result {
+        f.write_str("a state")
+    }
+
+    fn visit_seq<A: SeqAccess<'de>>(self, items: A) -> Result<State, A::Error> {
+        let generations = Vec::deserialize(SeqAccessDeserializer::new(items))?;
+        State::new(0, generations).ok_or_else(|| A::Error::custom("no state"))
+    }
+
+    fn visit_map<A: MapAccess<'de>>(self, map: A) -> Result<State, A::Error> {
+        let form = DroppedForm::deserialize(MapAccessDeserializer::new(map))?;
+        State::new(form.dropped, form.gens).ok_or_else(|| A::Error::custom("no state"))
     }
 }
 
 impl<'de> Deserialize<'de> for State {
     fn deserialize<D: Deserializer<'de>>(deserializer: D) -> Result<Self, D::Error> {
-        State::new(Vec::deserialize(deserializer)?).ok_or_else(|| D::Error::custom("no state"))
+        deserializer.deserialize_any(Form)
     }
 }

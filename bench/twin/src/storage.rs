@@ -54,6 +54,12 @@ impl Storage {
         Peek { after: self.store.applied(), epoch, most: 100, tag: self.tag }
     }
 
+    /// Whether it may have the logs of an epoch let go of its tag's records through a version: it has the generation, and
+    /// what was applied through that version for good.
+    pub fn may_pop(&self, epoch: u64, through: u64) -> bool {
+        self.state.generations().iter().any(|generation| generation.epoch == epoch) && through <= self.store.floor()
+    }
+
     /// Goes over to the state of a later epoch, or breaks that off at a version.
     pub fn hear_marked(&mut self, state: &Rc<State>, taken: Option<u64>) -> Result<(), Unheard> {
         let own = self.epoch();
@@ -63,7 +69,7 @@ impl Storage {
         if *state == self.state {
             return self.stop_here(taken);
         }
-        if !state.begins_with(&self.state) {
+        if state.last().epoch == own || !state.goes_on_from(&self.state) {
             return Err(Unheard::Refused(StorageFault::Stranger));
         }
         let cut = state.cut_of(own).expect("a longer list has a generation after the own one");
@@ -90,15 +96,15 @@ impl Storage {
         }
     }
 
-    pub fn hear_refused(&self, taken: Option<u64>) -> Result<(), Unheard> {
+    /// What a log refused, or popped, changes nothing here.
+    pub fn hear_nothing(&self, taken: Option<u64>) -> Result<(), Unheard> {
         self.stop_here(taken)
     }
 
     /// Takes records of an epoch, or some of them, where that breaks off at a version.
     pub fn hear_peeked(&mut self, epoch: u64, peeked: &Peeked, taken: Option<u64>) -> Result<(), Unheard> {
         let applied = self.store.applied();
-        let source = self.state.source_of(applied + 1);
-        if source.is_none_or(|source| source.epoch != epoch) {
+        if self.state.source_of(applied + 1).epoch != epoch {
             return Err(Unheard::Refused(StorageFault::NotMyGeneration));
         }
         if peeked.after > applied {

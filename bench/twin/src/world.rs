@@ -125,7 +125,7 @@ impl World {
     pub fn start(config: Config) -> Self {
         let (m, k) = (config.logs, config.degree);
         let generation = Generation { epoch: FIRST_EPOCH, m, k, first: 1, seeded_to: 0 };
-        let state = Rc::new(State::new(vec![generation]).expect("the start is a state"));
+        let state = Rc::new(State::new(0, vec![generation]).expect("the start is a state"));
         let cell = Cell { promised: FIRST_EPOCH, written: FIRST_EPOCH, value: state.encode().into() };
         let mut world = World {
             cells: vec![cell; config.coordinators.into()],
@@ -171,6 +171,14 @@ impl World {
 
     pub fn log(&self, id: LogId) -> Option<&Log> {
         self.logs.get(&id).map(|node| &node.it)
+    }
+
+    /// Why a log takes no ask, where it takes none.
+    pub fn why_not_up(&self, id: LogId) -> Option<NotEnabled> {
+        match self.logs.get(&id) {
+            None => Some(NotEnabled::NoSuchNode),
+            Some(node) => node.gone.then_some(NotEnabled::Gone),
+        }
     }
 
     pub fn cell(&self, index: u8) -> Option<&Cell> {
@@ -264,7 +272,9 @@ impl World {
                         storage.hear_peeked(log.epoch, peeked, taken)
                     }
                     (NodeId::Log(_), Tell::Log(LogTell::Marked { state })) => storage.hear_marked(state, taken),
-                    (NodeId::Log(_), Tell::Log(LogTell::Refused(_))) => storage.hear_refused(taken),
+                    (NodeId::Log(_), Tell::Log(LogTell::Refused(_) | LogTell::Popped { .. })) => {
+                        storage.hear_nothing(taken)
+                    }
                     _ => return Err(NotEnabled::NeverSent),
                 };
                 match heard {
