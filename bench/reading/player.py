@@ -127,7 +127,9 @@ class Player:
             return
         batch = self.nodes.batches[node.epoch, name["proxy"]["number"], node.request]
         for at in set(range(node.m)) - node.held:
-            log = self.nodes.logs[node.epoch, at]
+            log = self.nodes.logs.get((node.epoch, at))
+            if log is None:  # (counted by a rule that is turned)
+                continue
             bodies = [[tag, shard.clip(batch)] for tag, shard in enumerate(self.nodes.shards) if log.holds(tag)]
             push = {"bodies": [each for each in bodies if each[1]], "epoch": node.epoch, "known": node.known, "mark": None}
             to = {"log": {"epoch": node.epoch, "index": at}}

@@ -12,6 +12,8 @@ mod faulty;
 #[cfg(test)]
 mod flag;
 #[cfg(test)]
+mod hundred;
+#[cfg(test)]
 mod journals;
 #[cfg(test)]
 mod meeting;
