@@ -1,7 +1,9 @@
 /* A library that refuses one allocation of a program: the one of the number that REFUSE says, counted from 1, whichever
  * thread makes it. At its end the program says on its third stream how many there were. See bench/memory. */
+#define _GNU_SOURCE
 #include <stdio.h>
 #include <stdlib.h>
+#include <sys/syscall.h>
 #include <unistd.h>
 
 extern void *__libc_malloc(size_t size);
@@ -31,5 +33,11 @@ void *realloc(void *place, size_t size) {
 __attribute__((destructor)) static void say(void) {
     char line[40];
     int length = snprintf(line, sizeof line, "\nallocations %ld\n", made);
-    if (write(2, line, (size_t)length) != length) _exit(99);
+    if (write(2, line, (size_t)length) != length) syscall(SYS_exit_group, 99);
+}
+
+/* A program that has a status of its own ends by this call, and no destructor runs. */
+void _exit(int status) {
+    say();
+    for (;;) syscall(SYS_exit_group, status);
 }
