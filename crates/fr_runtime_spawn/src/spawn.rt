@@ -1,0 +1,164 @@
+//! Jobs in threads, one each, or the answer that a thread could not be made.
+ghost use Rattle.std.specs.Prelude.{◌≡◌, ◌++◌, ◌∷◌, [], IfOk, IfSome, OnOk};
+ghost use Rattle.fr_runtime_spawn.specs.Sworn.{AllDone, AreSwornTo, DidEach};
+
+use std::alloc::{AllocError, Global};
+use std::snapshot::Snapshot;
+use std::sync::{Mutex, Wait};
+use std::thread;
+use std::thread::{Promise, PromisedHandle, Scope, Threads};
+
+/// Why jobs were not run.
+#[derive(Clone, Copy, Debug, PartialEq, Eq)]
+pub enum SpawnFault {
+    /// There is no memory.
+    Memory,
+    /// A thread could not be made.
+    Thread,
+}
+
+impl From<AllocError> for SpawnFault {
+    fn from(_: AllocError) -> SpawnFault {
+        SpawnFault::Memory
+    }
+}
+
+/// What threads do with jobs of a type, and hand back.
+pub trait Worker<J, D> {
+    /// What is done of a job.
+    ghost Did: { Self → J → D → Type 0 };
+
+    /// Does a job.
+    fn work(&self, job: J) -> D
+        ensures { Did self.now job result };
+}
+
+/// What a thread promises: that it hands nothing back, since it was called off, or what is done of its job.
+#[derive(Drop)]
+struct Sworn<W, J> {
+    worker: Snapshot<W>,
+    job: Snapshot<J>,
+}
+
+impl<J, D, W: Worker<J, D>> Promise<Option<D>> for Sworn<W, J> {
+    ghost use Rattle.std.specs.Prelude.{IfSome};
+
+    ghost kept_by = { λ p r. IfSome r (λ done. W.Did p.worker.value p.job.value done) };
+}
+
+/// Starts a thread for a job. It begins once the gate is let go, where the gate then says so.
+fn start<
+    's,
+    R: Threads + Wait + Sync + 's,
+    E,
+    J: Send + Drop + 's,
+    D: Send + Drop + 's,
+    W: Worker<J, D> + Sync + 's,
+>(
+    rt: &'s R,
+    scope: &Scope<'s, E>,
+    gate: &'s Mutex<bool>,
+    worker: &'s W,
+    job: J,
+) -> Result<PromisedHandle<Option<D>, Sworn<W, J>>, SpawnFault>
+    ensures job { IfOk result (λ handle. handle.promise.job.value ≡ job) }
+    ensures worker { IfOk result (λ handle. handle.promise.worker.value ≡ worker.now) }
+{
+    let promise = Sworn {
+        worker: Snapshot::of(worker),
+        job: Snapshot::of(&job),
+    };
+    let one = move || -> Option<D>
+        ensures { IfSome result (λ done. W.Did worker.entry.now job done) }
+    {
+        let is_open = *gate.lock(rt);
+        if is_open {
+            Some(worker.work(job))
+        } else {
+            None
+        }
+    };
+    match scope.spawn_with(promise, one) {
+        Ok(handle) => Ok(handle),
+        Err(_) => Err(SpawnFault::Thread),
+    }
+}
+
+/// Starts a thread for each job, and lets them begin once all are there. Where one is refused, those that are there are
+/// called off.
+fn start_each<
+    's,
+    R: Threads + Wait + Sync + 's,
+    E,
+    J: Send + Drop + 's,
+    D: Send + Drop + 's,
+    W: Worker<J, D> + Sync + 's,
+>(
+    rt: &'s R,
+    alloc: Global,
+    scope: &Scope<'s, E>,
+    gate: &'s Mutex<bool>,
+    worker: &'s W,
+    jobs: Vec<J>,
+) -> Result<Vec<PromisedHandle<Option<D>, Sworn<W, J>>>, SpawnFault>
+    ensures { IfOk result (λ handles. AreSwornTo worker.now jobs.items handles.items) }
+{
+    let mut open = gate.lock(rt);
+    let mut handles = Vec::new(alloc);
+    for job in jobs {
+        let handle = start(rt, scope, gate, worker, job)?;
+        put(&mut handles, handle)?;
+    }
+    *open = true;
+    Ok(handles)
+}
+
+/// Waits for each thread, and gives what they hand back.
+fn join_each<R: Threads, J: Drop, D: Drop, W: Worker<J, D>>(
+    rt: &R,
+    alloc: Global,
+    handles: Vec<PromisedHandle<Option<D>, Sworn<W, J>>>,
+) -> Result<Vec<D>, SpawnFault>
+    ensures { IfOk result (λ all. DidEach W.Did handles.items all.items) }
+{
+    let mut all = Vec::new(alloc);
+    for handle in handles {
+        match handle.join(rt) {
+            Some(done) => put(&mut all, done)?,
+            None => return Err(SpawnFault::Thread),
+        }
+    }
+    Ok(all)
+}
+
+/// Puts an item behind the others.
+fn put<T: Drop>(all: &mut Vec<T>, item: T) -> Result<(), SpawnFault>
+    ensures { OnOk result (all.new.items ≡ all.old.items ++ item ∷ []) }
+{
+    all.reserve(1)?;
+    all.push_reserved(item);
+    Ok(())
+}
+
+/// Has a worker do each job in a thread of its own, and gives what the threads hand back, in the order of the jobs. No
+/// job begins before there is a thread for each: where one cannot be made, no job is done, and `Thread` is answered.
+pub fn work_each<R: Threads + Wait + Sync, J: Send + Drop, D: Send + Drop, W: Worker<J, D> + Sync>(
+    rt: &R,
+    alloc: Global,
+    worker: &W,
+    jobs: Vec<J>,
+) -> Result<Vec<D>, SpawnFault>
+    ensures { IfOk result (λ all. AllDone (W.Did worker.now) jobs.items all.items) }
+{
+    let gate = Mutex::new(false);
+    thread::scope(
+        thread::scope_env(),
+        rt,
+        |scope| -> Result<Vec<D>, SpawnFault>
+            ensures { IfOk result (λ all. AllDone (W.Did worker.entry.now) jobs.items all.items) }
+        {
+            let handles = start_each(rt, alloc, scope, &gate, worker, jobs)?;
+            join_each(rt, alloc, handles)
+        },
+    )
+}
