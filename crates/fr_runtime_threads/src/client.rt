@@ -6,13 +6,13 @@ ghost use Rattle.fr_runtime_threads.specs.Account.{account, all_given, all_outco
 use crate::door::{Door, send_all};
 use crate::fault::TurnFault;
 use crate::order::{Order, UnderWay};
-use crate::rack::Rack;
 use crate::site::Site;
 use crate::workload::Workload;
 use fr_audit_journal::Journal;
 use fr_base::Memory;
 use fr_proxy::Outcome;
 use fr_run_event::Config;
+use fr_runtime_rack::Rack;
 use fr_runtime_station::{Chosen, Faults, first_stamp};
 use fr_state::Generation;
 use std::alloc::Global;

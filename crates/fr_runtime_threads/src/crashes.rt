@@ -1,6 +1,6 @@
 //! The thread of crashes.
-use crate::rack::Rack;
 use crate::site::Site;
+use fr_runtime_rack::Rack;
 use fr_runtime_station::{Faults, first_stamp};
 use std::sync::Wait;
 

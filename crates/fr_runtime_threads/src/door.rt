@@ -7,7 +7,6 @@ ghost use Rattle.fr_runtime_threads.specs.Account.{account, after_saying, is_ope
 use crate::fault::TurnFault;
 use crate::notes::Notes;
 use crate::order::{Order, UnderWay};
-use crate::rack::Rack;
 use crate::sending::{Hearer, send};
 use crate::site::Site;
 use fr_ask::{Ask, Tell};
@@ -15,6 +14,7 @@ use fr_audit_journal::{Act, Journal};
 use fr_base::{Epoch, Memory, NodeId, Stamp, Version};
 use fr_proxy::{Outcome, Proxy};
 use fr_run_event::{Config, last_of_proxy};
+use fr_runtime_rack::Rack;
 use fr_runtime_station::Faults;
 use fr_state::Generation;
 use std::alloc::Global;

@@ -4,7 +4,6 @@ ghost use Rattle.fr_base.specs.declared.place.NodeId.{NodeId};
 
 use crate::fault::{TurnFault, fault_of};
 use crate::notes::Notes;
-use crate::rack::Rack;
 use crate::sending::{Hearer, send};
 use crate::site::Site;
 use fr_ask::{Ask, Tell};
@@ -12,6 +11,7 @@ use fr_audit_journal::{Act, Journal};
 use fr_base::{Epoch, NodeId, Stamp, Tag};
 use fr_log::{LogAsk, LogTell};
 use fr_run_event::last_of_storage;
+use fr_runtime_rack::Rack;
 use fr_runtime_station::{Faults, first_stamp};
 use fr_state::Generation;
 use fr_storage::{Storage, StorageFault};

@@ -6,7 +6,6 @@ ghost use Rattle.fr_runtime_threads.specs.Begins.{StartsWithBegun};
 
 use crate::fault::TurnFault;
 use crate::notes::Notes;
-use crate::rack::Rack;
 use crate::sending::{Hearer, send};
 use crate::site::Site;
 use fr_ask::Tell;
@@ -16,6 +15,7 @@ use fr_epoch::{Phase, Recoverer};
 use fr_proxy::Sequencer;
 use fr_run_event::{Config, last_of_recoverer};
 use fr_runtime_housing::Housed;
+use fr_runtime_rack::Rack;
 use fr_runtime_station::{Chosen, Faults, Station, first_stamp};
 use fr_state::Generation;
 use std::alloc::Global;

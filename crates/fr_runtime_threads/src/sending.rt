@@ -2,10 +2,10 @@
 ghost use Rattle.std.specs.Prelude.{◌≡◌};
 
 use crate::fault::TurnFault;
-use crate::rack::Rack;
 use crate::site::Site;
 use fr_ask::{Ask, Tell};
 use fr_base::{Memory, NodeId, Stamp};
+use fr_runtime_rack::Rack;
 use fr_runtime_station::{Faults, Verdict};
 use std::alloc::Global;
 use std::sync::Wait;
