@@ -3,6 +3,8 @@
 #![tactic(auto)]
 
 #[cfg(test)]
+mod adopts;
+#[cfg(test)]
 mod again;
 #[cfg(test)]
 mod agrees;

@@ -1,0 +1,61 @@
+//! Storage servers that take over stores in SQL.
+use fr_base::{Bytes, Tag, Version};
+use fr_sql_store::SqlStore;
+use fr_storage::{Storage, StorageFault};
+use fr_undo::ShardStore;
+use sqlite::MemStore;
+use std::alloc::Global;
+use std::process::Abort;
+use std::test::Fail;
+
+/// The bytes of a state of two generations of four logs, on two of which each tag stands: 257, from version 1 on, seeded
+/// through 0, and 513, from 10 on, seeded through 10.
+const BOTH: [u8; 54] = [
+    1, 2, //
+    0, 0, 0, 0, 0, 0, 1, 1, 4, 2, 0, 0, 0, 0, 0, 0, 0, 1, 0, 0, 0, 0, 0, 0, 0, 0, //
+    0, 0, 0, 0, 0, 0, 2, 1, 4, 2, 0, 0, 0, 0, 0, 0, 0, 10, 0, 0, 0, 0, 0, 0, 0, 10,
+];
+
+/// Where a storage server stands: epoch, version and floor.
+type Place = (u64, u64, u64);
+
+/// The bytes that a store keeps, and where the server stands that takes it over at version 11, if one does.
+const ROWS: [(&[u8], Option<Place>); 3] = [(&BOTH, Some((513, 11, 0))), (b"\0", None), (b"", None)];
+
+/// A store at version 11 that keeps these bytes.
+fn kept(alloc: Global, bytes: &[u8]) -> Result<SqlStore<MemStore>, Fail> {
+    let mut store = SqlStore::in_memory(alloc)?;
+    store.set_state(alloc, Bytes::from_slice(alloc, bytes)?)?;
+    store.advance(Version::new(11).ok_or("a version")?)?;
+    Ok(store)
+}
+
+fn place(storage: &Storage<SqlStore<MemStore>>) -> Place {
+    let (epoch, version) = storage.position();
+    (epoch.get(), version.get(), storage.floor().get())
+}
+
+/// Where the server stands that takes a store over, none where the store keeps no state.
+fn adopted(alloc: Global, store: SqlStore<MemStore>) -> Result<Option<Place>, Fail> {
+    let tag = Tag::new(0).ok_or("a tag")?;
+    match Storage::adopt(alloc, store, tag) {
+        Ok(storage) => Ok(Some(place(&storage))),
+        Err(StorageFault::BadState) => Ok(None),
+        Err(_) => Err("another fault")?,
+    }
+}
+
+fn adopts(rt: &impl Abort, alloc: Global, row: usize) -> Result<(), Fail> {
+    let (bytes, wanted) = ROWS[row];
+    let store = kept(alloc, bytes)?;
+    assert_eq!(rt; adopted(alloc, store)?, wanted, "in row {row}");
+    Ok(())
+}
+
+#[test]
+fn a_store_that_keeps_a_state_is_adopted(rt: HostRuntime) -> Result<(), Fail> {
+    for row in 0..ROWS.len() {
+        adopts(&rt, rt.alloc(), row)?;
+    }
+    Ok(())
+}
