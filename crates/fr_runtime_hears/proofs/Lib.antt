@@ -1,0 +1,5 @@
+mod Climbs
+mod Found
+mod Marks
+mod Opened
+mod Peeks

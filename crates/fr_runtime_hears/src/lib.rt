@@ -1,0 +1,7 @@
+//! What a storage server hears, over a store that may fail: where a hear breaks off, the server is opened again, and who
+//! told it learns how much of it was taken.
+#![tactic(auto)]
+
+mod taking;
+
+pub use taking::{take_marked, take_peeked};
