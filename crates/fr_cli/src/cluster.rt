@@ -1,5 +1,5 @@
 //! The command `cluster` on each kind of store.
-use fr_cli_cluster::{ClusterOptions, NoFaults, PlainRack, Progress, Watcher, cluster_counted};
+use fr_cli_cluster::{ClusterOptions, PlainRack, Progress, Watcher, cluster_counted, storm_of};
 use fr_cli_cluster_sql::cluster_sql_counted;
 use fr_cli_json::{CallCounts, CliFault};
 use fr_cli_words::StoreKind;
@@ -8,7 +8,8 @@ use std::io::{Eprint, Write};
 use std::sync::Wait;
 use std::thread::Threads;
 
-/// Runs a cluster whose stores are of a kind. Where there is a terminal, it says there how far it has come.
+/// Runs a cluster whose stores are of a kind, in the storm of its words. Where there is a terminal, it says there how far
+/// it has come.
 pub(crate) fn cluster_on<H: Threads + Wait + Sync, E: Eprint + Sync, W: Write>(
     kind: StoreKind,
     rt: &H,
@@ -17,12 +18,13 @@ pub(crate) fn cluster_on<H: Threads + Wait + Sync, E: Eprint + Sync, W: Write>(
     options: ClusterOptions,
     writer: &mut W,
 ) -> Result<u8, CliFault> {
+    let storm = storm_of(options);
     match terminal {
         Some(terminal) => {
-            let progress = Progress::new(terminal, &NoFaults, options);
+            let progress = Progress::new(terminal, &storm, options);
             watched(kind, rt, alloc, options, &progress, writer)
         }
-        None => watched(kind, rt, alloc, options, &NoFaults, writer),
+        None => watched(kind, rt, alloc, options, &storm, writer),
     }
 }
 

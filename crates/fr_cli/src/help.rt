@@ -148,9 +148,16 @@ turns in it: in a turn a workload hands out a batch, where it has none open, and
 ask whose tell it wants once; a storage server asks one log for its records and one for the mark of
 the newest epoch, and has one of its own epoch let go of what it has for good; a recoverer sends each
 ask whose tell it wants once. Recovery I, counted from 1, begins at turn 100 I of its thread, or never
-where that is above the number of turns; one that begins while another is not done may end it. No ask
-is lost and no node crashes. Batch J of workload W sets one key, of two bytes, 8 (J mod the number of
-storage servers) and W, to J, as four bytes.
+where that is above the number of turns; one that begins while another is not done may end it. Where
+nothing is said of a storm no ask is lost and no node crashes. Batch J of workload W sets one key, of
+two bytes, 8 (J mod the number of storage servers) and W, to J, as four bytes.
+
+In a storm, N of 256 asks are faulty on average: lost, or what is told of them is lost, or they come
+twice and are heard twice, each as often. At each 64th of its turns a further thread crashes a
+coordinator or a log of the first epoch, in N of 256 draws, each as often. Batches set, add to, combine
+or clear one of four keys of a shard. All is drawn from the seed: the faults by the count of the asks
+and draws of crashes so far, so the same words repeat the draws, while which thread meets which draw
+still differs from run to run. With --storm 256 each ask is faulty.
 
 With --store sql coordinators and logs keep what they have in record files, each on a device in memory
 with room for 16 MiB, and the storage servers their rows in the tables of databases in memory. It

@@ -71,6 +71,8 @@ fn read_cluster(alloc: Global, matches: &ArgMatches<'_>) -> Result<Request, Erro
         batches: number(matches, "batches", DEFAULTS.batches),
         recoveries: byte(matches, "recoveries", DEFAULTS.recoveries),
         turns: number(matches, "turns", DEFAULTS.turns),
+        storm: matches.get_one::<u16>("storm").unwrap_or(DEFAULTS.storm),
+        seed: matches.get_one::<u64>("seed").unwrap_or(DEFAULTS.seed),
         journal: matches.get_flag("journal"),
     };
     if let Some(options) = ClusterOptions::new(words) {
@@ -148,6 +150,20 @@ fn cluster_command<'a>(alloc: Global) -> Result<Command<'a>, Error> {
     let store = Arg::new(alloc, "store").long("store").help(
         "What nodes and stores keep what they have in: maps, or files and tables, in memory",
     );
+    let storm = Arg::new(alloc, "storm")
+        .long("storm")
+        .help("How many of 256 asks are lost or repeated, 0 to 256, and so for crashes")
+        .value_name("N")
+        .value_parser(value_parser!(u16).range(0..=256))
+        .default_value("0")
+        .action(ArgAction::Set);
+    let seed = Arg::new(alloc, "seed")
+        .long("seed")
+        .help("From what a storm is drawn, any number below 2^64")
+        .value_name("S")
+        .value_parser(value_parser!(u64))
+        .default_value("1")
+        .action(ArgAction::Set);
     let cluster = Command::new(alloc, "cluster")
         .about("Runs a cluster in threads, and audits what its nodes did")
         .after_help(CLUSTER_HELP)
@@ -214,6 +230,8 @@ fn cluster_command<'a>(alloc: Global) -> Result<Command<'a>, Error> {
             1,
         ))?
         .arg(of_kind(store))?
+        .arg(storm)?
+        .arg(seed)?
         .arg(journal)?;
     Ok(cluster)
 }

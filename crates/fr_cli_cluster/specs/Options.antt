@@ -24,7 +24,9 @@ pub record HasTime (w : ClusterWords) : Type 0 where
   pub turns_some : 1 ≤ w.turns
   pub turns_few : w.turns ≤ 1000000
 
+-- at most 256 of 256 draws are a fault; each seed is one
 pub record IsWithin (w : ClusterWords) : Type 0 where
   pub nodes : HasNodes w
   pub clients : HasClients w
   pub time : HasTime w
+  pub storm : w.storm ≤ 256

@@ -1,7 +1,8 @@
 -- What a cluster starts from.
-use Rattle.std.specs.Prelude.{ℕ, ◌+◌, ◌-◌, ◌*◌, List, [], ◌∷◌, ◌++◌, Option, None, zero, suc}
+use Rattle.std.specs.Prelude.{ℕ, ◌+◌, ◌-◌, ◌*◌, ◌%◌, ◌^◌, List, [], ◌∷◌, ◌++◌, Option, None, zero, suc}
 use Rattle.fr_base.specs.Shape.{ShapeContent}
 use Rattle.fr_run.specs.Config.{Config}
+use Rattle.fr_runtime_storm.specs.declared.draws.Draws.{Draws}
 use Rattle.fr_cli_cluster.specs.declared.options.ClusterWords.{ClusterWords}
 
 -- the shard after the first ones begins at the byte 8 above the last
@@ -21,3 +22,12 @@ config_of w = record { cells = w.coordinators; m = w.logs; k = w.degree; begins 
 abbrev pub ballots_of : ℕ → List (ℕ × Option ShapeContent)
 ballots_of zero = []
 ballots_of (suc n) = ballots_of n ++ (((n + 2) * 256 + 1, None) ∷ [])
+
+-- what the faults of a cluster are drawn from
+abbrev pub draws_of : ClusterWords → Draws
+draws_of w = record { seed = w.seed; strength = w.storm; coordinators = w.coordinators; logs = w.logs }
+
+-- what seeds the generators of so many workloads in a storm of this seed, and over how many shards each of them draws
+abbrev pub drawn_by : ℕ → ℕ → ℕ → List (ℕ × ℕ)
+drawn_by seed shards zero = []
+drawn_by seed shards (suc n) = drawn_by seed shards n ++ (((seed + n) % 2 ^ 64, shards) ∷ [])

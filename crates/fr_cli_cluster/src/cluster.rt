@@ -8,12 +8,12 @@ ghost use Rattle.fr_cli_cluster.specs.Report.{IsBad, IsGood, IsReport};
 use crate::options::{ClusterOptions, ClusterWords};
 use crate::progress::Watcher;
 use crate::report::{put_fault, put_run};
-use crate::setting::{ballots, config, works};
+use crate::setting::{ballots, config, drawn_works, storm_of, works};
 use fr_audit::AuditFault;
 use fr_base::Memory;
 use fr_cli_json::{CallCounts, CliFault};
-use fr_runtime::{Cluster, PlainRack, Rack, Report, RunFault};
-use fr_runtime_station::{Faults, NoFaults};
+use fr_runtime::{Cluster, PlainRack, Rack, Report, RunFault, Workload};
+use fr_runtime_station::Faults;
 use std::alloc::Global;
 use std::io::Write;
 use std::sync::Wait;
@@ -23,8 +23,9 @@ use std::thread::Threads;
 /// journals of all nodes. It writes `audit ok`, or the script of the audit, where they are a run, with status 0; else
 /// the line of the audit's fault, with status 1. Each node of the config has its journal among those of a run.
 ///
-/// No ask is lost and no node crashes; the recoverer of ballot i, counted from 1, begins at turn 100 i of its thread.
-/// Want of memory, of a thread or of a node is `Memory`, and then nothing is written.
+/// Asks are lost or repeated, and cells and logs crash, as the storm of the words draws it: at strength 0 nothing of it
+/// happens, and workloads hand out numbered batches, else drawn ones. The recoverer of ballot i, counted from 1, begins
+/// at turn 100 i of its thread. Want of memory, of a thread or of a node is `Memory`, and then nothing is written.
 pub fn run_cluster<R: Threads + Wait + Sync, W: Write>(
     rt: &R,
     alloc: Global,
@@ -54,7 +55,8 @@ pub fn run_cluster_on<R: Threads + Wait + Sync, K: Rack + Sync + Drop, W: Write>
     ensures unwritten { result ≡ Err CliFault.Memory → writer.new ≡ writer.old }
 {
     let mut calls = CallCounts::new();
-    cluster_counted(rt, alloc, options, rack, &NoFaults, &mut calls, writer)
+    let storm = storm_of(options);
+    cluster_counted(rt, alloc, options, rack, &storm, &mut calls, writer)
 }
 
 /// As [`run_cluster_on`], where asks are lost or repeated, nodes crash and recoverers begin as the faults say, with the
@@ -93,7 +95,7 @@ pub fn cluster_counted<
     Ok(status)
 }
 
-/// What came of a cluster: its report, or the fault of its audit.
+/// What came of a cluster: its report, or the fault of its audit. In a storm its workloads draw their batches.
 fn run<R: Threads + Wait + Sync, K: Rack + Sync + Drop, F: Faults + Sync>(
     rt: &R,
     alloc: Global,
@@ -106,9 +108,35 @@ fn run<R: Threads + Wait + Sync, K: Rack + Sync + Drop, F: Faults + Sync>(
         IsGood (F.begun faults.now) words.now report.journals.items report.world.turns)) }
     ensures fault { IfOk result (λ ran. IfErr ran (IsBad (F.begun faults.now) words.now)) }
 {
+    if words.storm == 0 {
+        let works = works(alloc, words)?;
+        return run_works(rt, alloc, words, rack, works, faults);
+    }
+    let works = drawn_works(alloc, words)?;
+    run_works(rt, alloc, words, rack, works, faults)
+}
+
+/// What came of a cluster with these workloads.
+fn run_works<
+    R: Threads + Wait + Sync,
+    K: Rack + Sync + Drop,
+    W: Workload + Send + Drop,
+    F: Faults + Sync,
+>(
+    rt: &R,
+    alloc: Global,
+    words: &ClusterWords,
+    rack: K,
+    works: Vec<W>,
+    faults: &F,
+) -> Result<Result<Report, AuditFault>, Memory>
+    requires within { IsWithin words.now }
+    ensures run { IfOk result (λ ran. IfOk ran (λ report.
+        IsGood (F.begun faults.now) words.now report.journals.items report.world.turns)) }
+    ensures fault { IfOk result (λ ran. IfErr ran (IsBad (F.begun faults.now) words.now)) }
+{
     let config = config(alloc, words)?;
     let ballots = ballots(alloc, words.recoveries)?;
-    let works = works(alloc, words)?;
     match Cluster::run(
         rt,
         alloc,

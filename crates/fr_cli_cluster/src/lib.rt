@@ -11,5 +11,7 @@ mod setting;
 pub use cluster::{cluster_counted, run_cluster, run_cluster_on};
 pub use fr_runtime::{PlainRack, Rack};
 pub use fr_runtime_station::{Faults, NoFaults};
+pub use fr_runtime_storm::Storm;
 pub use options::{ClusterOptions, ClusterWords, DEFAULTS};
 pub use progress::{Progress, Watcher};
+pub use setting::storm_of;

@@ -23,6 +23,10 @@ pub struct ClusterWords {
     pub recoveries: u8,
     /// After how many turns each thread ends, 1 to 1,000,000.
     pub turns: u32,
+    /// How many of 256 asks and of 256 draws of a crash are a fault, 0 to 256.
+    pub storm: u16,
+    /// From what faults, and the batches of a storm, are drawn.
+    pub seed: u64,
     /// Whether the script of the audit is printed where it finds a run.
     pub journal: bool,
 }
@@ -37,6 +41,8 @@ pub const DEFAULTS: ClusterWords = ClusterWords {
     batches: 20,
     recoveries: 1,
     turns: 10_000,
+    storm: 0,
+    seed: 1,
     journal: false,
 };
 
@@ -65,7 +71,7 @@ impl ClusterOptions {
         ensures within { IsSome result ↔ IsWithin words }
         ensures value { IfSome result (λ o. o ≡ words) }
     {
-        if has_nodes(&words) && has_clients(&words) && has_time(&words) {
+        if has_nodes(&words) && has_clients(&words) && has_time(&words) && words.storm <= 256 {
             Some(ClusterOptions { words })
         } else {
             None

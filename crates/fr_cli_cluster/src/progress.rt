@@ -6,6 +6,7 @@ use fr_ask::Ask;
 use fr_base::{Ballot, NodeId, Tag};
 use fr_log::LogAsk;
 use fr_runtime_station::{Faults, NoFaults, Verdict};
+use fr_runtime_storm::Storm;
 use std::io::Eprint;
 use std::sync::atomic::{AtomicU64, Ordering};
 
@@ -19,6 +20,10 @@ pub trait Watcher: Faults {
 }
 
 impl Watcher for NoFaults {
+    fn end(&self) {}
+}
+
+impl Watcher for Storm {
     fn end(&self) {}
 }
 

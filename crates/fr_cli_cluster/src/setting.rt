@@ -1,12 +1,13 @@
 //! What a cluster starts from, its ballots and its workloads.
-ghost use Rattle.std.specs.Prelude.{◌≡◌, ◌≤◌, ◌<◌, ◌∷◌, [], length, IfOk, IfErr};
+ghost use Rattle.std.specs.Prelude.{◌≡◌, ◌≤◌, ◌<◌, ◌∷◌, [], length, map, IfOk, IfErr};
 ghost use Rattle.fr_cli_cluster.specs.Options.{IsWithin};
-ghost use Rattle.fr_cli_cluster.specs.Setting.{ballots_of, begins_of, config_of};
+ghost use Rattle.fr_cli_cluster.specs.Setting.{ballots_of, begins_of, config_of, drawn_by, draws_of};
 
-use crate::options::ClusterWords;
+use crate::options::{ClusterOptions, ClusterWords};
 use fr_base::{Ballot, Bytes, Memory, Shape};
 use fr_run_event::Config;
 use fr_runtime::Orders;
+use fr_runtime_storm::{DrawnOrders, Draws, Storm};
 use std::alloc::Global;
 
 /// What the nodes of a cluster start from.
@@ -56,13 +57,39 @@ pub(crate) fn ballots(alloc: Global, recoveries: u8) -> Result<Vec<(Ballot, Opti
     Ok(all)
 }
 
-/// A workload for each proxy.
+/// The faults of a cluster, of which there are none in a storm of strength 0.
+pub fn storm_of(options: ClusterOptions) -> Storm
+    ensures draws { result.draws ≡ draws_of options }
+{
+    let words = options.words();
+    Storm::new(Draws {
+        seed: words.seed,
+        strength: words.storm,
+        coordinators: words.coordinators,
+        logs: words.logs,
+    })
+}
+
+/// A workload for each proxy, of numbered batches.
 pub(crate) fn works(alloc: Global, words: &ClusterWords) -> Result<Vec<Orders>, Memory>
     ensures { IfOk result (λ works. length works.items ≡ words.now.proxies) }
 {
     let mut all = Vec::new(alloc);
     for number in 0..words.proxies {
         all.push(Orders::new(alloc, number, words.storages, words.batches))?;
+    }
+    Ok(all)
+}
+
+/// A workload for each proxy, of batches that are drawn from the storm's seed and the proxy's number.
+pub(crate) fn drawn_works(alloc: Global, words: &ClusterWords) -> Result<Vec<DrawnOrders>, Memory>
+    requires within { IsWithin words.now }
+    ensures drawn { IfOk result (λ works. map (λ work. (work.seed, work.shards)) works.items
+        ≡ drawn_by words.now.seed words.now.storages words.now.proxies) }
+{
+    let mut all = Vec::new(alloc);
+    for number in 0..words.proxies {
+        all.push(DrawnOrders::new(alloc, words.seed, number, words.storages, words.batches))?;
     }
     Ok(all)
 }

@@ -197,6 +197,16 @@ fn a_hundred_recoveries_are_chosen(rt: HostRuntime) -> Result<(), Fail> {
     }
     let tag = Tag::new(0).ok_or("a tag")?;
     let goes = Goes { alloc, tag };
-    assert!(rt; holds_on(&rt, alloc, ONE_TAG, ballots.as_slice(), PlainRack, &chain, &goes)?);
+    assert!(rt;
+        holds_on(
+            &rt,
+            alloc,
+            ONE_TAG,
+            ballots.as_slice(),
+            PlainRack,
+            &chain,
+            &goes
+        )?
+    );
     Ok(())
 }

@@ -54,6 +54,8 @@ const GREATEST: ClusterWords = ClusterWords {
     batches: 3,
     recoveries: 2,
     turns: 120,
+    storm: 0,
+    seed: 1,
     journal: false,
 };
 
@@ -113,7 +115,7 @@ fn what_is_printed_is_read_back_and_is_a_run(rt: HostRuntime) -> Result<(), Fail
     Ok(())
 }
 
-const OTHERS: [ClusterWords; 4] = [
+const OTHERS: [ClusterWords; 5] = [
     ClusterWords {
         coordinators: 4,
         ..DEFAULTS
@@ -128,6 +130,10 @@ const OTHERS: [ClusterWords; 4] = [
     },
     ClusterWords {
         turns: 0,
+        ..DEFAULTS
+    },
+    ClusterWords {
+        storm: 257,
         ..DEFAULTS
     },
 ];

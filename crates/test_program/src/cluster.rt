@@ -14,11 +14,13 @@ const MOST: ClusterWords = ClusterWords {
     batches: 1_000_000,
     recoveries: 100,
     turns: 1_000_000,
+    storm: 256,
+    seed: u64::MAX,
     journal: true,
 };
 
 /// Lines with the kind of store and the numbers that they choose.
-const CLUSTERS: [(&str, StoreKind, ClusterWords); 5] = [
+const CLUSTERS: [(&str, StoreKind, ClusterWords); 6] = [
     ("fdbrec cluster", StoreKind::Map, DEFAULTS),
     (
         "fdbrec cluster --turns=10000 --proxies 2",
@@ -26,9 +28,14 @@ const CLUSTERS: [(&str, StoreKind, ClusterWords); 5] = [
         DEFAULTS,
     ),
     (
-        "fdbrec cluster --journal --turns=1000000 --recoveries=100 --batches=1000000 --proxies=16 --storages=32 --degree=16 --logs=16 --coordinators=9",
+        "fdbrec cluster --journal --storm=256 --seed=18446744073709551615 --turns=1000000 --recoveries=100 --batches=1000000 --proxies=16 --storages=32 --degree=16 --logs=16 --coordinators=9",
         StoreKind::Map,
         MOST,
+    ),
+    (
+        "fdbrec cluster --storm=0 --seed=1",
+        StoreKind::Map,
+        DEFAULTS,
     ),
     ("fdbrec cluster --store=map", StoreKind::Map, DEFAULTS),
     ("fdbrec cluster --store sql", StoreKind::Sql, DEFAULTS),
@@ -57,7 +64,7 @@ pub(crate) fn first_cluster(alloc: Global) -> Result<Option<&'static str>, Alloc
     Ok(None)
 }
 
-const REFUSED: [(&str, ErrorKind); 21] = [
+const REFUSED: [(&str, ErrorKind); 24] = [
     (
         "fdbrec cluster --coordinators=2",
         ErrorKind::ValueValidation,
@@ -87,8 +94,14 @@ const REFUSED: [(&str, ErrorKind); 21] = [
     ("fdbrec cluster --turns=1000001", ErrorKind::ValueValidation),
     ("fdbrec cluster --turns=0x10", ErrorKind::ValueValidation),
     ("fdbrec cluster --turns=-1", ErrorKind::ValueValidation),
-    ("fdbrec cluster --storm=0", ErrorKind::UnknownArgument),
-    ("fdbrec cluster --seed=1", ErrorKind::UnknownArgument),
+    ("fdbrec cluster --storm=257", ErrorKind::ValueValidation),
+    ("fdbrec cluster --storm=-1", ErrorKind::ValueValidation),
+    (
+        "fdbrec cluster --seed=18446744073709551616",
+        ErrorKind::ValueValidation,
+    ),
+    ("fdbrec cluster --seed=-1", ErrorKind::ValueValidation),
+    ("fdbrec cluster --seed=0x10", ErrorKind::ValueValidation),
     ("fdbrec cluster --store=tree", ErrorKind::InvalidValue),
     ("fdbrec cluster more", ErrorKind::UnknownArgument),
 ];

@@ -65,7 +65,7 @@ fn ends<H: Threads + Wait + Sync>(rt: &H, alloc: Global, row: Row) -> Result<boo
     )
 }
 
-const ROWS: [Row; 16] = [
+const ROWS: [Row; 18] = [
     Row {
         line: "fdbrec apply",
         input: "{\"ops\":[{\"advance\":{\"version\":4}}]}",
@@ -158,6 +158,20 @@ const ROWS: [Row; 16] = [
         writes: "audit ok\n",
     },
     Row {
+        line: "fdbrec cluster --turns 300 --recoveries 2 --storm 32 --seed 7",
+        input: "",
+        how: How::Done,
+        status: 0,
+        writes: "audit ok\n",
+    },
+    Row {
+        line: "fdbrec cluster --turns 300 --recoveries 2 --storm 32 --seed 8 --store sql",
+        input: "",
+        how: How::Done,
+        status: 0,
+        writes: "audit ok\n",
+    },
+    Row {
         line: "fdbrec cluster --logs=2 --degree=3",
         input: "",
         how: How::BadWords,
@@ -194,7 +208,7 @@ pub(crate) fn first_wrong<H: Threads + Wait + Sync>(
 }
 
 /// Lines that ask for help, with what they show.
-const SHOWN: [(&str, &str); 29] = [
+const SHOWN: [(&str, &str); 31] = [
     ("fdbrec --version", "fdbrec 0.1.0 (rattle logic "),
     ("fdbrec apply --help", "undo"),
     ("fdbrec apply --help", "forget"),
@@ -220,6 +234,8 @@ const SHOWN: [(&str, &str); 29] = [
     ("fdbrec simulate --help", "chosen pev P rv R"),
     ("fdbrec cluster --help", "--coordinators"),
     ("fdbrec cluster --help", "--recoveries"),
+    ("fdbrec cluster --help", "--storm"),
+    ("fdbrec cluster --help", "--seed"),
     ("fdbrec cluster --help", "--journal"),
     ("fdbrec cluster --help", "--store"),
     ("fdbrec cluster --help", "[default: 10000]"),

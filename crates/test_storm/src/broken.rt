@@ -1,0 +1,144 @@
+//! Clusters in a storm whose stores fail once, each at a call that writes.
+use fr_audit_journal::{Act, Entry};
+use fr_base::{Ballot, Bytes, InMemory, LogId, NodeFault, NodeId, Shape, Tag};
+use fr_log::Log;
+use fr_register::Cell;
+use fr_run_event::Config;
+use fr_runtime::{Cluster, Rack, Report};
+use fr_runtime_storm::{DrawnOrders, Draws, Storm};
+use fr_undo::StoreFault;
+use std::alloc::Global;
+use std::sync::Wait;
+use std::test::Fail;
+use std::thread::Threads;
+use test_store_failing::FailsOnce;
+
+/// All in memory, with stores whose device fails in one call. A storage server makes no call of its store but those that
+/// write, until its turns are over, and the first of them sets the state with which it starts: so the device fails in
+/// the call of this number after that one, which is done or not.
+#[derive(Clone, Copy)]
+struct BreakingRack {
+    call: u32,
+    is_done: bool,
+}
+
+impl Rack for BreakingRack {
+    type Cell = InMemory<Cell>;
+
+    type Log = InMemory<Log>;
+
+    type Store = FailsOnce;
+
+    fn cell(&self, alloc: Global, _index: u8) -> Result<InMemory<Cell>, NodeFault> {
+        Ok(InMemory::new(Cell::new(alloc)))
+    }
+
+    fn log(&self, alloc: Global, id: LogId, m: u8, k: u8) -> Result<InMemory<Log>, NodeFault> {
+        Ok(InMemory::new(Log::new(alloc, id, m, k)))
+    }
+
+    fn store(&self, alloc: Global, _tag: Tag) -> Result<FailsOnce, StoreFault> {
+        Ok(FailsOnce::new(alloc, self.call, self.is_done))
+    }
+}
+
+/// Three coordinators, four logs with each tag on two, one storage server and two proxies.
+fn config(alloc: Global) -> Result<Config, Fail> {
+    let mut begins = Vec::new(alloc);
+    begins.push(Bytes::empty(alloc))?;
+    Ok(Config::new(3, 4, 2, begins, 2)?)
+}
+
+fn works(alloc: Global, seed: u64) -> Result<Vec<DrawnOrders>, Fail> {
+    let mut works = Vec::new(alloc);
+    works.push(DrawnOrders::new(alloc, seed, 0, 1, 40))?;
+    works.push(DrawnOrders::new(alloc, seed, 1, 1, 40))?;
+    Ok(works)
+}
+
+fn ballots() -> Result<[(Ballot, Option<Shape>); 2], Fail> {
+    let first = Ballot::new(513).ok_or("a ballot")?;
+    let second = Ballot::new(769).ok_or("a ballot")?;
+    Ok([(first, None), (second, None)])
+}
+
+/// How many hears are entered in part.
+fn parts(entries: &[Entry]) -> usize {
+    let mut parts = 0_usize;
+    for entry in entries {
+        if let Act::Heard { taken: Some(_), .. } = &entry.act {
+            parts = parts.wrapping_add(1);
+        }
+    }
+    parts
+}
+
+/// How many hears of a server the report has in part.
+fn parts_of(report: &Report, server: NodeId) -> usize {
+    for journal in report.journals.iter() {
+        if journal.node() == server {
+            return parts(journal.entries());
+        }
+    }
+    0
+}
+
+/// How many hears a cluster over a rack enters in part, in a storm of this seed.
+fn broken_off<R: Threads + Wait + Sync>(
+    rt: &R,
+    alloc: Global,
+    rack: BreakingRack,
+    seed: u64,
+) -> Result<usize, Fail> {
+    let storm = Storm::new(Draws {
+        seed,
+        strength: 32,
+        coordinators: 3,
+        logs: 4,
+    });
+    let server = NodeId::Storage {
+        tag: Tag::new(0).ok_or("a tag")?,
+    };
+    let (config, works, ballots) = (config(alloc)?, works(alloc, seed)?, ballots()?);
+    let (report, _works) = Cluster::run(rt, alloc, config, &ballots, 300, rack, works, &storm)?;
+    Ok(parts_of(&report, server))
+}
+
+/// Whether each of these calls may fail, done or not: the run is one all the same, with one hear in part at most. How
+/// many have one is answered.
+fn broken_at<R: Threads + Wait + Sync>(
+    rt: &R,
+    alloc: Global,
+    from: u32,
+    is_done: bool,
+) -> Result<Option<usize>, Fail> {
+    let mut all = 0_usize;
+    for call in from..from.saturating_add(20) {
+        let rack = BreakingRack { call, is_done };
+        let parts = broken_off(rt, alloc, rack, u64::from(call))?;
+        if parts > 1 {
+            return Ok(None);
+        }
+        all = all.wrapping_add(parts);
+    }
+    Ok(Some(all))
+}
+
+/// Of 20 runs in which the call that fails is not done ten and more enter a hear in part.
+fn is_many(parts: Option<usize>) -> bool {
+    matches!(parts, Some(parts) if parts >= 10)
+}
+
+#[test]
+fn a_store_that_fails_early_takes_part_in_a_run(rt: HostRuntime) -> Result<(), Fail> {
+    assert!(rt; is_many(broken_at(&rt, rt.alloc(), 1, false)?));
+    assert!(rt; broken_at(&rt, rt.alloc(), 1, true)?.is_some());
+    Ok(())
+}
+
+#[test]
+fn a_store_that_fails_later_takes_part_in_a_run(rt: HostRuntime) -> Result<(), Fail> {
+    assert!(rt; is_many(broken_at(&rt, rt.alloc(), 21, false)?));
+    assert!(rt; broken_at(&rt, rt.alloc(), 21, true)?.is_some());
+    Ok(())
+}
