@@ -43,6 +43,40 @@ def run(words, script, path, number, cwd=None):
     return Ended(ran.returncode, ran.stdout, complained, int(found[1]) if found else None)
 
 
+LINE = re.compile(rb"(\d+) (\d+) ([01]) (\d+) (\d+) ([0-9a-f]{16}) (new|known)\n")
+
+
+def copied(words, script, path, start, step, cwd=None):
+    """Runs whose allocations of the numbers start, start + step and so on are refused, each in a copy that a program of
+    one thread makes of itself there: each number with how its run ended. None where the program does not end well."""
+    with tempfile.TemporaryDirectory() as folder:
+        names = [os.path.join(folder, name) for name in ("in", "out", "err", "found")]
+        with open(names[0], "wb") as file:
+            file.write(script)
+        given = {**os.environ, "LD_PRELOAD": path, "REFUSE": str(start), "REFUSE_STEP": str(step), "REFUSE_TO": names[3]}
+        with open(names[0], "rb") as said, open(names[1], "wb") as out, open(names[2], "wb") as err:
+            subprocess.run(words, env=given, stdin=said, stdout=out, stderr=err, check=False, cwd=cwd)
+        with open(names[2], "rb") as file:
+            if not COUNT.search(file.read()):
+                return None
+        with open(names[3], "rb") as file:
+            return list(found_in(file.read()))
+
+
+def found_in(text):
+    """The lines of a file of refuse.c, each with what its copy wrote."""
+    at, known = 0, {}
+    while at < len(text):
+        line = LINE.match(text, at)
+        number, status, has_ended, out, err = (int(it) for it in line.groups()[:5])
+        at = line.end()
+        if line[7] == b"new":
+            known[line[6]] = text[at : at + out], text[at + out : at + out + err]
+            at += out + err
+        said, complained = known[line[6]]
+        yield number, Ended(os.waitstatus_to_exitcode(status), said, complained, 0 if has_ended else None)
+
+
 def each(numbers, jobs, does):
     """What a function makes of each number, so many at a time, in their order."""
     with concurrent.futures.ThreadPoolExecutor(jobs) as pool:
