@@ -1,2 +1,3 @@
+mod Bad
 mod Drawn
 mod Shards

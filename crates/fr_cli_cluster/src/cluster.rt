@@ -1,5 +1,5 @@
 //! The command `cluster`.
-ghost use Rattle.std.specs.Prelude.{◌≡◌, ◌+◌, ◌*◌, ◌/◌, ◌==◌, ℕ, List, Err, IfErr, IfOk, OnOk};
+ghost use Rattle.std.specs.Prelude.{◌≡◌, ◌≢◌, ◌+◌, ◌*◌, ◌/◌, ◌==◌, ℕ, List, Err, IfErr, IfOk, OnOk};
 ghost use Rattle.std.specs.Io.KnownBytes.{Appends};
 ghost use Rattle.fr_cli_json.specs.Calls.{no_calls, HasNotFailed, IsWriteFault};
 ghost use Rattle.fr_cli_cluster.specs.Options.{IsWithin};
@@ -148,11 +148,20 @@ fn run_works<
         faults,
     ) {
         Ok((report, _)) => Ok(Ok(report)),
-        Err(RunFault::Audit(AuditFault::Memory)) => Err(Memory),
-        Err(RunFault::Audit(fault)) => Ok(Err(fault)),
-        Err(RunFault::Memory) => Err(Memory),
-        Err(RunFault::Thread) => Err(Memory),
-        Err(RunFault::Rack) => Err(Memory),
+        Err(fault) => Ok(Err(audit_fault(fault)?)),
+    }
+}
+
+/// The fault that the audit of a run found. Want of a thread or of a node is want of memory to who runs a cluster.
+fn audit_fault(fault: RunFault) -> Result<AuditFault, Memory>
+    ensures { IfOk result (λ found. (fault ≡ RunFault.Audit found) × (found ≢ AuditFault.Memory)) }
+{
+    match fault {
+        RunFault::Audit(AuditFault::Memory) => Err(Memory),
+        RunFault::Audit(found) => Ok(found),
+        RunFault::Memory => Err(Memory),
+        RunFault::Thread => Err(Memory),
+        RunFault::Rack => Err(Memory),
     }
 }
 
