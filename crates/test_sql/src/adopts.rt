@@ -45,17 +45,16 @@ fn adopted(alloc: Global, store: SqlStore<MemStore>) -> Result<Option<Place>, Fa
     }
 }
 
-fn adopts(rt: &impl Abort, alloc: Global, row: usize) -> Result<(), Fail> {
-    let (bytes, wanted) = ROWS[row];
+fn adopts(rt: &impl Abort, alloc: Global, bytes: &[u8], wanted: Option<Place>) -> Result<(), Fail> {
     let store = kept(alloc, bytes)?;
-    assert_eq!(rt; adopted(alloc, store)?, wanted, "in row {row}");
+    assert_eq!(rt; adopted(alloc, store)?, wanted, "of {bytes:?}");
     Ok(())
 }
 
 #[test]
 fn a_store_that_keeps_a_state_is_adopted(rt: HostRuntime) -> Result<(), Fail> {
-    for row in 0..ROWS.len() {
-        adopts(&rt, rt.alloc(), row)?;
+    for (bytes, wanted) in ROWS {
+        adopts(&rt, rt.alloc(), bytes, wanted)?;
     }
     Ok(())
 }
