@@ -147,9 +147,14 @@ servers that pull, and recoverers. Each workload, storage server and recoverer h
 turns in it: in a turn a workload hands out a batch, where it has none open, and its proxy sends each
 ask whose tell it wants once; a storage server asks one log for its records and one for the mark of
 the newest epoch, and has one of its own epoch let go of what it has for good; a recoverer sends each
-ask whose tell it wants once. Recovery I, counted from 1, begins at turn 100 I of its thread. No ask
+ask whose tell it wants once. Recovery I, counted from 1, begins at turn 100 I of its thread, or never
+where that is above the number of turns; one that begins while another is not done may end it. No ask
 is lost and no node crashes. Batch J of workload W sets one key, of two bytes, 8 (J mod the number of
 storage servers) and W, to J, as four bytes.
+
+With --store sql coordinators and logs keep what they have in record files, each on a device in memory
+with room for 16 MiB, and the storage servers their rows in the tables of databases in memory. It
+prints the same.
 
 Each node keeps a journal of what it did. Once all threads are at their end the journals are audited,
 as by the command audit, and one line is printed:
@@ -163,5 +168,6 @@ Where the words say nothing, 3 coordinators, 4 logs, each tag on 2 of them, 2 st
 proxies run, each workload has 20 batches, and one recovery begins. Which thread comes when, and with
 it what the journals say, differs from run to run.
 
-Statuses: 0 a run; 1 a fault of the journals; 2 bad words; 3 out of memory, or no node could be made;
-4 output failed. It reads no input.";
+Statuses: 0 a run; 1 a fault of the journals; 2 bad words; 3 out of memory, or a thread, a node or a
+store could not be made, or one failed; 4 output failed. It reads no input, and takes memory for each
+turn.";

@@ -4,6 +4,7 @@
 #![tactic(auto)]
 
 mod apply;
+mod cluster;
 mod help;
 mod program;
 mod words;
@@ -12,6 +13,7 @@ pub use fr_cli_apply::{ApplyOptions, run_apply, run_apply_on};
 pub use fr_cli_apply_sql::run_apply_sql;
 pub use fr_cli_audit::run_audit;
 pub use fr_cli_cluster::{ClusterOptions, ClusterWords, DEFAULTS, run_cluster};
+pub use fr_cli_cluster_sql::run_cluster_sql;
 pub use fr_cli_end::{EndOptions, run_end};
 pub use fr_cli_json::CliFault;
 pub use fr_cli_simulate::run_simulate;

@@ -1,10 +1,10 @@
 //! The program over its words, a reader and a writer.
 use crate::apply::apply_to;
+use crate::cluster::cluster_on;
 use crate::words::{Request, read_words};
 use fr_cli_audit::run_audit;
-use fr_cli_cluster::{ClusterOptions, Progress, cluster_counted, run_cluster};
 use fr_cli_end::run_end;
-use fr_cli_json::{CallCounts, CliFault};
+use fr_cli_json::CliFault;
 use fr_cli_simulate::run_simulate;
 use fr_cli_words::{Ending, show};
 use std::alloc::Global;
@@ -46,24 +46,6 @@ fn run<H: Threads + Wait + Sync, E: Eprint + Sync, R: Read, W: Write>(
         Request::End(options) => run_end(alloc, options, reader, writer),
         Request::Simulate => run_simulate(alloc, reader, writer),
         Request::Audit => run_audit(alloc, reader, writer),
-        Request::Cluster(options) => match terminal {
-            Some(terminal) => run_shown(rt, terminal, alloc, options, writer),
-            None => run_cluster(rt, alloc, options, writer),
-        },
+        Request::Cluster(kind, options) => cluster_on(kind, rt, terminal, alloc, options, writer),
     }
-}
-
-/// Runs a cluster, and says on a terminal how far it has come.
-fn run_shown<H: Threads + Wait + Sync, E: Eprint + Sync, W: Write>(
-    rt: &H,
-    terminal: &E,
-    alloc: Global,
-    options: ClusterOptions,
-    writer: &mut W,
-) -> Result<u8, CliFault> {
-    let progress = Progress::new(terminal, options);
-    let mut calls = CallCounts::new();
-    let ended = cluster_counted(rt, alloc, options, &progress, &mut calls, writer);
-    progress.end();
-    ended
 }

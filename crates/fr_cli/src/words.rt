@@ -4,7 +4,7 @@ use clap::error::{Error, ErrorKind};
 use clap::{Arg, ArgAction, ArgMatches, Command, value_parser};
 use fr_cli_cluster::{ClusterOptions, ClusterWords, DEFAULTS};
 use fr_cli_end::EndOptions;
-use fr_cli_words::{StoreKind, apply_command, program_command, read_store};
+use fr_cli_words::{StoreKind, apply_command, of_kind, program_command, read_store};
 use std::alloc::Global;
 
 /// What the words ask for.
@@ -18,8 +18,8 @@ pub enum Request {
     Simulate,
     /// The audit of a script's journals.
     Audit,
-    /// A cluster in threads, and the audit of its journals.
-    Cluster(ClusterOptions),
+    /// A cluster in threads, whose stores are of this kind, and the audit of its journals.
+    Cluster(StoreKind, ClusterOptions),
 }
 
 /// Reads the words, the first of which is the program's name. An error is a request for help or a
@@ -74,12 +74,12 @@ fn read_cluster(alloc: Global, matches: &ArgMatches<'_>) -> Result<Request, Erro
         journal: matches.get_flag("journal"),
     };
     if let Some(options) = ClusterOptions::new(words) {
-        return Ok(Request::Cluster(options));
+        return Ok(Request::Cluster(read_store(matches), options));
     }
     let message = if words.coordinators % 2 == 0 {
-        "the value of '--coordinators <N>' is even"
+        "the value of '--coordinators <N>' is even: it can be 1, 3, 5, 7 or 9"
     } else {
-        "the value of '--degree <K>' is above that of '--logs <M>'"
+        "the value of '--degree <N>' is above that of '--logs <N>'"
     };
     Err(command(alloc)?.error(ErrorKind::ValueValidation, message)?)
 }
@@ -145,6 +145,9 @@ fn cluster_command<'a>(alloc: Global) -> Result<Command<'a>, Error> {
         .long("journal")
         .help("Prints the script of the audit in place of 'audit ok'")
         .action(ArgAction::SetTrue);
+    let store = Arg::new(alloc, "store").long("store").help(
+        "What nodes and stores keep what they have in: maps, or files and tables, in memory",
+    );
     let cluster = Command::new(alloc, "cluster")
         .about("Runs a cluster in threads, and audits what its nodes did")
         .after_help(CLUSTER_HELP)
@@ -210,6 +213,7 @@ fn cluster_command<'a>(alloc: Global) -> Result<Command<'a>, Error> {
             "10000",
             1,
         ))?
+        .arg(of_kind(store))?
         .arg(journal)?;
     Ok(cluster)
 }

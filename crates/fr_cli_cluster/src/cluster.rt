@@ -6,12 +6,13 @@ ghost use Rattle.fr_cli_cluster.specs.Options.{IsWithin};
 ghost use Rattle.fr_cli_cluster.specs.Report.{IsBad, IsGood, IsReport};
 
 use crate::options::{ClusterOptions, ClusterWords};
+use crate::progress::Watcher;
 use crate::report::{put_fault, put_run};
 use crate::setting::{ballots, config, works};
 use fr_audit::AuditFault;
 use fr_base::Memory;
 use fr_cli_json::{CallCounts, CliFault};
-use fr_runtime::{Cluster, PlainRack, Report, RunFault};
+use fr_runtime::{Cluster, PlainRack, Rack, Report, RunFault};
 use fr_runtime_station::{Faults, NoFaults};
 use std::alloc::Global;
 use std::io::Write;
@@ -35,17 +36,40 @@ pub fn run_cluster<R: Threads + Wait + Sync, W: Write>(
         × Appends (W.contents writer.old) (W.contents writer.new) text) }
     ensures unwritten { result ≡ Err CliFault.Memory → writer.new ≡ writer.old }
 {
-    let mut calls = CallCounts::new();
-    cluster_counted(rt, alloc, options, &NoFaults, &mut calls, writer)
+    run_cluster_on(rt, alloc, options, PlainRack, writer)
 }
 
-/// As [`run_cluster`], where asks are lost or repeated, nodes crash and recoverers begin as the faults say, with the
-/// calls of the writer counted in `calls`, which has none yet: `Output` is answered only where a write or a flush
-/// failed, and what is answered else is `Memory`.
-pub fn cluster_counted<R: Threads + Wait + Sync, F: Faults + Sync, W: Write>(
+/// As [`run_cluster`], over the nodes and stores of a rack. A node or a store that could not be made, or that failed and
+/// could not be opened again, is `Memory`.
+pub fn run_cluster_on<R: Threads + Wait + Sync, K: Rack + Sync + Drop, W: Write>(
     rt: &R,
     alloc: Global,
     options: ClusterOptions,
+    rack: K,
+    writer: &mut W,
+) -> Result<u8, CliFault>
+    ensures report { IfOk result (λ status. (text : List ℕ)
+        × IsReport (λ ballot turn. turn + 100 == 100 * (ballot / 256)) options status text
+        × Appends (W.contents writer.old) (W.contents writer.new) text) }
+    ensures unwritten { result ≡ Err CliFault.Memory → writer.new ≡ writer.old }
+{
+    let mut calls = CallCounts::new();
+    cluster_counted(rt, alloc, options, rack, &NoFaults, &mut calls, writer)
+}
+
+/// As [`run_cluster_on`], where asks are lost or repeated, nodes crash and recoverers begin as the faults say, with the
+/// calls of the writer counted in `calls`, which has none yet: `Output` is answered only where a write or a flush
+/// failed, and what is answered else is `Memory`. The faults are told when the run is over, before anything is written.
+pub fn cluster_counted<
+    R: Threads + Wait + Sync,
+    K: Rack + Sync + Drop,
+    F: Watcher + Sync,
+    W: Write,
+>(
+    rt: &R,
+    alloc: Global,
+    options: ClusterOptions,
+    rack: K,
     faults: &F,
     calls: &mut CallCounts,
     writer: &mut W,
@@ -59,7 +83,9 @@ pub fn cluster_counted<R: Threads + Wait + Sync, F: Faults + Sync, W: Write>(
     ensures done { OnOk result (HasNotFailed calls.new) }
 {
     let words = options.words();
-    let Ok(ran) = run(rt, alloc, &words, faults) else {
+    let ran = run(rt, alloc, &words, rack, faults);
+    faults.end();
+    let Ok(ran) = ran else {
         return Err(CliFault::Memory);
     };
     let status = put_report(alloc, &words, faults, ran, calls, writer)?;
@@ -68,10 +94,11 @@ pub fn cluster_counted<R: Threads + Wait + Sync, F: Faults + Sync, W: Write>(
 }
 
 /// What came of a cluster: its report, or the fault of its audit.
-fn run<R: Threads + Wait + Sync, F: Faults + Sync>(
+fn run<R: Threads + Wait + Sync, K: Rack + Sync + Drop, F: Faults + Sync>(
     rt: &R,
     alloc: Global,
     words: &ClusterWords,
+    rack: K,
     faults: &F,
 ) -> Result<Result<Report, AuditFault>, Memory>
     requires within { IsWithin words.now }
@@ -88,7 +115,7 @@ fn run<R: Threads + Wait + Sync, F: Faults + Sync>(
         config,
         ballots.as_slice(),
         words.turns,
-        PlainRack,
+        rack,
         works,
         faults,
     ) {

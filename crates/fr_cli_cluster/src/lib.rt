@@ -8,6 +8,8 @@ mod progress;
 mod report;
 mod setting;
 
-pub use cluster::{cluster_counted, run_cluster};
+pub use cluster::{cluster_counted, run_cluster, run_cluster_on};
+pub use fr_runtime::{PlainRack, Rack};
+pub use fr_runtime_station::{Faults, NoFaults};
 pub use options::{ClusterOptions, ClusterWords, DEFAULTS};
-pub use progress::Progress;
+pub use progress::{Progress, Watcher};

@@ -3,7 +3,7 @@ ghost use Rattle.std.specs.Prelude.{◌≡◌};
 
 use crate::options::ClusterOptions;
 use fr_ask::Ask;
-use fr_base::{Ballot, NodeId};
+use fr_base::{Ballot, NodeId, Tag};
 use fr_log::LogAsk;
 use fr_runtime_station::{Faults, NoFaults, Verdict};
 use std::io::Eprint;
@@ -12,23 +12,36 @@ use std::sync::atomic::{AtomicU64, Ordering};
 /// After how many turns of storage servers the line is written again.
 const TURNS_A_LINE: u64 = 512;
 
-/// No faults, and a line that is written over and over while asks are sent: the turns of the storage servers, the
-/// greatest version that a proxy said to be committed, and the greatest epoch whose logs are asked.
+/// Faults that are told when a run is over.
+pub trait Watcher: Faults {
+    /// The audit has spoken. Nothing of the report is written yet.
+    fn end(&self);
+}
+
+impl Watcher for NoFaults {
+    fn end(&self) {}
+}
+
+/// The faults of another, and a line that is written over and over while threads run: the turns that the storage servers
+/// took, the greatest version that a proxy said to be committed, and the greatest epoch whose logs are asked. It says
+/// when the journals are audited, and ends before the report is written.
 #[derive(Drop)]
-pub struct Progress<'a, E> {
+pub struct Progress<'a, E, F> {
     to: &'a E,
+    faults: &'a F,
     all: u64,
     turns: AtomicU64,
     known: AtomicU64,
     epoch: AtomicU64,
 }
 
-impl<'a, E: Eprint> Progress<'a, E> {
+impl<'a, E: Eprint, F> Progress<'a, E, F> {
     /// Nothing is written yet.
-    pub fn new(to: &'a E, options: ClusterOptions) -> Self {
+    pub fn new(to: &'a E, faults: &'a F, options: ClusterOptions) -> Self {
         let words = options.words();
         Progress {
             to,
+            faults,
             all: u64::from(words.storages) * u64::from(words.turns),
             turns: AtomicU64::new(0),
             known: AtomicU64::new(0),
@@ -38,26 +51,26 @@ impl<'a, E: Eprint> Progress<'a, E> {
 
     /// A storage server took a turn.
     fn count_turn(&self) {
-        let turn = self.turns.fetch_add(1, Ordering::SeqCst);
-        if turn % TURNS_A_LINE == 0 {
-            self.show(turn);
+        let before = self.turns.fetch_add(1, Ordering::SeqCst);
+        if before % TURNS_A_LINE == 0 {
+            self.show(before.saturating_add(1), " ");
         }
     }
 
     /// Writes the line. That it cannot be written stops nothing.
-    fn show(&self, turn: u64) {
+    fn show(&self, turn: u64, rest: &str) {
         let all = self.all;
         let known = self.known.load(Ordering::SeqCst);
         let epoch = self.epoch.load(Ordering::SeqCst);
         let _ = eprint!(self.to;
-            "\rturn {turn} of {all}, epoch {epoch}, committed through {known} "
+            "\rturn {turn} of {all}, epoch {epoch}, committed through {known}{rest}"
         );
     }
+}
 
-    /// Ends the line.
-    pub fn end(&self) {
-        let turns = self.turns.load(Ordering::SeqCst);
-        self.show(turns);
+impl<E: Eprint, F: Faults> Watcher for Progress<'_, E, F> {
+    fn end(&self) {
+        self.show(self.turns.load(Ordering::SeqCst), ", audited  ");
         let _ = eprintln!(self.to; "");
     }
 }
@@ -69,32 +82,38 @@ fn raise(number: &AtomicU64, to: u64) {
     }
 }
 
-impl<E: Eprint> Faults for Progress<'_, E> {
-    ghost use Rattle.std.specs.Prelude.{◌+◌, ◌*◌, ◌/◌, ◌==◌};
-
-    ghost begun = { λ p ballot turn. turn + 100 == 100 * (ballot / 256) };
+impl<E: Eprint, F: Faults> Faults for Progress<'_, E, F> {
+    ghost begun = { λ p. F.begun p.faults.now };
 
     fn verdict(&self, to: NodeId, ask: &Ask) -> Verdict {
         if let NodeId::Log { epoch, .. } = to {
             raise(&self.epoch, epoch.get());
         }
-        match ask {
-            Ask::Log(LogAsk::Push(push)) => raise(&self.known, push.known().get()),
-            Ask::Log(LogAsk::MarkAsked { .. }) => self.count_turn(),
-            _ => {}
+        if let Ask::Log(LogAsk::Push(push)) = ask {
+            raise(&self.known, push.known().get());
         }
-        NoFaults.verdict(to, ask)
+        self.faults.verdict(to, ask)
     }
 
     fn answered(&self, to: NodeId, ask: &Ask) {
-        NoFaults.answered(to, ask);
+        self.faults.answered(to, ask);
     }
 
     fn crash(&self, turn: u32) -> Option<NodeId> {
-        NoFaults.crash(turn)
+        self.faults.crash(turn)
     }
 
     fn begins(&self, ballot: Ballot, turn: u32) -> bool {
-        NoFaults.begins(ballot, turn)
+        self.faults.begins(ballot, turn)
+    }
+
+    fn pulled(&self, tag: Tag, turn: u32) {
+        self.count_turn();
+        self.faults.pulled(tag, turn);
+    }
+
+    fn audits(&self) {
+        self.show(self.turns.load(Ordering::SeqCst), ", auditing ");
+        self.faults.audits();
     }
 }

@@ -1,4 +1,4 @@
-//! The words of the command `apply`.
+//! The words of the command `apply`, and the word for a kind of store.
 use clap::error::Error;
 use clap::{Arg, ArgAction, ArgMatches, Command};
 use std::alloc::Global;
@@ -19,19 +19,23 @@ static STORES: [&str; 2] = ["map", "sql"];
 pub fn apply_command<'a>(alloc: Global) -> Result<Command<'a>, Error> {
     let store = Arg::new(alloc, "store")
         .long("store")
-        .help("What the store keeps its rows in")
-        .value_name("KIND")
-        .value_parser(STORES.as_slice())
-        .default_value("map")
-        .action(ArgAction::Set);
+        .help("What the store keeps its rows in");
     let apply = Command::new(alloc, "apply")
         .about("Runs store operations on an empty store")
         .after_help(APPLY_HELP)
-        .arg(store)?;
+        .arg(of_kind(store))?;
     Ok(apply)
 }
 
-/// Reads the kind of store from the words of `apply`: a map where none is named. Other names were refused.
+/// A word that takes a kind of store, and is a map where it is not there.
+pub fn of_kind<'a>(word: Arg<'a>) -> Arg<'a> {
+    word.value_name("KIND")
+        .value_parser(STORES.as_slice())
+        .default_value("map")
+        .action(ArgAction::Set)
+}
+
+/// Reads the kind of store from the word `store` of a command: a map where none is named. Other names were refused.
 pub fn read_store(matches: &ArgMatches<'_>) -> StoreKind {
     match matches.get_str("store") {
         Some("sql") => StoreKind::Sql,

@@ -4,5 +4,5 @@
 mod apply;
 mod program;
 
-pub use apply::{StoreKind, apply_command, read_store};
+pub use apply::{StoreKind, apply_command, of_kind, read_store};
 pub use program::{BAD_WORDS, Ending, own_words, program_command, show};

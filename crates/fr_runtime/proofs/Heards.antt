@@ -2,13 +2,14 @@
 use Rattle.std.proofs.Common.{arith, refl, sym, ap, subst, inl, inr, ◌⊎◌, ◌∙◌}
 use Rattle.std.proofs.lemmas.Bool.Decides.{nat_tests}
 use Rattle.std.proofs.lemmas.List.{append-nil, append_assoc}
-use Rattle.std.specs.Prelude.{◌≡◌, ◌≤◌, ◌<◌, ◌+◌, ◌==◌, ◌&&◌, ◌++◌, ◌∷◌, ℕ, suc, Bool, true, false, List, [], Option, Result, Ok, IfOk, length, slice_index_or, if◌then◌else◌}
+use Rattle.std.specs.Prelude.{◌≡◌, ◌≤◌, ◌<◌, ◌+◌, ◌==◌, ◌&&◌, ◌++◌, ◌∷◌, ℕ, suc, Bool, true, false, List, [], Option, Result, Ok, IfOk, if◌then◌else◌}
 use Rattle.std.specs.Global.{Vec}
 use Rattle.fr_base.specs.Shape.{ShapeContent}
 use Rattle.fr_base.specs.declared.place.NodeId.{NodeId}
 use Rattle.fr_base.specs.declared.place.NodeId.TheVariants.{Cell, Log, Sequencer, Proxy, Recoverer, Storage}
 use Rattle.fr_proxy.specs.declared.outcome.Outcome.{Outcome}
 use Rattle.fr_audit_journal.specs.Journal.{JournalState}
+use Rattle.fr_runtime_spawn.specs.Sworn.{AllDone}
 use Rattle.fr_runtime_station.specs.Answering.{all_answer, answers}
 use Rattle.fr_runtime_threads.specs.declared.order.Order.{Order}
 use Rattle.fr_runtime_threads.specs.Account.{all_given, all_outcomes, are_proxies, is_proxy, left_over, waiting_for}
@@ -233,18 +234,12 @@ module _ {W T : Type 0} (given : W → List Order) (heard : W → List Outcome) 
   begun-run ws bs ts ds shared js j did = subst (λ (l : List JournalState). AllBegin begun turns l bs) (sym j) (run-begun ws 0 bs ts ds shared did)
 
   -- each did its job, where the results of all threads say so and none is a fault
-  pub all-did : {F : Type 0} (js : List (Job W T)) (ds : List (Done W)) → length ds ≡ length js
-      → ((i : ℕ) (j : Job W T) (r : Result (Done W) F) → i < length js → IfOk (slice_index_or (oks ds) i r) (Did given heard begun turns (slice_index_or js i j)))
-      → AllDid given heard begun turns js ds
-  all-did [] [] len all = tt
-  all-did [] (d ∷ ds) len all = absurd (omega (arith, len))
-  all-did (j ∷ js) [] len all = absurd (omega (arith, len))
-  all-did (j ∷ js) (d ∷ ds) len all = (all 0 j (Ok d) (omega arith), all-did js ds (omega (arith, len)) (λ i k r low. all (suc i) k r (omega (arith, low))))
+  pub all-did : {F : Type 0} (js : List (Job W T)) (ds : List (Done W)) → AllDone (λ (j : Job W T) (r : Result (Done W) F). IfOk r (Did given heard begun turns j)) js (oks ds) → AllDid given heard begun turns js ds
+  all-did [] [] all = tt
+  all-did [] (d ∷ ds) all = absurd cc
+  all-did (j ∷ js) [] all = absurd cc
+  all-did (j ∷ js) (d ∷ ds) all = (all.0, all-did js ds all.1)
 
 pub oks-append : {X F : Type 0} (xs : List X) (x : X) → oks {X = X} {F = F} (xs ++ x ∷ []) ≡ oks xs ++ Ok x ∷ []
 oks-append [] x = refl
 oks-append {F = F} (y ∷ ys) x = ap (λ (l : List (Result _ F)). Ok y ∷ l) (oks-append ys x)
-
-pub oks-length : (F : Type 0) {X : Type 0} (xs : List X) → length (oks {X = X} {F = F} xs) ≡ length xs
-oks-length F [] = refl
-oks-length F (x ∷ xs) = ap suc (oks-length F xs)

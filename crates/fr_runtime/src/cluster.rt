@@ -83,6 +83,7 @@ impl Cluster {
             Ok(all) => all,
             Err(unfinished) => return Err(unfinished.fault()),
         };
+        faults.audits();
         match audited_report(alloc, config, journals, told) {
             Ok(report) => Ok((report, works)),
             Err(fault) => Err(RunFault::Audit(fault)),

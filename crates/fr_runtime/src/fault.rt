@@ -4,6 +4,7 @@ ghost use Rattle.fr_runtime.specs.Fault.{is_audit};
 
 use fr_audit::AuditFault;
 use fr_base::{Memory as NoMemory, NodeFault};
+use fr_runtime_spawn::SpawnFault;
 use fr_runtime_threads::TurnFault;
 use fr_storage::StorageFault;
 use fr_undo::StoreFault;
@@ -18,8 +19,8 @@ pub enum RunFault {
     /// There is no memory.
     #[error("out of memory")]
     Memory,
-    /// A thread could not be made.
-    #[error("no thread could be made")]
+    /// A thread could not be made, and none took a turn.
+    #[error("a thread could not be made")]
     Thread,
     /// A node or a store could not be made, or failed.
     #[error("a node or a store failed")]
@@ -31,6 +32,8 @@ pub enum RunFault {
 pub(crate) enum Unfinished {
     /// There is no memory.
     Memory,
+    /// A thread could not be made.
+    Thread,
     /// A node or a store could not be made, or failed.
     Rack,
 }
@@ -42,6 +45,7 @@ impl Unfinished {
     {
         match self {
             Unfinished::Memory => RunFault::Memory,
+            Unfinished::Thread => RunFault::Thread,
             Unfinished::Rack => RunFault::Rack,
         }
     }
@@ -50,6 +54,15 @@ impl Unfinished {
 impl From<NoMemory> for Unfinished {
     fn from(_: NoMemory) -> Unfinished {
         Unfinished::Memory
+    }
+}
+
+impl From<SpawnFault> for Unfinished {
+    fn from(fault: SpawnFault) -> Unfinished {
+        match fault {
+            SpawnFault::Memory => Unfinished::Memory,
+            SpawnFault::Thread => Unfinished::Thread,
+        }
     }
 }
 

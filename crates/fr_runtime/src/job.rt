@@ -1,6 +1,7 @@
 //! What the threads of a cluster do.
-ghost use Rattle.std.specs.Prelude.{◌≡◌, ◌++◌, ◌∷◌, [], ◌<◌, ℕ, IfOk, OnOk, length, slice_index_or};
+ghost use Rattle.std.specs.Prelude.{◌≡◌, ◌++◌, ◌∷◌, [], IfOk, OnOk};
 ghost use Rattle.fr_runtime.specs.declared.job.Job.TheVariants as job_of;
+ghost use Rattle.fr_runtime_spawn.specs.Sworn.{AllDone};
 ghost use Rattle.fr_runtime.specs.Job.{AllDid, Did, DidServe, oks, pull_jobs, recover_jobs, serve_jobs};
 
 use crate::fault::Unfinished;
@@ -10,6 +11,7 @@ use fr_base::{Ballot, Memory, Node, Shape};
 use fr_log::Log;
 use fr_proxy::Outcome;
 use fr_register::Cell;
+use fr_runtime_spawn::{SpawnFault, Worker, work_each};
 use fr_runtime_station::Faults;
 use fr_runtime_threads::{
     Order, Rack, Served, Site, TurnFault, Workload, crash, pull, recover, serve,
@@ -18,7 +20,7 @@ use fr_storage::Storage;
 use fr_undo::ShardStore;
 use std::alloc::Global;
 use std::sync::Wait;
-use std::thread::{Threads, map_vec};
+use std::thread::Threads;
 
 /// What one thread does.
 #[derive(Drop)]
@@ -170,7 +172,28 @@ fn work_at<K: Rack, F: Faults, R: Wait, S: ShardStore + Drop, W: Workload + Drop
     }
 }
 
-/// Runs the threads to their ends: what each hands back, in their order.
+/// What each thread is lent, and for how many turns.
+#[derive(Drop)]
+struct Turns<'a, K: Rack, F, R> {
+    site: Site<'a, K, F, R>,
+    turns: u32,
+}
+
+impl<K: Rack, S: ShardStore + Drop, W: Workload + Drop, F: Faults, R: Wait> Worker<
+    Job<W, Storage<S>>,
+    Result<Done<W>, TurnFault>,
+> for Turns<'_, K, F, R> {
+    ghost use Rattle.std.specs.Prelude.{IfOk};
+    ghost use Rattle.fr_runtime.specs.Job.{Did};
+
+    ghost Did = { λ t job done. IfOk done (Did W.given W.heard (F.begun t.site.faults.now) t.turns job) };
+
+    fn work(&self, job: Job<W, Storage<S>>) -> Result<Done<W>, TurnFault> {
+        work_at(&self.site, self.turns, job)
+    }
+}
+
+/// Runs the threads to their ends: what each hands back, in their order. None begins before all are there.
 fn run_jobs<
     C: Node<Plain = Cell> + Send + Drop,
     L: Node<Plain = Log> + Send + Drop,
@@ -183,28 +206,22 @@ fn run_jobs<
     site: &Site<'_, K, F, R>,
     turns: u32,
     jobs: Vec<Job<W, Storage<S>>>,
-) -> Result<Vec<Result<Done<W>, TurnFault>>, Memory>
-    ensures len { IfOk result (λ done. length done.items ≡ length jobs.items) }
-    ensures did { IfOk result (λ done. (i : ℕ) (j : _) (d : _) → i < length jobs.items
-        → IfOk (slice_index_or done.items i d) (Did W.given W.heard (F.begun site.now.faults.now) turns
-        (slice_index_or jobs.items i j))) }
+) -> Result<Vec<Result<Done<W>, TurnFault>>, SpawnFault>
+    ensures { IfOk result (λ all. AllDone (λ job ran. IfOk ran (Did W.given W.heard (F.begun site.now.faults.now) turns job))
+        jobs.items all.items) }
 {
-    let (rt, alloc, config) = (site.rt, site.alloc, site.config);
-    let (directory, rack, faults) = (site.directory, site.rack, site.faults);
-    let one = move |job: Job<W, Storage<S>>| -> Result<Done<W>, TurnFault>
-        ensures { IfOk result (λ done. Did W.given W.heard (F.begun faults.entry.now) turns job done) }
-    {
-        let site = Site {
-            rt,
-            alloc,
-            config,
-            directory,
-            rack,
-            faults,
-        };
-        work_at(&site, turns, job)
+    let each = Turns {
+        site: Site {
+            rt: site.rt,
+            alloc: site.alloc,
+            config: site.config,
+            directory: site.directory,
+            rack: site.rack,
+            faults: site.faults,
+        },
+        turns,
     };
-    Ok(map_vec(site.rt, jobs, &one)?)
+    work_each(site.rt, site.alloc, &each, jobs)
 }
 
 /// What threads handed back, where none has a fault.

@@ -2,7 +2,7 @@
 ghost use Rattle.std.specs.Prelude.{◌≡◌};
 
 use fr_ask::Ask;
-use fr_base::{Ballot, NodeId};
+use fr_base::{Ballot, NodeId, Tag};
 
 /// What befalls an ask on its way.
 #[derive(Clone, Copy, Debug, PartialEq, Eq)]
@@ -36,6 +36,12 @@ pub trait Faults {
     /// Whether the recoverer of this ballot, if it did not begin before, begins at this turn of its thread.
     fn begins(&self, ballot: Ballot, turn: u32) -> bool
         ensures { result ≡ begun self.now ballot turn };
+
+    /// The storage server of a tag has taken this turn of its thread.
+    fn pulled(&self, _tag: Tag, _turn: u32) {}
+
+    /// All threads have come to their ends, and the journals of the nodes are audited from now on.
+    fn audits(&self) {}
 }
 
 /// No ask is lost and no node crashes. The recoverer of a ballot whose round is r begins at turn 100 (r - 1): that of

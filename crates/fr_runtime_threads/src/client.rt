@@ -18,6 +18,7 @@ use fr_state::Generation;
 use std::alloc::Global;
 use std::snapshot::Snapshot;
 use std::sync::Wait;
+use std::thread::yield_now;
 
 /// A workload at its proxies: the present one, the journals of the earlier ones, a batch that none has taken yet, and
 /// what the workload was told.
@@ -145,7 +146,7 @@ impl<W: Workload + Drop> Client<W> {
     }
 
     /// One turn: a batch is handed out where none is open, and each pending ask is sent once. False where there is no
-    /// further batch.
+    /// further batch. A turn at which the proxy says nothing of a batch lets other threads go first.
     fn turn<K: Rack, F: Faults, R: Wait>(
         &mut self,
         site: &Site<'_, K, F, R>,
@@ -159,7 +160,11 @@ impl<W: Workload + Drop> Client<W> {
             }
         }
         send_all(site, &mut self.door)?;
+        let is_told = matches!(self.door.under_way(), UnderWay::Said(_));
         self.settle()?;
+        if !is_told {
+            yield_now();
+        }
         Ok(true)
     }
 

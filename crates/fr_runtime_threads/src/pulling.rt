@@ -1,16 +1,21 @@
 //! The thread of a storage server: it pulls what its logs hold, and hears of later epochs.
-ghost use Rattle.std.specs.Prelude.{◌≡◌, ◌==◌, ◌+◌, ◌%◌, find, IfOk};
+ghost use Rattle.std.specs.Prelude.{◌≡◌, ◌≤◌, ◌==◌, ◌+◌, ◌%◌, ◌++◌, ◌∷◌, [], false, find, IfOk, None, Ok, OnOk};
+ghost use Rattle.fr_audit_journal.specs.Journal.{IsAbove};
+ghost use Rattle.fr_audit_journal.specs.declared.act.Act.{Act};
 ghost use Rattle.fr_base.specs.declared.place.NodeId.{NodeId};
+ghost use Rattle.fr_runtime_threads.specs.Told.{IsTold};
+ghost use Rattle.fr_storage.specs.Server.{storage_of};
 
 use crate::fault::{TurnFault, fault_of};
 use crate::notes::Notes;
 use crate::sending::{Hearer, send};
 use crate::site::Site;
-use fr_ask::{Ask, Tell};
+use fr_ask::{Ask, Last, Tell};
 use fr_audit_journal::{Act, Journal};
-use fr_base::{Epoch, NodeId, Stamp, Tag};
+use fr_base::{Epoch, NodeId, Stamp, Tag, Version};
 use fr_log::{LogAsk, LogTell};
 use fr_run_event::last_of_storage;
+use fr_runtime_hears::{take_marked, take_peeked};
 use fr_runtime_rack::Rack;
 use fr_runtime_station::{Faults, first_stamp};
 use fr_state::Generation;
@@ -18,6 +23,7 @@ use fr_storage::{Storage, StorageFault};
 use fr_undo::ShardStore;
 use std::alloc::Global;
 use std::sync::Wait;
+use std::thread::yield_now;
 
 /// A storage server and its journal.
 #[derive(Drop)]
@@ -56,46 +62,88 @@ impl<S: ShardStore> Hearer for Puller<S> {
         let Some(stamp) = self.notes.next()? else {
             return Ok(());
         };
+        let _taken = self.take_in(alloc, stamp, from, tell)?;
+        Ok(())
+    }
+}
+
+impl<S: ShardStore> Puller<S> {
+    /// Tells the storage server what a node told it, and enters as much of that as it took: all of it, or the part at
+    /// whose version it broke off, where a call of its store failed.
+    fn take_in(
+        &mut self,
+        alloc: Global,
+        stamp: Stamp,
+        from: NodeId,
+        tell: Tell,
+    ) -> Result<Option<Version>, TurnFault>
+        requires room { 1 ≤ self.old.notes.journal.room }
+        requires above { IsAbove self.old.notes.journal.entries stamp }
+        ensures node { self.new.notes.journal.node ≡ self.old.notes.journal.node }
+        ensures entered { IfOk result (λ taken. self.new.notes.journal.entries
+            ≡ self.old.notes.journal.entries ++ record { stamp = stamp; act = Act.Heard from tell taken None } ∷ []) }
+        ensures told { self.old.storage.failed ≡ false → IfOk result (λ taken. IsTold (storage_of S.state self.old.storage) from tell taken
+            (storage_of S.state self.new.storage)) }
+        ensures works { self.old.storage.failed ≡ false → OnOk result (self.new.storage.failed ≡ false) }
+    {
         let sender = from;
-        tell_storage(alloc, &mut self.storage, &sender, &tell)?;
+        let taken = tell_storage(alloc, &mut self.storage, &sender, &tell)?;
+        let answer = taken;
         self.notes.enter(
             stamp,
             Act::Heard {
                 from,
                 tell,
-                taken: None,
+                taken,
                 outcome: None,
             },
         );
-        Ok(())
+        Ok(answer)
     }
 }
 
-/// Tells a storage server what a node told it. What it refuses changes nothing; a fault of its store is answered.
+/// Tells a storage server what a node told it: at which version the hear broke off, where a call of its store failed in
+/// it and a part of it is missing. What it refuses changes nothing. A store that cannot be opened again is a fault.
 fn tell_storage<S: ShardStore>(
     alloc: Global,
     storage: &mut Storage<S>,
     from: &NodeId,
     tell: &Tell,
-) -> Result<(), TurnFault> {
+) -> Result<Option<Version>, TurnFault>
+    ensures tag { storage.new.tag ≡ storage.old.tag }
+    ensures told { storage.old.failed ≡ false → IfOk result (λ taken. IsTold (storage_of S.state storage.old) from.now tell.now taken
+        (storage_of S.state storage.new)) }
+    ensures works { storage.old.failed ≡ false → OnOk result (storage.new.failed ≡ false) }
+{
     match (from, tell) {
         (NodeId::Log { epoch, .. }, Tell::Log(LogTell::Peeked(peeked))) => {
-            refused(storage.hear_peeked(alloc, *epoch, peeked))
+            unless_fault(take_peeked(alloc, storage, *epoch, peeked))
         }
         (NodeId::Log { .. }, Tell::Log(LogTell::Marked { state })) => {
-            let state = state.copy()?;
-            refused(storage.hear_marked(alloc, state))
+            unless_fault(take_marked(alloc, storage, state))
         }
-        _ => Ok(()),
+        _ => Ok(None),
     }
 }
 
-/// A refusal of what was heard is no fault of the store.
-fn refused(heard: Result<(), StorageFault>) -> Result<(), TurnFault> {
-    match heard {
+/// What a storage server answers, where it is not a fault of its store.
+fn unless_fault<T>(answer: Result<T, StorageFault>) -> Result<T, TurnFault>
+    ensures { IfOk result (λ value. answer ≡ Ok value) }
+{
+    match answer {
+        Ok(value) => Ok(value),
         Err(StorageFault::Store(fault)) => Err(fault_of(fault)),
-        _ => Ok(()),
+        Err(_) => Err(TurnFault::Store),
     }
+}
+
+/// What a storage server says of itself when its turns are over. A store that fails at this is opened again, once.
+fn last_said<S: ShardStore>(alloc: Global, storage: &mut Storage<S>) -> Result<Last, TurnFault> {
+    if let Ok(last) = last_of_storage(alloc, storage) {
+        return Ok(last);
+    }
+    unless_fault(storage.reopen(alloc))?;
+    unless_fault(last_of_storage(alloc, storage))
 }
 
 /// The generation of an epoch among these.
@@ -128,7 +176,7 @@ fn log_at(generation: Generation, turn: u32) -> NodeId
 }
 
 /// One turn: it pulls from a holder of its tag, asks a log of the newest epoch for its mark, and has a holder of its own
-/// epoch let go of what it has for good.
+/// epoch let go of what it has for good. A turn that brings nothing lets other threads go first.
 fn pull_once<K: Rack, F: Faults, R: Wait, S: ShardStore>(
     site: &Site<'_, K, F, R>,
     puller: &mut Puller<S>,
@@ -136,6 +184,7 @@ fn pull_once<K: Rack, F: Faults, R: Wait, S: ShardStore>(
 ) -> Result<(), TurnFault>
     ensures node { puller.new.notes.journal.node ≡ puller.old.notes.journal.node }
 {
+    let before = puller.storage.position();
     let (epoch, ask) = puller.storage.next_ask();
     let tag = puller.storage.tag();
     if let Some(source) = of_epoch(puller.storage.state().gens(), epoch) {
@@ -155,7 +204,12 @@ fn pull_once<K: Rack, F: Faults, R: Wait, S: ShardStore>(
         through: puller.storage.floor(),
     };
     let to = holder_at(own, tag, turn);
-    send(site, puller, &to, &Ask::Log(ask))
+    send(site, puller, &to, &Ask::Log(ask))?;
+    if puller.storage.position() == before {
+        yield_now();
+    }
+    site.faults.pulled(tag, turn);
+    Ok(())
 }
 
 /// The turns of a storage server, and its journal.
@@ -176,9 +230,6 @@ pub fn pull<K: Rack, F: Faults, R: Wait, S: ShardStore + Drop>(
     }
     let Puller { storage, notes } = puller;
     let mut storage = storage;
-    match last_of_storage(site.alloc, &mut storage) {
-        Ok(last) => Ok(notes.close(last)),
-        Err(StorageFault::Store(fault)) => Err(fault_of(fault)),
-        Err(_) => Err(TurnFault::Store),
-    }
+    let last = last_said(site.alloc, &mut storage)?;
+    Ok(notes.close(last))
 }

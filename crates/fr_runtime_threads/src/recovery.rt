@@ -20,6 +20,7 @@ use fr_runtime_station::{Chosen, Faults, Station, first_stamp};
 use fr_state::Generation;
 use std::alloc::Global;
 use std::sync::Wait;
+use std::thread::yield_now;
 
 /// A recoverer, the shape of the generation that it is to open, where it was given one, and its journal.
 #[derive(Drop)]
@@ -205,7 +206,8 @@ fn is_done(alloc: Global, recovery: &Recovery) -> Result<bool, Memory> {
     }
 }
 
-/// The first of so many turns at which the recoverer of a ballot begins, if there is one.
+/// The first of so many turns at which the recoverer of a ballot begins, if there is one. Each turn at which it does not
+/// lets other threads go first.
 fn first_turn<F: Faults>(faults: &F, ballot: Ballot, turns: u32) -> Option<u32>
     ensures { IfNone result ((before : ℕ) → before < turns → F.begun faults.now ballot (before + 1) ≡ false) }
 {
@@ -213,6 +215,7 @@ fn first_turn<F: Faults>(faults: &F, ballot: Ballot, turns: u32) -> Option<u32>
         if faults.begins(ballot, before + 1) {
             return Some(before + 1);
         }
+        yield_now();
     }
     None
 }

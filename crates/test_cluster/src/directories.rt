@@ -2,7 +2,6 @@
 ghost use Rattle.std.specs.Prelude.{◌≡◌, true};
 ghost use Rattle.fr_runtime_station.specs.Answering.{answers};
 
-use crate::scene::epoch;
 use fr_ask::Ask;
 use fr_base::{Epoch, InMemory, LogId, NodeId, Stamp, Tag, Version};
 use fr_log::{Log, LogAsk, Most};
@@ -15,6 +14,7 @@ use std::alloc::Global;
 use std::process::Abort;
 use std::sync::Wait;
 use std::test::Fail;
+use test_cluster_scene::epoch;
 
 /// A directory in memory.
 type Plain = Directory<InMemory<Cell>, InMemory<Log>>;

@@ -1,7 +1,6 @@
 //! A cell that fails while threads run, and is opened again at the end.
 ghost use Rattle.std.specs.Prelude.{◌≡◌};
 
-use crate::scene::{DEFAULTS, Numbers, Question, alike, ballot, entries_of, holds_on};
 use fr_ask::Ask;
 use fr_audit_journal::{Act, Entry};
 use fr_base::{InMemory, LogId, Node, NodeFault, NodeId, Reopened, Tag};
@@ -13,6 +12,7 @@ use fr_undo::{MapStore, StoreFault};
 use std::alloc::Global;
 use std::sync::atomic::{AtomicU64, Ordering};
 use std::test::Fail;
+use test_cluster_scene::{DEFAULTS, Numbers, Question, alike, ballot, entries_of, holds_on};
 
 /// A cell in memory which, where it is frail, fails at each write of ballot 513, that leaves nothing.
 #[derive(Drop)]

@@ -3,18 +3,19 @@ use fr_audit::audit;
 use fr_audit_journal::Journal;
 use fr_audit_script::{read_script, write_script};
 use fr_cli_cluster::{
-    ClusterOptions, ClusterWords, DEFAULTS, Progress, cluster_counted, run_cluster,
+    ClusterOptions, ClusterWords, DEFAULTS, NoFaults, PlainRack, Progress, cluster_counted,
+    run_cluster,
 };
 use fr_cli_json::CallCounts;
 use fr_run_event::Config;
 use std::alloc::Global;
-use std::fmt::Display;
-use std::io;
-use std::io::Eprint;
+use std::fmt::{Display, Write as _};
+use std::io::{Eprint, Write};
 use std::sync::Wait;
 use std::sync::atomic::{AtomicU64, Ordering};
 use std::test::Fail;
 use std::thread::Threads;
+use std::{fmt, io};
 
 /// Runs the command, and whether it ends well.
 fn runs<R: Threads + Wait + Sync>(
@@ -138,16 +139,60 @@ fn other_numbers_are_no_options(rt: HostRuntime) {
     }
 }
 
-/// A terminal that counts what is written on it.
+/// A terminal that counts what is written on it, and in how much of that these words stand.
 #[derive(Drop)]
 struct Counted {
     writes: AtomicU64,
+    auditing: AtomicU64,
+    audited: AtomicU64,
+}
+
+/// What is sought in a text that is written piece by piece.
+#[derive(Drop)]
+struct Sought {
+    is_auditing: bool,
+    is_audited: bool,
+}
+
+impl fmt::Write for Sought {
+    fn write_str(&mut self, text: &str) -> fmt::Result {
+        self.is_auditing = self.is_auditing || text.contains("auditing");
+        self.is_audited = self.is_audited || text.contains("audited");
+        Ok(())
+    }
+}
+
+impl Counted {
+    fn new() -> Self {
+        Counted {
+            writes: AtomicU64::new(0),
+            auditing: AtomicU64::new(0),
+            audited: AtomicU64::new(0),
+        }
+    }
+
+    /// How often something was written, and in how much of that it was auditing, and had audited.
+    fn counts(&self) -> (u64, u64, u64) {
+        let writes = self.writes.load(Ordering::SeqCst);
+        let auditing = self.auditing.load(Ordering::SeqCst);
+        (writes, auditing, self.audited.load(Ordering::SeqCst))
+    }
 }
 
 impl Eprint for Counted {
     fn eprint<D: Display + Drop>(&self, value: D) -> io::Result<()> {
-        drop(value);
+        let mut sought = Sought {
+            is_auditing: false,
+            is_audited: false,
+        };
+        let _ = write!(sought, "{value}");
         let _before = self.writes.fetch_add(1, Ordering::SeqCst);
+        let _before = self
+            .auditing
+            .fetch_add(u64::from(sought.is_auditing), Ordering::SeqCst);
+        let _before = self
+            .audited
+            .fetch_add(u64::from(sought.is_audited), Ordering::SeqCst);
         Ok(())
     }
 
@@ -156,17 +201,53 @@ impl Eprint for Counted {
     }
 }
 
-/// Runs the command with this terminal, and whether it ends well and prints that its audit does.
+/// A writer that knows what its terminal was told before anything of the report was written.
+#[derive(Drop)]
+struct Watching<'a> {
+    terminal: &'a Counted,
+    first: Option<(u64, u64, u64)>,
+}
+
+impl Write for Watching<'_> {
+    fn write(&mut self, bytes: &[u8]) -> io::Result<usize> {
+        if self.first.is_none() {
+            self.first = Some(self.terminal.counts());
+        }
+        Ok(bytes.len())
+    }
+
+    fn flush(&mut self) -> io::Result<()> {
+        Ok(())
+    }
+}
+
+/// Runs the command with this terminal: what it was told before the report was written.
 fn is_told<R: Threads + Wait + Sync>(
     rt: &R,
     alloc: Global,
     options: ClusterOptions,
-    progress: &Progress<Counted>,
-) -> Result<bool, Fail> {
+    terminal: &Counted,
+) -> Result<Option<(u64, u64, u64)>, Fail> {
     let mut calls = CallCounts::new();
-    let mut writer = Vec::new(alloc);
-    let status = cluster_counted(rt, alloc, options, progress, &mut calls, &mut writer)?;
-    Ok(status == 0 && writer.as_slice() == b"audit ok\n".as_slice())
+    let mut writer = Watching {
+        terminal,
+        first: None,
+    };
+    let progress = Progress::new(terminal, &NoFaults, options);
+    let status = cluster_counted(
+        rt,
+        alloc,
+        options,
+        PlainRack,
+        &progress,
+        &mut calls,
+        &mut writer,
+    )?;
+    if status == 0 {
+        Ok(writer.first)
+    } else {
+        Ok(None)
+    }
 }
 
 const LONG: ClusterWords = ClusterWords {
@@ -174,16 +255,14 @@ const LONG: ClusterWords = ClusterWords {
     ..DEFAULTS
 };
 
+/// The line is written at the first of 2000 turns and at each 512th after that, when the audit begins and when it has
+/// ended, and then the line ends: all before the report.
 #[test]
 fn a_terminal_is_told_how_far_it_has_come(rt: HostRuntime) -> Result<(), Fail> {
     let options = ClusterOptions::new(LONG).ok_or("options")?;
-    let terminal = Counted {
-        writes: AtomicU64::new(0),
-    };
-    let progress = Progress::new(&terminal, options);
-    assert!(rt; is_told(&rt, rt.alloc(), options, &progress)?);
-    assert_eq!(rt; terminal.writes.load(Ordering::SeqCst), 4);
-    progress.end();
-    assert_eq!(rt; terminal.writes.load(Ordering::SeqCst), 6);
+    let terminal = Counted::new();
+    let told = is_told(&rt, rt.alloc(), options, &terminal)?;
+    assert!(rt; told == Some((7, 1, 1)));
+    assert!(rt; terminal.counts() == (7, 1, 1));
     Ok(())
 }

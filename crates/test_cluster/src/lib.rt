@@ -1,33 +1,26 @@
-//! Tests of running clusters, and the racks and the faults that they run with.
+//! Tests of running clusters in memory.
 #![tactic(auto)]
 
-#[cfg(test)]
-mod defaults;
 #[cfg(test)]
 mod directories;
 #[cfg(test)]
 mod failing;
 #[cfg(test)]
+<<<<<<< HEAD
 mod faulty;
 #[cfg(test)]
 mod flag;
 #[cfg(test)]
 mod hundred;
 #[cfg(test)]
+=======
+>>>>>>> a97092d7 (Draft: clusters over files and tables, hears that are entered in part, threads that are refused)
 mod journals;
 #[cfg(test)]
-mod meeting;
+mod orders;
 #[cfg(test)]
 mod refusing;
 #[cfg(test)]
-mod rolled_back;
-#[cfg(test)]
-mod scene;
-#[cfg(test)]
-mod scripted;
-#[cfg(test)]
-mod shaped;
+mod runs;
 #[cfg(test)]
 mod shapes;
-#[cfg(test)]
-mod watched;

@@ -1,5 +1,4 @@
 //! Racks that do not give all that is asked of them, and what else a run has no report for.
-use crate::scene::{DEFAULTS, Numbers, alike, ballot, epoch, fault_of};
 use fr_audit::AuditFault;
 use fr_base::{Ballot, InMemory, LogId, NodeFault, NodeId, Tag};
 use fr_log::Log;
@@ -11,6 +10,7 @@ use std::alloc::Global;
 use std::sync::Wait;
 use std::test::Fail;
 use std::thread::Threads;
+use test_cluster_scene::{DEFAULTS, Numbers, alike, ballot, epoch, fault_of};
 
 /// What a rack refuses, and why.
 #[derive(Clone, Copy)]

@@ -1,7 +1,7 @@
 //! The words of the command `cluster`.
 use crate::words::{chooses, is_refused};
 use clap::error::ErrorKind;
-use fr_cli::{ClusterOptions, ClusterWords, DEFAULTS, Request};
+use fr_cli::{ClusterOptions, ClusterWords, DEFAULTS, Request, StoreKind};
 use std::alloc::{AllocError, Global};
 
 /// The greatest number of each word.
@@ -17,28 +17,40 @@ const MOST: ClusterWords = ClusterWords {
     journal: true,
 };
 
-/// Lines with the numbers that they choose.
-const CLUSTERS: [(&str, ClusterWords); 3] = [
-    ("fdbrec cluster", DEFAULTS),
-    ("fdbrec cluster --turns=10000 --proxies 2", DEFAULTS),
+/// Lines with the kind of store and the numbers that they choose.
+const CLUSTERS: [(&str, StoreKind, ClusterWords); 5] = [
+    ("fdbrec cluster", StoreKind::Map, DEFAULTS),
+    (
+        "fdbrec cluster --turns=10000 --proxies 2",
+        StoreKind::Map,
+        DEFAULTS,
+    ),
     (
         "fdbrec cluster --journal --turns=1000000 --recoveries=100 --batches=1000000 --proxies=16 --storages=32 --degree=16 --logs=16 --coordinators=9",
+        StoreKind::Map,
         MOST,
     ),
+    ("fdbrec cluster --store=map", StoreKind::Map, DEFAULTS),
+    ("fdbrec cluster --store sql", StoreKind::Sql, DEFAULTS),
 ];
 
-/// Whether a line chooses a cluster of these numbers.
-fn chooses_cluster(alloc: Global, line: &str, words: ClusterWords) -> Result<bool, AllocError> {
+/// Whether a line chooses a cluster of these numbers, on this kind of store.
+fn chooses_cluster(
+    alloc: Global,
+    line: &str,
+    kind: StoreKind,
+    words: ClusterWords,
+) -> Result<bool, AllocError> {
     match ClusterOptions::new(words) {
-        Some(options) => chooses(alloc, line, &Request::Cluster(options)),
+        Some(options) => chooses(alloc, line, &Request::Cluster(kind, options)),
         None => Ok(false),
     }
 }
 
 /// The first line, if there is one, that does not choose its cluster.
 pub(crate) fn first_cluster(alloc: Global) -> Result<Option<&'static str>, AllocError> {
-    for (line, words) in CLUSTERS {
-        if !chooses_cluster(alloc, line, words)? {
+    for (line, kind, words) in CLUSTERS {
+        if !chooses_cluster(alloc, line, kind, words)? {
             return Ok(Some(line));
         }
     }
@@ -77,7 +89,7 @@ const REFUSED: [(&str, ErrorKind); 21] = [
     ("fdbrec cluster --turns=-1", ErrorKind::ValueValidation),
     ("fdbrec cluster --storm=0", ErrorKind::UnknownArgument),
     ("fdbrec cluster --seed=1", ErrorKind::UnknownArgument),
-    ("fdbrec cluster --store=map", ErrorKind::UnknownArgument),
+    ("fdbrec cluster --store=tree", ErrorKind::InvalidValue),
     ("fdbrec cluster more", ErrorKind::UnknownArgument),
 ];
 

@@ -65,7 +65,7 @@ fn ends<H: Threads + Wait + Sync>(rt: &H, alloc: Global, row: Row) -> Result<boo
     )
 }
 
-const ROWS: [Row; 15] = [
+const ROWS: [Row; 16] = [
     Row {
         line: "fdbrec apply",
         input: "{\"ops\":[{\"advance\":{\"version\":4}}]}",
@@ -151,6 +151,13 @@ const ROWS: [Row; 15] = [
         writes: "audit ok\n",
     },
     Row {
+        line: "fdbrec cluster --turns 300 --store sql",
+        input: "",
+        how: How::Done,
+        status: 0,
+        writes: "audit ok\n",
+    },
+    Row {
         line: "fdbrec cluster --logs=2 --degree=3",
         input: "",
         how: How::BadWords,
@@ -187,7 +194,7 @@ pub(crate) fn first_wrong<H: Threads + Wait + Sync>(
 }
 
 /// Lines that ask for help, with what they show.
-const SHOWN: [(&str, &str); 28] = [
+const SHOWN: [(&str, &str); 29] = [
     ("fdbrec --version", "fdbrec 0.1.0 (rattle logic "),
     ("fdbrec apply --help", "undo"),
     ("fdbrec apply --help", "forget"),
@@ -214,6 +221,7 @@ const SHOWN: [(&str, &str); 28] = [
     ("fdbrec cluster --help", "--coordinators"),
     ("fdbrec cluster --help", "--recoveries"),
     ("fdbrec cluster --help", "--journal"),
+    ("fdbrec cluster --help", "--store"),
     ("fdbrec cluster --help", "[default: 10000]"),
     ("fdbrec cluster --help", "audit ok"),
 ];

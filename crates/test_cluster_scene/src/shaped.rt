@@ -3,14 +3,13 @@ ghost use Rattle.std.specs.Prelude.{◌≡◌};
 
 use crate::flag::Flag;
 use fr_ask::Ask;
-use fr_base::{Ballot, InMemory, LogId, Memory, NodeFault, NodeId, Step, Tag};
-use fr_log::{Log, LogAsk, Push};
+use fr_base::{Ballot, LogId, Memory, NodeFault, NodeId, Step, Tag};
+use fr_log::{LogAsk, Push};
 use fr_mutation::Batch;
 use fr_proxy::Outcome;
-use fr_register::Cell;
 use fr_runtime::{Orders, Rack, Workload};
 use fr_runtime_station::{Faults, Verdict};
-use fr_undo::{MapStore, StoreFault};
+use fr_undo::StoreFault;
 use std::alloc::Global;
 use std::sync::atomic::{AtomicU64, Ordering};
 
@@ -206,36 +205,37 @@ impl Workload for Staged<'_> {
     }
 }
 
-/// All in memory, with logs that are counted when they are made.
+/// The nodes of a rack, with logs that are counted when they are made.
 #[derive(Drop)]
-pub struct CountedRack<'a> {
+pub struct CountedRack<'a, K> {
+    rack: K,
     stages: &'a Stages,
 }
 
-impl<'a> CountedRack<'a> {
+impl<'a, K: Rack> CountedRack<'a, K> {
     /// Logs that these count.
-    pub fn new(stages: &'a Stages) -> Self {
-        CountedRack { stages }
+    pub fn new(rack: K, stages: &'a Stages) -> Self {
+        CountedRack { rack, stages }
     }
 }
 
-impl Rack for CountedRack<'_> {
-    type Cell = InMemory<Cell>;
+impl<K: Rack> Rack for CountedRack<'_, K> {
+    type Cell = K::Cell;
 
-    type Log = InMemory<Log>;
+    type Log = K::Log;
 
-    type Store = MapStore;
+    type Store = K::Store;
 
-    fn cell(&self, alloc: Global, _index: u8) -> Result<InMemory<Cell>, NodeFault> {
-        Ok(InMemory::new(Cell::new(alloc)))
+    fn cell(&self, alloc: Global, index: u8) -> Result<K::Cell, NodeFault> {
+        self.rack.cell(alloc, index)
     }
 
-    fn log(&self, alloc: Global, id: LogId, m: u8, k: u8) -> Result<InMemory<Log>, NodeFault> {
+    fn log(&self, alloc: Global, id: LogId, m: u8, k: u8) -> Result<K::Log, NodeFault> {
         self.stages.makes(&id, m, k);
-        Ok(InMemory::new(Log::new(alloc, id, m, k)))
+        self.rack.log(alloc, id, m, k)
     }
 
-    fn store(&self, alloc: Global, _tag: Tag) -> Result<MapStore, StoreFault> {
-        Ok(MapStore::new(alloc))
+    fn store(&self, alloc: Global, tag: Tag) -> Result<K::Store, StoreFault> {
+        self.rack.store(alloc, tag)
     }
 }

@@ -1,9 +1,9 @@
-//! Clusters in memory, and what their journals say.
+//! Clusters, and what their journals say.
 use fr_audit_journal::{Entry, Journal};
 use fr_base::{Ballot, Bytes, Epoch, NodeId, Shape};
 use fr_proxy::Outcome;
 use fr_run_event::Config;
-use fr_runtime::{Cluster, Orders, PlainRack, Rack, Report, RunFault};
+use fr_runtime::{Cluster, Orders, Rack, Report, RunFault};
 use fr_runtime_station::Faults;
 use std::alloc::Global;
 use std::sync::Wait;
@@ -12,18 +12,18 @@ use std::thread::Threads;
 
 /// A cluster's numbers.
 #[derive(Clone, Copy)]
-pub(crate) struct Numbers {
-    pub(crate) coordinators: u8,
-    pub(crate) logs: u8,
-    pub(crate) degree: u8,
-    pub(crate) storages: u8,
-    pub(crate) proxies: u8,
-    pub(crate) batches: u32,
-    pub(crate) turns: u32,
+pub struct Numbers {
+    pub coordinators: u8,
+    pub logs: u8,
+    pub degree: u8,
+    pub storages: u8,
+    pub proxies: u8,
+    pub batches: u32,
+    pub turns: u32,
 }
 
 /// What the program runs where no number is given.
-pub(crate) const DEFAULTS: Numbers = Numbers {
+pub const DEFAULTS: Numbers = Numbers {
     coordinators: 3,
     logs: 4,
     degree: 2,
@@ -34,28 +34,28 @@ pub(crate) const DEFAULTS: Numbers = Numbers {
 };
 
 /// One workload and one storage server.
-pub(crate) const ALONE: Numbers = Numbers {
+pub const ALONE: Numbers = Numbers {
     storages: 1,
     proxies: 1,
     ..DEFAULTS
 };
 
-pub(crate) fn epoch(number: u64) -> Result<Epoch, Fail> {
+pub fn epoch(number: u64) -> Result<Epoch, Fail> {
     Ok(Epoch::new(number).ok_or("an epoch")?)
 }
 
 /// The ballot of the first epoch after that of the start.
-pub(crate) fn ballot() -> Result<Ballot, Fail> {
+pub fn ballot() -> Result<Ballot, Fail> {
     Ok(Ballot::new(513).ok_or("a ballot")?)
 }
 
 /// A ballot whose recoverer opens a generation of the shape of the one before.
-pub(crate) fn alike(ballot: Ballot) -> (Ballot, Option<Shape>) {
+pub fn alike(ballot: Ballot) -> (Ballot, Option<Shape>) {
     (ballot, None)
 }
 
 /// A log of the first epoch.
-pub(crate) fn log(index: u8) -> Result<NodeId, Fail> {
+pub fn log(index: u8) -> Result<NodeId, Fail> {
     let epoch = epoch(257)?;
     Ok(NodeId::Log { epoch, index })
 }
@@ -71,12 +71,12 @@ fn begins(alloc: Global, storages: u8) -> Result<Vec<Bytes>, Fail> {
 }
 
 /// What may be so of a run.
-pub(crate) trait Question {
+pub trait Question {
     /// Whether it is so, by the report of the run and the workloads.
     fn is_so(&self, report: &Report, works: &[Orders]) -> bool;
 }
 
-pub(crate) fn config(alloc: Global, numbers: Numbers) -> Result<Config, Fail> {
+pub fn config(alloc: Global, numbers: Numbers) -> Result<Config, Fail> {
     let begins = begins(alloc, numbers.storages)?;
     let (coordinators, logs) = (numbers.coordinators, numbers.logs);
     Ok(Config::new(coordinators, logs, numbers.degree, begins, numbers.proxies)?)
@@ -111,12 +111,7 @@ fn run<K: Rack + Sync + Drop, F: Faults + Sync, R: Threads + Wait + Sync>(
 }
 
 /// Runs a cluster over the nodes of a rack, with a recoverer for each of these ballots; whether this is so of it.
-pub(crate) fn holds_on<
-    K: Rack + Sync + Drop,
-    F: Faults + Sync,
-    Q: Question,
-    R: Threads + Wait + Sync,
->(
+pub fn holds_on<K: Rack + Sync + Drop, F: Faults + Sync, Q: Question, R: Threads + Wait + Sync>(
     rt: &R,
     alloc: Global,
     numbers: Numbers,
@@ -130,7 +125,7 @@ pub(crate) fn holds_on<
 }
 
 /// Runs a cluster with so many workloads; why its run has no report, where it has none.
-pub(crate) fn fault_of<K: Rack + Sync + Drop, F: Faults + Sync, R: Threads + Wait + Sync>(
+pub fn fault_of<K: Rack + Sync + Drop, F: Faults + Sync, R: Threads + Wait + Sync>(
     rt: &R,
     alloc: Global,
     numbers: Numbers,
@@ -149,20 +144,8 @@ pub(crate) fn fault_of<K: Rack + Sync + Drop, F: Faults + Sync, R: Threads + Wai
     }
 }
 
-/// What [`holds_on`] says of a cluster in memory.
-pub(crate) fn holds<F: Faults + Sync, Q: Question, R: Threads + Wait + Sync>(
-    rt: &R,
-    alloc: Global,
-    numbers: Numbers,
-    ballots: &[(Ballot, Option<Shape>)],
-    faults: &F,
-    question: &Q,
-) -> Result<bool, Fail> {
-    holds_on(rt, alloc, numbers, ballots, PlainRack, faults, question)
-}
-
 /// What the first workload was told, nothing where there is none.
-pub(crate) fn first_told(report: &Report) -> &[Outcome] {
+pub fn first_told(report: &Report) -> &[Outcome] {
     match report.told.first() {
         Some(told) => told.as_slice(),
         None => &[],
@@ -170,7 +153,7 @@ pub(crate) fn first_told(report: &Report) -> &[Outcome] {
 }
 
 /// The journal of a node.
-pub(crate) fn journal_of(report: &Report, node: NodeId) -> Option<&Journal> {
+pub fn journal_of(report: &Report, node: NodeId) -> Option<&Journal> {
     for journal in report.journals.iter() {
         if journal.node() == node {
             return Some(journal);
@@ -180,7 +163,7 @@ pub(crate) fn journal_of(report: &Report, node: NodeId) -> Option<&Journal> {
 }
 
 /// The entries of a node's journal, none where it has no journal.
-pub(crate) fn entries_of(report: &Report, node: NodeId) -> &[Entry] {
+pub fn entries_of(report: &Report, node: NodeId) -> &[Entry] {
     match journal_of(report, node) {
         Some(journal) => journal.entries(),
         None => &[],

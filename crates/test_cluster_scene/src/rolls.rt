@@ -1,15 +1,13 @@
-//! A storage server that is ahead of what survives, and rolls back.
-use crate::scene::{DEFAULTS, Numbers, Question, alike, ballot, entries_of, holds};
-use crate::scripted::Overtaken;
+//! What may be so of a run in which a storage server is ahead of what survives.
+use crate::scene::{Numbers, Question, entries_of};
 use fr_ask::Tell;
 use fr_audit_journal::{Act, Entry};
-use fr_base::{NodeId, Tag};
+use fr_base::NodeId;
 use fr_log::{LogTell, Peeked};
 use fr_runtime::{Orders, Report};
-use std::test::Fail;
 
 /// One storage server over two logs that both hold its tag.
-const TWO: Numbers = Numbers {
+pub const TWO: Numbers = Numbers {
     coordinators: 1,
     logs: 2,
     degree: 2,
@@ -75,22 +73,12 @@ fn rolls_back(entries: &[Entry]) -> bool {
 
 /// A node rolls back.
 #[derive(Clone, Copy)]
-struct RollsBack {
-    node: NodeId,
+pub struct RollsBack {
+    pub node: NodeId,
 }
 
 impl Question for RollsBack {
     fn is_so(&self, report: &Report, _works: &[Orders]) -> bool {
         rolls_back(entries_of(report, self.node))
     }
-}
-
-#[test]
-fn a_recovery_rolls_a_storage_back(rt: HostRuntime) -> Result<(), Fail> {
-    let tag = Tag::new(0).ok_or("a tag")?;
-    let ballots = [alike(ballot()?)];
-    let node = NodeId::Storage { tag };
-    let rolled = RollsBack { node };
-    assert!(rt; holds(&rt, rt.alloc(), TWO, &ballots, &Overtaken::new(), &rolled)?);
-    Ok(())
 }

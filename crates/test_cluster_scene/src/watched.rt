@@ -3,11 +3,10 @@
 ghost use Rattle.std.specs.Prelude.{◌≡◌};
 
 use crate::flag::Flag;
-use fr_base::{InMemory, LogId, Memory, Node, NodeFault, Reopened, Tag};
+use fr_base::{LogId, Node, NodeFault, Reopened, Tag};
 use fr_log::{Log, LogAsk, LogTell};
-use fr_register::Cell;
 use fr_runtime::Rack;
-use fr_undo::{MapStore, StoreFault};
+use fr_undo::StoreFault;
 use std::alloc::Global;
 use std::sync::atomic::{AtomicU64, Ordering};
 
@@ -91,43 +90,30 @@ impl Watch {
     }
 }
 
-/// A log in memory that is watched.
+/// A log that is watched.
 #[derive(Drop)]
-pub struct WatchedLog<'a> {
-    log: InMemory<Log>,
+pub struct WatchedLog<'a, N> {
+    log: N,
     id: LogId,
     watch: &'a Watch,
 }
 
-impl<'a> WatchedLog<'a> {
-    /// A log at a place, that this watches.
-    fn new(log: Log, id: LogId, watch: &'a Watch) -> Self
-        ensures { result.log.machine ≡ log }
-    {
-        let log = InMemory::new(log);
-        WatchedLog { log, id, watch }
-    }
-}
-
-impl Node for WatchedLog<'_> {
-    ghost use Rattle.std.specs.Prelude.{◌≡◌, false, None};
-    ghost use Rattle.fr_base.specs.declared.node.NodeFault.TheVariants.{Memory};
-
+impl<N: Node<Plain = Log>> Node for WatchedLog<'_, N> {
     type Plain = Log;
 
-    ghost state = { λ n. n.log.machine };
+    ghost state = { λ n. N.state n.log };
 
-    ghost is_failed = { λ n. false };
+    ghost is_failed = { λ n. N.is_failed n.log };
 
-    ghost owed = { λ n. None };
+    ghost owed = { λ n. N.owed n.log };
 
-    ghost failures = { λ n. 0 };
+    ghost failures = { λ n. N.failures n.log };
 
-    ghost LacksRoom = { λ n ask. ⊥ };
+    ghost LacksRoom = { λ n ask. N.LacksRoom n.log ask };
 
-    ghost Throughout = { λ P n later. P n.log.machine × P later.log.machine };
+    ghost Throughout = { λ P n later. N.Throughout P n.log later.log };
 
-    ghost CanMeet = { λ fault. fault ≡ Memory };
+    ghost CanMeet = { N.CanMeet };
 
     fn serve(&mut self, alloc: Global, ask: LogAsk) -> Result<LogTell, NodeFault> {
         self.watch.serves(self.id, &ask);
@@ -144,40 +130,51 @@ impl Node for WatchedLog<'_> {
     }
 }
 
-/// All in memory, with logs that are watched.
+/// The nodes of a rack, with logs that are watched.
 #[derive(Drop)]
-pub struct WatchedRack<'a> {
+pub struct WatchedRack<'a, K> {
+    rack: K,
     watch: &'a Watch,
 }
 
-impl<'a> WatchedRack<'a> {
+impl<'a, K: Rack> WatchedRack<'a, K> {
     /// Logs that this watches.
-    pub fn new(watch: &'a Watch) -> Self {
-        WatchedRack { watch }
+    pub fn new(rack: K, watch: &'a Watch) -> Self {
+        WatchedRack { rack, watch }
     }
 }
 
-impl<'a> Rack for WatchedRack<'a> {
-    type Cell = InMemory<Cell>;
+impl<'a, K: Rack> Rack for WatchedRack<'a, K> {
+    type Cell = K::Cell;
 
-    type Log = WatchedLog<'a>;
+    type Log = WatchedLog<'a, K::Log>;
 
-    type Store = MapStore;
+    type Store = K::Store;
 
-    fn cell(&self, alloc: Global, _index: u8) -> Result<InMemory<Cell>, NodeFault> {
-        Ok(InMemory::new(Cell::new(alloc)))
+    fn cell(&self, alloc: Global, index: u8) -> Result<K::Cell, NodeFault> {
+        self.rack.cell(alloc, index)
     }
 
-    fn log(&self, alloc: Global, id: LogId, m: u8, k: u8) -> Result<WatchedLog<'a>, NodeFault> {
+    fn log(
+        &self,
+        alloc: Global,
+        id: LogId,
+        m: u8,
+        k: u8,
+    ) -> Result<WatchedLog<'a, K::Log>, NodeFault> {
         let place = LogId {
             epoch: id.epoch,
             index: id.index,
         };
-        let log = Log::new(alloc, id, m, k);
-        Ok(WatchedLog::new(log, place, self.watch))
+        let log = self.rack.log(alloc, id, m, k)?;
+        Ok(WatchedLog {
+            log,
+            id: place,
+            watch: self.watch,
+        })
     }
 
-    fn store(&self, alloc: Global, _tag: Tag) -> Result<MapStore, StoreFault> {
-        Ok(MapStore::new(alloc))
+    fn store(&self, alloc: Global, tag: Tag) -> Result<K::Store, StoreFault> {
+        self.rack.store(alloc, tag)
     }
 }

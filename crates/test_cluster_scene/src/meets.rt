@@ -1,13 +1,10 @@
-//! Two threads that must be at work at once.
-use crate::scene::{ALONE, Question, entries_of, holds_on, log};
-use crate::watched::{Watch, WatchedRack};
+//! What may be so of a run in which two logs serve at once.
+use crate::scene::{Question, entries_of};
 use fr_ask::Ask;
 use fr_audit_journal::{Act, Entry};
 use fr_base::NodeId;
 use fr_log::LogAsk;
 use fr_runtime::{Orders, Report};
-use fr_runtime_station::NoFaults;
-use std::test::Fail;
 
 fn is_push(entry: &Entry) -> bool {
     match &entry.act {
@@ -52,28 +49,13 @@ fn has_peek(entries: &[Entry]) -> bool {
 
 /// A push of a batch is entered of one log, and a peek of the other.
 #[derive(Clone, Copy)]
-struct HaveServed {
-    pushed: NodeId,
-    peeked: NodeId,
+pub struct HaveServed {
+    pub pushed: NodeId,
+    pub peeked: NodeId,
 }
 
 impl Question for HaveServed {
     fn is_so(&self, report: &Report, _works: &[Orders]) -> bool {
         has_push(entries_of(report, self.pushed)) && has_peek(entries_of(report, self.peeked))
     }
-}
-
-/// Log (257, 0) serves the first push while log (257, 1) serves the first peek, each until it sees the other: threads
-/// that ran one after the other, or one lock round both logs, would never see it.
-#[test]
-fn two_threads_are_in_two_logs_at_once(rt: HostRuntime) -> Result<(), Fail> {
-    let served = HaveServed {
-        pushed: log(0)?,
-        peeked: log(1)?,
-    };
-    let watch = Watch::meeting();
-    let rack = WatchedRack::new(&watch);
-    let is_so = holds_on(&rt, rt.alloc(), ALONE, &[], rack, &NoFaults, &served)?;
-    assert!(rt; is_so && watch.met() == 2);
-    Ok(())
 }

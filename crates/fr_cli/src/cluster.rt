@@ -1,0 +1,45 @@
+//! The command `cluster` on each kind of store.
+use fr_cli_cluster::{ClusterOptions, NoFaults, PlainRack, Progress, Watcher, cluster_counted};
+use fr_cli_cluster_sql::cluster_sql_counted;
+use fr_cli_json::{CallCounts, CliFault};
+use fr_cli_words::StoreKind;
+use std::alloc::Global;
+use std::io::{Eprint, Write};
+use std::sync::Wait;
+use std::thread::Threads;
+
+/// Runs a cluster whose stores are of a kind. Where there is a terminal, it says there how far it has come.
+pub(crate) fn cluster_on<H: Threads + Wait + Sync, E: Eprint + Sync, W: Write>(
+    kind: StoreKind,
+    rt: &H,
+    terminal: Option<&E>,
+    alloc: Global,
+    options: ClusterOptions,
+    writer: &mut W,
+) -> Result<u8, CliFault> {
+    match terminal {
+        Some(terminal) => {
+            let progress = Progress::new(terminal, &NoFaults, options);
+            watched(kind, rt, alloc, options, &progress, writer)
+        }
+        None => watched(kind, rt, alloc, options, &NoFaults, writer),
+    }
+}
+
+/// The same, with who watches it.
+fn watched<H: Threads + Wait + Sync, F: Watcher + Sync, W: Write>(
+    kind: StoreKind,
+    rt: &H,
+    alloc: Global,
+    options: ClusterOptions,
+    watcher: &F,
+    writer: &mut W,
+) -> Result<u8, CliFault> {
+    let mut calls = CallCounts::new();
+    match kind {
+        StoreKind::Map => {
+            cluster_counted(rt, alloc, options, PlainRack, watcher, &mut calls, writer)
+        }
+        StoreKind::Sql => cluster_sql_counted(rt, alloc, options, watcher, &mut calls, writer),
+    }
+}

@@ -1,0 +1,150 @@
+//! Clusters whose stores fail once, in a hear.
+use fr_audit_journal::{Act, Entry};
+use fr_base::{InMemory, LogId, NodeFault, NodeId, Tag};
+use fr_log::Log;
+use fr_register::Cell;
+use fr_runtime::{Orders, Rack, Report};
+use fr_runtime_station::NoFaults;
+use fr_undo::StoreFault;
+use std::alloc::Global;
+use std::sync::Wait;
+use std::test::Fail;
+use std::thread::Threads;
+use test_cluster_scene::{
+    AreCommitted, Numbers, ONE, Overtaken, Question, RollsBack, TWO, alike, ballot, entries_of,
+    holds_on,
+};
+use test_store_failing::FailsOnce;
+
+/// All in memory, with stores whose device fails once: in the call after so many others, the first of which makes the
+/// storage server. The call is done or not.
+#[derive(Clone, Copy)]
+struct BreakingRack {
+    calls: u32,
+    is_done: bool,
+}
+
+impl Rack for BreakingRack {
+    type Cell = InMemory<Cell>;
+
+    type Log = InMemory<Log>;
+
+    type Store = FailsOnce;
+
+    fn cell(&self, alloc: Global, _index: u8) -> Result<InMemory<Cell>, NodeFault> {
+        Ok(InMemory::new(Cell::new(alloc)))
+    }
+
+    fn log(&self, alloc: Global, id: LogId, m: u8, k: u8) -> Result<InMemory<Log>, NodeFault> {
+        Ok(InMemory::new(Log::new(alloc, id, m, k)))
+    }
+
+    fn store(&self, alloc: Global, _tag: Tag) -> Result<FailsOnce, StoreFault> {
+        Ok(FailsOnce::new(alloc, self.calls, self.is_done))
+    }
+}
+
+/// How many hears are entered in part.
+fn parts(entries: &[Entry]) -> usize {
+    let mut parts = 0_usize;
+    for entry in entries {
+        if let Act::Heard { taken: Some(_), .. } = &entry.act {
+            parts = parts.wrapping_add(1);
+        }
+    }
+    parts
+}
+
+/// All batches are committed, and a server hears one answer in part, unless the call that failed was done: then it may
+/// have heard all of it.
+#[derive(Clone, Copy)]
+struct HearsAPart {
+    server: NodeId,
+    is_done: bool,
+}
+
+impl Question for HearsAPart {
+    fn is_so(&self, report: &Report, works: &[Orders]) -> bool {
+        let committed = AreCommitted { many: 20 };
+        let parts = parts(entries_of(report, self.server));
+        committed.is_so(report, works) && (parts == 1 || self.is_done && parts == 0)
+    }
+}
+
+fn commits<R: Threads + Wait + Sync>(
+    rt: &R,
+    alloc: Global,
+    calls: u32,
+    is_done: bool,
+) -> Result<bool, Fail> {
+    let tag = Tag::new(1).ok_or("a tag")?;
+    let heard = HearsAPart {
+        server: NodeId::Storage { tag },
+        is_done,
+    };
+    let rack = BreakingRack { calls, is_done };
+    holds_on(rt, alloc, ONE, &[], rack, &NoFaults, &heard)
+}
+
+/// Each store fails in one of its first calls while records are heard, and the run is one all the same.
+#[test]
+fn a_hear_of_records_that_breaks_off_is_entered_in_part(rt: HostRuntime) -> Result<(), Fail> {
+    for calls in 1..10 {
+        assert!(rt; commits(&rt, rt.alloc(), calls, false)?, "{calls}");
+        assert!(rt; commits(&rt, rt.alloc(), calls, true)?, "{calls}, done");
+    }
+    Ok(())
+}
+
+/// No batches: a store is told to advance to the mark, and is asked for its rows at the end.
+const IDLE: Numbers = Numbers {
+    batches: 0,
+    turns: 20,
+    ..ONE
+};
+
+fn ends_well<R: Threads + Wait + Sync>(
+    rt: &R,
+    alloc: Global,
+    calls: u32,
+    is_done: bool,
+) -> Result<bool, Fail> {
+    let committed = AreCommitted { many: 0 };
+    let rack = BreakingRack { calls, is_done };
+    holds_on(rt, alloc, IDLE, &[], rack, &NoFaults, &committed)
+}
+
+/// The store fails where it advances, or where its rows are read at the end, and is opened again.
+#[test]
+fn a_store_that_fails_at_the_end_is_opened_again(rt: HostRuntime) -> Result<(), Fail> {
+    for calls in 1..4 {
+        assert!(rt; ends_well(&rt, rt.alloc(), calls, false)?, "{calls}");
+        assert!(rt; ends_well(&rt, rt.alloc(), calls, true)?, "{calls}, done");
+    }
+    Ok(())
+}
+
+fn rolls_back<R: Threads + Wait + Sync>(
+    rt: &R,
+    alloc: Global,
+    calls: u32,
+    is_done: bool,
+) -> Result<bool, Fail> {
+    let tag = Tag::new(0).ok_or("a tag")?;
+    let ballots = [alike(ballot()?)];
+    let rolled = RollsBack {
+        node: NodeId::Storage { tag },
+    };
+    let rack = BreakingRack { calls, is_done };
+    holds_on(rt, alloc, TWO, &ballots, rack, &Overtaken::new(), &rolled)
+}
+
+/// The store fails where it applies, undoes and sets the state of a later epoch, and at what comes then.
+#[test]
+fn a_rollback_that_breaks_off_is_entered_in_part(rt: HostRuntime) -> Result<(), Fail> {
+    for calls in 1..5 {
+        assert!(rt; rolls_back(&rt, rt.alloc(), calls, false)?, "{calls}");
+        assert!(rt; rolls_back(&rt, rt.alloc(), calls, true)?, "{calls}, done");
+    }
+    Ok(())
+}
