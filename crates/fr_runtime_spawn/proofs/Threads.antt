@@ -1,11 +1,11 @@
 -- Threads that are started and joined one after the other.
-use Rattle.std.proofs.Common.{◌≡◌, List, [], ◌∷◌, ◌++◌, Option, sym, subst}
-use Rattle.std.specs.Prelude.{IfOk, Result, Ok, Err}
+use Rattle.std.proofs.Common.{◌≡◌, ◌<◌, ℕ, suc, List, [], ◌∷◌, ◌++◌, Option, length, arith, refl, sym, subst}
+use Rattle.std.specs.Prelude.{IfOk, Result, Ok, Err, slice_index_or}
 use Rattle.std.specs.Global.{Vec}
 use Rattle.std.proofs.lemmas.List.{append-nil, append_assoc}
 use Rattle.core.specs.declared.thread.PromisedHandle.{PromisedHandle}
 use Rattle.fr_runtime_spawn.specs.declared.spawn.Sworn.{Sworn}
-use Rattle.fr_runtime_spawn.specs.Sworn.{AllDone, AreSwornTo, DidEach}
+use Rattle.fr_runtime_spawn.specs.Sworn.{AllDone, AllTaken, AreSwornTo, DidEach}
 
 abbrev pub Handle : Type 0 → Type 0 → Type 0 → Type 0
 Handle W J D = PromisedHandle (Option D) (Sworn W J)
@@ -62,3 +62,14 @@ pub done-of : {W J D E : Type 0} (Did : W → J → D → Type 0) (worker : W) (
     → IfOk result (λ all. DidEach Did hs all.items) → IfOk result (λ all. AllDone (Did worker) js all.items)
 done-of Did worker js hs (Ok all) sworn did = all-done Did worker js hs all.items sworn did
 done-of Did worker js hs (Err fault) sworn did = tt
+
+-- jobs that are taken at each place are all taken
+pub all-taken : {J : Type 0} (Takes : J → Type 0) (js : List J) → ((i : ℕ) (x : J) → i < length js → x ≡ slice_index_or js i x → Takes x) → AllTaken Takes js
+all-taken Takes [] at = tt
+all-taken Takes (j ∷ js) at = (at 0 j (omega arith) refl, all-taken Takes js (λ i x low is. at (suc i) x (omega (arith, low)) is))
+
+pub taken-first : {J : Type 0} (Takes : J → Type 0) (all rest : List J) → rest ≡ all → AllTaken Takes all → AllTaken Takes rest
+taken-first Takes all rest same taken = subst (AllTaken Takes) (sym same) taken
+
+pub taken-next : {J : Type 0} (Takes : J → Type 0) (rest more : List J) (j : J) → rest ≡ j ∷ more → AllTaken Takes rest → Takes j × AllTaken Takes more
+taken-next Takes rest more j step taken = subst (AllTaken Takes) step taken

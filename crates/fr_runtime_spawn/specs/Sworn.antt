@@ -20,3 +20,8 @@ abbrev pub AllDone : {J D : Type 0} → (J → D → Type 0) → List J → List
 AllDone Did [] [] = Unit {0}
 AllDone Did (j ∷ js) (d ∷ ds) = Did j d × AllDone Did js ds
 AllDone Did js ds = false ≡ true
+
+-- each job may be done
+abbrev pub AllTaken : {J : Type 0} → (J → Type 0) → List J → Type 0
+AllTaken Takes [] = Unit {0}
+AllTaken Takes (j ∷ js) = Takes j × AllTaken Takes js

@@ -3,4 +3,4 @@
 
 mod spawn;
 
-pub use spawn::{SpawnFault, Worker, work_each};
+pub use spawn::{SpawnFault, work_each};

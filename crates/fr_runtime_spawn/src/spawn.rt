@@ -1,6 +1,7 @@
 //! Jobs in threads, one each, or the answer that a thread could not be made.
 ghost use Rattle.std.specs.Prelude.{◌≡◌, ◌++◌, ◌∷◌, [], IfOk, IfSome, OnOk};
-ghost use Rattle.fr_runtime_spawn.specs.Sworn.{AllDone, AreSwornTo, DidEach};
+ghost use Rattle.std.specs.Fork.{AcceptsJobs};
+ghost use Rattle.fr_runtime_spawn.specs.Sworn.{AllDone, AllTaken, AreSwornTo, DidEach};
 
 use std::alloc::{AllocError, Global};
 use std::snapshot::Snapshot;
@@ -24,13 +25,33 @@ impl From<AllocError> for SpawnFault {
 }
 
 /// What threads do with jobs of a type, and hand back.
-pub trait Worker<J, D> {
+trait Worker<J, D> {
+    /// The jobs that may be done.
+    ghost Takes: { Self → J → Type 0 };
+
     /// What is done of a job.
     ghost Did: { Self → J → D → Type 0 };
 
     /// Does a job.
     fn work(&self, job: J) -> D
+        requires { Takes self.now job }
         ensures { Did self.now job result };
+}
+
+/// A closure that is called at each job.
+#[derive(Drop)]
+struct Call<'a, F> {
+    f: &'a F,
+}
+
+impl<J, D, F: Fn(J) -> D> Worker<J, D> for Call<'_, F> {
+    ghost Takes = { λ call job. F.pre call.f.now job };
+
+    ghost Did = { λ call job done. F.post call.f.now job done };
+
+    fn work(&self, job: J) -> D {
+        (self.f)(job)
+    }
 }
 
 /// What a thread promises: that it hands nothing back, since it was called off, or what is done of its job.
@@ -61,6 +82,7 @@ fn start<
     worker: &'s W,
     job: J,
 ) -> Result<PromisedHandle<Option<D>, Sworn<W, J>>, SpawnFault>
+    requires takes { W.Takes worker.now job }
     ensures job { IfOk result (λ handle. handle.promise.job.value ≡ job) }
     ensures worker { IfOk result (λ handle. handle.promise.worker.value ≡ worker.now) }
 {
@@ -69,6 +91,7 @@ fn start<
         job: Snapshot::of(&job),
     };
     let one = move || -> Option<D>
+        requires { W.Takes worker.now job }
         ensures { IfSome result (λ done. W.Did worker.entry.now job done) }
     {
         let is_open = *gate.lock(rt);
@@ -101,6 +124,7 @@ fn start_each<
     worker: &'s W,
     jobs: Vec<J>,
 ) -> Result<Vec<PromisedHandle<Option<D>, Sworn<W, J>>>, SpawnFault>
+    requires { AllTaken (W.Takes worker.now) jobs.items }
     ensures { IfOk result (λ handles. AreSwornTo worker.now jobs.items handles.items) }
 {
     let mut open = gate.lock(rt);
@@ -140,14 +164,14 @@ fn put<T: Drop>(all: &mut Vec<T>, item: T) -> Result<(), SpawnFault>
     Ok(())
 }
 
-/// Has a worker do each job in a thread of its own, and gives what the threads hand back, in the order of the jobs. No
-/// job begins before there is a thread for each: where one cannot be made, no job is done, and `Thread` is answered.
-pub fn work_each<R: Threads + Wait + Sync, J: Send + Drop, D: Send + Drop, W: Worker<J, D> + Sync>(
-    rt: &R,
-    alloc: Global,
-    worker: &W,
-    jobs: Vec<J>,
-) -> Result<Vec<D>, SpawnFault>
+/// Has a worker do each job in a thread of its own, and gives what the threads hand back.
+fn work_in_threads<
+    R: Threads + Wait + Sync,
+    J: Send + Drop,
+    D: Send + Drop,
+    W: Worker<J, D> + Sync,
+>(rt: &R, alloc: Global, worker: &W, jobs: Vec<J>) -> Result<Vec<D>, SpawnFault>
+    requires { AllTaken (W.Takes worker.now) jobs.items }
     ensures { IfOk result (λ all. AllDone (W.Did worker.now) jobs.items all.items) }
 {
     let gate = Mutex::new(false);
@@ -155,10 +179,26 @@ pub fn work_each<R: Threads + Wait + Sync, J: Send + Drop, D: Send + Drop, W: Wo
         thread::scope_env(),
         rt,
         |scope| -> Result<Vec<D>, SpawnFault>
+            requires { AllTaken (W.Takes worker.now) jobs.items }
             ensures { IfOk result (λ all. AllDone (W.Did worker.entry.now) jobs.items all.items) }
         {
             let handles = start_each(rt, alloc, scope, &gate, worker, jobs)?;
             join_each(rt, alloc, handles)
         },
     )
+}
+
+/// Calls f at each job, each in a thread of its own, and gives what the calls give, in the order of the jobs. No job
+/// begins before there is a thread for each: where one cannot be made, no job is done, and `Thread` is answered.
+pub fn work_each<R: Threads + Wait + Sync, J: Send + Drop, D: Send + Drop, F: Fn(J) -> D + Sync>(
+    rt: &R,
+    alloc: Global,
+    jobs: Vec<J>,
+    f: &F,
+) -> Result<Vec<D>, SpawnFault>
+    requires accepts { AcceptsJobs F.Fn f.now jobs.items }
+    ensures each { IfOk result (λ all. AllDone (λ job done. F.post f.now job done) jobs.items all.items) }
+{
+    let call = Call { f };
+    work_in_threads(rt, alloc, &call, jobs)
 }
