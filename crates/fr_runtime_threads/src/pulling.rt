@@ -1,10 +1,12 @@
 //! The thread of a storage server: it pulls what its logs hold, and hears of later epochs.
-ghost use Rattle.std.specs.Prelude.{◌≡◌, ◌≤◌, ◌==◌, ◌+◌, ◌%◌, ◌++◌, ◌∷◌, [], false, find, IfOk, None, Ok, OnOk};
+ghost use Rattle.std.specs.Prelude.{◌≡◌, ◌≤◌, ◌==◌, ◌+◌, ◌%◌, ◌++◌, ◌∷◌, [], false, find, IfOk, IfSome, None, Ok, OnOk};
 ghost use Rattle.fr_audit_journal.specs.Journal.{IsAbove};
 ghost use Rattle.fr_audit_journal.specs.declared.act.Act.{Act};
 ghost use Rattle.fr_base.specs.declared.place.NodeId.{NodeId};
+ghost use Rattle.fr_runtime_hears.specs.Taken.{IsPart};
 ghost use Rattle.fr_runtime_threads.specs.Told.{IsTold};
 ghost use Rattle.fr_storage.specs.Server.{storage_of};
+ghost use Rattle.fr_storage.specs.Storage.{after_peeked, peeked_calls, peeked_fault};
 
 use crate::fault::{TurnFault, fault_of};
 use crate::notes::Notes;
@@ -13,7 +15,7 @@ use crate::site::Site;
 use fr_ask::{Ask, Last, Tell};
 use fr_audit_journal::{Act, Journal};
 use fr_base::{Epoch, NodeId, Stamp, Tag, Version};
-use fr_log::{LogAsk, LogTell};
+use fr_log::{LogAsk, LogTell, Peeked};
 use fr_run_event::last_of_storage;
 use fr_runtime_hears::{take_marked, take_peeked};
 use fr_runtime_rack::Rack;
@@ -117,13 +119,31 @@ fn tell_storage<S: ShardStore>(
 {
     match (from, tell) {
         (NodeId::Log { epoch, .. }, Tell::Log(LogTell::Peeked(peeked))) => {
-            unless_fault(take_peeked(alloc, storage, *epoch, peeked))
+            unless_fault(peeked_by(alloc, storage, epoch, peeked))
         }
         (NodeId::Log { .. }, Tell::Log(LogTell::Marked { state })) => {
             unless_fault(take_marked(alloc, storage, state))
         }
         _ => Ok(None),
     }
+}
+
+/// Tells a storage server what a log of an epoch has of its tag, as [`take_peeked`] does.
+fn peeked_by<S: ShardStore>(
+    alloc: Global,
+    storage: &mut Storage<S>,
+    epoch: &Epoch,
+    peeked: &Peeked,
+) -> Result<Option<Version>, StorageFault>
+    ensures whole { storage.old.failed ≡ false → (result ≡ Ok None)
+        → storage_of S.state storage.new ≡ after_peeked (storage_of S.state storage.old) epoch.now peeked.now }
+    ensures part { storage.old.failed ≡ false → IfOk result (λ taken. IfSome taken (λ version. IsPart (storage_of S.state storage.old)
+        (peeked_fault (storage_of S.state storage.old) epoch.now peeked.now)
+        (peeked_calls (storage_of S.state storage.old) epoch.now peeked.now) version (storage_of S.state storage.new))) }
+    ensures works { storage.old.failed ≡ false → OnOk result (storage.new.failed ≡ false) }
+    ensures tag { storage.new.tag ≡ storage.old.tag }
+{
+    take_peeked(alloc, storage, *epoch, peeked)
 }
 
 /// What a storage server answers, where it is not a fault of its store.
