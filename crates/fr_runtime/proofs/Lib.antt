@@ -1,4 +1,5 @@
 mod Captures
+mod Done
 mod Explained
 mod Gathers
 mod Heards

@@ -11,7 +11,7 @@ use fr_base::{Ballot, Memory, Node, Shape};
 use fr_log::Log;
 use fr_proxy::Outcome;
 use fr_register::Cell;
-use fr_runtime_spawn::{SpawnFault, Worker, work_each};
+use fr_runtime_spawn::{SpawnFault, work_each};
 use fr_runtime_station::Faults;
 use fr_runtime_threads::{
     Order, Rack, Served, Site, TurnFault, Workload, crash, pull, recover, serve,
@@ -172,27 +172,6 @@ fn work_at<K: Rack, F: Faults, R: Wait, S: ShardStore + Drop, W: Workload + Drop
     }
 }
 
-/// What each thread is lent, and for how many turns.
-#[derive(Drop)]
-struct Turns<'a, K: Rack, F, R> {
-    site: Site<'a, K, F, R>,
-    turns: u32,
-}
-
-impl<K: Rack, S: ShardStore + Drop, W: Workload + Drop, F: Faults, R: Wait> Worker<
-    Job<W, Storage<S>>,
-    Result<Done<W>, TurnFault>,
-> for Turns<'_, K, F, R> {
-    ghost use Rattle.std.specs.Prelude.{IfOk};
-    ghost use Rattle.fr_runtime.specs.Job.{Did};
-
-    ghost Did = { λ t job done. IfOk done (Did W.given W.heard (F.begun t.site.faults.now) t.turns job) };
-
-    fn work(&self, job: Job<W, Storage<S>>) -> Result<Done<W>, TurnFault> {
-        work_at(&self.site, self.turns, job)
-    }
-}
-
 /// Runs the threads to their ends: what each hands back, in their order. None begins before all are there.
 fn run_jobs<
     C: Node<Plain = Cell> + Send + Drop,
@@ -210,18 +189,22 @@ fn run_jobs<
     ensures { IfOk result (λ all. AllDone (λ job ran. IfOk ran (Did W.given W.heard (F.begun site.now.faults.now) turns job))
         jobs.items all.items) }
 {
-    let each = Turns {
-        site: Site {
-            rt: site.rt,
-            alloc: site.alloc,
-            config: site.config,
-            directory: site.directory,
-            rack: site.rack,
-            faults: site.faults,
-        },
-        turns,
+    let (rt, alloc, config) = (site.rt, site.alloc, site.config);
+    let (directory, rack, faults) = (site.directory, site.rack, site.faults);
+    let one = move |job: Job<W, Storage<S>>| -> Result<Done<W>, TurnFault>
+        ensures { IfOk result (λ done. Did W.given W.heard (F.begun faults.entry.now) turns job done) }
+    {
+        let site = Site {
+            rt,
+            alloc,
+            config,
+            directory,
+            rack,
+            faults,
+        };
+        work_at(&site, turns, job)
     };
-    work_each(site.rt, site.alloc, &each, jobs)
+    work_each(site.rt, site.alloc, jobs, &one)
 }
 
 /// What threads handed back, where none has a fault.
