@@ -234,11 +234,11 @@ module _ {W T : Type 0} (given : W → List Order) (heard : W → List Outcome) 
   begun-run ws bs ts ds shared js j did = subst (λ (l : List JournalState). AllBegin begun turns l bs) (sym j) (run-begun ws 0 bs ts ds shared did)
 
   -- each did its job, where the results of all threads say so and none is a fault
-  pub all-did : {F : Type 0} (js : List (Job W T)) (ds : List (Done W)) → AllDone (λ (j : Job W T) (r : Result (Done W) F). IfOk r (Did given heard begun turns j)) js (oks ds) → AllDid given heard begun turns js ds
-  all-did [] [] all = tt
-  all-did [] (d ∷ ds) all = absurd cc
-  all-did (j ∷ js) [] all = absurd cc
-  all-did (j ∷ js) (d ∷ ds) all = (all.0, all-did js ds all.1)
+  pub all-did : (F : Type 0) (js : List (Job W T)) (ds : List (Done W)) → AllDone (λ (j : Job W T) (r : Result (Done W) F). IfOk r (Did given heard begun turns j)) js (oks ds) → AllDid given heard begun turns js ds
+  all-did F [] [] all = tt
+  all-did F [] (d ∷ ds) all = absurd cc
+  all-did F (j ∷ js) [] all = absurd cc
+  all-did F (j ∷ js) (d ∷ ds) all = (all.0, all-did F js ds all.1)
 
 pub oks-append : {X F : Type 0} (xs : List X) (x : X) → oks {X = X} {F = F} (xs ++ x ∷ []) ≡ oks xs ++ Ok x ∷ []
 oks-append [] x = refl

@@ -15,4 +15,4 @@ returns g c =
     let ds = c.in_ok-done.done.items in
     let all : c.in_ok-threads.threads.items ≡ oks ds = c.in_ok-done.ensures in
     let did = subst (λ (rs : _). AllDone (λ j r. IfOk r (Did given heard begun turns j)) js rs) all c.in_ok-threads.ensures in
-    subst (λ (l : _). AllDid given heard begun turns l ds) c.in_ok-jobs.ensures (all-did given heard begun turns js ds did)
+    subst (λ (l : _). AllDid given heard begun turns l ds) c.in_ok-jobs.ensures (all-did given heard begun turns _ js ds did)
