@@ -1,15 +1,14 @@
 //! A hundred recoveries, one after another: more generations come and go than a state may list.
-use crate::flag::Flag;
-use crate::scene::{Numbers, Question, alike, holds, journal_of};
 use fr_ask::{Ask, Last};
 use fr_audit_journal::Journal;
 use fr_base::{Ballot, Epoch, NodeId, Tag};
 use fr_log::{LogAsk, Push};
-use fr_runtime::{Orders, Report};
+use fr_runtime::{Orders, PlainRack, Report};
 use fr_runtime_station::{Faults, Verdict};
 use fr_state::decode;
 use std::alloc::Global;
 use std::test::Fail;
+use test_cluster_scene::{Flag, Numbers, Question, alike, holds_on, journal_of};
 
 /// How many recoveries there are.
 const MANY: u64 = 100;
@@ -198,6 +197,6 @@ fn a_hundred_recoveries_are_chosen(rt: HostRuntime) -> Result<(), Fail> {
     }
     let tag = Tag::new(0).ok_or("a tag")?;
     let goes = Goes { alloc, tag };
-    assert!(rt; holds(&rt, alloc, ONE_TAG, ballots.as_slice(), &chain, &goes)?);
+    assert!(rt; holds_on(&rt, alloc, ONE_TAG, ballots.as_slice(), PlainRack, &chain, &goes)?);
     Ok(())
 }

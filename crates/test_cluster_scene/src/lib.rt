@@ -13,6 +13,7 @@ mod shapes;
 mod watched;
 
 pub use commits::{AreCommitted, HaveOutcomes, IsChosen, ONE};
+pub use flag::Flag;
 pub use meets::HaveServed;
 pub use pushes::{AreHeldTwice, FIVE, HasCrashed, IsWaiting};
 pub use rolls::{RollsBack, TWO};
