@@ -164,7 +164,8 @@ impl Clone for Pushes {
 
 /// Whether bodies are those that stand at a version, whatever the two have of what is popped.
 fn have_bodies(shelves: &[Shelf], version: Version, bodies: &[Body], popped: &[PoppedTag]) -> bool
-    ensures { result ≡ pointwise is_same_body (left_bodies popped.now version bodies.now) (left_bodies popped.now version (bodies_from version 0 shelves.now)) }
+    ensures { result ≡ pointwise is_same_body (left_bodies popped.now version bodies.now)
+        (left_bodies popped.now version (bodies_from version 0 shelves.now)) }
 {
     let mut left = from_left(bodies, version, popped);
     for number in 0..shelves.len() {

@@ -38,7 +38,8 @@ impl Standing {
     ) -> Result<Vec<(NodeId, Ask)>, Memory>
         requires locking { self.old.stage ≡ Stage.Locking }
         requires sound { IsKept (state_of self.old) }
-        ensures asks { IfOk result (λ asks. asks.items ≡ new_asks (state_of self.old) (NodeId.Log epoch index) (Tell.Log (LogTell.Locked durable known popped))) }
+        ensures asks { IfOk result (λ asks. asks.items ≡ new_asks (state_of self.old) (NodeId.Log epoch index)
+            (Tell.Log (LogTell.Locked durable known popped))) }
         ensures state { OnOk result (state_of self.new ≡ after_hear (state_of self.old) (NodeId.Log epoch index)
             (Tell.Log (LogTell.Locked durable known popped))) }
         ensures err { OnErr result (state_of self.new ≡ state_of self.old) }
