@@ -16,11 +16,31 @@ pub(crate) fn read_journal(alloc: Global, fields: &mut Fields) -> Result<Journal
     Ok(journal)
 }
 
+/// A journal of what was read of its parts. One whose stamps do not rise is no script.
+pub(crate) fn journal_of(
+    alloc: Global,
+    node: Value,
+    entries: Vec<Entry>,
+    last: Value,
+) -> Result<Journal, ScriptFault> {
+    let mut journal = Journal::new(alloc, read_node(node)?);
+    for entry in entries {
+        enter(&mut journal, entry)?;
+    }
+    close(alloc, &mut journal, last)?;
+    Ok(journal)
+}
+
 fn read_into(alloc: Global, fields: &mut Fields, journal: &mut Journal) -> Result<(), ScriptFault> {
     for entry in items(fields.take(names::ENTRIES)?)? {
         enter(journal, read_entry(alloc, &mut Fields::new(entry, 2))?)?;
     }
-    if let Some(last) = read_last(alloc, fields.take(names::LAST)?)? {
+    close(alloc, journal, fields.take(names::LAST)?)
+}
+
+/// Closes a journal with the last state that is read, where there is one.
+fn close(alloc: Global, journal: &mut Journal, last: Value) -> Result<(), ScriptFault> {
+    if let Some(last) = read_last(alloc, last)? {
         journal.close(last);
     }
     Ok(())
@@ -34,7 +54,7 @@ fn enter(journal: &mut Journal, entry: Entry) -> Result<(), ScriptFault> {
     }
 }
 
-fn read_entry(alloc: Global, fields: &mut Fields) -> Result<Entry, ScriptFault> {
+pub(crate) fn read_entry(alloc: Global, fields: &mut Fields) -> Result<Entry, ScriptFault> {
     let stamp = Stamp::new(fields.number(names::STAMP)?).ok_or(ScriptFault::BadScript)?;
     let act = read_act(alloc, fields.take(names::ACT)?)?;
     Ok(Entry { stamp, act })

@@ -3,6 +3,7 @@
 
 mod acts;
 mod journals;
+mod pieces;
 mod script;
 mod setting;
 

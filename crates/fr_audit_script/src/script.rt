@@ -7,9 +7,11 @@ ghost use Rattle.serde_json.specs.Read.{read};
 ghost use Rattle.serde_json.specs.Written.{IsInOrder};
 
 use crate::journals::{read_journal, write_journal};
+use crate::pieces;
 use crate::setting::{read_config, write_config};
 use fr_audit_journal::Journal;
 use fr_base::Memory;
+use fr_cli_json::tokens::Unread;
 use fr_forms::fields::{Fields, items};
 use fr_forms::object::Object;
 use fr_forms::{ScriptFault, names};
@@ -19,8 +21,20 @@ use std::alloc::Global;
 
 /// Reads the script that a text is: a config and journals, each within the limits of its type. Each object has
 /// exactly its members, in any order; of two members of one name the last one counts. What is no such text is
-/// `BadScript`.
+/// `BadScript`. A text that is as [`write_script`] writes it is read piece by piece, and any other as one tree.
 pub fn read_script(alloc: Global, text: &[u8]) -> Result<(Config, Vec<Journal>), ScriptFault>
+    ensures utf8 { OnOk result (IsUtf8 text.now) }
+    ensures json { OnOk result ((d : Data) × (read text.now ≡ Some d)) }
+{
+    match pieces::read_script(alloc, text) {
+        Ok(script) => Ok(script),
+        Err(Unread::Memory) => Err(ScriptFault::Memory),
+        Err(Unread::Unusual) => read_tree_of(alloc, text),
+    }
+}
+
+/// Reads the script that a text is from the tree of its JSON, which alone knows that it is none.
+fn read_tree_of(alloc: Global, text: &[u8]) -> Result<(Config, Vec<Journal>), ScriptFault>
     ensures utf8 { OnOk result (IsUtf8 text.now) }
     ensures json { OnOk result ((d : Data) × (read text.now ≡ Some d)) }
 {
