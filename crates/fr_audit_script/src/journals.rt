@@ -33,7 +33,7 @@ pub(crate) fn journal_of(
 
 fn read_into(alloc: Global, fields: &mut Fields, journal: &mut Journal) -> Result<(), ScriptFault> {
     for entry in items(fields.take(names::ENTRIES)?)? {
-        enter(journal, read_entry(alloc, &mut Fields::new(entry, 2))?)?;
+        enter(journal, entry_of(alloc, entry)?)?;
     }
     close(alloc, journal, fields.take(names::LAST)?)
 }
@@ -54,7 +54,12 @@ fn enter(journal: &mut Journal, entry: Entry) -> Result<(), ScriptFault> {
     }
 }
 
-pub(crate) fn read_entry(alloc: Global, fields: &mut Fields) -> Result<Entry, ScriptFault> {
+/// An entry.
+pub(crate) fn entry_of(alloc: Global, value: Value) -> Result<Entry, ScriptFault> {
+    read_entry(alloc, &mut Fields::new(value, 2))
+}
+
+fn read_entry(alloc: Global, fields: &mut Fields) -> Result<Entry, ScriptFault> {
     let stamp = Stamp::new(fields.number(names::STAMP)?).ok_or(ScriptFault::BadScript)?;
     let act = read_act(alloc, fields.take(names::ACT)?)?;
     Ok(Entry { stamp, act })

@@ -5,12 +5,11 @@ ghost use Rattle.serde_json.specs.Data.{Data};
 ghost use Rattle.serde_json.specs.Read.{read};
 ghost use Rattle.fr_form_pieces.specs.Pieces.{HasValue};
 
-use crate::journals::{journal_of, read_entry};
-use crate::setting::read_config;
+use crate::journals::{entry_of, journal_of};
+use crate::setting::config_of;
 use fr_audit_journal::{Entry, Journal};
 use fr_cli_json::tokens::{Unread, close_object, open_array, open_object, take_key};
 use fr_form_pieces::read_tree;
-use fr_forms::fields::Fields;
 use fr_forms::{ScriptFault, names};
 use fr_run_event::Config;
 use json::{Reader, Scratch};
@@ -40,7 +39,7 @@ fn read_whole(alloc: Global, reader: &mut Reader<'_>) -> Result<(Config, Vec<Jou
     open_object(reader)?;
     take_key(reader, names::CONFIG)?;
     let config = read_tree(alloc, reader, 126)?;
-    let config = usual(read_config(alloc, &mut Fields::new(config, 5)))?;
+    let config = usual(config_of(alloc, config))?;
     take_key(reader, names::JOURNALS)?;
     let journals = read_journals(alloc, reader)?;
     close_object(reader)?;
@@ -72,8 +71,9 @@ fn read_journal(alloc: Global, reader: &mut Reader<'_>) -> Result<Journal, Unrea
     let last = read_tree(alloc, reader, 124)?;
     take_key(reader, names::NODE)?;
     let node = read_tree(alloc, reader, 124)?;
+    let journal = usual(journal_of(alloc, node, entries, last))?;
     close_object(reader)?;
-    usual(journal_of(alloc, node, entries, last))
+    Ok(journal)
 }
 
 /// Reads a list of entries.
@@ -85,7 +85,7 @@ fn read_entries(alloc: Global, reader: &mut Reader<'_>) -> Result<Vec<Entry>, Un
     let mut entries = Vec::new(alloc);
     while !reader.take_end_array() {
         let entry = read_tree(alloc, reader, 123)?;
-        entries.push(usual(read_entry(alloc, &mut Fields::new(entry, 2)))?)?;
+        entries.push(usual(entry_of(alloc, entry))?)?;
     }
     Ok(entries)
 }

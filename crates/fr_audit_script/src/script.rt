@@ -8,7 +8,7 @@ ghost use Rattle.serde_json.specs.Written.{IsInOrder};
 
 use crate::journals::{read_journal, write_journal};
 use crate::pieces;
-use crate::setting::{read_config, write_config};
+use crate::setting::{config_of, write_config};
 use fr_audit_journal::Journal;
 use fr_base::Memory;
 use fr_cli_json::tokens::Unread;
@@ -47,7 +47,7 @@ fn read_tree_of(alloc: Global, text: &[u8]) -> Result<(Config, Vec<Journal>), Sc
 }
 
 fn read_parts(alloc: Global, fields: &mut Fields) -> Result<(Config, Vec<Journal>), ScriptFault> {
-    let config = read_config(alloc, &mut Fields::new(fields.take(names::CONFIG)?, 5))?;
+    let config = config_of(alloc, fields.take(names::CONFIG)?)?;
     let journals = read_journals(alloc, fields.take(names::JOURNALS)?)?;
     Ok((config, journals))
 }

@@ -8,7 +8,11 @@ use serde_json::Value;
 use std::alloc::Global;
 
 /// A config within its limits.
-pub(crate) fn read_config(alloc: Global, fields: &mut Fields) -> Result<Config, ScriptFault> {
+pub(crate) fn config_of(alloc: Global, value: Value) -> Result<Config, ScriptFault> {
+    read_config(alloc, &mut Fields::new(value, 5))
+}
+
+fn read_config(alloc: Global, fields: &mut Fields) -> Result<Config, ScriptFault> {
     let coordinators = fields.index(names::COORDINATORS, u8::MAX)?;
     let logs = fields.index(names::LOGS, u8::MAX)?;
     let degree = fields.index(names::DEGREE, u8::MAX)?;

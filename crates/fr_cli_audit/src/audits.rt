@@ -56,17 +56,17 @@ pub fn audit_counted<R: Read, W: Write>(
     ensures done { OnOk result (HasNotFailed calls.new) }
 {
     let input = read_input(alloc, calls, reader)?;
-    let (config, journals) = journals_in(alloc, input.as_slice())?;
+    let (config, journals) = journals_in(alloc, input)?;
     let status = put_audit(alloc, config, journals.as_slice(), calls, writer)?;
     calls.flush(writer)?;
     Ok(status)
 }
 
-/// The config and the journals of a script.
-fn journals_in(alloc: Global, text: &[u8]) -> Result<(Config, Vec<Journal>), CliFault>
+/// The config and the journals of a script. The input is let go once they are made.
+fn journals_in(alloc: Global, input: Vec<u8>) -> Result<(Config, Vec<Journal>), CliFault>
     ensures fault { IfErr result (λ e. (e ≡ CliFault.BadScript) ⊎ (e ≡ CliFault.Memory)) }
 {
-    match read_script(alloc, text) {
+    match read_script(alloc, input.as_slice()) {
         Ok(script) => Ok(script),
         Err(ScriptFault::BadScript) => Err(CliFault::BadScript),
         Err(ScriptFault::Memory) => Err(CliFault::Memory),
