@@ -1,4 +1,4 @@
-use Rattle.std.proofs.Common.{◌<◌, length, Some, None, ap, arith}
+use Rattle.std.proofs.Common.{length, Some, None, ap, arith}
 use Rattle.json.proofs.Grammar.{read_key-shorter}
 use Rattle.serde_json.specs.View.{view}
 use Rattle.fr_form_pieces.proofs.PieceLemmas.{three_passed}

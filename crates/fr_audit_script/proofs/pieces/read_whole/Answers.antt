@@ -1,4 +1,4 @@
-use Rattle.std.proofs.Common.{◌<◌, length, Some, None, ap, arith}
+use Rattle.std.proofs.Common.{arith}
 use Rattle.serde_json.specs.View.{view}
 use Rattle.fr_form_pieces.proofs.PieceLemmas.{two_passed}
 use Rattle.fr_audit_script.proofs.pieces.read_whole.Goals as goal
