@@ -2,7 +2,7 @@
 use crate::exchange::{Exchange, ask_and_hear};
 use crate::names::event_name;
 use crate::pending::pending_of;
-use crate::script::Commit;
+use fr_simulate_script::Commit;
 use crate::steps::push::push_to;
 use fr_ask::{Ask, SeqTell, Tell};
 use fr_base::{Memory, NodeId, Version};

@@ -1,5 +1,5 @@
 //! The step `mark`: a storage server asks a log for the mark of its epoch.
-use crate::script::Pull;
+use fr_simulate_script::Pull;
 use crate::steps::storing;
 use fr_base::Memory;
 use fr_log::LogAsk;

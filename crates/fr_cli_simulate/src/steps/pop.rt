@@ -1,6 +1,6 @@
 //! The step `pop`: a storage server has a log let go of what it has for good.
 use crate::names::Refusal;
-use crate::script::Pull;
+use fr_simulate_script::Pull;
 use crate::steps::storing::{self, Asked};
 use fr_ask::Tell;
 use fr_base::{Memory, Version};

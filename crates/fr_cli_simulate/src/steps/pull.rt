@@ -1,5 +1,5 @@
 //! The step `pull`: a storage server pulls records of its tag from a log.
-use crate::script::Pull;
+use fr_simulate_script::Pull;
 use crate::steps::storing;
 use fr_base::Memory;
 use fr_log::{LogAsk, Most};

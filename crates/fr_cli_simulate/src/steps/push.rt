@@ -1,7 +1,7 @@
 //! The step `push`: a proxy pushes its open batch again.
 use crate::exchange::{Exchange, ask_listed};
 use crate::pending::{Purpose, distinct, pending_of};
-use crate::script::Push;
+use fr_simulate_script::Push;
 use fr_ask::Ask;
 use fr_base::{Memory, NodeId, Version};
 use fr_log::LogAsk;

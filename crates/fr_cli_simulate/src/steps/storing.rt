@@ -1,7 +1,7 @@
 //! What a storage server asks a log for.
 use crate::exchange::{Exchange, ask_for_server};
 use crate::names::Refusal;
-use crate::script::Pull;
+use fr_simulate_script::Pull;
 use fr_ask::{Ask, Tell};
 use fr_base::{Memory, NodeId};
 use fr_log::{LogAsk, LogTell};
