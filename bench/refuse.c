@@ -23,7 +23,7 @@ extern void *__libc_realloc(void *place, size_t size);
 enum { LINE = 200, KNOWN = 1 << 16, OPEN = 64, SECONDS = 120 };
 
 static long made, refused = -1, step;
-static int to = -1, is_copy, streams[3];
+static int to = -1, is_copy, is_over, streams[3];
 static int *has_ended;
 static uint64_t known[KNOWN];
 
@@ -154,7 +154,7 @@ static int refuses(void) {
     if (__atomic_load_n(&refused, __ATOMIC_RELAXED) < 0) look();
     long number = __atomic_add_fetch(&made, 1, __ATOMIC_RELAXED);
     if (to < 0) return number == refused;
-    return !is_copy && number >= refused && (number - refused) % step == 0 && refuses_in_copy(number);
+    return !is_copy && !is_over && number >= refused && (number - refused) % step == 0 && refuses_in_copy(number);
 }
 
 void *malloc(size_t size) {
@@ -170,6 +170,8 @@ __attribute__((destructor)) static void say(void) {
         *has_ended = 1;
         return;
     }
+    /* (what the end itself takes is not the program's) */
+    is_over = 1;
     dprintf(2, "\nallocations %ld\n", made);
 }
 
