@@ -47,9 +47,27 @@ impl Model for Log {
 
     ghost Value = { LogState };
 
-    ghost view = { λ a. record { epoch = a.id.epoch; index = a.id.index; m = a.shape.m; k = a.shape.k; seed = a.seed; pushes = a.pushes; stopped = a.stopped; popped = a.popped } };
+    ghost view = { λ a. record {
+      epoch = a.id.epoch;
+      index = a.id.index;
+      m = a.shape.m;
+      k = a.shape.k;
+      seed = a.seed;
+      pushes = a.pushes;
+      stopped = a.stopped;
+      popped = a.popped;
+    } };
 
-    ghost invariant = { λ a. IsKept (record { epoch = a.id.epoch; index = a.id.index; m = a.shape.m; k = a.shape.k; seed = a.seed; pushes = a.pushes; stopped = a.stopped; popped = a.popped }) a.durable a.known };
+    ghost invariant = { λ a. IsKept (record {
+      epoch = a.id.epoch;
+      index = a.id.index;
+      m = a.shape.m;
+      k = a.shape.k;
+      seed = a.seed;
+      pushes = a.pushes;
+      stopped = a.stopped;
+      popped = a.popped;
+    }) a.durable a.known };
 }
 
 impl Log {

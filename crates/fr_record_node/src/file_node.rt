@@ -38,9 +38,22 @@ impl<M: Recorded, D: Device> Model for FileNode<M, D> {
 
     ghost Value = { NodeState D M };
 
-    ghost view = { λ n. record { device = n.file.device; records = n.file.records; is_failed = n.file.is_failed; machine = n.machine; owed = owed_of (after_held M.after) n.machine n.held } };
+    ghost view = { λ n. record {
+      device = n.file.device;
+      records = n.file.records;
+      is_failed = n.file.is_failed;
+      machine = n.machine;
+      owed = owed_of (after_held M.after) n.machine n.held;
+    } };
 
-    ghost invariant = { λ n. IsNode D.Led D.disk M.fresh M.replay (written_held M.after M.written) (AreAsks M.IsAsk) M.IsSound n.held (record { device = n.file.device; records = n.file.records; is_failed = n.file.is_failed; machine = n.machine; owed = owed_of (after_held M.after) n.machine n.held }) };
+    ghost invariant = { λ n. IsNode D.Led D.disk M.fresh M.replay (written_held M.after M.written) (AreAsks M.IsAsk) M.IsSound
+        n.held (record {
+          device = n.file.device;
+          records = n.file.records;
+          is_failed = n.file.is_failed;
+          machine = n.machine;
+          owed = owed_of (after_held M.after) n.machine n.held;
+        }) };
 }
 
 impl<M: Recorded, D: Device> FileNode<M, D>

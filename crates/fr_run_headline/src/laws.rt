@@ -117,7 +117,8 @@ pub fn committed_law()
 }
 
 /// What a log knows, what was acknowledged and the floor of a storage server are not above the cut of their epoch in any
-/// state that goes on from it, nor is the floor above the recovery version of any later epoch or recoverer; logs hold pushes of chosen epochs alone; and no recoverer finds its replies at odds.
+/// state that goes on from it, nor is the floor above the recovery version of any later epoch or recoverer; logs hold
+/// pushes of chosen epochs alone; and no recoverer finds its replies at odds.
 pub fn order_law()
     ensures known { KnownIsNeverCut }
     ensures acknowledged { AcknowledgedIsNeverCut }

@@ -45,9 +45,28 @@ where
 
     ghost Value = { Housing N N.Plain N.Plain.Ask };
 
-    ghost view = { λ h. record { node = h.node; place = h.journal.node; first = h.first.value; entries = h.journal.entries; state = N.state h.node; is_failed = N.is_failed h.node; kept = h.kept } };
+    ghost view = { λ h. record {
+      node = h.node;
+      place = h.journal.node;
+      first = h.first.value;
+      entries = h.journal.entries;
+      state = N.state h.node;
+      is_failed = N.is_failed h.node;
+      kept = h.kept;
+    } };
 
-    ghost invariant = { λ h. IsHoused (steps N.Plain.wrapped N.Plain.unwrapped N.Plain.wrapped_tell N.Plain.told N.Plain.after) N.Plain.IsReached (record { node = h.node; place = h.journal.node; first = h.first.value; entries = h.journal.entries; state = N.state h.node; is_failed = N.is_failed h.node; kept = h.kept }) (N.owed h.node) × (h.is_failed ≡ N.is_failed h.node) × (h.is_gone ≡ gone_at_end h.journal.node false h.journal.entries) };
+    ghost invariant = { λ h. IsHoused (steps N.Plain.wrapped N.Plain.unwrapped N.Plain.wrapped_tell N.Plain.told N.Plain.after)
+        N.Plain.IsReached (record {
+          node = h.node;
+          place = h.journal.node;
+          first = h.first.value;
+          entries = h.journal.entries;
+          state = N.state h.node;
+          is_failed = N.is_failed h.node;
+          kept = h.kept;
+        }) (N.owed h.node)
+        × (h.is_failed ≡ N.is_failed h.node)
+        × (h.is_gone ≡ gone_at_end h.journal.node false h.journal.entries) };
 }
 
 impl<N: Node> Housed<N>

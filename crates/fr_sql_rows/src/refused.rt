@@ -244,7 +244,8 @@ pub(crate) fn run<S: Backing>(
 /// Commits a transaction. It fails where an earlier failure has already ended it.
 pub fn commit<S: Backing>(tx: Transaction<'_, S>) -> Result<(), Refused>
     ensures ok { HasCleanDisk (state S.Store tx.exit.0.now) → OnOk result (IsTrue (state S.Store tx.entry.conn.now).in_transaction
-        × Shows (state S.Store tx.entry.conn.now) (state S.Store tx.exit.0.now) (state S.Store tx.entry.conn.now).now (state S.Store tx.entry.conn.now).now false
+        × Shows (state S.Store tx.entry.conn.now) (state S.Store tx.exit.0.now)
+        (state S.Store tx.entry.conn.now).now (state S.Store tx.entry.conn.now).now false
         × KeepsCounts (state S.Store tx.entry.conn.now) (state S.Store tx.exit.0.now)
         × ((state S.Store tx.exit.0.now).marks ≡ [])) }
     ensures err { HasCleanDisk (state S.Store tx.exit.0.now) → IfErr result (FailsToCommit (state S.Store tx.entry.conn.now) (state S.Store tx.exit.0.now)) }

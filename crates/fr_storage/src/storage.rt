@@ -48,7 +48,14 @@ impl<S: ShardStore> Model for Storage<S> {
 
     ghost view = { λ s. record { tag = s.tag; state = s.state; applied = s.applied; floor = s.floor; store = s.store; failed = s.failed } };
 
-    ghost invariant = { λ s. IsServer S.state S.is_failed S.MayLeave (record { tag = s.tag; state = s.state; applied = s.applied; floor = s.floor; store = s.store; failed = s.failed }) };
+    ghost invariant = { λ s. IsServer S.state S.is_failed S.MayLeave (record {
+      tag = s.tag;
+      state = s.state;
+      applied = s.applied;
+      floor = s.floor;
+      store = s.store;
+      failed = s.failed;
+    }) };
 }
 
 impl<S: ShardStore> Storage<S> {

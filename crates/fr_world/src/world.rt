@@ -55,10 +55,11 @@ impl World {
 
     /// Makes the turn that an event is: it answers what the turn gave, and adds it to what happened. An event that
     /// cannot happen is refused, for the first of the reasons in the order of `NotEnabled`, and changes nothing; nor
-    /// does want of memory, which is answered only for an event that can happen. In the world that it leaves, a storage server that has just rolled back holds exactly
-    /// its shard of the map given by the committed batches through its applied version, which is at most the
-    /// recovery version, and no acknowledged commit is ever undone. All else that is promised of it is what
-    /// [`World::is_safe`] says; and its committed list begins with that of the world before.
+    /// does want of memory, which is answered only for an event that can happen. In the world that it leaves, a
+    /// storage server that has just rolled back holds exactly its shard of the map given by the committed batches
+    /// through its applied version, which is at most the recovery version, and no acknowledged commit is ever undone.
+    /// All else that is promised of it is what [`World::is_safe`] says; and its committed list begins with that of
+    /// the world before.
     pub fn step(&mut self, alloc: Global, event: &Event) -> Result<Answer, NotEnabled>
         ensures turn { Steps self.old self.new event.now result }
         ensures refused { Refuses self.old event.now result }
