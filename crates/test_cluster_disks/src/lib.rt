@@ -1,8 +1,10 @@
-//! Tests of running clusters over record files and tables, and of stores that fail while threads run.
+//! Tests of running clusters over record files and tables, and of nodes and stores that fail while threads run.
 #![tactic(auto)]
 
 #[cfg(test)]
 mod breaking;
+#[cfg(test)]
+mod devices;
 #[cfg(test)]
 mod printed;
 #[cfg(test)]
