@@ -42,7 +42,14 @@ def seeded(number):
 
 
 def word_of(number):
-    return seeded(number).word()
+    """The first word of `seeded(number)`, in one go: a storm draws one for each ask."""
+    number &= MASK
+    seed = 0
+    for place in (0, 32, 64, 96):
+        number = (number * MULTIPLIER + 11634580027462260723) & MASK
+        seed |= output(number) << place
+    increment = seed >> 64 | 1
+    return output((((seed & MASK) + increment) * MULTIPLIER + increment) & MASK)
 
 
 def verdict(strength, word):
@@ -79,6 +86,7 @@ def is_published():
         [reference.word() for _ in words] == words
         and first.word() | first.word() << 32 == 18195738587432868099
         and int.from_bytes(seed_bytes(0, 8), "little") == 5029875928683246316
+        and all(word_of(number) == seeded(number).word() for number in (0, 1, 2021, 1 << 63, MASK, 1 << 64))
     )
 
 
