@@ -5,7 +5,7 @@ use fr_forms::fields::Fields;
 use fr_forms::object::Object;
 use serde_json::Value;
 use std::alloc::Global;
-use test_rows::{Plays, Scene, Wrong, no_such_word, read_sizes, write_name};
+use test_rows::{Plays, Scene, Wrong, no_such_word, read_sizes, said, write_name};
 
 /// Plays rows with a tally that no log replied to.
 pub(crate) fn play_tally(alloc: Global, scene: Scene, at: &mut usize) -> Result<(), Wrong> {
@@ -40,9 +40,18 @@ fn reply(alloc: Global, tally: &mut EndTally, fields: &Fields) -> Result<Value, 
     let durable = fields.version("durable")?;
     let known = fields.version("known")?;
     match tally.hear(log, durable, known) {
-        Ok(()) => write_end(alloc, tally.end()),
+        Ok(()) => told_end(alloc, tally),
         Err(ReplyFault::Stranger) => write_name(alloc, "Stranger"),
         Err(ReplyFault::Differs) => write_name(alloc, "Differs"),
+    }
+}
+
+/// The end after a reply that was heard. Where there is no memory for it, it is written once more, since the reply is not
+/// to be heard again.
+fn told_end(alloc: Global, tally: &EndTally) -> Result<Value, Wrong> {
+    match write_end(alloc, tally.end()) {
+        Ok(end) => Ok(end),
+        Err(_) => said(write_end(alloc, tally.end())),
     }
 }
 
