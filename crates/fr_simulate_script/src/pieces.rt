@@ -16,7 +16,7 @@ use std::alloc::Global;
 
 /// Reads the script that an input is, where it has the usual form.
 pub(crate) fn read_script(alloc: Global, input: &[u8]) -> Result<Script, Unread>
-    ensures json { OnOk result ((d : Data) × (data_of input.now ≡ Some d)) }
+    ensures { OnOk result ((d : Data) × (data_of input.now ≡ Some d)) }
 {
     let Ok(text) = simdutf8::compat::from_utf8(input) else {
         return Err(Unread::Unusual);
