@@ -285,6 +285,10 @@ module _ (v : ℕ) (held : List ℕ → Option (List ℕ)) (rows rows' : RowList
       let more = ap length is in
       omega arith
 
+pub none_left : {X : Type 0} (xs : List X) → length xs ≡ 0 → xs ≡ []
+none_left [] e = refl
+none_left (x ∷ xs) e = absurd (omega arith)
+
 -- the row of a key of a plan is that of the batch of which it is the plan
 pub rows_agree : (plan : Plan) (old new : List ℕ → Option (List ℕ)) (v : ℕ) → ((q : List ℕ) → value_planned plan old q ≡ new q)
     → (p : Place) → cond (p.0 == v) (row_planned (old p.1) (tree.get bytes_cmp plan p.1)) None ≡ row_made old new v p

@@ -1,5 +1,5 @@
 -- What is planned of keys, one mutation, range or row after the other.
-use Rattle.std.proofs.Common.{◌≡◌, ℕ, Bool, true, false, cond, ◌||◌, ◌&&◌, List, ◌∷◌, Option, None, Some, IsSome, IfSome, refl, sym, ap, ◌∙◌}
+use Rattle.std.proofs.Common.{◌≡◌, ℕ, Bool, true, false, cond, ◌||◌, ◌&&◌, List, ◌∷◌, Option, None, Some, IsSome, IfSome, Result, Ok, Err, IfOk, refl, sym, ap, ◌∙◌}
 use Rattle.std.specs.Prelude.{is_some, unwrap_or}
 use Rattle.std.specs.Option.{option_or}
 use Rattle.std.specs.List.{list_any}
@@ -46,10 +46,11 @@ added_new plan plan' k after absent put q =
     ] refl
 
 -- a key of which something was planned
-pub added_before : (plan : Plan) (k : List ℕ) (after : Option (List ℕ)) → IsSome (tree.get bytes_cmp plan k)
-    → (q : List ℕ) → tree.get bytes_cmp plan q ≡ option_or (tree.get bytes_cmp plan q) (cond (is_same k q) (Some after) None)
-added_before plan k after some q =
-    elim (is_same k q) as (λ b. is_same k q ≡ b → tree.get bytes_cmp plan q ≡ option_or (tree.get bytes_cmp plan q) (cond b (Some after) None)) [
+pub added_before : (plan plan' : Plan) (k : List ℕ) (after : Option (List ℕ)) → IsSome (tree.get bytes_cmp plan k) → plan'.entries ≡ plan.entries
+    → (q : List ℕ) → tree.get bytes_cmp plan' q ≡ option_or (tree.get bytes_cmp plan q) (cond (is_same k q) (Some after) None)
+added_before plan plan' k after some same q =
+    ap (lookup (is_at (bytes_cmp q))) same
+    ∙ elim (is_same k q) as (λ b. is_same k q ≡ b → tree.get bytes_cmp plan q ≡ option_or (tree.get bytes_cmp plan q) (cond b (Some after) None)) [
       | true ↦ λ e. there (tree.get bytes_cmp plan q) (ap (λ x. is_some (tree.get bytes_cmp plan x)) (sym (one_key bytes_exact k q e)) ∙ some)
       | false ↦ λ e. sym (option_or_none (tree.get bytes_cmp plan q))
     ] refl
@@ -127,3 +128,8 @@ changed_step held es rest e changes changes' is sorted put q =
           ∙ sym (ap (λ o. option_or (change_by (held q) o) (tree.get bytes_cmp changes q)) (ap (λ k. lookup (is_at (bytes_cmp k)) es) (sym one) ∙ found_first es rest e is))
       | false ↦ λ t. refl
     ] refl
+
+-- what holds of each value that is made holds of what a call answers
+pub if_ok : {T E : Type 0} (r : Result T E) (P Q : T → Type 0) → ((x : T) → P x → Q x) → IfOk r P → IfOk r Q
+if_ok (Ok x) P Q f h = f x h
+if_ok (Err e) P Q f h = tt

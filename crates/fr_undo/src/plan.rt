@@ -26,11 +26,8 @@ pub(crate) fn add(plan: &mut Plan, key: &Bytes, after: &Option<Bytes>) -> Result
         → tree.get bytes_cmp plan.new q ≡ option_or (tree.get bytes_cmp plan.old q)
         (cond (is_same key.now q) (Some after.now) None)) }
 {
-    match plan.entry(key.copy()?)? {
-        Entry::Occupied(_) => {}
-        Entry::Vacant(entry) => {
-            entry.insert(copy_of(after)?);
-        }
+    if let Entry::Vacant(entry) = plan.entry(key.copy()?)? {
+        entry.insert(copy_of(after)?);
     }
     Ok(())
 }

@@ -9,7 +9,7 @@ use Rattle.fr_undo.specs.Plan.{ended, row_left}
 use Rattle.fr_undo.specs.Rows.{rows_left}
 use Rattle.fr_undo.proofs.TreeLemmas.{copied_sorted}
 use Rattle.fr_undo.proofs.WriteLemmas.{found_first, found_rest, acted_step, still_step}
-use Rattle.fr_undo.proofs.ListRows.{left_step, room_step}
+use Rattle.fr_undo.proofs.ListRows.{left_step, room_step, none_left}
 use Rattle.fr_undo.proofs.extend.settle.Goals as goal
 
 pub put_row-requires : goal.put_row-requires
@@ -43,7 +43,8 @@ pub returns-clause-rows : goal.returns-clause-rows
 returns-clause-rows c =
     let held = tree.get bytes_cmp c.args.contents.now in
     let all : c.into_iter-key-iterator.result.rest.items ≡ c.args.fates.items = c.into_iter-key-iterator.ensures.into_iter_gives.0 in
+    let none = none_left c.loop-key.key-iterator.rest.items (let long = c.loop-key.key-iterator.rest.ok.0 in let end = c.in-None.ensures.steps.0 in omega arith) in
     sym (append-nil c.loop-key.rows.items)
-    ∙ sym (ap (λ es. c.loop-key.rows.items ++ rows_left c.args.version held es) c.in-None.ensures.steps.0)
+    ∙ sym (ap (λ es. c.loop-key.rows.items ++ rows_left c.args.version held es) none)
     ∙ c.loop-key.invariant.rows
     ∙ ap (λ es. c.args.rows.now.items ++ rows_left c.args.version held es) all

@@ -8,7 +8,9 @@ pub returns-in-Occupied : goal.returns-in-Occupied
 returns-in-Occupied c =
     let k = c.in_ok-copy.ensures in
     let there = rw (c.in-Occupied.is, k) at c.in_ok-plan.ensures.found in
-    added_before c.args.plan.now c.args.key.now c.args.after.now there.0
+    let ends = c.plan-in-Occupied-3-1.given.1 (sym (rw c.in-Occupied.is at c.in_ok-plan.ensures.same_map)) in
+    let same = rw c.in-Occupied.is at c.in_ok-plan.ensures.unchanged in
+    added_before c.args.plan.now c.plan-in-Occupied-3-1.given.0 c.args.key.now c.args.after.now there.0 (ap (λ m. m.entries) ends ∙ same)
 
 pub returns-in_ok-copy_of-in-Vacant : goal.returns-in_ok-copy_of-in-Vacant
 returns-in_ok-copy_of-in-Vacant c =

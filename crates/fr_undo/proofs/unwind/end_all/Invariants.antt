@@ -11,5 +11,5 @@ use Rattle.fr_undo.proofs.unwind.end_all.Given as goal
 abbrev pub invariant-loop-key : goal.invariant-loop-key
 invariant-loop-key l = record {
   sorted : IsStrictlySortedBy bytes_cmp (keys_of l.key-iterator.rest.items);
-  value : (q : List ℕ) → acted ended (lookup (is_at (bytes_cmp q)) l.key-iterator.rest.items) (tree.get bytes_cmp l.contents q) ≡ acted ended (lookup (is_at (bytes_cmp q)) l.initial.key-iterator.rest.items.rest.items) (tree.get bytes_cmp l.initial.contents q);
+  value : (q : List ℕ) → acted ended (lookup (is_at (bytes_cmp q)) l.key-iterator.rest.items) (tree.get bytes_cmp l.contents q) ≡ acted ended (lookup (is_at (bytes_cmp q)) l.initial.key-iterator.rest.items) (tree.get bytes_cmp l.initial.contents q);
 }

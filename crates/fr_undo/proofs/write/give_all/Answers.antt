@@ -31,7 +31,7 @@ loop-key-preserved c =
     let left = λ (q : List ℕ). lookup (is_at (bytes_cmp q)) rest in
     let was = found_first es rest e is in
     let gone = found_rest es rest e is inv.sorted in
-    let order = subst (λ (l : List (List ℕ × Option (List ℕ))). IsStrictlySortedBy bytes_cmp (keys_of done ++ keys_of l)) is (order_left held done es c.initial.key-iterator inv.made inv.order) in
+    let order = subst (λ (l : List (List ℕ × Option (List ℕ))). IsStrictlySortedBy bytes_cmp (keys_of done ++ keys_of l)) is (order_left held done es c.into_iter-key-iterator.result inv.made inv.order) in
     let none = none_before done e.0 (keys_of rest) order in
     record {
       can = tt;
@@ -49,9 +49,9 @@ loop-key-preserved c =
 pub returns-in_err-fate-clause-order : goal.returns-in_err-fate-clause-order
 returns-in_err-fate-clause-order c =
     let inv = c.loop-key.invariant in
-    sorted_front (keys_of c.loop-key.fates.items) (keys_of c.loop-key.key-iterator) (order_left (tree.get bytes_cmp c.args.contents.now) c.loop-key.fates.items c.loop-key.key-iterator c.initial.key-iterator inv.made inv.order)
+    sorted_front (keys_of c.loop-key.fates.items) (keys_of c.loop-key.key-iterator) (order_left (tree.get bytes_cmp c.args.contents.now) c.loop-key.fates.items c.loop-key.key-iterator c.into_iter-key-iterator.result inv.made inv.order)
 
 pub returns-clause-order : goal.returns-clause-order
 returns-clause-order c =
     let inv = c.loop-key.invariant in
-    sorted_front (keys_of c.loop-key.fates.items) (keys_of c.loop-key.key-iterator) (order_left (tree.get bytes_cmp c.args.contents.now) c.loop-key.fates.items c.loop-key.key-iterator c.initial.key-iterator inv.made inv.order)
+    sorted_front (keys_of c.loop-key.fates.items) (keys_of c.loop-key.key-iterator) (order_left (tree.get bytes_cmp c.args.contents.now) c.loop-key.fates.items c.loop-key.key-iterator c.into_iter-key-iterator.result inv.made inv.order)

@@ -11,6 +11,6 @@ use Rattle.fr_undo.proofs.write.take_back.Given as goal
 abbrev pub invariant-loop-key : goal.invariant-loop-key
 invariant-loop-key l = record {
   sorted : IsStrictlySortedBy bytes_cmp (keys_of l.key-iterator.rest.items);
-  value : (q : List ℕ) → acted taken_back (lookup (is_at (bytes_cmp q)) l.key-iterator.rest.items) (tree.get bytes_cmp l.contents q) ≡ acted taken_back (lookup (is_at (bytes_cmp q)) l.initial.key-iterator.rest.items.rest.items) (tree.get bytes_cmp l.initial.contents q);
+  value : (q : List ℕ) → acted taken_back (lookup (is_at (bytes_cmp q)) l.key-iterator.rest.items) (tree.get bytes_cmp l.contents q) ≡ acted taken_back (lookup (is_at (bytes_cmp q)) l.initial.key-iterator.rest.items) (tree.get bytes_cmp l.initial.contents q);
   places : (q : List ℕ) → IfSome (lookup (is_at (bytes_cmp q)) l.key-iterator.rest.items) (λ fate. HasPlace fate (tree.get bytes_cmp l.contents q));
 }
