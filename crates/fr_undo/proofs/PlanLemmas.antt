@@ -12,8 +12,7 @@ use Rattle.fr_base.proofs.MapLemmas.{one_key}
 use Rattle.fr_mutation.specs.declared.mutation.Mutation.{Mutation}
 use Rattle.fr_mutation.specs.Mutation.{key_of, new_value, value_after, is_between}
 use Rattle.fr_mutation.proofs.MutationLemmas.{keyed_value}
-use Rattle.fr_undo.specs.declared.changes.Change.{Change}
-use Rattle.fr_undo.specs.Changes.{Changes, KnowBefore, written, after_of, is_key_of, covers, held_outside}
+use Rattle.fr_undo.specs.Changes.{Changes, written, after_of, is_key_of, covers, held_outside}
 use Rattle.fr_undo.specs.Plan.{Plan, value_planned, change_by}
 use Rattle.fr_undo.proofs.ChangeLemmas.{or_false, or_true}
 use Rattle.fr_undo.proofs.RowLemmas.{option_or_none}

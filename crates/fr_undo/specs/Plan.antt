@@ -1,5 +1,5 @@
 -- What keys are to hold, and how far that is carried out.
-use Rattle.std.specs.Prelude.{◌≡◌, ℕ, List, [], ◌∷◌, Option, None, Some, IsSome, if◌then◌else◌, unwrap_or, ⊤}
+use Rattle.std.specs.Prelude.{ℕ, List, [], ◌∷◌, Option, None, Some, IsSome, if◌then◌else◌, unwrap_or, ⊤}
 use Rattle.std.specs.Option.{option_or, option_map}
 use Rattle.std.specs.BTreeMap as tree
 use Rattle.std.specs.BTreeMap.{BTreeMap}

@@ -1,4 +1,4 @@
-use Rattle.std.proofs.Common.{◌≡◌, sym, ap, ◌∙◌}
+use Rattle.std.proofs.Common.{sym, ap, ◌∙◌}
 use Rattle.fr_undo.proofs.PlanLemmas.{added_new, added_before}
 use Rattle.fr_undo.proofs.plan.add.Goals as goal
 

@@ -1,4 +1,4 @@
-use Rattle.std.proofs.Common.{◌≡◌, ℕ, List, Some, None, cond, ◌&&◌, not, ap, sym, ◌∙◌}
+use Rattle.std.proofs.Common.{ℕ, List, Some, None, cond, ◌&&◌, not, ap, sym, ◌∙◌}
 use Rattle.std.specs.Prelude.{is_some}
 use Rattle.std.specs.Option.{option_or}
 use Rattle.std.specs.List.{list_any}

@@ -7,7 +7,7 @@ use Rattle.fr_base.specs.Bytes.{bytes_cmp}
 use Rattle.fr_undo.specs.State.{place_cmp}
 use Rattle.fr_undo.specs.Changes.{after_of, first_row}
 use Rattle.fr_undo.proofs.RowLemmas.{first_rows, option_or_none}
-use Rattle.fr_undo.proofs.PlanLemmas.{after_by, known_by, if_ok}
+use Rattle.fr_undo.proofs.PlanLemmas.{after_by, if_ok}
 use Rattle.fr_undo.proofs.rows.changes_above.Goals as goal
 
 pub returns-clause-value : goal.returns-clause-value

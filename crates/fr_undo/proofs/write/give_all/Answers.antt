@@ -1,11 +1,11 @@
-use Rattle.std.proofs.Common.{◌≡◌, ℕ, ◌++◌, List, [], Option, IfSome, length, ap, sym, subst, ◌∙◌, append-nil, arith}
+use Rattle.std.proofs.Common.{◌≡◌, ℕ, ◌++◌, List, Option, IfSome, length, ap, sym, subst, ◌∙◌, arith}
 use Rattle.std.specs.Prelude.{is_some}
 use Rattle.std.specs.List.Sorted.{IsStrictlySortedBy}
 use Rattle.std.specs.Map.{lookup, keys_of}
 use Rattle.std.specs.BTreeMap as tree
 use Rattle.std.specs.BTreeMap.{is_at}
 use Rattle.fr_base.specs.Bytes.{bytes_cmp}
-use Rattle.fr_undo.specs.Plan.{acted, given, fate_of, fates_of, taken_back, HasPlace}
+use Rattle.fr_undo.specs.Plan.{acted, given, fate_of, taken_back, HasPlace}
 use Rattle.fr_undo.proofs.TreeLemmas.{copied_sorted}
 use Rattle.fr_undo.proofs.WriteLemmas.{found_first, found_rest, acted_step, still_step, back_step, places_step, fates_step, order_left, sorted_front, none_before}
 use Rattle.fr_undo.proofs.write.give_all.Goals as goal
