@@ -53,10 +53,10 @@ taken_back (Took before) now = before
 taken_back Leaves now = now
 
 -- what a key holds at the end
-abbrev pub ended : Fate → Option (List ℕ) → Option (List ℕ)
-ended Stays now = now
-ended (Took before) now = now
-ended Leaves now = None
+abbrev pub finished : Fate → Option (List ℕ) → Option (List ℕ)
+finished Stays now = now
+finished (Took before) now = now
+finished Leaves now = None
 
 -- what a key held at first, where it holds something else at the end
 abbrev pub row_left : Fate → Option (List ℕ) → Option (Option (List ℕ))

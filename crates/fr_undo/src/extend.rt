@@ -11,11 +11,11 @@ ghost use Rattle.fr_mutation.specs.Mutation.{value_after_all};
 ghost use Rattle.fr_undo.specs.State.{Place};
 ghost use Rattle.fr_undo.specs.Rows.{IsInOrder, AreThrough, row_in, with_row, rows_left};
 ghost use Rattle.fr_undo.specs.Changes.{row_made};
-ghost use Rattle.fr_undo.specs.Plan.{acted, ended};
+ghost use Rattle.fr_undo.specs.Plan.{acted, finished};
 
 use crate::plan::plan_of;
 use crate::rows::Row;
-use crate::write::{Fate, begin, end};
+use crate::write::{Fate, finish, give_values};
 use fr_base::{Bytes, Memory, Version};
 use fr_mutation::Batch;
 use std::alloc::Global;
@@ -32,8 +32,8 @@ fn put_row(rows: &mut VecDeque<Row>, place: (Version, Bytes), before: Option<Opt
     }
 }
 
-/// Ends a plan that is begun, and adds the row of each key that holds something else than at first. Keys
-/// and values are moved into the rows.
+/// Finishes a plan whose values are given, and adds the row of each key that holds something else than at
+/// first. Keys and values are moved into the rows.
 fn settle(
     contents: &mut BTreeMap<Bytes, Bytes>,
     rows: &mut VecDeque<Row>,
@@ -43,11 +43,11 @@ fn settle(
     requires order { IsStrictlySortedBy bytes_cmp (keys_of fates.items) }
     requires room { length rows.old.items + length fates.items ≤ deque_capacity rows.old }
     ensures values { (q : List ℕ) → tree.get bytes_cmp contents.new q
-        ≡ acted ended (lookup (is_at (bytes_cmp q)) fates.items) (tree.get bytes_cmp contents.old q) }
+        ≡ acted finished (lookup (is_at (bytes_cmp q)) fates.items) (tree.get bytes_cmp contents.old q) }
     ensures rows { rows.new.items ≡ rows.old.items ++ rows_left version (tree.get bytes_cmp contents.old) fates.items }
 {
     for (key, fate) in fates {
-        let before = end(contents, &key, fate);
+        let before = finish(contents, &key, fate);
         put_row(rows, (version, key), before);
     }
 }
@@ -74,7 +74,7 @@ pub(crate) fn extend(
 {
     let plan = plan_of(alloc, contents, batch)?;
     rows.reserve(plan.len())?;
-    let fates = begin(alloc, contents, plan)?;
+    let fates = give_values(alloc, contents, plan)?;
     settle(contents, rows, version, fates);
     Ok(())
 }

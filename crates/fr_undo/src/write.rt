@@ -5,7 +5,7 @@ ghost use Rattle.std.specs.Map.{lookup, keys_of};
 ghost use Rattle.std.specs.BTreeMap as tree;
 ghost use Rattle.std.specs.BTreeMap.{is_at};
 ghost use Rattle.fr_base.specs.Bytes.{bytes_cmp, is_same};
-ghost use Rattle.fr_undo.specs.Plan.{acted, given, fate_of, fates_of, taken_back, ended, row_left, HasPlace};
+ghost use Rattle.fr_undo.specs.Plan.{acted, given, fate_of, fates_of, taken_back, finished, row_left, HasPlace};
 
 use crate::plan::Plan;
 use fr_base::{Bytes, Memory};
@@ -26,7 +26,7 @@ pub(crate) enum Fate {
 }
 
 /// Gives a key the value that it is to hold, if any.
-fn give(
+fn give_one(
     contents: &mut BTreeMap<Bytes, Bytes>,
     key: &Bytes,
     after: Option<Bytes>,
@@ -72,7 +72,7 @@ fn give_all(
     ensures places { (q : List ℕ) → IfSome (lookup (is_at (bytes_cmp q)) fates.new.items) (λ fate. HasPlace fate (tree.get bytes_cmp contents.new q)) }
 {
     for (key, after) in plan {
-        let fate = give(contents, &key, after)?;
+        let fate = give_one(contents, &key, after)?;
         fates.push_reserved((key, fate));
     }
     Ok(())
@@ -112,7 +112,7 @@ fn take_back(contents: &mut BTreeMap<Bytes, Bytes>, fates: Vec<(Bytes, Fate)>)
 /// Carries a plan out as far as it can want memory, all of that or nothing: keys have the values that they
 /// are to hold, and those that are to hold none still have theirs. Each key is looked up once, and no value
 /// is copied.
-pub(crate) fn begin(
+pub(crate) fn give_values(
     alloc: Global,
     contents: &mut BTreeMap<Bytes, Bytes>,
     plan: Plan,
@@ -135,13 +135,13 @@ pub(crate) fn begin(
 
 /// Takes a key's value away, if it is to lose it. Answers what the key held at first, where it holds
 /// something else now.
-pub(crate) fn end(
+pub(crate) fn finish(
     contents: &mut BTreeMap<Bytes, Bytes>,
     key: &Bytes,
     fate: Fate,
 ) -> Option<Option<Bytes>>
     ensures values { (q : List ℕ) → tree.get bytes_cmp contents.new q
-        ≡ cond (is_same key.now q) (ended fate (tree.get bytes_cmp contents.old q)) (tree.get bytes_cmp contents.old q) }
+        ≡ cond (is_same key.now q) (finished fate (tree.get bytes_cmp contents.old q)) (tree.get bytes_cmp contents.old q) }
     ensures row { result ≡ row_left fate (tree.get bytes_cmp contents.old key.now) }
 {
     match fate {

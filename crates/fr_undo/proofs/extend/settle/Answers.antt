@@ -5,7 +5,7 @@ use Rattle.std.specs.BTreeMap as tree
 use Rattle.std.specs.BTreeMap.{is_at}
 use Rattle.fr_base.specs.Bytes.{bytes_cmp}
 use Rattle.fr_undo.specs.declared.write.Fate.{Fate}
-use Rattle.fr_undo.specs.Plan.{ended, row_left}
+use Rattle.fr_undo.specs.Plan.{finished, row_left}
 use Rattle.fr_undo.specs.Rows.{rows_left}
 use Rattle.fr_undo.proofs.TreeLemmas.{copied_sorted}
 use Rattle.fr_undo.proofs.WriteLemmas.{found_first, found_rest, acted_step, still_step}
@@ -27,16 +27,16 @@ loop-key-preserved c =
     let left = λ (q : List ℕ). lookup (is_at (bytes_cmp q)) rest in
     let was = found_first es rest e is in
     let gone = found_rest es rest e is inv.sorted in
-    let put = c.end-before.ensures.values in
+    let put = c.finish-before.ensures.values in
     let rows = c.loop-key.rows.items in
     let rows' = c.put_row.new.rows.items in
-    let row = c.end-before.ensures.row ∙ ap (row_left e.1) (inv.still e.0 (ap is_some was)) in
+    let row = c.finish-before.ensures.row ∙ ap (row_left e.1) (inv.still e.0 (ap is_some was)) in
     record {
       sorted = copied_sorted bytes_cmp es rest e is inv.sorted;
-      value = λ q. acted_step ended all left c.loop-key.contents c.end-before.new.contents e.0 e.1 was gone put q ∙ inv.value q;
-      still = still_step ended all left c.loop-key.contents c.end-before.new.contents e.0 e.1 was gone put held inv.still;
-      rows = left_step c.args.version held rows rows' es rest e c.end-before.result is c.put_row.ensures.rows row ∙ inv.rows;
-      room = let fits = room_step c.args.version held rows rows' es rest e c.end-before.result is c.put_row.ensures.rows (deque_capacity c.loop-key.rows) inv.room in let same = c.put_row.ensures.room in omega arith;
+      value = λ q. acted_step finished all left c.loop-key.contents c.finish-before.new.contents e.0 e.1 was gone put q ∙ inv.value q;
+      still = still_step finished all left c.loop-key.contents c.finish-before.new.contents e.0 e.1 was gone put held inv.still;
+      rows = left_step c.args.version held rows rows' es rest e c.finish-before.result is c.put_row.ensures.rows row ∙ inv.rows;
+      room = let fits = room_step c.args.version held rows rows' es rest e c.finish-before.result is c.put_row.ensures.rows (deque_capacity c.loop-key.rows) inv.room in let same = c.put_row.ensures.room in omega arith;
     }
 
 pub returns-clause-rows : goal.returns-clause-rows

@@ -2,7 +2,7 @@ use Rattle.std.proofs.Common.{◌≡◌, true, Some, ap, sym, ◌∙◌}
 use Rattle.std.specs.BTreeMap as tree
 use Rattle.fr_base.specs.Bytes.{bytes_cmp, bytes_eq}
 use Rattle.fr_undo.proofs.WriteLemmas.{stays}
-use Rattle.fr_undo.proofs.write.give.Goals as goal
+use Rattle.fr_undo.proofs.write.give_one.Goals as goal
 
 pub returns-then-eq-clause-values : goal.returns-then-eq-clause-values
 returns-then-eq-clause-values c =
