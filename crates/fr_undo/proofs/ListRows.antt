@@ -19,7 +19,8 @@ use Rattle.fr_undo.specs.State.{Place, place_cmp, UndoRows}
 use Rattle.fr_undo.specs.declared.write.Fate.{Fate}
 use Rattle.fr_undo.specs.Rows.{RowList, row_in, map_of_rows, IsInOrder, rows_beyond, AreThrough, with_row, rows_left, rows_made}
 use Rattle.fr_undo.specs.Changes.{row_made, first_row}
-use Rattle.fr_undo.specs.Plan.{Plan, value_planned, row_left, row_planned}
+use Rattle.fr_undo.specs.declared.plan.Plan.{Plan}
+use Rattle.fr_undo.specs.Plan.{planned, value_planned, row_left, row_planned}
 use Rattle.fr_undo.specs.Undo.{least_row, before_if_changed}
 use Rattle.fr_undo.proofs.UndoLemmas.{place_total, place_exact, one_version, same_value-itself}
 use Rattle.fr_undo.proofs.ChangeLemmas.{cond_none, not_at_version}
@@ -291,10 +292,10 @@ none_left (x ∷ xs) e = absurd (omega arith)
 
 -- the row of a key of a plan is that of the batch of which it is the plan
 pub rows_agree : (plan : Plan) (old new : List ℕ → Option (List ℕ)) (v : ℕ) → ((q : List ℕ) → value_planned plan old q ≡ new q)
-    → (p : Place) → cond (p.0 == v) (row_planned (old p.1) (tree.get bytes_cmp plan p.1)) None ≡ row_made old new v p
-rows_agree plan old new v values p = ap (λ o. cond (p.0 == v) o None) (from (tree.get bytes_cmp plan p.1) refl)
+    → (p : Place) → cond (p.0 == v) (row_planned (old p.1) (planned plan p.1)) None ≡ row_made old new v p
+rows_agree plan old new v values p = ap (λ o. cond (p.0 == v) o None) (from (planned plan p.1) refl)
   where
-    from : (o : Option (Option (List ℕ))) → tree.get bytes_cmp plan p.1 ≡ o → row_planned (old p.1) o ≡ before_if_changed (old p.1) (new p.1)
+    from : (o : Option (Option (List ℕ))) → planned plan p.1 ≡ o → row_planned (old p.1) o ≡ before_if_changed (old p.1) (new p.1)
     from None e =
         let same : old p.1 ≡ new p.1 = sym (ap (λ o. unwrap_or o (old p.1)) e) ∙ values p.1 in
         sym (ap (λ x. before_if_changed (old p.1) x) (sym same) ∙ ap (λ b. cond b None (Some (old p.1))) (same_value-itself (old p.1)))

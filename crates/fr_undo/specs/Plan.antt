@@ -1,21 +1,38 @@
 -- What keys are to hold, and how far that is carried out.
-use Rattle.std.specs.Prelude.{ℕ, List, [], ◌∷◌, Option, None, Some, IsSome, if◌then◌else◌, unwrap_or, ⊤}
+use Rattle.std.specs.Prelude.{◌≡◌, ◌⊎◌, ℕ, List, [], ◌∷◌, ◌++◌, Option, None, Some, IsSome, if◌then◌else◌, unwrap_or, ⊤}
 use Rattle.std.specs.Option.{option_or, option_map}
-use Rattle.std.specs.BTreeMap as tree
-use Rattle.std.specs.BTreeMap.{BTreeMap}
+use Rattle.std.specs.declared.cmp.Ordering.TheVariants.{Less}
+use Rattle.std.specs.List.{AllByRecursion}
+use Rattle.std.specs.List.Sorted.{IsStrictlySortedBy}
+use Rattle.std.specs.Map.{lookup, keys_of}
+use Rattle.std.specs.BTreeMap.{is_at}
 use Rattle.fr_base.specs.Bytes.{bytes_cmp}
 use Rattle.fr_undo.specs.declared.changes.Change.{Change}
+use Rattle.fr_undo.specs.declared.plan.Plan.{Plan}
 use Rattle.fr_undo.specs.declared.write.Fate.{Fate}
 use Rattle.fr_undo.specs.declared.write.Fate.TheVariants.{Stays, Took, Leaves}
 use Rattle.fr_undo.specs.Undo.{same_value, before_if_changed}
 
--- what each key is to hold: a value, or none
-abbrev pub Plan : Type 0
-Plan = BTreeMap (List ℕ) (Option (List ℕ))
+-- the entries of a plan, in the order of the keys: what each is to hold, a value, or none
+abbrev pub entries_of : Plan → List (List ℕ × Option (List ℕ))
+entries_of plan = plan.rising.items ++ plan.tree.entries
+
+-- what is planned of a key
+abbrev pub planned : Plan → List ℕ → Option (Option (List ℕ))
+planned plan q = lookup (is_at (bytes_cmp q)) (entries_of plan)
+
+-- keys stand in a list, in order, or in a tree
+pub record IsPlan (plan : Plan) : Type 0 where
+  pub order : IsStrictlySortedBy bytes_cmp (keys_of plan.rising.items)
+  pub one : (plan.rising.items ≡ []) ⊎ (plan.tree.entries ≡ [])
+
+-- keys stand in a list, and the key comes behind them all
+abbrev pub IsNext : Plan → List ℕ → Type 0
+IsNext plan key = (plan.tree.entries ≡ []) × AllByRecursion (λ k. bytes_cmp k key ≡ Less) (keys_of plan.rising.items)
 
 -- what a key holds once a plan is carried out, of what it held
 abbrev pub value_planned : Plan → (List ℕ → Option (List ℕ)) → List ℕ → Option (List ℕ)
-value_planned plan held q = unwrap_or (tree.get bytes_cmp plan q) (held q)
+value_planned plan held q = unwrap_or (planned plan q) (held q)
 
 -- the change of a key that holds a value, or none, by what is planned of it
 abbrev pub change_by : Option (List ℕ) → Option (Option (List ℕ)) → Option Change

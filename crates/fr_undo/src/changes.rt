@@ -1,13 +1,16 @@
 //! What a batch changes, worked out before a value is written.
 ghost use Rattle.std.specs.Prelude.{◌≡◌, List, ℕ, IfOk};
+ghost use Rattle.std.specs.List.Sorted.{IsStrictlySortedBy};
+ghost use Rattle.std.specs.Map.{lookup, keys_of};
 ghost use Rattle.std.specs.BTreeMap as tree;
+ghost use Rattle.std.specs.BTreeMap.{is_at};
 ghost use Rattle.fr_base.specs.Bytes.{bytes_cmp};
 ghost use Rattle.fr_mutation.specs.Mutation.{value_after_all};
 ghost use Rattle.fr_undo.specs.Changes.{KnowBefore, value_written};
 ghost use Rattle.fr_undo.specs.Plan.{change_by};
 
 use crate::copies::value_copy;
-use crate::plan::{Plan, plan_of};
+use crate::plan::{Entries, plan_of};
 use fr_base::{Bytes, Memory};
 use fr_mutation::Batch;
 use std::alloc::Global;
@@ -26,10 +29,11 @@ pub struct Change {
 pub(crate) fn changes_by(
     alloc: Global,
     contents: &BTreeMap<Bytes, Bytes>,
-    plan: Plan,
+    plan: Entries,
 ) -> Result<BTreeMap<Bytes, Change>, Memory>
+    requires { IsStrictlySortedBy bytes_cmp (keys_of plan.items) }
     ensures { IfOk result (λ changes. (q : List ℕ)
-        → tree.get bytes_cmp changes q ≡ change_by (tree.get bytes_cmp contents.now q) (tree.get bytes_cmp plan q)) }
+        → tree.get bytes_cmp changes q ≡ change_by (tree.get bytes_cmp contents.now q) (lookup (is_at (bytes_cmp q)) plan.items)) }
 {
     let mut changes = BTreeMap::new(alloc);
     for (key, after) in plan {
@@ -55,6 +59,6 @@ pub fn changes_of(
     ensures values { IfOk result (λ changes. (q : List ℕ) → value_written changes (tree.get bytes_cmp contents.now) q
         ≡ value_after_all batch.now q (tree.get bytes_cmp contents.now q)) }
 {
-    let plan = plan_of(alloc, contents, batch)?;
+    let plan = plan_of(alloc, contents, batch)?.into_entries(alloc)?;
     changes_by(alloc, contents, plan)
 }

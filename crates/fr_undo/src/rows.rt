@@ -10,7 +10,7 @@ ghost use Rattle.fr_undo.specs.Changes.{KnowBefore, after_of};
 ghost use Rattle.fr_undo.specs.Undo.{least_row};
 
 use crate::changes::{Change, changes_by};
-use crate::plan::add;
+use crate::plan::{Plan, add};
 use fr_base::{Bytes, Memory, Version};
 use std::alloc::Global;
 use std::collections::{BTreeMap, VecDeque};
@@ -98,10 +98,10 @@ pub fn changes_above(
     ensures value { IfOk result (λ changes. (n : ℕ) → IsUpTo rows.now (version + n) → (q : List ℕ)
         → after_of (tree.get bytes_cmp changes q) ≡ least_row (map_of rows.now) q version n) }
 {
-    let mut plan = BTreeMap::new(alloc);
+    let mut plan = Plan::new(alloc);
     let first = (next(version, applied), Bytes::empty(alloc));
     for ((_, key), before) in rows.range(first..) {
-        add(&mut plan, key, before)?;
+        add(alloc, &mut plan, key, before)?;
     }
-    changes_by(alloc, contents, plan)
+    changes_by(alloc, contents, plan.into_entries(alloc)?)
 }

@@ -7,7 +7,7 @@ ghost use Rattle.std.specs.BTreeMap.{is_at};
 ghost use Rattle.fr_base.specs.Bytes.{bytes_cmp, is_same};
 ghost use Rattle.fr_undo.specs.Plan.{acted, given, fate_of, fates_of, taken_back, finished, row_left, HasPlace};
 
-use crate::plan::Plan;
+use crate::plan::Entries;
 use fr_base::{Bytes, Memory};
 use std::alloc::Global;
 use std::collections::BTreeMap;
@@ -58,14 +58,15 @@ fn give_one(
 /// them with theirs.
 fn give_all(
     contents: &mut BTreeMap<Bytes, Bytes>,
-    plan: Plan,
+    plan: Entries,
     fates: &mut Vec<(Bytes, Fate)>,
 ) -> Result<(), Memory>
+    requires sorted { IsStrictlySortedBy bytes_cmp (keys_of plan.items) }
     requires none { fates.old.items ≡ [] }
-    requires room { length plan.entries ≤ vec_capacity fates.old }
+    requires room { length plan.items ≤ vec_capacity fates.old }
     ensures values { OnOk result ((q : List ℕ)
-        → tree.get bytes_cmp contents.new q ≡ acted given (tree.get bytes_cmp plan q) (tree.get bytes_cmp contents.old q)) }
-    ensures fates { OnOk result (fates.new.items ≡ fates_of (tree.get bytes_cmp contents.old) plan.entries) }
+        → tree.get bytes_cmp contents.new q ≡ acted given (lookup (is_at (bytes_cmp q)) plan.items) (tree.get bytes_cmp contents.old q)) }
+    ensures fates { OnOk result (fates.new.items ≡ fates_of (tree.get bytes_cmp contents.old) plan.items) }
     ensures order { IsStrictlySortedBy bytes_cmp (keys_of fates.new.items) }
     ensures back { (q : List ℕ) → acted taken_back (lookup (is_at (bytes_cmp q)) fates.new.items) (tree.get bytes_cmp contents.new q)
         ≡ tree.get bytes_cmp contents.old q }
@@ -115,11 +116,12 @@ fn take_back(contents: &mut BTreeMap<Bytes, Bytes>, fates: Vec<(Bytes, Fate)>)
 pub(crate) fn give_values(
     alloc: Global,
     contents: &mut BTreeMap<Bytes, Bytes>,
-    plan: Plan,
+    plan: Entries,
 ) -> Result<Vec<(Bytes, Fate)>, Memory>
+    requires { IsStrictlySortedBy bytes_cmp (keys_of plan.items) }
     ensures values { OnOk result ((q : List ℕ)
-        → tree.get bytes_cmp contents.new q ≡ acted given (tree.get bytes_cmp plan q) (tree.get bytes_cmp contents.old q)) }
-    ensures fates { IfOk result (λ fates. fates.items ≡ fates_of (tree.get bytes_cmp contents.old) plan.entries) }
+        → tree.get bytes_cmp contents.new q ≡ acted given (lookup (is_at (bytes_cmp q)) plan.items) (tree.get bytes_cmp contents.old q)) }
+    ensures fates { IfOk result (λ fates. fates.items ≡ fates_of (tree.get bytes_cmp contents.old) plan.items) }
     ensures order { IfOk result (λ fates. IsStrictlySortedBy bytes_cmp (keys_of fates.items)) }
     ensures err { OnErr result ((q : List ℕ) → tree.get bytes_cmp contents.new q ≡ tree.get bytes_cmp contents.old q) }
 {

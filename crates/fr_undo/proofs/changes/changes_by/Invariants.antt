@@ -11,9 +11,7 @@ use Rattle.fr_undo.proofs.changes.changes_by.Given as goal
 -- the changes so far and those of what is left are those of the plan
 abbrev pub invariant-loop-key : goal.invariant-loop-key
 invariant-loop-key l = record {
-  can : (goal.iterator-loop-key).can_next l.key-iterator;
-  ends : (goal.iterator-loop-key).is_finite l.key-iterator;
-  sorted : IsStrictlySortedBy bytes_cmp (keys_of l.key-iterator);
-  made : (q : List ℕ) → option_or (change_by (tree.get bytes_cmp l.contents q) (lookup (is_at (bytes_cmp q)) l.key-iterator)) (tree.get bytes_cmp l.changes q)
-      ≡ change_by (tree.get bytes_cmp l.contents q) (lookup (is_at (bytes_cmp q)) l.initial.key-iterator);
+  sorted : IsStrictlySortedBy bytes_cmp (keys_of l.key-iterator.rest.items);
+  made : (q : List ℕ) → option_or (change_by (tree.get bytes_cmp l.contents q) (lookup (is_at (bytes_cmp q)) l.key-iterator.rest.items)) (tree.get bytes_cmp l.changes q)
+      ≡ change_by (tree.get bytes_cmp l.contents q) (lookup (is_at (bytes_cmp q)) l.initial.key-iterator.rest.items);
 }

@@ -4,6 +4,7 @@ use Rattle.std.specs.List.{list_any}
 use Rattle.std.specs.BTreeMap as tree
 use Rattle.fr_base.specs.Bytes.{bytes_cmp}
 use Rattle.fr_undo.specs.Changes.{is_key_of}
+use Rattle.fr_undo.specs.Plan.{IsPlan, planned}
 use Rattle.fr_undo.proofs.plan.clear_range.Given as goal
 
 -- the keys planned and those that are left are those of the range
@@ -11,6 +12,7 @@ abbrev pub invariant-loop-key : goal.invariant-loop-key
 invariant-loop-key l = record {
   can : (goal.iterator-loop-key).can_next l.key-iterator;
   ends : (goal.iterator-loop-key).is_finite l.key-iterator;
-  planned : (q : List ℕ) → option_or (tree.get bytes_cmp l.plan q) (cond (list_any (is_key_of q) l.key-iterator) (Some None) None)
-      ≡ option_or (tree.get bytes_cmp l.initial.plan q) (cond (list_any (is_key_of q) l.initial.key-iterator) (Some None) None);
+  plan : IsPlan l.plan;
+  planned : (q : List ℕ) → option_or (planned l.plan q) (cond (list_any (is_key_of q) l.key-iterator) (Some None) None)
+      ≡ option_or (planned l.initial.plan q) (cond (list_any (is_key_of q) l.initial.key-iterator) (Some None) None);
 }

@@ -12,7 +12,7 @@ use Rattle.fr_undo.proofs.rows.changes_above.Goals as goal
 
 pub returns-clause-value : goal.returns-clause-value
 returns-clause-value c = if_ok c.changes_by.result _ _ (λ changes by n upto q.
-    let planned = tree.get bytes_cmp c.loop-key.plan q in
+    let planned = planned c.loop-key.plan q in
     ap after_of (by q)
     ∙ after_by (tree.get bytes_cmp c.args.contents.now q) planned
     ∙ sym (option_or_none planned)

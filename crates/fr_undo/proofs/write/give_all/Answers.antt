@@ -11,14 +11,14 @@ use Rattle.fr_undo.proofs.WriteLemmas.{found_first, found_rest, acted_step, stil
 use Rattle.fr_undo.proofs.write.give_all.Goals as goal
 
 pub push_reserved-requires : goal.push_reserved-requires
-push_reserved-requires c = let room = c.loop-key.invariant.room in let more = ap length c.in-Some.ensures.steps in omega arith
+push_reserved-requires c = let room = c.loop-key.invariant.room in let more = ap length c.in-Some.ensures.steps.0 in omega arith
 
 pub loop-key-preserved : goal.loop-key-preserved
 loop-key-preserved c =
     let e : List ℕ × Option (List ℕ) = (c.in-Some.key, c.in-Some.after) in
-    let is = c.in-Some.ensures.steps in
-    let es = c.loop-key.key-iterator in
-    let rest = c.next.new.self in
+    let is = c.in-Some.ensures.steps.0 in
+    let es = c.loop-key.key-iterator.rest.items in
+    let rest = c.next.new.self.rest.items in
     let inv = c.loop-key.invariant in
     let contents = c.loop-key.contents in
     let contents' = c.give_one.new.contents in
@@ -31,11 +31,9 @@ loop-key-preserved c =
     let left = λ (q : List ℕ). lookup (is_at (bytes_cmp q)) rest in
     let was = found_first es rest e is in
     let gone = found_rest es rest e is inv.sorted in
-    let order = subst (λ (l : List (List ℕ × Option (List ℕ))). IsStrictlySortedBy bytes_cmp (keys_of done ++ keys_of l)) is (order_left held done es c.into_iter-key-iterator.result inv.made inv.order) in
+    let order = subst (λ (l : List (List ℕ × Option (List ℕ))). IsStrictlySortedBy bytes_cmp (keys_of done ++ keys_of l)) is (order_left held done es c.into_iter-key-iterator.result.rest.items inv.made inv.order) in
     let none = none_before done e.0 (keys_of rest) order in
     record {
-      can = tt;
-      ends = tt;
       sorted = copied_sorted bytes_cmp es rest e is inv.sorted;
       order = inv.order;
       value = λ q. acted_step given all left contents contents' e.0 e.1 was gone put q ∙ inv.value q;
@@ -49,9 +47,9 @@ loop-key-preserved c =
 pub returns-in_err-fate-clause-order : goal.returns-in_err-fate-clause-order
 returns-in_err-fate-clause-order c =
     let inv = c.loop-key.invariant in
-    sorted_front (keys_of c.loop-key.fates.items) (keys_of c.loop-key.key-iterator) (order_left (tree.get bytes_cmp c.args.contents.now) c.loop-key.fates.items c.loop-key.key-iterator c.into_iter-key-iterator.result inv.made inv.order)
+    sorted_front (keys_of c.loop-key.fates.items) (keys_of c.loop-key.key-iterator.rest.items) (order_left (tree.get bytes_cmp c.args.contents.now) c.loop-key.fates.items c.loop-key.key-iterator.rest.items c.into_iter-key-iterator.result.rest.items inv.made inv.order)
 
 pub returns-clause-order : goal.returns-clause-order
 returns-clause-order c =
     let inv = c.loop-key.invariant in
-    sorted_front (keys_of c.loop-key.fates.items) (keys_of c.loop-key.key-iterator) (order_left (tree.get bytes_cmp c.args.contents.now) c.loop-key.fates.items c.loop-key.key-iterator c.into_iter-key-iterator.result inv.made inv.order)
+    sorted_front (keys_of c.loop-key.fates.items) (keys_of c.loop-key.key-iterator.rest.items) (order_left (tree.get bytes_cmp c.args.contents.now) c.loop-key.fates.items c.loop-key.key-iterator.rest.items c.into_iter-key-iterator.result.rest.items inv.made inv.order)
