@@ -1,15 +1,15 @@
 -- What is planned of keys, one mutation, range or row after the other.
-use Rattle.std.proofs.Common.{◌≡◌, ℕ, Bool, true, false, cond, ◌||◌, ◌&&◌, List, [], ◌∷◌, ◌++◌, length, ◌-◌, Option, None, Some, IsSome, IfSome, Result, Ok, Err, IfOk, refl, sym, ap, ◌∙◌, subst}
+use Rattle.std.proofs.Common.{◌≡◌, ◌⊎◌, inl, inr, ℕ, zero, suc, arith, Bool, true, false, cond, ◌||◌, ◌&&◌, List, [], ◌∷◌, ◌++◌, length, ◌-◌, Option, None, Some, IsSome, IfSome, Result, Ok, Err, IfOk, OnOk, refl, sym, ap, ◌∙◌, subst}
 use Rattle.std.specs.Prelude.{is_some, unwrap_or}
 use Rattle.std.specs.Option.{option_or}
-use Rattle.std.specs.Prelude.{slice_get, ◌⊎◌, inl, inr}
-use Rattle.std.specs.declared.cmp.Ordering.TheVariants.{Less, Equal}
-use Rattle.std.specs.Ordering.{is_eq}
+use Rattle.std.specs.Prelude.{slice_get}
+use Rattle.std.specs.declared.cmp.Ordering.TheVariants.{Less, Equal, Greater}
+use Rattle.std.specs.Ordering.{is_eq, ordering_reverse}
 use Rattle.std.specs.List.{list_any, AllByRecursion}
 use Rattle.std.specs.List.Sorted.{IsStrictlySortedBy}
 use Rattle.std.specs.Map.{lookup, keys_of}
 use Rattle.std.specs.BTreeMap as tree
-use Rattle.std.specs.BTreeMap.{is_at}
+use Rattle.std.specs.BTreeMap.{BTreeMap, is_at}
 use Rattle.fr_base.specs.Bytes.{bytes_cmp, is_same, bytes_exact, bytes_total}
 use Rattle.fr_base.proofs.MapLemmas.{one_key, is_same-comm}
 use Rattle.fr_mutation.specs.declared.mutation.Mutation.{Mutation}
@@ -62,6 +62,12 @@ added_before plan plan' k after some same q =
     there None e = cc
     there (Some x) e = refl
 
+-- ---- keys in a tree
+
+pub tree_plan : (plan : Plan) → plan.rising.items ≡ [] → IsPlan plan
+unfolding IsStrictlySortedBy
+tree_plan plan none = record { order = subst (λ l. IsStrictlySortedBy bytes_cmp (keys_of l)) (sym none) tt; one = inl none }
+
 -- ---- keys in a list
 
 first_is : (x e : List ℕ × Option (List ℕ)) → Some x ≡ Some e → x.0 ≡ e.0
@@ -88,6 +94,12 @@ in_list plan q = lookup-append (is_at (bytes_cmp q)) plan.rising.items plan.tree
 
 pub in_tree : (plan : Plan) → plan.rising.items ≡ [] → (q : List ℕ) → planned plan q ≡ tree.get bytes_cmp plan.tree q
 in_tree plan none q = in_list plan q ∙ ap (λ l. option_or (lookup (is_at (bytes_cmp q)) l) (tree.get bytes_cmp plan.tree q)) none
+
+-- a key is put into the tree
+pub tree_put : (plan plan' : Plan) (t : BTreeMap (List ℕ) (Option (List ℕ))) (k : List ℕ) (after : Option (List ℕ)) → plan'.rising.items ≡ [] → ((q : List ℕ) → tree.get bytes_cmp t q ≡ planned plan q)
+    → ((q : List ℕ) → tree.get bytes_cmp plan'.tree q ≡ cond (is_same k q) (Some after) (tree.get bytes_cmp t q))
+    → (q : List ℕ) → planned plan' q ≡ cond (is_same k q) (Some after) (planned plan q)
+tree_put plan plan' t k after none was put q = in_tree plan' none q ∙ put q ∙ ap (cond (is_same k q) (Some after)) (was q)
 
 -- a key that comes behind all is none of them
 pub next_absent : (plan : Plan) (key : List ℕ) → IsNext plan key → planned plan key ≡ None
@@ -118,32 +130,45 @@ next_plan plan plan' key after is next same put = record {
   one = inr (same ∙ next.0);
 }
 
--- what comes behind the last comes behind all
-pub behind_last : (es : List (List ℕ × Option (List ℕ))) (e : List ℕ × Option (List ℕ)) (key : List ℕ) → IsStrictlySortedBy bytes_cmp (keys_of es) → slice_get es (length es - 1) ≡ Some e → bytes_cmp e.0 key ≡ Less
-    → AllByRecursion (λ k. bytes_cmp k key ≡ Less) (keys_of es)
-unfolding IsStrictlySortedBy
-behind_last [] e key s is less = tt
-behind_last (x ∷ []) e key s is less = (ap (λ k. bytes_cmp k key) (first_is x e is) ∙ less, tt)
-behind_last (x ∷ y ∷ es) e key s is less =
-    let rest = behind_last (y ∷ es) e key s.1 is less in
-    (bytes_total.trans x.0 y.0 key s.0.0 rest.0, rest)
-
--- the last is among all
-pub last_planned : (es : List (List ℕ × Option (List ℕ))) (e : List ℕ × Option (List ℕ)) (key : List ℕ) → slice_get es (length es - 1) ≡ Some e → bytes_cmp key e.0 ≡ Equal → IsSome (lookup (is_at (bytes_cmp key)) es)
-last_planned [] e key is same = cc
-last_planned (x ∷ []) e key is same = ap (λ b. is_some (cond b (Some x.1) None)) (ap is_eq (ap (bytes_cmp key) (first_is x e is) ∙ same))
-last_planned (x ∷ y ∷ es) e key is same = later (is_at (bytes_cmp key) x.0) (lookup (is_at (bytes_cmp key)) (y ∷ es)) (last_planned (y ∷ es) e key is same)
-  where
-    later : (t : Bool) (o : Option (Option (List ℕ))) → IsSome o → IsSome (cond t (Some x.1) o)
-    later true o some = refl
-    later false o some = some
-
 pub some_planned : (plan : Plan) (q : List ℕ) → IsSome (lookup (is_at (bytes_cmp q)) plan.rising.items) → IsSome (planned plan q)
 some_planned plan q some = ap is_some (in_list plan q) ∙ from (lookup (is_at (bytes_cmp q)) plan.rising.items) some
   where
     from : (o : Option (Option (List ℕ))) → IsSome o → is_some (option_or o (tree.get bytes_cmp plan.tree q)) ≡ true
     from None h = cc
     from (Some x) h = refl
+
+behind_at : (es : List (List ℕ × Option (List ℕ))) (n : ℕ) (e : List ℕ × Option (List ℕ)) (key : List ℕ) → IsStrictlySortedBy bytes_cmp (keys_of es) → suc n ≡ length es → slice_get es n ≡ Some e → bytes_cmp e.0 key ≡ Less
+    → AllByRecursion (λ k. bytes_cmp k key ≡ Less) (keys_of es)
+unfolding IsStrictlySortedBy
+behind_at [] n e key s long is less = tt
+behind_at (x ∷ []) zero e key s long is less = (ap (λ k. bytes_cmp k key) (first_is x e is) ∙ less, tt)
+behind_at (x ∷ []) (suc n) e key s long is less = absurd (omega (arith, long))
+behind_at (x ∷ y ∷ es) zero e key s long is less = absurd (omega (arith, long))
+behind_at (x ∷ y ∷ es) (suc n) e key s long is less =
+    let rest = behind_at (y ∷ es) n e key s.1 (omega (arith, long)) is less in
+    (bytes_total.trans x.0 y.0 key s.0.0 rest.0, rest)
+
+planned_at : (es : List (List ℕ × Option (List ℕ))) (n : ℕ) (e : List ℕ × Option (List ℕ)) (key : List ℕ) → slice_get es n ≡ Some e → bytes_cmp key e.0 ≡ Equal → IsSome (lookup (is_at (bytes_cmp key)) es)
+planned_at [] n e key is same = cc
+planned_at (x ∷ es) zero e key is same = ap (λ b. is_some (cond b (Some x.1) (lookup (is_at (bytes_cmp key)) es))) (ap is_eq (ap (bytes_cmp key) (first_is x e is) ∙ same))
+planned_at (x ∷ es) (suc n) e key is same = later (is_at (bytes_cmp key) x.0) (lookup (is_at (bytes_cmp key)) es) (planned_at es n e key is same)
+  where
+    later : (t : Bool) (o : Option (Option (List ℕ))) → IsSome o → IsSome (cond t (Some x.1) o)
+    later true o some = refl
+    later false o some = some
+
+last_at : (es : List (List ℕ × Option (List ℕ))) (n : ℕ) (e : List ℕ × Option (List ℕ)) → slice_get es n ≡ Some e → n ≡ length es - 1 → suc n ≡ length es
+last_at [] n e is long = cc
+last_at (x ∷ es) n e is long = omega (arith, long)
+
+-- what comes behind the last comes behind all
+pub behind_last : (es : List (List ℕ × Option (List ℕ))) (e : List ℕ × Option (List ℕ)) (key : List ℕ) → IsStrictlySortedBy bytes_cmp (keys_of es) → slice_get es (length es - 1) ≡ Some e → bytes_cmp key e.0 ≡ Greater
+    → AllByRecursion (λ k. bytes_cmp k key ≡ Less) (keys_of es)
+behind_last es e key s is greater = behind_at es (length es - 1) e key s (last_at es (length es - 1) e is refl) is (bytes_total.antisymm e.0 key ∙ ap ordering_reverse greater)
+
+-- the last is among all
+pub last_planned : (plan : Plan) (e : List ℕ × Option (List ℕ)) (key : List ℕ) → slice_get plan.rising.items (length plan.rising.items - 1) ≡ Some e → bytes_cmp key e.0 ≡ Equal → IsSome (planned plan key)
+last_planned plan e key is same = some_planned plan key (planned_at plan.rising.items (length plan.rising.items - 1) e key is same)
 
 -- ---- a clear
 
@@ -219,3 +244,7 @@ changed_step held es rest e changes changes' is sorted put q =
 pub if_ok : {T E : Type 0} (r : Result T E) (P Q : T → Type 0) → ((x : T) → P x → Q x) → IfOk r P → IfOk r Q
 if_ok (Ok x) P Q f h = f x h
 if_ok (Err e) P Q f h = tt
+
+pub on_ok : {T E : Type 0} (r : Result T E) (P Q : Type 0) → (P → Q) → OnOk r P → OnOk r Q
+on_ok (Ok x) P Q f h = f h
+on_ok (Err e) P Q f h = tt

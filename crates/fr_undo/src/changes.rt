@@ -59,6 +59,7 @@ pub fn changes_of(
     ensures values { IfOk result (λ changes. (q : List ℕ) → value_written changes (tree.get bytes_cmp contents.now) q
         ≡ value_after_all batch.now q (tree.get bytes_cmp contents.now q)) }
 {
-    let plan = plan_of(alloc, contents, batch)?.into_entries(alloc)?;
-    changes_by(alloc, contents, plan)
+    let plan = plan_of(alloc, contents, batch)?;
+    let entries = plan.into_entries(alloc)?;
+    changes_by(alloc, contents, entries)
 }

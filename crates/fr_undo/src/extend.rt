@@ -72,9 +72,10 @@ pub(crate) fn extend(
     ensures same_values { OnErr result ((q : List ℕ) → tree.get bytes_cmp contents.new q ≡ tree.get bytes_cmp contents.old q) }
     ensures same_rows { OnErr result (rows.new.items ≡ rows.old.items) }
 {
-    let plan = plan_of(alloc, contents, batch)?.into_entries(alloc)?;
-    rows.reserve(plan.len())?;
-    let fates = give_values(alloc, contents, plan)?;
+    let plan = plan_of(alloc, contents, batch)?;
+    let entries = plan.into_entries(alloc)?;
+    rows.reserve(entries.len())?;
+    let fates = give_values(alloc, contents, entries)?;
     settle(contents, rows, version, fates);
     Ok(())
 }

@@ -103,5 +103,6 @@ pub fn changes_above(
     for ((_, key), before) in rows.range(first..) {
         add(alloc, &mut plan, key, before)?;
     }
-    changes_by(alloc, contents, plan.into_entries(alloc)?)
+    let entries = plan.into_entries(alloc)?;
+    changes_by(alloc, contents, entries)
 }

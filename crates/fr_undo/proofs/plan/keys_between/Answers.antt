@@ -12,7 +12,7 @@ pub returns : goal.returns
 returns c = λ q.
     let begin = c.args.begin.now in
     let end = c.args.end.now in
-    let entries = c.args.plan.now.entries in
+    let entries = c.args.planned.now.entries in
     let all : c.loop-key.keys.items ≡ keys_of (filter (λ e. is_le (bytes_cmp begin e.0) && not (is_le (bytes_cmp end e.0))) entries) =
     sym (append-nil c.loop-key.keys.items)
     ∙ sym (ap (λ es. c.loop-key.keys.items ++ keys_of es) c.in-None.ensures.steps.0)
@@ -21,4 +21,4 @@ returns c = λ q.
     ap (list_any (λ k. is_same k q)) all
     ∙ any_keys q (filter (λ e. is_le (bytes_cmp begin e.0) && not (is_le (bytes_cmp end e.0))) entries)
     ∙ among_filtered (λ k. is_le (bytes_cmp begin k) && not (is_le (bytes_cmp end k))) q entries
-    ∙ ap (λ b. (is_le (bytes_cmp begin q) && b) && is_some (tree.get bytes_cmp c.args.plan.now q)) (not_le end q)
+    ∙ ap (λ b. (is_le (bytes_cmp begin q) && b) && is_some (tree.get bytes_cmp c.args.planned.now q)) (not_le end q)
