@@ -1,5 +1,5 @@
 -- What is planned of keys, one mutation, range or row after the other.
-use Rattle.std.proofs.Common.{◌≡◌, ◌⊎◌, inl, inr, ℕ, zero, suc, arith, Bool, true, false, cond, ◌||◌, ◌&&◌, List, [], ◌∷◌, ◌++◌, length, ◌-◌, Option, None, Some, IsSome, IfSome, Result, Ok, Err, IfOk, OnOk, refl, sym, ap, ◌∙◌, subst}
+use Rattle.std.proofs.Common.{◌≡◌, inl, inr, ℕ, zero, suc, arith, Bool, true, false, cond, ◌||◌, ◌&&◌, List, [], ◌∷◌, ◌++◌, length, ◌-◌, Option, None, Some, IsSome, IfSome, Result, Ok, Err, IfOk, OnOk, refl, sym, ap, ◌∙◌, subst}
 use Rattle.std.specs.Prelude.{is_some, unwrap_or}
 use Rattle.std.specs.Option.{option_or}
 use Rattle.std.specs.Prelude.{slice_get}
@@ -17,7 +17,7 @@ use Rattle.fr_mutation.specs.Mutation.{key_of, new_value, value_after, is_betwee
 use Rattle.fr_mutation.proofs.MutationLemmas.{keyed_value}
 use Rattle.fr_undo.specs.Changes.{Changes, written, after_of, is_key_of, covers, held_outside}
 use Rattle.fr_undo.specs.declared.plan.Plan.{Plan}
-use Rattle.fr_undo.specs.Plan.{IsPlan, IsNext, entries_of, planned, value_planned, change_by}
+use Rattle.fr_undo.specs.Plan.{IsPlan, IsNext, planned, value_planned, change_by}
 use Rattle.fr_undo.proofs.ChangeLemmas.{or_false, or_true}
 use Rattle.fr_undo.proofs.RowLemmas.{option_or_none}
 use Rattle.fr_undo.proofs.WriteLemmas.{found_first, found_rest, lookup-append}

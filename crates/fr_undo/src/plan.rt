@@ -128,12 +128,7 @@ pub(crate) fn add(
 }
 
 /// Plans what a key is to hold, whatever was planned of it.
-fn set(
-    alloc: Global,
-    plan: &mut Plan,
-    key: Bytes,
-    after: Option<Bytes>,
-) -> Result<(), Memory>
+fn set(alloc: Global, plan: &mut Plan, key: Bytes, after: Option<Bytes>) -> Result<(), Memory>
     requires { IsPlan plan.old }
     ensures plan { OnOk result (IsPlan plan.new) }
     ensures planned { OnOk result ((q : List ℕ) → planned plan.new q ≡ cond (is_same key q) (Some after) (planned plan.old q)) }

@@ -1,8 +1,6 @@
 use Rattle.std.proofs.Common.{◌≡◌, ℕ, List, Some, None, cond}
 use Rattle.std.specs.Option.{option_or}
 use Rattle.std.specs.List.{list_any}
-use Rattle.std.specs.BTreeMap as tree
-use Rattle.fr_base.specs.Bytes.{bytes_cmp}
 use Rattle.fr_undo.specs.Changes.{is_key_of}
 use Rattle.fr_undo.specs.Plan.{IsPlan, planned}
 use Rattle.fr_undo.proofs.plan.clear_range.Given as goal

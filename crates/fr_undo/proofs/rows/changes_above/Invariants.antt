@@ -1,7 +1,5 @@
 use Rattle.std.proofs.Common.{◌≡◌, ℕ, List}
 use Rattle.std.specs.Option.{option_or}
-use Rattle.std.specs.BTreeMap as tree
-use Rattle.fr_base.specs.Bytes.{bytes_cmp}
 use Rattle.fr_undo.specs.Changes.{first_row}
 use Rattle.fr_undo.specs.Plan.{IsPlan, planned}
 use Rattle.fr_undo.proofs.rows.changes_above.Given as goal

@@ -1,8 +1,6 @@
 use Rattle.std.proofs.Common.{◌≡◌, ℕ, List}
 use Rattle.std.specs.Option.{option_or}
-use Rattle.std.specs.BTreeMap as tree
 use Rattle.std.specs.VecDeque.Iter.{deque_iter_rest}
-use Rattle.fr_base.specs.Bytes.{bytes_cmp}
 use Rattle.fr_undo.specs.Changes.{first_row}
 use Rattle.fr_undo.specs.Plan.{IsPlan, planned}
 use Rattle.fr_undo.proofs.unwind.plan_from.Given as goal

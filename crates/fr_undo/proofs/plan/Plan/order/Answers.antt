@@ -1,4 +1,4 @@
-use Rattle.std.proofs.Common.{◌≡◌, ◌-◌, true, List, [], Some, ℕ, Option, length, sym, ap, ◌∙◌}
+use Rattle.std.proofs.Common.{◌≡◌, ◌-◌, true, Some, length, sym, ap, ◌∙◌}
 use Rattle.std.specs.Prelude.{slice_get}
 use Rattle.fr_undo.proofs.ListRows.{none_left}
 use Rattle.fr_undo.proofs.PlanLemmas.{behind_last, last_planned}
