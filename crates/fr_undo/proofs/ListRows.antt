@@ -6,7 +6,6 @@ use Rattle.std.specs.declared.cmp.Ordering.TheVariants.{Less, Equal, Greater}
 use Rattle.std.specs.Option.{option_or}
 use Rattle.std.specs.Ordering.{is_le, nat_cmp, ordering_then}
 use Rattle.std.specs.Cmp.{unsigned_Decides, nat_cmp_is, ranked, nat_cmp_total, tied_itself, eq_by_cmp_equiv}
-use Rattle.std.specs.BTreeMap as tree
 use Rattle.std.specs.BTreeMap.{is_at}
 use Rattle.std.specs.Map.{lookup, keys_of}
 use Rattle.std.specs.List.{filter, AllByRecursion}
@@ -16,12 +15,14 @@ use Rattle.std.proofs.lemmas.Bool.{leb-true, leb-false, ltb-true, ltb-false}
 use Rattle.fr_base.specs.Bytes.{bytes_cmp, bytes_total, bytes_exact, is_same}
 use Rattle.fr_base.proofs.MapLemmas.{none_below, one_key}
 use Rattle.fr_undo.specs.State.{Place, place_cmp, UndoRows}
-use Rattle.fr_undo.specs.declared.changes.Change.{Change}
-use Rattle.fr_undo.specs.Rows.{RowList, row_in, map_of_rows, IsInOrder, rows_beyond, AreThrough, with_row, rows_made}
-use Rattle.fr_undo.specs.Changes.{Changes, KnowBefore, written, value_written, row_of, row_made, after_of, before_of, first_row}
+use Rattle.fr_undo.specs.declared.write.Fate.{Fate}
+use Rattle.fr_undo.specs.Rows.{RowList, row_in, map_of_rows, IsInOrder, rows_beyond, AreThrough, with_row, rows_left, rows_made}
+use Rattle.fr_undo.specs.Changes.{row_made, first_row}
+use Rattle.fr_undo.specs.declared.plan.Plan.{Plan}
+use Rattle.fr_undo.specs.Plan.{planned, value_planned, row_left, row_planned}
 use Rattle.fr_undo.specs.Undo.{least_row, before_if_changed}
 use Rattle.fr_undo.proofs.UndoLemmas.{place_total, place_exact, one_version, same_value-itself}
-use Rattle.fr_undo.proofs.ChangeLemmas.{cond_none, not_at_version, row_by, known}
+use Rattle.fr_undo.proofs.ChangeLemmas.{cond_none, not_at_version}
 use Rattle.fr_undo.proofs.TreeLemmas.{find-lookup, sorted}
 use Rattle.fr_undo.proofs.RowLemmas.{option_or_none, bounded, first_row-least, from_less, least_by-same, least_row-by}
 
@@ -188,7 +189,7 @@ each : {X : Type 0} (P Q : X → Type 0) → ((x : X) → P x → Q x) → (xs :
 each P Q f [] h = tt
 each P Q f (x ∷ xs) h = (f x h.0, each P Q f xs h.1)
 
--- ---- rows of changes
+-- ---- rows of a plan
 
 all-with_row : (P : Place → Type 0) (place : Place) (b : Option (Option (List ℕ))) (rest : RowList) → P place → AllByRecursion P (keys_of rest) → AllByRecursion P (keys_of (with_row place b rest))
 all-with_row P place None rest h all = all
@@ -199,28 +200,28 @@ unfolding IsStrictlySortedBy
 order-with_row place None rest after order = order
 order-with_row place (Some x) rest after order = (after, order)
 
-module _ (v : ℕ) where
-  all-made : (P : Place → Type 0) (es : List (List ℕ × Change)) → AllByRecursion (λ k. P (v, k)) (keys_of es) → AllByRecursion P (keys_of (rows_made v es))
+module _ (v : ℕ) (held : List ℕ → Option (List ℕ)) where
+  all-made : (P : Place → Type 0) (es : List (List ℕ × Option (List ℕ))) → AllByRecursion (λ k. P (v, k)) (keys_of es) → AllByRecursion P (keys_of (rows_made v held es))
   all-made P [] h = tt
-  all-made P (e ∷ es) h = all-with_row P (v, e.0) (before_if_changed e.1.before e.1.after) (rows_made v es) h.0 (all-made P es h.1)
+  all-made P (e ∷ es) h = all-with_row P (v, e.0) (before_if_changed (held e.0) e.1) (rows_made v held es) h.0 (all-made P es h.1)
 
-  pub order-made : (es : List (List ℕ × Change)) → IsStrictlySortedBy bytes_cmp (keys_of es) → IsInOrder (rows_made v es)
+  pub order-made : (es : List (List ℕ × Option (List ℕ))) → IsStrictlySortedBy bytes_cmp (keys_of es) → IsInOrder (rows_made v held es)
   unfolding IsStrictlySortedBy
   order-made [] s = tt
   order-made (e ∷ es) s =
-      order-with_row (v, e.0) (before_if_changed e.1.before e.1.after) (rows_made v es)
+      order-with_row (v, e.0) (before_if_changed (held e.0) e.1) (rows_made v held es)
       (all-made (λ y. place_cmp (v, e.0) y ≡ Less) es (each (λ k. bytes_cmp e.0 k ≡ Less) (λ k. place_cmp (v, e.0) (v, k) ≡ Less) (λ k h. ap (λ r. ordering_then r (bytes_cmp e.0 k)) (tied_itself nat_cmp_total v) ∙ h) (keys_of es) s.0))
       (order-made es s.1)
 
-  all_keys : (P : List ℕ → Type 0) → ((k : List ℕ) → P k) → (es : List (List ℕ × Change)) → AllByRecursion P (keys_of es)
+  all_keys : (P : List ℕ → Type 0) → ((k : List ℕ) → P k) → (es : List (List ℕ × Option (List ℕ))) → AllByRecursion P (keys_of es)
   all_keys P f [] = tt
   all_keys P f (e ∷ es) = (f e.0, all_keys P f es)
 
   -- they are in order behind rows of versions before
-  pub order-extended : (rows : RowList) (es : List (List ℕ × Change)) (applied : ℕ) → IsInOrder rows → AreThrough rows applied → applied < v → IsStrictlySortedBy bytes_cmp (keys_of es) → IsInOrder (rows ++ rows_made v es)
+  pub order-extended : (rows : RowList) (es : List (List ℕ × Option (List ℕ))) (applied : ℕ) → IsInOrder rows → AreThrough rows applied → applied < v → IsStrictlySortedBy bytes_cmp (keys_of es) → IsInOrder (rows ++ rows_made v held es)
   order-extended rows es applied order upto later s =
-      order-append rows (rows_made v es) order (order-made es s)
-      (each (λ x. x.0 ≤ applied) (λ x. AllByRecursion (λ y. place_cmp x y ≡ Less) (keys_of (rows_made v es)))
+      order-append rows (rows_made v held es) order (order-made es s)
+      (each (λ x. x.0 ≤ applied) (λ x. AllByRecursion (λ y. place_cmp x y ≡ Less) (keys_of (rows_made v held es)))
       (λ x le. all-made (λ y. place_cmp x y ≡ Less) es (all_keys (λ k. place_cmp x (v, k) ≡ Less) (λ k. ap (λ r. ordering_then r (bytes_cmp x.1 k)) (sym (nat_cmp_is x.0 v Less (omega arith)))) es))
       (keys_of rows) (bounded applied rows upto))
 
@@ -228,36 +229,37 @@ module _ (v : ℕ) where
   with_row-at k None rest p = sym (ap (λ o. option_or o (row_in rest p)) (cond_none (is_at (place_cmp p) (v, k))))
   with_row-at k (Some x) rest p = elim (is_at (place_cmp p) (v, k)) as (λ b. cond b (Some x) (row_in rest p) ≡ option_or (cond b (Some x) None) (row_in rest p)) [ true ↦ refl | false ↦ refl ]
 
-  -- at a place there is the row of the change of its key
-  pub row_in-made : (es : List (List ℕ × Change)) → IsStrictlySortedBy bytes_cmp (keys_of es) → (p : Place) → row_in (rows_made v es) p ≡ row_by es v p
+  -- at a place there is the row of its key, if something is planned of that
+  pub row_in-made : (es : List (List ℕ × Option (List ℕ))) → IsStrictlySortedBy bytes_cmp (keys_of es) → (p : Place)
+      → row_in (rows_made v held es) p ≡ cond (p.0 == v) (row_planned (held p.1) (lookup (is_at (bytes_cmp p.1)) es)) None
   unfolding IsStrictlySortedBy
   row_in-made [] s p = sym (cond_none (p.0 == v))
   row_in-made (e ∷ es) s p =
-      with_row-at e.0 made (rows_made v es) p
+      with_row-at e.0 made (rows_made v held es) p
       ∙ ap (option_or (cond (is_at (place_cmp p) (v, e.0)) made None)) (row_in-made es s.1 p)
-      ∙ elim (p.0 == v) as (λ b. (p.0 == v) ≡ b → option_or (cond (is_at (place_cmp p) (v, e.0)) made None) (cond b (before_of (found es)) None) ≡ cond b (before_of (found (e ∷ es))) None) [
+      ∙ elim (p.0 == v) as (λ b. (p.0 == v) ≡ b → option_or (cond (is_at (place_cmp p) (v, e.0)) made None) (cond b (row_planned (held p.1) (found es)) None) ≡ cond b (row_planned (held p.1) (found (e ∷ es))) None) [
         | true ↦ λ t.
             let at : is_at (place_cmp p) (v, e.0) ≡ is_same p.1 e.0 = ap (λ w. is_at (place_cmp (w, p.1)) (v, e.0)) ((unsigned_Decides p.0 v).0 t) ∙ one_version v p.1 e.0 in
-            ap (λ b. option_or (cond b made None) (before_of (found es))) at ∙ here
+            ap (λ b. option_or (cond b made None) (row_planned (held p.1) (found es))) at ∙ here
         | false ↦ λ t. ap (λ b. option_or (cond b made None) None) ((eq_by_cmp_equiv place_total).symm p (v, e.0) ∙ not_at_version v e.0 p t)
       ] refl
     where
       made : Option (Option (List ℕ))
-      made = before_if_changed e.1.before e.1.after
+      made = before_if_changed (held e.0) e.1
 
-      found : List (List ℕ × Change) → Option Change
+      found : List (List ℕ × Option (List ℕ)) → Option (Option (List ℕ))
       found xs = lookup (is_at (bytes_cmp p.1)) xs
 
-      here : option_or (cond (is_same p.1 e.0) made None) (before_of (found es)) ≡ before_of (found (e ∷ es))
+      here : option_or (cond (is_same p.1 e.0) made None) (row_planned (held p.1) (found es)) ≡ row_planned (held p.1) (found (e ∷ es))
       here =
-          elim (is_same p.1 e.0) as (λ b. is_same p.1 e.0 ≡ b → option_or (cond b made None) (before_of (found es)) ≡ before_of (cond b (Some e.1) (found es))) [
+          elim (is_same p.1 e.0) as (λ b. is_same p.1 e.0 ≡ b → option_or (cond b made None) (row_planned (held p.1) (found es)) ≡ row_planned (held p.1) (cond b (Some e.1) (found es))) [
             | true ↦ λ t.
                 let none : found es ≡ None = ap (λ k. lookup (is_at (bytes_cmp k)) es) (one_key bytes_exact p.1 e.0 t) ∙ none_below bytes_total e.0 es s.0 in
-                ap (λ o. option_or made (before_of o)) none ∙ option_or_none made
+                ap (λ o. option_or made (row_planned (held p.1) o)) none ∙ option_or_none made ∙ ap (λ k. before_if_changed (held k) e.1) (sym (one_key bytes_exact p.1 e.0 t))
             | false ↦ λ t. refl
           ] refl
 
--- ---- one more change
+-- ---- one more row
 
 with_row-append : (place : Place) (b : Option (Option (List ℕ))) (rest : RowList) → with_row place b [] ++ rest ≡ with_row place b rest
 with_row-append place None rest = refl
@@ -267,14 +269,14 @@ with_row-length : (place : Place) (b : Option (Option (List ℕ))) → length (w
 with_row-length place None = omega arith
 with_row-length place (Some x) = omega arith
 
-module _ (v : ℕ) (rows rows' : RowList) (es rest : List (List ℕ × Change)) (e : List ℕ × Change) (b : Option (Option (List ℕ))) (is : es ≡ e ∷ rest)
+module _ (v : ℕ) (held : List ℕ → Option (List ℕ)) (rows rows' : RowList) (es rest : List (List ℕ × Fate)) (e : List ℕ × Fate) (b : Option (Option (List ℕ))) (is : es ≡ e ∷ rest)
     (put : rows' ≡ rows ++ with_row (v, e.0) b []) where
-  pub made_step : b ≡ before_if_changed e.1.before e.1.after → rows' ++ rows_made v rest ≡ rows ++ rows_made v es
-  made_step made =
-      ap (λ l. l ++ rows_made v rest) put
-      ∙ append_assoc rows (with_row (v, e.0) b []) (rows_made v rest)
-      ∙ ap (λ l. rows ++ l) (with_row-append (v, e.0) b (rows_made v rest) ∙ ap (λ o. with_row (v, e.0) o (rows_made v rest)) made)
-      ∙ sym (ap (λ l. rows ++ rows_made v l) is)
+  pub left_step : b ≡ row_left e.1 (held e.0) → rows' ++ rows_left v held rest ≡ rows ++ rows_left v held es
+  left_step made =
+      ap (λ l. l ++ rows_left v held rest) put
+      ∙ append_assoc rows (with_row (v, e.0) b []) (rows_left v held rest)
+      ∙ ap (λ l. rows ++ l) (with_row-append (v, e.0) b (rows_left v held rest) ∙ ap (λ o. with_row (v, e.0) o (rows_left v held rest)) made)
+      ∙ sym (ap (λ l. rows ++ rows_left v held l) is)
 
   pub room_step : (room : ℕ) → length rows + length es ≤ room → length rows' + length rest ≤ room
   room_step room le =
@@ -283,20 +285,17 @@ module _ (v : ℕ) (rows rows' : RowList) (es rest : List (List ℕ × Change)) 
       let more = ap length is in
       omega arith
 
--- what each change knows is what its key held, so its row is that of the batch
-pub rows_agree : (changes : Changes) (old new : List ℕ → Option (List ℕ)) (v : ℕ) → KnowBefore changes old → ((q : List ℕ) → value_written changes old q ≡ new q)
-    → (p : Place) → row_of (tree.get bytes_cmp changes) v p ≡ row_made old new v p
-rows_agree changes old new v know values p = ap (λ o. cond (p.0 == v) o None) (from (tree.get bytes_cmp changes p.1) refl)
-  where
-    from : (o : Option Change) → tree.get bytes_cmp changes p.1 ≡ o → before_of o ≡ before_if_changed (old p.1) (new p.1)
-    from None e =
-        let same : old p.1 ≡ new p.1 = sym (ap (λ o. written o (old p.1)) e) ∙ values p.1 in
-        sym (ap (λ x. before_if_changed (old p.1) x) (sym same) ∙ ap (λ b. cond b None (Some (old p.1))) (same_value-itself (old p.1)))
-    from (Some c) e =
-        let after : c.after ≡ new p.1 = sym (ap (λ o. written o (old p.1)) e) ∙ values p.1 in
-        λ i. before_if_changed (known old changes p.1 c know e i) (after i)
+pub none_left : {X : Type 0} (xs : List X) → length xs ≡ 0 → xs ≡ []
+none_left [] e = refl
+none_left (x ∷ xs) e = absurd (omega arith)
 
--- what a change writes is what it gives its key, where there is one
-pub written_after : (o : Option Change) (old : Option (List ℕ)) → written o old ≡ unwrap_or (after_of o) old
-written_after None old = refl
-written_after (Some c) old = refl
+-- the row of a key of a plan is that of the batch of which it is the plan
+pub rows_agree : (plan : Plan) (old new : List ℕ → Option (List ℕ)) (v : ℕ) → ((q : List ℕ) → value_planned plan old q ≡ new q)
+    → (p : Place) → cond (p.0 == v) (row_planned (old p.1) (planned plan p.1)) None ≡ row_made old new v p
+rows_agree plan old new v values p = ap (λ o. cond (p.0 == v) o None) (from (planned plan p.1) refl)
+  where
+    from : (o : Option (Option (List ℕ))) → planned plan p.1 ≡ o → row_planned (old p.1) o ≡ before_if_changed (old p.1) (new p.1)
+    from None e =
+        let same : old p.1 ≡ new p.1 = sym (ap (λ o. unwrap_or o (old p.1)) e) ∙ values p.1 in
+        sym (ap (λ x. before_if_changed (old p.1) x) (sym same) ∙ ap (λ b. cond b None (Some (old p.1))) (same_value-itself (old p.1)))
+    from (Some after) e = ap (before_if_changed (old p.1)) (sym (ap (λ o. unwrap_or o (old p.1)) e) ∙ values p.1)

@@ -1,5 +1,5 @@
 -- Undo rows in the order of their places, and what they make of keys.
-use Rattle.std.proofs.Common.{◌≡◌, ℕ, zero, suc, ◌+◌, ◌<◌, ◌≤◌, Bool, true, false, not, cond, ◌&&◌, List, [], ◌∷◌, Option, None, Some, IsSome, IfSome, refl, sym, ap, ◌∙◌, subst, arith}
+use Rattle.std.proofs.Common.{◌≡◌, ℕ, zero, suc, ◌+◌, ◌<◌, ◌≤◌, Bool, true, false, not, cond, ◌&&◌, List, [], ◌∷◌, Option, None, Some, IsSome, refl, sym, ap, ◌∙◌, arith}
 use Rattle.std.specs.Prelude.{◌==◌, is_some, nat_le}
 use Rattle.std.specs.declared.cmp.Ordering.{Ordering}
 use Rattle.std.specs.declared.cmp.Ordering.TheVariants.{Less, Equal, Greater}
@@ -18,12 +18,10 @@ use Rattle.fr_base.specs.Bytes.{bytes_cmp, is_same, bytes_exact}
 use Rattle.fr_base.specs.Map.{map_of}
 use Rattle.fr_base.proofs.MapLemmas.{get-map_of, one_key, is_same-comm}
 use Rattle.fr_undo.specs.State.{Place, place_cmp, UndoRows}
-use Rattle.fr_undo.specs.declared.changes.Change.{Change}
 use Rattle.fr_undo.specs.Trees.{Rows, IsUpTo}
-use Rattle.fr_undo.specs.Changes.{Changes, KnowBefore, after_of, first_row}
+use Rattle.fr_undo.specs.Changes.{first_row}
 use Rattle.fr_undo.specs.Undo.{least_row}
 use Rattle.fr_undo.proofs.UndoLemmas.{place_total, is_eq_second}
-use Rattle.fr_undo.proofs.ChangeLemmas.{none_from_is_some}
 
 clash : false ≡ true → ⊥
 clash h = cc
@@ -188,39 +186,6 @@ first_rows rows t n q ordered upto =
     ∙ least_by-same (λ w. tree.get place_cmp rows (w, q)) (λ w. get (map_of rows) (w, q)) t n (λ w lt. sym (get-map_of place_total rows (w, q)))
     ∙ sym (least_row-by (map_of rows) q t n)
 
--- ---- one row kept
-
 pub option_or_none : {X : Type 0} (o : Option X) → option_or o None ≡ o
 option_or_none None = refl
 option_or_none (Some x) = refl
-
-pub kept_first : (changes changes' : Changes) (k : List ℕ) (change : Change) → is_some (tree.get bytes_cmp changes k) ≡ false
-    → ((q : List ℕ) → tree.get bytes_cmp changes' q ≡ cond (is_same k q) (Some change) (tree.get bytes_cmp changes q))
-    → (q : List ℕ) → after_of (tree.get bytes_cmp changes' q) ≡ option_or (after_of (tree.get bytes_cmp changes q)) (cond (is_same k q) (Some change.after) None)
-kept_first changes changes' k change absent put q =
-    ap after_of (put q)
-    ∙ elim (is_same k q) as (λ b. is_same k q ≡ b → after_of (cond b (Some change) (tree.get bytes_cmp changes q)) ≡ option_or (after_of (tree.get bytes_cmp changes q)) (cond b (Some change.after) None)) [
-      | true ↦ λ e. sym (ap (λ o. option_or (after_of o) (Some change.after)) (ap (tree.get bytes_cmp changes) (sym (one_key bytes_exact k q e)) ∙ none_from_is_some (tree.get bytes_cmp changes k) absent))
-      | false ↦ λ e. sym (option_or_none (after_of (tree.get bytes_cmp changes q)))
-    ] refl
-
-pub kept_still : (changes : Changes) (k : List ℕ) (before : Option (List ℕ)) → is_some (tree.get bytes_cmp changes k) ≡ true
-    → (q : List ℕ) → after_of (tree.get bytes_cmp changes q) ≡ option_or (after_of (tree.get bytes_cmp changes q)) (cond (is_same k q) (Some before) None)
-kept_still changes k before some q =
-    elim (is_same k q) as (λ b. is_same k q ≡ b → after_of (tree.get bytes_cmp changes q) ≡ option_or (after_of (tree.get bytes_cmp changes q)) (cond b (Some before) None)) [
-      | true ↦ λ e. there (tree.get bytes_cmp changes q) (ap (λ x. is_some (tree.get bytes_cmp changes x)) (sym (one_key bytes_exact k q e)) ∙ some)
-      | false ↦ λ e. sym (option_or_none (after_of (tree.get bytes_cmp changes q)))
-    ] refl
-  where
-    there : (o : Option Change) → is_some o ≡ true → after_of o ≡ option_or (after_of o) (Some before)
-    there None e = cc
-    there (Some c) e = refl
-
-pub kept_new : (held : List ℕ → Option (List ℕ)) (changes changes' : Changes) (k : List ℕ) (change : Change) → KnowBefore changes held → change.before ≡ held k
-    → ((q : List ℕ) → tree.get bytes_cmp changes' q ≡ cond (is_same k q) (Some change) (tree.get bytes_cmp changes q)) → KnowBefore changes' held
-kept_new held changes changes' k change know new put q =
-    subst (λ (o : Option Change). IfSome o (λ c. c.before ≡ held q)) (sym (put q))
-    (elim (is_same k q) as (λ b. is_same k q ≡ b → IfSome (cond b (Some change) (tree.get bytes_cmp changes q)) (λ c. c.before ≡ held q)) [
-      | true ↦ λ e. new ∙ ap held (one_key bytes_exact k q e)
-      | false ↦ λ e. know q
-    ] refl)

@@ -6,7 +6,8 @@ use Rattle.std.specs.Map.{lookup, keys_of}
 use Rattle.std.specs.FinMap.{from_entries}
 use Rattle.std.specs.BTreeMap.{is_at}
 use Rattle.fr_undo.specs.State.{Place, place_cmp, UndoRows}
-use Rattle.fr_undo.specs.declared.changes.Change.{Change}
+use Rattle.fr_undo.specs.declared.write.Fate.{Fate}
+use Rattle.fr_undo.specs.Plan.{row_left}
 use Rattle.fr_undo.specs.Undo.{before_if_changed}
 
 -- places with what their keys held before their versions
@@ -42,7 +43,12 @@ abbrev pub with_row : Place → Option (Option (List ℕ)) → RowList → RowLi
 with_row place None rows = rows
 with_row place (Some before) rows = (place, before) ∷ rows
 
--- the rows that changes at version v make, in the order of their keys
-abbrev pub rows_made : ℕ → List (List ℕ × Change) → RowList
-rows_made v [] = []
-rows_made v (e ∷ es) = with_row (v, e.0) (before_if_changed e.1.before e.1.after) (rows_made v es)
+-- the rows at version v of keys that the rest of a plan leaves with something else than they held, in the order of the keys
+abbrev pub rows_left : ℕ → (List ℕ → Option (List ℕ)) → List (List ℕ × Fate) → RowList
+rows_left v held [] = []
+rows_left v held (e ∷ es) = with_row (v, e.0) (row_left e.1 (held e.0)) (rows_left v held es)
+
+-- the rows that a plan at version v makes, of what keys held, in the order of the keys
+abbrev pub rows_made : ℕ → (List ℕ → Option (List ℕ)) → List (List ℕ × Option (List ℕ)) → RowList
+rows_made v held [] = []
+rows_made v held (e ∷ es) = with_row (v, e.0) (before_if_changed (held e.0) e.1) (rows_made v held es)

@@ -1,17 +1,21 @@
 //! A batch applied, with undo rows, all of it or nothing.
-ghost use Rattle.std.specs.Prelude.{◌≡◌, ◌+◌, ◌<◌, ◌≤◌, ◌++◌, List, [], ℕ, OnOk, OnErr, IsSome, IfSome, length};
+ghost use Rattle.std.specs.Prelude.{◌≡◌, ◌+◌, ◌<◌, ◌≤◌, ◌++◌, List, [], ℕ, OnOk, OnErr, length};
 ghost use Rattle.std.specs.Option.{option_or};
+ghost use Rattle.std.specs.List.Sorted.{IsStrictlySortedBy};
+ghost use Rattle.std.specs.Map.{lookup, keys_of};
 ghost use Rattle.std.specs.BTreeMap as tree;
+ghost use Rattle.std.specs.BTreeMap.{is_at};
 ghost use Rattle.std.specs.VecDeque.{deque_capacity};
 ghost use Rattle.fr_base.specs.Bytes.{bytes_cmp};
 ghost use Rattle.fr_mutation.specs.Mutation.{value_after_all};
 ghost use Rattle.fr_undo.specs.State.{Place};
-ghost use Rattle.fr_undo.specs.Rows.{IsInOrder, AreThrough, row_in, with_row, rows_made};
-ghost use Rattle.fr_undo.specs.Changes.{row_made, written_if, is_held};
+ghost use Rattle.fr_undo.specs.Rows.{IsInOrder, AreThrough, row_in, with_row, rows_left};
+ghost use Rattle.fr_undo.specs.Changes.{row_made};
+ghost use Rattle.fr_undo.specs.Plan.{acted, finished};
 
-use crate::changes::{Change, changes_of};
+use crate::plan::plan_of;
 use crate::rows::Row;
-use crate::write::{add_all, replace};
+use crate::write::{Fate, finish, give_values};
 use fr_base::{Bytes, Memory, Version};
 use fr_mutation::Batch;
 use std::alloc::Global;
@@ -28,23 +32,22 @@ fn put_row(rows: &mut VecDeque<Row>, place: (Version, Bytes), before: Option<Opt
     }
 }
 
-/// Writes the changes of the keys that had a value, and adds the row of each key that is given something
-/// else than it held before. Keys and values are moved into the rows.
+/// Finishes a plan whose values are given, and adds the row of each key that holds something else than at
+/// first. Keys and values are moved into the rows.
 fn settle(
     contents: &mut BTreeMap<Bytes, Bytes>,
     rows: &mut VecDeque<Row>,
     version: Version,
-    changes: BTreeMap<Bytes, Change>,
+    fates: Vec<(Bytes, Fate)>,
 )
-    requires held { (q : List ℕ) → IfSome (tree.get bytes_cmp changes q) (λ change. IsSome change.before
-        → IsSome (tree.get bytes_cmp contents.old q)) }
-    requires room { length rows.old.items + length changes.entries ≤ deque_capacity rows.old }
+    requires order { IsStrictlySortedBy bytes_cmp (keys_of fates.items) }
+    requires room { length rows.old.items + length fates.items ≤ deque_capacity rows.old }
     ensures values { (q : List ℕ) → tree.get bytes_cmp contents.new q
-        ≡ written_if is_held (tree.get bytes_cmp changes q) (tree.get bytes_cmp contents.old q) }
-    ensures rows { rows.new.items ≡ rows.old.items ++ rows_made version changes.entries }
+        ≡ acted finished (lookup (is_at (bytes_cmp q)) fates.items) (tree.get bytes_cmp contents.old q) }
+    ensures rows { rows.new.items ≡ rows.old.items ++ rows_left version (tree.get bytes_cmp contents.old) fates.items }
 {
-    for (key, change) in changes {
-        let before = replace(contents, &key, change);
+    for (key, fate) in fates {
+        let before = finish(contents, &key, fate);
         put_row(rows, (version, key), before);
     }
 }
@@ -69,9 +72,10 @@ pub(crate) fn extend(
     ensures same_values { OnErr result ((q : List ℕ) → tree.get bytes_cmp contents.new q ≡ tree.get bytes_cmp contents.old q) }
     ensures same_rows { OnErr result (rows.new.items ≡ rows.old.items) }
 {
-    let changes = changes_of(alloc, contents, batch)?;
-    rows.reserve(changes.len())?;
-    add_all(contents, &changes)?;
-    settle(contents, rows, version, changes);
+    let plan = plan_of(alloc, contents, batch)?;
+    let entries = plan.into_entries(alloc)?;
+    rows.reserve(entries.len())?;
+    let fates = give_values(alloc, contents, entries)?;
+    settle(contents, rows, version, fates);
     Ok(())
 }

@@ -9,8 +9,8 @@ ghost use Rattle.fr_undo.specs.Rows.{IsInOrder, rows_to, rows_beyond};
 ghost use Rattle.fr_undo.specs.Changes.{KnowBefore, after_of};
 ghost use Rattle.fr_undo.specs.Undo.{least_row};
 
-use crate::changes::Change;
-use crate::copies::{copy_of, value_copy};
+use crate::changes::{Change, changes_by};
+use crate::plan::{Plan, add};
 use fr_base::{Bytes, Memory, Version};
 use std::alloc::Global;
 use std::collections::{BTreeMap, VecDeque};
@@ -79,31 +79,6 @@ fn next(version: Version, later: Version) -> Version
     }
 }
 
-/// Keeps what a row of a key held, if no row of the key was kept yet.
-pub(crate) fn restore_one(
-    contents: &BTreeMap<Bytes, Bytes>,
-    changes: &mut BTreeMap<Bytes, Change>,
-    key: &Bytes,
-    before: &Option<Bytes>,
-) -> Result<(), Memory>
-    requires { KnowBefore changes.old (tree.get bytes_cmp contents.now) }
-    ensures know { OnOk result (KnowBefore changes.new (tree.get bytes_cmp contents.now)) }
-    ensures kept { OnOk result ((q : List ℕ)
-        → after_of (tree.get bytes_cmp changes.new q) ≡ option_or (after_of (tree.get bytes_cmp changes.old q))
-        (cond (is_same key.now q) (Some before.now) None)) }
-{
-    if !changes.contains_key(key) {
-        let held = value_copy(contents, key)?;
-        let after = copy_of(before)?;
-        let change = Change {
-            before: held,
-            after,
-        };
-        changes.insert(key.copy()?, change)?;
-    }
-    Ok(())
-}
-
 /// What an undo to `version` makes of each key that has rows above it: each takes what its row of least
 /// version held. Of the contents it looks up these keys, and of the undo rows, by version and then by key,
 /// it walks those above; so trees of these alone give the same.
@@ -123,10 +98,11 @@ pub fn changes_above(
     ensures value { IfOk result (λ changes. (n : ℕ) → IsUpTo rows.now (version + n) → (q : List ℕ)
         → after_of (tree.get bytes_cmp changes q) ≡ least_row (map_of rows.now) q version n) }
 {
-    let mut changes = BTreeMap::new(alloc);
+    let mut plan = Plan::new(alloc);
     let first = (next(version, applied), Bytes::empty(alloc));
     for ((_, key), before) in rows.range(first..) {
-        restore_one(contents, &mut changes, key, before)?;
+        add(alloc, &mut plan, key, before)?;
     }
-    Ok(changes)
+    let entries = plan.into_entries(alloc)?;
+    changes_by(alloc, contents, entries)
 }

@@ -1,147 +1,157 @@
-//! Changes written, all of them or none.
-ghost use Rattle.std.specs.Prelude.{◌≡◌, List, ℕ, OnOk, OnErr, IfSome, IsSome, None, Some, false, cond};
+//! A plan carried out, all of it or nothing.
+ghost use Rattle.std.specs.Prelude.{◌≡◌, ◌+◌, ◌≤◌, ◌++◌, List, [], ℕ, OnOk, OnErr, IfOk, IfSome, None, Some, cond, length, vec_capacity};
+ghost use Rattle.std.specs.List.Sorted.{IsStrictlySortedBy};
+ghost use Rattle.std.specs.Map.{lookup, keys_of};
 ghost use Rattle.std.specs.BTreeMap as tree;
+ghost use Rattle.std.specs.BTreeMap.{is_at};
 ghost use Rattle.fr_base.specs.Bytes.{bytes_cmp, is_same};
-ghost use Rattle.fr_undo.specs.Undo.{same_value, before_if_changed};
-ghost use Rattle.fr_undo.specs.Changes.{written, written_if, KnowBefore, passes, is_new_one, is_added, is_held};
+ghost use Rattle.fr_undo.specs.Plan.{acted, given, fate_of, fates_of, taken_back, finished, row_left, HasPlace};
 
-use crate::changes::Change;
+use crate::plan::Entries;
 use fr_base::{Bytes, Memory};
+use std::alloc::Global;
 use std::collections::BTreeMap;
+use std::collections::btree_map::Entry;
 
-/// Gives a key its value, if it has none and is to take one.
-fn add_one(
+/// What became of a key of a plan.
+#[derive(Drop)]
+pub(crate) enum Fate {
+    /// It held what it is to hold.
+    Stays,
+    /// It took its value, and held this before.
+    Took(Option<Bytes>),
+    /// It is to lose its value. That wants no memory, and is left until all others took theirs, since to put
+    /// a key back would want some.
+    Leaves,
+}
+
+/// Gives a key the value that it is to hold, if any.
+fn give_one(
     contents: &mut BTreeMap<Bytes, Bytes>,
     key: &Bytes,
-    change: &Change,
-) -> Result<(), Memory>
-    ensures ok { OnOk result ((q : List ℕ)
-        → tree.get bytes_cmp contents.new q
-        ≡ cond (is_same key.now q) (written_if is_added (Some change.now) (tree.get bytes_cmp contents.old q))
+    after: Option<Bytes>,
+) -> Result<Fate, Memory>
+    ensures fate { IfOk result (λ fate. fate ≡ fate_of (tree.get bytes_cmp contents.old key.now) after) }
+    ensures values { OnOk result ((q : List ℕ)
+        → tree.get bytes_cmp contents.new q ≡ cond (is_same key.now q) (given after (tree.get bytes_cmp contents.old q))
         (tree.get bytes_cmp contents.old q)) }
     ensures err { OnErr result ((q : List ℕ) → tree.get bytes_cmp contents.new q ≡ tree.get bytes_cmp contents.old q) }
 {
-    match (&change.before, &change.after) {
-        (None, Some(value)) => {
-            contents.insert(key.copy()?, value.copy()?)?;
+    let Some(value) = after else {
+        return Ok(Fate::Leaves);
+    };
+    match contents.entry(key.copy()?)? {
+        Entry::Occupied(mut entry) => {
+            if *entry.get() == value {
+                return Ok(Fate::Stays);
+            }
+            Ok(Fate::Took(Some(entry.insert(value))))
         }
-        _ => {}
+        Entry::Vacant(entry) => {
+            entry.insert(value);
+            Ok(Fate::Took(None))
+        }
     }
-    Ok(())
 }
 
-/// Adds the keys that have no value and are to take one, with their values. Want of memory may leave a
-/// front of them.
-fn add_new(
+/// Gives the keys of a plan their values, and notes what became of each. Want of memory leaves a front of
+/// them with theirs.
+fn give_all(
     contents: &mut BTreeMap<Bytes, Bytes>,
-    changes: &BTreeMap<Bytes, Change>,
+    plan: Entries,
+    fates: &mut Vec<(Bytes, Fate)>,
 ) -> Result<(), Memory>
-    ensures others { (q : List ℕ) → passes is_new_one (tree.get bytes_cmp changes.now q) ≡ false
-        → tree.get bytes_cmp contents.new q ≡ tree.get bytes_cmp contents.old q }
-    ensures added { OnOk result ((q : List ℕ)
-        → tree.get bytes_cmp contents.new q ≡ written_if is_added (tree.get bytes_cmp changes.now q)
-        (tree.get bytes_cmp contents.old q)) }
+    requires sorted { IsStrictlySortedBy bytes_cmp (keys_of plan.items) }
+    requires none { fates.old.items ≡ [] }
+    requires room { length plan.items ≤ vec_capacity fates.old }
+    ensures values { OnOk result ((q : List ℕ)
+        → tree.get bytes_cmp contents.new q ≡ acted given (lookup (is_at (bytes_cmp q)) plan.items) (tree.get bytes_cmp contents.old q)) }
+    ensures fates { OnOk result (fates.new.items ≡ fates_of (tree.get bytes_cmp contents.old) plan.items) }
+    ensures order { IsStrictlySortedBy bytes_cmp (keys_of fates.new.items) }
+    ensures back { (q : List ℕ) → acted taken_back (lookup (is_at (bytes_cmp q)) fates.new.items) (tree.get bytes_cmp contents.new q)
+        ≡ tree.get bytes_cmp contents.old q }
+    ensures places { (q : List ℕ) → IfSome (lookup (is_at (bytes_cmp q)) fates.new.items) (λ fate. HasPlace fate (tree.get bytes_cmp contents.new q)) }
 {
-    for (key, change) in changes.iter() {
-        add_one(contents, key, change)?;
+    for (key, after) in plan {
+        let fate = give_one(contents, &key, after)?;
+        fates.push_reserved((key, fate));
     }
     Ok(())
 }
 
-/// Removes the keys that are new.
-fn remove_new(contents: &mut BTreeMap<Bytes, Bytes>, changes: &BTreeMap<Bytes, Change>)
+/// Gives a key back what it held before it took its value.
+fn take_back_one(contents: &mut BTreeMap<Bytes, Bytes>, key: &Bytes, fate: Fate)
+    requires { HasPlace fate (tree.get bytes_cmp contents.old key.now) }
     ensures { (q : List ℕ) → tree.get bytes_cmp contents.new q
-        ≡ cond (passes is_new_one (tree.get bytes_cmp changes.now q)) None (tree.get bytes_cmp contents.old q) }
+        ≡ cond (is_same key.now q) (taken_back fate (tree.get bytes_cmp contents.old q)) (tree.get bytes_cmp contents.old q) }
 {
-    for (key, change) in changes.iter() {
-        if change.before.is_none() {
+    match fate {
+        Fate::Stays | Fate::Leaves => {}
+        Fate::Took(None) => {
             contents.remove(key);
         }
-    }
-}
-
-/// Whether two values, or nones, are one.
-fn is_same_value(a: &Option<Bytes>, b: &Option<Bytes>) -> bool
-    ensures { result ≡ same_value a.now b.now }
-{
-    match (a, b) {
-        (None, None) => true,
-        (Some(a), Some(b)) => a == b,
-        _ => false,
-    }
-}
-
-/// Gives a key that had a value what it takes: a value, or none. Answers what the key held before, where
-/// the change gives it something else.
-pub(crate) fn replace(
-    contents: &mut BTreeMap<Bytes, Bytes>,
-    key: &Bytes,
-    change: Change,
-) -> Option<Option<Bytes>>
-    requires { IsSome change.before → IsSome (tree.get bytes_cmp contents.old key.now) }
-    ensures values { (q : List ℕ) → tree.get bytes_cmp contents.new q
-        ≡ cond (is_same key.now q) (written_if is_held (Some change) (tree.get bytes_cmp contents.old q))
-        (tree.get bytes_cmp contents.old q) }
-    ensures row { result ≡ before_if_changed change.before change.after }
-{
-    let (before, after) = (change.before, change.after);
-    let is_changed = !is_same_value(&before, &after);
-    match (&before, after) {
-        (None, _) => {}
-        (Some(_), None) => {
-            contents.remove(key);
-        }
-        (Some(_), Some(value)) => {
+        Fate::Took(Some(value)) => {
             if let Some(place) = contents.get_mut(key) {
                 *place = value;
             }
         }
     }
-    if is_changed { Some(before) } else { None }
 }
 
-/// Writes the changes of the keys that had a value.
-fn replace_all(contents: &mut BTreeMap<Bytes, Bytes>, changes: BTreeMap<Bytes, Change>)
-    requires { (q : List ℕ) → IfSome (tree.get bytes_cmp changes q) (λ change. IsSome change.before → IsSome (tree.get bytes_cmp contents.old q)) }
-    ensures { (q : List ℕ) → tree.get bytes_cmp contents.new q ≡ written_if is_held (tree.get bytes_cmp changes q) (tree.get bytes_cmp contents.old q) }
+/// Gives all keys back what they held.
+fn take_back(contents: &mut BTreeMap<Bytes, Bytes>, fates: Vec<(Bytes, Fate)>)
+    requires order { IsStrictlySortedBy bytes_cmp (keys_of fates.items) }
+    requires places { (q : List ℕ) → IfSome (lookup (is_at (bytes_cmp q)) fates.items) (λ fate. HasPlace fate (tree.get bytes_cmp contents.old q)) }
+    ensures { (q : List ℕ) → tree.get bytes_cmp contents.new q
+        ≡ acted taken_back (lookup (is_at (bytes_cmp q)) fates.items) (tree.get bytes_cmp contents.old q) }
 {
-    for (key, change) in changes {
-        replace(contents, &key, change);
+    for (key, fate) in fates {
+        take_back_one(contents, &key, fate);
     }
 }
 
-/// Adds the keys that have no value and are to take one: all of them, or none where memory is wanting.
-pub(crate) fn add_all(
+/// Carries a plan out as far as it can want memory, all of that or nothing: keys have the values that they
+/// are to hold, and those that are to hold none still have theirs. Each key is looked up once, and no value
+/// is copied.
+pub(crate) fn give_values(
+    alloc: Global,
     contents: &mut BTreeMap<Bytes, Bytes>,
-    changes: &BTreeMap<Bytes, Change>,
-) -> Result<(), Memory>
-    requires { KnowBefore changes.now (tree.get bytes_cmp contents.old) }
-    ensures ok { OnOk result ((q : List ℕ)
-        → tree.get bytes_cmp contents.new q ≡ written_if is_added (tree.get bytes_cmp changes.now q)
-        (tree.get bytes_cmp contents.old q)) }
+    plan: Entries,
+) -> Result<Vec<(Bytes, Fate)>, Memory>
+    requires { IsStrictlySortedBy bytes_cmp (keys_of plan.items) }
+    ensures values { OnOk result ((q : List ℕ)
+        → tree.get bytes_cmp contents.new q ≡ acted given (lookup (is_at (bytes_cmp q)) plan.items) (tree.get bytes_cmp contents.old q)) }
+    ensures fates { IfOk result (λ fates. fates.items ≡ fates_of (tree.get bytes_cmp contents.old) plan.items) }
+    ensures order { IfOk result (λ fates. IsStrictlySortedBy bytes_cmp (keys_of fates.items)) }
     ensures err { OnErr result ((q : List ℕ) → tree.get bytes_cmp contents.new q ≡ tree.get bytes_cmp contents.old q) }
 {
-    match add_new(contents, changes) {
-        Ok(()) => Ok(()),
+    let mut fates = Vec::with_capacity(alloc, plan.len())?;
+    match give_all(contents, plan, &mut fates) {
+        Ok(()) => Ok(fates),
         Err(refused) => {
-            remove_new(contents, changes);
+            take_back(contents, fates);
             Err(refused)
         }
     }
 }
 
-/// Writes changes: all of them, or none where memory is wanting.
-pub(crate) fn write(
+/// Takes a key's value away, if it is to lose it. Answers what the key held at first, where it holds
+/// something else now.
+pub(crate) fn finish(
     contents: &mut BTreeMap<Bytes, Bytes>,
-    changes: BTreeMap<Bytes, Change>,
-) -> Result<(), Memory>
-    requires { KnowBefore changes (tree.get bytes_cmp contents.old) }
-    ensures ok { OnOk result ((q : List ℕ)
-        → tree.get bytes_cmp contents.new q ≡ written (tree.get bytes_cmp changes q)
-        (tree.get bytes_cmp contents.old q)) }
-    ensures err { OnErr result ((q : List ℕ) → tree.get bytes_cmp contents.new q ≡ tree.get bytes_cmp contents.old q) }
+    key: &Bytes,
+    fate: Fate,
+) -> Option<Option<Bytes>>
+    ensures values { (q : List ℕ) → tree.get bytes_cmp contents.new q
+        ≡ cond (is_same key.now q) (finished fate (tree.get bytes_cmp contents.old q)) (tree.get bytes_cmp contents.old q) }
+    ensures row { result ≡ row_left fate (tree.get bytes_cmp contents.old key.now) }
 {
-    add_all(contents, &changes)?;
-    replace_all(contents, changes);
-    Ok(())
+    match fate {
+        Fate::Stays => None,
+        Fate::Took(before) => Some(before),
+        Fate::Leaves => match contents.remove(key) {
+            Some(value) => Some(Some(value)),
+            None => None,
+        },
+    }
 }

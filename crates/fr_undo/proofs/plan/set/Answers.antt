@@ -1,0 +1,5 @@
+use Rattle.fr_undo.proofs.PlanLemmas.{tree_plan}
+use Rattle.fr_undo.proofs.plan.set.Goals as goal
+
+pub returns-clause-plan : goal.returns-clause-plan
+returns-clause-plan c = tree_plan _ c.in_ok-to_tree.ensures.list
