@@ -5,7 +5,6 @@ mod exchange;
 mod lines;
 mod names;
 mod pending;
-mod script;
 mod simulate;
 mod steps;
 

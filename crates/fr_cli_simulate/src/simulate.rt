@@ -3,9 +3,9 @@ ghost use Rattle.std.specs.Prelude.{◌≡◌, ◌<◌, ◌⊎◌, Err, IfOk, If
 ghost use Rattle.fr_cli_json.specs.Calls.{no_calls, HasNoInput, HasNotFailed, IsWriteFault};
 
 use crate::lines::put_storages;
-use crate::script::{Act, Script, read_script};
 use crate::steps::line_of;
 use fr_cli_json::{CallCounts, CliFault, put, read_input};
+use fr_simulate_script::{Act, Script, read_script};
 use fr_world::World;
 use std::alloc::Global;
 use std::io::{Read, Write};

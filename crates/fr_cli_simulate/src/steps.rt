@@ -8,8 +8,8 @@ mod push;
 mod recover;
 mod storing;
 
-use crate::script::Act;
 use fr_base::Memory;
+use fr_simulate_script::Act;
 use fr_world::World;
 use std::alloc::Global;
 

@@ -2,12 +2,12 @@
 use crate::exchange::{Exchange, ask_and_hear};
 use crate::names::event_name;
 use crate::pending::pending_of;
-use crate::script::Commit;
 use crate::steps::push::push_to;
 use fr_ask::{Ask, SeqTell, Tell};
 use fr_base::{Memory, NodeId, Version};
 use fr_mutation::{Batch, BatchFault};
 use fr_run_event::{Event, NotEnabled};
+use fr_simulate_script::Commit;
 use fr_world::World;
 use std::alloc::Global;
 

@@ -1,8 +1,8 @@
 //! The step `mark`: a storage server asks a log for the mark of its epoch.
-use crate::script::Pull;
 use crate::steps::storing;
 use fr_base::Memory;
 use fr_log::LogAsk;
+use fr_simulate_script::Pull;
 use fr_world::World;
 use std::alloc::Global;
 

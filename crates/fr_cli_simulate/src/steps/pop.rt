@@ -1,11 +1,11 @@
 //! The step `pop`: a storage server has a log let go of what it has for good.
 use crate::names::Refusal;
-use crate::script::Pull;
 use crate::steps::storing::{self, Asked};
 use fr_ask::Tell;
 use fr_base::{Memory, Version};
 use fr_log::{LogAsk, LogTell};
 use fr_run_event::NotEnabled;
+use fr_simulate_script::Pull;
 use fr_world::World;
 use std::alloc::Global;
 

@@ -1,8 +1,8 @@
 //! The step `pull`: a storage server pulls records of its tag from a log.
-use crate::script::Pull;
 use crate::steps::storing;
 use fr_base::Memory;
 use fr_log::{LogAsk, Most};
+use fr_simulate_script::Pull;
 use fr_world::World;
 use std::alloc::Global;
 

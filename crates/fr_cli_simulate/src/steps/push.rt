@@ -1,12 +1,12 @@
 //! The step `push`: a proxy pushes its open batch again.
 use crate::exchange::{Exchange, ask_listed};
 use crate::pending::{Purpose, distinct, pending_of};
-use crate::script::Push;
 use fr_ask::Ask;
 use fr_base::{Memory, NodeId, Version};
 use fr_log::LogAsk;
 use fr_proxy::Outcome;
 use fr_run_event::Answer;
+use fr_simulate_script::Push;
 use fr_world::World;
 use std::alloc::Global;
 

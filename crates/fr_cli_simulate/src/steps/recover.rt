@@ -2,10 +2,10 @@
 use crate::exchange::ask_listed;
 use crate::names::event_name;
 use crate::pending::{Purpose, distinct, is_wanted, listed, pending_of};
-use crate::script::Recover;
 use fr_ask::Ask;
 use fr_base::{Ballot, Memory, NodeId, Tag};
 use fr_run_event::{Event, NotEnabled, phase_text};
+use fr_simulate_script::Recover;
 use fr_world::World;
 use std::alloc::Global;
 

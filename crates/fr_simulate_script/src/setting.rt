@@ -1,11 +1,11 @@
 //! The config of a script.
 ghost use Rattle.std.specs.Prelude.{◌≡◌, ◌⊎◌, IfErr};
 
-use super::fields::Fields;
+use crate::fields::Fields;
 use fr_base::Bytes;
 use fr_cli_json::CliFault;
 use fr_cli_json::tree::read_bytes;
-use fr_world::{Config, ConfigFault};
+use fr_run_event::{Config, ConfigFault};
 use serde_json::Value;
 use std::alloc::Global;
 

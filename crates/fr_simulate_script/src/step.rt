@@ -1,8 +1,8 @@
 //! The steps of a script.
 ghost use Rattle.std.specs.Prelude.{◌≡◌, ◌⊎◌, IfErr};
 
-use super::fields::{Fields, LAST_CELL, LAST_LOG};
-use super::{Act, Commit, Pull, Push, Recover};
+use crate::fields::{Fields, LAST_CELL, LAST_LOG};
+use crate::script::{Act, Commit, Pull, Push, Recover};
 use fr_base::{Ballot, Shape, Step, Tag};
 use fr_cli_json::CliFault;
 use fr_cli_json::tree::{into_one_member, member_of, read_batch, take_member};
