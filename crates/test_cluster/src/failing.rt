@@ -6,13 +6,14 @@ use fr_audit_journal::{Act, Entry};
 use fr_base::{InMemory, LogId, Node, NodeFault, NodeId, Reopened, Tag};
 use fr_log::Log;
 use fr_register::{Cell, CellAsk, CellTell};
-use fr_runtime::{Orders, Rack, Report};
-use fr_runtime_station::NoFaults;
+use fr_runtime::{Rack, Report};
 use fr_undo::{MapStore, StoreFault};
 use std::alloc::Global;
 use std::sync::atomic::{AtomicU64, Ordering};
 use std::test::Fail;
-use test_cluster_scene::{DEFAULTS, Numbers, Question, alike, ballot, entries_of, holds_on};
+use test_cluster_scene::{
+    DEFAULTS, Numbers, Question, Scene, StagedOrders, alike, ballot, entries_of,
+};
 
 /// A cell in memory which, where it is frail, fails at each write of ballot 513, that leaves nothing.
 #[derive(Drop)]
@@ -129,7 +130,7 @@ fn writes(entries: &[Entry]) -> usize {
 struct IsLeftOut;
 
 impl Question for IsLeftOut {
-    fn is_so(&self, report: &Report, _works: &[Orders]) -> bool {
+    fn is_so(&self, report: &Report, _works: &[StagedOrders<'_>]) -> bool {
         let written = writes(entries_of(report, NodeId::Cell { index: 0 }));
         written == 1 && writes(entries_of(report, NodeId::Cell { index: 2 })) == 0
     }
@@ -151,7 +152,7 @@ fn a_cell_that_fails_is_opened_again_at_the_end(rt: HostRuntime) -> Result<(), F
         reopened: &reopened,
     };
     let ballots = [alike(ballot()?)];
-    let is_so = holds_on(&rt, rt.alloc(), FEW, &ballots, rack, &NoFaults, &IsLeftOut)?;
+    let is_so = Scene::calm(FEW, &ballots).holds(&rt, rt.alloc(), rack, &IsLeftOut)?;
     assert!(rt; is_so && reopened.load(Ordering::SeqCst) == 1);
     Ok(())
 }

@@ -5,23 +5,23 @@ use fr_base::{LogId, NodeFault};
 use fr_device::{Device, FaultyDevice};
 use fr_runtime::RunFault;
 use fr_runtime_disks::{Devices, FileRack, MemoryDevices};
-use fr_runtime_station::NoFaults;
 use std::alloc::Global;
 use std::sync::Wait;
 use std::test::Fail;
 use std::thread::Threads;
-use test_cluster_scene::{AreCommitted, ONE, fault_of, holds_on};
+use test_cluster_scene::{AreCommitted, ONE, Scene};
 
 /// In which calls the device of log (257, 0) fails, counted from 1.
 #[derive(Clone, Copy)]
-enum Fails {
+pub enum Fails {
+    Never,
     Once(u64),
     From(u64),
 }
 
 /// Devices of which that of log (257, 0) fails, and the others work.
 #[derive(Drop)]
-struct FrailDevices<V: Devices> {
+pub struct FrailDevices<V: Devices> {
     devices: V,
     fails: Fails,
 }
@@ -36,6 +36,7 @@ fn frail<D: Device + Drop>(device: D, fails: Fails) -> FaultyDevice<D>
     ensures { result.device ≡ device }
 {
     match fails {
+        Fails::Never => sound(device),
         Fails::Once(n) => FaultyDevice::once(device, n),
         Fails::From(n) => FaultyDevice::from(device, n),
     }
@@ -61,7 +62,7 @@ impl<V: Devices> Devices for FrailDevices<V> {
 }
 
 /// Record files on such devices in memory.
-fn rack_of(fails: Fails) -> FileRack<FrailDevices<MemoryDevices>> {
+pub fn rack_of(fails: Fails) -> FileRack<FrailDevices<MemoryDevices>> {
     FileRack::on(FrailDevices {
         devices: MemoryDevices,
         fails,
@@ -75,7 +76,7 @@ const CALLS: [u64; 8] = [15, 16, 17, 18, 19, 20, 21, 22];
 fn commits<R: Threads + Wait + Sync>(rt: &R, alloc: Global, n: u64) -> Result<bool, Fail> {
     let committed = AreCommitted { many: 20 };
     let rack = rack_of(Fails::Once(n));
-    holds_on(rt, alloc, ONE, &[], rack, &NoFaults, &committed)
+    Scene::calm(ONE, &[]).holds(rt, alloc, rack, &committed)
 }
 
 /// A log whose device fails once is opened again by the next ask, and takes what it had not taken.
@@ -94,7 +95,7 @@ fn comes_of<R: Threads + Wait + Sync>(
     n: u64,
 ) -> Result<Option<RunFault>, Fail> {
     let rack = rack_of(Fails::From(n));
-    fault_of(rt, alloc, ONE, &[], rack, 1, &NoFaults)
+    Scene::calm(ONE, &[]).fault(rt, alloc, rack, 1)
 }
 
 /// A log whose device fails for good cannot be opened again at the end, so there is no journal of it.

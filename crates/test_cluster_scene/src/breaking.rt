@@ -1,0 +1,48 @@
+//! Stores that fail once, and what is entered of hears that broke off by that.
+use fr_audit_journal::{Act, Entry};
+use fr_base::{InMemory, LogId, NodeFault, Tag};
+use fr_log::Log;
+use fr_register::Cell;
+use fr_runtime::Rack;
+use fr_undo::StoreFault;
+use std::alloc::Global;
+use test_store_failing::FailsOnce;
+
+/// All in memory, with stores whose device fails once: in the call after so many others, the first of which makes the
+/// storage server. The call is done or not.
+#[derive(Clone, Copy)]
+pub struct BreakingRack {
+    pub calls: u32,
+    pub is_done: bool,
+}
+
+impl Rack for BreakingRack {
+    type Cell = InMemory<Cell>;
+
+    type Log = InMemory<Log>;
+
+    type Store = FailsOnce;
+
+    fn cell(&self, alloc: Global, _index: u8) -> Result<InMemory<Cell>, NodeFault> {
+        Ok(InMemory::new(Cell::new(alloc)))
+    }
+
+    fn log(&self, alloc: Global, id: LogId, m: u8, k: u8) -> Result<InMemory<Log>, NodeFault> {
+        Ok(InMemory::new(Log::new(alloc, id, m, k)))
+    }
+
+    fn store(&self, alloc: Global, _tag: Tag) -> Result<FailsOnce, StoreFault> {
+        Ok(FailsOnce::new(alloc, self.calls, self.is_done))
+    }
+}
+
+/// How many hears are entered in part.
+pub fn parts(entries: &[Entry]) -> usize {
+    let mut parts = 0_usize;
+    for entry in entries {
+        if let Act::Heard { taken: Some(_), .. } = &entry.act {
+            parts = parts.wrapping_add(1);
+        }
+    }
+    parts
+}
