@@ -2,3 +2,5 @@ pub mod Fault
 pub mod Handed
 pub mod Heard
 pub mod Job
+pub mod Orders
+pub mod Unfinished

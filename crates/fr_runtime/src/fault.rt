@@ -1,6 +1,7 @@
 //! Why a cluster's run has no report.
 ghost use Rattle.std.specs.Prelude.{◌≡◌, false};
 ghost use Rattle.fr_runtime.specs.Fault.{is_audit};
+ghost use Rattle.fr_runtime.specs.Unfinished.{run_fault};
 
 use fr_audit::AuditFault;
 use fr_base::{Memory as NoMemory, NodeFault};
@@ -41,7 +42,8 @@ pub(crate) enum Unfinished {
 impl Unfinished {
     /// What the caller of a run is told of it.
     pub(crate) fn fault(self) -> RunFault
-        ensures { is_audit result ≡ false }
+        ensures value { result ≡ run_fault self }
+        ensures plain { is_audit result ≡ false }
     {
         match self {
             Unfinished::Memory => RunFault::Memory,
@@ -52,12 +54,22 @@ impl Unfinished {
 }
 
 impl From<NoMemory> for Unfinished {
+    ghost use Rattle.std.specs.Prelude.{◌≡◌};
+    ghost use Rattle.fr_runtime.specs.declared.fault.Unfinished.TheVariants.{Memory};
+
+    ghost from_gives = { λ _ made. made ≡ Memory };
+
     fn from(_: NoMemory) -> Unfinished {
         Unfinished::Memory
     }
 }
 
 impl From<SpawnFault> for Unfinished {
+    ghost use Rattle.std.specs.Prelude.{◌≡◌};
+    ghost use Rattle.fr_runtime.specs.Unfinished.{of_spawn};
+
+    ghost from_gives = { λ fault made. made ≡ of_spawn fault };
+
     fn from(fault: SpawnFault) -> Unfinished {
         match fault {
             SpawnFault::Memory => Unfinished::Memory,
@@ -67,15 +79,47 @@ impl From<SpawnFault> for Unfinished {
 }
 
 impl From<NodeFault> for Unfinished {
+    ghost use Rattle.std.specs.Prelude.{◌≡◌};
+    ghost use Rattle.fr_runtime.specs.Unfinished.{of_node};
+
+    ghost from_gives = { λ fault made. made ≡ of_node fault };
+
     fn from(fault: NodeFault) -> Unfinished {
         match fault {
+            NodeFault::Device => Unfinished::Rack,
+            NodeFault::Full => Unfinished::Rack,
+            NodeFault::Failed => Unfinished::Rack,
             NodeFault::Memory => Unfinished::Memory,
-            _ => Unfinished::Rack,
+            NodeFault::Broken => Unfinished::Rack,
+        }
+    }
+}
+
+impl From<StoreFault> for Unfinished {
+    ghost use Rattle.std.specs.Prelude.{◌≡◌};
+    ghost use Rattle.fr_runtime.specs.Unfinished.{of_store};
+
+    ghost from_gives = { λ fault made. made ≡ of_store fault };
+
+    fn from(fault: StoreFault) -> Unfinished {
+        match fault {
+            StoreFault::Device => Unfinished::Rack,
+            StoreFault::Full => Unfinished::Rack,
+            StoreFault::Failed => Unfinished::Rack,
+            StoreFault::Memory => Unfinished::Memory,
+            StoreFault::NotAfter => Unfinished::Rack,
+            StoreFault::BelowFloor => Unfinished::Rack,
+            StoreFault::AboveApplied => Unfinished::Rack,
         }
     }
 }
 
 impl From<TurnFault> for Unfinished {
+    ghost use Rattle.std.specs.Prelude.{◌≡◌};
+    ghost use Rattle.fr_runtime.specs.Unfinished.{of_turn};
+
+    ghost from_gives = { λ fault made. made ≡ of_turn fault };
+
     fn from(fault: TurnFault) -> Unfinished {
         match fault {
             TurnFault::Memory => Unfinished::Memory,
@@ -86,10 +130,20 @@ impl From<TurnFault> for Unfinished {
 }
 
 impl From<StorageFault> for Unfinished {
+    ghost use Rattle.std.specs.Prelude.{◌≡◌};
+    ghost use Rattle.fr_runtime.specs.Unfinished.{of_storage};
+
+    ghost from_gives = { λ fault made. made ≡ of_storage fault };
+
     fn from(fault: StorageFault) -> Unfinished {
         match fault {
-            StorageFault::Store(StoreFault::Memory) => Unfinished::Memory,
-            _ => Unfinished::Rack,
+            StorageFault::Older => Unfinished::Rack,
+            StorageFault::Stranger => Unfinished::Rack,
+            StorageFault::BelowFloor => Unfinished::Rack,
+            StorageFault::NotMyGeneration => Unfinished::Rack,
+            StorageFault::Hole => Unfinished::Rack,
+            StorageFault::Store(fault) => Unfinished::from(fault),
+            StorageFault::BadState => Unfinished::Rack,
         }
     }
 }

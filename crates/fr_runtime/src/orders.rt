@@ -1,4 +1,7 @@
 //! A workload of numbered batches.
+ghost use Rattle.std.specs.Prelude.{◌≡◌, ◌≤◌, ◌++◌, ◌∷◌, [], IfOk, IfSome, None, Ok, OnErr};
+ghost use Rattle.fr_runtime.specs.Orders.{begin_of, order_of, orders_of};
+
 use fr_base::{Bytes, Memory, Step};
 use fr_mutation::{Batch, Mutation};
 use fr_proxy::Outcome;
@@ -10,17 +13,28 @@ use std::alloc::Global;
 #[derive(Drop)]
 pub struct Orders {
     alloc: Global,
-    number: u8,
-    shards: u8,
-    batches: u32,
+    /// Its number.
+    pub number: u8,
+    /// Over how many shards its batches go.
+    pub shards: u8,
+    /// How many batches it has.
+    pub batches: u32,
     next: u32,
     given: Vec<Order>,
     heard: Vec<Outcome>,
+    ghost gave: { given.items ≡ orders_of number shards next },
+    ghost within: { next ≤ batches },
 }
 
 impl Orders {
     /// So many batches of the workload of this number, over so many shards, 1 to 32.
-    pub fn new(alloc: Global, number: u8, shards: u8, batches: u32) -> Self {
+    pub fn new(alloc: Global, number: u8, shards: u8, batches: u32) -> Self
+        ensures number { result.number ≡ number }
+        ensures shards { result.shards ≡ shards }
+        ensures batches { result.batches ≡ batches }
+        ensures given { ⟦<Orders as Workload>⟧.given result ≡ [] }
+        ensures heard { ⟦<Orders as Workload>⟧.heard result ≡ [] }
+    {
         Orders {
             alloc,
             number,
@@ -33,18 +47,24 @@ impl Orders {
     }
 
     /// The batches that it gave.
-    pub fn given(&self) -> &[Order] {
+    pub fn given(&self) -> &[Order]
+        ensures { result.now ≡ ⟦<Orders as Workload>⟧.given self.now }
+    {
         self.given.as_slice()
     }
 
     /// The byte at which the shard of the next batch begins.
-    fn begin(&self) -> u8 {
+    fn begin(&self) -> u8
+        ensures { result ≡ begin_of self.now.shards self.now.next }
+    {
         let shard = self.next.checked_rem(u32::from(self.shards)).unwrap_or(0);
         ((shard % 32) * 8) as u8
     }
 
     /// The next batch.
-    fn batch(&self) -> Result<Batch, Memory> {
+    fn batch(&self) -> Result<Batch, Memory>
+        ensures { IfOk result (λ batch. batch ≡ (order_of self.now.number self.now.shards self.now.next).batch) }
+    {
         let mut mutations = Vec::new(self.alloc);
         mutations.push(Mutation::Set {
             key: Bytes::from_slice(self.alloc, &[self.begin(), self.number])?,
@@ -52,7 +72,7 @@ impl Orders {
         })?;
         match Batch::new(mutations) {
             Ok(batch) => Ok(batch),
-            Err(_) => Err(Memory),
+            Err(_) => unreachable!(),
         }
     }
 }
@@ -62,7 +82,16 @@ impl Workload for Orders {
 
     ghost heard = { λ o. o.heard.items };
 
-    fn next(&mut self) -> Result<Option<(Step, Batch)>, Memory> {
+    fn next(&mut self) -> Result<Option<(Step, Batch)>, Memory>
+        ensures none { (result ≡ Ok None) → self.new.given.items ≡ self.old.given.items }
+        ensures some { IfOk result (λ next. IfSome next (λ order. self.new.given.items ≡ self.old.given.items ++ record { step = order.0; batch = order.1 } ∷ [])) }
+        ensures heard { self.new.heard.items ≡ self.old.heard.items }
+        ensures err { OnErr result (self.new.given.items ≡ self.old.given.items) }
+        ensures ended { (result ≡ Ok None) → self.old.given.items ≡ orders_of self.old.number self.old.shards self.old.batches }
+        ensures number { self.new.number ≡ self.old.number }
+        ensures shards { self.new.shards ≡ self.old.shards }
+        ensures batches { self.new.batches ≡ self.old.batches }
+    {
         if self.next >= self.batches {
             return Ok(None);
         }

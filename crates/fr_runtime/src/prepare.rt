@@ -15,7 +15,6 @@ use fr_runtime_station::{Directory, Station};
 use fr_runtime_threads::Rack;
 use fr_state::{CoordState, Generation, encode};
 use fr_storage::Storage;
-use fr_undo::StoreFault;
 use std::alloc::Global;
 
 /// The number of the epoch that a cluster starts in: round 1, recoverer 1.
@@ -208,11 +207,8 @@ fn storage<K: Rack>(
     let Some(tag) = Tag::new(number) else {
         unreachable!();
     };
-    match rack.store(alloc, tag) {
-        Ok(store) => Ok(Storage::start(alloc, store, tag, state.copy()?)?),
-        Err(StoreFault::Memory) => Err(Unfinished::Memory),
-        Err(_) => Err(Unfinished::Rack),
-    }
+    let store = rack.store(alloc, tag)?;
+    Ok(Storage::start(alloc, store, tag, state.copy()?)?)
 }
 
 /// Puts an item behind the others.

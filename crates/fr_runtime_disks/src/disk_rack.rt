@@ -1,7 +1,8 @@
 //! Cells and logs over devices, and stores in tables.
-ghost use Rattle.std.specs.Prelude.{◌≡◌, ◌≤◌, ◌<◌, [], None, false, IfOk};
+ghost use Rattle.std.specs.Prelude.{◌≡◌, ◌≤◌, ◌<◌, [], None, false, IfErr, IfOk};
 ghost use Rattle.fr_log.specs.LogState.{fresh_log};
 ghost use Rattle.fr_register.specs.CellState.{fresh_cell};
+ghost use Rattle.fr_runtime_disks.specs.Refusal.{IsRefusal};
 
 use crate::devices::{Devices, MemoryDevices};
 use fr_base::{LogId, NodeFault, Tag};
@@ -42,11 +43,18 @@ impl FileRack<MemoryDevices> {
 }
 
 impl<V: Devices> Rack for FileRack<V> {
+    ghost use Rattle.fr_runtime_disks.specs.Refusal.{IsRefusal};
+    ghost use Rattle.fr_undo.specs.Calls.{IsTrouble};
+
     type Cell = CellNode<V::Device>;
 
     type Log = LogNode<V::Device>;
 
     type Store = SqlStore<MemStore>;
+
+    ghost CanRefuse = { λ rack fault. IsRefusal (V.CanRefuse rack.devices) V.Device.failures_of (V.room rack.devices) fault };
+
+    ghost CanRefuseStore = { λ rack fault. IsTrouble (λ any. Unit {0}) fault };
 
     fn cell(&self, alloc: Global, index: u8) -> Result<CellNode<V::Device>, NodeFault>
         ensures works { IfOk result (λ node. node.is_failed ≡ false) }
@@ -54,6 +62,7 @@ impl<V: Devices> Rack for FileRack<V> {
         ensures fresh { IfOk result (λ node. node.machine ≡ fresh_cell) }
         ensures records { IfOk result (λ node. node.records ≡ []) }
         ensures device { IfOk result (λ node. V.Device.capacity_of node.device ≡ V.room self.now.devices) }
+        ensures refused { IfErr result (IsRefusal (V.CanRefuse self.now.devices) V.Device.failures_of (V.room self.now.devices)) }
     {
         let device = self.devices.cell(alloc, index)?;
         CellNode::format(alloc, device, Cell::new(alloc))
@@ -69,6 +78,7 @@ impl<V: Devices> Rack for FileRack<V> {
         ensures fresh { IfOk result (λ node. node.machine ≡ fresh_log id.epoch id.index m k) }
         ensures records { IfOk result (λ node. node.records ≡ []) }
         ensures device { IfOk result (λ node. V.Device.capacity_of node.device ≡ V.room self.now.devices) }
+        ensures refused { IfErr result (IsRefusal (V.CanRefuse self.now.devices) V.Device.failures_of (V.room self.now.devices)) }
     {
         let device = self.devices.log(alloc, &id)?;
         LogNode::format(alloc, device, id, m, k)

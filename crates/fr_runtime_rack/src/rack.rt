@@ -1,5 +1,5 @@
 //! Where the nodes and stores of a cluster come from.
-ghost use Rattle.std.specs.Prelude.{◌≡◌, ◌≤◌, ◌<◌, IfOk, false, None};
+ghost use Rattle.std.specs.Prelude.{◌≡◌, ◌≤◌, ◌<◌, IfErr, IfOk, false, None};
 ghost use Rattle.fr_log.specs.LogState.{fresh_log};
 ghost use Rattle.fr_register.specs.CellState.{fresh_cell};
 ghost use Rattle.fr_undo.specs.State.{fresh};
@@ -12,6 +12,9 @@ use std::alloc::Global;
 
 /// Where the nodes and stores of a cluster come from, each fresh.
 pub trait Rack {
+    ghost use Rattle.fr_base.specs.declared.node.NodeFault.{NodeFault};
+    ghost use Rattle.fr_undo.specs.declared.fault.StoreFault.{StoreFault};
+
     /// A coordinator's cell.
     type Cell: Node<Plain = Cell> + Send + Drop;
 
@@ -21,11 +24,18 @@ pub trait Rack {
     /// The store of a storage server.
     type Store: ShardStore + Send + Drop;
 
+    /// The faults with which a cell or a log may be refused.
+    ghost CanRefuse: { Self → NodeFault → Type 0 };
+
+    /// Those with which a store may be.
+    ghost CanRefuseStore: { Self → StoreFault → Type 0 };
+
     /// The cell of this number.
     fn cell(&self, alloc: Global, index: u8) -> Result<Self::Cell, NodeFault>
         ensures works { IfOk result (λ node. Self.Cell.is_failed node ≡ false) }
         ensures free { IfOk result (λ node. Self.Cell.owed node ≡ None) }
-        ensures fresh { IfOk result (λ node. Self.Cell.state node ≡ fresh_cell) };
+        ensures fresh { IfOk result (λ node. Self.Cell.state node ≡ fresh_cell) }
+        ensures refused { IfErr result (CanRefuse self.now) };
 
     /// A log of a generation of `m` logs, of which `k` hold each tag.
     fn log(&self, alloc: Global, id: LogId, m: u8, k: u8) -> Result<Self::Log, NodeFault>
@@ -35,15 +45,17 @@ pub trait Rack {
         requires place { id.index < m }
         ensures works { IfOk result (λ node. Self.Log.is_failed node ≡ false) }
         ensures free { IfOk result (λ node. Self.Log.owed node ≡ None) }
-        ensures fresh { IfOk result (λ node. Self.Log.state node ≡ fresh_log id.epoch id.index m k) };
+        ensures fresh { IfOk result (λ node. Self.Log.state node ≡ fresh_log id.epoch id.index m k) }
+        ensures refused { IfErr result (CanRefuse self.now) };
 
     /// The store of this tag.
     fn store(&self, alloc: Global, tag: Tag) -> Result<Self::Store, StoreFault>
         ensures works { IfOk result (λ store. Self.Store.is_failed store ≡ false) }
-        ensures fresh { IfOk result (λ store. Self.Store.state store ≡ fresh) };
+        ensures fresh { IfOk result (λ store. Self.Store.state store ≡ fresh) }
+        ensures refused { IfErr result (CanRefuseStore self.now) };
 }
 
-/// All in memory, with no device that could fail.
+/// All in memory, with no device that could fail: nothing is refused.
 #[derive(Clone, Copy, Debug)]
 pub struct PlainRack;
 
@@ -53,6 +65,10 @@ impl Rack for PlainRack {
     type Log = InMemory<Log>;
 
     type Store = MapStore;
+
+    ghost CanRefuse = { λ rack fault. ⊥ };
+
+    ghost CanRefuseStore = { λ rack fault. ⊥ };
 
     fn cell(&self, alloc: Global, _index: u8) -> Result<InMemory<Cell>, NodeFault> {
         Ok(InMemory::new(Cell::new(alloc)))

@@ -1,6 +1,7 @@
 //! Jobs in threads, one each, or the answer that a thread could not be made.
-ghost use Rattle.std.specs.Prelude.{◌≡◌, ◌++◌, ◌∷◌, [], IfOk, IfSome, OnOk};
+ghost use Rattle.std.specs.Prelude.{◌≡◌, ◌++◌, ◌∷◌, [], IfErr, IfOk, IfSome, OnOk};
 ghost use Rattle.std.specs.Fork.{AcceptsJobs};
+ghost use Rattle.fr_runtime_spawn.specs.declared.spawn.SpawnFault.{SpawnFault};
 ghost use Rattle.fr_runtime_spawn.specs.Sworn.{AllDone, AllTaken, AreSwornTo, DidEach};
 
 use std::alloc::{AllocError, Global};
@@ -19,6 +20,11 @@ pub enum SpawnFault {
 }
 
 impl From<AllocError> for SpawnFault {
+    ghost use Rattle.std.specs.Prelude.{◌≡◌};
+    ghost use Rattle.fr_runtime_spawn.specs.declared.spawn.SpawnFault.TheVariants.{Memory};
+
+    ghost from_gives = { λ _ fault. fault ≡ Memory };
+
     fn from(_: AllocError) -> SpawnFault {
         SpawnFault::Memory
     }
@@ -85,6 +91,7 @@ fn start<
     requires takes { W.Takes worker.now job }
     ensures job { IfOk result (λ handle. handle.promise.job.value ≡ job) }
     ensures worker { IfOk result (λ handle. handle.promise.worker.value ≡ worker.now) }
+    ensures refused { IfErr result (λ fault. fault ≡ SpawnFault.Thread) }
 {
     let promise = Sworn {
         worker: Snapshot::of(worker),
@@ -157,7 +164,8 @@ fn join_each<R: Threads, J: Drop, D: Drop, W: Worker<J, D>>(
 
 /// Puts an item behind the others.
 fn put<T: Drop>(all: &mut Vec<T>, item: T) -> Result<(), SpawnFault>
-    ensures { OnOk result (all.new.items ≡ all.old.items ++ item ∷ []) }
+    ensures put { OnOk result (all.new.items ≡ all.old.items ++ item ∷ []) }
+    ensures only_memory { IfErr result (λ fault. fault ≡ SpawnFault.Memory) }
 {
     all.reserve(1)?;
     all.push_reserved(item);

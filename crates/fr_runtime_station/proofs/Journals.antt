@@ -1,5 +1,5 @@
 -- Journals of nodes that answer asks.
-use Rattle.std.proofs.Common.{◌≡◌, ◌++◌, ◌∷◌, [], List, ◌&&◌, Bool, true, false, refl}
+use Rattle.std.proofs.Common.{ℕ, suc, ◌≡◌, ◌+◌, ◌++◌, ◌∷◌, [], List, ◌&&◌, Bool, true, false, refl, arith}
 use Rattle.fr_audit_journal.specs.Journal.{JournalState}
 use Rattle.fr_runtime_station.specs.Answering.{all_answer, answers}
 
@@ -22,3 +22,7 @@ pub answer-more : (js : List JournalState) (j : JournalState) → all_answer js 
 answer-more [] j all here = and-true (answers j.node) true here refl
 answer-more (k ∷ ks) j all here =
     and-true (answers k.node) (all_answer (ks ++ j ∷ [])) (and-left (answers k.node) (all_answer ks) all) (answer-more ks j (and-right (answers k.node) (all_answer ks) all) here)
+
+-- one of those that are left is one more
+pub each-more : (old new rest next all : ℕ) → rest ≡ suc next → new ≡ old + 1 → old + rest ≡ all → new + next ≡ all
+each-more old new rest next all one more before = grind (arith)

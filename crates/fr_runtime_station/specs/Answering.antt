@@ -1,7 +1,11 @@
 -- Which nodes answer asks.
-use Rattle.std.specs.Prelude.{Bool, true, false, ◌&&◌, List, [], ◌∷◌}
+use Rattle.std.specs.Prelude.{Bool, true, false, ◌≡◌, ◌⊎◌, ◌&&◌, List, [], ◌∷◌}
 use Rattle.fr_base.specs.declared.place.NodeId.{NodeId}
 use Rattle.fr_base.specs.declared.place.NodeId.TheVariants.{Cell, Log, Sequencer}
+use Rattle.fr_base.specs.declared.node.NodeFault.{NodeFault}
+use Rattle.fr_base.specs.declared.node.NodeFault.TheVariants.{Memory, Failed}
+use Rattle.fr_ask.specs.declared.ask.Ask.{Ask}
+use Rattle.fr_ask.specs.declared.ask.Ask.TheVariants as ask
 use Rattle.fr_audit_journal.specs.Journal.{JournalState}
 
 -- cells, logs and sequencers answer asks; proxies, recoverers and storage servers ask
@@ -10,6 +14,17 @@ answers (Cell index) = true
 answers (Log epoch index) = true
 answers (Sequencer epoch) = true
 answers node = false
+
+-- an ask is one of a node's kind
+abbrev pub is_asked_of : NodeId → Ask → Bool
+is_asked_of (Cell index) (ask.Cell a) = true
+is_asked_of (Log epoch index) (ask.Log a) = true
+is_asked_of (Sequencer epoch) (ask.Seq a) = true
+is_asked_of node a = false
+
+-- why a node's journal could not be closed: there is no memory, the node could not be opened again, or it is gone and an ask that met a fault is not settled
+abbrev pub IsClosingTrouble : (NodeFault → Type 0) → NodeFault → Type 0
+IsClosingTrouble CanMeet fault = (fault ≡ Memory) ⊎ (CanMeet fault ⊎ (fault ≡ Failed))
 
 -- these are journals of nodes that answer asks
 abbrev pub all_answer : List JournalState → Bool

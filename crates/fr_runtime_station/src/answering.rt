@@ -1,8 +1,9 @@
 //! What lies under the lock of a station.
-ghost use Rattle.std.specs.Prelude.{◌≡◌, ◌<◌, IfErr, IfOk, true};
+ghost use Rattle.std.specs.Prelude.{◌≡◌, ◌<◌, ◌↔◌, Err, IfErr, IfOk, OnErr, Some, true};
 ghost use Rattle.fr_audit_journal.specs.declared.act.Act.{Act};
 ghost use Rattle.fr_runtime_housing.specs.Replays.{steps};
-ghost use Rattle.fr_runtime_housing.specs.Housing.{Asks, Enters, IsTrouble};
+ghost use Rattle.fr_runtime_housing.specs.declared.fault.CallFault.{CallFault};
+ghost use Rattle.fr_runtime_housing.specs.Housing.{Asks, Enters, IsTrouble, Leaves, refusal_of};
 ghost use Rattle.fr_runtime_station.specs.Answering.{answers};
 
 use fr_ask::Tell;
@@ -46,6 +47,8 @@ where
             (steps N.Plain.wrapped N.Plain.unwrapped N.Plain.wrapped_tell N.Plain.told N.Plain.after)
             self.old.housed self.new.housed stamp from ask (told.0, told.1)) }
         ensures above { IfOk result (λ told. stamp < told.0) }
+        ensures lost { (result ≡ Err CallFault.Lost) ↔ (refusal_of self.old.housed stamp ≡ Some CallFault.Lost) }
+        ensures spent { (result ≡ Err CallFault.StampsSpent) ↔ (refusal_of self.old.housed stamp ≡ Some CallFault.StampsSpent) }
         ensures trouble { IfErr result (IsTrouble N.CanMeet) }
     {
         self.housed.ask(alloc, stamp, from, ask)
@@ -59,6 +62,11 @@ where
             (steps N.Plain.wrapped N.Plain.unwrapped N.Plain.wrapped_tell N.Plain.told N.Plain.after)
             self.old.housed self.new.housed stamp at Act.Crashed) }
         ensures above { IfOk result (λ at. stamp < at) }
+        ensures lost { (result ≡ Err CallFault.Lost) ↔ (refusal_of self.old.housed stamp ≡ Some CallFault.Lost) }
+        ensures spent { (result ≡ Err CallFault.StampsSpent) ↔ (refusal_of self.old.housed stamp ≡ Some CallFault.StampsSpent) }
+        ensures err { OnErr result (Leaves
+            (steps N.Plain.wrapped N.Plain.unwrapped N.Plain.wrapped_tell N.Plain.told N.Plain.after)
+            self.old.housed self.new.housed) }
         ensures trouble { IfErr result (IsTrouble N.CanMeet) }
     {
         self.housed.crash(alloc, stamp)

@@ -1,6 +1,6 @@
 //! The journals of stations, once no thread asks them any more.
-ghost use Rattle.std.specs.Prelude.{◌≡◌, OnOk, true};
-ghost use Rattle.fr_runtime_station.specs.Answering.{all_answer, answers};
+ghost use Rattle.std.specs.Prelude.{◌≡◌, ◌≤◌, ◌+◌, length, IfErr, OnOk, true};
+ghost use Rattle.fr_runtime_station.specs.Answering.{IsClosingTrouble, all_answer, answers};
 
 use crate::station::Station;
 use fr_audit_journal::Journal;
@@ -21,6 +21,10 @@ where
     <N::Plain as Machine>::Ask: Drop,
     requires before { all_answer journals.old.items ≡ true }
     ensures answers { OnOk result (all_answer journals.new.items ≡ true) }
+    ensures more { OnOk result (length journals.old.items ≤ length journals.new.items) }
+    ensures each { is_each ≡ true → OnOk result (length journals.new.items
+        ≡ length journals.old.items + length stations.items) }
+    ensures trouble { IfErr result (IsClosingTrouble N.CanMeet) }
 {
     for station in stations {
         close(alloc, station, is_each, journals)?;
@@ -41,6 +45,9 @@ where
     <N::Plain as Machine>::Ask: Drop,
     requires before { all_answer journals.old.items ≡ true }
     ensures answers { OnOk result (all_answer journals.new.items ≡ true) }
+    ensures more { OnOk result (length journals.old.items ≤ length journals.new.items) }
+    ensures each { is_each ≡ true → OnOk result (length journals.new.items ≡ length journals.old.items + 1) }
+    ensures trouble { IfErr result (IsClosingTrouble N.CanMeet) }
 {
     let journal = station.into_inner().into_journal(alloc)?;
     if is_each || !journal.entries().is_empty() {
@@ -54,6 +61,7 @@ fn put(journals: &mut Vec<Journal>, journal: Journal) -> Result<(), Memory>
     requires before { all_answer journals.old.items ≡ true }
     requires place { answers journal.node ≡ true }
     ensures answers { OnOk result (all_answer journals.new.items ≡ true) }
+    ensures more { OnOk result (length journals.new.items ≡ length journals.old.items + 1) }
 {
     journals.reserve(1)?;
     journals.push_reserved(journal);

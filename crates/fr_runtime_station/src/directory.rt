@@ -1,6 +1,7 @@
 //! All nodes that answer asks, where threads find them.
-ghost use Rattle.std.specs.Prelude.{◌≡◌, ◌<◌, IfOk, IfSome, true};
-ghost use Rattle.fr_runtime_station.specs.Answering.{all_answer, answers};
+ghost use Rattle.std.specs.Prelude.{◌≡◌, ◌⊎◌, ◌≤◌, ◌<◌, length, false, IfErr, IfOk, IfSome, None, true};
+ghost use Rattle.fr_ask.specs.declared.ask.Ask.TheVariants as asked;
+ghost use Rattle.fr_runtime_station.specs.Answering.{IsClosingTrouble, all_answer, answers, is_asked_of};
 
 use crate::chosen::{Chosen, first_stamp, later_of};
 use crate::closing::close_all;
@@ -150,7 +151,8 @@ impl<C: Node<Plain = Cell> + Drop, L: Node<Plain = Log> + Drop> Directory<C, L> 
         to: NodeId,
         ask: Ask,
     ) -> Option<(Stamp, Tell)>
-        ensures { IfSome result (λ told. stamp < told.0) }
+        ensures above { IfSome result (λ told. stamp < told.0) }
+        ensures kind { is_asked_of to ask ≡ false → result ≡ None }
     {
         match ask {
             Ask::Cell(ask) => self.call_cell(rt, alloc, stamp, from, to, ask),
@@ -168,7 +170,8 @@ impl<C: Node<Plain = Cell> + Drop, L: Node<Plain = Log> + Drop> Directory<C, L> 
         to: NodeId,
         ask: CellAsk,
     ) -> Option<(Stamp, Tell)>
-        ensures { IfSome result (λ told. stamp < told.0) }
+        ensures above { IfSome result (λ told. stamp < told.0) }
+        ensures kind { is_asked_of to (asked.Cell ask) ≡ false → result ≡ None }
     {
         let NodeId::Cell { index } = to else {
             return None;
@@ -186,7 +189,8 @@ impl<C: Node<Plain = Cell> + Drop, L: Node<Plain = Log> + Drop> Directory<C, L> 
         to: NodeId,
         ask: LogAsk,
     ) -> Option<(Stamp, Tell)>
-        ensures { IfSome result (λ told. stamp < told.0) }
+        ensures above { IfSome result (λ told. stamp < told.0) }
+        ensures kind { is_asked_of to (asked.Log ask) ≡ false → result ≡ None }
     {
         let NodeId::Log { epoch, index } = to else {
             return None;
@@ -206,7 +210,8 @@ impl<C: Node<Plain = Cell> + Drop, L: Node<Plain = Log> + Drop> Directory<C, L> 
         to: NodeId,
         ask: SeqAsk,
     ) -> Option<(Stamp, Tell)>
-        ensures { IfSome result (λ told. stamp < told.0) }
+        ensures above { IfSome result (λ told. stamp < told.0) }
+        ensures kind { is_asked_of to (asked.Seq ask) ≡ false → result ≡ None }
     {
         let NodeId::Sequencer { epoch } = to else {
             return None;
@@ -219,7 +224,8 @@ impl<C: Node<Plain = Cell> + Drop, L: Node<Plain = Log> + Drop> Directory<C, L> 
 
     /// Crashes a cell, a log or a sequencer that is there, and answers the stamp of that. Another node is passed over.
     pub fn crash<R: Wait>(&self, rt: &R, alloc: Global, stamp: Stamp, node: NodeId) -> Option<Stamp>
-        ensures { IfSome result (λ at. stamp < at) }
+        ensures above { IfSome result (λ at. stamp < at) }
+        ensures kind { answers node ≡ false → result ≡ None }
     {
         match node {
             NodeId::Cell { index } => self.crash_cell(rt, alloc, stamp, index),
@@ -270,6 +276,8 @@ impl<C: Node<Plain = Cell> + Drop, L: Node<Plain = Log> + Drop> Directory<C, L> 
     /// entered are left out.
     pub fn into_journals(self, alloc: Global) -> Result<Vec<Journal>, NodeFault>
         ensures answers { IfOk result (λ journals. all_answer journals.items ≡ true) }
+        ensures cells { IfOk result (λ journals. length self.cells.items ≤ length journals.items) }
+        ensures trouble { IfErr result (λ fault. IsClosingTrouble C.CanMeet fault ⊎ IsClosingTrouble L.CanMeet fault) }
     {
         let Directory {
             cells,

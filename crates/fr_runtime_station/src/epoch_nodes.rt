@@ -1,6 +1,6 @@
 //! The logs and the sequencer of an epoch.
-ghost use Rattle.std.specs.Prelude.{◌≡◌, OnOk, true};
-ghost use Rattle.fr_runtime_station.specs.Answering.{all_answer};
+ghost use Rattle.std.specs.Prelude.{◌≡◌, ◌≤◌, length, IfErr, OnOk, true};
+ghost use Rattle.fr_runtime_station.specs.Answering.{IsClosingTrouble, all_answer};
 
 use crate::chosen::Chosen;
 use crate::closing::{close, close_all};
@@ -123,6 +123,8 @@ impl<L: Node<Plain = Log> + Drop> EpochNodes<L> {
     ) -> Result<(), NodeFault>
         requires before { all_answer journals.old.items ≡ true }
         ensures answers { OnOk result (all_answer journals.new.items ≡ true) }
+        ensures more { OnOk result (length journals.old.items ≤ length journals.new.items) }
+        ensures trouble { IfErr result (IsClosingTrouble L.CanMeet) }
     {
         let EpochNodes {
             epoch: _,

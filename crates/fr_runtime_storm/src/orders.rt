@@ -1,5 +1,5 @@
 //! A workload of batches that are drawn from a seed.
-ghost use Rattle.std.specs.Prelude.{◌≡◌, ◌≤◌, ◌+◌, ◌%◌, ◌^◌, ◌∷◌, [], length, IfOk};
+ghost use Rattle.std.specs.Prelude.{◌≡◌, ◌≤◌, ◌+◌, ◌%◌, ◌^◌, ◌++◌, ◌∷◌, [], length, IfOk, IfSome, None, Ok, OnErr};
 ghost use Rattle.fr_runtime_storm.specs.Draws.{generator_of};
 ghost use Rattle.fr_runtime_storm.specs.Orders.{after_batches, begin_of, drawn_orders, key_of, mutation_of};
 
@@ -22,7 +22,8 @@ pub struct DrawnOrders {
     pub seed: u64,
     /// Over how many shards it draws.
     pub shards: u8,
-    batches: u32,
+    /// How many batches it has.
+    pub batches: u32,
     next: u32,
     rng: Pcg32,
     given: Vec<Order>,
@@ -30,6 +31,8 @@ pub struct DrawnOrders {
     ghost some: { 1 ≤ shards },
     ghost few: { shards ≤ 32 },
     ghost stands: { rng ≡ after_batches (length given.items) (generator_of seed) },
+    ghost counts: { next ≡ length given.items },
+    ghost within: { next ≤ batches },
     ghost gave: { given.items ≡ drawn_orders shards (length given.items) (generator_of seed) },
 }
 
@@ -40,6 +43,7 @@ impl DrawnOrders {
         requires few { shards ≤ 32 }
         ensures seed { result.seed ≡ (seed + number) % 2 ^ 64 }
         ensures shards { result.shards ≡ shards }
+        ensures batches { result.batches ≡ batches }
         ensures given { ⟦<DrawnOrders as Workload>⟧.given result ≡ [] }
         ensures heard { ⟦<DrawnOrders as Workload>⟧.heard result ≡ [] }
     {
@@ -141,7 +145,16 @@ impl Workload for DrawnOrders {
 
     ghost heard = { λ o. o.heard.items };
 
-    fn next(&mut self) -> Result<Option<(Step, Batch)>, Memory> {
+    fn next(&mut self) -> Result<Option<(Step, Batch)>, Memory>
+        ensures none { (result ≡ Ok None) → self.new.given.items ≡ self.old.given.items }
+        ensures some { IfOk result (λ next. IfSome next (λ order. self.new.given.items ≡ self.old.given.items ++ record { step = order.0; batch = order.1 } ∷ [])) }
+        ensures heard { self.new.heard.items ≡ self.old.heard.items }
+        ensures err { OnErr result (self.new.given.items ≡ self.old.given.items) }
+        ensures ended { (result ≡ Ok None) → length self.old.given.items ≡ self.old.batches }
+        ensures seed { self.new.seed ≡ self.old.seed }
+        ensures shards { self.new.shards ≡ self.old.shards }
+        ensures batches { self.new.batches ≡ self.old.batches }
+    {
         if self.next >= self.batches {
             return Ok(None);
         }

@@ -1,5 +1,6 @@
 pub mod Account
 pub mod Begins
+pub mod Hears
 pub mod NodeFaults
 pub mod StoreFaults
 pub mod Told

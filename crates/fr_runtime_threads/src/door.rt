@@ -200,6 +200,10 @@ impl Hearer for Door {
 
     ghost told = { λ d. d.told.items };
 
+    ghost entries = { λ d. d.notes.journal.entries };
+
+    ghost seen = { λ d. d.notes.seen };
+
     fn place(&self) -> NodeId {
         self.notes.place()
     }

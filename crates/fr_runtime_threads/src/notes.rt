@@ -1,5 +1,5 @@
 //! The journal of a node that one thread owns.
-ghost use Rattle.std.specs.Prelude.{◌≡◌, ◌≤◌, ◌<◌, ◌+◌, ◌^◌, ◌++◌, ◌∷◌, [], Some, IfOk, IfSome, IsSome};
+ghost use Rattle.std.specs.Prelude.{◌≡◌, ◌≤◌, ◌<◌, ◌+◌, ◌^◌, ◌++◌, ◌∷◌, [], Some, IfOk, IfSome, IsSome, None, Ok};
 ghost use Rattle.fr_audit_journal.specs.Journal.{IsAbove};
 ghost use Rattle.fr_runtime_housing.specs.Housing.{last_number};
 ghost use Rattle.fr_runtime_threads.specs.Begins.{StartsWithBegun};
@@ -73,6 +73,9 @@ impl Notes {
         ensures there { self.old.seen + 1 < 2 ^ 40 → IfOk result IsSome }
         ensures room { IfOk result (λ next. IfSome next (λ stamp. 1 ≤ self.new.journal.room)) }
         ensures above { IfOk result (λ next. IfSome next (λ stamp. IsAbove self.new.journal.entries stamp)) }
+        ensures seen { self.new.seen ≡ self.old.seen }
+        ensures later { IfOk result (λ next. IfSome next (λ stamp. self.old.seen < stamp)) }
+        ensures spent { (result ≡ Ok None) → 2 ^ 40 ≤ self.old.seen + 1 }
     {
         match Stamp::new(self.seen.get() + 1) {
             Some(next) => {

@@ -45,6 +45,10 @@ impl<S: ShardStore> Hearer for Puller<S> {
 
     ghost told = { λ p. [] };
 
+    ghost entries = { λ p. p.notes.journal.entries };
+
+    ghost seen = { λ p. p.notes.seen };
+
     fn place(&self) -> NodeId {
         self.notes.place()
     }

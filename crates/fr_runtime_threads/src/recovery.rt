@@ -42,6 +42,10 @@ impl Hearer for Recovery {
 
     ghost told = { λ r. [] };
 
+    ghost entries = { λ r. r.notes.journal.entries };
+
+    ghost seen = { λ r. r.notes.seen };
+
     fn place(&self) -> NodeId {
         self.notes.place()
     }

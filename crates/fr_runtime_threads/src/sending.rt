@@ -1,5 +1,6 @@
 //! Asks on their way, and what befalls them.
-ghost use Rattle.std.specs.Prelude.{◌≡◌};
+ghost use Rattle.std.specs.Prelude.{◌≡◌, OnOk};
+ghost use Rattle.fr_runtime_threads.specs.Hears.{HasHeard};
 
 use crate::fault::TurnFault;
 use crate::site::Site;
@@ -12,7 +13,8 @@ use std::sync::Wait;
 
 /// A node that sends asks and hears what it is told.
 pub(crate) trait Hearer {
-    ghost use Rattle.std.specs.Prelude.{List, Option};
+    ghost use Rattle.std.specs.Prelude.{ℕ, List, Option};
+    ghost use Rattle.fr_audit_journal.specs.declared.act.Entry.{Entry};
     ghost use Rattle.fr_base.specs.Shape.{ShapeContent};
     ghost use Rattle.fr_base.specs.declared.place.NodeId.{NodeId};
     ghost use Rattle.fr_proxy.specs.declared.outcome.Outcome.{Outcome};
@@ -30,19 +32,27 @@ pub(crate) trait Hearer {
     /// What the workload was told of them.
     ghost told: { Self → List Outcome };
 
+    /// What is entered in its journal.
+    ghost entries: { Self → List Entry };
+
+    /// The greatest stamp that its thread has seen.
+    ghost seen: { Self → ℕ };
+
     /// The node.
     fn place(&self) -> NodeId
         ensures { result ≡ node self.now };
 
     /// The greatest stamp that its thread has seen.
-    fn now(&self) -> Stamp;
+    fn now(&self) -> Stamp
+        ensures { result ≡ seen self.now };
 
-    /// Hears what a node told at this stamp.
+    /// Hears what a node told at this stamp, and enters that, where there is a stamp above it.
     fn hear(&mut self, alloc: Global, at: Stamp, from: NodeId, tell: Tell) -> Result<(), TurnFault>
         ensures node { node self.new ≡ node self.old }
         ensures shape { shape self.new ≡ shape self.old }
         ensures given { given self.new ≡ given self.old }
-        ensures told { told self.new ≡ told self.old };
+        ensures told { told self.new ≡ told self.old }
+        ensures hears { OnOk result (HasHeard (entries self.old) (entries self.new) (seen self.new) at from tell) };
 }
 
 /// Sends an ask, and has its sender hear what it is told, as the faults say.

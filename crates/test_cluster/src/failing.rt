@@ -91,6 +91,10 @@ impl<'a> Rack for FrailRack<'a> {
 
     type Store = MapStore;
 
+    ghost CanRefuse = { λ rack fault. ⊥ };
+
+    ghost CanRefuseStore = { λ rack fault. ⊥ };
+
     fn cell(&self, alloc: Global, index: u8) -> Result<FrailCell<'a>, NodeFault> {
         Ok(FrailCell {
             cell: InMemory::new(Cell::new(alloc)),

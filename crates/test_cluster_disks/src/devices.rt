@@ -47,6 +47,8 @@ impl<V: Devices> Devices for FrailDevices<V> {
 
     ghost room = { λ d. V.room d.devices };
 
+    ghost CanRefuse = { λ d fault. V.CanRefuse d.devices fault };
+
     fn cell(&self, alloc: Global, index: u8) -> Result<FaultyDevice<V::Device>, NodeFault> {
         Ok(sound(self.devices.cell(alloc, index)?))
     }

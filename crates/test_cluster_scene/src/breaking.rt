@@ -23,6 +23,10 @@ impl Rack for BreakingRack {
 
     type Store = FailsOnce;
 
+    ghost CanRefuse = { λ rack fault. ⊥ };
+
+    ghost CanRefuseStore = { λ rack fault. ⊥ };
+
     fn cell(&self, alloc: Global, _index: u8) -> Result<InMemory<Cell>, NodeFault> {
         Ok(InMemory::new(Cell::new(alloc)))
     }

@@ -96,6 +96,10 @@ impl<'a, K: Rack> Rack for StagedRack<'a, K> {
 
     type Store = K::Store;
 
+    ghost CanRefuse = { λ rack fault. Unit {0} };
+
+    ghost CanRefuseStore = { λ rack fault. Unit {0} };
+
     fn cell(&self, alloc: Global, index: u8) -> Result<K::Cell, NodeFault> {
         match self.refused {
             Some(Refused::Cell(other, fault)) if other == index => Err(fault),

@@ -16,7 +16,7 @@ pub loop-job-preserved : goal.loop-job-preserved
 loop-job-preserved g c = record {
   can = tt;
   ends = tt;
-  starts = starts-more c.args.worker.now c.args.jobs.items (into_iter_items c.loop-job.job-iterator) (into_iter_items c.next.new.self) c.loop-job.handles.items c.put.new.all.items c.in-Some.job c.in_ok-handle.handle c.in-Some.ensures.steps.0 c.in_ok-put.ensures c.in_ok-handle.ensures.job c.in_ok-handle.ensures.worker c.loop-job.invariant.starts;
+  starts = starts-more c.args.worker.now c.args.jobs.items (into_iter_items c.loop-job.job-iterator) (into_iter_items c.next.new.self) c.loop-job.handles.items c.put.new.all.items c.in-Some.job c.in_ok-handle.handle c.in-Some.ensures.steps.0 c.in_ok-put.ensures.put c.in_ok-handle.ensures.job c.in_ok-handle.ensures.worker c.loop-job.invariant.starts;
   taken = (taken-next (g.W.Worker.Takes c.args.worker.now) (into_iter_items c.loop-job.job-iterator) (into_iter_items c.next.new.self) c.in-Some.job c.in-Some.ensures.steps.0 c.loop-job.invariant.taken).1;
 }
 
