@@ -1,7 +1,9 @@
 //! A list of many events, and how long its replay takes.
+use super::{config, happen, start};
+use crate::parts::{epoch, tag};
 use anyhow::{Context, bail};
 use fr_ask::{Ask, Tell};
-use fr_base::{Epoch, NodeId, Tag, Version};
+use fr_base::{NodeId, Version};
 use fr_log::{LogAsk, Most};
 use fr_world::{Answer, Event, World};
 use std::alloc::Global;
@@ -31,7 +33,7 @@ pub(crate) fn run(rt: &HostRuntime, rounds: u64) -> anyhow::Result<()> {
 
 /// How many turns the world has that a list of events comes to.
 fn replayed(alloc: Global, events: &[Event]) -> anyhow::Result<usize> {
-    match World::replay(alloc, crate::config(alloc)?, events) {
+    match World::replay(alloc, config(alloc)?, events) {
         Ok(world) => Ok(world.turns().len()),
         Err(_) => bail!("the list is no run"),
     }
@@ -39,8 +41,8 @@ fn replayed(alloc: Global, events: &[Event]) -> anyhow::Result<usize> {
 
 /// The first ask of a storage server, and what the log tells.
 fn first_exchange(alloc: Global) -> anyhow::Result<Exchange> {
-    let epoch = Epoch::new(257).context("no epoch")?;
-    let tag = Tag::new(0).context("no tag")?;
+    let epoch = epoch()?;
+    let tag = tag(0)?;
     let from = NodeId::Storage { tag };
     let to = NodeId::Log { epoch, index: 0 };
     let ask = Ask::Log(LogAsk::Peek {
@@ -60,8 +62,8 @@ fn first_exchange(alloc: Global) -> anyhow::Result<Exchange> {
 
 /// What is told at the start of a world.
 fn told(alloc: Global, from: NodeId, to: NodeId, ask: Ask) -> anyhow::Result<Tell> {
-    let mut world = crate::start(alloc)?;
-    match crate::happen(alloc, &mut world, &Event::Deliver { from, to, ask })? {
+    let mut world = start(alloc)?;
+    match happen(alloc, &mut world, &Event::Deliver { from, to, ask })? {
         Answer::Told(tell) => Ok(tell),
         _ => bail!("nothing was told"),
     }

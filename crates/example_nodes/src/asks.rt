@@ -1,14 +1,14 @@
 //! A log over a device whose syncs take their time: pushes served at once, and one by one.
-#![tactic(auto)]
-
 mod costly;
 mod pushes;
 
+use crate::parts::log_id;
+use anyhow::bail;
 use costly::Costly;
-use fr_base::{LogId, Node};
+use fr_base::Node;
 use fr_device::MemoryDevice;
 use fr_record_log::LogNode;
-use pushes::{begin, first, list};
+use pushes::{begin, list};
 use std::time::{Duration, Instant};
 
 type Slow<'a> = LogNode<Costly<'a, HostRuntime, MemoryDevice>>;
@@ -28,21 +28,21 @@ struct Words {
 
 /// Says how many syncs some pushes cost. With two numbers for its words, how often they are served and how many
 /// microseconds a sync takes, it says how long that took.
-fn main(rt: HostRuntime) -> anyhow::Result<()> {
-    match asked(&rt)? {
-        Some(words) => timed(&rt, words),
-        None => counted(&rt),
+pub(crate) fn run(rt: &HostRuntime, words: &[String]) -> anyhow::Result<()> {
+    match asked(words)? {
+        Some(words) => timed(rt, words),
+        None => counted(rt),
     }
 }
 
-fn asked(rt: &HostRuntime) -> anyhow::Result<Option<Words>> {
-    let words: Vec<String> = std::env::args(rt)?.collect(rt.alloc())?;
-    match words.as_slice() {
-        [_, times, wait] => Ok(Some(Words {
+fn asked(words: &[String]) -> anyhow::Result<Option<Words>> {
+    match words {
+        [] => Ok(None),
+        [times, wait] => Ok(Some(Words {
             times: times.parse::<u64>()?,
             wait: wait.parse::<u64>()?,
         })),
-        _ => Ok(None),
+        _ => bail!("asks wants two numbers, or no words"),
     }
 }
 
@@ -84,11 +84,7 @@ fn micros(rt: &HostRuntime, wait: u64, lists: u64, len: u64) -> anyhow::Result<u
 fn slow<'a>(rt: &'a HostRuntime, wait: u64) -> anyhow::Result<Slow<'a>> {
     let device = MemoryDevice::new(rt.alloc(), 1 << 24)?;
     let device = Costly::new(rt, device, Duration::from_micros(wait));
-    let id = LogId {
-        epoch: first()?,
-        index: 0,
-    };
-    let mut node = LogNode::format(rt.alloc(), device, id, 1, 1)?;
+    let mut node = LogNode::format(rt.alloc(), device, log_id()?, 1, 1)?;
     node.serve_all(rt.alloc(), begin(rt.alloc())?)?;
     Ok(node)
 }

@@ -1,30 +1,20 @@
 //! A small world: a proxy takes a batch and has it numbered, and a storage server asks a log for its records.
-#![tactic(auto)]
-
 mod many;
 
-use anyhow::Context;
+use crate::parts::{batch, epoch, tag};
+use anyhow::{Context, bail};
 use fr_ask::{Ask, SeqAsk};
-use fr_base::{Bytes, Epoch, NodeId, Step, Tag, Version};
+use fr_base::{Bytes, Epoch, NodeId, Step, Version};
 use fr_log::{LogAsk, Most};
-use fr_mutation::{Batch, Mutation};
 use fr_world::{Answer, Config, Event, World};
 use std::alloc::Global;
 
 /// With a number for its word, so many exchanges are replayed, and their time is told.
-fn main(rt: HostRuntime) -> anyhow::Result<()> {
-    match exchanges(&rt)? {
-        Some(rounds) => many::run(&rt, rounds),
-        None => small(&rt),
-    }
-}
-
-/// The number that the program's word is, if it has one.
-fn exchanges(rt: &HostRuntime) -> anyhow::Result<Option<u64>> {
-    let words: Vec<String> = std::env::args(rt)?.collect(rt.alloc())?;
-    match words.as_slice() {
-        [_, rounds] => Ok(Some(rounds.parse::<u64>()?)),
-        _ => Ok(None),
+pub(crate) fn run(rt: &HostRuntime, words: &[String]) -> anyhow::Result<()> {
+    match words {
+        [] => small(rt),
+        [rounds] => many::run(rt, rounds.parse::<u64>()?),
+        _ => bail!("world wants a number, or no words"),
     }
 }
 
@@ -46,7 +36,7 @@ fn small(rt: &HostRuntime) -> anyhow::Result<()> {
 }
 
 fn play(rt: &HostRuntime, world: &mut World) -> anyhow::Result<()> {
-    let epoch = Epoch::new(257).context("no epoch")?;
+    let epoch = epoch()?;
     let step = Step::new(1).context("no step")?;
     submit(rt.alloc(), world, epoch, step)?;
     number(rt, world, epoch, step)?;
@@ -60,7 +50,7 @@ fn happen(alloc: Global, world: &mut World, event: &Event) -> anyhow::Result<Ans
 
 /// The proxy takes a batch.
 fn submit(alloc: Global, world: &mut World, epoch: Epoch, step: Step) -> anyhow::Result<()> {
-    let batch = batch(alloc)?;
+    let batch = batch(alloc, b"a", b"1")?;
     let submitted = Event::Submit {
         epoch,
         proxy: 0,
@@ -85,7 +75,7 @@ fn number(rt: &HostRuntime, world: &mut World, epoch: Epoch, step: Step) -> anyh
 
 /// The storage server asks a log for its records.
 fn pull(rt: &HostRuntime, world: &mut World, epoch: Epoch) -> anyhow::Result<()> {
-    let tag = Tag::new(0).context("no tag")?;
+    let tag = tag(0)?;
     let most = Most::new(100).context("no number")?;
     let peek = Ask::Log(LogAsk::Peek {
         epoch,
@@ -95,14 +85,6 @@ fn pull(rt: &HostRuntime, world: &mut World, epoch: Epoch) -> anyhow::Result<()>
     });
     let log = NodeId::Log { epoch, index: 0 };
     serve(rt, world, NodeId::Storage { tag }, log, peek)
-}
-
-fn batch(alloc: Global) -> anyhow::Result<Batch> {
-    let key = Bytes::from_slice(alloc, b"a")?;
-    let value = Bytes::from_slice(alloc, b"1")?;
-    let mut mutations = Vec::new(alloc);
-    mutations.push(Mutation::Set { key, value })?;
-    Ok(Batch::new(mutations)?)
 }
 
 /// Delivers an ask, and has its sender hear what it is told.
