@@ -3,5 +3,6 @@ mod Done
 mod Explained
 mod Gathers
 mod Heards
+mod Ordered
 mod Starts
 mod Took
