@@ -6,14 +6,13 @@ use fr_audit_journal::{Act, Entry};
 use fr_base::{InMemory, LogId, Node, NodeFault, NodeId, Reopened, Tag};
 use fr_log::Log;
 use fr_register::{Cell, CellAsk, CellTell};
-use fr_runtime::{Rack, Report};
+use fr_runtime::{Orders, Rack, Report};
+use fr_runtime_station::NoFaults;
 use fr_undo::{MapStore, StoreFault};
 use std::alloc::Global;
 use std::sync::atomic::{AtomicU64, Ordering};
 use std::test::Fail;
-use test_cluster_scene::{
-    DEFAULTS, Numbers, Question, Scene, StagedOrders, alike, ballot, entries_of,
-};
+use test_cluster_scene::{DEFAULTS, Numbers, Question, alike, ballot, entries_of, holds_on};
 
 /// A cell in memory which, where it is frail, fails at each write of ballot 513, that leaves nothing.
 #[derive(Drop)]
@@ -134,7 +133,7 @@ fn writes(entries: &[Entry]) -> usize {
 struct IsLeftOut;
 
 impl Question for IsLeftOut {
-    fn is_so(&self, report: &Report, _works: &[StagedOrders<'_>]) -> bool {
+    fn is_so(&self, report: &Report, _works: &[Orders]) -> bool {
         let written = writes(entries_of(report, NodeId::Cell { index: 0 }));
         written == 1 && writes(entries_of(report, NodeId::Cell { index: 2 })) == 0
     }
@@ -156,7 +155,7 @@ fn a_cell_that_fails_is_opened_again_at_the_end(rt: HostRuntime) -> Result<(), F
         reopened: &reopened,
     };
     let ballots = [alike(ballot()?)];
-    let is_so = Scene::calm(FEW, &ballots).holds(&rt, rt.alloc(), rack, &IsLeftOut)?;
+    let is_so = holds_on(&rt, rt.alloc(), FEW, &ballots, rack, &NoFaults, &IsLeftOut)?;
     assert!(rt; is_so && reopened.load(Ordering::SeqCst) == 1);
     Ok(())
 }

@@ -1,14 +1,14 @@
 //! A hundred recoveries, one after another: more generations come and go than a state may list.
-use fr_ask::Last;
+use fr_ask::{Ask, Last};
 use fr_audit_journal::Journal;
-use fr_base::{Ballot, NodeId, Tag};
-use fr_runtime::{PlainRack, Report};
+use fr_base::{Ballot, Epoch, NodeId, Tag};
+use fr_log::{LogAsk, Push};
+use fr_runtime::{Orders, PlainRack, Report};
+use fr_runtime_station::{Faults, Verdict};
 use fr_state::decode;
 use std::alloc::Global;
 use std::test::Fail;
-use test_cluster_scene::{
-    Chain, Numbers, Question, Scene, Script, StagedOrders, alike, epoch_at, is_chosen, journal_of,
-};
+use test_cluster_scene::{Flag, Numbers, Question, alike, holds_on, journal_of};
 
 /// How many recoveries there are.
 const MANY: u64 = 100;
@@ -23,6 +23,109 @@ const ONE_TAG: Numbers = Numbers {
     batches: 20,
     turns: 4000,
 };
+
+/// The epoch of the generation that the recovery of a number opens; that of the start for 0.
+fn epoch_at(number: u64) -> u64 {
+    257 + (number % 256) * 256
+}
+
+/// The number of the recovery that opens the generation of an epoch, 0 for the start.
+fn number_of(epoch: u64) -> usize {
+    (epoch / 256).saturating_sub(1) as usize
+}
+
+/// How far the recovery of a number has come.
+#[derive(Drop)]
+struct Link {
+    /// A log of the generation before let go of what the storage server has.
+    is_due: Flag,
+    /// A log of its own generation has its mark.
+    is_marked: Flag,
+}
+
+/// Recoveries each of which begins once the storage server has joined the generation before and has its log let go.
+#[derive(Drop)]
+struct Chain {
+    links: Vec<Link>,
+}
+
+impl Chain {
+    fn new(alloc: Global) -> Result<Self, Fail> {
+        let mut links = Vec::new(alloc);
+        for _ in 0..=MANY {
+            links.push(Link {
+                is_due: Flag::new(),
+                is_marked: Flag::new(),
+            })?;
+        }
+        Ok(Chain { links })
+    }
+
+    /// A log has let go of what the storage server has of its generation.
+    fn popped(&self, epoch: Epoch) {
+        if let Some(next) = self.links.get(number_of(epoch.get()).saturating_add(1)) {
+            next.is_due.raise();
+        }
+    }
+
+    /// A log answered a push.
+    fn pushed(&self, epoch: Epoch, push: &Push) {
+        if push.marked().is_some() {
+            if let Some(link) = self.links.get(number_of(epoch.get())) {
+                link.is_marked.raise();
+            }
+        }
+    }
+
+    /// The storage server looks for the next generation once it is there, and has nothing to do before.
+    fn looks_on(&self, epoch: Epoch) {
+        if let Some(next) = self.links.get(number_of(epoch.get()).saturating_add(1)) {
+            if next.is_due.is_raised() {
+                let _is_marked = next.is_marked.wait();
+            }
+        }
+    }
+}
+
+impl Faults for Chain {
+    ghost use Rattle.std.specs.Prelude.{◌==◌};
+
+    ghost begun = { λ s ballot turn. turn == 1 };
+
+    fn verdict(&self, _to: NodeId, ask: &Ask) -> Verdict {
+        if let Ask::Log(LogAsk::MarkAsked { epoch }) = ask {
+            self.looks_on(*epoch);
+        }
+        Verdict::Pass
+    }
+
+    fn answered(&self, _to: NodeId, ask: &Ask) {
+        match ask {
+            Ask::Log(LogAsk::Push(push)) => self.pushed(push.epoch(), push),
+            Ask::Log(LogAsk::Pop { epoch, .. }) => self.popped(*epoch),
+            _ => {}
+        }
+    }
+
+    fn crash(&self, _turn: u32) -> Option<NodeId> {
+        None
+    }
+
+    fn begins(&self, ballot: Ballot, turn: u32) -> bool {
+        if let Some(link) = self.links.get(number_of(ballot.get())) {
+            let _is_due = link.is_due.wait();
+        }
+        turn == 1
+    }
+}
+
+/// Whether a node's last state is as a recoverer's that was chosen.
+fn is_chosen(journal: &Journal) -> bool {
+    match journal.last() {
+        Some(Last::Recoverer { phase }) => phase.as_slice().starts_with(b"chosen".as_slice()),
+        _ => false,
+    }
+}
 
 /// How many recoveries were chosen.
 fn chosen(report: &Report) -> u64 {
@@ -66,7 +169,7 @@ struct Goes {
 }
 
 impl Question for Goes {
-    fn is_so(&self, report: &Report, _works: &[StagedOrders<'_>]) -> bool {
+    fn is_so(&self, report: &Report, _works: &[Orders]) -> bool {
         let mut cells = 0_u8;
         for index in 0..3_u8 {
             if let Some(journal) = journal_of(report, NodeId::Cell { index }) {
@@ -86,7 +189,7 @@ impl Question for Goes {
 #[test]
 fn a_hundred_recoveries_are_chosen(rt: HostRuntime) -> Result<(), Fail> {
     let alloc = rt.alloc();
-    let chain = Chain::new(alloc, MANY)?;
+    let chain = Chain::new(alloc)?;
     let mut ballots = Vec::new(alloc);
     for number in 1..=MANY {
         let ballot = Ballot::new(epoch_at(number)).ok_or("a ballot")?;
@@ -94,7 +197,16 @@ fn a_hundred_recoveries_are_chosen(rt: HostRuntime) -> Result<(), Fail> {
     }
     let tag = Tag::new(0).ok_or("a tag")?;
     let goes = Goes { alloc, tag };
-    let scene = Scene::new(ONE_TAG, ballots.as_slice(), Script::Chained(&chain));
-    assert!(rt; scene.holds(&rt, alloc, PlainRack, &goes)?);
+    assert!(rt;
+        holds_on(
+            &rt,
+            alloc,
+            ONE_TAG,
+            ballots.as_slice(),
+            PlainRack,
+            &chain,
+            &goes
+        )?
+    );
     Ok(())
 }

@@ -1,14 +1,63 @@
 //! Clusters whose stores fail once, in a hear.
-use fr_base::{NodeId, Tag};
-use fr_runtime::Report;
+use fr_audit_journal::{Act, Entry};
+use fr_base::{InMemory, LogId, NodeFault, NodeId, Tag};
+use fr_log::Log;
+use fr_register::Cell;
+use fr_runtime::{Orders, Rack, Report};
+use fr_runtime_station::NoFaults;
+use fr_undo::StoreFault;
 use std::alloc::Global;
 use std::sync::Wait;
 use std::test::Fail;
 use std::thread::Threads;
 use test_cluster_scene::{
-    AreCommitted, BreakingRack, Numbers, ONE, Overtaken, Question, RollsBack, Scene, Script,
-    StagedOrders, TWO, alike, ballot, entries_of, parts,
+    AreCommitted, Numbers, ONE, Overtaken, Question, RollsBack, TWO, alike, ballot, entries_of,
+    holds_on,
 };
+use test_store_failing::FailsOnce;
+
+/// All in memory, with stores whose device fails once: in the call after so many others, the first of which makes the
+/// storage server. The call is done or not.
+#[derive(Clone, Copy)]
+struct BreakingRack {
+    calls: u32,
+    is_done: bool,
+}
+
+impl Rack for BreakingRack {
+    type Cell = InMemory<Cell>;
+
+    type Log = InMemory<Log>;
+
+    type Store = FailsOnce;
+
+    ghost CanRefuse = { λ rack fault. ⊥ };
+
+    ghost CanRefuseStore = { λ rack fault. ⊥ };
+
+    fn cell(&self, alloc: Global, _index: u8) -> Result<InMemory<Cell>, NodeFault> {
+        Ok(InMemory::new(Cell::new(alloc)))
+    }
+
+    fn log(&self, alloc: Global, id: LogId, m: u8, k: u8) -> Result<InMemory<Log>, NodeFault> {
+        Ok(InMemory::new(Log::new(alloc, id, m, k)))
+    }
+
+    fn store(&self, alloc: Global, _tag: Tag) -> Result<FailsOnce, StoreFault> {
+        Ok(FailsOnce::new(alloc, self.calls, self.is_done))
+    }
+}
+
+/// How many hears are entered in part.
+fn parts(entries: &[Entry]) -> usize {
+    let mut parts = 0_usize;
+    for entry in entries {
+        if let Act::Heard { taken: Some(_), .. } = &entry.act {
+            parts = parts.wrapping_add(1);
+        }
+    }
+    parts
+}
 
 /// All batches are committed, and a server hears one answer in part, unless the call that failed was done: then it may
 /// have heard all of it.
@@ -19,7 +68,7 @@ struct HearsAPart {
 }
 
 impl Question for HearsAPart {
-    fn is_so(&self, report: &Report, works: &[StagedOrders<'_>]) -> bool {
+    fn is_so(&self, report: &Report, works: &[Orders]) -> bool {
         let committed = AreCommitted { many: 20 };
         let parts = parts(entries_of(report, self.server));
         committed.is_so(report, works) && (parts == 1 || self.is_done && parts == 0)
@@ -38,7 +87,7 @@ fn commits<R: Threads + Wait + Sync>(
         is_done,
     };
     let rack = BreakingRack { calls, is_done };
-    Scene::calm(ONE, &[]).holds(rt, alloc, rack, &heard)
+    holds_on(rt, alloc, ONE, &[], rack, &NoFaults, &heard)
 }
 
 /// Each store fails in one of its first calls while records are heard, and the run is one all the same.
@@ -66,7 +115,7 @@ fn ends_well<R: Threads + Wait + Sync>(
 ) -> Result<bool, Fail> {
     let committed = AreCommitted { many: 0 };
     let rack = BreakingRack { calls, is_done };
-    Scene::calm(IDLE, &[]).holds(rt, alloc, rack, &committed)
+    holds_on(rt, alloc, IDLE, &[], rack, &NoFaults, &committed)
 }
 
 /// The store fails where it advances, or where its rows are read at the end, and is opened again.
@@ -91,8 +140,7 @@ fn rolls_back<R: Threads + Wait + Sync>(
         node: NodeId::Storage { tag },
     };
     let rack = BreakingRack { calls, is_done };
-    let overtaken = Overtaken::new();
-    Scene::new(TWO, &ballots, Script::Overtaken(&overtaken)).holds(rt, alloc, rack, &rolled)
+    holds_on(rt, alloc, TWO, &ballots, rack, &Overtaken::new(), &rolled)
 }
 
 /// The store fails where it applies, undoes and sets the state of a later epoch, and at what comes then.

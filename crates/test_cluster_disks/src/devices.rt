@@ -5,23 +5,23 @@ use fr_base::{LogId, NodeFault};
 use fr_device::{Device, FaultyDevice};
 use fr_runtime::RunFault;
 use fr_runtime_disks::{Devices, FileRack, MemoryDevices};
+use fr_runtime_station::NoFaults;
 use std::alloc::Global;
 use std::sync::Wait;
 use std::test::Fail;
 use std::thread::Threads;
-use test_cluster_scene::{AreCommitted, ONE, Scene};
+use test_cluster_scene::{AreCommitted, ONE, fault_of, holds_on};
 
 /// In which calls the device of log (257, 0) fails, counted from 1.
 #[derive(Clone, Copy)]
-pub enum Fails {
-    Never,
+enum Fails {
     Once(u64),
     From(u64),
 }
 
 /// Devices of which that of log (257, 0) fails, and the others work.
 #[derive(Drop)]
-pub struct FrailDevices<V: Devices> {
+struct FrailDevices<V: Devices> {
     devices: V,
     fails: Fails,
 }
@@ -36,7 +36,6 @@ fn frail<D: Device + Drop>(device: D, fails: Fails) -> FaultyDevice<D>
     ensures { result.device ≡ device }
 {
     match fails {
-        Fails::Never => sound(device),
         Fails::Once(n) => FaultyDevice::once(device, n),
         Fails::From(n) => FaultyDevice::from(device, n),
     }
@@ -64,7 +63,7 @@ impl<V: Devices> Devices for FrailDevices<V> {
 }
 
 /// Record files on such devices in memory.
-pub fn rack_of(fails: Fails) -> FileRack<FrailDevices<MemoryDevices>> {
+fn rack_of(fails: Fails) -> FileRack<FrailDevices<MemoryDevices>> {
     FileRack::on(FrailDevices {
         devices: MemoryDevices,
         fails,
@@ -78,7 +77,7 @@ const CALLS: [u64; 8] = [15, 16, 17, 18, 19, 20, 21, 22];
 fn commits<R: Threads + Wait + Sync>(rt: &R, alloc: Global, n: u64) -> Result<bool, Fail> {
     let committed = AreCommitted { many: 20 };
     let rack = rack_of(Fails::Once(n));
-    Scene::calm(ONE, &[]).holds(rt, alloc, rack, &committed)
+    holds_on(rt, alloc, ONE, &[], rack, &NoFaults, &committed)
 }
 
 /// A log whose device fails once is opened again by the next ask, and takes what it had not taken.
@@ -97,7 +96,7 @@ fn comes_of<R: Threads + Wait + Sync>(
     n: u64,
 ) -> Result<Option<RunFault>, Fail> {
     let rack = rack_of(Fails::From(n));
-    Scene::calm(ONE, &[]).fault(rt, alloc, rack, 1)
+    fault_of(rt, alloc, ONE, &[], rack, 1, &NoFaults)
 }
 
 /// A log whose device fails for good cannot be opened again at the end, so there is no journal of it.

@@ -1,20 +1,19 @@
 //! What may be so of runs in which batches are committed.
 use crate::scene::{DEFAULTS, Numbers, Question, first_told, journal_of};
-use crate::staged_orders::StagedOrders;
 use fr_ask::Last;
 use fr_audit_journal::Journal;
 use fr_base::NodeId;
 use fr_proxy::Outcome;
-use fr_runtime::Report;
+use fr_runtime::{Orders, Report};
 
 /// Each of two workloads gave something, and was told so much.
 #[derive(Clone, Copy)]
 pub struct HaveOutcomes;
 
 impl Question for HaveOutcomes {
-    fn is_so(&self, report: &Report, works: &[StagedOrders<'_>]) -> bool {
+    fn is_so(&self, report: &Report, works: &[Orders]) -> bool {
         for (work, told) in works.iter().zip(report.told.iter()) {
-            if work.given() == 0 || told.len() != work.given() {
+            if work.given().len() == 0 || told.len() != work.given().len() {
                 return false;
             }
         }
@@ -28,8 +27,7 @@ pub struct IsChosen {
     pub recoverer: NodeId,
 }
 
-/// Whether a node's last state is as a recoverer's that was chosen.
-pub fn is_chosen(journal: &Journal) -> bool {
+fn is_chosen(journal: &Journal) -> bool {
     match journal.last() {
         Some(Last::Recoverer { phase }) => phase.as_slice().starts_with(b"chosen".as_slice()),
         _ => false,
@@ -37,7 +35,7 @@ pub fn is_chosen(journal: &Journal) -> bool {
 }
 
 impl Question for IsChosen {
-    fn is_so(&self, report: &Report, _works: &[StagedOrders<'_>]) -> bool {
+    fn is_so(&self, report: &Report, _works: &[Orders]) -> bool {
         match journal_of(report, self.recoverer) {
             Some(journal) => is_chosen(journal),
             None => false,
@@ -70,7 +68,7 @@ fn are_in_order(told: &[Outcome]) -> bool {
 }
 
 impl Question for AreCommitted {
-    fn is_so(&self, report: &Report, _works: &[StagedOrders<'_>]) -> bool {
+    fn is_so(&self, report: &Report, _works: &[Orders]) -> bool {
         let told = first_told(report);
         report.told.len() == 1 && told.len() == self.many && are_in_order(told)
     }

@@ -1,11 +1,10 @@
 //! What may be so of a run in which two logs serve at once.
 use crate::scene::{Question, entries_of};
-use crate::staged_orders::StagedOrders;
 use fr_ask::Ask;
 use fr_audit_journal::{Act, Entry};
 use fr_base::NodeId;
 use fr_log::LogAsk;
-use fr_runtime::Report;
+use fr_runtime::{Orders, Report};
 
 fn is_push(entry: &Entry) -> bool {
     match &entry.act {
@@ -56,7 +55,7 @@ pub struct HaveServed {
 }
 
 impl Question for HaveServed {
-    fn is_so(&self, report: &Report, _works: &[StagedOrders<'_>]) -> bool {
+    fn is_so(&self, report: &Report, _works: &[Orders]) -> bool {
         has_push(entries_of(report, self.pushed)) && has_peek(entries_of(report, self.peeked))
     }
 }

@@ -1,12 +1,11 @@
 //! What may be so of runs in which asks are lost, repeated, and nodes crash.
 use crate::scene::{ALONE, Numbers, Question, entries_of, first_told};
-use crate::staged_orders::StagedOrders;
 use fr_ask::Ask;
 use fr_audit_journal::{Act, Entry};
 use fr_base::NodeId;
 use fr_log::LogAsk;
 use fr_proxy::Outcome;
-use fr_runtime::Report;
+use fr_runtime::{Orders, Report};
 
 fn is_push(entry: &Entry) -> bool {
     match &entry.act {
@@ -35,7 +34,7 @@ pub struct IsWaiting {
 }
 
 impl Question for IsWaiting {
-    fn is_so(&self, report: &Report, _works: &[StagedOrders<'_>]) -> bool {
+    fn is_so(&self, report: &Report, _works: &[Orders]) -> bool {
         let pushes = pushes(entries_of(report, self.log));
         first_told(report) == [Outcome::Waiting].as_slice()
             && self.least <= pushes
@@ -69,7 +68,7 @@ pub struct AreHeldTwice {
 }
 
 impl Question for AreHeldTwice {
-    fn is_so(&self, report: &Report, _works: &[StagedOrders<'_>]) -> bool {
+    fn is_so(&self, report: &Report, _works: &[Orders]) -> bool {
         first_told(report).len() == 5
             && pushes(entries_of(report, self.log)) == 10
             && tells(entries_of(report, self.proxy), &self.log) == 10
@@ -100,7 +99,7 @@ pub struct HasCrashed {
 }
 
 impl Question for HasCrashed {
-    fn is_so(&self, report: &Report, _works: &[StagedOrders<'_>]) -> bool {
+    fn is_so(&self, report: &Report, _works: &[Orders]) -> bool {
         crashes(entries_of(report, self.log)) == 1
     }
 }

@@ -1,11 +1,10 @@
 //! What may be so of a run in which a storage server is ahead of what survives.
 use crate::scene::{Numbers, Question, entries_of};
-use crate::staged_orders::StagedOrders;
 use fr_ask::Tell;
 use fr_audit_journal::{Act, Entry};
 use fr_base::NodeId;
 use fr_log::{LogTell, Peeked};
-use fr_runtime::Report;
+use fr_runtime::{Orders, Report};
 
 /// One storage server over two logs that both hold its tag.
 pub const TWO: Numbers = Numbers {
@@ -79,7 +78,7 @@ pub struct RollsBack {
 }
 
 impl Question for RollsBack {
-    fn is_so(&self, report: &Report, _works: &[StagedOrders<'_>]) -> bool {
+    fn is_so(&self, report: &Report, _works: &[Orders]) -> bool {
         rolls_back(entries_of(report, self.node))
     }
 }

@@ -1,14 +1,10 @@
 //! Clusters, and what their journals say.
-use crate::script::{Script, Scripted};
-use crate::staged_orders::StagedOrders;
-use crate::staged_rack::{Refused, StagedRack};
-use crate::stages::Stages;
-use crate::watched::Watch;
 use fr_audit_journal::{Entry, Journal};
 use fr_base::{Ballot, Bytes, Epoch, NodeId, Shape};
 use fr_proxy::Outcome;
 use fr_run_event::Config;
 use fr_runtime::{Cluster, Orders, Rack, Report, RunFault};
+use fr_runtime_station::Faults;
 use std::alloc::Global;
 use std::sync::Wait;
 use std::test::Fail;
@@ -77,7 +73,7 @@ fn begins(alloc: Global, storages: u8) -> Result<Vec<Bytes>, Fail> {
 /// What may be so of a run.
 pub trait Question {
     /// Whether it is so, by the report of the run and the workloads.
-    fn is_so(&self, report: &Report, works: &[StagedOrders<'_>]) -> bool;
+    fn is_so(&self, report: &Report, works: &[Orders]) -> bool;
 }
 
 pub fn config(alloc: Global, numbers: Numbers) -> Result<Config, Fail> {
@@ -86,111 +82,65 @@ pub fn config(alloc: Global, numbers: Numbers) -> Result<Config, Fail> {
     Ok(Config::new(coordinators, logs, numbers.degree, begins, numbers.proxies)?)
 }
 
-/// A cluster that is run: its numbers, a recoverer for each ballot, and what befalls it.
-#[derive(Clone, Copy)]
-pub struct Scene<'a> {
-    pub numbers: Numbers,
-    pub ballots: &'a [(Ballot, Option<Shape>)],
-    pub script: Script<'a>,
-    pub watch: Option<&'a Watch>,
-    pub refused: Option<Refused>,
+/// So many workloads.
+fn works(alloc: Global, numbers: Numbers, many: u8) -> Result<Vec<Orders>, Fail> {
+    let mut works = Vec::new(alloc);
+    for number in 0..many {
+        works.push(Orders::new(alloc, number, numbers.storages, numbers.batches))?;
+    }
+    Ok(works)
 }
 
-impl<'a> Scene<'a> {
-    /// A cluster that nothing befalls.
-    pub fn calm(numbers: Numbers, ballots: &'a [(Ballot, Option<Shape>)]) -> Self {
-        Scene::new(numbers, ballots, Script::Calm)
-    }
+fn made(alloc: Global, numbers: Numbers) -> Result<(Config, Vec<Orders>), Fail> {
+    let config = config(alloc, numbers)?;
+    let works = works(alloc, numbers, numbers.proxies)?;
+    Ok((config, works))
+}
 
-    /// A cluster that this befalls.
-    pub fn new(
-        numbers: Numbers,
-        ballots: &'a [(Ballot, Option<Shape>)],
-        script: Script<'a>,
-    ) -> Self {
-        Scene {
-            numbers,
-            ballots,
-            script,
-            watch: None,
-            refused: None,
-        }
-    }
+fn run<K: Rack + Sync + Drop, F: Faults + Sync, R: Threads + Wait + Sync>(
+    rt: &R,
+    alloc: Global,
+    numbers: Numbers,
+    ballots: &[(Ballot, Option<Shape>)],
+    rack: K,
+    faults: &F,
+) -> Result<(Report, Vec<Orders>), Fail> {
+    let (config, works) = made(alloc, numbers)?;
+    let turns = numbers.turns;
+    Ok(Cluster::run(rt, alloc, config, ballots, turns, rack, works, faults)?)
+}
 
-    /// The stages of the scene, where it has some.
-    fn stages(&self) -> Option<&'a Stages> {
-        match self.script {
-            Script::Staged(stages) => Some(stages),
-            _ => None,
-        }
-    }
+/// Runs a cluster over the nodes of a rack, with a recoverer for each of these ballots; whether this is so of it.
+pub fn holds_on<K: Rack + Sync + Drop, F: Faults + Sync, Q: Question, R: Threads + Wait + Sync>(
+    rt: &R,
+    alloc: Global,
+    numbers: Numbers,
+    ballots: &[(Ballot, Option<Shape>)],
+    rack: K,
+    faults: &F,
+    question: &Q,
+) -> Result<bool, Fail> {
+    let (report, works) = run(rt, alloc, numbers, ballots, rack, faults)?;
+    Ok(question.is_so(&report, works.as_slice()))
+}
 
-    /// So many workloads.
-    fn works(&self, alloc: Global, many: u8) -> Result<Vec<StagedOrders<'a>>, Fail> {
-        let mut works = Vec::new(alloc);
-        for number in 0..many {
-            let orders = Orders::new(alloc, number, self.numbers.storages, self.numbers.batches);
-            works.push(StagedOrders::new(orders, self.stages()))?;
-        }
-        Ok(works)
-    }
-
-    /// Runs the scene over the nodes of a rack, with so many workloads: its report and its workloads, or why it has none.
-    fn run<K: Rack + Sync + Drop, R: Threads + Wait + Sync>(
-        &self,
-        rt: &R,
-        alloc: Global,
-        rack: K,
-        many: u8,
-    ) -> Result<Result<(Report, Vec<StagedOrders<'a>>), RunFault>, Fail> {
-        let config = config(alloc, self.numbers)?;
-        let works = self.works(alloc, many)?;
-        let rack = StagedRack {
-            rack,
-            watch: self.watch,
-            stages: self.stages(),
-            refused: self.refused,
-        };
-        let faults = Scripted::new(self.script);
-        let turns = self.numbers.turns;
-        Ok(Cluster::run(rt, alloc, config, self.ballots, turns, rack, works, &faults))
-    }
-
-    /// Runs the scene over the nodes of a rack, with a workload for each proxy; whether this is so of it.
-    pub fn holds<K: Rack + Sync + Drop, Q: Question, R: Threads + Wait + Sync>(
-        &self,
-        rt: &R,
-        alloc: Global,
-        rack: K,
-        question: &Q,
-    ) -> Result<bool, Fail> {
-        let (report, works) = self.run(rt, alloc, rack, self.numbers.proxies)??;
-        Ok(question.is_so(&report, works.as_slice()))
-    }
-
-    /// Runs the scene over the nodes of a rack, with so many workloads; why its run has no report, where it has none.
-    pub fn fault<K: Rack + Sync + Drop, R: Threads + Wait + Sync>(
-        &self,
-        rt: &R,
-        alloc: Global,
-        rack: K,
-        many: u8,
-    ) -> Result<Option<RunFault>, Fail> {
-        match &self.run(rt, alloc, rack, many)? {
-            Ok(_) => Ok(None),
-            Err(fault) => Ok(Some(*fault)),
-        }
-    }
-
-    /// Runs the scene over the nodes of a rack, with a workload for each proxy: its report.
-    pub fn report<K: Rack + Sync + Drop, R: Threads + Wait + Sync>(
-        &self,
-        rt: &R,
-        alloc: Global,
-        rack: K,
-    ) -> Result<Report, Fail> {
-        let (report, _works) = self.run(rt, alloc, rack, self.numbers.proxies)??;
-        Ok(report)
+/// Runs a cluster with so many workloads; why its run has no report, where it has none.
+pub fn fault_of<K: Rack + Sync + Drop, F: Faults + Sync, R: Threads + Wait + Sync>(
+    rt: &R,
+    alloc: Global,
+    numbers: Numbers,
+    ballots: &[(Ballot, Option<Shape>)],
+    rack: K,
+    many: u8,
+    faults: &F,
+) -> Result<Option<RunFault>, Fail> {
+    let config = config(alloc, numbers)?;
+    let works = works(alloc, numbers, many)?;
+    let turns = numbers.turns;
+    let ran = Cluster::run(rt, alloc, config, ballots, turns, rack, works, faults);
+    match &ran {
+        Ok(_) => Ok(None),
+        Err(fault) => Ok(Some(*fault)),
     }
 }
 

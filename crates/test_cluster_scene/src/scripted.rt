@@ -1,9 +1,11 @@
-//! What befalls asks where it is written down.
+//! Faults that are written down.
+ghost use Rattle.std.specs.Prelude.{◌≡◌};
+
 use crate::flag::Flag;
 use fr_ask::Ask;
-use fr_base::NodeId;
+use fr_base::{Ballot, NodeId};
 use fr_log::{LogAsk, Push};
-use fr_runtime_station::Verdict;
+use fr_runtime_station::{Faults, Verdict};
 
 /// Whether a node is this log of the first epoch.
 pub fn is_log(node: &NodeId, number: u8) -> bool {
@@ -13,8 +15,8 @@ pub fn is_log(node: &NodeId, number: u8) -> bool {
     }
 }
 
-/// One verdict over every push of a batch to log (257, 1), and one crash.
-#[derive(Clone, Copy)]
+/// One verdict over every push of a batch to log (257, 1), one crash of log (257, 0), and no recoverer.
+#[derive(Drop)]
 pub struct Pushes {
     verdict: Verdict,
     crash: Option<(u32, NodeId)>,
@@ -25,9 +27,14 @@ impl Pushes {
     pub fn new(verdict: Verdict, crash: Option<(u32, NodeId)>) -> Self {
         Pushes { verdict, crash }
     }
+}
 
-    /// What befalls an ask.
-    pub fn verdict(&self, to: NodeId, ask: &Ask) -> Verdict {
+impl Faults for Pushes {
+    ghost use Rattle.std.specs.Prelude.{false};
+
+    ghost begun = { λ f ballot turn. false };
+
+    fn verdict(&self, to: NodeId, ask: &Ask) -> Verdict {
         match ask {
             Ask::Log(LogAsk::Push(_)) => {
                 if is_log(&to, 1) {
@@ -40,12 +47,17 @@ impl Pushes {
         }
     }
 
-    /// The node that crashes at a turn.
-    pub fn crash(&self, turn: u32) -> Option<NodeId> {
+    fn answered(&self, _to: NodeId, _ask: &Ask) {}
+
+    fn crash(&self, turn: u32) -> Option<NodeId> {
         match &self.crash {
             Some((at, node)) => { if *at == turn { Some(*node) } else { None } }
             None => None,
         }
+    }
+
+    fn begins(&self, _ballot: Ballot, _turn: u32) -> bool {
+        false
     }
 }
 
@@ -85,9 +97,14 @@ impl Overtaken {
             Verdict::DropAsk
         }
     }
+}
 
-    /// What befalls an ask.
-    pub fn verdict(&self, to: NodeId, ask: &Ask) -> Verdict {
+impl Faults for Overtaken {
+    ghost use Rattle.std.specs.Prelude.{◌==◌};
+
+    ghost begun = { λ f ballot turn. turn == 1 };
+
+    fn verdict(&self, to: NodeId, ask: &Ask) -> Verdict {
         match ask {
             Ask::Log(LogAsk::Push(push)) => self.verdict_of_push(to, push),
             Ask::Log(LogAsk::Lock { .. }) => self.verdict_of_lock(to),
@@ -107,8 +124,7 @@ impl Overtaken {
         }
     }
 
-    /// A node told what it was asked.
-    pub fn answered(&self, to: NodeId, ask: &Ask) {
+    fn answered(&self, to: NodeId, ask: &Ask) {
         match ask {
             Ask::Log(LogAsk::Push(push)) => {
                 if push.marked().is_some() {
@@ -124,5 +140,13 @@ impl Overtaken {
             }
             _ => {}
         }
+    }
+
+    fn crash(&self, _turn: u32) -> Option<NodeId> {
+        None
+    }
+
+    fn begins(&self, _ballot: Ballot, turn: u32) -> bool {
+        turn == 1
     }
 }

@@ -1,11 +1,10 @@
 //! Runs in which generations have shapes of their own.
-use crate::scene::{Numbers, Scene, first_told, journal_of};
-use crate::script::Script;
-use crate::stages::{Planned, Stages};
+use crate::scene::{Numbers, config, first_told, journal_of};
+use crate::shaped::{CountedRack, Planned, Staged, Stages};
 use fr_ask::Last;
 use fr_base::{Ballot, NodeId, Shape, Tag};
 use fr_proxy::Outcome;
-use fr_runtime::{Rack, Report};
+use fr_runtime::{Cluster, Orders, Rack, Report};
 use std::alloc::Global;
 use std::sync::Wait;
 use std::test::Fail;
@@ -108,11 +107,25 @@ fn run<K: Rack + Sync + Drop, R: Threads + Wait + Sync>(
     row: &Row,
     stages: &Stages,
 ) -> Result<Report, Fail> {
+    let config = config(alloc, row.start)?;
     let mut ballots = Vec::new(alloc);
     for planned in row.planned {
         ballots.push(shaped(planned)?)?;
     }
-    Scene::new(row.start, ballots.as_slice(), Script::Staged(stages)).report(rt, alloc, rack)
+    let mut works = Vec::new(alloc);
+    let orders = Orders::new(alloc, 0, row.start.storages, row.start.batches);
+    works.push(Staged::new(orders, stages))?;
+    let (report, _works) = Cluster::run(
+        rt,
+        alloc,
+        config,
+        ballots.as_slice(),
+        row.start.turns,
+        CountedRack::new(rack, stages),
+        works,
+        stages,
+    )?;
+    Ok(report)
 }
 
 /// Whether a storage server ends at this epoch and this version, with its only row from this batch.

@@ -1,8 +1,15 @@
 //! Recoveries between batches, each of which waits for the batches before it and has those after it wait.
+ghost use Rattle.std.specs.Prelude.{◌≡◌};
+
 use crate::flag::Flag;
 use fr_ask::Ask;
-use fr_base::{LogId, Memory, NodeId};
+use fr_base::{Ballot, LogId, Memory, NodeFault, NodeId, Step, Tag};
 use fr_log::{LogAsk, Push};
+use fr_mutation::Batch;
+use fr_proxy::Outcome;
+use fr_runtime::{Orders, Rack, Workload};
+use fr_runtime_station::{Faults, Verdict};
+use fr_undo::StoreFault;
 use std::alloc::Global;
 use std::sync::atomic::{AtomicU64, Ordering};
 
@@ -72,7 +79,7 @@ impl Stages {
     }
 
     /// A batch of this number is handed out next, or there is none left.
-    pub fn hands_out(&self, number: u32) {
+    fn hands_out(&self, number: u32) {
         for stage in self.stages.iter() {
             if stage.planned.before == number {
                 stage.is_due.raise();
@@ -98,7 +105,7 @@ impl Stages {
     }
 
     /// A log is made.
-    pub fn makes(&self, id: &LogId, m: u8, k: u8) {
+    fn makes(&self, id: &LogId, m: u8, k: u8) {
         if self.wants(id.epoch.get(), m, k) {
             let _before = self.as_wanted.fetch_add(1, Ordering::SeqCst);
         } else {
@@ -125,26 +132,114 @@ impl Stages {
     }
 
     /// Waits until the recoverer of a ballot is due.
-    pub fn awaits(&self, ballot: u64) {
+    fn awaits(&self, ballot: u64) {
         for stage in self.stages.iter() {
             if stage.planned.ballot == ballot {
                 let _is_due = stage.is_due.wait();
             }
         }
     }
+}
 
-    /// An ask is sent: one for a mark waits until all batches were handed out.
-    pub fn asks(&self, ask: &Ask) {
+impl Faults for Stages {
+    ghost use Rattle.std.specs.Prelude.{◌==◌};
+
+    ghost begun = { λ s ballot turn. turn == 1 };
+
+    fn verdict(&self, _to: NodeId, ask: &Ask) -> Verdict {
         if matches!(ask, Ask::Log(LogAsk::MarkAsked { .. })) {
             let _is_over = self.is_over.wait();
         }
+        Verdict::Pass
     }
 
-    /// A node told what it was asked.
-    pub fn answered(&self, to: NodeId, ask: &Ask) {
+    fn answered(&self, to: NodeId, ask: &Ask) {
         match ask {
             Ask::Log(LogAsk::Push(push)) => self.has_pushed(&to, push),
             _ => {}
         }
+    }
+
+    fn crash(&self, _turn: u32) -> Option<NodeId> {
+        None
+    }
+
+    fn begins(&self, ballot: Ballot, turn: u32) -> bool {
+        self.awaits(ballot.get());
+        turn == 1
+    }
+}
+
+/// A workload that hands out its batches in stages.
+#[derive(Drop)]
+pub struct Staged<'a> {
+    orders: Orders,
+    stages: &'a Stages,
+    next: u32,
+}
+
+impl<'a> Staged<'a> {
+    /// These batches in these stages.
+    pub fn new(orders: Orders, stages: &'a Stages) -> Self {
+        Staged {
+            orders,
+            stages,
+            next: 0,
+        }
+    }
+}
+
+impl Workload for Staged<'_> {
+    ghost given = { λ s. s.orders.given.items };
+
+    ghost heard = { λ s. s.orders.heard.items };
+
+    fn next(&mut self) -> Result<Option<(Step, Batch)>, Memory> {
+        self.stages.hands_out(self.next);
+        self.next = self.next.wrapping_add(1);
+        self.orders.next()
+    }
+
+    fn told(&mut self, outcome: Outcome) -> Result<(), Memory> {
+        self.orders.told(outcome)
+    }
+}
+
+/// The nodes of a rack, with logs that are counted when they are made.
+#[derive(Drop)]
+pub struct CountedRack<'a, K> {
+    rack: K,
+    stages: &'a Stages,
+}
+
+impl<'a, K: Rack> CountedRack<'a, K> {
+    /// Logs that these count.
+    pub fn new(rack: K, stages: &'a Stages) -> Self {
+        CountedRack { rack, stages }
+    }
+}
+
+impl<K: Rack> Rack for CountedRack<'_, K> {
+    type Cell = K::Cell;
+
+    type Log = K::Log;
+
+    type Store = K::Store;
+
+    ghost CanRefuse = { λ r fault. K.CanRefuse r.rack fault };
+
+    ghost CanRefuseStore = { λ r fault. K.CanRefuseStore r.rack fault };
+
+    fn cell(&self, alloc: Global, index: u8) -> Result<K::Cell, NodeFault> {
+        self.rack.cell(alloc, index)
+    }
+
+    fn log(&self, alloc: Global, id: LogId, m: u8, k: u8) -> Result<K::Log, NodeFault> {
+        self.stages.makes(&id, m, k);
+        self.rack.log(alloc, id, m, k)
+    }
+
+    fn store(&self, alloc: Global, tag: Tag) -> Result<K::Store, StoreFault> {
+        self.rack.store(alloc, tag)
     }
 }
