@@ -1,4 +1,6 @@
 //! What several examples are made of: numbers, batches of one key, and the first epoch with its only log.
+ghost use Rattle.std.specs.Prelude.{◌≡◌, IfOk};
+
 use anyhow::{Context, bail};
 use fr_base::{Bytes, Epoch, LogId, Machine, Tag, Version};
 use fr_log::{Log, LogAsk, LogTell, Push, Seed};
@@ -37,7 +39,9 @@ pub(crate) fn state(alloc: Global) -> anyhow::Result<CoordState> {
 }
 
 /// The name of that log.
-pub(crate) fn log_id() -> anyhow::Result<LogId> {
+pub(crate) fn log_id() -> anyhow::Result<LogId>
+    ensures { IfOk result (λ id. id.index ≡ 0) }
+{
     Ok(LogId {
         epoch: epoch()?,
         index: 0,
