@@ -84,7 +84,8 @@ impl Workload for Orders {
 
     fn next(&mut self) -> Result<Option<(Step, Batch)>, Memory>
         ensures none { (result ≡ Ok None) → self.new.given.items ≡ self.old.given.items }
-        ensures some { IfOk result (λ next. IfSome next (λ order. self.new.given.items ≡ self.old.given.items ++ record { step = order.0; batch = order.1 } ∷ [])) }
+        ensures some { IfOk result (λ next. IfSome next (λ order.
+            self.new.given.items ≡ self.old.given.items ++ record { step = order.0; batch = order.1 } ∷ [])) }
         ensures heard { self.new.heard.items ≡ self.old.heard.items }
         ensures err { OnErr result (self.new.given.items ≡ self.old.given.items) }
         ensures ended { (result ≡ Ok None) → self.old.given.items ≡ orders_of self.old.number self.old.shards self.old.batches }

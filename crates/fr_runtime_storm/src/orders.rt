@@ -62,7 +62,8 @@ impl DrawnOrders {
 
     /// The batches that it gave, the oldest first.
     pub fn given(&self) -> &[Order]
-        ensures { result.now ≡ drawn_orders self.now.shards (length result.now) (generator_of self.now.seed) }
+        ensures given { result.now ≡ ⟦<DrawnOrders as Workload>⟧.given self.now }
+        ensures drawn { result.now ≡ drawn_orders self.now.shards (length result.now) (generator_of self.now.seed) }
     {
         self.given.as_slice()
     }
@@ -147,7 +148,8 @@ impl Workload for DrawnOrders {
 
     fn next(&mut self) -> Result<Option<(Step, Batch)>, Memory>
         ensures none { (result ≡ Ok None) → self.new.given.items ≡ self.old.given.items }
-        ensures some { IfOk result (λ next. IfSome next (λ order. self.new.given.items ≡ self.old.given.items ++ record { step = order.0; batch = order.1 } ∷ [])) }
+        ensures some { IfOk result (λ next. IfSome next (λ order.
+            self.new.given.items ≡ self.old.given.items ++ record { step = order.0; batch = order.1 } ∷ [])) }
         ensures heard { self.new.heard.items ≡ self.old.heard.items }
         ensures err { OnErr result (self.new.given.items ≡ self.old.given.items) }
         ensures ended { (result ≡ Ok None) → length self.old.given.items ≡ self.old.batches }

@@ -304,7 +304,8 @@ impl<S: Backing> ShardStore for SqlStore<S> {
             (forgotten (state_of S.Store self.old) version) result }
         ensures idle { OnOk result (version ≤ (state_of S.Store self.old).floor → state_of S.Store self.new ≡ state_of S.Store self.old) }
         ensures within { OnOk result (version ≤ (state_of S.Store self.old).applied) }
-        ensures above_applied { (result ≡ Err StoreFault.AboveApplied) ↔ ((has_failed self.old ≡ false) × ((state_of S.Store self.old).applied < version)) }
+        ensures above_applied { (result ≡ Err StoreFault.AboveApplied)
+            ↔ ((has_failed self.old ≡ false) × ((state_of S.Store self.old).applied < version)) }
         ensures trouble { IfErr result (λ fault. fault ≢ StoreFault.Failed → fault ≢ StoreFault.AboveApplied → IsTrouble MeetsAll fault) }
         ensures told { IfErr result (IsTold self.old self.new) }
     {
