@@ -12,4 +12,6 @@ mod numbers;
 #[cfg(test)]
 mod register;
 #[cfg(test)]
+mod shards;
+#[cfg(test)]
 mod two_ballots;

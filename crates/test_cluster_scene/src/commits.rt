@@ -74,9 +74,9 @@ impl Question for AreCommitted {
     }
 }
 
-/// One workload.
+/// One workload. Each thread has turns enough to be through with its work whatever the others have of the processors.
 pub const ONE: Numbers = Numbers {
     proxies: 1,
-    turns: 300,
+    turns: 3_000,
     ..DEFAULTS
 };

@@ -19,7 +19,7 @@ pub use pushes::{AreHeldTwice, FIVE, HasCrashed, IsWaiting};
 pub use rolls::{RollsBack, TWO};
 pub use scene::{
     ALONE, DEFAULTS, Numbers, Question, alike, ballot, config, entries_of, epoch, fault_of,
-    first_told, holds_on, journal_of, log,
+    first_told, holds_on, journal_of, log, ran_on,
 };
 pub use scripted::{Overtaken, Pushes};
 pub use shapes::{FROM_SIXTEEN_TO_ONE, Row, TO_MORE_AND_ONE, goes};

@@ -97,7 +97,8 @@ fn made(alloc: Global, numbers: Numbers) -> Result<(Config, Vec<Orders>), Fail> 
     Ok((config, works))
 }
 
-fn run<K: Rack + Sync + Drop, F: Faults + Sync, R: Threads + Wait + Sync>(
+/// Runs a cluster over the nodes of a rack, with a recoverer for each of these ballots: its report and its workloads.
+pub fn ran_on<K: Rack + Sync + Drop, F: Faults + Sync, R: Threads + Wait + Sync>(
     rt: &R,
     alloc: Global,
     numbers: Numbers,
@@ -120,7 +121,7 @@ pub fn holds_on<K: Rack + Sync + Drop, F: Faults + Sync, Q: Question, R: Threads
     faults: &F,
     question: &Q,
 ) -> Result<bool, Fail> {
-    let (report, works) = run(rt, alloc, numbers, ballots, rack, faults)?;
+    let (report, works) = ran_on(rt, alloc, numbers, ballots, rack, faults)?;
     Ok(question.is_so(&report, works.as_slice()))
 }
 

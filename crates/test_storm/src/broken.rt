@@ -104,7 +104,7 @@ fn broken_off<R: Threads + Wait + Sync>(
         tag: Tag::new(0).ok_or("a tag")?,
     };
     let (config, works, ballots) = (config(alloc)?, works(alloc, seed)?, ballots()?);
-    let (report, _works) = Cluster::run(rt, alloc, config, &ballots, 300, rack, works, &storm)?;
+    let (report, _works) = Cluster::run(rt, alloc, config, &ballots, 3_000, rack, works, &storm)?;
     Ok(parts_of(&report, server))
 }
 
