@@ -8,6 +8,8 @@ use Rattle.fr_audit.specs.Run.{IsRunOf}
 use Rattle.fr_audit.specs.declared.fault.AuditFault.{AuditFault}
 use Rattle.fr_runtime.specs.Handed.{IsFaultIn, IsHanded}
 use Rattle.fr_runtime.specs.Heard.{AllBegin}
+use Rattle.fr_cli_json.specs.declared.fault.CliFault.{CliFault}
+use Rattle.fr_cli_json.specs.declared.fault.CliFault.TheVariants.{Memory, Output}
 use Rattle.fr_cli_audit.specs.Lines.{fault_line}
 use Rattle.fr_cli_cluster.specs.declared.options.ClusterWords.{ClusterWords}
 use Rattle.fr_cli_cluster.specs.Setting.{ballots_of, config_of}
@@ -59,3 +61,7 @@ pub record IsBad (begun : ℕ → ℕ → Bool) (w : ClusterWords) (fault : Audi
   pub journals : List JournalState
   pub found : IsFaultIn (config_of w) journals fault
   pub have_begun : AllBegin begun w.turns journals (ballots_of w.recoveries)
+
+-- the output is at fault, or there is no memory
+abbrev pub IsNoInputFault : CliFault → Type 0
+IsNoInputFault fault = (fault ≡ Output) ⊎ (fault ≡ Memory)

@@ -3,7 +3,7 @@ ghost use Rattle.std.specs.Prelude.{◌≡◌, ◌≢◌, ◌+◌, ◌*◌, ◌/
 ghost use Rattle.std.specs.Io.KnownBytes.{Appends};
 ghost use Rattle.fr_cli_json.specs.Calls.{no_calls, HasNotFailed, IsWriteFault};
 ghost use Rattle.fr_cli_cluster.specs.Options.{IsWithin};
-ghost use Rattle.fr_cli_cluster.specs.Report.{IsBad, IsGood, IsReport};
+ghost use Rattle.fr_cli_cluster.specs.Report.{IsBad, IsGood, IsNoInputFault, IsReport};
 
 use crate::options::{ClusterOptions, ClusterWords};
 use crate::progress::Watcher;
@@ -25,7 +25,8 @@ use std::thread::Threads;
 ///
 /// Asks are lost or repeated, and cells and logs crash, as the storm of the words draws it: at strength 0 nothing of it
 /// happens, and workloads hand out numbered batches, else drawn ones. The recoverer of ballot i, counted from 1, begins
-/// at turn 100 i of its thread. Want of memory, of a thread or of a node is `Memory`, and then nothing is written.
+/// at turn 100 i of its thread. Want of memory, of a thread or of a node is `Memory`, and then nothing is written; a
+/// write that failed is `Output`, and nothing else is answered.
 pub fn run_cluster<R: Threads + Wait + Sync, W: Write>(
     rt: &R,
     alloc: Global,
@@ -36,6 +37,7 @@ pub fn run_cluster<R: Threads + Wait + Sync, W: Write>(
         × IsReport (λ ballot turn. turn + 100 == 100 * (ballot / 256)) options status text
         × Appends (W.contents writer.old) (W.contents writer.new) text) }
     ensures unwritten { result ≡ Err CliFault.Memory → writer.new ≡ writer.old }
+    ensures fault { IfErr result IsNoInputFault }
 {
     run_cluster_on(rt, alloc, options, PlainRack, writer)
 }
@@ -53,6 +55,7 @@ pub fn run_cluster_on<R: Threads + Wait + Sync, K: Rack + Sync + Drop, W: Write>
         × IsReport (λ ballot turn. turn + 100 == 100 * (ballot / 256)) options status text
         × Appends (W.contents writer.old) (W.contents writer.new) text) }
     ensures unwritten { result ≡ Err CliFault.Memory → writer.new ≡ writer.old }
+    ensures fault { IfErr result IsNoInputFault }
 {
     let mut calls = CallCounts::new();
     let storm = storm_of(options);

@@ -5,7 +5,7 @@
 ghost use Rattle.std.specs.Prelude.{◌≡◌, ◌+◌, ◌*◌, ◌/◌, ◌==◌, ℕ, List, Err, IfErr, IfOk, OnOk};
 ghost use Rattle.std.specs.Io.KnownBytes.{Appends};
 ghost use Rattle.fr_cli_json.specs.Calls.{no_calls, HasNotFailed, IsWriteFault};
-ghost use Rattle.fr_cli_cluster.specs.Report.{IsReport};
+ghost use Rattle.fr_cli_cluster.specs.Report.{IsNoInputFault, IsReport};
 
 use fr_cli_cluster::{ClusterOptions, Watcher, cluster_counted, run_cluster_on};
 use fr_cli_json::{CallCounts, CliFault};
@@ -27,6 +27,7 @@ pub fn run_cluster_sql<R: Threads + Wait + Sync, W: Write>(
         × IsReport (λ ballot turn. turn + 100 == 100 * (ballot / 256)) options status text
         × Appends (W.contents writer.old) (W.contents writer.new) text) }
     ensures unwritten { result ≡ Err CliFault.Memory → writer.new ≡ writer.old }
+    ensures fault { IfErr result IsNoInputFault }
 {
     run_cluster_on(rt, alloc, options, DiskRack::new(), writer)
 }
