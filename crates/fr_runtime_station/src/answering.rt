@@ -1,6 +1,8 @@
 //! What lies under the lock of a station.
-ghost use Rattle.std.specs.Prelude.{◌≡◌, ◌<◌, ◌↔◌, Err, IfErr, IfOk, OnErr, Some, true};
+ghost use Rattle.std.specs.Prelude.{◌≡◌, ◌⊎◌, ◌<◌, ◌↔◌, ℕ, Err, IfErr, IfOk, OnErr, Some, true};
+ghost use Rattle.fr_ask.specs.declared.tell.Tell.{Tell};
 ghost use Rattle.fr_audit_journal.specs.declared.act.Act.{Act};
+ghost use Rattle.fr_base.specs.declared.node.NodeFault.{NodeFault};
 ghost use Rattle.fr_runtime_housing.specs.Replays.{steps};
 ghost use Rattle.fr_runtime_housing.specs.declared.fault.CallFault.{CallFault};
 ghost use Rattle.fr_runtime_housing.specs.Housing.{Asks, Enters, IsTrouble, Leaves, refusal_of};
@@ -49,6 +51,12 @@ where
         ensures above { IfOk result (λ told. stamp < told.0) }
         ensures lost { (result ≡ Err CallFault.Lost) ↔ (refusal_of self.old.housed stamp ≡ Some CallFault.Lost) }
         ensures spent { (result ≡ Err CallFault.StampsSpent) ↔ (refusal_of self.old.housed stamp ≡ Some CallFault.StampsSpent) }
+        ensures err { IfErr result (λ fault.
+            Leaves (steps N.Plain.wrapped N.Plain.unwrapped N.Plain.wrapped_tell N.Plain.told N.Plain.after)
+            self.old.housed self.new.housed ⊎ ((fault ≡ CallFault.Node NodeFault.Memory)
+            × ((got : ℕ × Tell) × Asks
+            (steps N.Plain.wrapped N.Plain.unwrapped N.Plain.wrapped_tell N.Plain.told N.Plain.after)
+            self.old.housed self.new.housed stamp from ask got))) }
         ensures trouble { IfErr result (IsTrouble N.CanMeet) }
     {
         self.housed.ask(alloc, stamp, from, ask)

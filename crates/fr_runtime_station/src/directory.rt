@@ -1,7 +1,7 @@
 //! All nodes that answer asks, where threads find them.
 ghost use Rattle.std.specs.Prelude.{◌≡◌, ◌⊎◌, ◌≤◌, ◌<◌, length, false, IfErr, IfOk, IfSome, None, true};
 ghost use Rattle.fr_ask.specs.declared.ask.Ask.TheVariants as asked;
-ghost use Rattle.fr_runtime_station.specs.Answering.{IsClosingTrouble, all_answer, answers, is_asked_of};
+ghost use Rattle.fr_runtime_station.specs.Answering.{IsAnswer, IsClosingTrouble, all_answer, answers, is_asked_of};
 
 use crate::chosen::{Chosen, first_stamp, later_of};
 use crate::closing::close_all;
@@ -141,7 +141,8 @@ impl<C: Node<Plain = Cell> + Drop, L: Node<Plain = Log> + Drop> Directory<C, L> 
     }
 
     /// Asks a node for one of this stamp, where the node is there and the ask is one of its kind. The answer's stamp is
-    /// above the caller's and above the one from which on the node is there. A fault of the node is no answer.
+    /// above the caller's and above the one from which on the node is there, and what is told is what such a node tells of
+    /// the ask in some state. A fault of the node is no answer.
     pub fn call<R: Wait>(
         &self,
         rt: &R,
@@ -151,7 +152,8 @@ impl<C: Node<Plain = Cell> + Drop, L: Node<Plain = Log> + Drop> Directory<C, L> 
         to: NodeId,
         ask: Ask,
     ) -> Option<(Stamp, Tell)>
-        ensures above { IfSome result (λ told. stamp < told.0) }
+        ensures above { IfSome result (λ got. stamp < got.0) }
+        ensures told { IfSome result (λ got. IsAnswer ask got.1) }
         ensures kind { is_asked_of to ask ≡ false → result ≡ None }
     {
         match ask {
@@ -170,7 +172,8 @@ impl<C: Node<Plain = Cell> + Drop, L: Node<Plain = Log> + Drop> Directory<C, L> 
         to: NodeId,
         ask: CellAsk,
     ) -> Option<(Stamp, Tell)>
-        ensures above { IfSome result (λ told. stamp < told.0) }
+        ensures above { IfSome result (λ got. stamp < got.0) }
+        ensures told { IfSome result (λ got. IsAnswer (asked.Cell ask) got.1) }
         ensures kind { is_asked_of to (asked.Cell ask) ≡ false → result ≡ None }
     {
         let NodeId::Cell { index } = to else {
@@ -189,7 +192,8 @@ impl<C: Node<Plain = Cell> + Drop, L: Node<Plain = Log> + Drop> Directory<C, L> 
         to: NodeId,
         ask: LogAsk,
     ) -> Option<(Stamp, Tell)>
-        ensures above { IfSome result (λ told. stamp < told.0) }
+        ensures above { IfSome result (λ got. stamp < got.0) }
+        ensures told { IfSome result (λ got. IsAnswer (asked.Log ask) got.1) }
         ensures kind { is_asked_of to (asked.Log ask) ≡ false → result ≡ None }
     {
         let NodeId::Log { epoch, index } = to else {
@@ -210,7 +214,8 @@ impl<C: Node<Plain = Cell> + Drop, L: Node<Plain = Log> + Drop> Directory<C, L> 
         to: NodeId,
         ask: SeqAsk,
     ) -> Option<(Stamp, Tell)>
-        ensures above { IfSome result (λ told. stamp < told.0) }
+        ensures above { IfSome result (λ got. stamp < got.0) }
+        ensures told { IfSome result (λ got. IsAnswer (asked.Seq ask) got.1) }
         ensures kind { is_asked_of to (asked.Seq ask) ≡ false → result ≡ None }
     {
         let NodeId::Sequencer { epoch } = to else {

@@ -1,7 +1,7 @@
 //! A node with its journal, which threads share.
 ghost use Rattle.std.specs.Prelude.{◌≡◌, ◌<◌, IfErr, IfOk, true};
 ghost use Rattle.fr_runtime_housing.specs.Housing.{IsTrouble};
-ghost use Rattle.fr_runtime_station.specs.Answering.{answers};
+ghost use Rattle.fr_runtime_station.specs.Answering.{IsToldBy, answers};
 
 use crate::answering::Answering;
 use fr_ask::Tell;
@@ -34,8 +34,9 @@ where
         }
     }
 
-    /// Asks the node, as [`Housed::ask`] does, once the lock is free. The stamp is above the caller's; a fault is one that
-    /// the node can meet, want of memory, or that it takes no call.
+    /// Asks the node, as [`Housed::ask`] does, once the lock is free. The stamp is above the caller's, and what is told is
+    /// what such a node tells of the ask in some state; a fault is one that the node can meet, want of memory, or that it
+    /// takes no call.
     pub fn call<R: Wait>(
         &self,
         rt: &R,
@@ -46,7 +47,8 @@ where
     ) -> Result<(Stamp, Tell), CallFault>
     where
         N: Drop,
-        ensures above { IfOk result (λ told. stamp < told.0) }
+        ensures above { IfOk result (λ got. stamp < got.0) }
+        ensures told { IfOk result (λ got. IsToldBy N.Plain.wrapped_tell N.Plain.told ask got.1) }
         ensures trouble { IfErr result (IsTrouble N.CanMeet) }
     {
         self.lock.lock(rt).ask(alloc, stamp, from, ask)
