@@ -1,10 +1,9 @@
 -- The pushes that headers and shelves make.
 use Rattle.std.proofs.Common.{◌≡◌, ℕ, zero, suc, ◌+◌, ◌<◌, ◌≤◌, Bool, true, false, ◌&&◌, ◌||◌, List, [], ◌∷◌, ◌++◌, length, take, get_or, map, cond, nat_lt, eqb, Option, None, Some, refl, sym, ◌∙◌, ap, subst, arith}
 use Rattle.std.specs.Prelude.{filter, IsTrue}
-use Rattle.std.specs.List.{AllByRecursion, slice_get}
-use Rattle.std.specs.List.Sorted.{IsNonDecreasingBy}
+use Rattle.std.specs.List.{AllByRecursion, list_any}
 use Rattle.std.specs.Cmp.Lexicographic.{pointwise}
-use Rattle.std.proofs.lemmas.Bool.{lt-ltb, le-ltb, eqb-true}
+use Rattle.std.proofs.lemmas.Bool.{lt-ltb, le-ltb, eqb-true, and_parts}
 use Rattle.std.proofs.lemmas.List.Elements.{filter_map-append}
 use Rattle.fr_mutation.specs.declared.mutation.Mutation.{Mutation}
 use Rattle.fr_tags.specs.Bodies.{batch_of, is_rising_from, is_same_body}
@@ -18,7 +17,7 @@ use Rattle.fr_log.specs.Push.{PushContent, is_one_push, is_same_mark}
 use Rattle.fr_log.specs.LogState.{mark_among}
 use Rattle.fr_log.specs.Search.{is_found, pushed_records}
 use Rattle.fr_log.specs.Pushes.{Shelved, batch_at, as_record, at_version, AreBelow, cut, above, with_body, shelf_of, bodies_from, push_at, pushes_in, pushed_batch, pushed_batches, RiseFrom, ArePushedBelow, IsIndexed, header_of, is_headed}
-use Rattle.fr_log.proofs.Searching.{another}
+use Rattle.fr_log.specs.Headers.{first_mark}
 use Rattle.fr_log.proofs.Shelves.{batch_new, batch_others, batch_cut, canonical, same_bodies}
 
 -- ---- the list of the pushes
@@ -40,15 +39,10 @@ unfolding pushes_in
 held_length ss [] = refl
 held_length ss (h ∷ hs) = ap suc (held_length ss hs)
 
-pub held_mark : (ss : List (List Shelved)) (hs : List PushHeader) (h : PushHeader) → Some h ≡ slice_get hs 0 → h.mark ≡ mark_among (pushes_in ss hs)
+pub held_mark : (ss : List (List Shelved)) (hs : List PushHeader) → first_mark hs ≡ mark_among (pushes_in ss hs)
 unfolding pushes_in
-held_mark ss [] h e = absurd (cc)
-held_mark ss (g ∷ hs) h e = let same : h ≡ g = cc in ap (λ x. x.mark) same
-
-pub held_no_mark : (ss : List (List Shelved)) (hs : List PushHeader) → None ≡ slice_get hs 0 → None ≡ mark_among (pushes_in ss hs)
-unfolding pushes_in
-held_no_mark ss [] e = refl
-held_no_mark ss (g ∷ hs) e = absurd (cc)
+held_mark ss [] = refl
+held_mark ss (h ∷ hs) = refl
 
 held_push : (ss : List (List Shelved)) (hs : List PushHeader) (h : PushHeader) → pushes_in ss (hs ++ h ∷ []) ≡ pushes_in ss hs ++ push_at ss h ∷ []
 unfolding pushes_in
@@ -115,16 +109,13 @@ rise_at least [] r k d within = absurd (omega (arith, within))
 rise_at least (h ∷ hs) (low, rest) zero d within = low
 rise_at least (h ∷ hs) (low, rest) (suc k) d within = let up = rise_at (h.version + 1) hs rest k d (omega (arith, within)) in omega (arith, up, low)
 
-pub rise_sorted : (least : ℕ) (hs : List PushHeader) → RiseFrom least hs → IsNonDecreasingBy (λ h. h.version) hs
-rise_sorted least [] r i j d upto within = absurd (omega (arith, within))
-rise_sorted least (h ∷ hs) (low, rest) zero zero d upto within = omega arith
-rise_sorted least (h ∷ hs) (low, rest) zero (suc j) d upto within = let up = rise_at (h.version + 1) hs rest j d (omega (arith, within)) in omega (arith, up)
-rise_sorted least (h ∷ hs) (low, rest) (suc i) zero d upto within = absurd (omega (arith, upto))
-rise_sorted least (h ∷ hs) (low, rest) (suc i) (suc j) d upto within = rise_sorted (h.version + 1) hs rest i j d (omega (arith, upto)) (omega (arith, within))
-
 rise_more : (least : ℕ) (hs : List PushHeader) (h : PushHeader) → RiseFrom least hs → AllByRecursion (λ g. g.version < h.version) hs → least ≤ h.version → RiseFrom least (hs ++ h ∷ [])
 rise_more least [] h r below le = (le, tt)
 rise_more least (g ∷ hs) h (low, rest) (here, others) le = (low, rise_more (g.version + 1) hs h rest others (omega (arith, here)))
+
+-- the headers rise with that of one push more
+pub rise_held : (ss : List (List Shelved)) (hs : List PushHeader) (p : PushContent) → IsIndexed ss hs → ArePushedBelow p.version (pushes_in ss hs) → RiseFrom 0 (hs ++ header_of p ∷ [])
+rise_held ss hs p is below = rise_more 0 hs (header_of p) is.rises (headers_below p.version ss hs below) (omega arith)
 
 -- ---- one push more
 
@@ -148,7 +139,7 @@ more_held ss ts hs p is rising below put =
 pub more_indexed : (ss ts : List (List Shelved)) (hs : List PushHeader) (p : PushContent) → IsIndexed ss hs → IsTrue (is_rising_from 0 p.bodies) → ArePushedBelow p.version (pushes_in ss hs)
     → ((t : ℕ) → shelf_of ts t ≡ shelf_of ss t ++ at_version p.version (batch_of t p.bodies)) → IsIndexed ts (hs ++ header_of p ∷ [])
 more_indexed ss ts hs p is rising below put = record {
-  rises = rise_more 0 hs (header_of p) is.rises (headers_below p.version ss hs below) (omega arith);
+  rises = rise_held ss hs p is below;
   agrees = λ t. put t ∙ ap (λ es. es ++ at_version p.version (batch_of t p.bodies)) (is.agrees t) ∙ sym (batches_more t (pushes_in ss hs) p)
       ∙ ap (pushed_batches t) (sym (more_held ss ts hs p is rising below put));
 }
@@ -215,11 +206,11 @@ and_last true false c d m = refl
 and_last false b c d m = refl
 
 -- whether the bodies of both are the same at the version of the header
-abbrev pub are_same_left : List PoppedTag → PushContent → List (List Shelved) → PushHeader → Bool
+abbrev are_same_left : List PoppedTag → PushContent → List (List Shelved) → PushHeader → Bool
 are_same_left ps p ss h = pointwise is_same_body (left_bodies ps h.version p.bodies) (left_bodies ps h.version (bodies_from h.version 0 ss))
 
 -- what is popped is told by the version, which is that of the header where the two are one
-pub one_is : (ps : List PoppedTag) (p : PushContent) (ss : List (List Shelved)) (h : PushHeader) → (is_headed p h && are_same_left ps p ss h) ≡ is_one_push (left_push ps p) (left_push ps (push_at ss h))
+one_is : (ps : List PoppedTag) (p : PushContent) (ss : List (List Shelved)) (h : PushHeader) → (is_headed p h && are_same_left ps p ss h) ≡ is_one_push (left_push ps p) (left_push ps (push_at ss h))
 one_is ps p ss h =
     and_last (eqb p.epoch h.epoch) (eqb p.prev h.prev) (eqb p.version h.version) (are_same_left ps p ss h) (is_same_mark p.mark h.mark)
     ∙ at_version_of (eqb p.version h.version) refl
@@ -232,39 +223,34 @@ one_is ps p ss h =
     at_version_of true e = ap (λ v. eqb p.epoch h.epoch && (eqb p.prev h.prev && (eqb p.version h.version && rest v))) (sym (eqb-true p.version h.version e))
     at_version_of false e = rw e refl
 
-or_false : (a : Bool) → (a || false) ≡ a
-or_false true = refl
-or_false false = refl
+headed_version : (p : PushContent) (h : PushHeader) → is_headed p h ≡ true → p.version ≡ h.version
+headed_version p h e =
+    let a = and_parts (eqb p.epoch h.epoch) (eqb p.prev h.prev && (eqb p.version h.version && is_same_mark p.mark h.mark)) e in
+    let b = and_parts (eqb p.prev h.prev) (eqb p.version h.version && is_same_mark p.mark h.mark) a.1 in
+    let c = and_parts (eqb p.version h.version) (is_same_mark p.mark h.mark) b.1 in
+    eqb-true p.version h.version c.0
 
-none_above : (ps : List PoppedTag) (p : PushContent) (ss : List (List Shelved)) (least : ℕ) (hs : List PushHeader) → RiseFrom least hs → p.version < least → is_found ps p (pushes_in ss hs) ≡ false
+-- a push is found where it has its header, and the same bodies as stand at its own version
+pub found_is : (ps : List PoppedTag) (p : PushContent) (ss : List (List Shelved)) (hs : List PushHeader)
+    → (list_any (is_headed p) hs && pointwise is_same_body (left_bodies ps p.version p.bodies) (left_bodies ps p.version (bodies_from p.version 0 ss))) ≡ is_found ps p (pushes_in ss hs)
 unfolding pushes_in
-none_above ps p ss least [] r less = refl
-none_above ps p ss least (h ∷ hs) (low, rest) less =
-    ap (λ t. t || is_found ps p (pushes_in ss hs)) (another (left_push ps p) (left_push ps (push_at ss h)) (λ e. absurd (omega (arith, e, low, less)))) ∙ none_above ps p ss (h.version + 1) hs rest (omega (arith, low, less))
+found_is ps p ss [] = refl
+found_is ps p ss (h ∷ hs) =
+    or_and (is_headed p h) (list_any (is_headed p) hs) same ∙ two (λ a b. a || b) (at_its_version (is_headed p h) refl ∙ one_is ps p ss h) (found_is ps p ss hs)
+  where
+    same : Bool
+    same = pointwise is_same_body (left_bodies ps p.version p.bodies) (left_bodies ps p.version (bodies_from p.version 0 ss))
 
--- it can only be the first that is not below its version
-pub found_in : (ps : List PoppedTag) (p : PushContent) (ss : List (List Shelved)) (least : ℕ) (hs : List PushHeader) (i : ℕ) (h : PushHeader) → RiseFrom least hs
-    → ((k : ℕ) (d : PushHeader) → k < i → (get_or hs k d).version < p.version) → ((k : ℕ) (d : PushHeader) → i ≤ k → k < length hs → p.version ≤ (get_or hs k d).version)
-    → i < length hs → h ≡ get_or hs i h → is_one_push (left_push ps p) (left_push ps (push_at ss h)) ≡ is_found ps p (pushes_in ss hs)
-unfolding pushes_in
-found_in ps p ss least [] i h r low high within is = absurd (omega (arith, within))
-found_in ps p ss least (g ∷ hs) zero h (from, rest) low high within is =
-    let up = high 0 g (omega arith) (omega arith) in
-    let one : PushHeader → Bool = λ x. is_one_push (left_push ps p) (left_push ps (push_at ss x)) in
-    ap one is
-    ∙ sym (ap (λ t. one g || t) (none_above ps p ss (g.version + 1) hs rest (omega (arith, up))) ∙ or_false (one g))
-found_in ps p ss least (g ∷ hs) (suc i) h (from, rest) low high within is =
-    let down = low 0 g (omega arith) in
-    found_in ps p ss (g.version + 1) hs i h rest (λ k d less. low (suc k) d (omega (arith, less))) (λ k d after inside. high (suc k) d (omega (arith, after)) (omega (arith, inside))) (omega (arith, within)) is
-    ∙ sym (ap (λ t. t || is_found ps p (pushes_in ss hs)) (another (left_push ps p) (left_push ps (push_at ss g)) (λ e. absurd (omega (arith, e, down)))))
+    or_and : (a b c : Bool) → ((a || b) && c) ≡ ((a && c) || (b && c))
+    or_and true true true = refl
+    or_and true true false = refl
+    or_and true false true = refl
+    or_and true false false = refl
+    or_and false b c = refl
 
-pub found_none : (ps : List PoppedTag) (p : PushContent) (ss : List (List Shelved)) (hs : List PushHeader) → ((k : ℕ) (d : PushHeader) → k < length hs → (get_or hs k d).version < p.version) → false ≡ is_found ps p (pushes_in ss hs)
-unfolding pushes_in
-found_none ps p ss [] low = refl
-found_none ps p ss (g ∷ hs) low =
-    let down = low 0 g (omega arith) in
-    found_none ps p ss hs (λ k d less. low (suc k) d (omega (arith, less)))
-    ∙ sym (ap (λ t. t || is_found ps p (pushes_in ss hs)) (another (left_push ps p) (left_push ps (push_at ss g)) (λ e. absurd (omega (arith, e, down)))))
+    at_its_version : (b : Bool) → is_headed p h ≡ b → (is_headed p h && same) ≡ (is_headed p h && are_same_left ps p ss h)
+    at_its_version true e = ap (λ v. is_headed p h && pointwise is_same_body (left_bodies ps v p.bodies) (left_bodies ps v (bodies_from v 0 ss))) (headed_version p h e)
+    at_its_version false e = rw e refl
 
 -- ---- the records of a tag
 

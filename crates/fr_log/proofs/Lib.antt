@@ -10,5 +10,7 @@ pub mod Going
 pub mod Seedings
 pub mod SeedKept
 pub mod Shelves
+pub mod Runs
+pub mod Chaining
 pub mod Held
 pub mod Popping

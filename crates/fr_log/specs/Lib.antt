@@ -9,6 +9,7 @@ pub mod Popped
 pub mod LogState
 pub mod Search
 pub mod Pushes
+pub mod Headers
 pub mod Chain
 pub mod Refusal
 pub mod Lists

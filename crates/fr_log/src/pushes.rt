@@ -8,12 +8,15 @@ ghost use Rattle.fr_log.specs.Search.{is_found, pushed_records};
 ghost use Rattle.fr_log.specs.Pushes.{shelf_of, bodies_from, at_version, AreBelow, ArePushedBelow, cut, above};
 ghost use Rattle.fr_log.specs.Popped.{popped_at, left_bodies, left_push, IsBodyLeftAtFirst};
 
+mod chain;
 mod header;
+mod run;
 mod shelf;
 
 use crate::popped::{PoppedTag, popped_at};
 use crate::push::Push;
 use crate::records::PeekedRecord;
+use chain::Headers;
 use fr_base::{Memory, Tag, Version};
 use fr_state::CoordState;
 use fr_tags::Body;
@@ -27,7 +30,7 @@ use std::marker::Model;
 /// tag are found without a walk of what other tags were pushed. Contracts see the list of the pushes.
 #[derive(Debug, Drop)]
 pub(crate) struct Pushes {
-    headers: Vec<PushHeader>,
+    headers: Headers,
     shelves: Vec<Shelf>,
 }
 
@@ -38,9 +41,9 @@ impl Model for Pushes {
 
     ghost Value = { List PushContent };
 
-    ghost view = { λ p. pushes_in p.shelves.items p.headers.items };
+    ghost view = { λ p. pushes_in p.shelves.items p.headers };
 
-    ghost invariant = { λ p. IsIndexed p.shelves.items p.headers.items };
+    ghost invariant = { λ p. IsIndexed p.shelves.items p.headers };
 }
 
 impl Pushes {
@@ -49,7 +52,7 @@ impl Pushes {
         ensures { result ≡ [] }
     {
         Pushes {
-            headers: Vec::new(alloc),
+            headers: Headers::new(alloc),
             shelves: Vec::new(alloc),
         }
     }
@@ -65,10 +68,7 @@ impl Pushes {
     pub(crate) fn mark(&self) -> Option<&CoordState>
         ensures { option_copied result ≡ mark_among self.now }
     {
-        match self.headers.first() {
-            Some(header) => header.mark.as_ref(),
-            None => None,
-        }
+        self.headers.mark()
     }
 
     /// Whether a push is among them, whatever it tells of what is known, and of what is popped. Its version is
@@ -76,17 +76,8 @@ impl Pushes {
     pub(crate) fn has(&self, push: &Push, popped: &[PoppedTag]) -> bool
         ensures { result ≡ is_found popped.now push.now self.now }
     {
-        let version = push.version();
-        let at = self
-            .headers
-            .partition_point(|header| header.version < version);
-        match self.headers.get(at) {
-            Some(header) => {
-                push.is_headed(header)
-                    && have_bodies(&self.shelves, header.version, push.bodies(), popped)
-            }
-            None => false,
-        }
+        self.headers.heads(push)
+            && have_bodies(&self.shelves, push.version(), push.bodies(), popped)
     }
 
     /// Holds one more push, above all others: it is moved in. Want of memory changes nothing.
@@ -96,16 +87,15 @@ impl Pushes {
         ensures err { OnErr result (self.new ≡ self.old) }
     {
         let version = push.version();
-        self.headers.reserve(1)?;
+        let count = self.headers.len();
         let (header, bodies) = push.into_parts();
+        self.headers.push(header)?;
         if let Err(fault) = put_all(alloc, &mut self.shelves, version, bodies) {
             cut_all(&mut self.shelves, version);
+            self.headers.truncate(count);
             return Err(fault);
         }
-        match self.headers.push(header) {
-            Ok(()) => Ok(()),
-            Err(_) => unreachable!(),
-        }
+        Ok(())
     }
 
     /// Lets go of the batches that are popped: the cost is that of what goes. It takes no memory.
@@ -119,10 +109,8 @@ impl Pushes {
     pub(crate) fn truncate(&mut self, left: usize)
         ensures { self.new ≡ take left self.old }
     {
-        if let Some(first) = self.headers.get(left) {
-            let from = first.version;
+        if let Some(from) = self.headers.truncate(left) {
             cut_all(&mut self.shelves, from);
-            self.headers.truncate(left);
         }
     }
 

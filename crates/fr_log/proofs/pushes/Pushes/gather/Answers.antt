@@ -16,7 +16,7 @@ returns-in-Some-clause-given c =
     let shelf = is.1 ∙ ap (λ xs. get_or xs c.from.result c.in-Some.shelf.now) c.deref.ensures.value
     ∙ get_or_default ss c.from.result c.in-Some.shelf.now [] (omega (arith, within, ap length c.deref.ensures.value)) ∙ ap (shelf_of ss) number
     in
-    let records = ap (λ es. map as_record (filter (λ e. nat_lt c.args.after e.0) es)) shelf ∙ records_above c.args.tag c.args.after ss c.self.inside.headers.items c.self.invariant
+    let records = ap (λ es. map as_record (filter (λ e. nat_lt c.args.after e.0) es)) shelf ∙ records_above c.args.tag c.args.after ss c.self.inside.headers c.self.invariant
     ∙ ap (λ ps. pushed_records c.args.tag (filter (λ p. nat_lt c.args.after p.version) ps)) c.self.view_is
     in
     subst (λ rs. IfOk c.gather.result (λ x. c.gather.new.given.items ≡ take c.args.most (c.args.given.now.items ++ rs))) records c.gather.ensures.given
@@ -30,7 +30,7 @@ returns-in-Some-clause-more c =
     let shelf = is.1 ∙ ap (λ xs. get_or xs c.from.result c.in-Some.shelf.now) c.deref.ensures.value
     ∙ get_or_default ss c.from.result c.in-Some.shelf.now [] (omega (arith, within, ap length c.deref.ensures.value)) ∙ ap (shelf_of ss) number
     in
-    let records = ap (λ es. map as_record (filter (λ e. nat_lt c.args.after e.0) es)) shelf ∙ records_above c.args.tag c.args.after ss c.self.inside.headers.items c.self.invariant
+    let records = ap (λ es. map as_record (filter (λ e. nat_lt c.args.after e.0) es)) shelf ∙ records_above c.args.tag c.args.after ss c.self.inside.headers c.self.invariant
     ∙ ap (λ ps. pushed_records c.args.tag (filter (λ p. nat_lt c.args.after p.version) ps)) c.self.view_is
     in
     subst (λ rs. IfOk c.gather.result (λ x. x ≡ nat_lt c.args.most (length (c.args.given.now.items ++ rs)))) records c.gather.ensures.more
@@ -41,7 +41,7 @@ returns-in-None-clause-given c =
     let number = c.from.ensures ∙ c.get.ensures.value in
     let past = c.in-None.ensures.lookup.3 in
     let shelf = ap (shelf_of ss) (sym number) ∙ past_all ss c.from.result (omega (arith, past, ap length c.deref.ensures.value)) in
-    let records = ap (λ es. map as_record (filter (λ e. nat_lt c.args.after e.0) es)) (sym shelf) ∙ records_above c.args.tag c.args.after ss c.self.inside.headers.items c.self.invariant
+    let records = ap (λ es. map as_record (filter (λ e. nat_lt c.args.after e.0) es)) (sym shelf) ∙ records_above c.args.tag c.args.after ss c.self.inside.headers c.self.invariant
     ∙ ap (λ ps. pushed_records c.args.tag (filter (λ p. nat_lt c.args.after p.version) ps)) c.self.view_is
     in
     (gathered_all c.args.given.now.items _ _ c.args.most refl (sym records) c.requires).0
@@ -52,7 +52,7 @@ returns-in-None-clause-more c =
     let number = c.from.ensures ∙ c.get.ensures.value in
     let past = c.in-None.ensures.lookup.3 in
     let shelf = ap (shelf_of ss) (sym number) ∙ past_all ss c.from.result (omega (arith, past, ap length c.deref.ensures.value)) in
-    let records = ap (λ es. map as_record (filter (λ e. nat_lt c.args.after e.0) es)) (sym shelf) ∙ records_above c.args.tag c.args.after ss c.self.inside.headers.items c.self.invariant
+    let records = ap (λ es. map as_record (filter (λ e. nat_lt c.args.after e.0) es)) (sym shelf) ∙ records_above c.args.tag c.args.after ss c.self.inside.headers c.self.invariant
     ∙ ap (λ ps. pushed_records c.args.tag (filter (λ p. nat_lt c.args.after p.version) ps)) c.self.view_is
     in
     (gathered_all c.args.given.now.items _ _ c.args.most refl (sym records) c.requires).1
