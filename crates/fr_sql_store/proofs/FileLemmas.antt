@@ -1,5 +1,5 @@
 -- A store over files.
-use Rattle.std.proofs.Common.{◌≡◌, ◌≤◌, ◌<◌, ℕ, Bool, true, false, ◌&&◌, IsSome, IsTrue, refl, sym, ap, subst, ◌∙◌}
+use Rattle.std.proofs.Common.{◌≡◌, ◌≤◌, ◌<◌, ℕ, Bool, true, false, ◌&&◌, IsSome, IsTrue, Result, Ok, Err, IfOk, refl, sym, ap, subst, ◌∙◌}
 use Rattle.std.proofs.Math.Logic.{∥∥₁_map}
 use Rattle.std.specs.FinMap as map
 use Rattle.sqlite.specs.Tree.{Trees}
@@ -12,6 +12,7 @@ use Rattle.sqlite.specs.Files.{HoldsDatabase, image_of}
 use Rattle.sqlite_disk.specs.declared.Disk.{Ghosts}
 use Rattle.sqlite_disk.specs.declared.Files.{Files}
 use Rattle.fr_undo.specs.State.{StoreState}
+use Rattle.fr_undo.specs.declared.fault.StoreFault.{StoreFault}
 use Rattle.fr_sql_rows.specs.Rows.{undo_in}
 use Rattle.fr_sql_rows.specs.Connection.{IsAtRest}
 use Rattle.fr_sql_work.proofs.WorkLemmas.{get_undo}
@@ -48,9 +49,10 @@ found_store s applied floor rows rest f =
     }
 
 -- what is found is what the files hold
-pub found_state : {D : Type 0} (g : Ghosts D) (files : Files D) (first : Trees) (second last : Database) → ((db : Trees) → HoldsDatabase (image_of g files) db → first ≡ db) → second.trees ≡ first → last ≡ second
-    → (x : StoreState) → HoldStore g files x → state_in last.trees ≡ x
-found_state g files first second last holds again kept x held = ap (λ (d : Database). state_in d.trees) kept ∙ ap state_in (again ∙ holds held.0 held.1) ∙ sym held.2
+pub found_state : {D T : Type 0} (g : Ghosts D) (files : Files D) (first : Trees) (trees_of : T → Trees) (r : Result T StoreFault) → ((db : Trees) → HoldsDatabase (image_of g files) db → first ≡ db) → IfOk r (λ found. trees_of found ≡ first)
+    → IfOk r (λ found. (x : StoreState) → HoldStore g files x → state_in (trees_of found) ≡ x)
+found_state g files first trees_of (Ok found) holds again = λ x held. ap state_in (again ∙ holds held.0 held.1) ∙ sym held.2
+found_state g files first trees_of (Err fault) holds again = tt
 
 -- files that hold a database hold the store of its tables
 pub holds_store : {D : Type 0} (g : Ghosts D) (files : Files D) (db : Trees) → ∥ HoldsDatabase (image_of g files) db ∥₁ → ∥ HoldStore g files (state_in db) ∥₁
