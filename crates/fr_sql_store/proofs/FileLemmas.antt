@@ -1,5 +1,5 @@
 -- A store over files.
-use Rattle.std.proofs.Common.{◌≡◌, ◌≤◌, ◌<◌, ℕ, Bool, true, false, ◌&&◌, IsSome, IsTrue, Result, Ok, Err, IfOk, refl, sym, ap, subst, ◌∙◌}
+use Rattle.std.proofs.Common.{◌≡◌, ◌≢◌, ◌↔◌, ◌≤◌, ◌<◌, ℕ, Bool, true, false, ◌&&◌, IsSome, IsTrue, Result, Ok, Err, IfOk, IfErr, true≢false, refl, sym, ap, subst, ◌∙◌}
 use Rattle.std.proofs.Math.Logic.{∥∥₁_map}
 use Rattle.std.specs.FinMap as map
 use Rattle.sqlite.specs.Tree.{Trees}
@@ -13,6 +13,9 @@ use Rattle.sqlite_disk.specs.declared.Disk.{Ghosts}
 use Rattle.sqlite_disk.specs.declared.Files.{Files}
 use Rattle.fr_undo.specs.State.{StoreState}
 use Rattle.fr_undo.specs.declared.fault.StoreFault.{StoreFault}
+use Rattle.fr_undo.specs.declared.fault.StoreFault.TheVariants.{Failed}
+use Rattle.fr_undo.specs.Calls.{IsTrouble}
+use Rattle.fr_sql_work.specs.Calls.{MeetsAll}
 use Rattle.fr_sql_rows.specs.Rows.{undo_in}
 use Rattle.fr_sql_rows.specs.Connection.{IsAtRest}
 use Rattle.fr_sql_work.proofs.WorkLemmas.{get_undo}
@@ -20,7 +23,7 @@ use Rattle.fr_sql_work.proofs.CountLemmas.{undo_len}
 use Rattle.fr_sql_open.specs.Found.{IsFound}
 use Rattle.fr_sql_store.specs.Tables.{state_in, applied_in, floor_in, IsStore, shown, Seen, state_of, IsStoreOf}
 use Rattle.fr_sql_store.specs.Files.{HoldStore}
-use Rattle.fr_sql_store.proofs.StoreLemmas.{Lawful}
+use Rattle.fr_sql_store.proofs.StoreLemmas.{Lawful, not_failed}
 use Rattle.fr_sql_rows.specs.Backing.{files_are_clean}
 use Rattle.sqlite_store.specs.Laws.{stays_at, settled_at}
 use Rattle.sqlite.specs.Files.{over_files}
@@ -74,3 +77,16 @@ state_committed g s is works =
 -- the store of files obeys the laws that are used
 pub lawful : {D : Type 0} (g : Ghosts D) → ((d : D) → IsTrue (g.is_clean d)) → ((d : D) → g.may_leave d (g.seen d)) → Lawful (over_files {g = g})
 lawful g faithful stays = record { clean = files_are_clean faithful; settled = λ s. settled_at s stays; stays = λ s. stays_at s stays }
+
+-- a store that has not failed answers no `Failed`, and one that has is shut with it
+pub closes : {T : Type 0} (r : Result T StoreFault) (failed : Bool) → failed ≡ false → IfErr r (IsTrouble MeetsAll) → (r ≡ Err Failed) ↔ IsTrue failed
+closes (Ok x) failed works t = (λ e. cc, λ is. absurd (true≢false (sym is ∙ works)))
+closes (Err fault) failed works t = (λ e. absurd (not_failed fault t (let same : fault ≡ Failed = cc in same)), λ is. absurd (true≢false (sym is ∙ works)))
+
+pub closes_not : {T : Type 0} (r : Result T StoreFault) (failed : Bool) → failed ≡ true → r ≡ Err Failed → (r ≡ Err Failed) ↔ IsTrue failed
+closes_not r failed is same = (λ e. is, λ e. same)
+
+-- the faults of a store that has not failed
+pub troubles : {T : Type 0} (r : Result T StoreFault) → IfErr r (IsTrouble MeetsAll) → IfErr r (λ fault. fault ≢ Failed → IsTrouble MeetsAll fault)
+troubles (Ok x) t = tt
+troubles (Err fault) t = λ apart. t
