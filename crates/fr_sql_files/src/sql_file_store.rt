@@ -3,9 +3,9 @@ ghost use Rattle.std.specs.Prelude.{◌≡◌, ◌≢◌, ◌<◌, ◌≤◌, �
 ghost use Rattle.std.specs.FinMap as map;
 ghost use Rattle.sqlite_wal.specs.PageSize.{bytes_of};
 ghost use Rattle.fr_mutation.specs.Shard.{part};
-ghost use Rattle.fr_undo.specs.State.{StoreState, IsStoreState, fresh};
+ghost use Rattle.fr_undo.specs.State.{StoreState, fresh};
 ghost use Rattle.fr_undo.specs.Undo.{extended, undone, forgotten, advanced, with_bytes};
-ghost use Rattle.fr_undo.specs.Calls.{IsTrouble, LeavesNoMore, LeftAsIs, Reads, Writes};
+ghost use Rattle.fr_undo.specs.Calls.{IsTrouble, LeavesNoMore, Reads, Writes};
 ghost use Rattle.fr_sql_work.specs.Calls.{MeetsAll};
 ghost use Rattle.fr_sql_store.specs.Files.{HoldStore};
 ghost use Rattle.fr_sql_files.specs.Shut.{FilesLeave};

@@ -1,4 +1,4 @@
-use Rattle.std.proofs.Common.{◌≡◌, ◌↔◌, ◌<◌, ◌≤◌, false, Err, OnOk}
+use Rattle.std.proofs.Common.{◌<◌, ◌≤◌, OnOk}
 use Rattle.fr_undo.specs.declared.fault.StoreFault.TheVariants.{BelowFloor}
 use Rattle.fr_undo.specs.State.{StoreState}
 use Rattle.fr_undo.specs.Undo.{undone}
