@@ -1,5 +1,5 @@
 -- A store in files, of what its connection answers.
-use Rattle.std.proofs.Common.{◌≡◌, ◌||◌, Bool, true, false, true≢false, Result, Ok, Err, IfOk, IfErr, refl, sym, ap, subst, ◌∙◌}
+use Rattle.std.proofs.Common.{◌≡◌, ◌≢◌, ◌↔◌, ◌||◌, Bool, true, false, true≢false, Result, Ok, Err, IfErr, refl, sym, ap, subst, ◌∙◌}
 use Rattle.sqlite.specs.Files.{over_files}
 use Rattle.sqlite_disk.specs.declared.Disk.{Ghosts}
 use Rattle.sqlite_store.specs.declared.store.FileStore.{FileStore}
@@ -11,62 +11,64 @@ use Rattle.fr_undo.proofs.StateLemmas.{fresh_sound}
 use Rattle.fr_sql_work.specs.Calls.{MeetsAll}
 use Rattle.fr_sql_store.specs.Tables.{Seen}
 use Rattle.fr_sql_store.specs.Tables as tables
-use Rattle.fr_sql_files.specs.Linked.{state_of, is_failed, MayLeave, IsShut, IsLinkTold, IsReopened}
+use Rattle.fr_sql_files.specs.Linked.{state_of, is_failed, MayLeave, IsLinkTold, IsParted, IsConnected, IsReopened}
+use Rattle.fr_sql_files.specs.declared.kept.Kept.{Kept}
+use Rattle.fr_sql_files.specs.declared.shut.Shut.{Shut}
 use Rattle.fr_sql_files.specs.declared.sql_file_store.Link.{Link}
 use Rattle.fr_sql_files.specs.declared.sql_file_store.Link.TheVariants as link
 use Rattle.fr_sql_files.specs.declared.sql_file_store.SqlFileStore.{SqlFileStore}
 
-pub ok_map : {T E : Type 0} {P Q : T → Type 0} (r : Result T E) → ((x : T) → P x → Q x) → IfOk r P → IfOk r Q
-ok_map (Ok x) f h = f x h
-ok_map (Err e) f h = tt
-
-pub err_map : {T E : Type 0} {P Q : E → Type 0} (r : Result T E) → ((e : E) → P e → Q e) → IfErr r P → IfErr r Q
-err_map (Ok x) f h = tt
-err_map (Err e) f h = f e h
-
 failed_is : (b : Bool) → b ≡ true → b ≡ false → ⊥
 failed_is b yes' no' = true≢false (sym yes' ∙ no')
+
+abbrev pub failed_answer : Result (Unit {0}) StoreFault
+failed_answer = Err Failed
 
 module _ {D : Type 0} {g : Ghosts D} where
   -- ---- a shut store
 
-  shut_failed : (l : Link D g) → IsShut l → is_failed l ≡ true
-  shut_failed (link.Open store) shut = absurd shut
-  shut_failed (link.Store it) shut = refl
-  shut_failed (link.Files kept) shut = refl
+  pub shown_shut : (P : StoreState → Type 0) (it : Shut D g) (l : Link D g) → l ≡ link.Shut it → P fresh → P (state_of l)
+  shown_shut P it l is h = subst (λ (m : Link D g). P (state_of m)) (sym is) h
 
-  shut_fresh : (l : Link D g) → IsShut l → state_of l ≡ fresh
-  shut_fresh (link.Open store) shut = absurd shut
-  shut_fresh (link.Store it) shut = refl
-  shut_fresh (link.Files kept) shut = refl
+  pub failed_shut : (it : Shut D g) (l : Link D g) → l ≡ link.Shut it → true ≡ is_failed l
+  failed_shut it l is = sym (ap is_failed is)
 
-  pub is_shut : (l m : Link D g) → l ≡ m → IsShut m → IsShut l
-  is_shut l m same shut = subst IsShut (sym same) shut
+  pub left_shut : (it : Shut D g) (l : Link D g) → l ≡ link.Shut it → LeftAsIs (is_failed l) (state_of l) (MayLeave l)
+  left_shut it l is = λ works. absurd (true≢false (failed_shut it l is ∙ works))
 
-  pub shut_sound : (l : Link D g) → IsShut l → IsStoreState (state_of l)
-  shut_sound l shut = subst IsStoreState (sym (shut_fresh l shut)) fresh_sound
+  pub shut_reads : {T : Type 0} (it : Shut D g) (whole : SqlFileStore D g) → whole.link ≡ link.Shut it
+      → Reads {T = T} (λ (s : SqlFileStore D g). state_of s.link) (λ (s : SqlFileStore D g). is_failed s.link) (λ (s : SqlFileStore D g). MayLeave s.link) MeetsAll whole whole (Err Failed)
+  shut_reads {T} it whole is =
+      subst (λ (l : Link D g). Reads {T = T} (λ (s : SqlFileStore D g). state_of s.link) (λ (s : SqlFileStore D g). is_failed s.link) (λ (s : SqlFileStore D g). MayLeave s.link) MeetsAll (record { link = l }) (record { link = l }) (Err Failed)) (sym is)
+      (record { failed = (λ e. refl, λ e. refl); trouble = λ apart. absurd (apart refl); same = λ e. refl; fails = refl; leaves = λ x may. may; left_as_is = λ e. absurd (true≢false e) })
 
-  pub shut_writes : (whole : SqlFileStore D g) (after : StoreState) → IsShut whole.link
-      → Writes (λ (s : SqlFileStore D g). state_of s.link) (λ (s : SqlFileStore D g). is_failed s.link) (λ (s : SqlFileStore D g). MayLeave s.link) whole whole after (Err Failed)
-  shut_writes whole after shut =
-      let failed = shut_failed whole.link shut in
-      record {
-        ok = tt;
-        failed = (λ e. failed, λ e. refl);
-        err = λ e. refl;
-        fails = failed ∙ ap (λ b. b || false) (sym failed);
-        device = λ e. cc;
-        still = λ e x may. may;
-        sound = shut_sound whole.link shut;
-        left_as_is = λ e. absurd (failed_is _ failed e);
-      }
+  pub shut_writes : (f : StoreState → StoreState) (it : Shut D g) (whole : SqlFileStore D g) → whole.link ≡ link.Shut it
+      → Writes (λ (s : SqlFileStore D g). state_of s.link) (λ (s : SqlFileStore D g). is_failed s.link) (λ (s : SqlFileStore D g). MayLeave s.link) whole whole (f (state_of whole.link)) (Err Failed)
+  shut_writes f it whole is =
+      subst (λ (l : Link D g). Writes (λ (s : SqlFileStore D g). state_of s.link) (λ (s : SqlFileStore D g). is_failed s.link) (λ (s : SqlFileStore D g). MayLeave s.link) (record { link = l }) (record { link = l }) (f (state_of l)) (Err Failed)) (sym is)
+      (record { ok = tt; failed = (λ e. refl, λ e. refl); err = λ e. refl; fails = refl; device = λ e. cc; still = λ e x may. may; sound = fresh_sound; left_as_is = λ e. absurd (true≢false e) })
 
-  pub shut_told : (l : Link D g) → IsShut l → IsLinkTold l l Failed
-  shut_told (link.Open store) shut = absurd shut
-  shut_told (link.Store it) shut = refl
-  shut_told (link.Files kept) shut = refl
+  pub shut_told : (it : Shut D g) (l : Link D g) → l ≡ link.Shut it → IsLinkTold l l Failed
+  shut_told it l is = subst (λ (m : Link D g). IsLinkTold m m Failed) (sym is) refl
+
+  -- a shut store refuses no version, since it has failed
+  pub shut_refuses : (it : Shut D g) (l : Link D g) (fault : StoreFault) (P : StoreState → Type 0) → fault ≢ Failed → l ≡ link.Shut it → (failed_answer ≡ Err fault) ↔ ((is_failed l ≡ false) × P (state_of l))
+  shut_refuses it l fault P apart is =
+      (λ e. absurd (apart (let same : fault ≡ Failed = cc in same)), λ h. absurd (true≢false (sym (ap is_failed is) ∙ h.0)))
 
   -- ---- a store whose connection works
+
+  pub shown_open : (P : StoreState → Type 0) (old : Seen (FileStore D g)) (l : Link D g) → l ≡ link.Open old → P (tables.state_of over_files old) → P (state_of l)
+  shown_open P old l is h = subst (λ (m : Link D g). P (state_of m)) (sym is) h
+
+  pub failed_open : (old : Seen (FileStore D g)) (answer : Bool) (l : Link D g) → l ≡ link.Open old → answer ≡ old.failed → answer ≡ is_failed l
+  failed_open old answer l is h = h ∙ sym (ap is_failed is)
+
+  pub left_open : (old : Seen (FileStore D g)) (l : Link D g) → l ≡ link.Open old → LeftAsIs old.failed (tables.state_of over_files old) (tables.MayLeave over_files old) → LeftAsIs (is_failed l) (state_of l) (MayLeave l)
+  left_open old l is h = subst (λ (m : Link D g). LeftAsIs (is_failed m) (state_of m) (MayLeave m)) (sym is) h
+
+  pub refuses_open : (old : Seen (FileStore D g)) (r : Result (Unit {0}) StoreFault) (l : Link D g) (fault : StoreFault) (P : StoreState → Type 0) → l ≡ link.Open old → (r ≡ Err fault) ↔ ((old.failed ≡ false) × P (tables.state_of over_files old)) → (r ≡ Err fault) ↔ ((is_failed l ≡ false) × P (state_of l))
+  refuses_open old r l fault P is h = subst (λ (m : Link D g). (r ≡ Err fault) ↔ ((is_failed m ≡ false) × P (state_of m))) (sym is) h
 
   pub told_open : {T : Type 0} (old new : Seen (FileStore D g)) (r : Result T StoreFault) (l : Link D g) → l ≡ link.Open old → IfErr r (tables.IsTold old new) → IfErr r (IsLinkTold l (link.Open new))
   told_open old new r l is h = subst (λ (m : Link D g). IfErr r (IsLinkTold m (link.Open new))) (sym is) h
@@ -87,6 +89,22 @@ module _ {D : Type 0} {g : Ghosts D} where
 
   -- ---- a store that is opened again
 
+  -- one whose connection answers
+  pub answered_open : (old new : Seen (FileStore D g)) (r : Result (Unit {0}) StoreFault) (l : Link D g) → l ≡ link.Open old → IsReopened (link.Open old) (link.Open new) r → IsReopened l (link.Open new) r
+  answered_open old new r l is h = subst (λ (m : Link D g). IsReopened m (link.Open new) r) (sym is) h
+
+  pub leaves_open : (old new : Seen (FileStore D g)) (l : Link D g) → l ≡ link.Open old → LeavesNoMore (tables.MayLeave over_files old) (tables.MayLeave over_files new) → LeavesNoMore (MayLeave l) (MayLeave (link.Open new))
+  leaves_open old new l is h = subst (λ (m : Link D g). LeavesNoMore (MayLeave m) (MayLeave (link.Open new))) (sym is) h
+
+  -- a store of which a crash could leave more
+  pub parted_from : (More Before : StoreState → Type 0) (r : Result (Kept D g) (StoreFault × Shut D g)) → LeavesNoMore More Before → IsParted Before r → IsParted More r
+  parted_from More Before (Ok kept) more h = record { leaves = λ x may. more x (h.leaves x may); still = tt; trouble = tt }
+  parted_from More Before (Err e) more h = record { leaves = tt; still = λ x may. more x (h.still x may); trouble = h.trouble }
+
+  pub connected_from : (More Before : StoreState → Type 0) (r : Result (Seen (FileStore D g)) (StoreFault × Shut D g)) → LeavesNoMore More Before → IsConnected Before r → IsConnected More r
+  connected_from More Before (Ok store) more h = record { found = more _ h.found; works = h.works; sound = h.sound; left_as_is = h.left_as_is; still = tt; trouble = tt }
+  connected_from More Before (Err e) more h = record { found = tt; works = tt; sound = tt; left_as_is = tt; still = λ x may. more x (h.still x may); trouble = h.trouble }
+
   -- one that was opened
   pub found_again : (old : Link D g) (new : Seen (FileStore D g)) → MayLeave old (tables.state_of over_files new) → new.failed ≡ false → IsStoreState (tables.state_of over_files new) → LeftAsIs false (tables.state_of over_files new) (tables.MayLeave over_files new)
       → IsReopened old (link.Open new) (Ok tt)
@@ -102,19 +120,17 @@ module _ {D : Type 0} {g : Ghosts D} where
   }
 
   -- one that was not
-  pub lost_again : (old new : Link D g) (fault : StoreFault) → is_failed old ≡ true → IsShut new → LeavesNoMore (MayLeave old) (MayLeave new) → IsTrouble MeetsAll fault → IsReopened old new (Err fault)
-  lost_again old new fault failed shut leaves trouble =
-      let is = shut_failed new shut in
-      record {
-        ok = tt;
-        works = tt;
-        trouble = trouble;
-        err = λ e. absurd (failed_is _ is e);
-        fails = is ∙ ap (λ b. b || is_device fault) (sym failed);
-        leaves = leaves;
-        sound = shut_sound new shut;
-        left_as_is = λ e. absurd (failed_is _ is e);
-      }
+  pub lost_again : (old : Link D g) (it : Shut D g) (fault : StoreFault) → is_failed old ≡ true → LeavesNoMore (MayLeave old) (MayLeave (link.Shut it)) → IsTrouble MeetsAll fault → IsReopened old (link.Shut it) (Err fault)
+  lost_again old it fault failed leaves trouble = record {
+    ok = tt;
+    works = tt;
+    trouble = trouble;
+    err = λ e. absurd (true≢false e);
+    fails = ap (λ b. b || is_device fault) (sym failed);
+    leaves = leaves;
+    sound = fresh_sound;
+    left_as_is = λ e. absurd (true≢false e);
+  }
 
   -- one whose connection was asked first
   pub after_asking : (old mid new : Link D g) (r : Result (Unit {0}) StoreFault) → is_failed old ≡ true → is_failed mid ≡ true → LeavesNoMore (MayLeave old) (MayLeave mid) → IsReopened mid new r → IsReopened old new r

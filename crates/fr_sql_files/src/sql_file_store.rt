@@ -1,17 +1,18 @@
 //! A store in files that opens them again after a fault.
-ghost use Rattle.std.specs.Prelude.{◌≡◌, ◌≢◌, ◌<◌, ◌≤◌, ◌↔◌, true, false, Err, OnOk, OnErr, IfOk, IfErr, IsTrue};
+ghost use Rattle.std.specs.Prelude.{◌≡◌, ◌≢◌, ◌<◌, ◌≤◌, ◌↔◌, true, false, Err, OnOk, IfOk, IfErr, IfSome, IsNone, IsTrue};
 ghost use Rattle.std.specs.FinMap as map;
 ghost use Rattle.sqlite_wal.specs.PageSize.{bytes_of};
 ghost use Rattle.fr_mutation.specs.Shard.{part};
-ghost use Rattle.fr_undo.specs.State.{StoreState, IsStoreState, fresh};
+ghost use Rattle.fr_undo.specs.State.{StoreState, fresh};
 ghost use Rattle.fr_undo.specs.Undo.{extended, undone, forgotten, advanced, with_bytes};
-ghost use Rattle.fr_undo.specs.Calls.{IsTrouble, LeavesNoMore, LeftAsIs, Reads, Writes};
+ghost use Rattle.fr_undo.specs.Calls.{IsTrouble, LeavesNoMore, Reads, Writes};
 ghost use Rattle.fr_sql_work.specs.Calls.{MeetsAll};
 ghost use Rattle.fr_sql_store.specs.Files.{HoldStore};
-ghost use Rattle.fr_sql_files.specs.Shut.{StoreLeaves, FilesLeave};
-ghost use Rattle.fr_sql_files.specs.Linked.{IsShut, IsReopened, is_failed, MayLeave, shown_by, has_failed, Leaves, IsTold};
+ghost use Rattle.fr_sql_files.specs.Shut.{FilesLeave};
+ghost use Rattle.fr_sql_files.specs.Linked.{IsParted, IsConnected, IsReopened, is_failed, MayLeave, shown_by, has_failed, Leaves, IsTold};
 
-use crate::shut::{Kept, apart, found_over, store_over};
+use crate::kept::Kept;
+use crate::shut::{Shut, apart, files_of, found_over, store_over};
 use core::mem::replace_with;
 use fr_base::{Bytes, Version};
 use fr_mutation::{Batch, Shard};
@@ -21,13 +22,11 @@ use fr_undo::{ShardStore, StoreFault};
 use sqlite::{FileStore, Files};
 use std::alloc::Global;
 
-/// A store while its connection works, and what is kept of it once that is shut: the store of the database where it
-/// could not be taken apart or given a connection, else its files.
+/// A store while its connection works, and what is kept of it once that is shut.
 #[derive(Drop)]
 enum Link<D: FaithfulDisk + Drop> {
     Open(SqlStore<FileStore<D>>),
-    Store(FileStore<D>),
-    Files(Kept<D>),
+    Shut(Shut<D>),
 }
 
 /// A store in the tables of a database in two files: the database and its log. Each call that writes is one
@@ -47,30 +46,26 @@ impl<D: FaithfulDisk + Drop> Drop for SqlFileStore<D> {
     }
 }
 
-/// The files of a store that is taken out of its connection.
-fn parted<D: FaithfulDisk + Drop>(store: FileStore<D>) -> Result<Kept<D>, (StoreFault, Link<D>)>
-    ensures leaves { IfOk result (λ kept. LeavesNoMore (StoreLeaves D.Disk store) (FilesLeave D.Disk (bytes_of kept.size) kept.files)) }
-    ensures still { IfErr result (λ e. LeavesNoMore (StoreLeaves D.Disk store) (MayLeave e.1)) }
-    ensures shut { IfErr result (λ e. IsShut e.1) }
-    ensures trouble { IfErr result (λ e. IsTrouble MeetsAll e.0) }
+/// The files of a store whose connection does not work.
+fn kept<D: FaithfulDisk + Drop>(link: Link<D>) -> Result<Kept<D>, (StoreFault, Shut<D>)>
+    ensures parted { IsParted (MayLeave link) result }
 {
-    match apart(store) {
-        Ok(kept) => Ok(kept),
-        Err((fault, store)) => Err((fault, Link::Store(store))),
+    match link {
+        Link::Open(store) => apart(store.into_store()),
+        Link::Shut(shut) => files_of(shut),
     }
 }
 
-/// The files of a store whose connection does not work.
-fn kept<D: FaithfulDisk + Drop>(link: Link<D>) -> Result<Kept<D>, (StoreFault, Link<D>)>
-    ensures leaves { IfOk result (λ kept. LeavesNoMore (MayLeave link) (FilesLeave D.Disk (bytes_of kept.size) kept.files)) }
-    ensures still { IfErr result (λ e. LeavesNoMore (MayLeave link) (MayLeave e.1)) }
-    ensures shut { IfErr result (λ e. IsShut e.1) }
-    ensures trouble { IfErr result (λ e. IsTrouble MeetsAll e.0) }
+/// Opens files again.
+fn over<D: FaithfulDisk + Drop>(
+    alloc: Global,
+    kept: Kept<D>,
+) -> Result<SqlStore<FileStore<D>>, (StoreFault, Shut<D>)>
+    ensures connected { IsConnected (FilesLeave D.Disk (bytes_of kept.size) kept.files) result }
 {
-    match link {
-        Link::Open(store) => parted(store.into_store()),
-        Link::Store(store) => parted(store),
-        Link::Files(kept) => Ok(kept),
+    match store_over(alloc, kept) {
+        Ok(store) => found_over(alloc, store),
+        Err(refused) => Err(refused),
     }
 }
 
@@ -78,70 +73,49 @@ fn kept<D: FaithfulDisk + Drop>(link: Link<D>) -> Result<Kept<D>, (StoreFault, L
 fn again<D: FaithfulDisk + Drop>(
     alloc: Global,
     link: Link<D>,
-) -> Result<SqlStore<FileStore<D>>, (StoreFault, Link<D>)>
-    ensures found { IfOk result (λ store. MayLeave link (⟦<SqlStore<FileStore<D>> as ShardStore>⟧.state store)) }
-    ensures works { IfOk result (λ store. ⟦<SqlStore<FileStore<D>> as ShardStore>⟧.is_failed store ≡ false) }
-    ensures sound { IfOk result (λ store. IsStoreState (⟦<SqlStore<FileStore<D>> as ShardStore>⟧.state store)) }
-    ensures left_as_is { IfOk result (λ store. LeftAsIs false (⟦<SqlStore<FileStore<D>> as ShardStore>⟧.state store)
-        (⟦<SqlStore<FileStore<D>> as ShardStore>⟧.MayLeave store)) }
-    ensures still { IfErr result (λ e. LeavesNoMore (MayLeave link) (MayLeave e.1)) }
-    ensures shut { IfErr result (λ e. IsShut e.1) }
-    ensures trouble { IfErr result (λ e. IsTrouble MeetsAll e.0) }
+) -> Result<SqlStore<FileStore<D>>, (StoreFault, Shut<D>)>
+    ensures connected { IsConnected (MayLeave link) result }
 {
-    let kept = match kept(link) {
-        Ok(kept) => kept,
-        Err((fault, link)) => return Err((fault, link)),
-    };
-    let store = match store_over(alloc, kept) {
-        Ok(store) => store,
-        Err((fault, kept)) => return Err((fault, Link::Files(kept))),
-    };
-    match found_over(alloc, store) {
-        Ok((conn, found)) => Ok(SqlStore::over(alloc, conn, found)),
-        Err((fault, store)) => Err((fault, Link::Store(store))),
+    match kept(link) {
+        Ok(kept) => over(alloc, kept),
+        Err(refused) => Err(refused),
     }
 }
 
 /// A store that failed after its files were opened again, and what became of that.
 fn opened_again<D: FaithfulDisk + Drop>(
-    alloc: Global,
     link: Link<D>,
+    alloc: Global,
 ) -> (Link<D>, Result<(), StoreFault>)
     requires failed { is_failed link ≡ true }
     ensures reopened { IsReopened link result.0 result.1 }
 {
     match again(alloc, link) {
         Ok(store) => (Link::Open(store), Ok(())),
-        Err((fault, link)) => (link, Err(fault)),
+        Err((fault, shut)) => (Link::Shut(shut), Err(fault)),
     }
 }
 
-/// A store whose connection may work after all, and if it does not after its files were opened again.
+/// What a store answers that is opened again, whose connection works after all or was not found failed; none where its
+/// files are to be opened again.
 fn asked<D: FaithfulDisk + Drop>(
+    link: &mut Link<D>,
     alloc: Global,
-    mut store: SqlStore<FileStore<D>>,
-) -> (Link<D>, Result<(), StoreFault>)
-    ensures reopened { IsReopened (Link.Open store) result.0 result.1 }
-{
-    let was_failed = store.is_failed();
-    let answer = store.reopen(alloc);
-    if was_failed && matches!(answer, Err(StoreFault::Device)) {
-        return opened_again(alloc, Link::Open(store));
-    }
-    (Link::Open(store), answer)
-}
-
-/// A store that is opened again, and what became of that.
-fn reopened<D: FaithfulDisk + Drop>(
-    link: Link<D>,
-    alloc: Global,
-) -> (Link<D>, Result<(), StoreFault>)
-    ensures reopened { IsReopened link result.0 result.1 }
+) -> Option<Result<(), StoreFault>>
+    ensures answered { IfSome result (IsReopened link.old link.new) }
+    ensures failed { IsNone result → (is_failed link.old ≡ true) × (is_failed link.new ≡ true) }
+    ensures leaves { IsNone result → LeavesNoMore (MayLeave link.old) (MayLeave link.new) }
 {
     match link {
-        Link::Open(store) => asked(alloc, store),
-        Link::Store(store) => opened_again(alloc, Link::Store(store)),
-        Link::Files(kept) => opened_again(alloc, Link::Files(kept)),
+        Link::Open(store) => {
+            let was_failed = store.is_failed();
+            let answer = store.reopen(alloc);
+            if was_failed && matches!(answer, Err(StoreFault::Device)) {
+                return None;
+            }
+            Some(answer)
+        }
+        Link::Shut(_) => None,
     }
 }
 
@@ -192,8 +166,7 @@ impl<D: FaithfulDisk + Drop> SqlFileStore<D> {
         let SqlFileStore { link } = self;
         match link {
             Link::Open(store) => store.close(),
-            Link::Store(_) => Err(StoreFault::Failed),
-            Link::Files(_) => Err(StoreFault::Failed),
+            Link::Shut(_) => Err(StoreFault::Failed),
         }
     }
 
@@ -202,8 +175,8 @@ impl<D: FaithfulDisk + Drop> SqlFileStore<D> {
         let SqlFileStore { link } = self;
         match link {
             Link::Open(store) => store.into_store().close(),
-            Link::Store(store) => store.close(),
-            Link::Files(kept) => kept.into_files(),
+            Link::Shut(Shut::Store(store)) => store.close(),
+            Link::Shut(Shut::Files(kept)) => kept.into_files(),
         }
     }
 }
@@ -224,8 +197,7 @@ impl<D: FaithfulDisk + Drop> ShardStore for SqlFileStore<D> {
     fn is_failed(&self) -> bool {
         match &self.link {
             Link::Open(store) => store.is_failed(),
-            Link::Store(_) => true,
-            Link::Files(_) => true,
+            Link::Shut(_) => true,
         }
     }
 
@@ -236,8 +208,7 @@ impl<D: FaithfulDisk + Drop> ShardStore for SqlFileStore<D> {
     {
         match &mut self.link {
             Link::Open(store) => store.get(alloc, key),
-            Link::Store(_) => Err(StoreFault::Failed),
-            Link::Files(_) => Err(StoreFault::Failed),
+            Link::Shut(_) => Err(StoreFault::Failed),
         }
     }
 
@@ -248,8 +219,7 @@ impl<D: FaithfulDisk + Drop> ShardStore for SqlFileStore<D> {
     {
         match &mut self.link {
             Link::Open(store) => store.range(alloc, shard),
-            Link::Store(_) => Err(StoreFault::Failed),
-            Link::Files(_) => Err(StoreFault::Failed),
+            Link::Shut(_) => Err(StoreFault::Failed),
         }
     }
 
@@ -260,8 +230,7 @@ impl<D: FaithfulDisk + Drop> ShardStore for SqlFileStore<D> {
     {
         match &mut self.link {
             Link::Open(store) => store.dump(alloc),
-            Link::Store(_) => Err(StoreFault::Failed),
-            Link::Files(_) => Err(StoreFault::Failed),
+            Link::Shut(_) => Err(StoreFault::Failed),
         }
     }
 
@@ -272,32 +241,28 @@ impl<D: FaithfulDisk + Drop> ShardStore for SqlFileStore<D> {
     {
         match &mut self.link {
             Link::Open(store) => store.state_bytes(alloc),
-            Link::Store(_) => Err(StoreFault::Failed),
-            Link::Files(_) => Err(StoreFault::Failed),
+            Link::Shut(_) => Err(StoreFault::Failed),
         }
     }
 
     fn applied(&self) -> Version {
         match &self.link {
             Link::Open(store) => store.applied(),
-            Link::Store(_) => Version::ZERO,
-            Link::Files(_) => Version::ZERO,
+            Link::Shut(_) => Version::ZERO,
         }
     }
 
     fn floor(&self) -> Version {
         match &self.link {
             Link::Open(store) => store.floor(),
-            Link::Store(_) => Version::ZERO,
-            Link::Files(_) => Version::ZERO,
+            Link::Shut(_) => Version::ZERO,
         }
     }
 
     fn undo_rows(&self) -> usize {
         match &self.link {
             Link::Open(store) => store.undo_rows(),
-            Link::Store(_) => 0,
-            Link::Files(_) => 0,
+            Link::Shut(_) => 0,
         }
     }
 
@@ -311,8 +276,7 @@ impl<D: FaithfulDisk + Drop> ShardStore for SqlFileStore<D> {
     {
         match &mut self.link {
             Link::Open(store) => store.apply(alloc, version, batch),
-            Link::Store(_) => Err(StoreFault::Failed),
-            Link::Files(_) => Err(StoreFault::Failed),
+            Link::Shut(_) => Err(StoreFault::Failed),
         }
     }
 
@@ -326,8 +290,7 @@ impl<D: FaithfulDisk + Drop> ShardStore for SqlFileStore<D> {
     {
         match &mut self.link {
             Link::Open(store) => store.undo_to(alloc, version),
-            Link::Store(_) => Err(StoreFault::Failed),
-            Link::Files(_) => Err(StoreFault::Failed),
+            Link::Shut(_) => Err(StoreFault::Failed),
         }
     }
 
@@ -341,8 +304,7 @@ impl<D: FaithfulDisk + Drop> ShardStore for SqlFileStore<D> {
     {
         match &mut self.link {
             Link::Open(store) => store.advance(version),
-            Link::Store(_) => Err(StoreFault::Failed),
-            Link::Files(_) => Err(StoreFault::Failed),
+            Link::Shut(_) => Err(StoreFault::Failed),
         }
     }
 
@@ -357,8 +319,7 @@ impl<D: FaithfulDisk + Drop> ShardStore for SqlFileStore<D> {
     {
         match &mut self.link {
             Link::Open(store) => store.forget_through(alloc, version),
-            Link::Store(_) => Err(StoreFault::Failed),
-            Link::Files(_) => Err(StoreFault::Failed),
+            Link::Shut(_) => Err(StoreFault::Failed),
         }
     }
 
@@ -370,12 +331,14 @@ impl<D: FaithfulDisk + Drop> ShardStore for SqlFileStore<D> {
     {
         match &mut self.link {
             Link::Open(store) => store.set_state(alloc, bytes),
-            Link::Store(_) => Err(StoreFault::Failed),
-            Link::Files(_) => Err(StoreFault::Failed),
+            Link::Shut(_) => Err(StoreFault::Failed),
         }
     }
 
     fn reopen(&mut self, alloc: Global) -> Result<(), StoreFault> {
-        replace_with(&mut self.link, alloc, reopened)
+        match asked(&mut self.link, alloc) {
+            Some(answer) => answer,
+            None => replace_with(&mut self.link, alloc, opened_again),
+        }
     }
 }

@@ -1,5 +1,5 @@
 -- A store over files.
-use Rattle.std.proofs.Common.{◌≡◌, ◌≤◌, ◌<◌, ℕ, Bool, true, false, ◌&&◌, IsSome, IsTrue, refl, sym, ap, subst, ◌∙◌}
+use Rattle.std.proofs.Common.{◌≡◌, ◌≢◌, ◌↔◌, ◌≤◌, ◌<◌, ℕ, Bool, true, false, ◌&&◌, IsSome, IsTrue, Result, Ok, Err, IfOk, IfErr, true≢false, refl, sym, ap, subst, ◌∙◌}
 use Rattle.std.proofs.Math.Logic.{∥∥₁_map}
 use Rattle.std.specs.FinMap as map
 use Rattle.sqlite.specs.Tree.{Trees}
@@ -12,6 +12,10 @@ use Rattle.sqlite.specs.Files.{HoldsDatabase, image_of}
 use Rattle.sqlite_disk.specs.declared.Disk.{Ghosts}
 use Rattle.sqlite_disk.specs.declared.Files.{Files}
 use Rattle.fr_undo.specs.State.{StoreState}
+use Rattle.fr_undo.specs.declared.fault.StoreFault.{StoreFault}
+use Rattle.fr_undo.specs.declared.fault.StoreFault.TheVariants.{Failed}
+use Rattle.fr_undo.specs.Calls.{IsTrouble}
+use Rattle.fr_sql_work.specs.Calls.{MeetsAll}
 use Rattle.fr_sql_rows.specs.Rows.{undo_in}
 use Rattle.fr_sql_rows.specs.Connection.{IsAtRest}
 use Rattle.fr_sql_work.proofs.WorkLemmas.{get_undo}
@@ -19,7 +23,7 @@ use Rattle.fr_sql_work.proofs.CountLemmas.{undo_len}
 use Rattle.fr_sql_open.specs.Found.{IsFound}
 use Rattle.fr_sql_store.specs.Tables.{state_in, applied_in, floor_in, IsStore, shown, Seen, state_of, IsStoreOf}
 use Rattle.fr_sql_store.specs.Files.{HoldStore}
-use Rattle.fr_sql_store.proofs.StoreLemmas.{Lawful}
+use Rattle.fr_sql_store.proofs.StoreLemmas.{Lawful, not_failed}
 use Rattle.fr_sql_rows.specs.Backing.{files_are_clean}
 use Rattle.sqlite_store.specs.Laws.{stays_at, settled_at}
 use Rattle.sqlite.specs.Files.{over_files}
@@ -48,9 +52,10 @@ found_store s applied floor rows rest f =
     }
 
 -- what is found is what the files hold
-pub found_state : {D : Type 0} (g : Ghosts D) (files : Files D) (first : Trees) (second last : Database) → ((db : Trees) → HoldsDatabase (image_of g files) db → first ≡ db) → second.trees ≡ first → last ≡ second
-    → (x : StoreState) → HoldStore g files x → state_in last.trees ≡ x
-found_state g files first second last holds again kept x held = ap (λ (d : Database). state_in d.trees) kept ∙ ap state_in (again ∙ holds held.0 held.1) ∙ sym held.2
+pub found_state : {D T : Type 0} (g : Ghosts D) (files : Files D) (first : Trees) (trees_of : T → Trees) (r : Result T StoreFault) → ((db : Trees) → HoldsDatabase (image_of g files) db → first ≡ db) → IfOk r (λ found. trees_of found ≡ first)
+    → IfOk r (λ found. (x : StoreState) → HoldStore g files x → state_in (trees_of found) ≡ x)
+found_state g files first trees_of (Ok found) holds again = λ x held. ap state_in (again ∙ holds held.0 held.1) ∙ sym held.2
+found_state g files first trees_of (Err fault) holds again = tt
 
 -- files that hold a database hold the store of its tables
 pub holds_store : {D : Type 0} (g : Ghosts D) (files : Files D) (db : Trees) → ∥ HoldsDatabase (image_of g files) db ∥₁ → ∥ HoldStore g files (state_in db) ∥₁
@@ -72,3 +77,16 @@ state_committed g s is works =
 -- the store of files obeys the laws that are used
 pub lawful : {D : Type 0} (g : Ghosts D) → ((d : D) → IsTrue (g.is_clean d)) → ((d : D) → g.may_leave d (g.seen d)) → Lawful (over_files {g = g})
 lawful g faithful stays = record { clean = files_are_clean faithful; settled = λ s. settled_at s stays; stays = λ s. stays_at s stays }
+
+-- a store that has not failed answers no `Failed`, and one that has is shut with it
+pub closes : {T : Type 0} (r : Result T StoreFault) (failed : Bool) → failed ≡ false → IfErr r (IsTrouble MeetsAll) → (r ≡ Err Failed) ↔ IsTrue failed
+closes (Ok x) failed works t = (λ e. cc, λ is. absurd (true≢false (sym is ∙ works)))
+closes (Err fault) failed works t = (λ e. absurd (not_failed fault t (let same : fault ≡ Failed = cc in same)), λ is. absurd (true≢false (sym is ∙ works)))
+
+pub closes_not : {T : Type 0} (r : Result T StoreFault) (failed : Bool) → failed ≡ true → r ≡ Err Failed → (r ≡ Err Failed) ↔ IsTrue failed
+closes_not r failed is same = (λ e. is, λ e. same)
+
+-- the faults of a store that has not failed
+pub troubles : {T : Type 0} (r : Result T StoreFault) → IfErr r (IsTrouble MeetsAll) → IfErr r (λ fault. fault ≢ Failed → IsTrouble MeetsAll fault)
+troubles (Ok x) t = tt
+troubles (Err fault) t = λ apart. t

@@ -1,3 +1,4 @@
 pub mod OrderLemmas
 pub mod StoreLemmas
 pub mod FileLemmas
+pub mod ReadLemmas

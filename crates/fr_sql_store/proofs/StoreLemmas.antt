@@ -32,7 +32,7 @@ not_device NotAfter e = λ is. cc
 not_device BelowFloor e = λ is. cc
 not_device AboveApplied e = λ is. cc
 
-not_failed : (fault : StoreFault) → IsTrouble MeetsAll fault → fault ≢ Failed
+pub not_failed : (fault : StoreFault) → IsTrouble MeetsAll fault → fault ≢ Failed
 not_failed Device t = λ is. cc
 not_failed Full t = λ is. cc
 not_failed Failed t = absurd t

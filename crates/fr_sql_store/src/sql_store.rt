@@ -6,7 +6,8 @@ ghost use Rattle.fr_undo.specs.State.{IsStoreState, fresh};
 ghost use Rattle.fr_undo.specs.Undo.{extended, undone, forgotten, advanced, with_bytes};
 ghost use Rattle.fr_undo.specs.Calls.{IsTrouble, is_device, met_device, StaysUnlessFailed, LeavesNoMore, LeftAsIs, Reads, Writes};
 ghost use Rattle.fr_sql_work.specs.Calls.{MeetsAll};
-ghost use Rattle.fr_sql_store.specs.Tables.{state_of, has_failed, MayLeave, IsTold};
+ghost use Rattle.sqlite.specs.Held.{state};
+ghost use Rattle.fr_sql_store.specs.Tables.{state_in, state_of, has_failed, MayLeave, IsTold};
 
 mod files;
 
@@ -92,6 +93,23 @@ impl SqlStore<MemStore> {
             }),
             Err(refused) => Err(refused.trouble().fault()),
         }
+    }
+}
+
+impl<S: Backing + Drop> SqlStore<S> {
+    /// The connection alone, of a store that is given up.
+    fn into_conn(self) -> Connection<S>
+        ensures conn { result ≡ self.conn }
+        ensures committed { self.failed ≡ false → state_of S.Store self ≡ state_in (state S.Store result).committed.trees }
+    {
+        let SqlStore {
+            conn,
+            alloc: _,
+            marks: _,
+            is_failed: _,
+            told: _,
+        } = self;
+        conn
     }
 }
 

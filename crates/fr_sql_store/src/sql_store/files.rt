@@ -1,5 +1,6 @@
 //! A store in the tables of a database in two files: the database and its log.
-ghost use Rattle.std.specs.Prelude.{◌≡◌, ◌≢◌, ◌↔◌, false, Err, IfOk, IfErr, IsTrue};
+ghost use Rattle.std.specs.Prelude.{◌≡◌, ◌≢◌, ◌↔◌, false, Err, OnOk, IfOk, IfErr, IsTrue};
+ghost use Rattle.sqlite.specs.Held.{state};
 ghost use Rattle.sqlite.specs.Files.{file_state, IsOpened, Finds};
 ghost use Rattle.fr_undo.specs.State.{StoreState, IsStoreState, fresh};
 ghost use Rattle.fr_undo.specs.Calls.{IsTrouble, LeftAsIs};
@@ -14,7 +15,7 @@ use crate::sql_store::SqlStore;
 use fr_base::Version;
 use fr_sql_calls::Marks;
 use fr_sql_open::{Found, find, has_no_table, open_again};
-use fr_sql_rows::{FaithfulDisk, Refusals, fault_of, schema};
+use fr_sql_rows::{Backing, FaithfulDisk, Refusals, fault_of, schema};
 use fr_undo::{ShardStore, StoreFault};
 use sqlite::{Connection, Error, FileStore, Files, Options};
 use std::alloc::Global;
@@ -40,6 +41,23 @@ fn opened<D: FaithfulDisk + Drop>(
     }
 }
 
+/// Makes the tables of a store with nothing applied in a database that holds no table.
+fn begin<S: Backing>(conn: &mut Connection<S>) -> Result<(), StoreFault>
+    requires { IsAtRest (state S.Store conn.old) }
+    ensures rest { OnOk result (IsAtRest (state S.Store conn.new)) }
+    ensures begun { OnOk result (IsBegun (state S.Store conn.new).now) }
+    ensures laid { OnOk result (IsLaidOut (state S.Store conn.new).now) }
+    ensures trouble { IfErr result (IsTrouble MeetsAll) }
+{
+    if !has_no_table(conn) {
+        return Err(StoreFault::Device);
+    }
+    match schema::create(conn) {
+        Ok(()) => Ok(()),
+        Err(refused) => Err(refused.trouble().fault()),
+    }
+}
+
 /// Makes the tables of a store with nothing applied in files that hold no table.
 fn made<D: FaithfulDisk + Drop>(
     alloc: Global,
@@ -51,13 +69,24 @@ fn made<D: FaithfulDisk + Drop>(
     ensures trouble { IfErr result (IsTrouble MeetsAll) }
 {
     let mut conn = opened(alloc, files)?;
-    if !has_no_table(&conn) {
-        return Err(StoreFault::Device);
-    }
-    match schema::create(&mut conn) {
-        Ok(()) => Ok(conn),
-        Err(refused) => Err(refused.trouble().fault()),
-    }
+    begin(&mut conn)?;
+    Ok(conn)
+}
+
+/// The tables that a connection finds committed once it is opened again, where they are those of a store, and what the
+/// store has of itself.
+fn read<S: Backing + Drop>(
+    alloc: Global,
+    conn: Connection<S>,
+) -> Result<(Connection<S>, Found), StoreFault>
+    ensures rest { IfOk result (λ pair. IsAtRest (state S.Store pair.0)) }
+    ensures found { IfOk result (λ pair. IsFound pair.1.applied pair.1.floor pair.1.rows (state S.Store pair.0).now) }
+    ensures trees { IfOk result (λ pair. (state S.Store pair.0).now.trees ≡ (state S.Store conn).committed.trees) }
+    ensures trouble { IfErr result (IsTrouble MeetsAll) }
+{
+    let mut conn = open_again(alloc, conn)?;
+    let found = find(&mut conn)?;
+    Ok((conn, found))
 }
 
 /// The tables that files hold, where they are those of a store, and what the store has of itself.
@@ -71,9 +100,7 @@ fn found<D: FaithfulDisk + Drop>(
     ensures trouble { IfErr result (IsTrouble MeetsAll) }
 {
     let conn = opened(alloc, files)?;
-    let mut conn = open_again(alloc, conn)?;
-    let found = find(&mut conn)?;
-    Ok((conn, found))
+    read(alloc, conn)
 }
 
 /// The fault of a close, where the connection worked until then.
@@ -151,17 +178,10 @@ impl<D: FaithfulDisk + Drop> SqlStore<FileStore<D>> {
         ensures failed { (result ≡ Err StoreFault.Failed) ↔ IsTrue (⟦<SqlStore<FileStore<D>> as ShardStore>⟧.is_failed self) }
         ensures trouble { IfErr result (λ fault. fault ≢ StoreFault.Failed → IsTrouble MeetsAll fault) }
     {
-        let SqlStore {
-            conn,
-            alloc: _,
-            marks: _,
-            is_failed,
-            told: _,
-        } = self;
-        if is_failed {
+        if self.is_failed() {
             return Err(StoreFault::Failed);
         }
-        closed(conn)
+        closed(self.into_conn())
     }
 
     /// A store over the tables that were found in files.
@@ -192,13 +212,6 @@ impl<D: FaithfulDisk + Drop> SqlStore<FileStore<D>> {
     pub fn into_store(self) -> FileStore<D>
         ensures { (x : StoreState) → StoreLeaves D.Disk result x → ⟦<SqlStore<FileStore<D>> as ShardStore>⟧.MayLeave self x }
     {
-        let SqlStore {
-            conn,
-            alloc: _,
-            marks: _,
-            is_failed: _,
-            told: _,
-        } = self;
-        conn.into_store()
+        self.into_conn().into_store()
     }
 }

@@ -9,7 +9,19 @@ invariant_of-result g c =
     let own : IsOwn (bytes_of c.in-Ok-Some.size) c.args.store = search rules in
     record { readable = apart_readable g.D.Disk g.met.D.FaithfulDisk.faithful c.args.store (bytes_of c.in-Ok-Some.size) c.close.result own c.close.ensures }
 
-pub returns-in-Ok-Some-clause-leaves : goal.returns-in-Ok-Some-clause-leaves
-returns-in-Ok-Some-clause-leaves g c =
+pub returns-in-Ok-Some : goal.returns-in-Ok-Some
+returns-in-Ok-Some g c =
     let own : IsOwn (bytes_of c.in-Ok-Some.size) c.args.store = search rules in
-    apart_leaves g.D.Disk g.met.D.FaithfulDisk.faithful c.args.store (bytes_of c.in-Ok-Some.size) c.close.result own c.close.ensures
+    record {
+      parted = record {
+        leaves = apart_leaves g.D.Disk g.met.D.FaithfulDisk.faithful c.args.store (bytes_of c.in-Ok-Some.size) c.close.result own c.close.ensures;
+        still = tt;
+        trouble = tt;
+      };
+    }
+
+pub returns-in-Ok-None : goal.returns-in-Ok-None
+returns-in-Ok-None g c = record { parted = record { leaves = tt; still = λ x may. may; trouble = tt } }
+
+pub returns-in-Err : goal.returns-in-Err
+returns-in-Err g c = record { parted = record { leaves = tt; still = λ x may. may; trouble = tt } }

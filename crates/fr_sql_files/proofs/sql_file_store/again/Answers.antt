@@ -1,10 +1,7 @@
-use Rattle.std.proofs.Common.{sym, subst}
-use Rattle.fr_sql_files.specs.Linked.{MayLeave}
+use Rattle.sqlite_wal.specs.PageSize.{bytes_of}
+use Rattle.fr_sql_files.specs.Shut.{FilesLeave}
+use Rattle.fr_sql_files.proofs.LinkLemmas.{connected_from}
 use Rattle.fr_sql_files.proofs.sql_file_store.again.Goals as goal
 
-pub returns-in-Ok-found_over-clause-found : goal.returns-in-Ok-found_over-clause-found
-returns-in-Ok-found_over-clause-found g c =
-    subst (MayLeave c.args.link) (sym c.over.ensures.state) (c.in-Ok.ensures.leaves _ (c.in-Ok-store_over.ensures.leaves _ c.in-Ok-found_over.ensures.leaves))
-
-pub returns-in-Err-found_over-clause-still : goal.returns-in-Err-found_over-clause-still
-returns-in-Err-found_over-clause-still g c = λ x may. c.in-Ok.ensures.leaves x (c.in-Ok-store_over.ensures.leaves x (c.in-Err-found_over.ensures.still x may))
+pub returns-in-Ok : goal.returns-in-Ok
+returns-in-Ok g c = record { connected = connected_from _ (FilesLeave g.D.Disk (bytes_of c.in-Ok.kept.size) c.in-Ok.kept.files) c.over.result c.in-Ok.ensures.parted.leaves c.over.ensures.connected }

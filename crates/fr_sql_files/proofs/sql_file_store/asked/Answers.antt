@@ -1,10 +1,19 @@
-use Rattle.std.proofs.Common.{◌≡◌, true, rules}
-use Rattle.fr_sql_files.specs.declared.sql_file_store.Link.TheVariants as link
-use Rattle.fr_sql_files.proofs.LinkLemmas.{after_asking}
+use Rattle.fr_sql_files.proofs.LinkLemmas.{answered_open, leaves_open}
 use Rattle.fr_sql_files.proofs.sql_file_store.asked.Goals as goal
 
-pub returns-then-matches : goal.returns-then-matches
-returns-then-matches g c =
-    let was : c.args.store.failed ≡ true = search rules in
-    let failed : c.reopen-answer.new.self.failed ≡ true = search rules in
-    record { reopened = after_asking (link.Open c.args.store) (link.Open c.reopen-answer.new.self) c.opened_again.result.0 c.opened_again.result.1 was failed c.reopen-answer.ensures.leaves c.opened_again.ensures.reopened }
+pub returns-then-matches-clause-leaves : goal.returns-then-matches-clause-leaves
+returns-then-matches-clause-leaves g c = λ none. leaves_open c.in-Open.store c.reopen-answer.new.self c.args.link.now c.in-Open.is c.reopen-answer.ensures.leaves
+
+pub returns-else-was_failed-clause-answered : goal.returns-else-was_failed-clause-answered
+returns-else-was_failed-clause-answered g c =
+    let h = c.reopen-answer.ensures in
+    answered_open c.in-Open.store c.reopen-answer.new.self c.reopen-answer.result c.args.link.now c.in-Open.is (record {
+      ok = h.ok;
+      works = h.works;
+      trouble = h.trouble;
+      err = h.err;
+      fails = h.fails;
+      leaves = h.leaves;
+      sound = h.sound;
+      left_as_is = h.left_as_is;
+    })

@@ -1,8 +1,17 @@
-use Rattle.fr_sql_files.proofs.LinkLemmas.{is_shut, shut_sound}
+use Rattle.std.proofs.Common.{◌≡◌, refl}
+use Rattle.fr_undo.specs.State.{IsStoreState}
+use Rattle.fr_undo.proofs.StateLemmas.{fresh_sound}
+use Rattle.fr_sql_files.proofs.LinkLemmas.{shown_open, shown_shut}
 use Rattle.fr_sql_files.proofs.sql_file_store.SqlFileStoreShardStore.applied.Goals as goal
 
-pub returns-in-Store-clause-sound : goal.returns-in-Store-clause-sound
-returns-in-Store-clause-sound g c = shut_sound c.args.self.now.link (is_shut _ _ c.in-Store.is tt)
+pub returns-in-Open-clause-value : goal.returns-in-Open-clause-value
+returns-in-Open-clause-value g c = shown_open (λ x. c.applied.result ≡ x.applied) c.in-Open.store c.args.self.now.link c.in-Open.is c.applied.ensures.value
 
-pub returns-in-Files-clause-sound : goal.returns-in-Files-clause-sound
-returns-in-Files-clause-sound g c = shut_sound c.args.self.now.link (is_shut _ _ c.in-Files.is tt)
+pub returns-in-Open-clause-sound : goal.returns-in-Open-clause-sound
+returns-in-Open-clause-sound g c = shown_open IsStoreState c.in-Open.store c.args.self.now.link c.in-Open.is c.applied.ensures.sound
+
+pub returns-in-Shut-clause-value : goal.returns-in-Shut-clause-value
+returns-in-Shut-clause-value g c = shown_shut (λ x. 0 ≡ x.applied) _ c.args.self.now.link c.in-Shut.is refl
+
+pub returns-in-Shut-clause-sound : goal.returns-in-Shut-clause-sound
+returns-in-Shut-clause-sound g c = shown_shut IsStoreState _ c.args.self.now.link c.in-Shut.is fresh_sound
