@@ -12,7 +12,7 @@ use Rattle.fr_run.specs.Turn.{Sending, actor_of, asks_of}
 use Rattle.fr_run_event.specs.Tests.{goes, gives, is_sending, tells}
 use Rattle.fr_world_turns.specs.Finding.{at_place, some_under, AreFound, AsksAreFound, GoneIsFound, IsFound, TellIsFound}
 use Rattle.fr_world_turns.specs.Keys.{gone_key, ask_key, tell_key, told_key}
-use Rattle.fr_world_turns.specs.Places.{Places, Grows, IsUnder, passes, under}
+use Rattle.fr_world_turns.specs.Places.{Key, Places, Grows, IsUnder, passes, under}
 use Rattle.fr_world_turns.specs.Turns.{turn_of, history_of, retells}
 use Rattle.fr_world_turns.specs.declared.turn.Turn.{Turn}
 use Rattle.fr_world_turns.specs.declared.turn.Turn.TheVariants as code
@@ -23,7 +23,7 @@ use Rattle.fr_world_turns.proofs.Repeats.{retold, told_key_is}
 -- ---- finding
 
 -- where what the first turns did is found, a test is answered by the places under its key and by the turns behind
-pub found_in_history : (p : history.Turn → Bool) (turns : List Turn) (n : ℕ) (m : Places) (k : List ℕ) → ((i : ℕ) (t : Turn) → i < n → slice_get turns i ≡ Some t → p (turn_of t) ≡ true → some_under turns m p k ≡ true)
+pub found_in_history : (p : history.Turn → Bool) (turns : List Turn) (n : ℕ) (m : Places) (k : Key) → ((i : ℕ) (t : Turn) → i < n → slice_get turns i ≡ Some t → p (turn_of t) ≡ true → some_under turns m p k ≡ true)
     → (some_under turns m p k || list_any (λ t. p (turn_of t)) (drop n turns)) ≡ list_any p (history_of turns)
 found_in_history p turns n m k h = found_or_behind (λ t. p (turn_of t)) turns n (under m k) h ∙ sym (any_turn p turns)
 
@@ -97,7 +97,7 @@ are_found_later turns n m later all grows = record { within = all.within; each =
 passes_at : (p : history.Turn → Bool) (turns : List Turn) (place : ℕ) (turn : Turn) → slice_get turns place ≡ Some turn → p (turn_of turn) ≡ true → at_place turns p place ≡ true
 passes_at p turns place turn is e = ap (passes (λ t. p (turn_of t))) is ∙ e
 
-pub gone_entered : (turns : List Turn) (m : Places) (place : ℕ) (turn : Turn) (node : NodeId) (key : List ℕ) → slice_get turns place ≡ Some turn → turn ≡ code.Gone node → key ≡ gone_key node → IsUnder m key place → GoneIsFound turns m (turn_of turn)
+pub gone_entered : (turns : List Turn) (m : Places) (place : ℕ) (turn : Turn) (node : NodeId) (key : Key) → slice_get turns place ≡ Some turn → turn ≡ code.Gone node → key ≡ gone_key node → IsUnder m key place → GoneIsFound turns m (turn_of turn)
 gone_entered turns m place turn node key is gone under' there who e =
     let same : is_same_node who node ≡ true = sym (ap (λ t. goes who (turn_of t)) gone) ∙ e in
     let k : who ≡ node = is_same_node-IsSameness.same who node same in
@@ -111,7 +111,7 @@ one_some : {X : Type 0} (o : Option X) (x y : X) → o ≡ Some x → o ≡ Some
 one_some o x y e d = cc
 
 -- a turn under its key
-pub tell_entered : (turns : List Turn) (m : Places) (place : ℕ) (turn : Turn) (key : List ℕ) → slice_get turns place ≡ Some turn → told_key (turn_of turn) ≡ Some key → IsUnder m key place → TellIsFound turns m (turn_of turn)
+pub tell_entered : (turns : List Turn) (m : Places) (place : ℕ) (turn : Turn) (key : Key) → slice_get turns place ≡ Some turn → told_key (turn_of turn) ≡ Some key → IsUnder m key place → TellIsFound turns m (turn_of turn)
 tell_entered turns m place turn key is has there by to x e =
     let k : key ≡ tell_key by to x = one_some (told_key (turn_of turn)) key (tell_key by to x) has (told_key_is (turn_of turn) by to x e) in
     subst (λ k. some_under turns m (tells by to x) k ≡ true) k (there (at_place turns (tells by to x)) (passes_at (tells by to x) turns place turn is e))
@@ -124,7 +124,7 @@ passes_too p q h turns place e = go (slice_get turns place) e
     go (Some t) e = h (turn_of t) e
 
 -- a turn under its key in which it was told before
-pub tell_retold : (turns : List Turn) (m : Places) (t : history.Turn) (key : List ℕ) → told_key t ≡ Some key → some_under turns m (retells t) key ≡ true → TellIsFound turns m t
+pub tell_retold : (turns : List Turn) (m : Places) (t : history.Turn) (key : Key) → told_key t ≡ Some key → some_under turns m (retells t) key ≡ true → TellIsFound turns m t
 tell_retold turns m t key has before by to x e =
     let k : key ≡ tell_key by to x = one_some (told_key t) key (tell_key by to x) has (told_key_is t by to x e) in
     subst (λ k. some_under turns m (tells by to x) k ≡ true) k
@@ -179,6 +179,10 @@ sent_more turns m later from asks i s has before grows own to a e = elim (last_s
       let b = is_same_ask-IsSameness.same s.1 a j.1 in
       subst (λ x. some_under turns later (gives from to x) (ask_key from to x) ≡ true) b (subst (λ x. some_under turns later (gives from x s.1) (ask_key from x s.1) ≡ true) n own))
 ]
+
+-- a turn under the key of an ask that it gave
+pub ask_entered : (turns : List Turn) (m : Places) (place : ℕ) (from to : NodeId) (a : Ask) (key : Key) → at_place turns (gives from to a) place ≡ true → key ≡ ask_key from to a → IsUnder m key place → some_under turns m (gives from to a) (ask_key from to a) ≡ true
+ask_entered turns m place from to a key gave is there = subst (λ k. some_under turns m (gives from to a) k ≡ true) is (there (at_place turns (gives from to a)) gave)
 
 -- all asks of a turn
 pub asks_entered : (turns : List Turn) (m : Places) (t : history.Turn) → SentAreFound turns m (actor_of t) (asks_of t) → AsksAreFound turns m t

@@ -1,5 +1,5 @@
 -- What was told in a turn: under which key it is, and in which other turns it was told.
-use Rattle.std.proofs.Common.{◌≡◌, ℕ, true, ◌==◌, ◌&&◌, List, Option, Some, sym, ◌∙◌}
+use Rattle.std.proofs.Common.{◌≡◌, true, ◌==◌, ◌&&◌, Option, Some, sym, ◌∙◌}
 use Rattle.std.proofs.lemmas.Bool.{and_parts, eqb-true}
 use Rattle.fr_base.specs.Node.{is_same_node, is_same_node-IsSameness, is_same_log, is_same_log-IsSameness}
 use Rattle.fr_base.specs.declared.place.LogId.{LogId}
@@ -14,6 +14,7 @@ use Rattle.fr_ask.specs.declared.tell.Tell.TheVariants as tell
 use Rattle.fr_run.specs.Turn.{Turn, CellTurn, LogTurn, SeqTurn}
 use Rattle.fr_run_event.specs.Tests.{tells}
 use Rattle.fr_world_turns.specs.Keys.{told_key, tell_key}
+use Rattle.fr_world_turns.specs.Places.{Key}
 use Rattle.fr_world_turns.specs.Turns.{retells}
 
 -- three tests passed
@@ -23,7 +24,7 @@ same_telling who by from to told t e =
     let l = and_parts (is_same_node from to) (is_same_tell told t) k.1 in
     (is_same_node-IsSameness.same who by k.0, is_same_node-IsSameness.same from to l.0, is_same_tell-IsSameness.same told t l.1)
 
-one_key : (who by from to : NodeId) (told t : Tell) → (is_same_node who by && (is_same_node from to && is_same_tell told t)) ≡ true → ◌≡◌ {A = Option (List ℕ)} (Some (tell_key who from told)) (Some (tell_key by to t))
+one_key : (who by from to : NodeId) (told t : Tell) → (is_same_node who by && (is_same_node from to && is_same_tell told t)) ≡ true → ◌≡◌ {A = Option Key} (Some (tell_key who from told)) (Some (tell_key by to t))
 one_key who by from to told t e =
     let k = same_telling who by from to told t e in
     three (λ x y z. Some (tell_key x y z)) k.0 k.1 k.2

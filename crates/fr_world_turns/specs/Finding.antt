@@ -7,7 +7,7 @@ use Rattle.fr_ask.specs.declared.tell.Tell.{Tell}
 use Rattle.fr_run.specs.Turn as history
 use Rattle.fr_run_event.specs.Tests.{goes, gives, tells}
 use Rattle.fr_world_turns.specs.Keys.{gone_key, ask_key, tell_key}
-use Rattle.fr_world_turns.specs.Places.{Places, holds_at, under}
+use Rattle.fr_world_turns.specs.Places.{Key, Places, holds_at, under}
 use Rattle.fr_world_turns.specs.Turns.{turn_of}
 use Rattle.fr_world_turns.specs.declared.turn.Turn.{Turn}
 
@@ -16,7 +16,7 @@ abbrev pub at_place : List Turn → (history.Turn → Bool) → ℕ → Bool
 at_place turns p place = holds_at (λ t. p (turn_of t)) turns place
 
 -- whether there is one at a place under a key
-abbrev pub some_under : List Turn → Places → (history.Turn → Bool) → List ℕ → Bool
+abbrev pub some_under : List Turn → Places → (history.Turn → Bool) → Key → Bool
 some_under turns m p k = list_any (at_place turns p) (under m k)
 
 -- what a turn did is found: that it took a node away, what it asked, what it told

@@ -1,5 +1,5 @@
--- Keys of what happened: two nodes as numbers, and what the one asked or told the other. Equal ones have one key; different ones may.
-use Rattle.std.specs.Prelude.{ℕ, List, [], ◌∷◌, Option, None, Some}
+-- Keys of what happened: what one node asked or told another, and the two nodes, each as one number. Equal ones have one key; different ones may.
+use Rattle.std.specs.Prelude.{ℕ, ◌+◌, ◌*◌, ◌%◌, ◌^◌, Option, None, Some}
 use Rattle.fr_base.specs.declared.place.NodeId.{NodeId}
 use Rattle.fr_base.specs.declared.place.NodeId.TheVariants as node
 use Rattle.fr_register.specs.declared.ask.CellAsk.{CellAsk}
@@ -22,42 +22,56 @@ use Rattle.fr_ask.specs.declared.ask.Ask.TheVariants as ask
 use Rattle.fr_ask.specs.declared.tell.Tell.{Tell}
 use Rattle.fr_ask.specs.declared.tell.Tell.TheVariants as tell
 use Rattle.fr_run.specs.Turn as history
+use Rattle.fr_world_turns.specs.Places.{Key}
 
--- a node: its kind, and its numbers
-abbrev pub NodeRow : Type 0
-NodeRow = ℕ × ℕ × ℕ
+-- the first number times a factor, and the second one: the last 64 bits of that
+abbrev pub joined : ℕ → ℕ → ℕ → ℕ
+joined first factor second = ((first * factor) % 2 ^ 64 + second) % 2 ^ 64
 
--- an ask or a tell: its kind, and numbers that tell it from others
+-- a node of a kind, of an epoch or a ballot where it has one, and its place there
+abbrev pub node_of : ℕ → ℕ → ℕ → ℕ
+node_of kind epoch place = joined (joined epoch 256 place) 8 kind
+
+-- a node as a number: no two have one, where epochs and ballots are below 2^53
+abbrev pub node_number : NodeId → ℕ
+node_number (node.Cell i) = node_of 0 0 i
+node_number (node.Log e i) = node_of 1 e i
+node_number (node.Sequencer e) = node_of 2 e 0
+node_number (node.Proxy e p) = node_of 3 e p
+node_number (node.Recoverer b) = node_of 4 b 0
+node_number (node.Storage t) = node_of 5 0 t
+
+-- an ask or a tell: its kind, and numbers that tell it from others between the same nodes
 abbrev pub WordRow : Type 0
 WordRow = ℕ × ℕ × ℕ × ℕ × ℕ
 
-abbrev pub key_of : NodeRow → NodeRow → WordRow → List ℕ
-key_of a b w = a.0 ∷ a.1 ∷ a.2 ∷ b.0 ∷ b.1 ∷ b.2 ∷ w.0 ∷ w.1 ∷ w.2 ∷ w.3 ∷ w.4 ∷ []
+-- a row's numbers, each spread before the next one is added, by 2^64 over the golden ratio: rows that differ seldom make one number
+abbrev pub spread : ℕ → ℕ → ℕ
+spread word n = joined word 11400714819323198485 n
 
-abbrev pub node_row : NodeId → NodeRow
-node_row (node.Cell i) = (0, i, 0)
-node_row (node.Log e i) = (1, e, i)
-node_row (node.Sequencer e) = (2, e, 0)
-node_row (node.Proxy e p) = (3, e, p)
-node_row (node.Recoverer b) = (4, b, 0)
-node_row (node.Storage t) = (5, t, 0)
+abbrev pub word_number : WordRow → ℕ
+word_number w = spread (spread (spread (spread w.0 w.1) w.2) w.3) w.4
 
--- ---- asks
+-- what differs most often stands first, so that two keys are mostly told apart by their first numbers
+abbrev pub key_of : NodeId → NodeId → WordRow → Key
+key_of from to w = (word_number w, node_number to, node_number from)
+
+-- ---- asks, which go to a log of their epoch, and to a sequencer from the proxy that they name
 
 abbrev pub cell_ask_row : CellAsk → WordRow
 cell_ask_row (cask.Read b) = (1, b, 0, 0, 0)
 cell_ask_row (cask.Write b v) = (2, b, 0, 0, 0)
 
 abbrev pub log_ask_row : LogAsk → WordRow
-log_ask_row (lask.Seed s) = (3, s.epoch, s.first, s.seeded_to, 0)
-log_ask_row (lask.Push p) = (4, p.epoch, p.prev, p.version, p.known)
-log_ask_row (lask.Lock e) = (5, e, 0, 0, 0)
-log_ask_row (lask.Peek e t after most) = (6, e, t, after, most)
-log_ask_row (lask.MarkAsked e) = (7, e, 0, 0, 0)
-log_ask_row (lask.Pop e t through) = (21, e, t, through, 0)
+log_ask_row (lask.Seed s) = (3, s.first, s.seeded_to, 0, 0)
+log_ask_row (lask.Push p) = (4, p.version, p.known, 0, 0)
+log_ask_row (lask.Lock e) = (5, 0, 0, 0, 0)
+log_ask_row (lask.Peek e t after most) = (6, after, t, most, 0)
+log_ask_row (lask.MarkAsked e) = (7, 0, 0, 0, 0)
+log_ask_row (lask.Pop e t through) = (21, through, t, 0, 0)
 
 abbrev pub seq_ask_row : SeqAsk → WordRow
-seq_ask_row (sask.Next p r s) = (8, p, r, s, 0)
+seq_ask_row (sask.Next p r s) = (8, r, s, 0, 0)
 
 abbrev pub ask_row : Ask → WordRow
 ask_row (ask.Cell a) = cell_ask_row a
@@ -88,13 +102,13 @@ abbrev pub log_tell_row : LogTell → WordRow
 log_tell_row ltell.Seeded = (13, 0, 0, 0, 0)
 log_tell_row (ltell.Held v) = (14, v, 0, 0, 0)
 log_tell_row (ltell.Locked durable known popped) = (15, durable, known, 0, 0)
-log_tell_row (ltell.Peeked p) = (16, p.tag, p.after, p.upto, p.known)
+log_tell_row (ltell.Peeked p) = (16, p.after, p.upto, p.known, p.tag)
 log_tell_row (ltell.Marked state) = (17, 0, 0, 0, 0)
 log_tell_row (ltell.Popped through) = (22, through, 0, 0, 0)
 log_tell_row (ltell.Refused reason) = refusal_row reason
 
 abbrev pub seq_tell_row : SeqTell → WordRow
-seq_tell_row (stell.Numbered r p v) = (19, r, p, v, 0)
+seq_tell_row (stell.Numbered r p v) = (19, v, r, 0, 0)
 seq_tell_row (stell.Refused Spent) = (20, 0, 0, 0, 0)
 seq_tell_row (stell.Refused OutOfTurn) = (20, 1, 0, 0, 0)
 
@@ -106,19 +120,19 @@ tell_row (tell.Seq t) = seq_tell_row t
 -- ---- keys
 
 -- of the turn that took a node away
-abbrev pub gone_key : NodeId → List ℕ
-gone_key who = key_of (node_row who) (node_row who) (0, 0, 0, 0, 0)
+abbrev pub gone_key : NodeId → Key
+gone_key who = key_of who who (0, 0, 0, 0, 0)
 
 -- of the turns in which a node gave an ask to another
-abbrev pub ask_key : NodeId → NodeId → Ask → List ℕ
-ask_key from to a = key_of (node_row from) (node_row to) (ask_row a)
+abbrev pub ask_key : NodeId → NodeId → Ask → Key
+ask_key from to a = key_of from to (ask_row a)
 
 -- of the turns in which a node told this to another
-abbrev pub tell_key : NodeId → NodeId → Tell → List ℕ
-tell_key by to t = key_of (node_row by) (node_row to) (tell_row t)
+abbrev pub tell_key : NodeId → NodeId → Tell → Key
+tell_key by to t = key_of by to (tell_row t)
 
 -- of what was told in a turn
-abbrev pub told_key : history.Turn → Option (List ℕ)
+abbrev pub told_key : history.Turn → Option Key
 told_key (history.CellTurn from i a t) = Some (tell_key (node.Cell i) from (tell.Cell t))
 told_key (history.LogTurn from e i a t) = Some (tell_key (node.Log e i) from (tell.Log t))
 told_key (history.SeqTurn from e a t) = Some (tell_key (node.Sequencer e) from (tell.Seq t))

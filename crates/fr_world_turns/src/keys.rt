@@ -1,5 +1,5 @@
-//! Keys of what happened: two nodes as numbers, and what the one asked or told the other. Equal ones have one key;
-//! different ones may, so what stands under a key is looked at.
+//! Keys of what happened: what one node asked or told another, and the two nodes, each as one number. Equal ones have
+//! one key; different ones may, so what stands under a key is looked at.
 ghost use Rattle.std.specs.Prelude.{◌≡◌};
 ghost use Rattle.fr_world_turns.specs.Keys as keys;
 ghost use Rattle.fr_world_turns.specs.Turns.{turn_of};
@@ -11,67 +11,88 @@ use fr_base::NodeId;
 use fr_log::{LogAsk, LogRefusal, LogTell};
 use fr_register::{CellAsk, CellTell};
 
-/// A node: its kind, and its numbers.
-type NodeRow = (u64, u64, u64);
-
-/// An ask or a tell: its kind, and numbers that tell it from others.
+/// An ask or a tell: its kind, and numbers that tell it from others between the same nodes.
 type WordRow = (u64, u64, u64, u64, u64);
+
+/// What a row's numbers are spread by, each before the next one is added: 2^64 over the golden ratio, which is odd. So
+/// rows that differ seldom make one number.
+const SPREAD: u64 = 11_400_714_819_323_198_485;
 
 /// The key of the turn that took a node away.
 pub(crate) fn gone_key(node: &NodeId) -> Key
     ensures { result ≡ keys.gone_key node.now }
 {
-    key_of(node_row(node), node_row(node), (0, 0, 0, 0, 0))
+    key_of(node, node, (0, 0, 0, 0, 0))
 }
 
 /// The key of the turns in which a node gave an ask to another.
 pub(crate) fn ask_key(from: &NodeId, to: &NodeId, ask: &Ask) -> Key
     ensures { result ≡ keys.ask_key from.now to.now ask.now }
 {
-    key_of(node_row(from), node_row(to), ask_row(ask))
+    key_of(from, to, ask_row(ask))
 }
 
 /// The key of the turns in which a node told this to another.
 pub(crate) fn tell_key(by: &NodeId, to: &NodeId, tell: &Tell) -> Key
     ensures { result ≡ keys.tell_key by.now to.now tell.now }
 {
-    key_of(node_row(by), node_row(to), tell_row(tell))
+    key_of(by, to, tell_row(tell))
 }
 
 /// The key of what was told in a turn.
 pub(crate) fn told_key(turn: &Turn) -> Option<Key>
     ensures { result ≡ keys.told_key (turn_of turn.now) }
 {
-    let by = node_row(&turn.node());
+    let by = turn.node();
     match turn {
-        Turn::Cell { from, tell, .. } => { Some(key_of(by, node_row(from), cell_tell_row(tell))) }
-        Turn::Log { from, tell, .. } => Some(key_of(by, node_row(from), log_tell_row(tell))),
-        Turn::Sequencer { from, tell, .. } => {
-            Some(key_of(by, node_row(from), seq_tell_row(tell)))
-        }
+        Turn::Cell { from, tell, .. } => Some(key_of(&by, from, cell_tell_row(tell))),
+        Turn::Log { from, tell, .. } => Some(key_of(&by, from, log_tell_row(tell))),
+        Turn::Sequencer { from, tell, .. } => Some(key_of(&by, from, seq_tell_row(tell))),
         _ => None,
     }
 }
 
-fn key_of(a: NodeRow, b: NodeRow, word: WordRow) -> Key
-    ensures { result ≡ keys.key_of a b word }
+fn key_of(from: &NodeId, to: &NodeId, word: WordRow) -> Key
+    ensures { result ≡ keys.key_of from.now to.now word }
 {
-    [
-        a.0, a.1, a.2, b.0, b.1, b.2, word.0, word.1, word.2, word.3, word.4,
-    ]
+    (word_number(word), node_number(to), node_number(from))
 }
 
-fn node_row(node: &NodeId) -> NodeRow
-    ensures { result ≡ keys.node_row node.now }
+fn word_number(word: WordRow) -> u64
+    ensures { result ≡ keys.word_number word }
+{
+    let two = joined(word.0, SPREAD, word.1);
+    let three = joined(two, SPREAD, word.2);
+    let four = joined(three, SPREAD, word.3);
+    joined(four, SPREAD, word.4)
+}
+
+/// A node as a number. No two have one, where epochs and ballots are below 2^53.
+fn node_number(node: &NodeId) -> u64
+    ensures { result ≡ keys.node_number node.now }
 {
     match node {
-        NodeId::Cell { index } => (0, u64::from(*index), 0),
-        NodeId::Log { epoch, index } => (1, epoch.get(), u64::from(*index)),
-        NodeId::Sequencer { epoch } => (2, epoch.get(), 0),
-        NodeId::Proxy { epoch, number } => (3, epoch.get(), u64::from(*number)),
-        NodeId::Recoverer { ballot } => (4, ballot.get(), 0),
-        NodeId::Storage { tag } => (5, u64::from(tag.get()), 0),
+        NodeId::Cell { index } => node_of(0, 0, *index),
+        NodeId::Log { epoch, index } => node_of(1, epoch.get(), *index),
+        NodeId::Sequencer { epoch } => node_of(2, epoch.get(), 0),
+        NodeId::Proxy { epoch, number } => node_of(3, epoch.get(), *number),
+        NodeId::Recoverer { ballot } => node_of(4, ballot.get(), 0),
+        NodeId::Storage { tag } => node_of(5, 0, tag.get()),
     }
+}
+
+/// A node of a kind, of an epoch or a ballot where it has one, and its place there.
+fn node_of(kind: u64, epoch: u64, place: u8) -> u64
+    ensures { result ≡ keys.node_of kind epoch place }
+{
+    joined(joined(epoch, 256, u64::from(place)), 8, kind)
+}
+
+/// The first number times a factor, and the second one: the last 64 bits of that.
+fn joined(first: u64, factor: u64, second: u64) -> u64
+    ensures { result ≡ keys.joined first factor second }
+{
+    first.wrapping_mul(factor).wrapping_add(second)
 }
 
 fn ask_row(ask: &Ask) -> WordRow
@@ -80,13 +101,7 @@ fn ask_row(ask: &Ask) -> WordRow
     match ask {
         Ask::Cell(ask) => cell_ask_row(ask),
         Ask::Log(ask) => log_ask_row(ask),
-        Ask::Seq(
-            SeqAsk::Next {
-                proxy,
-                request,
-                step,
-            },
-        ) => (8, u64::from(*proxy), *request, step.get(), 0),
+        Ask::Seq(SeqAsk::Next { request, step, .. }) => (8, *request, step.get(), 0, 0),
     }
 }
 
@@ -99,43 +114,28 @@ fn cell_ask_row(ask: &CellAsk) -> WordRow
     }
 }
 
+/// The epoch is left out: an ask goes to a log of its epoch.
 fn log_ask_row(ask: &LogAsk) -> WordRow
     ensures { result ≡ keys.log_ask_row ask.now }
 {
     match ask {
-        LogAsk::Seed(seed) => {
-            let (epoch, first) = (seed.epoch(), seed.first());
-            (3, epoch.get(), first.get(), seed.seeded_to().get(), 0)
-        }
-        LogAsk::Push(push) => {
-            let (epoch, prev) = (push.epoch(), push.prev());
-            (
-                4,
-                epoch.get(),
-                prev.get(),
-                push.version().get(),
-                push.known().get(),
-            )
-        }
-        LogAsk::Lock { epoch } => (5, epoch.get(), 0, 0, 0),
+        LogAsk::Seed(seed) => { (3, seed.first().get(), seed.seeded_to().get(), 0, 0) }
+        LogAsk::Push(push) => (4, push.version().get(), push.known().get(), 0, 0),
+        LogAsk::Lock { .. } => (5, 0, 0, 0, 0),
         LogAsk::Peek {
-            epoch,
             tag,
             after,
             most,
+            ..
         } => (
             6,
-            epoch.get(),
-            u64::from(tag.get()),
             after.get(),
+            u64::from(tag.get()),
             u64::from(most.get()),
+            0,
         ),
-        LogAsk::MarkAsked { epoch } => (7, epoch.get(), 0, 0, 0),
-        LogAsk::Pop {
-            epoch,
-            tag,
-            through,
-        } => (21, epoch.get(), u64::from(tag.get()), through.get(), 0),
+        LogAsk::MarkAsked { .. } => (7, 0, 0, 0, 0),
+        LogAsk::Pop { tag, through, .. } => (21, through.get(), u64::from(tag.get()), 0, 0),
     }
 }
 
@@ -171,10 +171,10 @@ fn log_tell_row(tell: &LogTell) -> WordRow
             let (tag, after) = (peeked.tag(), peeked.after());
             (
                 16,
-                u64::from(tag.get()),
                 after.get(),
                 peeked.upto().get(),
                 peeked.known().get(),
+                u64::from(tag.get()),
             )
         }
         LogTell::Marked { .. } => (17, 0, 0, 0, 0),
@@ -206,9 +206,9 @@ fn seq_tell_row(tell: &SeqTell) -> WordRow
     match tell {
         SeqTell::Numbered {
             request,
-            prev,
             version,
-        } => (19, *request, prev.get(), version.get(), 0),
+            ..
+        } => (19, version.get(), *request, 0, 0),
         SeqTell::Refused {
             why: SeqRefusal::Spent,
         } => (20, 0, 0, 0, 0),

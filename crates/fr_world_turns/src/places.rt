@@ -1,24 +1,33 @@
 //! Places in a list of turns, by keys.
-ghost use Rattle.std.specs.Prelude.{◌≡◌, List, ℕ, IfOk, OnOk, OnErr, length, [], ◌∷◌, ◌++◌, None, Some, IsSome, cond};
+ghost use Rattle.std.specs.Prelude.{◌≡◌, OnOk, None};
 ghost use Rattle.std.specs.BTreeMap as tree;
-ghost use Rattle.fr_world_turns.specs.Places.{Grows, IsUnder, key_cmp, under};
+ghost use Rattle.fr_world_turns.specs.Places.{Grows, IsAmong, IsUnder, Keeps, found_at, key_cmp, under};
 
 use fr_base::Memory;
 use std::alloc::Global;
 use std::collections::BTreeMap;
+use std::slice::from_ref;
 
-/// Two nodes as three numbers each, and what the one asked or told the other as five.
-pub(crate) type Key = [u64; 11];
+/// What one node asked or told another, and the two nodes, each as one number.
+pub(crate) type Key = (u64, u64, u64);
 
 /// The places of each key.
-pub(crate) type Places = BTreeMap<Key, Vec<usize>>;
+pub(crate) type Places = BTreeMap<Key, Found>;
+
+/// The places of a key, of which nearly all have one: that takes no memory of its own.
+#[derive(Drop)]
+pub(crate) enum Found {
+    One(usize),
+    Several(Box<Vec<usize>>),
+}
 
 /// The places under a key.
 pub(crate) fn under<'a>(places: &'a Places, key: &Key) -> &'a [usize]
     ensures { result.now ≡ under places.now key.now }
 {
     match places.get(key) {
-        Some(places) => places.as_slice(),
+        Some(Found::One(place)) => from_ref(place),
+        Some(Found::Several(places)) => places.as_slice(),
         None => &[],
     }
 }
@@ -28,33 +37,37 @@ pub(crate) fn add(alloc: Global, places: &mut Places, key: &Key, place: usize) -
     ensures grows { Grows places.old places.new }
     ensures there { OnOk result (IsUnder places.new key.now place) }
 {
-    if places.get(key).is_some() {
-        add_more(places, key, place)
-    } else {
-        add_first(alloc, places, key, place)
-    }
-}
-
-/// Enters a place under a key that has places.
-fn add_more(places: &mut Places, key: &Key, place: usize) -> Result<(), Memory>
-    requires { IsSome (tree.get key_cmp places.old key.now) }
-    ensures grows { Grows places.old places.new }
-    ensures there { OnOk result (IsUnder places.new key.now place) }
-{
     match places.get_mut(key) {
-        Some(places) => Ok(places.push(place)?),
-        None => unreachable!(),
+        Some(found) => found.add(alloc, place),
+        None => add_first(places, key, place),
     }
 }
 
 /// Enters a place under a key that has none.
-fn add_first(alloc: Global, places: &mut Places, key: &Key, place: usize) -> Result<(), Memory>
+fn add_first(places: &mut Places, key: &Key, place: usize) -> Result<(), Memory>
     requires { tree.get key_cmp places.old key.now ≡ None }
     ensures grows { Grows places.old places.new }
     ensures there { OnOk result (IsUnder places.new key.now place) }
 {
-    let mut first = Vec::new(alloc);
-    first.push(place)?;
-    places.insert(*key, first)?;
+    places.insert(*key, Found::One(place))?;
     Ok(())
+}
+
+impl Found {
+    /// Adds a place. Those that are there stay, also where there is no memory.
+    fn add(&mut self, alloc: Global, place: usize) -> Result<(), Memory>
+        ensures keeps { Keeps (found_at self.old) (found_at self.new) }
+        ensures there { OnOk result (IsAmong place (found_at self.new)) }
+    {
+        match self {
+            Found::One(first) => {
+                let mut both = Vec::with_capacity(alloc, 2)?;
+                both.push(*first)?;
+                both.push(place)?;
+                *self = Found::Several(Box::new(alloc, both)?);
+                Ok(())
+            }
+            Found::Several(places) => Ok(places.push(place)?),
+        }
+    }
 }
