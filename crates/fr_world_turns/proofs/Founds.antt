@@ -180,6 +180,10 @@ sent_more turns m later from asks i s has before grows own to a e = elim (last_s
       subst (λ x. some_under turns later (gives from to x) (ask_key from to x) ≡ true) b (subst (λ x. some_under turns later (gives from x s.1) (ask_key from x s.1) ≡ true) n own))
 ]
 
+-- a turn under the key of an ask that it gave
+pub ask_entered : (turns : List Turn) (m : Places) (place : ℕ) (from to : NodeId) (a : Ask) (key : Key) → at_place turns (gives from to a) place ≡ true → key ≡ ask_key from to a → IsUnder m key place → some_under turns m (gives from to a) (ask_key from to a) ≡ true
+ask_entered turns m place from to a key gave is there = subst (λ k. some_under turns m (gives from to a) k ≡ true) is (there (at_place turns (gives from to a)) gave)
+
 -- all asks of a turn
 pub asks_entered : (turns : List Turn) (m : Places) (t : history.Turn) → SentAreFound turns m (actor_of t) (asks_of t) → AsksAreFound turns m t
 asks_entered turns m t all from to a e =

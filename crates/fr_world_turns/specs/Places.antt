@@ -37,7 +37,7 @@ Keeps places later = (f : ℕ → Bool) → list_any f places ≡ true → list_
 
 -- what a test finds under a key it finds there later
 abbrev pub Grows : Places → Places → Type 0
-Grows m n = (k : Key) → Keeps (under m k) (under n k)
+Grows m n = (k : Key) (f : ℕ → Bool) → list_any f (under m k) ≡ true → list_any f (under n k) ≡ true
 
 -- a place is among some
 abbrev pub IsAmong : ℕ → List ℕ → Type 0
@@ -45,7 +45,7 @@ IsAmong place places = (f : ℕ → Bool) → f place ≡ true → list_any f pl
 
 -- a place stands under a key
 abbrev pub IsUnder : Places → Key → ℕ → Type 0
-IsUnder m k place = IsAmong place (under m k)
+IsUnder m k place = (f : ℕ → Bool) → f place ≡ true → list_any f (under m k) ≡ true
 
 abbrev pub passes : {X : Type 0} → (X → Bool) → Option X → Bool
 passes p None = false
