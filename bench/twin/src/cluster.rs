@@ -55,11 +55,8 @@ impl Options {
                 return Err(Fault::BadWords);
             }
             seen.push(name);
-            if name == "--journal" {
-                options.journal = joined.is_none();
-                if joined.is_some() {
-                    return Err(Fault::BadWords);
-                }
+            if *word == "--journal" {
+                options.journal = true;
                 continue;
             }
             let value = joined.or_else(|| words.next().copied()).ok_or(Fault::BadWords)?;
@@ -174,7 +171,8 @@ pub fn run(options: &Options, config: &Config) -> Result<Vec<Journal>, Fault> {
     Ok(journals)
 }
 
-/// Runs a cluster and audits it. The line of the audit, or the script where that is wanted and the audit finds no fault.
+/// Runs a cluster and audits it: the line of the audit, or the script where that is wanted and the audit finds no
+/// fault.
 pub fn print(options: &Options, output: &mut impl Write) -> Result<u8, Fault> {
     let config = options.config();
     let journals = run(options, &config)?;

@@ -92,8 +92,8 @@ fn seen_in(journals: &[Journal]) -> Seen {
     seen
 }
 
-/// Runs a cluster of 4 logs and 2 storage servers. What holds of every run of it: the journals are a run, proxies took the
-/// numbered batches in order, and a storage server that came through a version has what was committed at it.
+/// Runs a cluster of 4 logs and 2 storage servers. What holds of every run of it: the journals are a run, proxies took
+/// the numbered batches in order, and a storage server that came through a version has what was committed at it.
 fn ran(options: &Options) -> Seen {
     let journals = run(options, &options.config()).expect("there are threads");
     let seen = seen_in(&journals);

@@ -1,5 +1,5 @@
-//! `twin apply|end|simulate|audit < script` and `twin cluster`: what these commands of `fdbrec` do, as plain Rust without
-//! proofs, written from the rules in docs/.
+//! `twin apply|end|simulate|audit < script` and `twin cluster`: what these commands of `fdbrec` do, as plain Rust
+//! without proofs, written from the rules in docs/.
 
 mod audit;
 mod batch;
@@ -53,7 +53,7 @@ impl fmt::Display for Fault {
     fn fmt(&self, f: &mut fmt::Formatter) -> fmt::Result {
         f.write_str(match self {
             Fault::BadWords => {
-                "usage: twin apply [--store map]|end --logs M --degree K|simulate|audit < SCRIPT, or twin cluster [WORDS]"
+                "usage: twin apply [--store map]|end --logs M --degree K|simulate|audit < SCRIPT|cluster [WORDS]"
             }
             Fault::NotHere(word) => return write!(f, "the twin has no {word}"),
             Fault::BadScript => "bad script",

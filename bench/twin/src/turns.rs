@@ -43,8 +43,8 @@ fn heard(from: NodeId, tell: Tell, outcome: Option<Outcome>) -> Act {
 
 // ---- workloads
 
-/// Batches of one set each: batch j sets the key of two bytes, 8 (j mod the number of shards) and the workload's number,
-/// to j as four bytes.
+/// Batches of one set each: batch j sets the key of two bytes, 8 (j mod the number of shards) and the workload's
+/// number, to j as four bytes.
 pub struct Workload {
     number: u8,
     shards: u8,
@@ -107,8 +107,8 @@ impl Hearer for Door {
     }
 }
 
-/// The turns of a workload: its batches go to the proxy of its number in the epoch where it last was and, once that takes
-/// no more, in the newest one. The journals of these proxies.
+/// The turns of a workload: its batches go to the proxy of its number in the epoch where it last was and, once that
+/// takes no more, in the newest one. The journals of these proxies.
 pub fn serve(site: Site, mut work: Workload) -> Vec<Journal> {
     let mut door = Door::new(site, site.config.first_generation(), work.number, FIRST_STAMP);
     let mut earlier = Vec::new();
@@ -182,8 +182,8 @@ fn log_at(generation: &Generation, turn: u32) -> NodeId {
     NodeId::Log(LogId { epoch: generation.epoch, index: (turn % u32::from(generation.m)) as u8 })
 }
 
-/// The turns of a storage server, at each of which it pulls from a holder of its tag, asks a log of the newest epoch for
-/// its mark, and has a holder of its own epoch let go of what it has for good.
+/// The turns of a storage server, at each of which it pulls from a holder of its tag, asks a log of the newest epoch
+/// for its mark, and has a holder of its own epoch let go of what it has for good.
 pub fn pull(site: Site, storage: Storage) -> Journal {
     let tag = storage.tag;
     let mut puller = Puller { storage, notes: Notes::new(NodeId::Storage(tag), FIRST_STAMP) };
