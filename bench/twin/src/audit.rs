@@ -2,6 +2,7 @@
 
 use crate::batch::Batch;
 use crate::cell::Cell;
+use crate::folding::Folding;
 use crate::forms::{object, variants, Ballot, Count, Empty, Epoch, Stamp, Step, Version};
 use crate::log::Log;
 use crate::messages::{Ask, CellValue, LogAsk, NodeId, PoppedForm, Tell};
@@ -186,9 +187,9 @@ impl fmt::Display for AuditFault {
 struct Audit {
     world: World,
     /// From whom, to whom, what.
-    sent: HashSet<(NodeId, NodeId, Ask)>,
+    sent: HashSet<(NodeId, NodeId, Ask), Folding>,
     /// By whom it may be heard, from whom, what.
-    told: HashSet<(NodeId, NodeId, Tell)>,
+    told: HashSet<(NodeId, NodeId, Tell), Folding>,
 }
 
 /// Why an entry is refused.
@@ -204,7 +205,7 @@ impl From<NotEnabled> for Refused {
 }
 
 pub fn audit(config: Config, mut journals: Vec<Journal>) -> Result<(), AuditFault> {
-    let mut audit = Audit { world: World::start(config), sent: HashSet::new(), told: HashSet::new() };
+    let mut audit = Audit { world: World::start(config), sent: HashSet::default(), told: HashSet::default() };
     let mut order = Vec::with_capacity(journals.iter().map(|journal| journal.entries.len()).sum());
     for (number, journal) in journals.iter().enumerate() {
         order.extend(journal.entries.iter().enumerate().map(|(at, entry)| (entry.stamp, journal.node, number, at)));

@@ -6,6 +6,7 @@ mod batch;
 mod cell;
 mod cluster;
 mod end;
+mod folding;
 mod forms;
 mod journal;
 mod lines;
