@@ -194,13 +194,15 @@ impl Directory {
         station.call(seen.max(there), from, ask)
     }
 
-    /// The journals of the nodes that came.
+    /// The journals of the nodes of the start, and of those later ones in which something was entered.
     pub fn close(self) -> Vec<Journal> {
-        let logs_and_sequencer = |nodes: EpochNodes| {
+        let mut journals: Vec<Journal> = self.cells.into_iter().map(Station::close).collect();
+        for nodes in self.epochs {
             let logs = nodes.logs.into_inner().into_iter().flat_map(|logs| logs.stations);
-            logs.chain(nodes.opened.into_inner().map(|opened| opened.sequencer))
-        };
-        let later = self.epochs.into_iter().flat_map(logs_and_sequencer);
-        self.cells.into_iter().chain(later).map(Station::close).collect()
+            let sequencer = nodes.opened.into_inner().map(|opened| opened.sequencer);
+            let closed = logs.chain(sequencer).map(Station::close);
+            journals.extend(closed.filter(|it| nodes.epoch == FIRST_EPOCH || !it.entries.is_empty()));
+        }
+        journals
     }
 }
