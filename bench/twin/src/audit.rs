@@ -1,15 +1,20 @@
 //! `audit`: whether the journals of all nodes are a run.
 
 use crate::batch::Batch;
+use crate::cell::Cell;
+use crate::folding::Folding;
 use crate::forms::{object, variants, Ballot, Count, Empty, Epoch, Stamp, Step, Version};
+use crate::log::Log;
 use crate::messages::{Ask, CellValue, LogAsk, NodeId, PoppedForm, Tell};
-use crate::proxy::Outcome;
+use crate::proxy::{Outcome, Proxy, Sequencer};
+use crate::recoverer::Recoverer;
 use crate::script::Bytes;
 use crate::state::Shape;
+use crate::storage::Storage;
 use crate::world::{Config, ConfigForm, Heard, NotEnabled, World};
 use std::collections::HashSet;
 use std::fmt;
-use std::rc::Rc;
+use std::sync::Arc;
 
 object! { Script { config: ConfigForm as ConfigForm, journals: Vec<Journal> as Vec<Journal> } }
 
@@ -29,7 +34,7 @@ object! {
     }
 }
 object! { BegunForm {} maybe { logs: u8 as Count, degree: u8 as Count } }
-object! { Submitted { batch: Rc<Batch> as Rc<Batch>, step: u64 as Step } }
+object! { Submitted { batch: Arc<Batch> as Arc<Batch>, step: u64 as Step } }
 
 /// What a node did, one turn of it. It is taken out when its turn comes.
 pub enum Act {
@@ -73,7 +78,7 @@ pub enum Last {
     Storage(StorageLast),
 }
 
-object! { CellLast { promised: u64 as Ballot, value: Rc<[u8]> as CellValue, written: u64 as Ballot } }
+object! { CellLast { promised: u64 as Ballot, value: Arc<[u8]> as CellValue, written: u64 as Ballot } }
 object! {
     LogLast {
         durable: u64 as Version,
@@ -104,6 +109,41 @@ variants! {
         "proxy": ProxyLast => |it| Some(Last::Proxy(it)),
         "recoverer": RecovererLast => |it| Some(Last::Recoverer(it)),
         "storage": StorageLast => |it| Some(Last::Storage(it)),
+    }
+}
+
+impl Last {
+    pub fn of_cell(it: &Cell) -> Self {
+        Last::Cell(CellLast { promised: it.promised, value: it.value.clone(), written: it.written })
+    }
+
+    pub fn of_log(it: &Log) -> Self {
+        let popped: Vec<(u8, u64)> = it.popped.iter().map(|(tag, version)| (*tag, *version)).collect();
+        Last::Log(LogLast {
+            durable: it.durable,
+            known: it.known,
+            seeded: it.is_seeded(),
+            stopped: it.stopped,
+            popped: (!popped.is_empty()).then_some(popped),
+        })
+    }
+
+    pub fn of_sequencer(it: &Sequencer) -> Self {
+        Last::Sequencer(SequencerLast { last: it.last })
+    }
+
+    pub fn of_proxy(it: &Proxy) -> Self {
+        Last::Proxy(ProxyLast { known: it.known })
+    }
+
+    pub fn of_recoverer(it: &Recoverer) -> Self {
+        Last::Recoverer(RecovererLast { phase: it.phase.to_string() })
+    }
+
+    pub fn of_storage(it: &Storage) -> Self {
+        let rows = it.store.values().map(|(key, value)| (Bytes(key.to_vec()), Bytes(value.to_vec()))).collect();
+        let (epoch, version, floor) = (it.epoch(), it.store.applied(), it.store.floor());
+        Last::Storage(StorageLast { epoch, floor, rows, version })
     }
 }
 
@@ -147,9 +187,9 @@ impl fmt::Display for AuditFault {
 struct Audit {
     world: World,
     /// From whom, to whom, what.
-    sent: HashSet<(NodeId, NodeId, Ask)>,
+    sent: HashSet<(NodeId, NodeId, Ask), Folding>,
     /// By whom it may be heard, from whom, what.
-    told: HashSet<(NodeId, NodeId, Tell)>,
+    told: HashSet<(NodeId, NodeId, Tell), Folding>,
 }
 
 /// Why an entry is refused.
@@ -165,7 +205,7 @@ impl From<NotEnabled> for Refused {
 }
 
 pub fn audit(config: Config, mut journals: Vec<Journal>) -> Result<(), AuditFault> {
-    let mut audit = Audit { world: World::start(config), sent: HashSet::new(), told: HashSet::new() };
+    let mut audit = Audit { world: World::start(config), sent: HashSet::default(), told: HashSet::default() };
     let mut order = Vec::with_capacity(journals.iter().map(|journal| journal.entries.len()).sum());
     for (number, journal) in journals.iter().enumerate() {
         order.extend(journal.entries.iter().enumerate().map(|(at, entry)| (entry.stamp, journal.node, number, at)));

@@ -2,7 +2,7 @@
 
 use std::cmp::Ordering;
 use std::hash::{Hash, Hasher};
-use std::rc::Rc;
+use std::sync::Arc;
 
 const MOST_MUTATIONS: usize = 1_000;
 const LONGEST_KEY: usize = 10_000;
@@ -112,7 +112,7 @@ impl Shards {
     }
 
     /// What each shard has of a batch, by rising tags; one that has nothing is left out.
-    pub fn bodies_of(&self, batch: &Rc<Batch>) -> Vec<(u8, Rc<Batch>)> {
+    pub fn bodies_of(&self, batch: &Arc<Batch>) -> Vec<(u8, Arc<Batch>)> {
         if self.0.len() == 1 && !batch.mutations().iter().any(Mutation::is_empty) {
             let body = (0, batch.clone());
             return if batch.mutations().is_empty() { Vec::new() } else { vec![body] };
@@ -137,7 +137,7 @@ impl Shards {
             }
         }
         let bodies = bodies.into_iter().zip(0..).filter(|(body, _)| !body.is_empty());
-        bodies.map(|(body, tag)| (tag, Rc::new(Batch(body.into_boxed_slice())))).collect()
+        bodies.map(|(body, tag)| (tag, Arc::new(Batch(body.into_boxed_slice())))).collect()
     }
 }
 

@@ -1,16 +1,22 @@
 //! Coordinators: a cell, and what is made of the answers of several.
 
 use crate::messages::{CellAsk, CellTell};
-use std::rc::Rc;
+use crate::state::State;
+use std::sync::Arc;
 
 #[derive(Clone)]
 pub struct Cell {
     pub promised: u64,
     pub written: u64,
-    pub value: Rc<[u8]>,
+    pub value: Arc<[u8]>,
 }
 
 impl Cell {
+    /// A cell of the start, to which the first state was written.
+    pub fn started(ballot: u64, state: &State) -> Self {
+        Cell { promised: ballot, written: ballot, value: state.encode().into() }
+    }
+
     pub fn ask(&mut self, ask: &CellAsk) -> CellTell {
         let (CellAsk::Read { ballot } | CellAsk::Write { ballot, .. }) = *ask;
         if ballot < self.promised {
@@ -40,7 +46,7 @@ pub struct Tally {
     heard: Vec<bool>,
     agreed: usize,
     /// Of the promises, the greatest ballot written with its value; of equal ones the first.
-    greatest: Option<(u64, Rc<[u8]>)>,
+    greatest: Option<(u64, Arc<[u8]>)>,
     pub progress: Progress,
 }
 

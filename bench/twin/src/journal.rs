@@ -1,65 +1,113 @@
-//! The journals of a simulation, as a script of `audit`: `twin simulate --journal`, in place of its lines.
+//! Journals: what each node did and where it stood at last, and the script of `audit` that says so, which
+//! `twin simulate --journal` and `twin cluster --journal` print.
 
+use crate::audit::{Act, Asked, Entry, HeardForm, Journal, Last, Submitted};
 use crate::batch::{Batch, Combine, Mutation};
 use crate::messages::{Ask, CellAsk, CellTell, LogAsk, LogRefusal, LogTell, NodeId, SequencerTell, Tell};
 use crate::proxy::Outcome;
+use crate::script::Bytes;
 use crate::state::{Shape, State};
 use crate::world::{Heard, World};
 use serde_json::{json, Value};
 use std::collections::BTreeMap;
+use std::io::{self, Write};
+use std::sync::Arc;
 
-/// What each node did, by stamps that count all turns.
+/// What the nodes of a simulation did, by stamps that count all turns.
 #[derive(Default)]
 pub struct Journals {
     stamp: u64,
-    entries: BTreeMap<NodeId, Vec<Value>>,
+    entries: BTreeMap<NodeId, Vec<Entry>>,
 }
 
 impl Journals {
-    fn enter(&mut self, node: NodeId, act: Value) {
+    fn enter(&mut self, node: NodeId, act: Act) {
         self.stamp += 1;
-        self.entries.entry(node).or_default().push(json!({"act": act, "stamp": self.stamp}));
+        self.entries.entry(node).or_default().push(Entry { act, stamp: self.stamp });
     }
 
     pub fn asked(&mut self, node: NodeId, from: NodeId, ask: &Ask, tell: &Tell) {
-        let asked = json!({"ask": ask_of(ask), "from": node_of(from), "tell": tell_of(tell)});
-        self.enter(node, json!({ "asked": asked }));
+        self.enter(node, Act::Asked(Asked { ask: ask.clone(), from, tell: tell.clone() }));
     }
 
     pub fn heard(&mut self, node: NodeId, from: NodeId, tell: &Tell, heard: &Heard) {
         let outcome = match heard {
-            Heard::Proxy(Outcome::Waiting, _) => json!({"waiting": {}}),
-            Heard::Proxy(Outcome::Committed(version), _) => json!({"committed": {"version": version}}),
-            Heard::Proxy(Outcome::Ended, _) => json!({"ended": {}}),
-            Heard::Recoverer(_) | Heard::Storage(_) => Value::Null,
+            Heard::Proxy(outcome, _) => Some(*outcome),
+            Heard::Recoverer(_) | Heard::Storage(_) => None,
         };
-        let heard = json!({"from": node_of(from), "outcome": outcome, "taken": null, "tell": tell_of(tell)});
-        self.enter(node, json!({ "heard": heard }));
+        self.enter(node, Act::Heard(HeardForm { from, outcome, taken: None, tell: tell.clone() }));
     }
 
-    pub fn submitted(&mut self, node: NodeId, step: u64, batch: &Batch) {
-        self.enter(node, json!({"submitted": {"batch": batch_of(batch), "step": step}}));
+    pub fn submitted(&mut self, node: NodeId, step: u64, batch: &Arc<Batch>) {
+        self.enter(node, Act::Submitted(Submitted { batch: batch.clone(), step }));
     }
 
     pub fn begun(&mut self, node: NodeId, shape: Option<Shape>) {
-        let begun = shape.map_or(json!({}), |shape| json!({"degree": shape.k, "logs": shape.m}));
-        self.enter(node, json!({ "begun": begun }));
+        self.enter(node, Act::Begun(shape));
     }
 
     pub fn lost(&mut self, node: NodeId) {
-        self.enter(node, json!({"lost": {}}));
+        self.enter(node, Act::Lost);
     }
 
-    /// The script: a journal for each node that did something, and for each storage server.
-    pub fn script(mut self, config: Value, world: &World) -> Value {
+    /// A journal for each node that did something, and for each storage server.
+    pub fn close(mut self, world: &World) -> Vec<Journal> {
         for storage in world.storages() {
             self.entries.entry(NodeId::Storage(storage.tag)).or_default();
         }
-        let journal = |(node, entries): (NodeId, Vec<Value>)| {
-            json!({"entries": entries, "last": last_of(world, node), "node": node_of(node)})
-        };
-        let journals: Vec<Value> = self.entries.into_iter().map(journal).collect();
-        json!({"config": config, "journals": journals})
+        let close = |(node, entries)| Journal { entries, last: last_of(world, node), node };
+        self.entries.into_iter().map(close).collect()
+    }
+}
+
+/// Where a node of a world stands.
+fn last_of(world: &World, node: NodeId) -> Option<Last> {
+    match node {
+        NodeId::Cell(index) => world.cell(index).map(Last::of_cell),
+        NodeId::Log(id) => world.log(id).map(Last::of_log),
+        NodeId::Sequencer(epoch) => world.sequencer(epoch).map(Last::of_sequencer),
+        NodeId::Proxy(epoch, number) => world.proxy(epoch, number).map(Last::of_proxy),
+        NodeId::Recoverer(ballot) => world.recoverer(ballot).map(Last::of_recoverer),
+        NodeId::Storage(tag) => world.storage(tag).map(Last::of_storage),
+    }
+}
+
+/// Writes a script, on one line, of which one entry at a time is a tree of values.
+pub fn write_script(config: &Value, journals: &[Journal], output: &mut impl Write) -> io::Result<()> {
+    write!(output, "{{\"config\":{config},\"journals\":[")?;
+    for (number, journal) in journals.iter().enumerate() {
+        write!(output, "{}{{\"entries\":[", if number == 0 { "" } else { "," })?;
+        for (number, entry) in journal.entries.iter().enumerate() {
+            let before = if number == 0 { "" } else { "," };
+            write!(output, "{before}{}", json!({"act": act_of(&entry.act), "stamp": entry.stamp}))?;
+        }
+        let last = journal.last.as_ref().map_or(Value::Null, value_of_last);
+        write!(output, "],\"last\":{last},\"node\":{}}}", node_of(journal.node))?;
+    }
+    writeln!(output, "]}}")
+}
+
+fn act_of(act: &Act) -> Value {
+    match act {
+        Act::Asked(it) => {
+            json!({"asked": {"ask": ask_of(&it.ask), "from": node_of(it.from), "tell": tell_of(&it.tell)}})
+        }
+        Act::Heard(it) => {
+            let outcome = it.outcome.as_ref().map_or(Value::Null, |outcome| match outcome {
+                Outcome::Waiting => json!({"waiting": {}}),
+                Outcome::Committed(version) => json!({"committed": {"version": version}}),
+                Outcome::Ended => json!({"ended": {}}),
+            });
+            let taken = it.taken.as_ref().map(|version| version.0);
+            let tell = tell_of(&it.tell);
+            json!({"heard": {"from": node_of(it.from), "outcome": outcome, "taken": taken, "tell": tell}})
+        }
+        Act::Submitted(it) => json!({"submitted": {"batch": batch_of(&it.batch), "step": it.step}}),
+        Act::Begun(Some(shape)) => json!({"begun": {"degree": shape.k, "logs": shape.m}}),
+        Act::Begun(None) => json!({"begun": {}}),
+        Act::Crashed => json!({"crashed": {}}),
+        Act::Lost => json!({"lost": {}}),
+        Act::Taken => unreachable!("an audit alone takes acts out"),
     }
 }
 
@@ -200,28 +248,23 @@ fn batch_of(batch: &Batch) -> Value {
     batch.mutations().iter().map(mutation).collect()
 }
 
-fn last_of(world: &World, node: NodeId) -> Value {
-    let last = match node {
-        NodeId::Cell(index) => world.cell(index).map(|cell| {
-            json!({"cell": {"promised": cell.promised, "value": hex::encode(&cell.value), "written": cell.written}})
-        }),
-        NodeId::Log(id) => world.log(id).map(|log| {
-            let (durable, known, seeded, stopped) = (log.durable, log.known, log.is_seeded(), log.stopped);
-            let popped: Vec<(u8, u64)> = log.popped.iter().map(|(tag, version)| (*tag, *version)).collect();
-            let last = json!({"durable": durable, "known": known, "seeded": seeded, "stopped": stopped});
-            json!({"log": with_popped(last, &popped)})
-        }),
-        NodeId::Sequencer(epoch) => world.sequencer(epoch).map(|it| json!({"sequencer": {"last": it.last}})),
-        NodeId::Proxy(epoch, number) => world.proxy(epoch, number).map(|it| json!({"proxy": {"known": it.known}})),
-        NodeId::Recoverer(ballot) => {
-            world.recoverer(ballot).map(|it| json!({"recoverer": {"phase": it.phase.to_string()}}))
+fn value_of_last(last: &Last) -> Value {
+    match last {
+        Last::Cell(it) => {
+            json!({"cell": {"promised": it.promised, "value": hex::encode(&it.value), "written": it.written}})
         }
-        NodeId::Storage(tag) => world.storage(tag).map(|it| {
-            let rows: Vec<Value> =
-                it.store.values().map(|(key, value)| json!([hex::encode(key), hex::encode(value)])).collect();
-            let (epoch, version, floor) = (it.epoch(), it.store.applied(), it.store.floor());
-            json!({"storage": {"epoch": epoch, "floor": floor, "rows": rows, "version": version}})
-        }),
-    };
-    last.unwrap_or(Value::Null)
+        Last::Log(it) => {
+            let (durable, known, seeded, stopped) = (it.durable, it.known, it.seeded, it.stopped);
+            let last = json!({"durable": durable, "known": known, "seeded": seeded, "stopped": stopped});
+            json!({"log": with_popped(last, it.popped.as_deref().unwrap_or_default())})
+        }
+        Last::Sequencer(it) => json!({"sequencer": {"last": it.last}}),
+        Last::Proxy(it) => json!({"proxy": {"known": it.known}}),
+        Last::Recoverer(it) => json!({"recoverer": {"phase": it.phase}}),
+        Last::Storage(it) => {
+            let row = |(key, value): &(Bytes, Bytes)| json!([hex::encode(&key.0), hex::encode(&value.0)]);
+            let rows: Vec<Value> = it.rows.iter().map(row).collect();
+            json!({"storage": {"epoch": it.epoch, "floor": it.floor, "rows": rows, "version": it.version}})
+        }
+    }
 }

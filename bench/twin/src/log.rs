@@ -2,17 +2,17 @@
 
 use crate::batch::Batch;
 use crate::messages::{LogAsk, LogId, LogRefusal, LogTell, Peek, Peeked, Pop, Push, Record, Seed, SeedRecord};
-use crate::state::Generation;
+use crate::state::{Generation, State};
 use std::collections::BTreeMap;
-use std::rc::Rc;
+use std::sync::Arc;
 
 /// A log holds pushes in one chain, the first of which is the mark of its generation.
 pub struct Log {
     id: LogId,
     m: u8,
     k: u8,
-    seed: Option<Rc<Seed>>,
-    pushes: Vec<Rc<Push>>,
+    seed: Option<Arc<Seed>>,
+    pushes: Vec<Arc<Push>>,
     /// What a tag has, the records of the seed and those of the pushes, in rising versions, but for those popped.
     records: BTreeMap<u8, Vec<Record>>,
     /// Through which version a tag was popped.
@@ -23,9 +23,20 @@ pub struct Log {
 }
 
 impl Log {
-    pub fn new(id: LogId, m: u8, k: u8) -> Self {
+    /// The log of a number in a generation.
+    pub fn new(generation: &Generation, index: u8) -> Self {
+        let (id, m, k) = (LogId { epoch: generation.epoch, index }, generation.m, generation.k);
         let (pushes, records, popped) = (Vec::new(), BTreeMap::new(), BTreeMap::new());
         Log { id, m, k, seed: None, pushes, records, popped, durable: 0, known: 0, stopped: false }
+    }
+
+    /// A log of the first generation, seeded with nothing, with its mark at version 1.
+    pub fn started(generation: &Generation, index: u8, state: &Arc<State>) -> Self {
+        let (epoch, bodies, mark) = (generation.epoch, Vec::new(), Some(state.clone()));
+        let mut log = Log::new(generation, index);
+        log.ask(&LogAsk::Seed { epoch, seed: Arc::new(Seed { first: 1, seeded_to: 0, records: Vec::new() }) });
+        log.ask(&LogAsk::Push(Arc::new(Push { epoch, prev: 0, version: 1, known: 0, bodies, mark })));
+        log
     }
 
     pub fn is_seeded(&self) -> bool {
@@ -65,7 +76,7 @@ impl Log {
         .unwrap_or_else(LogTell::Refused)
     }
 
-    fn take_seed(&mut self, seed: &Rc<Seed>) -> Result<LogTell, LogRefusal> {
+    fn take_seed(&mut self, seed: &Arc<Seed>) -> Result<LogTell, LogRefusal> {
         if !seed.records.iter().all(|record| self.holds(record.tag)) {
             return Err(LogRefusal::NotMine);
         }
@@ -85,7 +96,7 @@ impl Log {
         Ok(LogTell::Seeded)
     }
 
-    fn take_push(&mut self, push: &Rc<Push>) -> Result<LogTell, LogRefusal> {
+    fn take_push(&mut self, push: &Arc<Push>) -> Result<LogTell, LogRefusal> {
         let held = LogTell::Held { version: push.version };
         let seeded_to = self.seed.as_ref().map_or(0, |seed| seed.seeded_to);
         if let Ok(place) = self.pushes.binary_search_by_key(&push.version, |held| held.version) {
@@ -120,7 +131,7 @@ impl Log {
 
     /// Whether it is the same push, what was known and what is popped aside.
     fn is_again(&self, push: &Push, held: &Push) -> bool {
-        let is_left = |body: &&(u8, Rc<Batch>)| self.popped_of(body.0) < push.version;
+        let is_left = |body: &&(u8, Arc<Batch>)| self.popped_of(body.0) < push.version;
         (push.prev, push.version) == (held.prev, held.version)
             && push.mark == held.mark
             && push.bodies.iter().filter(is_left).eq(held.bodies.iter().filter(is_left))
@@ -163,7 +174,7 @@ impl Log {
             _ => self.durable,
         };
         let (after, known, records, tag) = (peek.after, self.known, given.to_vec(), peek.tag);
-        Ok(LogTell::Peeked(Rc::new(Peeked { after, known, records, tag, upto })))
+        Ok(LogTell::Peeked(Arc::new(Peeked { after, known, records, tag, upto })))
     }
 
     fn mark(&self) -> Result<LogTell, LogRefusal> {

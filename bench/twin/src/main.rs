@@ -1,10 +1,12 @@
-//! `twin apply|end|simulate|audit < script`: what these commands of `fdbrec` do, as plain Rust without proofs,
-//! written from the rules in docs/.
+//! `twin apply|end|simulate|audit < script` and `twin cluster`: what these commands of `fdbrec` do, as plain Rust
+//! without proofs, written from the rules in docs/.
 
 mod audit;
 mod batch;
 mod cell;
+mod cluster;
 mod end;
+mod folding;
 mod forms;
 mod journal;
 mod lines;
@@ -15,10 +17,14 @@ mod recoverer;
 mod script;
 mod simulate;
 mod state;
+mod station;
 mod storage;
 mod store;
+mod turns;
 mod world;
 
+#[cfg(test)]
+mod cluster_tests;
 #[cfg(test)]
 mod example_tests;
 #[cfg(test)]
@@ -29,12 +35,17 @@ use std::ffi::OsString;
 use std::fmt;
 use std::io::{self, BufWriter, Read, Write};
 use std::process::ExitCode;
+use std::str::FromStr;
 
 /// Why a run was broken off.
 #[derive(Debug, PartialEq)]
 enum Fault {
     BadWords,
+    /// A word of `fdbrec` that the twin does not know.
+    NotHere(&'static str),
     BadScript,
+    /// A thread could not be made.
+    Threads,
     Input,
     Output,
 }
@@ -42,8 +53,12 @@ enum Fault {
 impl fmt::Display for Fault {
     fn fmt(&self, f: &mut fmt::Formatter) -> fmt::Result {
         f.write_str(match self {
-            Fault::BadWords => "usage: twin apply [--store map]|end --logs M --degree K|simulate|audit < SCRIPT",
+            Fault::BadWords => {
+                "usage: twin apply [--store map]|end --logs M --degree K|simulate|audit < SCRIPT|cluster [WORDS]"
+            }
+            Fault::NotHere(word) => return write!(f, "the twin has no {word}"),
             Fault::BadScript => "bad script",
+            Fault::Threads => "a thread could not be made",
             Fault::Input => "input failed",
             Fault::Output => "output failed",
         })
@@ -53,7 +68,8 @@ impl fmt::Display for Fault {
 impl Fault {
     fn status(&self) -> u8 {
         match self {
-            Fault::BadWords | Fault::BadScript => 2,
+            Fault::BadWords | Fault::NotHere(_) | Fault::BadScript => 2,
+            Fault::Threads => 3,
             Fault::Input | Fault::Output => 4,
         }
     }
@@ -79,30 +95,42 @@ enum Command {
     /// The script of an audit of what `simulate` would do; a word of the twin alone.
     Journal,
     Audit,
+    Cluster(cluster::Options),
 }
 
-fn command_of(words: &[OsString]) -> Option<Command> {
-    let words: Vec<&str> = words.iter().map(|word| word.to_str()).collect::<Option<_>>()?;
+fn command_of(words: &[OsString]) -> Result<Command, Fault> {
+    let words: Option<Vec<&str>> = words.iter().map(|word| word.to_str()).collect();
+    let words = words.ok_or(Fault::BadWords)?;
     match words[..] {
-        ["apply"] | ["apply", "--store", "map"] | ["apply", "--store=map"] => Some(Command::Apply),
-        ["simulate"] => Some(Command::Simulate),
-        ["simulate", "--journal"] => Some(Command::Journal),
-        ["audit"] => Some(Command::Audit),
+        ["apply"] | ["apply", "--store", "map"] | ["apply", "--store=map"] => Ok(Command::Apply),
+        ["simulate"] => Ok(Command::Simulate),
+        ["simulate", "--journal"] => Ok(Command::Journal),
+        ["audit"] => Ok(Command::Audit),
         ["end", "--logs", logs, "--degree", degree] | ["end", "--degree", degree, "--logs", logs] => {
-            let (logs, degree) = (logs.parse().ok()?, degree.parse().ok()?);
-            (1 <= degree && degree <= logs && logs <= 16).then_some(Command::End(end::Options { logs, degree }))
+            let (logs, degree) = (number(logs)?, number(degree)?);
+            let is_within = 1 <= degree && degree <= logs && logs <= 16;
+            is_within.then_some(Command::End(end::Options { logs, degree })).ok_or(Fault::BadWords)
         }
-        _ => None,
+        ["cluster", ref rest @ ..] => cluster::Options::of_words(rest).map(Command::Cluster),
+        _ => Err(Fault::BadWords),
     }
 }
 
-/// Reads the whole script before the first line is written, as a bad one prints no line.
+/// The number that a word is.
+fn number<T: FromStr>(word: &str) -> Result<T, Fault> {
+    word.parse().map_err(|_| Fault::BadWords)
+}
+
+/// Reads the whole script before the first line is written, as a bad one prints no line. A cluster reads nothing.
 fn run(words: &[OsString], mut input: impl Read, output: impl Write) -> Result<u8, Fault> {
-    let command = command_of(words).ok_or(Fault::BadWords)?;
+    let command = command_of(words)?;
     let mut text = Vec::new();
-    input.read_to_end(&mut text).map_err(|_| Fault::Input)?;
+    if !matches!(command, Command::Cluster(_)) {
+        input.read_to_end(&mut text).map_err(|_| Fault::Input)?;
+    }
     let mut output = BufWriter::with_capacity(64 * 1024, output);
     let status = match command {
+        Command::Cluster(options) => Ok(cluster::print(&options, &mut output)?),
         Command::Apply => {
             let operations = script::read(&text).ok_or(Fault::BadScript)?;
             drop(text);

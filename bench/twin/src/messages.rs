@@ -6,7 +6,7 @@ use crate::forms::{Ballot, CellPlace, Empty, Epoch, Most, Place, Request, Step, 
 use crate::script::Bytes;
 use crate::state::{State, LAST_VERSION};
 use std::hash::{Hash, Hasher};
-use std::rc::Rc;
+use std::sync::Arc;
 
 const LONGEST_CELL_VALUE: usize = 4_096;
 const MOST_RECORDS: usize = 100;
@@ -78,19 +78,19 @@ variants! {
 #[derive(Clone, Debug, PartialEq, Eq, Hash)]
 pub enum CellAsk {
     Read { ballot: u64 },
-    Write { ballot: u64, value: Rc<[u8]> },
+    Write { ballot: u64, value: Arc<[u8]> },
 }
 
 #[derive(Clone, Debug, PartialEq, Eq, Hash)]
 pub enum CellTell {
-    Promise { written: u64, value: Rc<[u8]> },
+    Promise { written: u64, value: Arc<[u8]> },
     Written { ballot: u64 },
     Refused { promised: u64 },
     TwoValues,
 }
 
 /// The value of a cell.
-pub struct CellValue(Rc<[u8]>);
+pub struct CellValue(Arc<[u8]>);
 
 impl<'de> serde::Deserialize<'de> for CellValue {
     fn deserialize<D: serde::Deserializer<'de>>(deserializer: D) -> Result<Self, D::Error> {
@@ -102,14 +102,14 @@ impl<'de> serde::Deserialize<'de> for CellValue {
     }
 }
 
-impl From<CellValue> for Rc<[u8]> {
+impl From<CellValue> for Arc<[u8]> {
     fn from(value: CellValue) -> Self {
         value.0
     }
 }
 
-object! { WriteForm { ballot: u64 as Ballot, value: Rc<[u8]> as CellValue } }
-object! { PromiseForm { value: Rc<[u8]> as CellValue, written: u64 as Ballot } }
+object! { WriteForm { ballot: u64 as Ballot, value: Arc<[u8]> as CellValue } }
+object! { PromiseForm { value: Arc<[u8]> as CellValue, written: u64 as Ballot } }
 object! { RefusedForm { promised: u64 as Ballot } }
 
 variants! {
@@ -132,8 +132,8 @@ variants! {
 
 #[derive(Clone, Debug, PartialEq, Eq, Hash)]
 pub enum LogAsk {
-    Seed { epoch: u64, seed: Rc<Seed> },
-    Push(Rc<Push>),
+    Seed { epoch: u64, seed: Arc<Seed> },
+    Push(Arc<Push>),
     Lock { epoch: u64 },
     Peek(Peek),
     MarkAsked { epoch: u64 },
@@ -146,8 +146,8 @@ pub enum LogTell {
     Held { version: u64 },
     /// With how far tags are popped, in rising tags.
     Locked { durable: u64, known: u64, popped: Vec<(u8, u64)> },
-    Peeked(Rc<Peeked>),
-    Marked { state: Rc<State> },
+    Peeked(Arc<Peeked>),
+    Marked { state: Arc<State> },
     Popped { through: u64 },
     Refused(LogRefusal),
 }
@@ -186,7 +186,7 @@ impl LogRefusal {
 object! {
     /// A batch of a tag that a new log begins with.
     #[derive(Clone, Debug, PartialEq, Eq)]
-    SeedRecord { batch: Rc<Batch> as Rc<Batch>, tag: u8 as Tag, version: u64 as Version }
+    SeedRecord { batch: Arc<Batch> as Arc<Batch>, tag: u8 as Tag, version: u64 as Version }
 }
 
 /// What a log begins with: the records of its tags from `first` through `seeded_to`.
@@ -221,8 +221,8 @@ pub struct Push {
     pub prev: u64,
     pub version: u64,
     pub known: u64,
-    pub bodies: Vec<(u8, Rc<Batch>)>,
-    pub mark: Option<Rc<State>>,
+    pub bodies: Vec<(u8, Arc<Batch>)>,
+    pub mark: Option<Arc<State>>,
 }
 
 impl Push {
@@ -259,7 +259,7 @@ object! {
 
 object! {
     #[derive(Clone, Debug, PartialEq, Eq)]
-    Record { batch: Rc<Batch> as Rc<Batch>, version: u64 as Version }
+    Record { batch: Arc<Batch> as Arc<Batch>, version: u64 as Version }
 }
 
 object! {
@@ -298,7 +298,7 @@ object! {
 }
 object! {
     PushForm {
-        bodies: Vec<(Tag, Rc<Batch>)> as Vec<(Tag, Rc<Batch>)>,
+        bodies: Vec<(Tag, Arc<Batch>)> as Vec<(Tag, Arc<Batch>)>,
         epoch: u64 as Epoch,
         known: u64 as Version,
         mark: Option<State> as Option<State>,
@@ -340,7 +340,7 @@ variants! {
     LogAsk {
         "seed": SeedForm => |it| {
             let seed = Seed { first: it.first, seeded_to: it.seeded_to, records: it.records };
-            seed.is_right().then(|| LogAsk::Seed { epoch: it.epoch, seed: Rc::new(seed) })
+            seed.is_right().then(|| LogAsk::Seed { epoch: it.epoch, seed: Arc::new(seed) })
         },
         "push": PushForm => |it| {
             let push = Push {
@@ -349,9 +349,9 @@ variants! {
                 version: it.version,
                 known: it.known,
                 bodies: it.bodies.into_iter().map(|(tag, batch)| (tag.0, batch)).collect(),
-                mark: it.mark.map(Rc::new),
+                mark: it.mark.map(Arc::new),
             };
-            push.is_right().then(|| LogAsk::Push(Rc::new(push)))
+            push.is_right().then(|| LogAsk::Push(Arc::new(push)))
         },
         "lock": EpochId => |it| Some(LogAsk::Lock { epoch: it.epoch }),
         "peek": Peek => |it| Some(LogAsk::Peek(it)),
@@ -368,8 +368,8 @@ variants! {
             let popped = it.popped.unwrap_or_default();
             Some(LogTell::Locked { durable: it.durable, known: it.known, popped })
         },
-        "peeked": Peeked => |it| it.is_right().then(|| LogTell::Peeked(Rc::new(it))),
-        "marked": MarkedForm => |it| Some(LogTell::Marked { state: Rc::new(it.state) }),
+        "peeked": Peeked => |it| it.is_right().then(|| LogTell::Peeked(Arc::new(it))),
+        "marked": MarkedForm => |it| Some(LogTell::Marked { state: Arc::new(it.state) }),
         "popped": PoppedThroughForm => |it| Some(LogTell::Popped { through: it.through }),
         "refused": LogRefusedForm => |it| Some(LogTell::Refused(it.why)),
     }

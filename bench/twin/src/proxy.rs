@@ -4,7 +4,7 @@ use crate::batch::{Batch, Shards};
 use crate::messages::{Ask, LogAsk, LogId, LogRefusal, LogTell, Next, NodeId, Push, SequencerTell, Tell};
 use crate::state::{Generation, LAST_VERSION};
 use std::collections::BTreeMap;
-use std::rc::Rc;
+use std::sync::Arc;
 
 const LAST_REQUEST: u64 = (1 << 62) - 1;
 
@@ -39,17 +39,17 @@ impl Sequencer {
 
 /// A batch that is under way.
 struct Open {
-    batch: Rc<Batch>,
+    batch: Arc<Batch>,
     request: Next,
     /// The pushes to the logs of the generation, once the batch has its number.
-    pushes: Vec<Rc<Push>>,
+    pushes: Vec<Arc<Push>>,
     held: Vec<bool>,
 }
 
 pub struct Proxy {
     generation: Generation,
     number: u8,
-    shards: Rc<Shards>,
+    shards: Arc<Shards>,
     pub known: u64,
     requests: u64,
     open: Option<Open>,
@@ -70,7 +70,7 @@ pub enum SubmitFault {
 }
 
 impl Proxy {
-    pub fn new(generation: Generation, number: u8, shards: Rc<Shards>) -> Self {
+    pub fn new(generation: Generation, number: u8, shards: Arc<Shards>) -> Self {
         let known = generation.first - 1;
         Proxy { generation, number, shards, known, requests: 0, open: None, ended: false }
     }
@@ -81,7 +81,7 @@ impl Proxy {
     }
 
     /// Takes a batch, and asks the sequencer for its number.
-    pub fn submit(&mut self, step: u64, batch: Rc<Batch>) -> Result<Next, SubmitFault> {
+    pub fn submit(&mut self, step: u64, batch: Arc<Batch>) -> Result<Next, SubmitFault> {
         if self.open.is_some() {
             return Err(SubmitFault::TwoOpen);
         }
@@ -171,11 +171,11 @@ fn pushes_of(
     open: &Open,
     prev: u64,
     version: u64,
-) -> Vec<Rc<Push>> {
-    let bodies: Vec<(u8, Rc<Batch>)> = shards.bodies_of(&open.batch);
+) -> Vec<Arc<Push>> {
+    let bodies: Vec<(u8, Arc<Batch>)> = shards.bodies_of(&open.batch);
     let push_to = |index: u8| {
         let bodies = bodies.iter().filter(|(tag, _)| generation.holds(index, *tag)).cloned().collect();
-        Rc::new(Push { epoch: generation.epoch, prev, version, known, bodies, mark: None })
+        Arc::new(Push { epoch: generation.epoch, prev, version, known, bodies, mark: None })
     };
     (0..generation.m).map(push_to).collect()
 }

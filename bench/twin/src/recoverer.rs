@@ -5,7 +5,7 @@ use crate::messages::{Ask, CellAsk, LogAsk, LogId, LogTell, NodeId, Peek, Peeked
 use crate::state::{ExtendFault, Generation, Shape, State, LAST_VERSION};
 use std::collections::BTreeMap;
 use std::fmt;
-use std::rc::Rc;
+use std::sync::Arc;
 
 /// Tries, under one ballot, to end the current epoch and to open the next one.
 pub struct Recoverer {
@@ -51,13 +51,13 @@ impl fmt::Display for Phase {
 struct Plan {
     old: Generation,
     new: Generation,
-    state: Rc<State>,
+    state: Arc<State>,
     pev: u64,
     rv: u64,
     /// Of each tag, through which version it is copied, and its records.
     copies: Vec<(u64, Vec<SeedRecord>)>,
     /// The seeds of the new logs, once the copy is complete.
-    seeds: Vec<Rc<Seed>>,
+    seeds: Vec<Arc<Seed>>,
     seeded: Vec<bool>,
     marked: Vec<bool>,
 }
@@ -197,7 +197,7 @@ impl Recoverer {
             None => parent.clone(),
         };
         let state = match left.extended(new) {
-            Ok(state) => Rc::new(state),
+            Ok(state) => Arc::new(state),
             Err(fault) => {
                 self.phase = Phase::Lost(match fault {
                     ExtendFault::NotLater => "NotLater",
@@ -244,7 +244,7 @@ impl Recoverer {
                     bodies: Vec::new(),
                     mark: Some(plan.state.clone()),
                 };
-                let push = Rc::new(push);
+                let push = Arc::new(push);
                 left.map(|index| log_ask(self.ballot, index, LogAsk::Push(push.clone()))).collect()
             }
             _ => Vec::new(),
@@ -301,7 +301,7 @@ impl Plan {
             let held = (0..).zip(&self.copies).filter(|(tag, _)| self.new.holds(index, *tag));
             let mut records: Vec<SeedRecord> = held.flat_map(|(_, (_, records))| records.iter().cloned()).collect();
             records.sort_by_key(|record| (record.version, record.tag));
-            Rc::new(Seed { first: self.new.first, seeded_to: self.rv, records })
+            Arc::new(Seed { first: self.new.first, seeded_to: self.rv, records })
         };
         self.seeds = (0..self.new.m).map(seed_of).collect();
     }

@@ -1,7 +1,7 @@
 //! `simulate`: steps in a world of all nodes.
 
 use crate::batch::{Batch, BatchFault};
-use crate::journal::Journals;
+use crate::journal::{write_script, Journals};
 use crate::forms::{object, variants, Ballot, CellPlace, Count, Epoch, Place, Step, Tag};
 use crate::lines::push_row;
 use crate::messages::{Ask, CellAsk, LogAsk, LogId, LogTell, NodeId, Pop, Tell};
@@ -11,7 +11,7 @@ use crate::state::Shape;
 use crate::world::{ConfigForm, Heard, NotEnabled, World};
 use serde_json::Value;
 use std::io::{self, Write};
-use std::rc::Rc;
+use std::sync::Arc;
 
 object! { Script { config: ConfigForm as ConfigForm, steps: Vec<StepForm> as Vec<StepForm> } }
 
@@ -41,7 +41,7 @@ object! {
 }
 
 pub enum StepForm {
-    Commit { epoch: u64, proxy: u8, step: u64, batch: Result<Rc<Batch>, BatchFault>, logs: Vec<Place> },
+    Commit { epoch: u64, proxy: u8, step: u64, batch: Result<Arc<Batch>, BatchFault>, logs: Vec<Place> },
     Push(PushForm),
     Pull(StorageForm),
     Mark(StorageForm),
@@ -56,7 +56,7 @@ variants! {
             epoch: it.epoch,
             proxy: it.proxy,
             step: it.step,
-            batch: Batch::new(it.batch.0).map(Rc::new),
+            batch: Batch::new(it.batch.0).map(Arc::new),
             logs: it.logs,
         }),
         "push": PushForm => |it| Some(StepForm::Push(it)),
@@ -94,7 +94,7 @@ pub fn print_journals(
     let mut play = Play { world: World::start(config), journals: Some(Journals::default()) };
     take_steps(&mut play, steps, &mut io::sink())?;
     let journals = play.journals.take().unwrap_or_default();
-    writeln!(output, "{}", journals.script(form, &play.world))
+    write_script(&form, &journals.close(&play.world), output)
 }
 
 fn take_steps(play: &mut Play, steps: Vec<StepForm>, output: &mut impl Write) -> io::Result<()> {
@@ -208,7 +208,7 @@ impl Play {
         &mut self,
         (epoch, number): (u64, u8),
         step: u64,
-        batch: Result<Rc<Batch>, BatchFault>,
+        batch: Result<Arc<Batch>, BatchFault>,
         logs: &[Place],
     ) -> Result<Option<(u64, &'static str)>, &'static str> {
         let batch = batch.map_err(BatchFault::name)?;

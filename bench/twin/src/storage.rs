@@ -1,13 +1,13 @@
 //! Storage servers.
 
 use crate::messages::{Peek, Peeked};
-use crate::state::State;
+use crate::state::{Generation, State};
 use crate::store::Store;
-use std::rc::Rc;
+use std::sync::Arc;
 
 pub struct Storage {
     pub tag: u8,
-    state: Rc<State>,
+    state: Arc<State>,
     pub store: Store,
 }
 
@@ -41,12 +41,22 @@ pub enum Unheard {
 }
 
 impl Storage {
-    pub fn new(tag: u8, state: Rc<State>) -> Self {
+    pub fn new(tag: u8, state: Arc<State>) -> Self {
         Storage { tag, state, store: Store::default() }
     }
 
     pub fn epoch(&self) -> u64 {
         self.state.last().epoch
+    }
+
+    /// The generation of its epoch.
+    pub fn own(&self) -> &Generation {
+        self.state.last()
+    }
+
+    /// The generation that has the version after the one applied.
+    pub fn source(&self) -> &Generation {
+        self.state.source_of(self.store.applied() + 1)
     }
 
     /// The ask for the records after the version applied, of a log of any epoch.
@@ -61,7 +71,7 @@ impl Storage {
     }
 
     /// Goes over to the state of a later epoch, or breaks that off at a version.
-    pub fn hear_marked(&mut self, state: &Rc<State>, taken: Option<u64>) -> Result<(), Unheard> {
+    pub fn hear_marked(&mut self, state: &Arc<State>, taken: Option<u64>) -> Result<(), Unheard> {
         let own = self.epoch();
         if state.last().epoch < own {
             return Err(Unheard::Refused(StorageFault::Older));
@@ -104,7 +114,7 @@ impl Storage {
     /// Takes records of an epoch, or some of them, where that breaks off at a version.
     pub fn hear_peeked(&mut self, epoch: u64, peeked: &Peeked, taken: Option<u64>) -> Result<(), Unheard> {
         let applied = self.store.applied();
-        if self.state.source_of(applied + 1).epoch != epoch {
+        if self.source().epoch != epoch {
             return Err(Unheard::Refused(StorageFault::NotMyGeneration));
         }
         if peeked.after > applied {

@@ -4,16 +4,16 @@ use crate::batch::{Batch, Shards};
 use crate::cell::Cell;
 use crate::forms::{object, Byte, Count};
 use crate::log::Log;
-use crate::messages::{Ask, LogAsk, LogId, LogTell, NodeId, Push, Seed, Tell};
+use crate::messages::{Ask, LogId, LogTell, NodeId, Tell};
 use crate::proxy::{Outcome, Proxy, Sequencer, SubmitFault};
 use crate::recoverer::Recoverer;
 use crate::script::Bytes;
 use crate::state::{Generation, Shape, State};
 use crate::storage::{Storage, StorageFault, Unheard};
 use std::collections::BTreeMap;
-use std::rc::Rc;
+use std::sync::Arc;
 
-const FIRST_EPOCH: u64 = 257;
+pub const FIRST_EPOCH: u64 = 257;
 
 /// What a world starts from.
 pub struct Config {
@@ -21,7 +21,7 @@ pub struct Config {
     pub degree: u8,
     pub logs: u8,
     pub proxies: u8,
-    pub shards: Rc<Shards>,
+    pub shards: Arc<Shards>,
 }
 
 object! {
@@ -43,8 +43,20 @@ impl ConfigForm {
             degree: self.degree,
             logs: self.logs,
             proxies: self.proxies,
-            shards: Rc::new(shards),
+            shards: Arc::new(shards),
         })
+    }
+}
+
+impl Config {
+    /// The generation of the start.
+    pub fn first_generation(&self) -> Generation {
+        Generation { epoch: FIRST_EPOCH, m: self.logs, k: self.degree, first: 1, seeded_to: 0 }
+    }
+
+    /// The state of the start.
+    pub fn first_state(&self) -> Arc<State> {
+        Arc::new(State::new(0, vec![self.first_generation()]).expect("the start is a state"))
     }
 }
 
@@ -123,12 +135,9 @@ fn there<T>(node: Option<&mut Node<T>>) -> Result<&mut Node<T>, NotEnabled> {
 
 impl World {
     pub fn start(config: Config) -> Self {
-        let (m, k) = (config.logs, config.degree);
-        let generation = Generation { epoch: FIRST_EPOCH, m, k, first: 1, seeded_to: 0 };
-        let state = Rc::new(State::new(0, vec![generation]).expect("the start is a state"));
-        let cell = Cell { promised: FIRST_EPOCH, written: FIRST_EPOCH, value: state.encode().into() };
+        let (generation, state) = (config.first_generation(), config.first_state());
         let mut world = World {
-            cells: vec![cell; config.coordinators.into()],
+            cells: vec![Cell::started(FIRST_EPOCH, &state); config.coordinators.into()],
             logs: BTreeMap::new(),
             sequencers: BTreeMap::new(),
             proxies: BTreeMap::new(),
@@ -136,23 +145,18 @@ impl World {
             storages: (0..config.shards.number()).map(|tag| Storage::new(tag, state.clone())).collect(),
             config,
         };
-        world.add_logs(&generation);
-        world.open(&generation, 1);
-        let seed = Rc::new(Seed { first: 1, seeded_to: 0, records: Vec::new() });
-        let mark = Some(state.clone());
-        let mark = Push { epoch: FIRST_EPOCH, prev: 0, version: 1, known: 0, bodies: Vec::new(), mark };
-        let mark = Rc::new(mark);
-        for log in world.logs.values_mut() {
-            log.it.ask(&LogAsk::Seed { epoch: FIRST_EPOCH, seed: seed.clone() });
-            log.it.ask(&LogAsk::Push(mark.clone()));
+        for index in 0..generation.m {
+            let log = Log::started(&generation, index, &state);
+            world.logs.insert(LogId { epoch: FIRST_EPOCH, index }, Node::new(log));
         }
+        world.open(&generation, 1);
         world
     }
 
     fn add_logs(&mut self, generation: &Generation) {
         for index in 0..generation.m {
             let id = LogId { epoch: generation.epoch, index };
-            self.logs.entry(id).or_insert_with(|| Node::new(Log::new(id, generation.m, generation.k)));
+            self.logs.entry(id).or_insert_with(|| Node::new(Log::new(generation, index)));
         }
     }
 
@@ -212,7 +216,7 @@ impl World {
         Ok(())
     }
 
-    pub fn submit(&mut self, epoch: u64, number: u8, step: u64, batch: Rc<Batch>) -> Result<Ask, NotEnabled> {
+    pub fn submit(&mut self, epoch: u64, number: u8, step: u64, batch: Arc<Batch>) -> Result<Ask, NotEnabled> {
         let proxy = there(self.proxies.get_mut(&(epoch, number)))?.up()?;
         proxy.submit(step, batch).map(Ask::Sequencer).map_err(|fault| match fault {
             SubmitFault::TwoOpen => NotEnabled::TwoOpen,
