@@ -16,6 +16,9 @@ use test_cluster_scene::{
 };
 use test_store_failing::FailsOnce;
 
+/// One workload with few turns for each thread, where there are many runs.
+pub(crate) const SHORT: Numbers = Numbers { turns: 300, ..ONE };
+
 /// All in memory, with stores whose device fails once: in the call after so many others, the first of which makes the
 /// storage server. The call is done or not.
 #[derive(Clone, Copy)]
@@ -76,13 +79,13 @@ fn commits<R: Threads + Wait + Sync>(
         tag: Tag::new(1).ok_or("a tag")?,
     };
     let rack = BreakingRack { calls, is_done };
-    let (report, works) = ran_on(rt, alloc, ONE, &[], rack, &NoFaults)?;
+    let (report, works) = ran_on(rt, alloc, SHORT, &[], rack, &NoFaults)?;
     Ok(broken_off(&report, works.as_slice(), server))
 }
 
 /// Each store fails in one of its first calls while records are heard, and the run is one all the same. The hear is
 /// entered in part, unless nothing of it is missing: where the call was done, or changes nothing, as where an answer
-/// brings no record. That is seldom so, since threads that wait for others have few such hears before the tenth call.
+/// brings no record. That is seldom so before the tenth call, and where a server is through with its turns early.
 #[test]
 fn a_hear_of_records_that_breaks_off_is_entered_in_part(rt: HostRuntime) -> Result<(), Fail> {
     let mut in_part = 0_usize;

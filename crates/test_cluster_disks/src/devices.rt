@@ -1,6 +1,7 @@
 //! Clusters over files of which one has a device that fails.
 ghost use Rattle.std.specs.Prelude.{◌≡◌};
 
+use crate::breaking::SHORT;
 use fr_base::{LogId, NodeFault};
 use fr_device::{Device, FaultyDevice};
 use fr_runtime::RunFault;
@@ -10,7 +11,7 @@ use std::alloc::Global;
 use std::sync::Wait;
 use std::test::Fail;
 use std::thread::Threads;
-use test_cluster_scene::{AreCommitted, ONE, fault_of, holds_on};
+use test_cluster_scene::{AreCommitted, fault_of, holds_on};
 
 /// In which calls the device of log (257, 0) fails, counted from 1.
 #[derive(Clone, Copy)]
@@ -77,7 +78,7 @@ const CALLS: [u64; 8] = [15, 16, 17, 18, 19, 20, 21, 22];
 fn commits<R: Threads + Wait + Sync>(rt: &R, alloc: Global, n: u64) -> Result<bool, Fail> {
     let committed = AreCommitted { many: 20 };
     let rack = rack_of(Fails::Once(n));
-    holds_on(rt, alloc, ONE, &[], rack, &NoFaults, &committed)
+    holds_on(rt, alloc, SHORT, &[], rack, &NoFaults, &committed)
 }
 
 /// A log whose device fails once is opened again by the next ask, and takes what it had not taken.
@@ -96,7 +97,7 @@ fn comes_of<R: Threads + Wait + Sync>(
     n: u64,
 ) -> Result<Option<RunFault>, Fail> {
     let rack = rack_of(Fails::From(n));
-    fault_of(rt, alloc, ONE, &[], rack, 1, &NoFaults)
+    fault_of(rt, alloc, SHORT, &[], rack, 1, &NoFaults)
 }
 
 /// A log whose device fails for good cannot be opened again at the end, so there is no journal of it.

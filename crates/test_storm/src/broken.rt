@@ -104,7 +104,7 @@ fn broken_off<R: Threads + Wait + Sync>(
         tag: Tag::new(0).ok_or("a tag")?,
     };
     let (config, works, ballots) = (config(alloc)?, works(alloc, seed)?, ballots()?);
-    let (report, _works) = Cluster::run(rt, alloc, config, &ballots, 3_000, rack, works, &storm)?;
+    let (report, _works) = Cluster::run(rt, alloc, config, &ballots, 300, rack, works, &storm)?;
     Ok(parts_of(&report, server))
 }
 
@@ -128,9 +128,10 @@ fn broken_at<R: Threads + Wait + Sync>(
     Ok(Some(all))
 }
 
-/// Of 20 runs in which the call that fails is not done ten and more enter a hear in part.
+/// Of 20 runs in which the call that fails is not done five and more enter a hear in part: in the others the server is
+/// through with its turns before that call, or nothing of the hear is missing.
 fn is_many(parts: Option<usize>) -> bool {
-    matches!(parts, Some(parts) if parts >= 10)
+    matches!(parts, Some(parts) if parts >= 5)
 }
 
 #[test]
