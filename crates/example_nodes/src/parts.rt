@@ -32,13 +32,12 @@ pub(crate) fn batch(alloc: Global, key: &[u8], value: &[u8]) -> anyhow::Result<B
     Ok(Batch::new(mutations)?)
 }
 
-/// The state of the first epoch: one log that holds every tag, and the mark at version 1.
-pub(crate) fn state(alloc: Global) -> anyhow::Result<CoordState> {
-    let first = Generation::new(epoch()?, 1, 1, version(1)?, Version::ZERO).context("no start")?;
-    Ok(CoordState::new(alloc, first)?)
+/// The first generation: so many logs, on so many of which each tag stands, and the mark at version 1.
+pub(crate) fn first(logs: u8, holders: u8) -> anyhow::Result<Generation> {
+    Generation::new(epoch()?, logs, holders, version(1)?, Version::ZERO).context("no start")
 }
 
-/// The name of that log.
+/// The name of its first log.
 pub(crate) fn log_id() -> anyhow::Result<LogId>
     ensures { IfOk result (λ id. id.index ≡ 0) }
 {
@@ -48,15 +47,16 @@ pub(crate) fn log_id() -> anyhow::Result<LogId>
     })
 }
 
-/// What it is asked first: to take a seed, here an empty one.
+/// What its logs are asked first: to take a seed, here an empty one.
 pub(crate) fn seed(alloc: Global) -> anyhow::Result<LogAsk> {
     let seed = Seed::new(epoch()?, version(1)?, Version::ZERO, Vec::new(alloc));
     Ok(LogAsk::Seed(seed.context("no seed")?))
 }
 
-/// What it is asked next: to hold the mark, which is the first push and carries the state.
-pub(crate) fn mark(alloc: Global) -> anyhow::Result<LogAsk> {
-    let mark = Push::mark(alloc, epoch()?, Version::ZERO, Version::ZERO, state(alloc)?);
+/// What they are asked next: to hold the mark, which is the first push and carries the state.
+pub(crate) fn mark(alloc: Global, first: Generation) -> anyhow::Result<LogAsk> {
+    let state = CoordState::new(alloc, first)?;
+    let mark = Push::mark(alloc, epoch()?, Version::ZERO, Version::ZERO, state);
     Ok(LogAsk::Push(mark.context("no mark")?))
 }
 
@@ -72,7 +72,8 @@ pub(crate) fn push(alloc: Global, prev: u64, known: Version, body: Body) -> anyh
 /// Gives a new log its seed and its mark: it is at version 1 then.
 pub(crate) fn begin(alloc: Global, log: &mut Log) -> anyhow::Result<()> {
     held(alloc, log, seed(alloc)?)?;
-    held(alloc, log, mark(alloc)?)
+    let first = first(log.m(), log.k())?;
+    held(alloc, log, mark(alloc, first)?)
 }
 
 pub(crate) fn told(alloc: Global, log: &mut Log, ask: LogAsk) -> anyhow::Result<LogTell> {

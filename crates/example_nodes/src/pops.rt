@@ -1,49 +1,63 @@
-//! A log and the storage server of its tag, over many batches: the log lets go of what the storage server has for good.
-use crate::parts::{batch, begin, epoch, held, log_id, push, state, tag, told, version};
+//! A cluster of nodes without journals, over many batches: its logs let go of what its storage servers have for good,
+//! and its recoveries drop the generations whose versions these have.
+mod cluster;
+mod commits;
+mod nodes;
+mod orders;
+mod pulls;
+mod recovery;
+mod report;
+
+use crate::parts::epoch;
 use anyhow::{Context, bail};
-use fr_base::Version;
-use fr_log::{Log, LogAsk, LogTell, Most};
-use fr_storage::{Answer, Storage};
-use fr_tags::Body;
-use fr_undo::MapStore;
+use cluster::{Cluster, HOLDERS};
+use fr_base::Epoch;
 use std::alloc::Global;
 
-/// How many batches come from one pull to the next.
-const APART: u64 = 100;
+/// How many batches come from one turn of the storage servers to the next.
+const APART: u64 = 50;
 
-/// How many batches come, and whether the log is asked to let go of them.
+/// How many batches come, behind how many of them there is a recovery each time (0: behind none), and whether logs are
+/// asked to let go.
 #[derive(Clone, Copy)]
 struct Words {
     batches: u64,
+    every: u64,
     pops: bool,
 }
 
 /// What runs with no words.
 const SHOWN: Words = Words {
     batches: 1_000,
+    every: 170,
     pops: true,
 };
 
-/// Says where the storage server stands after 1,000 batches, and what the log tells of the first of them. With a number
-/// and `pops` or `keeps` for its words, so many batches come, and the log lets go of them or does not.
+/// Says where the storage servers stand after 1,000 batches and 5 recoveries, how many keys have the value of the last
+/// batch that sets them, how many logs are there, and whether one of these has the first batch. With two numbers and
+/// `pops` or `keeps` for its words, so many batches come with a recovery behind each so many of them, and the logs let go
+/// of what the storage servers have or do not.
 pub(crate) fn run(rt: &HostRuntime, words: &[String]) -> anyhow::Result<()> {
     let words = asked(words)?;
-    let alloc = rt.alloc();
-    let mut log = Log::new(alloc, log_id()?, 1, 1);
-    begin(alloc, &mut log)?;
-    let mut storage = Storage::start(alloc, MapStore::new(alloc), tag(0)?, state(alloc)?)?;
-    all(alloc, words, &mut log, &mut storage)?;
-    tell(rt, words, &mut log, &storage)
+    let mut cluster = Cluster::start(rt.alloc())?;
+    play(rt.alloc(), words, &mut cluster)?;
+    println!(rt;
+        "{} batches, {} recoveries",
+        words.batches,
+        recoveries(words, words.batches)
+    )?;
+    report::tell(rt, &mut cluster, words.batches)
 }
 
 fn asked(words: &[String]) -> anyhow::Result<Words> {
     match words {
         [] => Ok(SHOWN),
-        [batches, how] => Ok(Words {
+        [batches, every, how] => Ok(Words {
             batches: batches.parse::<u64>()?,
+            every: every.parse::<u64>()?,
             pops: lets_go(how)?,
         }),
-        _ => bail!("pops wants two words, or none"),
+        _ => bail!("pops wants three words, or none"),
     }
 }
 
@@ -51,94 +65,36 @@ fn lets_go(how: &str) -> anyhow::Result<bool> {
     match how {
         "pops" => Ok(true),
         "keeps" => Ok(false),
-        _ => bail!("the second word of pops is pops or keeps"),
+        _ => bail!("the third word of pops is pops or keeps"),
     }
 }
 
-/// Pushes all batches, with a pull behind each hundred of them.
-fn all(
-    alloc: Global,
-    words: Words,
-    log: &mut Log,
-    storage: &mut Storage<MapStore>,
-) -> anyhow::Result<()> {
-    for place in 0..words.batches {
-        add(alloc, log, place.saturating_add(1))?;
-        if place % APART == APART - 1 {
-            pull(alloc, words.pops, log, storage)?;
+/// Commits all batches, with a turn of the storage servers behind each fifty of them, and at the end one for each
+/// holder of a tag.
+fn play(alloc: Global, words: Words, cluster: &mut Cluster) -> anyhow::Result<()> {
+    for number in 0..words.batches {
+        commits::commit(alloc, cluster, number)?;
+        let done = number + 1;
+        if done % APART == 0 {
+            pulls::turn(alloc, cluster, words.pops)?;
+        }
+        if recoveries(words, number) < recoveries(words, done) {
+            recovery::recover(alloc, cluster, opened(words, done)?)?;
         }
     }
-    Ok(())
-}
-
-/// Pushes a batch at the version after this one, which is known to be committed: one of 256 keys is set to 100 bytes.
-fn add(alloc: Global, log: &mut Log, prev: u64) -> anyhow::Result<()> {
-    let body = Body {
-        tag: tag(0)?,
-        batch: batch(alloc, &[(prev & 0xff) as u8], &[7; 100])?,
-    };
-    held(alloc, log, push(alloc, prev, version(prev)?, body)?)
-}
-
-/// The storage server takes what the log has of its tag, and the log is asked to let go of what that has for good.
-fn pull(
-    alloc: Global,
-    pops: bool,
-    log: &mut Log,
-    storage: &mut Storage<MapStore>,
-) -> anyhow::Result<()> {
-    let (epoch, ask) = storage.next_ask();
-    let LogTell::Peeked(found) = told(alloc, log, ask)? else {
-        bail!("the log has no records");
-    };
-    storage.hear(alloc, Answer::Peeked(epoch, found))?;
-    if pops {
-        held(alloc, log, pop(storage.floor())?)?;
+    for _ in 0..HOLDERS {
+        pulls::turn(alloc, cluster, words.pops)?;
     }
     Ok(())
 }
 
-/// To let go of all through a version.
-fn pop(through: Version) -> anyhow::Result<LogAsk> {
-    Ok(LogAsk::Pop {
-        epoch: epoch()?,
-        tag: tag(0)?,
-        through,
-    })
+/// How many recoveries there are among so many batches.
+fn recoveries(words: Words, batches: u64) -> u64 {
+    batches.checked_div(words.every).unwrap_or(0)
 }
 
-fn tell(
-    rt: &HostRuntime,
-    words: Words,
-    log: &mut Log,
-    storage: &Storage<MapStore>,
-) -> anyhow::Result<()> {
-    let batches = words.batches;
-    let (_, applied) = storage.position();
-    let floor = storage.floor().get();
-    println!(rt;
-        "{batches} batches: applied through {}, floor {floor}",
-        applied.get()
-    )?;
-    let has = tells_records(rt.alloc(), log, peek()?)?;
-    println!(rt; "the log has the first of them: {has}")?;
-    Ok(())
-}
-
-/// One record above version 1.
-fn peek() -> anyhow::Result<LogAsk> {
-    Ok(LogAsk::Peek {
-        epoch: epoch()?,
-        tag: tag(0)?,
-        after: version(1)?,
-        most: Most::new(1).context("no number")?,
-    })
-}
-
-/// Whether the log tells records, and does not refuse.
-fn tells_records(alloc: Global, log: &mut Log, ask: LogAsk) -> anyhow::Result<bool> {
-    match told(alloc, log, ask)? {
-        LogTell::Peeked(_) => Ok(true),
-        _ => Ok(false),
-    }
+/// The epoch that is open behind so many batches.
+fn opened(words: Words, batches: u64) -> anyhow::Result<Epoch> {
+    let number = epoch()?.get().saturating_add(recoveries(words, batches));
+    Epoch::new(number).context("no epoch")
 }

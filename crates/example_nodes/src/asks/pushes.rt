@@ -1,5 +1,5 @@
 //! The lists of asks that the log serves.
-use crate::parts::{batch, mark, push, seed, tag};
+use crate::parts::{batch, first, mark, push, seed, tag};
 use fr_base::Version;
 use fr_log::LogAsk;
 use fr_tags::Body;
@@ -9,7 +9,7 @@ use std::alloc::Global;
 pub(crate) fn begin(alloc: Global) -> anyhow::Result<Vec<LogAsk>> {
     let mut asks = Vec::new(alloc);
     asks.push(seed(alloc)?)?;
-    asks.push(mark(alloc)?)?;
+    asks.push(mark(alloc, first(1, 1)?)?)?;
     Ok(asks)
 }
 
