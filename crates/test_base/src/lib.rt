@@ -1,4 +1,5 @@
-//! Tests of numbers, mutations, the bytes of batches, and the register: worked examples, vectors and refused calls.
+//! Tests of numbers, mutations, the bytes of batches and of states, and the register: worked examples, vectors and
+//! refused calls.
 #![tactic(auto)]
 
 #[cfg(test)]
@@ -13,5 +14,7 @@ mod numbers;
 mod register;
 #[cfg(test)]
 mod shards;
+#[cfg(test)]
+mod state_bytes;
 #[cfg(test)]
 mod two_ballots;

@@ -1,6 +1,7 @@
 //! Plays scenarios of nodes and of what they are made of, against these.
 #![tactic(auto)]
 
+mod copies;
 mod logs;
 mod nodes;
 mod proxies;

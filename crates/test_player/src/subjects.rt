@@ -1,4 +1,5 @@
 //! The subjects of this crate, by the words of first rows.
+use crate::copies::play_several;
 use crate::logs::{play_cell, play_log, play_sequencer};
 use crate::proxies::play_proxy;
 use crate::recoverers::play_recoverer;
@@ -7,6 +8,7 @@ use crate::storages::{play_failing_storage, play_storage};
 use crate::stores::{play_failing_store, play_store};
 use crate::tails::play_tail;
 use crate::tallies::play_tally;
+use fr_ask::{Ask, Last, Tell};
 use std::alloc::Global;
 use test_rows::{Scene, Wrong, played};
 
@@ -16,6 +18,9 @@ pub(crate) struct Nodes;
 /// Plays a scenario of a node, or of what nodes are made of; false where it is about something else.
 pub fn play(alloc: Global, scene: Scene, at: &mut usize) -> Result<bool, Wrong> {
     match scene.word() {
+        "asks" => played(play_several::<Ask>(alloc, scene, at)),
+        "tells" => played(play_several::<Tell>(alloc, scene, at)),
+        "lasts" => played(play_several::<Last>(alloc, scene, at)),
         "cell" => played(play_cell(alloc, scene, at)),
         "end_tally" => played(play_tally(alloc, scene, at)),
         "log" => played(play_log(alloc, scene, at)),

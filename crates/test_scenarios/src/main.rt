@@ -2,6 +2,11 @@
 //! with status 1 where one does not hold.
 #![tactic(auto)]
 
+mod answers;
+mod events;
+mod found;
+mod worlds;
+
 use std::alloc::Global;
 use std::process::ExitCode;
 use std::{fs, io};
@@ -12,15 +17,15 @@ struct Players;
 
 /// What a scenario can be about.
 const SUBJECTS: &str =
-    "a scenario begins with: batch, cell, cell_file, coordinated_state, end_tally, log, log_file, \
-     proxy, record_file, recoverer, sequencer, shards, storage, failing_storage, store, \
-     failing_store, tail, world";
+    "a scenario begins with: asks, batch, cell, cell_file, coordinated_state, end_tally, lasts, log, \
+     log_file, proxy, record_file, recoverer, sequencer, shards, storage, failing_storage, store, \
+     failing_store, tail, tells, world";
 
 impl Player for Players {
     fn play(&self, alloc: Global, scene: Scene<'_>, at: &mut usize) -> Result<(), Wrong> {
         if test_player::play(alloc, scene, at)?
             || test_player_files::play(alloc, scene, at)?
-            || test_player_worlds::play(alloc, scene, at)?
+            || worlds::play(alloc, scene, at)?
         {
             Ok(())
         } else {

@@ -1,4 +1,4 @@
-//! Worlds.
+//! Worlds: all nodes of a run, and what happens to them, event by event.
 use crate::answers::{write_answer, write_why};
 use crate::events::{read_config, read_event, was_sent, was_told};
 use fr_base::Memory;
@@ -14,7 +14,7 @@ use test_rows::{Plays, Scene, Wrong, no_such_word, played, said, write_last_stat
 struct Worlds;
 
 /// Plays a scenario of a world; false where it is about something else.
-pub fn play(alloc: Global, scene: Scene, at: &mut usize) -> Result<bool, Wrong> {
+pub(crate) fn play(alloc: Global, scene: Scene, at: &mut usize) -> Result<bool, Wrong> {
     if scene.word() != "world" {
         return Ok(false);
     }

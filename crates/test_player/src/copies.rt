@@ -1,0 +1,234 @@
+//! What nodes are asked and tell, and where they stood at last: some of a kind, copied and told apart.
+use crate::subjects::Nodes;
+use fr_ask::{Ask, Last, Tell};
+use fr_base::Memory;
+use fr_forms::fields::{Fields, items};
+use fr_forms::lists::WriteItem;
+use fr_forms::{
+    ScriptFault, read_ask, read_last, read_tell, write_ask, write_bodies, write_last, write_tell,
+};
+use fr_log::{LogAsk, LogTell, Peeked, PeekedRecord, Push, Seed, SeedRecord};
+use serde_json::Value;
+use std::alloc::Global;
+use test_rows::{NO_FORM, Plays, Scene, Wrong, no_such_word};
+
+/// What is copied and has a form.
+pub(crate) trait Copied: Sized + Drop {
+    /// A copy.
+    fn copied(&self) -> Result<Self, Memory>;
+
+    /// Its form.
+    fn form(&self, alloc: Global) -> Result<Value, Memory>;
+}
+
+/// What is read and told apart too.
+pub(crate) trait Kind: Copied {
+    /// Reads one.
+    fn read(alloc: Global, given: Value) -> Result<Self, ScriptFault>;
+
+    /// Whether it is another one, also by what says that they differ.
+    fn is_one_with(&self, other: &Self) -> bool;
+
+    /// What a copy of it gives back: the bodies of a push, the records of a seed or of what is peeked, each copied.
+    fn parts(&self, _alloc: Global) -> Result<Value, Wrong> {
+        Err(NO_FORM)
+    }
+}
+
+/// Some of a kind.
+#[derive(Drop)]
+struct Several<K: Kind> {
+    all: Vec<K>,
+}
+
+/// Plays rows with some of a kind.
+pub(crate) fn play_several<K: Kind>(
+    alloc: Global,
+    scene: Scene,
+    at: &mut usize,
+) -> Result<(), Wrong> {
+    let several: Result<Several<K>, Wrong> = read_several(alloc, scene.given(alloc)?.take_all());
+    scene.play_made(alloc, &Nodes, several, at)
+}
+
+fn read_several<K: Kind>(alloc: Global, given: Value) -> Result<Several<K>, Wrong> {
+    let mut all = Vec::new(alloc);
+    for item in items(given)? {
+        all.push(K::read(alloc, item)?)?;
+    }
+    Ok(Several { all })
+}
+
+impl<K: Kind> Plays<Several<K>> for Nodes {
+    fn play_row(
+        &self,
+        alloc: Global,
+        several: &mut Several<K>,
+        word: &str,
+        given: &mut Fields,
+    ) -> Result<Value, Wrong> {
+        let all = several.all.as_slice();
+        match word {
+            "same" => same(alloc, all, K::read(alloc, given.take_all())),
+            "make" => write_made(K::read(alloc, given.take_all())),
+            "parts" => write_parts(alloc, K::read(alloc, given.take_all())),
+            "state" => write_copies(alloc, all),
+            _ => no_such_word("rows of asks, tells or lasts: same, make, parts, state"),
+        }
+    }
+}
+
+/// The numbers, from 0, of those whose copies are the same as another one.
+fn same<K: Kind>(alloc: Global, all: &[K], other: Result<K, ScriptFault>) -> Result<Value, Wrong> {
+    write_same(alloc, all, &other?)
+}
+
+fn write_same<K: Kind>(alloc: Global, all: &[K], other: &K) -> Result<Value, Wrong> {
+    let mut numbers = Vec::new(alloc);
+    for (number, one) in all.iter().enumerate() {
+        if is_same(one.copied(), other)? {
+            numbers.push(Value::from(number))?;
+        }
+    }
+    Ok(Value::Array(numbers))
+}
+
+fn is_same<K: Kind>(copy: Result<K, Memory>, other: &K) -> Result<bool, Wrong> {
+    Ok(copy?.is_one_with(other))
+}
+
+/// Whether there is such a one.
+fn write_made<K: Kind>(read: Result<K, ScriptFault>) -> Result<Value, Wrong> {
+    match read {
+        Ok(_) => Ok(Value::from(true)),
+        Err(ScriptFault::BadScript) => Ok(Value::from(false)),
+        Err(ScriptFault::Memory) => Err(Wrong::Memory),
+    }
+}
+
+fn write_parts<K: Kind>(alloc: Global, read: Result<K, ScriptFault>) -> Result<Value, Wrong> {
+    read?.parts(alloc)
+}
+
+/// The forms of copies.
+fn write_copies<C: Copied>(alloc: Global, all: &[C]) -> Result<Value, Wrong> {
+    let mut forms = Vec::new(alloc);
+    for one in all {
+        forms.push(form_of(alloc, one.copied())?)?;
+    }
+    Ok(Value::Array(forms))
+}
+
+fn form_of<C: Copied>(alloc: Global, copy: Result<C, Memory>) -> Result<Value, Wrong> {
+    Ok(copy?.form(alloc)?)
+}
+
+impl Copied for Ask {
+    fn copied(&self) -> Result<Self, Memory> {
+        self.copy()
+    }
+
+    fn form(&self, alloc: Global) -> Result<Value, Memory> {
+        write_ask(alloc, self)
+    }
+}
+
+impl Kind for Ask {
+    fn read(alloc: Global, given: Value) -> Result<Self, ScriptFault> {
+        read_ask(alloc, given)
+    }
+
+    fn is_one_with(&self, other: &Self) -> bool {
+        *self == *other && !(*self != *other)
+    }
+
+    fn parts(&self, alloc: Global) -> Result<Value, Wrong> {
+        match self {
+            Ask::Log(LogAsk::Push(push)) => write_pushed(alloc, push.copy()),
+            Ask::Log(LogAsk::Seed(seed)) => write_seeded(alloc, seed.copy()),
+            _ => Err(NO_FORM),
+        }
+    }
+}
+
+fn write_pushed(alloc: Global, push: Result<Push, Memory>) -> Result<Value, Wrong> {
+    let bodies = push?.into_bodies();
+    Ok(write_bodies(alloc, bodies.as_slice())?)
+}
+
+fn write_seeded(alloc: Global, seed: Result<Seed, Memory>) -> Result<Value, Wrong> {
+    let records = seed?.into_records();
+    write_copies(alloc, records.as_slice())
+}
+
+impl Copied for SeedRecord {
+    fn copied(&self) -> Result<Self, Memory> {
+        self.copy()
+    }
+
+    fn form(&self, alloc: Global) -> Result<Value, Memory> {
+        self.write(alloc)
+    }
+}
+
+impl Copied for Tell {
+    fn copied(&self) -> Result<Self, Memory> {
+        self.copy()
+    }
+
+    fn form(&self, alloc: Global) -> Result<Value, Memory> {
+        write_tell(alloc, self)
+    }
+}
+
+impl Kind for Tell {
+    fn read(alloc: Global, given: Value) -> Result<Self, ScriptFault> {
+        read_tell(alloc, given)
+    }
+
+    fn is_one_with(&self, other: &Self) -> bool {
+        *self == *other && !(*self != *other)
+    }
+
+    fn parts(&self, alloc: Global) -> Result<Value, Wrong> {
+        match self {
+            Tell::Log(LogTell::Peeked(peeked)) => write_peeked(alloc, peeked.copy()),
+            _ => Err(NO_FORM),
+        }
+    }
+}
+
+fn write_peeked(alloc: Global, peeked: Result<Peeked, Memory>) -> Result<Value, Wrong> {
+    let records = peeked?.into_records();
+    write_copies(alloc, records.as_slice())
+}
+
+impl Copied for PeekedRecord {
+    fn copied(&self) -> Result<Self, Memory> {
+        self.copy()
+    }
+
+    fn form(&self, alloc: Global) -> Result<Value, Memory> {
+        self.write(alloc)
+    }
+}
+
+impl Copied for Last {
+    fn copied(&self) -> Result<Self, Memory> {
+        self.copy()
+    }
+
+    fn form(&self, alloc: Global) -> Result<Value, Memory> {
+        write_last(alloc, self)
+    }
+}
+
+impl Kind for Last {
+    fn read(alloc: Global, given: Value) -> Result<Self, ScriptFault> {
+        read_last(alloc, given)?.ok_or(ScriptFault::BadScript)
+    }
+
+    fn is_one_with(&self, other: &Self) -> bool {
+        *self == *other && !(*self != *other)
+    }
+}
