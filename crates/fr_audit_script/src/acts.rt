@@ -16,7 +16,11 @@ pub(crate) fn read_act(alloc: Global, value: Value) -> Result<Act, ScriptFault> 
     read_named(alloc, name.as_str(), &mut content)
 }
 
-fn read_named(alloc: Global, name: &str, content: &mut Fields) -> Result<Act, ScriptFault> {
+pub(crate) fn read_named(
+    alloc: Global,
+    name: &str,
+    content: &mut Fields,
+) -> Result<Act, ScriptFault> {
     match name {
         names::ASKED => read_asked(alloc, content.of(3)),
         names::HEARD => read_heard(alloc, content.of(4)),
@@ -74,7 +78,7 @@ fn read_shape(fields: &mut Fields) -> Result<Option<Shape>, ScriptFault> {
 }
 
 /// The version at which a hear broke off, or null.
-fn read_taken(value: &Value) -> Result<Option<Version>, ScriptFault> {
+pub(crate) fn read_taken(value: &Value) -> Result<Option<Version>, ScriptFault> {
     if value.is_null() {
         return Ok(None);
     }

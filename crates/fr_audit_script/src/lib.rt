@@ -2,6 +2,7 @@
 #![tactic(auto)]
 
 mod acts;
+mod entries;
 mod journals;
 mod pieces;
 mod script;

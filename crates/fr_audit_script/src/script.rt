@@ -7,7 +7,7 @@ ghost use Rattle.serde_json.specs.Read.{read};
 ghost use Rattle.serde_json.specs.Written.{IsInOrder};
 
 use crate::journals::{read_journal, write_journal};
-use crate::pieces;
+use crate::pieces::{self, Spelling};
 use crate::setting::{config_of, write_config};
 use fr_audit_journal::Journal;
 use fr_base::Memory;
@@ -26,7 +26,19 @@ pub fn read_script(alloc: Global, text: &[u8]) -> Result<(Config, Vec<Journal>),
     ensures utf8 { OnOk result (IsUtf8 text.now) }
     ensures json { OnOk result ((d : Data) × (read text.now ≡ Some d)) }
 {
-    match pieces::read_script(alloc, text) {
+    match pieces::read_script(alloc, text, Spelling::AsWritten) {
+        Ok(script) => Ok(script),
+        Err(Unread::Memory) => Err(ScriptFault::Memory),
+        Err(Unread::Unusual) => read_trees(alloc, text),
+    }
+}
+
+/// Reads the script that a text is, each entry as a tree, in which members stand in any order.
+fn read_trees(alloc: Global, text: &[u8]) -> Result<(Config, Vec<Journal>), ScriptFault>
+    ensures utf8 { OnOk result (IsUtf8 text.now) }
+    ensures json { OnOk result ((d : Data) × (read text.now ≡ Some d)) }
+{
+    match pieces::read_script(alloc, text, Spelling::AnyOrder) {
         Ok(script) => Ok(script),
         Err(Unread::Memory) => Err(ScriptFault::Memory),
         Err(Unread::Unusual) => read_tree_of(alloc, text),

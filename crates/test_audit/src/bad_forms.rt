@@ -29,7 +29,7 @@ const CONFIGS: [&str; 8] = [
     r#"{"coordinators":1,"degree":1,"logs":1,"proxies":1}"#,
 ];
 
-const ASKS: [&str; 33] = [
+const ASKS: [&str; 59] = [
     r#"{}"#,
     r#"null"#,
     r#"{"cell":{}}"#,
@@ -63,9 +63,35 @@ const ASKS: [&str; 33] = [
     r#"{"log":{"pop":{"epoch":257,"tag":32,"through":0}}}"#,
     r#"{"log":{"pop":{"epoch":257,"tag":0,"through":4611686018427387904}}}"#,
     r#"{"log":{"push":{"bodies":[[0,[]]],"epoch":513,"known":0,"mark":{"dropped":1,"gens":[{"epoch":513,"first":1,"k":1,"m":1,"seeded_to":0}]},"prev":1,"version":2}}}"#,
+    r#"{"log":{"push":{"bodies":[[0,[{"set":{"key":"6A","value":""}}]]],"epoch":257,"known":0,"mark":null,"prev":1,"version":2}}}"#,
+    r#"{"log":{"push":{"bodies":[[0,[{"set":{"key":"6","value":""}}]]],"epoch":257,"known":0,"mark":null,"prev":1,"version":2}}}"#,
+    r#"{"log":{"push":{"bodies":[[0,[{"set":{"key":"6g","value":""}}]]],"epoch":257,"known":0,"mark":null,"prev":1,"version":2}}}"#,
+    r#"{"log":{"push":{"bodies":[[0,[{"set":{"key":61,"value":""}}]]],"epoch":257,"known":0,"mark":null,"prev":1,"version":2}}}"#,
+    r#"{"log":{"push":{"bodies":[[0,[{"set":{"key":"61","param":""}}]]],"epoch":257,"known":0,"mark":null,"prev":1,"version":2}}}"#,
+    r#"{"log":{"push":{"bodies":[[0,[{"set":{"key":"61","more":0,"value":""}}]]],"epoch":257,"known":0,"mark":null,"prev":1,"version":2}}}"#,
+    r#"{"log":{"push":{"bodies":[[0,[{"put":{"key":"61","value":""}}]]],"epoch":257,"known":0,"mark":null,"prev":1,"version":2}}}"#,
+    r#"{"log":{"push":{"bodies":[[0,[{}]]],"epoch":257,"known":0,"mark":null,"prev":1,"version":2}}}"#,
+    r#"{"log":{"push":{"bodies":[[0]],"epoch":257,"known":0,"mark":null,"prev":1,"version":2}}}"#,
+    r#"{"log":{"push":{"bodies":[[]],"epoch":257,"known":0,"mark":null,"prev":1,"version":2}}}"#,
+    r#"{"log":{"push":{"bodies":[[32,[]]],"epoch":257,"known":0,"mark":null,"prev":1,"version":2}}}"#,
+    r#"{"log":{"push":{"bodies":[[1,[]],[0,[]]],"epoch":257,"known":0,"mark":null,"prev":1,"version":2}}}"#,
+    r#"{"log":{"push":{"bodies":null,"epoch":257,"known":0,"mark":null,"prev":1,"version":2}}}"#,
+    r#"{"log":{"push":{"bodies":[],"epoch":257,"known":0,"mark":false,"prev":1,"version":2}}}"#,
+    r#"{"log":{"push":{"bodies":[],"epoch":257,"known":0,"mark":null,"prev":1,"upto":2}}}"#,
+    r#"{"log":{"push":{"bodies":[],"epoch":257,"known":0,"mark":null,"prev":1,"version":18446744073709551616}}}"#,
+    r#"{"log":{"push":{"bodies":[],"epoch":257,"known":0,"mark":null,"prev":1,"version":2,"z":0}}}"#,
+    r#"{"log":{"peek":{"epoch":257,"most":1,"tag":0}}}"#,
+    r#"{"log":{"peek":{"after":0,"epoch":257,"most":1,"tag":"0"}}}"#,
+    r#"{"log":{"peek":{"after":0e0,"epoch":257,"most":1,"tag":0}}}"#,
+    r#"{"log":{"pop":{"epoch":257,"tag":0,"upto":0}}}"#,
+    r#"{"log":{"mark_asked":{"epoch":257,"tag":0}}}"#,
+    r#"{"seq":{"next":{"proxy":0,"request":4611686018427387904,"step":1}}}"#,
+    r#"{"seq":{"next":{"proxy":0,"request":1,"step":0}}}"#,
+    r#"{"seq":{"next":{"proxy":0,"request":1,"step":1000001}}}"#,
+    r#"{"seq":{"last":{"proxy":0,"request":1,"step":1}}}"#,
 ];
 
-const TELLS: [&str; 25] = [
+const TELLS: [&str; 41] = [
     r#"{"cell":{"two_values":null}}"#,
     r#"{"cell":{"two_values":{"why":0}}}"#,
     r#"{"log":{"seeded":[]}}"#,
@@ -91,9 +117,25 @@ const TELLS: [&str; 25] = [
     r#"{"log":{"marked":{"state":{"dropped":1,"gens":[]}}}}"#,
     r#"{"log":{"marked":{"state":{"gens":[{"epoch":513,"first":3,"k":2,"m":2,"seeded_to":3}]}}}}"#,
     r#"{"log":{"marked":{"state":{"dropped":1,"gens":[{"epoch":513,"first":3,"k":2,"m":2,"seeded_to":3}],"more":0}}}}"#,
+    r#"{"log":{"held":{"version":4611686018427387904}}}"#,
+    r#"{"log":{"held":{"version":2,"z":0}}}"#,
+    r#"{"log":{"held":{"upto":2}}}"#,
+    r#"{"log":{"popped":{}}}"#,
+    r#"{"log":{"peeked":{"after":0,"known":0,"records":[{"batch":[],"tag":0,"version":1}],"tag":0,"upto":1}}}"#,
+    r#"{"log":{"peeked":{"after":0,"known":0,"records":[{"batch":[]}],"tag":0,"upto":1}}}"#,
+    r#"{"log":{"peeked":{"after":1,"known":0,"records":[{"batch":[],"version":1}],"tag":0,"upto":1}}}"#,
+    r#"{"log":{"peeked":{"after":0,"known":0,"records":[{"batch":[],"version":2},{"batch":[],"version":1}],"tag":0,"upto":2}}}"#,
+    r#"{"log":{"peeked":{"after":0,"known":0,"records":{},"tag":0,"upto":1}}}"#,
+    r#"{"log":{"peeked":{"after":0,"known":0,"records":[],"tag":32,"upto":1}}}"#,
+    r#"{"log":{"refused":{"why":{"gap":{}}}}}"#,
+    r#"{"log":{"refused":{"why":{"gap":{"durable":4611686018427387904}}}}}"#,
+    r#"{"log":{"refused":{"why":{"gap":{"durable":5},"stale":{}}}}}"#,
+    r#"{"log":{"refused":{"why":{"stale":{"durable":5}}}}}"#,
+    r#"{"seq":{"numbered":{"request":1,"version":2}}}"#,
+    r#"{"seq":{"numbered":{"prev":1,"request":0,"version":2}}}"#,
 ];
 
-const ACTS: [&str; 27] = [
+const ACTS: [&str; 37] = [
     r#""begun""#,
     r#"{"begun":null}"#,
     r#"{"begun":[]}"#,
@@ -121,6 +163,16 @@ const ACTS: [&str; 27] = [
     r#"{"heard":{"from":{"cell":{"index":0}},"outcome":null,"taken":"3","tell":{"log":{"seeded":{}}}}}"#,
     r#"{"submitted":{"batch":[],"step":0}}"#,
     r#"{"submitted":{"batch":[],"step":1000001}}"#,
+    r#"{"asked":{"ask":{"log":{"pop":{"epoch":257,"tag":1,"through":2}}},"from":{"storage":{"tag":1}},"tell":null}}"#,
+    r#"{"asked":{"ask":{"log":{"pop":{"epoch":257,"tag":1,"through":2}}},"from":{"storage":{"tag":32}},"tell":{"log":{"popped":{"through":2}}}}}"#,
+    r#"{"heard":{"from":{"cell":{"index":0}},"outcome":{},"taken":null,"tell":{"log":{"seeded":{}}}}}"#,
+    r#"{"heard":{"from":{"cell":{"index":0}},"outcome":{"waiting":{"version":2}},"taken":null,"tell":{"log":{"seeded":{}}}}}"#,
+    r#"{"heard":{"from":{"cell":{"index":0}},"outcome":{"committed":{"version":2},"ended":{}},"taken":null,"tell":{"log":{"seeded":{}}}}}"#,
+    r#"{"heard":{"from":{"cell":{"index":0}},"outcome":false,"taken":null,"tell":{"log":{"seeded":{}}}}}"#,
+    r#"{"heard":{"from":{"cell":{"index":0}},"outcome":null,"taken":4611686018427387904,"tell":{"log":{"seeded":{}}}}}"#,
+    r#"{"heard":{"from":{"cell":{"index":0}},"outcome":null,"taken":[],"tell":{"log":{"seeded":{}}}}}"#,
+    r#"{"submitted":{"batch":[{"clear":{"begin":"62","end":"61"}}],"step":1}}"#,
+    r#"{"submitted":{"batch":[],"step":1,"z":0}}"#,
 ];
 
 const NODES: [&str; 8] = [
@@ -145,12 +197,15 @@ const LASTS: [&str; 8] = [
     r#"{"log":{"durable":0,"known":0,"popped":[[1,0],[0,0]],"seeded":true,"stopped":false}}"#,
 ];
 
-const ENTRIES: [&str; 5] = [
+const ENTRIES: [&str; 8] = [
     r#"{"act":{"begun":{}},"stamp":1099511627776}"#,
     r#"{"act":{"begun":{}}}"#,
     r#"{"act":{"begun":{}},"stamp":1},{"act":{"begun":{}},"stamp":1}"#,
     r#"{"act":{"begun":{}},"stamp":2},{"act":{"begun":{}},"stamp":1}"#,
     r#"{"act":{"begun":{}},"stamp":0},null"#,
+    r#"{"act":{"submitted":{"batch":[],"step":1}},"stamp":-1}"#,
+    r#"{"act":{"submitted":{"batch":[],"step":1}},"place":1}"#,
+    r#"{"act":{"submitted":{"batch":[],"step":1}},"stamp":1,"z":0}"#,
 ];
 
 const JOURNALS: [&str; 2] = ["{}", r#"{"entries":[],"last":null}"#];

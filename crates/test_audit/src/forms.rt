@@ -103,7 +103,7 @@ const CONFIGS: [&str; 3] = [
 ];
 
 /// Whether a script is written so once it was read.
-fn is_written(alloc: Global, script: &[u8], wanted: &[u8]) -> Result<bool, Fail> {
+pub(crate) fn is_written(alloc: Global, script: &[u8], wanted: &[u8]) -> Result<bool, Fail> {
     let (config, journals) = read_script(alloc, script)?;
     let written = write_script(alloc, &config, journals.as_slice())?;
     Ok(written.as_slice() == wanted)

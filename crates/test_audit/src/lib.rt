@@ -19,3 +19,5 @@ mod random;
 mod scripts;
 #[cfg(test)]
 mod shapes;
+#[cfg(test)]
+mod spellings;
