@@ -1,144 +1,116 @@
-//! An ask delivered, and its tell heard.
-ghost use Rattle.std.specs.Prelude.{◌≡◌, None, IsOk};
-ghost use Rattle.fr_base.specs.declared.place.NodeId.TheVariants as node;
-ghost use Rattle.fr_run_event.specs.Step.{turn_of};
-ghost use Rattle.fr_run_event.specs.declared.event.Event.TheVariants as event;
-
-use crate::pending::{Purpose, listed};
-use fr_ask::{Ask, Tell};
-use fr_base::{Memory, NodeId, Tag};
+//! Events, and asks delivered whose tells are heard.
+use fr_ask::{Ask, SeqTell, Tell};
+use fr_base::{Memory, NodeId, Version};
+use fr_proxy::Outcome;
 use fr_run_event::{Answer, Event, NotEnabled};
 use fr_world::World;
 use std::alloc::Global;
 
-/// What came of an ask: what was told, and what its hear answered.
-#[derive(Drop)]
+/// What came of an ask: the number of a batch, where one was told, and what the hear says of a proxy's batch.
+#[derive(Clone, Copy)]
 pub(crate) struct Exchange {
-    pub(crate) tell: Tell,
-    pub(crate) answer: Answer,
+    pub(crate) number: Option<Version>,
+    pub(crate) outcome: Outcome,
 }
 
-/// Delivers an ask, and has its sender hear at once what it is told.
+/// Makes the turn that an event is.
+fn make(alloc: Global, world: &mut World, event: Event) -> Result<Answer, NotEnabled> {
+    world.step(alloc, &event)
+}
+
+/// Makes the turn that an event is, of which the answer is not wanted; says why it cannot happen.
+pub(crate) fn why_not(
+    alloc: Global,
+    world: &mut World,
+    event: Event,
+) -> Result<Option<NotEnabled>, Memory> {
+    match make(alloc, world, event) {
+        Ok(_) => Ok(None),
+        Err(NotEnabled::Memory) => Err(Memory),
+        Err(why) => Ok(Some(why)),
+    }
+}
+
+/// Delivers an ask, and gives what is told.
+pub(crate) fn deliver(
+    alloc: Global,
+    world: &mut World,
+    from: &NodeId,
+    to: &NodeId,
+    ask: Ask,
+) -> Result<Tell, NotEnabled> {
+    let asked = Event::Deliver {
+        from: *from,
+        to: *to,
+        ask,
+    };
+    match make(alloc, world, asked) {
+        Ok(Answer::Told(tell)) => Ok(tell),
+        // Each ask that is delivered is told.
+        Ok(_) => Err(NotEnabled::NeverSent),
+        Err(why) => Err(why),
+    }
+}
+
+/// Delivers an ask of a proxy or a recoverer, and has its sender hear at once what it is told. None where it does not come
+/// there, since the node is lost, say: such an ask is passed over.
 pub(crate) fn ask_and_hear(
     alloc: Global,
     world: &mut World,
-    from: &NodeId,
-    to: &NodeId,
-    ask: Ask,
-) -> Result<Exchange, NotEnabled> {
-    let asked = Event::Deliver {
-        from: *from,
-        to: *to,
-        ask,
-    };
-    let Answer::Told(tell) = world.step(alloc, &asked)? else {
-        // Each ask that is delivered is told.
-        return Err(NotEnabled::NeverSent);
-    };
-    let heard = Event::Hear {
-        by: *from,
-        from: *to,
-        tell: tell.copy()?,
-        taken: None,
-    };
-    let answer = world.step(alloc, &heard)?;
-    Ok(Exchange { tell, answer })
-}
-
-/// As [`ask_and_hear`], of a storage server, which hears in place: where memory is wanting the world is given up, so that
-/// no hear needs a copy of the server. With the world stands what came of the ask, or why it did not come there.
-pub(crate) fn ask_for_server(
-    alloc: Global,
-    world: World,
-    tag: Tag,
-    to: &NodeId,
-    ask: Ask,
-) -> Result<(World, Result<Exchange, NotEnabled>), Memory> {
-    let mut world = world;
-    let asked = Event::Deliver {
-        from: NodeId::Storage { tag },
-        to: *to,
-        ask,
-    };
-    let tell = match world.step(alloc, &asked) {
-        Ok(Answer::Told(tell)) => tell,
-        // Each ask that is delivered is told.
-        Ok(_) => return Ok((world, Err(NotEnabled::NeverSent))),
-        Err(NotEnabled::Memory) => return Err(Memory),
-        Err(why) => return Ok((world, Err(why))),
-    };
-    match why_unheard(&world, tag, &NodeId::Storage { tag }, to, &tell) {
-        Some(why) => Ok((world, Err(why))),
-        None => hear_in_place(alloc, world, tag, to, tell),
-    }
-}
-
-/// Why a storage server does not hear what another node told it; none where it does.
-fn why_unheard(
-    world: &World,
-    tag: Tag,
     by: &NodeId,
-    from: &NodeId,
-    tell: &Tell,
-) -> Option<NotEnabled>
-    requires { by.now ≡ node.Storage tag }
-    ensures { result ≡ None → IsOk (turn_of world.now.config world.now.turns (event.Hear (node.Storage tag) from.now tell.now None)) }
-{
-    if !world.is_there(*by) {
-        Some(NotEnabled::NoSuchNode)
-    } else if world.is_gone(*by) {
-        Some(NotEnabled::Gone)
-    } else if !world.was_told(*from, *by, tell) {
-        Some(NotEnabled::NeverSent)
-    } else {
-        None
+    to: &NodeId,
+    ask: Ask,
+) -> Result<Option<Exchange>, Memory> {
+    match deliver(alloc, world, by, to, ask) {
+        Ok(tell) => hear(alloc, world, by, to, tell),
+        Err(why) => passed_over(why),
     }
 }
 
-/// Has a storage server hear in place what it can hear, for which memory alone may be wanting.
-fn hear_in_place(
-    alloc: Global,
-    world: World,
-    tag: Tag,
-    from: &NodeId,
-    tell: Tell,
-) -> Result<(World, Result<Exchange, NotEnabled>), Memory>
-    requires { IsOk (turn_of world.config world.turns (event.Hear (node.Storage tag) from.now tell None)) }
-{
-    let heard = Event::Hear {
-        by: NodeId::Storage { tag },
-        from: *from,
-        tell: tell.copy()?,
-        taken: None,
-    };
-    match world.step_owned(alloc, &heard) {
-        Ok((world, answer)) => Ok((world, Ok(Exchange { tell, answer }))),
-        Err(NotEnabled::Memory) => Err(Memory),
-        Err(NotEnabled::NoSuchNode) => unreachable!(),
-        Err(NotEnabled::Gone) => unreachable!(),
-        Err(NotEnabled::NeverSent) => unreachable!(),
-        Err(NotEnabled::BallotUsed) => unreachable!(),
-        Err(NotEnabled::TwoOpen) => unreachable!(),
-        Err(NotEnabled::Over) => unreachable!(),
-    }
-}
-
-/// As [`ask_and_hear`], of the ask for this among those listed that goes to the cell or the log of this number. None where
-/// there is none, or where the node is lost: such an ask is passed over.
-pub(crate) fn ask_listed(
+/// Has a proxy or a recoverer hear a tell.
+fn hear(
     alloc: Global,
     world: &mut World,
     by: &NodeId,
-    asks: &[(NodeId, Ask)],
-    purpose: &Purpose,
-    index: u8,
+    from: &NodeId,
+    tell: Tell,
 ) -> Result<Option<Exchange>, Memory> {
-    let Some((to, ask)) = listed(asks, purpose, index) else {
-        return Ok(None);
+    let number = number_in(&tell);
+    let heard = Event::Hear {
+        by: *by,
+        from: *from,
+        tell,
+        taken: None,
     };
-    match ask_and_hear(alloc, world, by, to, ask.copy()?) {
-        Ok(done) => Ok(Some(done)),
-        Err(NotEnabled::Memory) => Err(Memory),
-        Err(_) => Ok(None),
+    match make(alloc, world, heard) {
+        Ok(answer) => Ok(Some(Exchange {
+            number,
+            outcome: outcome_in(&answer),
+        })),
+        Err(why) => passed_over(why),
+    }
+}
+
+/// An ask that came nowhere, unless memory was wanting.
+fn passed_over(why: NotEnabled) -> Result<Option<Exchange>, Memory> {
+    match why {
+        NotEnabled::Memory => Err(Memory),
+        _ => Ok(None),
+    }
+}
+
+/// The number that a sequencer gave.
+fn number_in(tell: &Tell) -> Option<Version> {
+    match tell {
+        Tell::Seq(SeqTell::Numbered { version, .. }) => Some(*version),
+        _ => None,
+    }
+}
+
+/// What a proxy says of its batch.
+fn outcome_in(answer: &Answer) -> Outcome {
+    match answer {
+        Answer::Heard(outcome) => *outcome,
+        _ => Outcome::Waiting,
     }
 }

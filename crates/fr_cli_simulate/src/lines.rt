@@ -2,8 +2,8 @@
 ghost use Rattle.std.specs.Prelude.{◌≡◌, IfErr, OnOk};
 ghost use Rattle.fr_cli_json.specs.Calls.{IsWriteFault};
 
-use fr_ask::Last;
-use fr_base::{NodeId, Tag};
+use fr_ask::{Last, Rows};
+use fr_base::{Epoch, NodeId, Tag, Version};
 use fr_cli_apply::put_rows;
 use fr_cli_json::{CallCounts, CliFault, put};
 use fr_world::World;
@@ -60,21 +60,66 @@ fn put_last<W: Write>(
     ensures fault { IfErr result (λ e. IsWriteFault calls.new e) }
     ensures done { OnOk result (calls.new ≡ calls.old) }
 {
-    let Last::Storage {
-        epoch,
-        version,
-        floor,
-        rows,
-    } = last
-    else {
-        return Ok(());
-    };
-    let tag = tag.get();
-    let epoch = epoch.get();
-    let version = version.get();
-    let floor = floor.get();
-    let count = rows.len();
-    let line = format!(in alloc; "storage {tag} {epoch} {version} floor {floor} rows {count}\n")?;
-    put(calls, writer, line.as_str())?;
+    match last {
+        Last::Storage {
+            epoch,
+            version,
+            floor,
+            rows,
+        } => {
+            let head = Head {
+                tag,
+                epoch,
+                version,
+                floor,
+                count: rows.len(),
+            };
+            put_server(alloc, head, rows, calls, writer)
+        }
+        _ => Ok(()),
+    }
+}
+
+/// Where a storage server stands, and how many rows it has.
+#[derive(Clone, Copy)]
+struct Head {
+    tag: Tag,
+    epoch: Epoch,
+    version: Version,
+    floor: Version,
+    count: usize,
+}
+
+/// Writes where a storage server stands, and its rows.
+fn put_server<W: Write>(
+    alloc: Global,
+    head: Head,
+    rows: Rows,
+    calls: &mut CallCounts,
+    writer: &mut W,
+) -> Result<(), CliFault>
+    ensures fault { IfErr result (λ e. IsWriteFault calls.new e) }
+    ensures done { OnOk result (calls.new ≡ calls.old) }
+{
+    put_head(alloc, head, calls, writer)?;
     put_rows(alloc, rows.into_vec(), calls, writer)
+}
+
+/// Writes where a storage server stands.
+fn put_head<W: Write>(
+    alloc: Global,
+    head: Head,
+    calls: &mut CallCounts,
+    writer: &mut W,
+) -> Result<(), CliFault>
+    ensures fault { IfErr result (λ e. IsWriteFault calls.new e) }
+    ensures done { OnOk result (calls.new ≡ calls.old) }
+{
+    let tag = head.tag.get();
+    let epoch = head.epoch.get();
+    let version = head.version.get();
+    let floor = head.floor.get();
+    let count = head.count;
+    let line = format!(in alloc; "storage {tag} {epoch} {version} floor {floor} rows {count}\n")?;
+    put(calls, writer, line.as_str())
 }

@@ -4,7 +4,7 @@ use fr_run_event::NotEnabled;
 use fr_storage::StorageFault;
 
 /// Why a storage server did not get what it asked a log for.
-#[derive(Clone, Copy, Debug, PartialEq, Eq)]
+#[derive(Clone, Copy)]
 pub(crate) enum Refusal {
     /// The ask cannot happen.
     Event(NotEnabled),

@@ -1,6 +1,8 @@
 //! Asks that are pending: those whose tells a proxy or a recoverer wants.
+ghost use Rattle.std.specs.Prelude.{◌<◌, length, IfSome};
+
 use fr_ask::Ask;
-use fr_base::{Ballot, Memory, NodeId, Tag};
+use fr_base::{Ballot, Memory, NodeId};
 use fr_epoch::Phase;
 use fr_log::LogAsk;
 use fr_register::CellAsk;
@@ -8,7 +10,7 @@ use fr_world::World;
 use std::alloc::Global;
 
 /// What an ask is for.
-#[derive(Clone, Copy, Debug, PartialEq, Eq)]
+#[derive(Clone, Copy)]
 pub(crate) enum Purpose {
     /// A read of a cell.
     Read,
@@ -20,52 +22,58 @@ pub(crate) enum Purpose {
     Push,
     /// A lock of a log.
     Lock,
-    /// A peek of a tag.
-    Peek { tag: Tag },
 }
+
+/// The numbers of all logs that a generation may have.
+pub(crate) const LOGS: [u8; 16] = [0, 1, 2, 3, 4, 5, 6, 7, 8, 9, 10, 11, 12, 13, 14, 15];
 
 impl Purpose {
     /// Whether an ask is for this.
-    fn is_of(&self, ask: &Ask) -> bool {
+    fn is_of(self, ask: &Ask) -> bool {
         match (self, ask) {
             (Purpose::Read, Ask::Cell(CellAsk::Read { .. })) => true,
             (Purpose::Write, Ask::Cell(CellAsk::Write { .. })) => true,
             (Purpose::Seed, Ask::Log(LogAsk::Seed(_))) => true,
             (Purpose::Push, Ask::Log(LogAsk::Push(_))) => true,
             (Purpose::Lock, Ask::Log(LogAsk::Lock { .. })) => true,
-            (Purpose::Peek { tag }, Ask::Log(LogAsk::Peek { tag: asked, .. })) => *tag == *asked,
             _ => false,
         }
     }
 }
 
-/// The asks that a proxy or a recoverer has pending, in its order; none where it is not there.
+/// The asks that a recoverer has pending, where there are any for this.
+pub(crate) fn asks_of(
+    alloc: Global,
+    world: &World,
+    ballot: Ballot,
+    purpose: Purpose,
+) -> Result<Vec<(NodeId, Ask)>, Memory> {
+    if is_wanted(world, ballot, purpose) {
+        pending_of(alloc, world, ballot)
+    } else {
+        Ok(Vec::new(alloc))
+    }
+}
+
+/// The asks that a recoverer has pending; none where it is not there.
 pub(crate) fn pending_of(
     alloc: Global,
     world: &World,
-    by: &NodeId,
+    ballot: Ballot,
 ) -> Result<Vec<(NodeId, Ask)>, Memory> {
-    match by {
-        NodeId::Proxy { epoch, number } => match world.proxy(*epoch, *number)? {
-            Some(proxy) => proxy.pending(alloc),
-            None => Ok(Vec::new(alloc)),
-        },
-        NodeId::Recoverer { ballot } => match world.recoverer(*ballot) {
-            Some(recoverer) => recoverer.pending(alloc),
-            None => Ok(Vec::new(alloc)),
-        },
-        _ => Ok(Vec::new(alloc)),
+    match world.recoverer(ballot) {
+        Some(recoverer) => recoverer.pending(alloc),
+        None => Ok(Vec::new(alloc)),
     }
 }
 
 /// Whether a recoverer has asks for this pending, where it has any: each phase has those of its own, and what they are
 /// changes with what is told of them alone. It takes no memory, while a list of them may take much.
-pub(crate) fn is_wanted(world: &World, ballot: Ballot, purpose: &Purpose) -> bool {
+pub(crate) fn is_wanted(world: &World, ballot: Ballot, purpose: Purpose) -> bool {
     match world.recoverer(ballot) {
         Some(recoverer) => match (recoverer.phase(), purpose) {
             (Phase::Reading, Purpose::Read) => true,
             (Phase::Locking, Purpose::Lock) => true,
-            (Phase::Copying, Purpose::Peek { .. }) => !recoverer.is_copied(),
             (Phase::Copying, Purpose::Seed) => recoverer.is_copied(),
             (Phase::Writing, Purpose::Write) => true,
             (Phase::Chosen { .. }, Purpose::Push) => true,
@@ -75,35 +83,39 @@ pub(crate) fn is_wanted(world: &World, ballot: Ballot, purpose: &Purpose) -> boo
     }
 }
 
-/// Of a list of asks the one for this to the cell or the log of this number.
-pub(crate) fn listed<'a>(
-    asks: &'a [(NodeId, Ask)],
-    purpose: &Purpose,
+/// Takes from a list of asks the one for this to the cell or the log of this number. A list has at most one, so what a
+/// step names again is not asked again.
+pub(crate) fn take(
+    asks: &mut Vec<(NodeId, Ask)>,
+    purpose: Purpose,
     index: u8,
-) -> Option<&'a (NodeId, Ask)> {
-    for asked in asks {
-        let (to, ask) = asked;
-        if purpose.is_of(ask) && has_index(to, index) {
-            return Some(asked);
+) -> Option<(NodeId, Ask)> {
+    match place_of(asks.as_slice(), purpose, index) {
+        Some(place) => Some(asks.swap_remove(place)),
+        None => None,
+    }
+}
+
+/// Where the ask for this to the cell or the log of this number stands in a list.
+fn place_of(asks: &[(NodeId, Ask)], purpose: Purpose, index: u8) -> Option<usize>
+    ensures { IfSome result (λ place. place < length asks.now) }
+{
+    for place in 0..asks.len() {
+        if is_to(&asks[place], purpose, index) {
+            return Some(place);
         }
     }
     None
 }
 
-/// Numbers of cells or logs, each once, in the order in which they come first. What is asked again in the same step is
-/// told the same.
-pub(crate) fn distinct(alloc: Global, numbers: &[u8]) -> Result<Vec<u8>, Memory> {
-    let mut found = Vec::new(alloc);
-    for number in numbers {
-        if !found.contains(number) {
-            found.push(*number)?;
-        }
-    }
-    Ok(found)
+/// Whether an ask is for this, and goes to the cell or the log of this number.
+fn is_to(asked: &(NodeId, Ask), purpose: Purpose, index: u8) -> bool {
+    let (to, ask) = asked;
+    purpose.is_of(ask) && has_index(to, index)
 }
 
 /// Whether a node is the cell or the log of this number.
-fn has_index(node: &NodeId, wanted: u8) -> bool {
+pub(crate) fn has_index(node: &NodeId, wanted: u8) -> bool {
     match node {
         NodeId::Cell { index } | NodeId::Log { index, .. } => *index == wanted,
         _ => false,

@@ -1,13 +1,12 @@
 //! The steps of a script: each is a list of events, and prints a line.
 mod commit;
 mod lose;
-mod mark;
-mod pop;
-mod pull;
+mod peeks;
 mod push;
 mod recover;
 mod storing;
 
+use crate::steps::storing::Wish;
 use fr_base::Memory;
 use fr_simulate_script::Act;
 use fr_world::World;
@@ -17,13 +16,21 @@ use std::alloc::Global;
 pub(crate) fn line_of(alloc: Global, world: World, act: Act) -> Result<(World, String), Memory> {
     let mut world = world;
     let line = match act {
-        Act::Commit(commit) => commit::line_of(alloc, &mut world, commit)?,
-        Act::Push(push) => push::line_of(alloc, &mut world, &push)?,
-        Act::Pull(pull) => return pull::line_of(alloc, world, &pull),
-        Act::Mark(mark) => return mark::line_of(alloc, world, &mark),
-        Act::Pop(pop) => return pop::line_of(alloc, world, &pop),
-        Act::Recover(recover) => recover::line_of(alloc, &mut world, &recover)?,
-        Act::Lose(log) => lose::line_of(alloc, &mut world, log)?,
+        Act::Commit(commit) => commit::line_of(alloc, &mut world, commit),
+        Act::Push(push) => push::line_of(alloc, &mut world, &push),
+        Act::Pull(pull) => return storing::line_of(alloc, world, Wish::Pull, &pull),
+        Act::Mark(pull) => return storing::line_of(alloc, world, Wish::Mark, &pull),
+        Act::Pop(pull) => return storing::line_of(alloc, world, Wish::Pop, &pull),
+        Act::Recover(recover) => recover::line_of(alloc, &mut world, &recover),
+        Act::Lose(log) => lose::line_of(alloc, &mut world, log),
     };
-    Ok((world, line))
+    beside(world, line)
+}
+
+/// A line beside the world.
+fn beside(world: World, line: Result<String, Memory>) -> Result<(World, String), Memory> {
+    match line {
+        Ok(line) => Ok((world, line)),
+        Err(why) => Err(why),
+    }
 }

@@ -1,48 +1,52 @@
 //! The step `commit`: a proxy takes a batch, has it numbered, and pushes it.
-use crate::exchange::{Exchange, ask_and_hear};
+use crate::exchange::{Exchange, ask_and_hear, why_not};
 use crate::names::event_name;
-use crate::pending::pending_of;
-use crate::steps::push::push_to;
-use fr_ask::{Ask, SeqTell, Tell};
-use fr_base::{Memory, NodeId, Version};
+use crate::steps::push::{Said, push_to};
+use fr_ask::{Ask, SeqAsk};
+use fr_base::{Epoch, Memory, NodeId, Step, Version};
+use fr_cli_json::Mutations;
 use fr_mutation::{Batch, BatchFault};
 use fr_run_event::{Event, NotEnabled};
 use fr_simulate_script::Commit;
 use fr_world::World;
 use std::alloc::Global;
 
+/// What becomes of a batch in its step.
+#[derive(Clone, Copy)]
+enum Became {
+    /// It is beyond a limit.
+    Beyond(BatchFault),
+    /// The proxy did not take it.
+    Refused(NotEnabled),
+    /// It got no number.
+    Ended,
+    /// It was pushed at a version.
+    Pushed(Version, Said),
+}
+
 /// Gives a batch to a proxy, has it numbered, and pushes it to the listed logs.
 pub(crate) fn line_of(alloc: Global, world: &mut World, commit: Commit) -> Result<String, Memory> {
-    let epoch = commit.epoch.get();
+    let epoch = commit.epoch;
     let proxy = commit.proxy;
-    let by = NodeId::Proxy {
-        epoch: commit.epoch,
-        number: proxy,
-    };
     let logs = commit.logs;
-    let batch = match Batch::new(commit.batch.into_vec()) {
-        Ok(batch) => batch,
-        Err(BatchFault::Memory) => return Err(Memory),
-        Err(fault) => return refused(alloc, epoch, proxy, fault.name()),
+    let became = match submit(alloc, world, epoch, proxy, commit.step, commit.batch)? {
+        Some(refused) => refused,
+        None => number_and_push(alloc, world, epoch, proxy, logs.as_slice())?,
     };
-    let submit = Event::Submit {
-        epoch: commit.epoch,
-        proxy,
-        step: commit.step,
-        batch,
-    };
-    match world.step(alloc, &submit) {
-        Ok(_) => {}
-        Err(NotEnabled::Memory) => return Err(Memory),
-        Err(why) => return refused(alloc, epoch, proxy, event_name(why)),
-    }
-    match number(alloc, world, &by)? {
-        Some(version) => {
+    line_after(alloc, epoch.get(), proxy, &became)
+}
+
+/// The line of a batch of which this became.
+fn line_after(alloc: Global, epoch: u64, proxy: u8, became: &Became) -> Result<String, Memory> {
+    match became {
+        Became::Beyond(fault) => refused(alloc, epoch, proxy, fault.name()),
+        Became::Refused(why) => refused(alloc, epoch, proxy, event_name(*why)),
+        Became::Ended => Ok(format!(in alloc; "commit {epoch} {proxy} ended\n")?),
+        Became::Pushed(version, said) => {
             let version = version.get();
-            let word = push_to(alloc, world, &by, logs.as_slice())?.word();
+            let word = said.word();
             Ok(format!(in alloc; "commit {epoch} {proxy} {version} {word}\n")?)
         }
-        None => Ok(format!(in alloc; "commit {epoch} {proxy} ended\n")?),
     }
 }
 
@@ -51,32 +55,109 @@ fn refused(alloc: Global, epoch: u64, proxy: u8, name: &str) -> Result<String, M
     Ok(format!(in alloc; "commit {epoch} {proxy} refused {name}\n")?)
 }
 
-/// Asks for the number of the batch under way, and has the proxy hear it; none where no number is given.
-fn number(alloc: Global, world: &mut World, by: &NodeId) -> Result<Option<Version>, Memory> {
-    let Some((to, ask)) = number_ask(alloc, world, by)? else {
-        return Ok(None);
-    };
-    match ask_and_hear(alloc, world, by, &to, ask) {
-        Ok(done) => Ok(number_in(&done)),
-        Err(NotEnabled::Memory) => Err(Memory),
-        Err(_) => Ok(None),
+/// Gives a batch to a proxy; says why it is not taken.
+fn submit(
+    alloc: Global,
+    world: &mut World,
+    epoch: Epoch,
+    proxy: u8,
+    step: Step,
+    batch: Mutations,
+) -> Result<Option<Became>, Memory> {
+    match Batch::new(batch.into_vec()) {
+        Ok(batch) => submit_batch(alloc, world, epoch, proxy, step, batch),
+        Err(BatchFault::Memory) => Err(Memory),
+        Err(fault) => Ok(Some(Became::Beyond(fault))),
     }
 }
 
-/// The number that a sequencer gave.
-fn number_in(done: &Exchange) -> Option<Version> {
-    match &done.tell {
-        Tell::Seq(SeqTell::Numbered { version, .. }) => Some(*version),
+/// Gives a batch that is within its limits to a proxy.
+fn submit_batch(
+    alloc: Global,
+    world: &mut World,
+    epoch: Epoch,
+    proxy: u8,
+    step: Step,
+    batch: Batch,
+) -> Result<Option<Became>, Memory> {
+    let submit = Event::Submit {
+        epoch,
+        proxy,
+        step,
+        batch,
+    };
+    match why_not(alloc, world, submit) {
+        Ok(Some(why)) => Ok(Some(Became::Refused(why))),
+        Ok(None) => Ok(None),
+        Err(why) => Err(why),
+    }
+}
+
+/// Has the batch that a proxy just took numbered, and pushes it to the listed logs.
+fn number_and_push(
+    alloc: Global,
+    world: &mut World,
+    epoch: Epoch,
+    proxy: u8,
+    logs: &[u8],
+) -> Result<Became, Memory> {
+    let by = NodeId::Proxy {
+        epoch,
+        number: proxy,
+    };
+    match number(alloc, world, &by)? {
+        Some(version) => {
+            let said = push_new(alloc, world, &by, logs)?;
+            Ok(Became::Pushed(version, said))
+        }
+        None => Ok(Became::Ended),
+    }
+}
+
+/// Asks for the number of the batch that a proxy just took, and has the proxy hear it; none where no number is given.
+fn number(alloc: Global, world: &mut World, by: &NodeId) -> Result<Option<Version>, Memory> {
+    let Some((to, ask)) = number_ask(world) else {
+        return Ok(None);
+    };
+    number_in(ask_and_hear(alloc, world, by, &to, Ask::Seq(ask)))
+}
+
+/// The number that was told, where the ask for one came to its sequencer.
+fn number_in(done: Result<Option<Exchange>, Memory>) -> Result<Option<Version>, Memory> {
+    match done {
+        Ok(Some(done)) => Ok(done.number),
+        Ok(None) => Ok(None),
+        Err(why) => Err(why),
+    }
+}
+
+/// The ask for a number that was given in the last turn.
+fn number_ask(world: &World) -> Option<(NodeId, SeqAsk)> {
+    match world.turns().last()?.asks().first()? {
+        (to, Ask::Seq(ask)) => Some((*to, *ask)),
         _ => None,
     }
 }
 
-/// The ask of a proxy for a number, where it is pending.
-fn number_ask(alloc: Global, world: &World, by: &NodeId) -> Result<Option<(NodeId, Ask)>, Memory> {
-    for (to, ask) in pending_of(alloc, world, by)? {
-        if let Ask::Seq(_) = ask {
-            return Ok(Some((to, ask)));
-        }
+/// Pushes a batch to the listed logs, where its number was heard in the last turn, which then gave the pushes.
+fn push_new(alloc: Global, world: &mut World, by: &NodeId, logs: &[u8]) -> Result<Said, Memory> {
+    let mut asks = last_asks(alloc, world)?;
+    push_to(alloc, world, by, &mut asks, logs)
+}
+
+/// The asks that the last turn gave.
+fn last_asks(alloc: Global, world: &World) -> Result<Vec<(NodeId, Ask)>, Memory> {
+    match world.turns().last() {
+        Some(turn) => copy_of(alloc, turn.asks()),
+        None => Ok(Vec::new(alloc)),
     }
-    Ok(None)
+}
+
+/// Equal asks, each with the node that it goes to.
+fn copy_of(alloc: Global, asks: &[(NodeId, Ask)]) -> Result<Vec<(NodeId, Ask)>, Memory> {
+    let mut copy = Vec::with_capacity(alloc, asks.len())?;
+    for (to, ask) in asks {
+        copy.push((*to, ask.copy()?))?;
+    }
+    Ok(copy)
 }

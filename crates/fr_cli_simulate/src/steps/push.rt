@@ -1,17 +1,16 @@
 //! The step `push`: a proxy pushes its open batch again.
-use crate::exchange::{Exchange, ask_listed};
-use crate::pending::{Purpose, distinct, pending_of};
+use crate::exchange::{Exchange, ask_and_hear};
+use crate::pending::{Purpose, take};
 use fr_ask::Ask;
-use fr_base::{Memory, NodeId, Version};
+use fr_base::{Epoch, Memory, NodeId, Version};
 use fr_log::LogAsk;
 use fr_proxy::Outcome;
-use fr_run_event::Answer;
 use fr_simulate_script::Push;
 use fr_world::World;
 use std::alloc::Global;
 
 /// What the tells of a step say of a batch.
-#[derive(Clone, Copy, Debug, PartialEq, Eq)]
+#[derive(Clone, Copy)]
 pub(crate) enum Said {
     Waiting,
     Ended,
@@ -19,15 +18,6 @@ pub(crate) enum Said {
 }
 
 impl Said {
-    /// With one more outcome.
-    fn with(self, outcome: Outcome) -> Said {
-        match (self, outcome) {
-            (Said::Committed, _) | (_, Outcome::Committed { .. }) => Said::Committed,
-            (Said::Ended, _) | (_, Outcome::Ended) => Said::Ended,
-            (Said::Waiting, Outcome::Waiting) => Said::Waiting,
-        }
-    }
-
     /// Its word in a line.
     pub(crate) fn word(self) -> &'static str {
         match self {
@@ -40,61 +30,117 @@ impl Said {
 
 /// Pushes the open batch of a proxy to the listed logs that are not known to hold it.
 pub(crate) fn line_of(alloc: Global, world: &mut World, push: &Push) -> Result<String, Memory> {
-    let epoch = push.epoch.get();
-    let proxy = push.proxy;
-    let by = NodeId::Proxy {
-        epoch: push.epoch,
-        number: proxy,
-    };
-    match open_version(alloc, world, &by)? {
-        Some(version) => {
+    let said = push_open(alloc, world, push)?;
+    line_after(alloc, push.epoch.get(), push.proxy, said)
+}
+
+/// The line of a batch of which this was said at its version; of none where none is open.
+fn line_after(
+    alloc: Global,
+    epoch: u64,
+    proxy: u8,
+    said: Option<(Version, Said)>,
+) -> Result<String, Memory> {
+    match said {
+        Some((version, said)) => {
             let version = version.get();
-            let word = push_to(alloc, world, &by, push.logs.as_slice())?.word();
+            let word = said.word();
             Ok(format!(in alloc; "push {epoch} {proxy} {version} {word}\n")?)
         }
         None => Ok(format!(in alloc; "push {epoch} {proxy} refused NotOpen\n")?),
     }
 }
 
-/// The version of the batch that a proxy pushes; none where it has none open, is not there or is gone.
-fn open_version(alloc: Global, world: &World, by: &NodeId) -> Result<Option<Version>, Memory> {
-    if world.is_gone(*by) {
+/// Pushes the open batch of a proxy, and gives its version; none where the proxy has none open, is not there or is gone.
+fn push_open(
+    alloc: Global,
+    world: &mut World,
+    push: &Push,
+) -> Result<Option<(Version, Said)>, Memory> {
+    let by = NodeId::Proxy {
+        epoch: push.epoch,
+        number: push.proxy,
+    };
+    let mut asks = pending_of(alloc, world, push.epoch, push.proxy)?;
+    let Some(version) = version_in(asks.as_slice()) else {
         return Ok(None);
-    }
-    for (_, ask) in pending_of(alloc, world, by)? {
-        if let Ask::Log(LogAsk::Push(push)) = ask {
-            return Ok(Some(push.version()));
-        }
-    }
-    Ok(None)
+    };
+    let said = push_to(alloc, world, &by, &mut asks, push.logs.as_slice())?;
+    Ok(Some((version, said)))
 }
 
-/// Delivers the pushes to these logs, and has the proxy hear each tell, up to one by which the batch is committed or
-/// ended: until then the pushes to the other logs stay as they are, and from then on none is pending.
+/// The asks that a proxy has pending; none where it is not there or is gone.
+fn pending_of(
+    alloc: Global,
+    world: &World,
+    epoch: Epoch,
+    number: u8,
+) -> Result<Vec<(NodeId, Ask)>, Memory> {
+    if world.is_gone(NodeId::Proxy { epoch, number }) {
+        return Ok(Vec::new(alloc));
+    }
+    match world.proxy(epoch, number)? {
+        Some(proxy) => proxy.pending(alloc),
+        None => Ok(Vec::new(alloc)),
+    }
+}
+
+/// The version of the batch that is pushed by these asks.
+fn version_in(asks: &[(NodeId, Ask)]) -> Option<Version> {
+    for (_, ask) in asks {
+        if let Ask::Log(LogAsk::Push(push)) = ask {
+            return Some(push.version());
+        }
+    }
+    None
+}
+
+/// Delivers those of a proxy's pushes that go to these logs, and has the proxy hear each tell, up to one by which the batch
+/// is committed or ended: until then the pushes to the other logs stay as they are, and from then on none is pending.
 pub(crate) fn push_to(
     alloc: Global,
     world: &mut World,
     by: &NodeId,
+    asks: &mut Vec<(NodeId, Ask)>,
     logs: &[u8],
 ) -> Result<Said, Memory> {
-    let mut said = Said::Waiting;
-    let asks = pending_of(alloc, world, by)?;
-    for log in &distinct(alloc, logs)? {
-        if said == Said::Waiting {
-            let done = ask_listed(alloc, world, by, asks.as_slice(), &Purpose::Push, *log)?;
-            said = said.with(outcome_in(&done));
+    for log in logs {
+        match push_one(alloc, world, by, asks, *log)? {
+            Said::Waiting => {}
+            said => return Ok(said),
         }
     }
-    Ok(said)
+    Ok(Said::Waiting)
 }
 
-/// What a proxy said at a push that was answered.
-fn outcome_in(done: &Option<Exchange>) -> Outcome {
+/// Delivers the push to a log, where it is among the asks.
+fn push_one(
+    alloc: Global,
+    world: &mut World,
+    by: &NodeId,
+    asks: &mut Vec<(NodeId, Ask)>,
+    log: u8,
+) -> Result<Said, Memory> {
+    match take(asks, Purpose::Push, log) {
+        Some((to, ask)) => said_in(ask_and_hear(alloc, world, by, &to, ask)),
+        None => Ok(Said::Waiting),
+    }
+}
+
+/// What the proxy said at a push, where that came to its log.
+fn said_in(done: Result<Option<Exchange>, Memory>) -> Result<Said, Memory> {
     match done {
-        Some(done) => match &done.answer {
-            Answer::Heard(outcome) => *outcome,
-            _ => Outcome::Waiting,
-        },
-        None => Outcome::Waiting,
+        Ok(Some(done)) => Ok(said_by(&done.outcome)),
+        Ok(None) => Ok(Said::Waiting),
+        Err(why) => Err(why),
+    }
+}
+
+/// What an outcome says of a batch.
+fn said_by(outcome: &Outcome) -> Said {
+    match outcome {
+        Outcome::Committed { .. } => Said::Committed,
+        Outcome::Ended => Said::Ended,
+        Outcome::Waiting => Said::Waiting,
     }
 }

@@ -1,114 +1,302 @@
-//! What a storage server asks a log for.
-use crate::exchange::{Exchange, ask_for_server};
+//! The steps `pull`, `mark` and `pop`: a storage server asks a log for something, and hears in place what it is told: where
+//! memory is wanting the world is given up, so that no hear needs a copy of the server.
+ghost use Rattle.std.specs.Prelude.{◌≡◌, None, IfOk, IsOk};
+ghost use Rattle.fr_base.specs.declared.place.NodeId.TheVariants as node;
+ghost use Rattle.fr_run_event.specs.Step.{turn_of};
+ghost use Rattle.fr_run_event.specs.declared.event.Event.TheVariants as event;
+ghost use Rattle.fr_run_event.specs.declared.not_enabled.NotEnabled.TheVariants as not_enabled;
+
+use crate::exchange::deliver;
 use crate::names::Refusal;
 use fr_ask::{Ask, Tell};
-use fr_base::{Memory, NodeId};
-use fr_log::{LogAsk, LogTell};
-use fr_run_event::{Answer, NotEnabled};
+use fr_base::{Memory, NodeId, Tag, Version};
+use fr_log::{LogAsk, LogRefusal, LogTell, Most};
+use fr_run_event::{Answer, Event, NotEnabled};
 use fr_simulate_script::Pull;
 use fr_world::World;
 use std::alloc::Global;
 
+/// How many records are pulled at most.
+const MOST: u8 = 100;
+
+/// What a storage server asks a log for.
+#[derive(Clone, Copy)]
+pub(crate) enum Wish {
+    /// The records of its tag after the version that it applied.
+    Pull,
+    /// The mark of the log's epoch.
+    Mark,
+    /// To let go of the records of its tag through its floor.
+    Pop,
+}
+
+impl Wish {
+    /// The word of its step.
+    fn word(self) -> &'static str {
+        match self {
+            Wish::Pull => "pull",
+            Wish::Mark => "mark",
+            Wish::Pop => "pop",
+        }
+    }
+}
+
+/// What a log told, as far as the line of a step says it.
+#[derive(Clone, Copy)]
+enum Told {
+    /// It refused the ask.
+    Refused(LogRefusal),
+    /// It let go of the tag through a version.
+    Popped(Version),
+    /// Something else.
+    Other,
+}
+
 /// What came of what a storage server asked: what the log told, or why that or its hear was refused.
-#[derive(Drop)]
-pub(crate) enum Asked {
-    Told(Tell),
+#[derive(Clone, Copy)]
+enum Asked {
+    Told(Told),
     Refused(Refusal),
 }
 
-/// Has the storage server of a step ask its log, and hear what that tells; gives the line of the step, which begins
-/// with this word, beside the world after it. The server that is not there asks nothing.
+/// Has the storage server of a step ask its log, and hear what that tells; gives the line of the step beside the world
+/// after it.
 pub(crate) fn line_of(
     alloc: Global,
     world: World,
-    word: &str,
+    wish: Wish,
     pull: &Pull,
-    ask: Option<LogAsk>,
 ) -> Result<(World, String), Memory> {
-    let (world, asked) = ask_log(alloc, world, pull, ask)?;
-    let line = line_after(alloc, &world, word, pull, &asked)?;
-    Ok((world, line))
+    let (world, asked) = ask_for(alloc, world, wish, pull)?;
+    match line_after(alloc, &world, wish, pull, &asked) {
+        Ok(line) => Ok((world, line)),
+        Err(why) => Err(why),
+    }
 }
 
 /// The line of a step of which this came.
 fn line_after(
     alloc: Global,
     world: &World,
-    word: &str,
+    wish: Wish,
     pull: &Pull,
     asked: &Asked,
 ) -> Result<String, Memory> {
     match asked {
-        Asked::Refused(refusal) => refused_line(alloc, word, pull, refusal),
-        Asked::Told(_) => stands_line(alloc, world, word, pull),
+        Asked::Refused(refusal) => refused_line(alloc, wish, pull, refusal),
+        Asked::Told(told) => told_line(alloc, world, wish, pull, told),
+    }
+}
+
+/// The line of a step at which a log told this, and its hear was not refused.
+fn told_line(
+    alloc: Global,
+    world: &World,
+    wish: Wish,
+    pull: &Pull,
+    told: &Told,
+) -> Result<String, Memory> {
+    match wish {
+        Wish::Pull | Wish::Mark => stands_line(alloc, world, wish, pull),
+        Wish::Pop => pop_line(alloc, pull, told),
+    }
+}
+
+/// The line of a `pop` at which a log told this.
+fn pop_line(alloc: Global, pop: &Pull, told: &Told) -> Result<String, Memory> {
+    match told {
+        Told::Popped(through) => popped_line(alloc, pop, *through),
+        // Each Pop that is not refused is told so.
+        _ => refused_line(
+            alloc,
+            Wish::Pop,
+            pop,
+            &Refusal::Event(NotEnabled::NeverSent),
+        ),
     }
 }
 
 /// The line of a refused step.
-pub(crate) fn refused_line(
+fn refused_line(
     alloc: Global,
-    word: &str,
+    wish: Wish,
     pull: &Pull,
     refusal: &Refusal,
 ) -> Result<String, Memory> {
+    let word = wish.word();
     let tag = pull.storage.get();
     let name = refusal.name();
     Ok(format!(in alloc; "{word} {tag} refused {name}\n")?)
 }
 
+/// The line of how far the log of an epoch is popped.
+fn popped_line(alloc: Global, pop: &Pull, through: Version) -> Result<String, Memory> {
+    let tag = pop.storage.get();
+    let epoch = pop.log.epoch.get();
+    let through = through.get();
+    Ok(format!(in alloc; "pop {tag} {epoch} {through}\n")?)
+}
+
 /// The line of where the storage server stands.
-fn stands_line(alloc: Global, world: &World, word: &str, pull: &Pull) -> Result<String, Memory> {
+fn stands_line(alloc: Global, world: &World, wish: Wish, pull: &Pull) -> Result<String, Memory> {
     match world.storage(pull.storage) {
         Some(storage) => {
             let (epoch, version) = storage.position();
+            let word = wish.word();
             let tag = pull.storage.get();
             let epoch = epoch.get();
             let version = version.get();
             Ok(format!(in alloc; "{word} {tag} {epoch} {version}\n")?)
         }
-        None => refused_line(alloc, word, pull, &Refusal::Event(NotEnabled::NoSuchNode)),
+        None => refused_line(alloc, wish, pull, &Refusal::Event(NotEnabled::NoSuchNode)),
     }
 }
 
-/// Asks a log, and has the storage server hear what it tells: what came of it, beside the world after it. The server that
-/// is not there asks nothing.
-pub(crate) fn ask_log(
-    alloc: Global,
-    world: World,
-    pull: &Pull,
-    ask: Option<LogAsk>,
-) -> Result<(World, Asked), Memory> {
-    let Some(ask) = ask else {
-        let refusal = Refusal::Event(NotEnabled::NoSuchNode);
-        return Ok((world, Asked::Refused(refusal)));
+/// Has a storage server ask a log, and hear what it tells: what came of it, beside the world after it. The server that is
+/// not there asks nothing.
+fn ask_for(alloc: Global, world: World, wish: Wish, pull: &Pull) -> Result<(World, Asked), Memory> {
+    let Some(ask) = ask_of(&world, wish, pull) else {
+        return Ok((
+            world,
+            Asked::Refused(Refusal::Event(NotEnabled::NoSuchNode)),
+        ));
     };
     let to = NodeId::Log {
         epoch: pull.log.epoch,
         index: pull.log.index,
     };
-    let (world, done) = ask_for_server(alloc, world, pull.storage, &to, Ask::Log(ask))?;
-    let asked = match done {
-        Ok(done) => asked_in(done),
-        Err(why) => Asked::Refused(Refusal::Event(why)),
-    };
-    Ok((world, asked))
+    ask_in_place(alloc, world, pull.storage, &to, ask)
 }
 
-/// What was told, unless the log refused the ask, or the storage server the tell.
-fn asked_in(done: Exchange) -> Asked {
-    let refusal = refusal_in(&done);
-    let Exchange { tell, .. } = done;
-    match refusal {
-        Some(refusal) => Asked::Refused(refusal),
-        None => Asked::Told(tell),
+/// What a storage server that is there asks.
+fn ask_of(world: &World, wish: Wish, pull: &Pull) -> Option<LogAsk> {
+    let storage = world.storage(pull.storage)?;
+    let epoch = pull.log.epoch;
+    let tag = pull.storage;
+    match wish {
+        Wish::Pull => {
+            let (_, after) = storage.position();
+            let most = Most::new(MOST)?;
+            Some(LogAsk::Peek {
+                epoch,
+                tag,
+                after,
+                most,
+            })
+        }
+        Wish::Mark => Some(LogAsk::MarkAsked { epoch }),
+        Wish::Pop => {
+            let through = storage.floor();
+            Some(LogAsk::Pop {
+                epoch,
+                tag,
+                through,
+            })
+        }
     }
 }
 
-/// Why the log refused the ask, or else the storage server the tell.
-fn refusal_in(done: &Exchange) -> Option<Refusal> {
-    match (&done.tell, &done.answer) {
-        (Tell::Log(LogTell::Refused { why }), _) => Some(Refusal::Log(*why)),
-        (_, Answer::Refused(fault)) => Some(Refusal::Storage(*fault)),
-        _ => None,
+/// Has a storage server ask a log, and hear what it tells.
+fn ask_in_place(
+    alloc: Global,
+    world: World,
+    tag: Tag,
+    to: &NodeId,
+    ask: LogAsk,
+) -> Result<(World, Asked), Memory> {
+    let mut world = world;
+    match tell_for(alloc, &mut world, tag, to, ask) {
+        Ok(tell) => hear_in_place(alloc, world, tag, to, tell),
+        Err(NotEnabled::Memory) => Err(Memory),
+        Err(why) => Ok((world, Asked::Refused(Refusal::Event(why)))),
+    }
+}
+
+/// What a log tells a storage server that asks it, where the server can hear that.
+fn tell_for(
+    alloc: Global,
+    world: &mut World,
+    tag: Tag,
+    to: &NodeId,
+    ask: LogAsk,
+) -> Result<Tell, NotEnabled>
+    ensures { IfOk result (λ tell. IsOk (turn_of world.new.config world.new.turns (event.Hear (node.Storage tag) to.now tell None))) }
+{
+    let by = NodeId::Storage { tag };
+    let tell = deliver(alloc, world, &by, to, Ask::Log(ask))?;
+    match why_unheard(world, tag, to, &tell) {
+        Some(why) => Err(why),
+        None => Ok(tell),
+    }
+}
+
+/// Why a storage server does not hear what another node told it; none where it does.
+fn why_unheard(world: &World, tag: Tag, from: &NodeId, tell: &Tell) -> Option<NotEnabled>
+    ensures { result ≡ None → IsOk (turn_of world.now.config world.now.turns (event.Hear (node.Storage tag) from.now tell.now None)) }
+{
+    if !world.is_there(NodeId::Storage { tag }) {
+        Some(NotEnabled::NoSuchNode)
+    } else if world.is_gone(NodeId::Storage { tag }) {
+        Some(NotEnabled::Gone)
+    } else if !world.was_told(*from, NodeId::Storage { tag }, tell) {
+        Some(NotEnabled::NeverSent)
+    } else {
+        None
+    }
+}
+
+/// Has a storage server hear in place what it can hear, for which memory alone may be wanting.
+fn hear_in_place(
+    alloc: Global,
+    world: World,
+    tag: Tag,
+    from: &NodeId,
+    tell: Tell,
+) -> Result<(World, Asked), Memory>
+    requires { IsOk (turn_of world.config world.turns (event.Hear (node.Storage tag) from.now tell None)) }
+{
+    let told = told_in(&tell);
+    let heard = Event::Hear {
+        by: NodeId::Storage { tag },
+        from: *from,
+        tell,
+        taken: None,
+    };
+    match world.step_owned(alloc, &heard) {
+        Ok((world, answer)) => Ok((world, asked_in(told, &answer))),
+        Err(why) => Err(memory_in(why)),
+    }
+}
+
+/// Want of memory, where that alone can be why.
+fn memory_in(why: NotEnabled) -> Memory
+    requires { why ≡ not_enabled.Memory }
+{
+    match why {
+        NotEnabled::Memory => Memory,
+        NotEnabled::NoSuchNode => unreachable!(),
+        NotEnabled::Gone => unreachable!(),
+        NotEnabled::NeverSent => unreachable!(),
+        NotEnabled::BallotUsed => unreachable!(),
+        NotEnabled::TwoOpen => unreachable!(),
+        NotEnabled::Over => unreachable!(),
+    }
+}
+
+/// What a log told.
+fn told_in(tell: &Tell) -> Told {
+    match tell {
+        Tell::Log(LogTell::Refused { why }) => Told::Refused(*why),
+        Tell::Log(LogTell::Popped { through }) => Told::Popped(*through),
+        _ => Told::Other,
+    }
+}
+
+/// What was told, unless the log refused the ask, or the storage server the tell.
+fn asked_in(told: Told, answer: &Answer) -> Asked {
+    match (told, answer) {
+        (Told::Refused(why), _) => Asked::Refused(Refusal::Log(why)),
+        (_, Answer::Refused(fault)) => Asked::Refused(Refusal::Storage(*fault)),
+        (told, _) => Asked::Told(told),
     }
 }
