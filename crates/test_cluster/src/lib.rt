@@ -1,8 +1,10 @@
-//! Tests of running clusters in memory.
+//! Tests of running clusters: in memory, over record files and tables, and in storms.
 #![tactic(auto)]
 
 #[cfg(test)]
 mod directories;
+#[cfg(test)]
+mod disks;
 #[cfg(test)]
 mod failing;
 #[cfg(test)]
@@ -17,3 +19,5 @@ mod refusing;
 mod runs;
 #[cfg(test)]
 mod shapes;
+#[cfg(test)]
+mod storms;

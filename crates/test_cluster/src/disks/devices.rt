@@ -1,7 +1,7 @@
 //! Clusters over files of which one has a device that fails.
 ghost use Rattle.std.specs.Prelude.{◌≡◌};
 
-use crate::breaking::SHORT;
+use crate::disks::breaking::SHORT;
 use fr_base::{LogId, NodeFault};
 use fr_device::{Device, FaultyDevice};
 use fr_runtime::RunFault;
