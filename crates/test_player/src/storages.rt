@@ -44,7 +44,9 @@ fn play_over<S: ShardStore + Drop>(
     at: &mut usize,
 ) -> Result<(), Wrong> {
     let storage = start(alloc, store, fields);
-    scene.play_made(alloc, &Nodes, storage, at)
+    scene
+        .seen_by("position")
+        .play_made(alloc, &Nodes, storage, at)
 }
 
 fn start<S: ShardStore + Drop>(
@@ -69,43 +71,44 @@ impl<S: ShardStore + Drop> Plays<Storage<S>> for Nodes {
         word: &str,
         given: &mut Fields,
     ) -> Result<Value, Wrong> {
-        match word {
-            "hear" => hear(alloc, storage, given.of(2)),
-            "follow" => follow(alloc, storage, given.of(2)),
-            "follow_all" => follow_all(alloc, storage, given),
-            "break_off" => break_off(alloc, storage, given.of(3)),
-            "reopen" => write_done(alloc, storage.reopen(alloc)),
-            "failed" => Ok(Value::from(storage.is_failed())),
-            "next" => write_next(alloc, storage),
-            "generations" => generations(alloc, storage),
-            "position" => position(alloc, storage),
-            "rows" => rows_of(alloc, storage.dump(alloc)),
-            _ => no_such_word(
-                "rows of a storage server: hear, follow, follow_all, break_off, reopen, failed, \
-                 next, generations, position, rows",
-            ),
+        let had_failed = storage.is_failed();
+        match do_row(alloc, storage, word, given) {
+            Err(Wrong::Memory) if storage.is_failed() && !had_failed => Err(settled(alloc, storage)),
+            Err(Wrong::Memory) if word == "follow_all" => Err(Wrong::InPart),
+            done => done,
         }
     }
+}
 
-    /// A list of answers goes on behind one for which there was no memory, so that where it stands says nothing.
-    fn kept_by(&self, word: &str) -> Option<&'static str> {
-        if word == "follow_all" {
-            None
-        } else {
-            Some("position")
-        }
+/// A hear that broke off for want of memory left the server failed: it is opened again.
+fn settled<S: ShardStore + Drop>(alloc: Global, storage: &mut Storage<S>) -> Wrong {
+    if storage.reopen(alloc).is_err() {
+        return Wrong::Unsaid;
     }
+    Wrong::InPart
+}
 
-    fn has_failed(&self, storage: &Storage<S>) -> bool {
-        storage.is_failed()
-    }
-
-    /// A hear that broke off for want of memory leaves the server failed.
-    fn settle(&self, alloc: Global, storage: &mut Storage<S>) -> Result<(), Wrong> {
-        if storage.reopen(alloc).is_err() {
-            return Err(Wrong::Memory);
-        }
-        Ok(())
+fn do_row<S: ShardStore + Drop>(
+    alloc: Global,
+    storage: &mut Storage<S>,
+    word: &str,
+    given: &mut Fields,
+) -> Result<Value, Wrong> {
+    match word {
+        "hear" => hear(alloc, storage, given.of(2)),
+        "follow" => follow(alloc, storage, given.of(2)),
+        "follow_all" => follow_all(alloc, storage, given),
+        "break_off" => break_off(alloc, storage, given.of(3)),
+        "reopen" => write_done(alloc, storage.reopen(alloc)),
+        "failed" => Ok(Value::from(storage.is_failed())),
+        "next" => write_next(alloc, storage),
+        "generations" => generations(alloc, storage),
+        "position" => position(alloc, storage),
+        "rows" => rows_of(alloc, storage.dump(alloc)),
+        _ => no_such_word(
+            "rows of a storage server: hear, follow, follow_all, break_off, reopen, failed, next, \
+             generations, position, rows",
+        ),
     }
 }
 

@@ -78,7 +78,7 @@ impl Report {
         ensures { self.new ≡ self.old }
     {
         match wrong {
-            Wrong::Memory | Wrong::Unsaid => Err(AllocError),
+            Wrong::Memory | Wrong::InPart | Wrong::Unsaid => Err(AllocError),
             Wrong::Form(what) => self.line(what),
             Wrong::Differs { told, wanted } => self.differ(told.as_slice(), wanted.as_slice()),
         }

@@ -9,8 +9,8 @@ use std::alloc::Global;
 
 /// What plays the rows of scenarios about a `T`.
 pub trait Plays<T> {
-    /// What comes of a row, in its form: of its word, and of what is given with it, null where that is nothing. The
-    /// word `state` looks at a copy. Where it answers that there is no memory nothing was done: it is asked once more.
+    /// What comes of a row, in its form: of its word, and of what is given with it, null where that is nothing. Where
+    /// it answers `Memory` nothing was done, where it answers `InPart` a part: it is asked once more.
     fn play_row(
         &self,
         alloc: Global,
@@ -18,22 +18,6 @@ pub trait Plays<T> {
         word: &str,
         given: &mut Fields,
     ) -> Result<Value, Wrong>;
-
-    /// The word, with nothing given, of what a row of a word leaves as it was where there is no memory; none where
-    /// nothing tells that, or a row can leave a part of what it does.
-    fn kept_by(&self, _word: &str) -> Option<&'static str> {
-        Some("state")
-    }
-
-    /// Whether a subject answers nothing until it is opened again.
-    fn has_failed(&self, _subject: &T) -> bool {
-        false
-    }
-
-    /// Opens it again.
-    fn settle(&self, _alloc: Global, _subject: &mut T) -> Result<(), Wrong> {
-        Ok(())
-    }
 }
 
 /// A scenario that is to be played: its first row, which makes what it is about, and the others.
@@ -41,6 +25,7 @@ pub trait Plays<T> {
 pub struct Scene<'t> {
     made: Parts<'t>,
     rows: &'t [Row],
+    seen_by: &'static str,
     is_once: bool,
 }
 
@@ -57,8 +42,18 @@ impl<'t> Scene<'t> {
         Ok(Scene {
             made,
             rows,
+            seen_by: "state",
             is_once: false,
         })
+    }
+
+    /// The same, in which a row of this word, and not of the word `state`, shows what a row for which there was no
+    /// memory is to leave as it was.
+    pub fn seen_by(self, word: &'static str) -> Self {
+        Scene {
+            seen_by: word,
+            ..self
+        }
     }
 
     /// The same, of which no row is played again where there was no memory: its subject counts what it is asked.
@@ -106,7 +101,7 @@ impl<'t> Scene<'t> {
             if self.is_once {
                 play_row(alloc, player, subject, &parts)?;
             } else {
-                play_or_again(alloc, player, subject, &parts)?;
+                play_or_again(alloc, player, subject, &parts, self.seen_by)?;
             }
         }
         Ok(())
@@ -153,55 +148,32 @@ fn text_of(alloc: Global, value: Result<Value, Wrong>) -> Result<Vec<u8>, Wrong>
     Ok(value?.to_vec(alloc)?)
 }
 
-/// What is seen of a subject before a row.
-#[derive(Drop)]
-struct Before {
-    had_failed: bool,
-    kept: Option<Vec<u8>>,
-}
-
 /// Plays a row, and once more where there was no memory for it.
 fn play_or_again<T, P: Plays<T>>(
     alloc: Global,
     player: &P,
     subject: &mut T,
     parts: &Parts,
+    seen_by: &str,
 ) -> Result<(), Wrong> {
-    let before = Before {
-        had_failed: player.has_failed(subject),
-        kept: kept(alloc, player, subject, parts.word),
-    };
+    let before = seen(alloc, player, subject, seen_by);
     match play_row(alloc, player, subject, parts) {
-        Err(Wrong::Memory) => play_again(alloc, player, subject, parts, before),
+        Err(Wrong::Memory) => {
+            compare_seen(seen(alloc, player, subject, seen_by), before)?;
+            play_row(alloc, player, subject, parts)
+        }
+        Err(Wrong::InPart) => play_row(alloc, player, subject, parts),
         played => played,
     }
 }
 
-/// What a row of a word is to leave as it was where there is no memory; none where there is none to tell it either.
-fn kept<T, P: Plays<T>>(alloc: Global, player: &P, subject: &mut T, word: &str) -> Option<Vec<u8>> {
-    let word = player.kept_by(word)?;
+/// What a row of a word shows of a subject; none where there is no memory to tell it.
+fn seen<T, P: Plays<T>>(alloc: Global, player: &P, subject: &mut T, word: &str) -> Option<Vec<u8>> {
     let told = player.play_row(alloc, subject, word, &mut Fields::new(Value::Null, 0));
     text_of(alloc, told).ok()
 }
 
-/// Plays a row again for which there was no memory. What it left failed that was not failed before is opened again, and
-/// anything else is where it was.
-fn play_again<T, P: Plays<T>>(
-    alloc: Global,
-    player: &P,
-    subject: &mut T,
-    parts: &Parts,
-    before: Before,
-) -> Result<(), Wrong> {
-    if player.has_failed(subject) && !before.had_failed {
-        player.settle(alloc, subject)?;
-    } else {
-        compare_kept(kept(alloc, player, subject, parts.word), before.kept)?;
-    }
-    play_row(alloc, player, subject, parts)
-}
-
-fn compare_kept(now: Option<Vec<u8>>, before: Option<Vec<u8>>) -> Result<(), Wrong> {
+fn compare_seen(now: Option<Vec<u8>>, before: Option<Vec<u8>>) -> Result<(), Wrong> {
     let Some(before) = before else {
         return Ok(());
     };

@@ -11,6 +11,8 @@ use std::alloc::{AllocError, AllocFailed, Global};
 pub enum Wrong {
     /// There is no memory, and nothing was done: the row may be played again.
     Memory,
+    /// There was no memory for a part of what the row does, which goes on there where it is played again.
+    InPart,
     /// There is no memory to say what was done, and played again the row would be told something else.
     Unsaid,
     /// The row is no row; what is wrong with it.

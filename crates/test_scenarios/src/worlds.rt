@@ -19,7 +19,7 @@ pub(crate) fn play(alloc: Global, scene: Scene, at: &mut usize) -> Result<bool, 
         return Ok(false);
     }
     let world = start(alloc, scene.given(alloc)?.of(5));
-    played(scene.play_made(alloc, &Worlds, world, at))
+    played(scene.seen_by("turns").play_made(alloc, &Worlds, world, at))
 }
 
 fn start(alloc: Global, fields: &mut Fields) -> Result<Played, Wrong> {
@@ -56,10 +56,6 @@ impl Plays<Played> for Worlds {
             "replay" => replay(alloc, played),
             _ => happen(alloc, played, word, given),
         }
-    }
-
-    fn kept_by(&self, _word: &str) -> Option<&'static str> {
-        Some("turns")
     }
 }
 
