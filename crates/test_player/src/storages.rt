@@ -73,7 +73,7 @@ impl<S: ShardStore + Drop> Plays<Storage<S>> for Nodes {
     ) -> Result<Value, Wrong> {
         let had_failed = storage.is_failed();
         match do_row(alloc, storage, word, given) {
-            Err(Wrong::Memory) if storage.is_failed() && !had_failed => Err(settled(alloc, storage)),
+            Err(Wrong::Memory) if storage.is_failed() && !had_failed => reopen(alloc, storage),
             Err(Wrong::Memory) if word == "follow_all" => Err(Wrong::InPart),
             done => done,
         }
@@ -81,11 +81,11 @@ impl<S: ShardStore + Drop> Plays<Storage<S>> for Nodes {
 }
 
 /// A hear that broke off for want of memory left the server failed: it is opened again.
-fn settled<S: ShardStore + Drop>(alloc: Global, storage: &mut Storage<S>) -> Wrong {
+fn reopen<S: ShardStore + Drop>(alloc: Global, storage: &mut Storage<S>) -> Result<Value, Wrong> {
     if storage.reopen(alloc).is_err() {
-        return Wrong::Unsaid;
+        return Err(Wrong::Unsaid);
     }
-    Wrong::InPart
+    Err(Wrong::InPart)
 }
 
 fn do_row<S: ShardStore + Drop>(
