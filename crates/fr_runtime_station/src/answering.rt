@@ -1,12 +1,9 @@
 //! What lies under the lock of a station.
-ghost use Rattle.std.specs.Prelude.{◌≡◌, ◌⊎◌, ◌<◌, ◌↔◌, ℕ, Err, IfErr, IfOk, OnErr, Some, true};
-ghost use Rattle.fr_ask.specs.declared.tell.Tell.{Tell};
-ghost use Rattle.fr_audit_journal.specs.declared.act.Act.{Act};
-ghost use Rattle.fr_base.specs.declared.node.NodeFault.{NodeFault};
+ghost use Rattle.std.specs.Prelude.{◌≡◌, ◌<◌, IfErr, IfOk, true};
 ghost use Rattle.fr_runtime_housing.specs.Replays.{steps};
-ghost use Rattle.fr_runtime_housing.specs.declared.fault.CallFault.{CallFault};
-ghost use Rattle.fr_runtime_housing.specs.Housing.{Asks, Enters, IsTrouble, Leaves, refusal_of};
-ghost use Rattle.fr_runtime_station.specs.Answering.{answers};
+ghost use Rattle.fr_runtime_housing.specs.Housing.{IsTrouble};
+ghost use Rattle.fr_runtime_station.specs.Answering.{IsToldBy, answers};
+ghost use Rattle.fr_runtime_station.specs.Called.{IsAsked, IsCrashed};
 
 use fr_ask::Tell;
 use fr_base::{Machine, Node, NodeId, Stamp};
@@ -45,18 +42,11 @@ where
     ) -> Result<(Stamp, Tell), CallFault>
     where
         N: Drop,
-        ensures entered { IfOk result (λ told. Asks
+        ensures asked { IsAsked
             (steps N.Plain.wrapped N.Plain.unwrapped N.Plain.wrapped_tell N.Plain.told N.Plain.after)
-            self.old.housed self.new.housed stamp from ask (told.0, told.1)) }
+            self.old.housed self.new.housed stamp from ask result }
         ensures above { IfOk result (λ told. stamp < told.0) }
-        ensures lost { (result ≡ Err CallFault.Lost) ↔ (refusal_of self.old.housed stamp ≡ Some CallFault.Lost) }
-        ensures spent { (result ≡ Err CallFault.StampsSpent) ↔ (refusal_of self.old.housed stamp ≡ Some CallFault.StampsSpent) }
-        ensures err { IfErr result (λ fault.
-            Leaves (steps N.Plain.wrapped N.Plain.unwrapped N.Plain.wrapped_tell N.Plain.told N.Plain.after)
-            self.old.housed self.new.housed ⊎ ((fault ≡ CallFault.Node NodeFault.Memory)
-            × ((got : ℕ × Tell) × Asks
-            (steps N.Plain.wrapped N.Plain.unwrapped N.Plain.wrapped_tell N.Plain.told N.Plain.after)
-            self.old.housed self.new.housed stamp from ask got))) }
+        ensures told { IfOk result (λ got. IsToldBy N.Plain.wrapped_tell N.Plain.told ask got.1) }
         ensures trouble { IfErr result (IsTrouble N.CanMeet) }
     {
         self.housed.ask(alloc, stamp, from, ask)
@@ -66,15 +56,10 @@ where
     pub(crate) fn crash(&mut self, alloc: Global, stamp: Stamp) -> Result<Stamp, CallFault>
     where
         N: Drop,
-        ensures entered { IfOk result (λ at. Enters
+        ensures crashed { IsCrashed
             (steps N.Plain.wrapped N.Plain.unwrapped N.Plain.wrapped_tell N.Plain.told N.Plain.after)
-            self.old.housed self.new.housed stamp at Act.Crashed) }
+            self.old.housed self.new.housed stamp result }
         ensures above { IfOk result (λ at. stamp < at) }
-        ensures lost { (result ≡ Err CallFault.Lost) ↔ (refusal_of self.old.housed stamp ≡ Some CallFault.Lost) }
-        ensures spent { (result ≡ Err CallFault.StampsSpent) ↔ (refusal_of self.old.housed stamp ≡ Some CallFault.StampsSpent) }
-        ensures err { OnErr result (Leaves
-            (steps N.Plain.wrapped N.Plain.unwrapped N.Plain.wrapped_tell N.Plain.told N.Plain.after)
-            self.old.housed self.new.housed) }
         ensures trouble { IfErr result (IsTrouble N.CanMeet) }
     {
         self.housed.crash(alloc, stamp)

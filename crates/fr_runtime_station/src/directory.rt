@@ -1,10 +1,14 @@
 //! All nodes that answer asks, where threads find them.
-ghost use Rattle.std.specs.Prelude.{◌≡◌, ◌⊎◌, ◌≤◌, ◌<◌, length, false, IfErr, IfOk, IfSome, None, true};
+ghost use Rattle.std.specs.Prelude.{◌≡◌, ◌⊎◌, ◌↔◌, ◌≤◌, ◌<◌, length, false, IfErr, IfOk, None, Ok, Err, true};
 ghost use Rattle.fr_ask.specs.declared.ask.Ask.TheVariants as asked;
+ghost use Rattle.fr_base.specs.declared.place.NodeId.TheVariants as node;
 ghost use Rattle.fr_runtime_station.specs.Answering.{IsAnswer, IsClosingTrouble, all_answer, answers, is_asked_of};
+ghost use Rattle.fr_runtime_station.specs.Called.{IsAnswered, IsCall, IsCrash, IsCrashAnswered, IsUncalled, IsUncrashed, may_lack};
+ghost use Rattle.fr_runtime_station.specs.declared.directory_fault.DirectoryFault.{DirectoryFault};
 
 use crate::chosen::{Chosen, first_stamp, later_of};
 use crate::closing::close_all;
+use crate::directory_fault::DirectoryFault;
 use crate::epoch_nodes::EpochNodes;
 use crate::station::Station;
 use fr_ask::{Ask, SeqAsk, Tell};
@@ -74,7 +78,9 @@ impl<C: Node<Plain = Cell> + Drop, L: Node<Plain = Log> + Drop> Directory<C, L> 
     }
 
     /// The cell of a number.
-    pub fn cell(&self, index: u8) -> Option<&Station<C>> {
+    pub fn cell(&self, index: u8) -> Option<&Station<C>>
+        ensures { (result ≡ None) ↔ (length self.now.cells.items ≤ index) }
+    {
         self.cells.get(usize::from(index))
     }
 
@@ -142,7 +148,8 @@ impl<C: Node<Plain = Cell> + Drop, L: Node<Plain = Log> + Drop> Directory<C, L> 
 
     /// Asks a node for one of this stamp, where the node is there and the ask is one of its kind. The answer's stamp is
     /// above the caller's and above the one from which on the node is there, and what is told is what such a node tells of
-    /// the ask in some state. A fault of the node is no answer.
+    /// the ask in some state. A fault says that the ask is of another kind, that the node is not there, or why the node
+    /// that was called refused: what is answered and what is left are those of one [`Station::call`].
     pub fn call<R: Wait>(
         &self,
         rt: &R,
@@ -151,10 +158,13 @@ impl<C: Node<Plain = Cell> + Drop, L: Node<Plain = Log> + Drop> Directory<C, L> 
         from: NodeId,
         to: NodeId,
         ask: Ask,
-    ) -> Option<(Stamp, Tell)>
-        ensures above { IfSome result (λ got. stamp < got.0) }
-        ensures told { IfSome result (λ got. IsAnswer ask got.1) }
-        ensures kind { is_asked_of to ask ≡ false → result ≡ None }
+    ) -> Result<(Stamp, Tell), DirectoryFault>
+        ensures above { IfOk result (λ got. stamp < got.0) }
+        ensures told { IfOk result (λ got. IsAnswer ask got.1) }
+        ensures kind { (result ≡ Err DirectoryFault.NotAsked) ↔ (is_asked_of to ask ≡ false) }
+        ensures there { (result ≡ Err DirectoryFault.NotThere) → may_lack (length self.now.cells.items) to ≡ true }
+        ensures called { IfOk result (λ got. IsCall C L stamp from ask (Ok got)) }
+        ensures uncalled { IfErr result (IsUncalled (IsCall C L stamp from ask)) }
     {
         match ask {
             Ask::Cell(ask) => self.call_cell(rt, alloc, stamp, from, to, ask),
@@ -171,16 +181,19 @@ impl<C: Node<Plain = Cell> + Drop, L: Node<Plain = Log> + Drop> Directory<C, L> 
         from: NodeId,
         to: NodeId,
         ask: CellAsk,
-    ) -> Option<(Stamp, Tell)>
-        ensures above { IfSome result (λ got. stamp < got.0) }
-        ensures told { IfSome result (λ got. IsAnswer (asked.Cell ask) got.1) }
-        ensures kind { is_asked_of to (asked.Cell ask) ≡ false → result ≡ None }
+    ) -> Result<(Stamp, Tell), DirectoryFault>
+        ensures { IsAnswered C L (length self.now.cells.items) stamp from to (asked.Cell ask) result }
     {
         let NodeId::Cell { index } = to else {
-            return None;
+            return Err(DirectoryFault::NotAsked);
         };
-        let cell = self.cell(index)?;
-        cell.call(rt, alloc, stamp, from, ask).ok()
+        match self.cell(index) {
+            Some(cell) => match cell.call(rt, alloc, stamp, from, ask) {
+                Ok(got) => Ok(got),
+                Err(fault) => Err(DirectoryFault::Call(fault)),
+            },
+            None => Err(DirectoryFault::NotThere),
+        }
     }
 
     fn call_log<R: Wait>(
@@ -191,18 +204,19 @@ impl<C: Node<Plain = Cell> + Drop, L: Node<Plain = Log> + Drop> Directory<C, L> 
         from: NodeId,
         to: NodeId,
         ask: LogAsk,
-    ) -> Option<(Stamp, Tell)>
-        ensures above { IfSome result (λ got. stamp < got.0) }
-        ensures told { IfSome result (λ got. IsAnswer (asked.Log ask) got.1) }
-        ensures kind { is_asked_of to (asked.Log ask) ≡ false → result ≡ None }
+    ) -> Result<(Stamp, Tell), DirectoryFault>
+        ensures { IsAnswered C L (length self.now.cells.items) stamp from to (asked.Log ask) result }
     {
         let NodeId::Log { epoch, index } = to else {
-            return None;
+            return Err(DirectoryFault::NotAsked);
         };
-        let nodes = self.nodes_of(epoch)?;
-        let there = nodes.seeded_at()?;
-        let log = nodes.log(index)?;
-        log.call(rt, alloc, stamp.max(there), from, ask).ok()
+        match self.log(LogId { epoch, index }) {
+            Some((log, there)) => match log.call(rt, alloc, stamp.max(there), from, ask) {
+                Ok(got) => Ok(got),
+                Err(fault) => Err(DirectoryFault::Call(fault)),
+            },
+            None => Err(DirectoryFault::NotThere),
+        }
     }
 
     fn call_sequencer<R: Wait>(
@@ -213,52 +227,82 @@ impl<C: Node<Plain = Cell> + Drop, L: Node<Plain = Log> + Drop> Directory<C, L> 
         from: NodeId,
         to: NodeId,
         ask: SeqAsk,
-    ) -> Option<(Stamp, Tell)>
-        ensures above { IfSome result (λ got. stamp < got.0) }
-        ensures told { IfSome result (λ got. IsAnswer (asked.Seq ask) got.1) }
-        ensures kind { is_asked_of to (asked.Seq ask) ≡ false → result ≡ None }
+    ) -> Result<(Stamp, Tell), DirectoryFault>
+        ensures { IsAnswered C L (length self.now.cells.items) stamp from to (asked.Seq ask) result }
     {
         let NodeId::Sequencer { epoch } = to else {
-            return None;
+            return Err(DirectoryFault::NotAsked);
         };
-        let nodes = self.nodes_of(epoch)?;
-        let there = nodes.chosen_at()?;
-        let sequencer = nodes.sequencer()?;
-        sequencer.call(rt, alloc, stamp.max(there), from, ask).ok()
-    }
-
-    /// Crashes a cell, a log or a sequencer that is there, and answers the stamp of that. Another node is passed over.
-    pub fn crash<R: Wait>(&self, rt: &R, alloc: Global, stamp: Stamp, node: NodeId) -> Option<Stamp>
-        ensures above { IfSome result (λ at. stamp < at) }
-        ensures kind { answers node ≡ false → result ≡ None }
-    {
-        match node {
-            NodeId::Cell { index } => self.crash_cell(rt, alloc, stamp, index),
-            NodeId::Log { epoch, index } => self.crash_log(
-                rt,
-                alloc,
-                stamp,
-                LogId { epoch, index },
-            ),
-            NodeId::Sequencer { epoch } => self.crash_sequencer(rt, alloc, stamp, epoch),
-            _ => None,
+        match self.sequencer(epoch) {
+            Some((sequencer, there)) => {
+                match sequencer.call(rt, alloc, stamp.max(there), from, ask) {
+                    Ok(got) => Ok(got),
+                    Err(fault) => Err(DirectoryFault::Call(fault)),
+                }
+            }
+            None => Err(DirectoryFault::NotThere),
         }
     }
 
-    fn crash_cell<R: Wait>(&self, rt: &R, alloc: Global, stamp: Stamp, index: u8) -> Option<Stamp>
-        ensures { IfSome result (λ at. stamp < at) }
+    /// Crashes a cell, a log or a sequencer that is there, and answers the stamp of that. Another node does not answer
+    /// asks, and is passed over; a fault says so, or that the node is not there, or why the crash was not entered.
+    pub fn crash<R: Wait>(
+        &self,
+        rt: &R,
+        alloc: Global,
+        stamp: Stamp,
+        node: NodeId,
+    ) -> Result<Stamp, DirectoryFault>
+        ensures above { IfOk result (λ at. stamp < at) }
+        ensures kind { (result ≡ Err DirectoryFault.NotAsked) ↔ (answers node ≡ false) }
+        ensures there { (result ≡ Err DirectoryFault.NotThere) → may_lack (length self.now.cells.items) node ≡ true }
+        ensures crashed { IfOk result (λ at. IsCrash C L stamp node (Ok at)) }
+        ensures uncrashed { IfErr result (IsUncrashed (IsCrash C L stamp node)) }
     {
-        let cell = self.cell(index)?;
-        cell.crash(rt, alloc, stamp).ok()
+        match node {
+            NodeId::Cell { index } => self.crash_cell(rt, alloc, stamp, index),
+            NodeId::Log { epoch, index } => {
+                self.crash_log(rt, alloc, stamp, LogId { epoch, index })
+            }
+            NodeId::Sequencer { epoch } => self.crash_sequencer(rt, alloc, stamp, epoch),
+            _ => Err(DirectoryFault::NotAsked),
+        }
     }
 
-    fn crash_log<R: Wait>(&self, rt: &R, alloc: Global, stamp: Stamp, id: LogId) -> Option<Stamp>
-        ensures { IfSome result (λ at. stamp < at) }
+    fn crash_cell<R: Wait>(
+        &self,
+        rt: &R,
+        alloc: Global,
+        stamp: Stamp,
+        index: u8,
+    ) -> Result<Stamp, DirectoryFault>
+        ensures { IsCrashAnswered C L (length self.now.cells.items) stamp (node.Cell index) result }
     {
-        let nodes = self.nodes_of(id.epoch)?;
-        let there = nodes.seeded_at()?;
-        let log = nodes.log(id.index)?;
-        log.crash(rt, alloc, stamp.max(there)).ok()
+        match self.cell(index) {
+            Some(cell) => match cell.crash(rt, alloc, stamp) {
+                Ok(at) => Ok(at),
+                Err(fault) => Err(DirectoryFault::Call(fault)),
+            },
+            None => Err(DirectoryFault::NotThere),
+        }
+    }
+
+    fn crash_log<R: Wait>(
+        &self,
+        rt: &R,
+        alloc: Global,
+        stamp: Stamp,
+        id: LogId,
+    ) -> Result<Stamp, DirectoryFault>
+        ensures { IsCrashAnswered C L (length self.now.cells.items) stamp (node.Log id.epoch id.index) result }
+    {
+        match self.log(id) {
+            Some((log, there)) => match log.crash(rt, alloc, stamp.max(there)) {
+                Ok(at) => Ok(at),
+                Err(fault) => Err(DirectoryFault::Call(fault)),
+            },
+            None => Err(DirectoryFault::NotThere),
+        }
     }
 
     fn crash_sequencer<R: Wait>(
@@ -267,13 +311,16 @@ impl<C: Node<Plain = Cell> + Drop, L: Node<Plain = Log> + Drop> Directory<C, L> 
         alloc: Global,
         stamp: Stamp,
         epoch: Epoch,
-    ) -> Option<Stamp>
-        ensures { IfSome result (λ at. stamp < at) }
+    ) -> Result<Stamp, DirectoryFault>
+        ensures { IsCrashAnswered C L (length self.now.cells.items) stamp (node.Sequencer epoch) result }
     {
-        let nodes = self.nodes_of(epoch)?;
-        let there = nodes.chosen_at()?;
-        let sequencer = nodes.sequencer()?;
-        sequencer.crash(rt, alloc, stamp.max(there)).ok()
+        match self.sequencer(epoch) {
+            Some((sequencer, there)) => match sequencer.crash(rt, alloc, stamp.max(there)) {
+                Ok(at) => Ok(at),
+                Err(fault) => Err(DirectoryFault::Call(fault)),
+            },
+            None => Err(DirectoryFault::NotThere),
+        }
     }
 
     /// The journals of the nodes, each closed with its node's state: the cells' first, then epoch by epoch the logs' and

@@ -5,11 +5,13 @@ mod answering;
 mod chosen;
 mod closing;
 mod directory;
+mod directory_fault;
 mod epoch_nodes;
 mod faults;
 mod station;
 
 pub use chosen::{Chosen, first_stamp};
 pub use directory::Directory;
+pub use directory_fault::DirectoryFault;
 pub use faults::{Faults, NoFaults, Verdict};
 pub use station::Station;

@@ -1,7 +1,9 @@
 //! A node with its journal, which threads share.
 ghost use Rattle.std.specs.Prelude.{◌≡◌, ◌<◌, IfErr, IfOk, true};
 ghost use Rattle.fr_runtime_housing.specs.Housing.{IsTrouble};
+ghost use Rattle.fr_runtime_housing.specs.Replays.{steps};
 ghost use Rattle.fr_runtime_station.specs.Answering.{IsToldBy, answers};
+ghost use Rattle.fr_runtime_station.specs.Called.{HasCrashed, WasAsked};
 
 use crate::answering::Answering;
 use fr_ask::Tell;
@@ -34,9 +36,9 @@ where
         }
     }
 
-    /// Asks the node, as [`Housed::ask`] does, once the lock is free. The stamp is above the caller's, and what is told is
-    /// what such a node tells of the ask in some state; a fault is one that the node can meet, want of memory, or that it
-    /// takes no call.
+    /// Asks the node, as [`Housed::ask`] does, once the lock is free: what is answered and what is left are those of one
+    /// ask of such a node where it stood when the lock was taken. The stamp is above the caller's; a fault is one that the
+    /// node can meet, want of memory, or that it takes no call.
     pub fn call<R: Wait>(
         &self,
         rt: &R,
@@ -49,16 +51,22 @@ where
         N: Drop,
         ensures above { IfOk result (λ got. stamp < got.0) }
         ensures told { IfOk result (λ got. IsToldBy N.Plain.wrapped_tell N.Plain.told ask got.1) }
+        ensures asked { WasAsked N
+            (steps N.Plain.wrapped N.Plain.unwrapped N.Plain.wrapped_tell N.Plain.told N.Plain.after) stamp from ask
+            result }
         ensures trouble { IfErr result (IsTrouble N.CanMeet) }
     {
         self.lock.lock(rt).ask(alloc, stamp, from, ask)
     }
 
-    /// Crashes the node, as [`Housed::crash`] does, once the lock is free. The stamp is above the caller's.
+    /// Crashes the node, as [`Housed::crash`] does, once the lock is free: what is answered and what is left are those of
+    /// one crash of such a node where it stood when the lock was taken. The stamp is above the caller's.
     pub fn crash<R: Wait>(&self, rt: &R, alloc: Global, stamp: Stamp) -> Result<Stamp, CallFault>
     where
         N: Drop,
         ensures above { IfOk result (λ at. stamp < at) }
+        ensures crashed { HasCrashed N
+            (steps N.Plain.wrapped N.Plain.unwrapped N.Plain.wrapped_tell N.Plain.told N.Plain.after) stamp result }
         ensures trouble { IfErr result (IsTrouble N.CanMeet) }
     {
         self.lock.lock(rt).crash(alloc, stamp)

@@ -11,7 +11,7 @@ pub fn crash<K: Rack, F: Faults, R: Wait>(site: &Site<'_, K, F, R>, turns: u32) 
     for number in 1..=turns {
         yield_now();
         if let Some(node) = site.faults.crash(number) {
-            if let Some(at) = site.directory.crash(site.rt, site.alloc, now, node) {
+            if let Ok(at) = site.directory.crash(site.rt, site.alloc, now, node) {
                 now = at;
             }
         }

@@ -110,7 +110,8 @@ fn call<K: Rack, F: Faults, R: Wait, H: Hearer>(
     let (now, place) = (hearer.now(), hearer.place());
     let told = site
         .directory
-        .call(site.rt, site.alloc, now, place, *to, sent);
+        .call(site.rt, site.alloc, now, place, *to, sent)
+        .ok();
     if told.is_some() {
         site.faults.answered(*to, ask);
     }

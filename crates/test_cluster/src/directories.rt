@@ -7,8 +7,8 @@ use fr_base::{Epoch, InMemory, LogId, NodeId, Stamp, Tag, Version};
 use fr_log::{Log, LogAsk, Most};
 use fr_proxy::Sequencer;
 use fr_register::Cell;
-use fr_runtime_housing::Housed;
-use fr_runtime_station::{Chosen, Directory, Station};
+use fr_runtime_housing::{CallFault, Housed};
+use fr_runtime_station::{Chosen, Directory, DirectoryFault, Station};
 use fr_state::Generation;
 use std::alloc::Global;
 use std::process::Abort;
@@ -112,14 +112,15 @@ fn the_greatest_epoch_is_the_newest(rt: HostRuntime) -> Result<(), Fail> {
     come_and_go(&rt, rt.alloc(), &directory)
 }
 
-/// The stamp at which a log answers a peek of a caller that has seen stamp 3, where it answers.
-fn answers<R: Wait>(
+/// The stamp at which a node answers a peek of a caller that has seen this one, or why it does not.
+fn asked<R: Wait>(
     rt: &R,
     alloc: Global,
     directory: &Plain,
+    seen: u64,
+    to: NodeId,
     epoch: Epoch,
-    index: u8,
-) -> Result<Option<u64>, Fail> {
+) -> Result<Result<u64, DirectoryFault>, Fail> {
     let tag = Tag::new(0).ok_or("a tag")?;
     let most = Most::new(1).ok_or("a most")?;
     let after = Version::ZERO;
@@ -130,22 +131,33 @@ fn answers<R: Wait>(
         most,
     });
     let from = NodeId::Storage { tag };
-    let to = NodeId::Log { epoch, index };
-    let told = directory.call(rt, alloc, stamp(3)?, from, to, ask);
+    let told = directory.call(rt, alloc, stamp(seen)?, from, to, ask);
     match &told {
-        Some((at, _)) => Ok(Some(at.get())),
-        None => Ok(None),
+        Ok((at, _)) => Ok(Ok(at.get())),
+        Err(fault) => Ok(Err(*fault)),
     }
+}
+
+/// The same of a log, for a caller that has seen stamp 3.
+fn answers<R: Wait>(
+    rt: &R,
+    alloc: Global,
+    directory: &Plain,
+    epoch: Epoch,
+    index: u8,
+) -> Result<Result<u64, DirectoryFault>, Fail> {
+    asked(rt, alloc, directory, 3, NodeId::Log { epoch, index }, epoch)
 }
 
 /// Logs of a later epoch answer nothing until they are there, and from then on above the stamp at which they came.
 fn logs_come<R: Wait + Abort>(rt: &R, alloc: Global, directory: &Plain) -> Result<(), Fail> {
     let later = epoch(513)?;
-    assert!(rt; answers(rt, alloc, directory, epoch(257)?, 0)? == Some(4));
-    assert!(rt; answers(rt, alloc, directory, later, 0)?.is_none());
+    let absent = DirectoryFault::NotThere;
+    assert!(rt; answers(rt, alloc, directory, epoch(257)?, 0)? == Ok(4));
+    assert!(rt; answers(rt, alloc, directory, later, 0)? == Err(absent));
     directory.publish_logs(rt, later, logs(alloc, later)?, stamp(8)?);
-    assert!(rt; answers(rt, alloc, directory, later, 1)? == Some(9));
-    assert!(rt; answers(rt, alloc, directory, later, 2)?.is_none());
+    assert!(rt; answers(rt, alloc, directory, later, 1)? == Ok(9));
+    assert!(rt; answers(rt, alloc, directory, later, 2)? == Err(absent));
     let index = 1;
     assert!(rt;
         directory
@@ -167,4 +179,51 @@ fn logs_are_there_from_their_stamp_on(rt: HostRuntime) -> Result<(), Fail> {
     let journals = directory.into_journals(rt.alloc())?;
     assert_eq!(rt; journals.len(), 4);
     Ok(())
+}
+
+/// Asks of another kind, to cells that are not there, and once no stamp is left, each have their fault; so have crashes.
+fn refuses<R: Wait + Abort>(rt: &R, alloc: Global, directory: &Plain) -> Result<(), Fail> {
+    let first = epoch(257)?;
+    let cell = NodeId::Cell { index: 0 };
+    let log = NodeId::Log {
+        epoch: first,
+        index: 0,
+    };
+    let proxy = NodeId::Proxy {
+        epoch: first,
+        number: 0,
+    };
+    let last = (1 << 40) - 1;
+    let spent = DirectoryFault::Call(CallFault::StampsSpent);
+    assert!(rt; asked(rt, alloc, directory, 3, cell, first)? == Err(DirectoryFault::NotAsked));
+    assert!(rt; asked(rt, alloc, directory, 3, proxy, first)? == Err(DirectoryFault::NotAsked));
+    assert!(rt; asked(rt, alloc, directory, last, log, first)? == Err(spent));
+    assert!(rt; asked(rt, alloc, directory, last - 1, log, first)? == Ok(last));
+    assert!(rt; asked(rt, alloc, directory, 3, log, first)? == Err(spent));
+    assert!(rt; directory.crash(rt, alloc, stamp(3)?, cell) == Err(DirectoryFault::NotThere));
+    assert!(rt; directory.crash(rt, alloc, stamp(3)?, proxy) == Err(DirectoryFault::NotAsked));
+    assert!(rt; directory.crash(rt, alloc, stamp(3)?, log) == Err(spent));
+    Ok(())
+}
+
+/// What a directory does not answer it refuses by name.
+#[test]
+fn refusals_are_named(rt: HostRuntime) -> Result<(), Fail> {
+    let directory = directory(rt.alloc())?;
+    refuses(&rt, rt.alloc(), &directory)
+}
+
+/// A sequencer that crashed is lost: it answers that from then on, asked or crashed again.
+fn is_lost<R: Wait + Abort>(rt: &R, alloc: Global, directory: &Plain) -> Result<(), Fail> {
+    let node = NodeId::Sequencer { epoch: epoch(257)? };
+    let lost = DirectoryFault::Call(CallFault::Lost);
+    assert!(rt; directory.crash(rt, alloc, stamp(3)?, node) == Ok(stamp(4)?));
+    assert!(rt; directory.crash(rt, alloc, stamp(3)?, node) == Err(lost));
+    Ok(())
+}
+
+#[test]
+fn a_sequencer_that_crashed_is_lost(rt: HostRuntime) -> Result<(), Fail> {
+    let directory = directory(rt.alloc())?;
+    is_lost(&rt, rt.alloc(), &directory)
 }

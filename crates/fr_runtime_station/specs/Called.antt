@@ -1,0 +1,124 @@
+-- What a node behind a lock is called and what it answers.
+use Rattle.std.specs.Prelude.{ℕ, Bool, true, false, nat_le, ◌≡◌, ◌≤◌, ◌<◌, ◌⊎◌, ◌↔◌, ⊤, Some, Result, Ok, Err, IfOk, IfErr, OnErr}
+use Rattle.fr_base.specs.declared.node.InMemory.{InMemory}
+use Rattle.fr_base.specs.declared.node.NodeFault.TheVariants as node
+use Rattle.fr_base.specs.declared.place.NodeId.{NodeId}
+use Rattle.fr_base.specs.declared.place.NodeId.TheVariants as place
+use Rattle.fr_ask.specs.Named.{cell_ask_of, log_ask_of, seq_ask_of}
+use Rattle.fr_ask.specs.declared.ask.Ask.{Ask}
+use Rattle.fr_ask.specs.declared.ask.Ask.TheVariants as ask
+use Rattle.fr_ask.specs.declared.tell.Tell.{Tell}
+use Rattle.fr_ask.specs.declared.tell.Tell.TheVariants as tell
+use Rattle.fr_audit_journal.specs.declared.act.Act.TheVariants as act
+use Rattle.fr_log.specs.LogState.{LogState}
+use Rattle.fr_log.specs.Step as log
+use Rattle.fr_log.specs.declared.ask.LogAsk.{LogAsk}
+use Rattle.fr_proxy.specs.Sequencer as sequencer
+use Rattle.fr_proxy.specs.Sequencer.{SeqState}
+use Rattle.fr_ask.specs.declared.sequencer.SeqAsk.{SeqAsk}
+use Rattle.fr_register.specs.Cell as cell
+use Rattle.fr_register.specs.CellState.{CellState}
+use Rattle.fr_register.specs.declared.ask.CellAsk.{CellAsk}
+use Rattle.fr_runtime_housing.specs.Housing.{Housing, Asks, Enters, Leaves, refusal_of}
+use Rattle.fr_runtime_housing.specs.Replays.{Steps, steps}
+use Rattle.fr_runtime_housing.specs.declared.fault.CallFault.{CallFault}
+use Rattle.fr_runtime_housing.specs.declared.fault.CallFault.TheVariants as call
+use Rattle.fr_runtime_station.specs.Answering.{IsAnswer, answers, is_asked_of}
+use Rattle.fr_runtime_station.specs.declared.directory_fault.DirectoryFault.{DirectoryFault}
+use Rattle.fr_runtime_station.specs.declared.directory_fault.DirectoryFault.TheVariants as fault
+
+-- what a node answers to an ask where it stands as `old`, and that it then stands as `new`: the ask is entered and told, or refused as its journal says, or a fault leaves the journal, but that want of memory may come once the ask is entered
+pub record IsAsked {N S A : Type 0} (m : Steps S A) (old new : Housing N S A) (stamp : ℕ) (from : NodeId) (a : A) (result : Result (ℕ × Tell) CallFault) : Type 0 where
+  pub entered : IfOk result (λ got. Asks m old new stamp from a (got.0, got.1))
+  pub lost : (result ≡ Err call.Lost) ↔ (refusal_of old stamp ≡ Some call.Lost)
+  pub spent : (result ≡ Err call.StampsSpent) ↔ (refusal_of old stamp ≡ Some call.StampsSpent)
+  pub left : IfErr result (λ fault. Leaves m old new ⊎ ((fault ≡ call.Node node.Memory) × ((got : ℕ × Tell) × Asks m old new stamp from a got)))
+
+-- a node that answers asks stood so when it was asked this
+pub record WasAsked (N : Type 0) {S A : Type 0} (m : Steps S A) (stamp : ℕ) (from : NodeId) (a : A) (result : Result (ℕ × Tell) CallFault) : Type 0 where
+  pub old : Housing N S A
+  pub new : Housing N S A
+  pub place : answers old.place ≡ true
+  pub asked : IsAsked m old new stamp from a result
+
+-- the same of a crash
+pub record IsCrashed {N S A : Type 0} (m : Steps S A) (old new : Housing N S A) (stamp : ℕ) (result : Result ℕ CallFault) : Type 0 where
+  pub entered : IfOk result (λ at. Enters m old new stamp at act.Crashed)
+  pub lost : (result ≡ Err call.Lost) ↔ (refusal_of old stamp ≡ Some call.Lost)
+  pub spent : (result ≡ Err call.StampsSpent) ↔ (refusal_of old stamp ≡ Some call.StampsSpent)
+  pub left : OnErr result (Leaves m old new)
+
+-- a node that answers asks stood so when it crashed
+pub record HasCrashed (N : Type 0) {S A : Type 0} (m : Steps S A) (stamp : ℕ) (result : Result ℕ CallFault) : Type 0 where
+  pub old : Housing N S A
+  pub new : Housing N S A
+  pub place : answers old.place ≡ true
+  pub crashed : IsCrashed m old new stamp result
+
+-- the machines of cells, logs and sequencers, their asks and tells among all
+
+abbrev pub cell_steps : Steps CellState CellAsk
+cell_steps = steps (λ a. ask.Cell a) cell_ask_of (λ t. tell.Cell t) cell.answer_of cell.next_of
+
+abbrev pub log_steps : Steps LogState LogAsk
+log_steps = steps (λ a. ask.Log a) log_ask_of (λ t. tell.Log t) log.answer_of log.after_ask
+
+abbrev pub seq_steps : Steps SeqState SeqAsk
+seq_steps = steps (λ a. ask.Seq a) seq_ask_of (λ t. tell.Seq t) sequencer.answer_of sequencer.next_of
+
+-- such a node was asked by a caller of this stamp, raised to the one from which on the node is there
+pub record WasCalled (N : Type 0) {S A : Type 0} (m : Steps S A) (stamp : ℕ) (from : NodeId) (a : A) (result : Result (ℕ × Tell) CallFault) : Type 0 where
+  pub raised : ℕ
+  pub is_raised : stamp ≤ raised
+  pub asked : WasAsked N m raised from a result
+
+-- a cell over C, a log over L or a sequencer was, as the ask says
+abbrev pub IsCall : (C L : Type 0) → ℕ → NodeId → Ask → Result (ℕ × Tell) CallFault → Type 0
+IsCall C L stamp from (ask.Cell a) result = WasCalled C cell_steps stamp from a result
+IsCall C L stamp from (ask.Log a) result = WasCalled L log_steps stamp from a result
+IsCall C L stamp from (ask.Seq a) result = WasCalled (InMemory SeqState) seq_steps stamp from a result
+
+-- the same of a crash
+pub record WasCrashed (N : Type 0) {S A : Type 0} (m : Steps S A) (stamp : ℕ) (result : Result ℕ CallFault) : Type 0 where
+  pub raised : ℕ
+  pub is_raised : stamp ≤ raised
+  pub crashed : HasCrashed N m raised result
+
+abbrev pub IsCrash : (C L : Type 0) → ℕ → NodeId → Result ℕ CallFault → Type 0
+IsCrash C L stamp (place.Cell index) result = WasCrashed C cell_steps stamp result
+IsCrash C L stamp (place.Log epoch index) result = WasCrashed L log_steps stamp result
+IsCrash C L stamp (place.Sequencer epoch) result = WasCrashed (InMemory SeqState) seq_steps stamp result
+IsCrash C L stamp node result = ⊥
+
+-- why a directory answers nothing: what the node that was called says, where it was called
+abbrev pub IsUncalled : (Result (ℕ × Tell) CallFault → Type 0) → DirectoryFault → Type 0
+IsUncalled Call (fault.Call why) = Call (Err why)
+IsUncalled Call why = ⊤
+
+abbrev pub IsUncrashed : (Result ℕ CallFault → Type 0) → DirectoryFault → Type 0
+IsUncrashed Crash (fault.Call why) = Crash (Err why)
+IsUncrashed Crash why = ⊤
+
+-- whether a directory of so many cells may lack a node: of logs and sequencers nobody knows whether they have come yet
+abbrev pub may_lack : ℕ → NodeId → Bool
+may_lack cells (place.Cell index) = nat_le cells index
+may_lack cells (place.Log epoch index) = true
+may_lack cells (place.Sequencer epoch) = true
+may_lack cells node = false
+
+-- what a directory of so many cells answers to an ask
+pub record IsAnswered (C L : Type 0) (cells : ℕ) (stamp : ℕ) (from to : NodeId) (a : Ask) (result : Result (ℕ × Tell) DirectoryFault) : Type 0 where
+  pub above : IfOk result (λ got. stamp < got.0)
+  pub told : IfOk result (λ got. IsAnswer a got.1)
+  pub kind : (result ≡ Err fault.NotAsked) ↔ (is_asked_of to a ≡ false)
+  pub there : (result ≡ Err fault.NotThere) → may_lack cells to ≡ true
+  pub called : IfOk result (λ got. IsCall C L stamp from a (Ok got))
+  pub uncalled : IfErr result (IsUncalled (IsCall C L stamp from a))
+
+-- the same of a crash
+pub record IsCrashAnswered (C L : Type 0) (cells : ℕ) (stamp : ℕ) (node : NodeId) (result : Result ℕ DirectoryFault) : Type 0 where
+  pub above : IfOk result (λ at. stamp < at)
+  pub kind : (result ≡ Err fault.NotAsked) ↔ (answers node ≡ false)
+  pub there : (result ≡ Err fault.NotThere) → may_lack cells node ≡ true
+  pub crashed : IfOk result (λ at. IsCrash C L stamp node (Ok at))
+  pub uncrashed : IfErr result (IsUncrashed (IsCrash C L stamp node))
