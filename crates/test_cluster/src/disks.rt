@@ -3,4 +3,3 @@ mod breaking;
 mod devices;
 mod printed;
 mod runs;
-mod shapes;

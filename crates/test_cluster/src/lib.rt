@@ -2,6 +2,8 @@
 #![tactic(auto)]
 
 #[cfg(test)]
+mod breaks;
+#[cfg(test)]
 mod directories;
 #[cfg(test)]
 mod disks;
@@ -17,7 +19,5 @@ mod orders;
 mod refusing;
 #[cfg(test)]
 mod runs;
-#[cfg(test)]
-mod shapes;
 #[cfg(test)]
 mod storms;

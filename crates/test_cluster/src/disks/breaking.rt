@@ -1,11 +1,8 @@
 //! Clusters whose stores fail once, in a hear.
-use fr_audit_journal::{Act, Entry};
-use fr_base::{InMemory, LogId, NodeFault, NodeId, Tag};
-use fr_log::Log;
-use fr_register::Cell;
-use fr_runtime::{Orders, Rack, Report};
+use crate::breaks::{BreakingRack, parts};
+use fr_base::{NodeId, Tag};
+use fr_runtime::{Orders, Report};
 use fr_runtime_station::NoFaults;
-use fr_undo::StoreFault;
 use std::alloc::Global;
 use std::sync::Wait;
 use std::test::Fail;
@@ -14,53 +11,9 @@ use test_cluster_scene::{
     AreCommitted, Numbers, ONE, Overtaken, Question, RollsBack, TWO, alike, ballot, entries_of,
     holds_on, ran_on,
 };
-use test_store_failing::FailsOnce;
 
 /// One workload with few turns for each thread, where there are many runs.
 pub(crate) const SHORT: Numbers = Numbers { turns: 300, ..ONE };
-
-/// All in memory, with stores whose device fails once: in the call after so many others, the first of which makes the
-/// storage server. The call is done or not.
-#[derive(Clone, Copy)]
-struct BreakingRack {
-    calls: u32,
-    is_done: bool,
-}
-
-impl Rack for BreakingRack {
-    type Cell = InMemory<Cell>;
-
-    type Log = InMemory<Log>;
-
-    type Store = FailsOnce;
-
-    ghost CanRefuse = { λ rack fault. ⊥ };
-
-    ghost CanRefuseStore = { λ rack fault. ⊥ };
-
-    fn cell(&self, alloc: Global, _index: u8) -> Result<InMemory<Cell>, NodeFault> {
-        Ok(InMemory::new(Cell::new(alloc)))
-    }
-
-    fn log(&self, alloc: Global, id: LogId, m: u8, k: u8) -> Result<InMemory<Log>, NodeFault> {
-        Ok(InMemory::new(Log::new(alloc, id, m, k)))
-    }
-
-    fn store(&self, alloc: Global, _tag: Tag) -> Result<FailsOnce, StoreFault> {
-        Ok(FailsOnce::new(alloc, self.calls, self.is_done))
-    }
-}
-
-/// How many hears are entered in part.
-fn parts(entries: &[Entry]) -> usize {
-    let mut parts = 0_usize;
-    for entry in entries {
-        if let Act::Heard { taken: Some(_), .. } = &entry.act {
-            parts = parts.wrapping_add(1);
-        }
-    }
-    parts
-}
 
 /// How many hears of a server are in part, one at most; None where there are more, or where a batch is not committed.
 fn broken_off(report: &Report, works: &[Orders], server: NodeId) -> Option<usize> {
@@ -78,7 +31,10 @@ fn commits<R: Threads + Wait + Sync>(
     let server = NodeId::Storage {
         tag: Tag::new(1).ok_or("a tag")?,
     };
-    let rack = BreakingRack { calls, is_done };
+    let rack = BreakingRack {
+        call: calls,
+        is_done,
+    };
     let (report, works) = ran_on(rt, alloc, SHORT, &[], rack, &NoFaults)?;
     Ok(broken_off(&report, works.as_slice(), server))
 }
@@ -116,7 +72,10 @@ fn ends_well<R: Threads + Wait + Sync>(
     is_done: bool,
 ) -> Result<bool, Fail> {
     let committed = AreCommitted { many: 0 };
-    let rack = BreakingRack { calls, is_done };
+    let rack = BreakingRack {
+        call: calls,
+        is_done,
+    };
     holds_on(rt, alloc, IDLE, &[], rack, &NoFaults, &committed)
 }
 
@@ -141,7 +100,10 @@ fn rolls_back<R: Threads + Wait + Sync>(
     let rolled = RollsBack {
         node: NodeId::Storage { tag },
     };
-    let rack = BreakingRack { calls, is_done };
+    let rack = BreakingRack {
+        call: calls,
+        is_done,
+    };
     holds_on(rt, alloc, TWO, &ballots, rack, &Overtaken::new(), &rolled)
 }
 

@@ -1,50 +1,13 @@
 //! Clusters in a storm whose stores fail once, each at a call that writes.
-use fr_audit_journal::{Act, Entry};
-use fr_base::{Ballot, Bytes, InMemory, LogId, NodeFault, NodeId, Shape, Tag};
-use fr_log::Log;
-use fr_register::Cell;
+use crate::breaks::{BreakingRack, parts};
+use fr_base::{Ballot, Bytes, NodeId, Shape, Tag};
 use fr_run_event::Config;
-use fr_runtime::{Cluster, Rack, Report};
+use fr_runtime::{Cluster, Report};
 use fr_runtime_storm::{DrawnOrders, Draws, Storm};
-use fr_undo::StoreFault;
 use std::alloc::Global;
 use std::sync::Wait;
 use std::test::Fail;
 use std::thread::Threads;
-use test_store_failing::FailsOnce;
-
-/// All in memory, with stores whose device fails in one call. A storage server makes no call of its store but those that
-/// write, until its turns are over, and the first of them sets the state with which it starts: so the device fails in
-/// the call of this number after that one, which is done or not.
-#[derive(Clone, Copy)]
-struct BreakingRack {
-    call: u32,
-    is_done: bool,
-}
-
-impl Rack for BreakingRack {
-    type Cell = InMemory<Cell>;
-
-    type Log = InMemory<Log>;
-
-    type Store = FailsOnce;
-
-    ghost CanRefuse = { λ rack fault. ⊥ };
-
-    ghost CanRefuseStore = { λ rack fault. ⊥ };
-
-    fn cell(&self, alloc: Global, _index: u8) -> Result<InMemory<Cell>, NodeFault> {
-        Ok(InMemory::new(Cell::new(alloc)))
-    }
-
-    fn log(&self, alloc: Global, id: LogId, m: u8, k: u8) -> Result<InMemory<Log>, NodeFault> {
-        Ok(InMemory::new(Log::new(alloc, id, m, k)))
-    }
-
-    fn store(&self, alloc: Global, _tag: Tag) -> Result<FailsOnce, StoreFault> {
-        Ok(FailsOnce::new(alloc, self.call, self.is_done))
-    }
-}
 
 /// Three coordinators, four logs with each tag on two, one storage server and two proxies.
 fn config(alloc: Global) -> Result<Config, Fail> {
@@ -64,17 +27,6 @@ fn ballots() -> Result<[(Ballot, Option<Shape>); 2], Fail> {
     let first = Ballot::new(513).ok_or("a ballot")?;
     let second = Ballot::new(769).ok_or("a ballot")?;
     Ok([(first, None), (second, None)])
-}
-
-/// How many hears are entered in part.
-fn parts(entries: &[Entry]) -> usize {
-    let mut parts = 0_usize;
-    for entry in entries {
-        if let Act::Heard { taken: Some(_), .. } = &entry.act {
-            parts = parts.wrapping_add(1);
-        }
-    }
-    parts
 }
 
 /// How many hears of a server the report has in part.
