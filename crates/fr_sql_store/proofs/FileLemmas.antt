@@ -1,5 +1,5 @@
 -- A store over files.
-use Rattle.std.proofs.Common.{◌≡◌, ◌≢◌, ◌↔◌, ◌≤◌, ◌<◌, ℕ, Bool, true, false, ◌&&◌, IsSome, IsTrue, Result, Ok, Err, IfOk, IfErr, true≢false, refl, sym, ap, subst, ◌∙◌}
+use Rattle.std.proofs.Common.{◌≡◌, ◌≢◌, ◌≤◌, ◌<◌, ℕ, Bool, true, false, ◌&&◌, IsSome, IsTrue, Result, Ok, Err, IfOk, IfErr, refl, sym, ap, subst, ◌∙◌}
 use Rattle.std.proofs.Math.Logic.{∥∥₁_map}
 use Rattle.std.specs.FinMap as map
 use Rattle.sqlite.specs.Tree.{Trees}
@@ -23,10 +23,6 @@ use Rattle.fr_sql_work.proofs.CountLemmas.{undo_len}
 use Rattle.fr_sql_open.specs.Found.{IsFound}
 use Rattle.fr_sql_store.specs.Tables.{state_in, applied_in, floor_in, IsStore, shown, Seen, state_of, IsStoreOf}
 use Rattle.fr_sql_store.specs.Files.{HoldStore}
-use Rattle.fr_sql_store.proofs.StoreLemmas.{Lawful, not_failed}
-use Rattle.fr_sql_rows.specs.Backing.{files_are_clean}
-use Rattle.sqlite_store.specs.Laws.{stays_at, settled_at}
-use Rattle.sqlite.specs.Files.{over_files}
 
 -- tables that were found stand
 pub found_store : (s : State) (applied floor rows : ℕ) → IsAtRest s → IsFound applied floor rows s.now → IsStore s applied floor rows false
@@ -52,10 +48,10 @@ found_store s applied floor rows rest f =
     }
 
 -- what is found is what the files hold
-pub found_state : {D T : Type 0} (g : Ghosts D) (files : Files D) (first : Trees) (trees_of : T → Trees) (r : Result T StoreFault) → ((db : Trees) → HoldsDatabase (image_of g files) db → first ≡ db) → IfOk r (λ found. trees_of found ≡ first)
-    → IfOk r (λ found. (x : StoreState) → HoldStore g files x → state_in (trees_of found) ≡ x)
-found_state g files first trees_of (Ok found) holds again = λ x held. ap state_in (again ∙ holds held.0 held.1) ∙ sym held.2
-found_state g files first trees_of (Err fault) holds again = tt
+pub found_state : {D T : Type 0} (g : Ghosts D) (files : Files D) (first : Trees) (shown_by : T → StoreState) (r : Result T StoreFault) → ((db : Trees) → HoldsDatabase (image_of g files) db → first ≡ db) → IfOk r (λ found. shown_by found ≡ state_in first)
+    → IfOk r (λ found. (x : StoreState) → HoldStore g files x → shown_by found ≡ x)
+found_state g files first shown_by (Ok found) holds again = λ x held. again ∙ ap state_in (holds held.0 held.1) ∙ sym held.2
+found_state g files first shown_by (Err fault) holds again = tt
 
 -- files that hold a database hold the store of its tables
 pub holds_store : {D : Type 0} (g : Ghosts D) (files : Files D) (db : Trees) → ∥ HoldsDatabase (image_of g files) db ∥₁ → ∥ HoldStore g files (state_in db) ∥₁
@@ -73,18 +69,6 @@ clean_files g faithful log db = both_true _ _ (faithful log) (faithful db)
 pub state_committed : {S : Type 0} (g : store.Ghosts S) (s : Seen S) → IsStoreOf g s → s.failed ≡ false → state_of g s ≡ state_in (state g s.conn).committed.trees
 state_committed g s is works =
     ap (λ b. shown b (state g s.conn) s.applied s.floor) works ∙ ap (λ (d : Database). state_in d.trees) (is.stands (is.works works)).rest.settled
-
--- the store of files obeys the laws that are used
-pub lawful : {D : Type 0} (g : Ghosts D) → ((d : D) → IsTrue (g.is_clean d)) → ((d : D) → g.may_leave d (g.seen d)) → Lawful (over_files {g = g})
-lawful g faithful stays = record { clean = files_are_clean faithful; settled = λ s. settled_at s stays; stays = λ s. stays_at s stays }
-
--- a store that has not failed answers no `Failed`, and one that has is shut with it
-pub closes : {T : Type 0} (r : Result T StoreFault) (failed : Bool) → failed ≡ false → IfErr r (IsTrouble MeetsAll) → (r ≡ Err Failed) ↔ IsTrue failed
-closes (Ok x) failed works t = (λ e. cc, λ is. absurd (true≢false (sym is ∙ works)))
-closes (Err fault) failed works t = (λ e. absurd (not_failed fault t (let same : fault ≡ Failed = cc in same)), λ is. absurd (true≢false (sym is ∙ works)))
-
-pub closes_not : {T : Type 0} (r : Result T StoreFault) (failed : Bool) → failed ≡ true → r ≡ Err Failed → (r ≡ Err Failed) ↔ IsTrue failed
-closes_not r failed is same = (λ e. is, λ e. same)
 
 -- the faults of a store that has not failed
 pub troubles : {T : Type 0} (r : Result T StoreFault) → IfErr r (IsTrouble MeetsAll) → IfErr r (λ fault. fault ≢ Failed → IsTrouble MeetsAll fault)

@@ -13,9 +13,8 @@ use Rattle.fr_base.specs.Map.{map_by}
 use Rattle.fr_undo.proofs.StateLemmas.{fresh_sound}
 use Rattle.fr_undo.specs.State.{place_cmp, StoreState, IsStoreState, fresh}
 use Rattle.fr_undo.specs.Calls.{IsTrouble, is_device, met_device, LeftAsIs, Reads, Writes}
-use Rattle.fr_sql_rows.specs.Rows.{undo_in}
 use Rattle.fr_sql_rows.specs.Told.{Told}
-use Rattle.fr_sql_rows.specs.Connection.{IsAtRest, IsLaidOut, IsBegun, Keeps, KeepsIfOpen}
+use Rattle.fr_sql_rows.specs.Connection.{IsAtRest, IsLaidOut, IsBegun, KeepsIfOpen}
 use Rattle.fr_sql_work.specs.Calls.{Looks, MeetsAll}
 use Rattle.fr_sql_store.specs.Tables.{state_in, unknown, shown, Stands, IsStore, Seen, state_of, MayLeave, IsStoreOf}
 use Rattle.fr_sql_calls.specs.Calls.{Makes}

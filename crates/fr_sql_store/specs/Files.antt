@@ -4,15 +4,9 @@ use Rattle.sqlite.specs.Tree.{Trees}
 use Rattle.sqlite.specs.Files.{HoldsDatabase, image_of}
 use Rattle.sqlite_disk.specs.declared.Disk.{Ghosts}
 use Rattle.sqlite_disk.specs.declared.Files.{Files}
-use Rattle.sqlite_store.specs.declared.store.FileStore.{FileStore}
-use Rattle.sqlite_store.specs.FileStore.{recovers}
 use Rattle.fr_undo.specs.State.{StoreState}
 use Rattle.fr_sql_store.specs.Tables.{state_in}
 
 -- the files hold the tables of a store in this state
 abbrev pub HoldStore : {D : Type 0} → Ghosts D → Files D → StoreState → Type 0
 HoldStore g files x = (db : Trees) × HoldsDatabase (image_of g files) db × (x ≡ state_in db)
-
--- an open after a crash may find the tables of this state
-abbrev pub StoreLeaves : {D : Type 0} → (g : Ghosts D) → FileStore D g → StoreState → Type 0
-StoreLeaves g it x = (db : Trees) × recovers it db × (x ≡ state_in db)

@@ -69,3 +69,7 @@ module _ {S : Type 0} (g : Ghosts S) where
 
   abbrev pub IsStoreOf : Seen S → Type 0
   IsStoreOf s = IsStore (state g s.conn) s.applied s.floor s.rows s.failed
+
+  -- an open after a crash may find the tables of this state in a store of tables whose connection is gone
+  abbrev pub StoreLeaves : S → StoreState → Type 0
+  StoreLeaves it x = (db : Trees) × g.recovers it db × (x ≡ state_in db)

@@ -5,6 +5,8 @@ ghost use Rattle.fr_mutation.specs.Shard.{part};
 ghost use Rattle.fr_undo.specs.State.{IsStoreState, fresh};
 ghost use Rattle.fr_undo.specs.Undo.{extended, undone, forgotten, advanced, with_bytes};
 ghost use Rattle.fr_undo.specs.Calls.{IsTrouble, is_device, met_device, StaysUnlessFailed, LeavesNoMore, LeftAsIs, Reads, Writes};
+ghost use Rattle.fr_sql_rows.specs.Connection.{IsAtRest};
+ghost use Rattle.fr_sql_rows.specs.Schema.{no_schema};
 ghost use Rattle.fr_sql_work.specs.Calls.{MeetsAll};
 ghost use Rattle.sqlite.specs.Held.{state};
 ghost use Rattle.fr_sql_store.specs.Tables.{state_in, state_of, has_failed, MayLeave, IsTold};
@@ -75,10 +77,22 @@ impl SqlStore<MemStore> {
         ensures works { IfOk result (λ store. ⟦<SqlStore<MemStore> as ShardStore>⟧.is_failed store ≡ false) }
         ensures trouble { IfErr result (IsTrouble MeetsAll) }
     {
-        let mut conn = match Connection::open_in_memory(alloc) {
-            Ok(conn) => conn,
-            Err(_) => return Err(StoreFault::Memory),
-        };
+        match Connection::open_in_memory(alloc) {
+            Ok(conn) => SqlStore::laid(alloc, conn),
+            Err(_) => Err(StoreFault::Memory),
+        }
+    }
+}
+
+impl<S: Backing + Drop> SqlStore<S> {
+    /// An empty store in a database that holds no table, with nothing applied.
+    fn laid(alloc: Global, mut conn: Connection<S>) -> Result<Self, StoreFault>
+        requires rest { IsAtRest (state S.Store conn) }
+        requires schema { (state S.Store conn).now.schema ≡ no_schema }
+        ensures empty { IfOk result (λ store. state_of S.Store store ≡ fresh) }
+        ensures works { IfOk result (λ store. store.failed ≡ false) }
+        ensures trouble { IfErr result (IsTrouble MeetsAll) }
+    {
         match schema::create(&mut conn) {
             Ok(()) => Ok(SqlStore {
                 conn,
@@ -94,9 +108,7 @@ impl SqlStore<MemStore> {
             Err(refused) => Err(refused.trouble().fault()),
         }
     }
-}
 
-impl<S: Backing + Drop> SqlStore<S> {
     /// The connection alone, of a store that is given up.
     fn into_conn(self) -> Connection<S>
         ensures conn { result ≡ self.conn }
