@@ -1,5 +1,5 @@
 -- Files that are taken out of a store, and opened again.
-use Rattle.std.proofs.Common.{◌≡◌, ◌⊎◌, inl, inr, ℕ, List, Option, IsTrue, sym, ap, subst, ◌∙◌}
+use Rattle.std.proofs.Common.{◌≡◌, ◌⊎◌, inl, inr, ℕ, List, Option, false, IsTrue, sym, ap, subst, ◌∙◌}
 use Rattle.std.proofs.Math.Logic.{∥∥₁_elim, ∥∥₁_map}
 use Rattle.sqlite_disk.specs.declared.Disk.{Ghosts}
 use Rattle.sqlite_disk.specs.declared.Files.{Files}
@@ -11,12 +11,13 @@ use Rattle.sqlite_store.specs.declared.catalog.Wanted.{Wanted}
 use Rattle.sqlite_store.specs.declared.saved.Saved.{Saved}
 use Rattle.sqlite_store.specs.declared.store.FileStore.{FileStore}
 use Rattle.sqlite_store.specs.declared.store.open.Unopened.{Unopened}
-use Rattle.sqlite_store.specs.FileStore.{state, files, schema_of, IsUnaltered, view, recovers, IsReady}
-use Rattle.sqlite_store.specs.Laws.{stays_at, settled_at, shut_is_broken}
+use Rattle.sqlite_store.specs.FileStore.{state, files, schema_of, IsUnaltered, view, IsReady}
 use Rattle.sqlite_trees.specs.Tree.{Trees}
+use Rattle.sqlite_trees.specs.declared.store.Store as store
 use Rattle.sqlite.specs.Effect.{Database}
+use Rattle.sqlite.specs.Held as held
 use Rattle.sqlite.specs.Held.{Held}
-use Rattle.sqlite.specs.Files.{file_state, over_files}
+use Rattle.sqlite.specs.Files.{over_files}
 use Rattle.sqlite.specs.Steps.{IsFresh}
 use Rattle.fr_sql_rows.specs.Backing.{files_are_clean}
 use Rattle.fr_sql_rows.specs.Connection.{IsAtRest}
@@ -29,9 +30,10 @@ use Rattle.sqlite_wal.specs.Recovery.{Image}
 use Rattle.sqlite_wal.specs.State.{State}
 use Rattle.sqlite_wal.proofs.RecoveryLemmas.{recovers_once}
 use Rattle.fr_undo.specs.State.{StoreState}
-use Rattle.fr_sql_store.specs.Tables.{state_in}
-use Rattle.fr_sql_files.specs.Shut.{own_trees, IsOwn, StoreLeaves, FilesLeave, AreReadable}
+use Rattle.fr_sql_store.specs.Tables.{state_in, StoreLeaves}
+use Rattle.fr_sql_files.specs.Shut.{own_trees, IsOwn, FilesLeave, AreReadable}
 use Rattle.fr_sql_store.proofs.FileLemmas.{both_true}
+use Rattle.fr_sql_store.proofs.StoreLemmas.{Lawful}
 
 -- ---- recovery
 
@@ -60,6 +62,10 @@ unfolding pool.state
 pool_clean it faithful = both_true _ _ (faithful _) (faithful _)
 
 module _ {D : Type 0} (g : Ghosts D) (faithful : (d : D) → IsTrue (g.is_clean d)) where
+  -- what a crash may leave of a store of files
+  abbrev Left : FileStore D g → StoreState → Type 0
+  Left = StoreLeaves (over_files {g = g})
+
   abbrev out : D × D → Image → Type 0
   out pair = outcomes g pair.0 pair.1
 
@@ -70,7 +76,7 @@ module _ {D : Type 0} (g : Ghosts D) (faithful : (d : D) → IsTrue (g.is_clean 
 
   -- ---- a store taken apart
 
-  pub apart_leaves : (it : FileStore D g) (size : ℕ) (f : Files D) → IsOwn size it → (f.log, f.db) ≡ files it → (x : StoreState) → FilesLeave g size f x → StoreLeaves g it x
+  pub apart_leaves : (it : FileStore D g) (size : ℕ) (f : Files D) → IsOwn size it → (f.log, f.db) ≡ files it → (x : StoreState) → FilesLeave g size f x → Left it x
   apart_leaves it size f own same x (image, pages, may, found, is) = (
     file_trees size own_trees pages,
     (image, pages, may_of it.pool faithful image (subst (λ p. out p image) same may), subst (λ n. ∥ Recovers n image pages ∥₁) (sym own.size) found, reads_own it size own pages),
@@ -113,7 +119,7 @@ module _ {D : Type 0} (g : Ghosts D) (faithful : (d : D) → IsTrue (g.is_clean 
         ]
 
     -- the store that is opened
-    pub opened_leaves : (it : FileStore D g) → (IsTrue (state it).is_clean → unopened.Opens fresh (state it)) → schema_of it ≡ own_trees → IsUnaltered it → (x : StoreState) → StoreLeaves g it x → FilesLeave g size f x
+    pub opened_leaves : (it : FileStore D g) → (IsTrue (state it).is_clean → unopened.Opens fresh (state it)) → schema_of it ≡ own_trees → IsUnaltered it → (x : StoreState) → Left it x → FilesLeave g size f x
     opened_leaves it kept trees unaltered x (db, (image, pages, may, found, reads), is) =
         let opens = kept (pool_clean it.pool faithful) in
         let own = (let r : IsOwn size it = record { size = opens.size ∙ sized; trees = trees; unaltered = unaltered } in r) in
@@ -128,22 +134,24 @@ module _ {D : Type 0} (g : Ghosts D) (faithful : (d : D) → IsTrue (g.is_clean 
     refused_readable left after kept gone image may =
         opened_readable (unopened.state_of left) (kept (pool_clean left.pool faithful)) image (may_of left.pool faithful image (subst (λ p. out p image) gone may))
 
-  -- ---- a store that is opened, and its connection
+  -- ---- a store that is opened
 
-  module _ (stays : (d : D) → g.may_leave d (g.seen d)) where
-    pub ready_fresh : (it : FileStore D g) → IsReady it → IsTrue (view it).is_numbered → IsFresh (view it)
-    ready_fresh it ready numbered = record { sound = ready.sound (files_are_clean faithful it); numbered = numbered; clean = ready.clean; unmarked = ready.unmarked }
+  pub ready_fresh : (it : FileStore D g) → IsReady it → IsTrue (view it).is_numbered → IsFresh (view it)
+  ready_fresh it ready numbered = record { sound = ready.sound (files_are_clean faithful it); numbered = numbered; clean = ready.clean; unmarked = ready.unmarked }
 
-    committed_stays : (it : FileStore D g) → IsFresh (view it) → recovers it (view it).committed
-    committed_stays it fresh = stays_at it stays (whole_open (view it) (shut_is_broken it) fresh.sound)
+-- ---- tables that are opened, and their connection
 
-    -- what is found is what a crash may leave
-    pub found_leaves : (it : FileStore D g) → IsFresh (view it) → (mid last : Database) → mid.trees ≡ (view it).trees → last ≡ mid → StoreLeaves g it (state_in last.trees)
-    found_leaves it fresh mid last same kept = ((view it).committed, committed_stays it fresh, ap (λ (d : Database). state_in d.trees) kept ∙ ap state_in (same ∙ fresh.clean))
+module _ {S : Type 0} (g : store.Ghosts S) (law : Lawful g) (shut_is_broken : (s : S) → (g.view s).is_open ≡ false → IsTrue (g.view s).is_broken) where
+  committed_stays : (it : S) → IsFresh (g.view it) → g.recovers it (g.view it).committed
+  committed_stays it fresh = law.stays it (whole_open (g.view it) (shut_is_broken it) fresh.sound)
 
-    -- a connection that found no store leaves what was there
-    pub lost_leaves : (it now : FileStore D g) (h : Held (FileStore D g)) → IsFresh (view it) → IsAtRest (file_state h) → (file_state h).now.trees ≡ (view it).trees → ((db : Trees) → recovers now db → recovers h.store db)
-        → (x : StoreState) → StoreLeaves g now x → StoreLeaves g it x
-    lost_leaves it now h fresh rest same leaves x (db, may, is) =
-        let last : db ≡ (view it).committed = settled_at h.store stays db rest.is_open (leaves db may) ∙ sym (ap (λ (d : Database). d.trees) rest.settled) ∙ same ∙ fresh.clean in
-        (db, subst (recovers it) (sym last) (committed_stays it fresh), is)
+  -- what is found is what a crash may leave
+  pub found_leaves : (it : S) → IsFresh (g.view it) → (mid last : Database) → mid.trees ≡ (g.view it).trees → last ≡ mid → StoreLeaves g it (state_in last.trees)
+  found_leaves it fresh mid last same kept = ((g.view it).committed, committed_stays it fresh, ap (λ (d : Database). state_in d.trees) kept ∙ ap state_in (same ∙ fresh.clean))
+
+  -- a connection that found no store leaves what was there
+  pub lost_leaves : (it now : S) (h : Held S) → IsFresh (g.view it) → IsAtRest (held.state g h) → (held.state g h).now.trees ≡ (g.view it).trees → ((db : Trees) → g.recovers now db → g.recovers h.store db)
+      → (x : StoreState) → StoreLeaves g now x → StoreLeaves g it x
+  lost_leaves it now h fresh rest same leaves x (db, may, is) =
+      let last : db ≡ (g.view it).committed = law.settled h.store db rest.is_open (leaves db may) ∙ sym (ap (λ (d : Database). d.trees) rest.settled) ∙ same ∙ fresh.clean in
+      (db, subst (g.recovers it) (sym last) (committed_stays it fresh), is)

@@ -1,4 +1,4 @@
--- What is kept of a store whose connection is shut.
+-- Files of a store whose connection is shut.
 use Rattle.std.specs.Prelude.{◌≡◌, ℕ, List, [], ◌∷◌, codes}
 use Rattle.sqlite_disk.specs.declared.Disk.{Ghosts}
 use Rattle.sqlite_disk.specs.declared.Files.{Files}
@@ -16,7 +16,6 @@ use Rattle.fr_undo.specs.State.{StoreState}
 use Rattle.fr_sql_rows.specs.Schema.{kv_text, undo_text, meta_text}
 use Rattle.fr_sql_open.specs.Schema.{by_bytes}
 use Rattle.fr_sql_store.specs.Tables.{state_in}
-pub use Rattle.fr_sql_store.specs.Files.{StoreLeaves}
 
 -- a table, with the text that makes it
 abbrev pub own_table : List ℕ → List ℕ → Wanted

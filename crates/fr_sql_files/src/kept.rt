@@ -8,7 +8,7 @@ use sqlite_pager::PageSize;
 
 /// Files of a store, of which nothing is open.
 #[derive(Drop)]
-pub(crate) struct Kept<D: Disk> {
+pub struct Kept<D: Disk> {
     pub(crate) files: Files<D>,
     pub(crate) size: PageSize,
     ghost readable: { AreReadable D.Disk (bytes_of size) files },

@@ -5,5 +5,10 @@ mod kept;
 mod own;
 mod shut;
 mod sql_file_store;
+mod table_store;
+mod tables;
 
+pub use kept::Kept;
 pub use sql_file_store::SqlFileStore;
+pub use table_store::TableStore;
+pub use tables::FileTables;

@@ -1,19 +1,19 @@
 use Rattle.std.proofs.Common.{◌≡◌, IfOk}
 use Rattle.std.specs.FinMap as map
 use Rattle.fr_sql_files.proofs.LinkLemmas.{shut_reads, shut_told, reads_open, told_open, shown_open}
-use Rattle.fr_sql_files.proofs.sql_file_store.SqlFileStoreShardStore.get.Goals as goal
+use Rattle.fr_sql_files.proofs.table_store.TableStoreShardStore.get.Goals as goal
 
 pub returns-in-Open-clause-value : goal.returns-in-Open-clause-value
-returns-in-Open-clause-value g c = shown_open (λ x. IfOk c.get.result (λ value. value ≡ map.get x.contents c.args.key.now)) c.in-Open.store c.args.self.now.link c.in-Open.is c.get.ensures.value
+returns-in-Open-clause-value g c = shown_open g.S.Store g.S.FileTables.KeptLeaves (λ x. IfOk c.get.result (λ value. value ≡ map.get x.contents c.args.key.now)) c.in-Open.store c.args.self.now.link c.in-Open.is c.get.ensures.value
 
 pub returns-in-Open-clause-reads : goal.returns-in-Open-clause-reads
-returns-in-Open-clause-reads g c = reads_open c.in-Open.store c.get.new.self c.get.result c.args.self.now c.in-Open.is c.get.ensures.reads
+returns-in-Open-clause-reads g c = reads_open g.S.Store g.S.FileTables.KeptLeaves c.in-Open.store c.get.new.self c.get.result c.args.self.now c.in-Open.is c.get.ensures.reads
 
 pub returns-in-Open-clause-told : goal.returns-in-Open-clause-told
-returns-in-Open-clause-told g c = told_open c.in-Open.store c.get.new.self c.get.result c.args.self.now.link c.in-Open.is c.get.ensures.told
+returns-in-Open-clause-told g c = told_open g.S.Store g.S.FileTables.KeptLeaves c.in-Open.store c.get.new.self c.get.result c.args.self.now.link c.in-Open.is c.get.ensures.told
 
 pub returns-in-Shut-clause-reads : goal.returns-in-Shut-clause-reads
-returns-in-Shut-clause-reads g c = shut_reads _ c.args.self.now c.in-Shut.is
+returns-in-Shut-clause-reads g c = shut_reads g.S.Store g.S.FileTables.KeptLeaves _ c.args.self.now c.in-Shut.is
 
 pub returns-in-Shut-clause-told : goal.returns-in-Shut-clause-told
-returns-in-Shut-clause-told g c = shut_told _ c.args.self.now.link c.in-Shut.is
+returns-in-Shut-clause-told g c = shut_told g.S.Store g.S.FileTables.KeptLeaves _ c.args.self.now.link c.in-Shut.is

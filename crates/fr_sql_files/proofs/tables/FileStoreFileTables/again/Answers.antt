@@ -2,7 +2,7 @@ use Rattle.std.proofs.Common.{IsTrue, sym, subst, ◌∙◌}
 use Rattle.std.proofs.lemmas.Bool.{and_parts}
 use Rattle.sqlite_wal.specs.PageSize.{bytes_of}
 use Rattle.fr_sql_files.proofs.ShutLemmas.{opened_leaves, refused_leaves, refused_readable, ready_fresh}
-use Rattle.fr_sql_files.proofs.shut.store_over.Goals as goal
+use Rattle.fr_sql_files.proofs.tables.FileStoreFileTables.again.Goals as goal
 
 pub open_numbered-requires : goal.open_numbered-requires
 open_numbered-requires g c =
@@ -15,7 +15,7 @@ invariant_of-result-in-Err-open_numbered g c =
 
 pub returns-in-Ok-open_numbered-clause-fresh : goal.returns-in-Ok-open_numbered-clause-fresh
 returns-in-Ok-open_numbered-clause-fresh g c =
-    ready_fresh g.D.Disk g.met.D.FaithfulDisk.faithful g.met.D.Disk.seen_may_stay c.in-Ok-open_numbered.store c.in-Ok-open_numbered.ensures.ready c.in-Ok-open_numbered.ensures.numbered
+    ready_fresh g.D.Disk g.met.D.FaithfulDisk.faithful c.in-Ok-open_numbered.store c.in-Ok-open_numbered.ensures.ready c.in-Ok-open_numbered.ensures.numbered
 
 pub returns-in-Ok-open_numbered-clause-leaves : goal.returns-in-Ok-open_numbered-clause-leaves
 returns-in-Ok-open_numbered-clause-leaves g c =
