@@ -1,0 +1,8 @@
+//! Tests of nodes with their journals.
+mod asks;
+mod cells;
+mod ended;
+mod failed;
+mod rows;
+mod scene;
+mod stamps;
