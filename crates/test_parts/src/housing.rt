@@ -1,5 +1,4 @@
 //! Tests of nodes with their journals.
-mod asks;
 mod cells;
 mod ended;
 mod failed;

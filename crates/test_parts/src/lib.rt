@@ -5,9 +5,13 @@
 #[cfg(test)]
 mod base;
 #[cfg(test)]
+mod cell_asks;
+#[cfg(test)]
 mod cli;
 #[cfg(test)]
 mod housing;
+#[cfg(test)]
+mod log_asks;
 #[cfg(test)]
 mod record;
 #[cfg(test)]

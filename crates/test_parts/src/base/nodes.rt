@@ -1,5 +1,6 @@
 //! A node without a device: what it tells, where it stands, and the machine that it gives back.
-use fr_base::{Ballot, InMemory, Node, Reopened};
+use crate::cell_asks::ballot;
+use fr_base::{InMemory, Node, Reopened};
 use fr_register::{Cell, CellAsk, CellTell};
 use std::alloc::Global;
 use std::test::Fail;
@@ -10,10 +11,6 @@ enum Said {
     Promise(u64),
     Refused(u64),
     Other,
-}
-
-fn ballot(number: u64) -> Result<Ballot, Fail> {
-    Ok(Ballot::new(number).ok_or("no ballot")?)
 }
 
 fn told_by(tell: &CellTell) -> Said {

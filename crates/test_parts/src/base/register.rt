@@ -1,63 +1,12 @@
-use fr_base::{Ballot, Machine};
+use crate::cell_asks::{Asked, Told, ask_of, ballot, tell_of, value};
+use fr_base::Machine;
 use fr_register::{Cell, CellAsk, CellTell, CellValue, Progress, ReadTally, WriteTally};
 use std::alloc::Global;
 use std::process::Abort;
 use std::test::Fail;
 
-/// An ask of a table, with a value of one byte.
-#[derive(Clone, Copy)]
-enum Ask {
-    Read(u64),
-    Write(u64, u8),
-}
-
-/// A tell of a table, with a value of one byte.
-#[derive(Clone, Copy)]
-enum Tell {
-    Promise(u64, u8),
-    Written(u64),
-    Refused(u64),
-    TwoValues,
-}
-
-fn ballot(number: u64) -> Result<Ballot, Fail> {
-    Ok(Ballot::new(number).ok_or("no ballot")?)
-}
-
-pub(crate) fn value(alloc: Global, byte: u8) -> Result<CellValue, Fail> {
-    Ok(CellValue::new(Vec::from_slice(alloc, &[byte])?).ok_or("too long")?)
-}
-
-fn ask_of(alloc: Global, ask: Ask) -> Result<CellAsk, Fail> {
-    Ok(match ask {
-        Ask::Read(number) => CellAsk::Read {
-            ballot: ballot(number)?,
-        },
-        Ask::Write(number, byte) => CellAsk::Write {
-            ballot: ballot(number)?,
-            value: value(alloc, byte)?,
-        },
-    })
-}
-
-fn tell_of(alloc: Global, tell: Tell) -> Result<CellTell, Fail> {
-    Ok(match tell {
-        Tell::Promise(number, byte) => CellTell::Promise {
-            written: ballot(number)?,
-            value: value(alloc, byte)?,
-        },
-        Tell::Written(number) => CellTell::Written {
-            ballot: ballot(number)?,
-        },
-        Tell::Refused(number) => CellTell::Refused {
-            promised: ballot(number)?,
-        },
-        Tell::TwoValues => CellTell::TwoValues,
-    })
-}
-
 /// Whether the cell answers the ask by the tell, and again so when it is asked at once again.
-fn answers(alloc: Global, cell: &mut Cell, ask: Ask, tell: Tell) -> Result<bool, Fail> {
+fn answers(alloc: Global, cell: &mut Cell, ask: Asked, tell: Told) -> Result<bool, Fail> {
     let ask = ask_of(alloc, ask)?;
     let tell = tell_of(alloc, tell)?;
     let is_first = cell.step(alloc, ask.copy()?)? == tell.copy()?;
@@ -65,15 +14,15 @@ fn answers(alloc: Global, cell: &mut Cell, ask: Ask, tell: Tell) -> Result<bool,
 }
 
 /// What a cell is asked in turn, and what it tells.
-const TURNS: [(Ask, Tell); 8] = [
-    (Ask::Write(257, b'x'), Tell::Written(257)),
-    (Ask::Read(513), Tell::Promise(257, b'x')),
-    (Ask::Read(512), Tell::Refused(513)),
-    (Ask::Write(513, b'y'), Tell::Written(513)),
-    (Ask::Write(513, b'z'), Tell::TwoValues),
-    (Ask::Write(513, b'y'), Tell::Written(513)),
-    (Ask::Write(512, b'z'), Tell::Refused(513)),
-    (Ask::Read(513), Tell::Promise(513, b'y')),
+const TURNS: [(Asked, Told); 8] = [
+    (Asked::Write(257, b'x'), Told::Written(257)),
+    (Asked::Read(513), Told::Promise(257, b'x')),
+    (Asked::Read(512), Told::Refused(513)),
+    (Asked::Write(513, b'y'), Told::Written(513)),
+    (Asked::Write(513, b'z'), Told::TwoValues),
+    (Asked::Write(513, b'y'), Told::Written(513)),
+    (Asked::Write(512, b'z'), Told::Refused(513)),
+    (Asked::Read(513), Told::Promise(513, b'y')),
 ];
 
 /// Whether the copy of a cell promised and wrote this ballot, with this value.
@@ -139,7 +88,7 @@ fn is_answer(progress: Progress, answer: Answer) -> bool {
 }
 
 /// A tell of the cell of this index, what a read tally answers, and the pair that it then has.
-type Read = (u8, Tell, Answer, (u64, &'static [u8]));
+type Read = (u8, Told, Answer, (u64, &'static [u8]));
 
 fn is_greatest(tally: &ReadTally, (ballot, bytes): (u64, &[u8])) -> bool {
     let (greatest, value) = tally.greatest();
@@ -190,23 +139,23 @@ const Z: (u64, &[u8]) = (513, b"z");
 
 /// Of three cells.
 const WON_READS: [Read; 8] = [
-    (3, Tell::Promise(600, b's'), Answer::Waiting, NONE),
-    (0, Tell::Written(769), Answer::Waiting, NONE),
-    (0, Tell::Promise(257, b'x'), Answer::Waiting, X),
-    (0, Tell::Promise(513, b'z'), Answer::Waiting, X),
-    (0, Tell::Refused(800), Answer::Waiting, X),
-    (1, Tell::Promise(257, b'y'), Answer::Majority, X),
-    (2, Tell::Refused(800), Answer::Majority, X),
-    (2, Tell::Promise(513, b'z'), Answer::Majority, Z),
+    (3, Told::Promise(600, b's'), Answer::Waiting, NONE),
+    (0, Told::Written(769), Answer::Waiting, NONE),
+    (0, Told::Promise(257, b'x'), Answer::Waiting, X),
+    (0, Told::Promise(513, b'z'), Answer::Waiting, X),
+    (0, Told::Refused(800), Answer::Waiting, X),
+    (1, Told::Promise(257, b'y'), Answer::Majority, X),
+    (2, Told::Refused(800), Answer::Majority, X),
+    (2, Told::Promise(513, b'z'), Answer::Majority, Z),
 ];
 
 const LOST_READS: [Read; 5] = [
-    (0, Tell::Refused(800), Answer::Lost(800), NONE),
-    (1, Tell::Refused(900), Answer::Lost(800), NONE),
-    (1, Tell::Promise(257, b'x'), Answer::Lost(800), X),
+    (0, Told::Refused(800), Answer::Lost(800), NONE),
+    (1, Told::Refused(900), Answer::Lost(800), NONE),
+    (1, Told::Promise(257, b'x'), Answer::Lost(800), X),
     // the cell that refused was heard
-    (0, Tell::Promise(600, b's'), Answer::Lost(800), X),
-    (2, Tell::Promise(513, b'z'), Answer::Lost(800), Z),
+    (0, Told::Promise(600, b's'), Answer::Lost(800), X),
+    (2, Told::Promise(513, b'z'), Answer::Lost(800), Z),
 ];
 
 #[test]
@@ -216,7 +165,7 @@ fn a_read_tally_keeps_its_answer_and_goes_on_hearing(rt: HostRuntime) -> Result<
 }
 
 /// A tell of the cell of this index, and what a write tally answers.
-type Write = (u8, Tell, Answer);
+type Write = (u8, Told, Answer);
 
 fn hears_write(
     alloc: Global,
@@ -256,20 +205,20 @@ fn writes(rt: &impl Abort, alloc: Global, cells: u8, table: &[Write]) -> Result<
 
 /// Of three cells.
 const LOST_WRITES: [Write; 8] = [
-    (3, Tell::Refused(800), Answer::Waiting),
-    (0, Tell::Written(513), Answer::Waiting),
-    (0, Tell::Promise(257, b'x'), Answer::Waiting),
-    (0, Tell::Written(769), Answer::Waiting),
-    (0, Tell::Written(769), Answer::Waiting),
-    (0, Tell::TwoValues, Answer::Waiting),
-    (1, Tell::TwoValues, Answer::Lost(769)),
-    (2, Tell::Written(769), Answer::Lost(769)),
+    (3, Told::Refused(800), Answer::Waiting),
+    (0, Told::Written(513), Answer::Waiting),
+    (0, Told::Promise(257, b'x'), Answer::Waiting),
+    (0, Told::Written(769), Answer::Waiting),
+    (0, Told::Written(769), Answer::Waiting),
+    (0, Told::TwoValues, Answer::Waiting),
+    (1, Told::TwoValues, Answer::Lost(769)),
+    (2, Told::Written(769), Answer::Lost(769)),
 ];
 
 /// Of one cell.
 const WON_WRITES: [Write; 2] = [
-    (0, Tell::Written(769), Answer::Majority),
-    (0, Tell::Refused(800), Answer::Majority),
+    (0, Told::Written(769), Answer::Majority),
+    (0, Told::Refused(800), Answer::Majority),
 ];
 
 #[test]
@@ -283,7 +232,7 @@ fn reads_needed(alloc: Global, tally: &mut ReadTally, cells: u8) -> Result<u8, F
     let mut needed = 0;
     for index in 0..cells {
         if !tally.has_heard(index) && is_answer(tally.progress(), Answer::Waiting) {
-            tally.hear(index, tell_of(alloc, Tell::Promise(257, b'x'))?)?;
+            tally.hear(index, tell_of(alloc, Told::Promise(257, b'x'))?)?;
             needed = index + 1;
         }
     }
@@ -295,7 +244,7 @@ fn writes_needed(alloc: Global, tally: &mut WriteTally, cells: u8) -> Result<u8,
     let mut needed = 0;
     for index in 0..cells {
         if !tally.has_heard(index) && is_answer(tally.progress(), Answer::Waiting) {
-            tally.hear(index, tell_of(alloc, Tell::Written(769))?)?;
+            tally.hear(index, tell_of(alloc, Told::Written(769))?)?;
             needed = index + 1;
         }
     }
@@ -322,24 +271,24 @@ fn a_majority_is_above_half(rt: HostRuntime) -> Result<(), Fail> {
 }
 
 /// No two of these are the same, and each is the same as itself and its copy.
-const ASKS: [Ask; 5] = [
-    Ask::Read(256),
-    Ask::Read(512),
-    Ask::Write(256, b'x'),
-    Ask::Write(256, b'y'),
-    Ask::Write(512, b'x'),
+const ASKS: [Asked; 5] = [
+    Asked::Read(256),
+    Asked::Read(512),
+    Asked::Write(256, b'x'),
+    Asked::Write(256, b'y'),
+    Asked::Write(512, b'x'),
 ];
 
 /// No two of these either.
-const TELLS: [Tell; 8] = [
-    Tell::Promise(256, b'x'),
-    Tell::Promise(256, b'y'),
-    Tell::Promise(512, b'x'),
-    Tell::Written(256),
-    Tell::Written(512),
-    Tell::Refused(256),
-    Tell::Refused(512),
-    Tell::TwoValues,
+const TELLS: [Told; 8] = [
+    Told::Promise(256, b'x'),
+    Told::Promise(256, b'y'),
+    Told::Promise(512, b'x'),
+    Told::Written(256),
+    Told::Written(512),
+    Told::Refused(256),
+    Told::Refused(512),
+    Told::TwoValues,
 ];
 
 fn copy_is_ask(one: &CellAsk, other: &CellAsk) -> Result<bool, Fail> {
@@ -347,7 +296,7 @@ fn copy_is_ask(one: &CellAsk, other: &CellAsk) -> Result<bool, Fail> {
 }
 
 /// Whether the copy of the one ask is the same as the other ask.
-fn is_same_ask(alloc: Global, one: Ask, other: Ask) -> Result<bool, Fail> {
+fn is_same_ask(alloc: Global, one: Asked, other: Asked) -> Result<bool, Fail> {
     let one = ask_of(alloc, one)?;
     let other = ask_of(alloc, other)?;
     copy_is_ask(&one, &other)
@@ -358,7 +307,7 @@ fn copy_is_tell(one: &CellTell, other: &CellTell) -> Result<bool, Fail> {
 }
 
 /// Whether the copy of the one tell is the same as the other tell.
-fn is_same_tell(alloc: Global, one: Tell, other: Tell) -> Result<bool, Fail> {
+fn is_same_tell(alloc: Global, one: Told, other: Told) -> Result<bool, Fail> {
     let one = tell_of(alloc, one)?;
     let other = tell_of(alloc, other)?;
     copy_is_tell(&one, &other)

@@ -1,5 +1,5 @@
 //! What two ballots that contend over three cells come to.
-use crate::base::register::value;
+use crate::cell_asks::value;
 use example_ballots::{Outcome, in_turn, overtaken};
 use fr_register::{Cell, CellValue, Progress};
 use std::alloc::Global;

@@ -1,34 +1,17 @@
 //! The worked row of cells, read back from the journals of housed cells: in memory, and over a file.
 ghost use Rattle.std.specs.Prelude.{◌≡◌, None, false};
 
-use crate::housing::asks::{proxy, stamp};
-use crate::housing::scene::CAPACITY;
+use crate::cell_asks::{Asked, Told, ask_of, told_of};
+use crate::housing::scene::{CAPACITY, proxy, stamp};
 use fr_ask::{Ask, Tell};
 use fr_audit_journal::{Act, Entry};
-use fr_base::{Ballot, InMemory, Machine, Node, NodeId};
+use fr_base::{InMemory, Machine, Node, NodeId};
 use fr_device::MemoryDevice;
 use fr_record_node::CellNode;
-use fr_register::{Cell, CellAsk, CellTell, CellValue};
+use fr_register::{Cell, CellAsk};
 use fr_runtime_housing::Housed;
 use std::alloc::Global;
 use std::test::Fail;
-
-/// An ask of a cell: the numbers are ballots, the bytes values.
-#[derive(Clone, Copy)]
-enum Asked {
-    Read(u64),
-    Write(u64, u8),
-}
-
-/// What it tells.
-#[derive(Clone, Copy, PartialEq, Eq)]
-enum Told {
-    Promise(u64, u8),
-    Written(u64),
-    Refused(u64),
-    TwoValues,
-    Other,
-}
 
 /// What a cell that holds x under ballot 257 is asked and tells.
 const ROW: [(Asked, Told); 5] = [
@@ -38,45 +21,6 @@ const ROW: [(Asked, Told); 5] = [
     (Asked::Write(513, b'z'), Told::TwoValues),
     (Asked::Write(513, b'y'), Told::Written(513)),
 ];
-
-fn ballot(number: u64) -> Result<Ballot, Fail> {
-    Ok(Ballot::new(number).ok_or("a ballot")?)
-}
-
-fn value(alloc: Global, byte: u8) -> Result<CellValue, Fail> {
-    let bytes = Vec::from_slice(alloc, &[byte])?;
-    Ok(CellValue::new(bytes).ok_or("a value")?)
-}
-
-fn ask_of(alloc: Global, asked: Asked) -> Result<CellAsk, Fail> {
-    match asked {
-        Asked::Read(number) => {
-            let ballot = ballot(number)?;
-            Ok(CellAsk::Read { ballot })
-        }
-        Asked::Write(number, byte) => {
-            let ballot = ballot(number)?;
-            let value = value(alloc, byte)?;
-            Ok(CellAsk::Write { ballot, value })
-        }
-    }
-}
-
-fn first_of(value: &CellValue) -> u8 {
-    value.as_slice().first().copied().unwrap_or(0)
-}
-
-fn told_of(tell: &Tell) -> Told {
-    match tell {
-        Tell::Cell(CellTell::Promise { written, value }) => {
-            Told::Promise(written.get(), first_of(value))
-        }
-        Tell::Cell(CellTell::Written { ballot }) => Told::Written(ballot.get()),
-        Tell::Cell(CellTell::Refused { promised }) => Told::Refused(promised.get()),
-        Tell::Cell(CellTell::TwoValues) => Told::TwoValues,
-        _ => Told::Other,
-    }
-}
 
 /// The first ask: the cell holds x under ballot 257.
 fn first_ask(alloc: Global) -> Result<CellAsk, Fail> {
@@ -118,13 +62,20 @@ fn is_ask(alloc: Global, ask: &Ask, asked: Asked) -> Result<bool, Fail> {
     }
 }
 
+fn is_told(tell: &Tell, told: Told) -> bool {
+    match tell {
+        Tell::Cell(tell) => told_of(tell) == told,
+        _ => false,
+    }
+}
+
 /// Whether an entry, at a stamp, is that a cell was asked this and told that.
 fn says(alloc: Global, entry: &Entry, at: u64, asked: Asked, told: Told) -> Result<bool, Fail> {
     match &entry.act {
         Act::Asked { from, ask, tell } => {
             let is_from = *from == proxy()?;
             let is_ask = is_ask(alloc, ask, asked)?;
-            Ok(is_from && is_ask && told_of(tell) == told && entry.stamp.get() == at)
+            Ok(is_from && is_ask && is_told(tell, told) && entry.stamp.get() == at)
         }
         _ => Ok(false),
     }

@@ -1,8 +1,8 @@
 //! Housed nodes that are gone.
-use crate::housing::asks::{Asked, Told, at, epoch, proxy, stamp};
 use crate::housing::scene::Deed::{Ask, Count, Crash, HasCrashed, Lose, Says};
 use crate::housing::scene::Said::{self, At, Is, Many, No};
-use crate::housing::scene::{Row, entered, runs, served};
+use crate::housing::scene::{Row, entered, proxy, runs, served, stamp};
+use crate::log_asks::{Asked, Told, at, epoch};
 use fr_ask::SeqAsk;
 use fr_base::{InMemory, NodeId, Step};
 use fr_log::LogRefusal;
@@ -42,21 +42,29 @@ fn a_crashed_log_stands_as_it_was(rt: HostRuntime) -> Result<(), Fail> {
 
 /// A log that crashes once it is locked stays locked, and tells the lock again as it told it before.
 const LOCKED: [Row; 13] = [
-    (Ask(0, Asked::Push(7, 8)), At(1)),
-    (Ask(0, Asked::Push(8, 9)), At(2)),
+    (Ask(0, Asked::Push(7, 8, 0, None)), At(1)),
+    (Ask(0, Asked::Push(8, 9, 0, None)), At(2)),
     (Ask(0, Asked::Lock), At(3)),
     (Crash(0), At(4)),
-    (Ask(0, Asked::Push(9, 10)), At(5)),
-    (Ask(0, Asked::Push(8, 9)), At(6)),
+    (Ask(0, Asked::Push(9, 10, 0, None)), At(5)),
+    (Ask(0, Asked::Push(8, 9, 0, None)), At(6)),
     (Ask(0, Asked::Lock), At(7)),
     (Count, Many(7)),
     (Says(2, 3, Asked::Lock, Told::Locked(9, 0)), Is(true)),
     (HasCrashed(3), Is(true)),
     (
-        Says(4, 5, Asked::Push(9, 10), Told::Refused(LogRefusal::Stopped)),
+        Says(
+            4,
+            5,
+            Asked::Push(9, 10, 0, None),
+            Told::Refused(LogRefusal::Stopped),
+        ),
         Is(true),
     ),
-    (Says(5, 6, Asked::Push(8, 9), Told::Held(9)), Is(true)),
+    (
+        Says(5, 6, Asked::Push(8, 9, 0, None), Told::Held(9)),
+        Is(true),
+    ),
     (Says(6, 7, Asked::Lock, Told::Locked(9, 0)), Is(true)),
 ];
 

@@ -1,12 +1,12 @@
 //! A housed log over a file whose device fails once.
 ghost use Rattle.std.specs.Prelude.{◌≡◌, false, IfOk, None};
 
-use crate::housing::asks::Asked::{Lock, Mark, Push, Seed};
-use crate::housing::asks::Told::{Held, Locked};
-use crate::housing::asks::epoch;
 use crate::housing::scene::Deed::{Ask, Count, Crash, HasCrashed, HasLost, Lose, Says};
 use crate::housing::scene::Said::{At, Is, Many, No};
 use crate::housing::scene::{Row, first_other, house};
+use crate::log_asks::Asked::{Lock, Mark, Push, Seed};
+use crate::log_asks::Told::{Held, Locked};
+use crate::log_asks::epoch;
 use fr_base::{Epoch, LogId, Node, NodeFault};
 use fr_device::{FaultyDevice, MemoryDevice};
 use fr_record_log::LogNode;
@@ -21,9 +21,12 @@ type Faulty = LogNode<FaultyDevice<MemoryDevice>>;
 const AT_NINE: [Row; 5] = [
     (Ask(0, Seed(1, 0)), At(1)),
     (Ask(0, Mark(0)), At(2)),
-    (Ask(0, Push(1, 7)), At(3)),
-    (Ask(0, Push(7, 8)), At(4)),
-    (Ask(9, Push(8, 9)), No(CallFault::Node(NodeFault::Device))),
+    (Ask(0, Push(1, 7, 0, None)), At(3)),
+    (Ask(0, Push(7, 8, 0, None)), At(4)),
+    (
+        Ask(9, Push(8, 9, 0, None)),
+        No(CallFault::Node(NodeFault::Device)),
+    ),
 ];
 
 /// The push is in no journal yet.
@@ -33,7 +36,7 @@ const LOOK: [Row; 1] = [(Count, Many(4))];
 const LOCK_TAKEN: [Row; 4] = [
     (Ask(0, Lock), At(11)),
     (Count, Many(6)),
-    (Says(4, 10, Push(8, 9), Held(9)), Is(true)),
+    (Says(4, 10, Push(8, 9, 0, None), Held(9)), Is(true)),
     (Says(5, 11, Lock, Locked(9, 0)), Is(true)),
 ];
 
@@ -49,7 +52,7 @@ const CRASH: [Row; 6] = [
     (Crash(0), At(11)),
     (Ask(0, Lock), At(12)),
     (Count, Many(7)),
-    (Says(4, 10, Push(8, 9), Held(9)), Is(true)),
+    (Says(4, 10, Push(8, 9, 0, None), Held(9)), Is(true)),
     (HasCrashed(5), Is(true)),
     (Says(6, 12, Lock, Locked(9, 0)), Is(true)),
 ];
@@ -58,7 +61,7 @@ const CRASH: [Row; 6] = [
 const LOSE: [Row; 4] = [
     (Lose(20), At(21)),
     (Count, Many(6)),
-    (Says(4, 10, Push(8, 9), Held(9)), Is(true)),
+    (Says(4, 10, Push(8, 9, 0, None), Held(9)), Is(true)),
     (HasLost(5), Is(true)),
 ];
 

@@ -1,6 +1,6 @@
 //! The worked rows of logs, read back from the journals of housed logs: in memory, and over files.
-use crate::housing::asks::{Asked, Told};
 use crate::housing::scene::{SEVEN, Said, asks, filed_after, housed_after, says};
+use crate::log_asks::{Asked, Told};
 use fr_audit_journal::{Entry, Journal};
 use fr_base::Node;
 use fr_log::{Log, LogRefusal};
@@ -11,11 +11,11 @@ use std::test::Fail;
 
 /// What a log at version 7 is asked and tells: it takes pushes in the order of their chain.
 const CHAIN: [(Asked, Told); 5] = [
-    (Asked::Push(9, 10), Told::Gap(7)),
-    (Asked::Push(7, 8), Told::Held(8)),
-    (Asked::Push(8, 9), Told::Held(9)),
-    (Asked::Push(8, 9), Told::Held(9)),
-    (Asked::Push(7, 9), Told::Refused(LogRefusal::Stale)),
+    (Asked::Push(9, 10, 0, None), Told::Gap(7)),
+    (Asked::Push(7, 8, 0, None), Told::Held(8)),
+    (Asked::Push(8, 9, 0, None), Told::Held(9)),
+    (Asked::Push(8, 9, 0, None), Told::Held(9)),
+    (Asked::Push(7, 9, 0, None), Told::Refused(LogRefusal::Stale)),
 ];
 
 /// What a log whose epoch begins at version 10 is asked and tells.
@@ -23,7 +23,10 @@ const LATER: [(Asked, Told); 4] = [
     (Asked::Peek(0, 6), Told::TooEarly(10)),
     (Asked::Peek(1, 9), Told::Refused(LogRefusal::NotMine)),
     (Asked::MarkAsked, Told::Refused(LogRefusal::NoMark)),
-    (Asked::Batch(10, 11), Told::Refused(LogRefusal::NoMark)),
+    (
+        Asked::Push(10, 11, 0, Some(1)),
+        Told::Refused(LogRefusal::NoMark),
+    ),
 ];
 
 /// Asks a housed log of an epoch one after the other; whether each is entered.

@@ -1,7 +1,7 @@
 //! Housed logs, what is done with them as plain data, and what comes of it.
 ghost use Rattle.std.specs.Prelude.{◌≡◌, None, false};
 
-use crate::housing::asks::{Asked, Told, ask_of, epoch, proxy, stamp, told_of};
+use crate::log_asks::{Asked, Told, ask_of, epoch, told_of};
 use fr_ask::{Ask, Tell};
 use fr_audit_journal::{Act, Entry};
 use fr_base::{Epoch, InMemory, LogId, Machine, Node, NodeId, Stamp};
@@ -46,7 +46,11 @@ pub(crate) enum Said {
 pub(crate) type Row = (Deed, Said);
 
 /// What a log takes to stand at version 7.
-pub(crate) const SEVEN: [Asked; 3] = [Asked::Seed(1, 0), Asked::Mark(0), Asked::Push(1, 7)];
+pub(crate) const SEVEN: [Asked; 3] = [
+    Asked::Seed(1, 0),
+    Asked::Mark(0),
+    Asked::Push(1, 7, 0, None),
+];
 
 /// Log 0 of an epoch, which has nothing.
 fn fresh_log(alloc: Global, number: u64) -> Result<Log, Fail> {
@@ -146,6 +150,16 @@ pub(crate) fn served(answer: Result<(Stamp, Tell), CallFault>) -> Said {
     }
 }
 
+pub(crate) fn stamp(number: u64) -> Result<Stamp, Fail> {
+    Ok(Stamp::new(number).ok_or("a stamp")?)
+}
+
+/// The proxy that asks.
+pub(crate) fn proxy() -> Result<NodeId, Fail> {
+    let epoch = epoch(257)?;
+    Ok(NodeId::Proxy { epoch, number: 0 })
+}
+
 /// Asks a housed log of an epoch, for a caller of this stamp.
 pub(crate) fn asks<N: Node<Plain = Log> + Drop>(
     alloc: Global,
@@ -185,13 +199,20 @@ fn is_ask(alloc: Global, ask: &Ask, number: u64, asked: Asked) -> Result<bool, F
     }
 }
 
+fn is_told(tell: &Tell, told: Told) -> bool {
+    match tell {
+        Tell::Log(tell) => told_of(tell) == told,
+        _ => false,
+    }
+}
+
 /// Whether an act is that a log of an epoch was asked this and told that.
 fn is_asked(alloc: Global, act: &Act, number: u64, asked: Asked, told: Told) -> Result<bool, Fail> {
     match act {
         Act::Asked { from, ask, tell } => {
             let is_from = *from == proxy()?;
             let is_ask = is_ask(alloc, ask, number, asked)?;
-            Ok(is_from && is_ask && told_of(tell) == told)
+            Ok(is_from && is_ask && is_told(tell, told))
         }
         _ => Ok(false),
     }

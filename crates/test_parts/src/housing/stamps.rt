@@ -1,8 +1,8 @@
 //! Stamps of what housed logs are asked.
-use crate::housing::asks::Asked::{Lock, MarkAsked};
 use crate::housing::scene::Deed::{Ask, Count, Crash, Lose};
 use crate::housing::scene::Said::{At, Many, No};
 use crate::housing::scene::{Row, runs};
+use crate::log_asks::Asked::{Lock, MarkAsked};
 use fr_runtime_housing::CallFault::{Lost, StampsSpent};
 use std::test::Fail;
 

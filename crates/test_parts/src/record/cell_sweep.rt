@@ -1,87 +1,39 @@
 //! Each call of a cell's device fails in turn, from the making of its file on. An ask that is asked again is told the
 //! same, whether it was taken before or not, so each row's tell is as if no device had failed.
+use crate::cell_asks::{Asked, Told, ask_of, told_of};
 use crate::record::devices::{crashed, failing};
-use fr_base::{Ballot, Node, NodeFault};
+use fr_base::{Node, NodeFault};
 use fr_device::{Device, FaultyDevice, MemoryDevice};
 use fr_record_node::FileNode;
-use fr_register::{Cell, CellAsk, CellTell, CellValue};
+use fr_register::Cell;
 use std::alloc::Global;
 use std::process::Abort;
 use std::test::Fail;
 
 const ROOM: usize = 1024;
 
-/// What a cell is asked.
-#[derive(Clone, Copy)]
-enum Ask {
-    Read(u64),
-    Write(u64, u8),
-}
-
-/// What it tells.
-#[derive(Clone, Copy, PartialEq, Eq)]
-enum Tell {
-    /// The ballot that was written, and the only byte of its value.
-    Promise(u64, u8),
-    Written(u64),
-    Refused(u64),
-    TwoValues,
-}
-
 /// Three of these change the cell, with four calls each. The file takes two calls before.
-const ROWS: [(Ask, Tell); 6] = [
-    (Ask::Write(257, b'x'), Tell::Written(257)),
-    (Ask::Read(513), Tell::Promise(257, b'x')),
-    (Ask::Read(512), Tell::Refused(513)),
-    (Ask::Write(513, b'y'), Tell::Written(513)),
-    (Ask::Write(513, b'z'), Tell::TwoValues),
-    (Ask::Write(513, b'y'), Tell::Written(513)),
+const ROWS: [(Asked, Told); 6] = [
+    (Asked::Write(257, b'x'), Told::Written(257)),
+    (Asked::Read(513), Told::Promise(257, b'x')),
+    (Asked::Read(512), Told::Refused(513)),
+    (Asked::Write(513, b'y'), Told::Written(513)),
+    (Asked::Write(513, b'z'), Told::TwoValues),
+    (Asked::Write(513, b'y'), Told::Written(513)),
 ];
 
 const CALLS: u64 = 14;
 
-fn ballot(number: u64) -> Result<Ballot, Fail> {
-    Ok(Ballot::new(number).ok_or("no ballot")?)
-}
+type Answer = Result<Told, NodeFault>;
 
-fn ask_of(alloc: Global, ask: Ask) -> Result<CellAsk, Fail> {
-    match ask {
-        Ask::Read(number) => Ok(CellAsk::Read {
-            ballot: ballot(number)?,
-        }),
-        Ask::Write(number, byte) => {
-            let value = Vec::from_slice(alloc, &[byte])?;
-            let value = CellValue::new(value).ok_or("no value")?;
-            let ballot = ballot(number)?;
-            Ok(CellAsk::Write { ballot, value })
-        }
-    }
-}
-
-fn byte_of(value: &[u8]) -> u8 {
-    match value {
-        [byte] => *byte,
-        _ => 0,
-    }
-}
-
-fn tell_of(tell: &CellTell) -> Tell {
-    match tell {
-        CellTell::Promise { written, value } => {
-            Tell::Promise(written.get(), byte_of(value.as_slice()))
-        }
-        CellTell::Written { ballot } => Tell::Written(ballot.get()),
-        CellTell::Refused { promised } => Tell::Refused(promised.get()),
-        CellTell::TwoValues => Tell::TwoValues,
-    }
-}
-
-type Asked = Result<Tell, NodeFault>;
-
-fn asked<D: Device>(alloc: Global, node: &mut FileNode<Cell, D>, ask: Ask) -> Result<Asked, Fail> {
+fn asked<D: Device>(
+    alloc: Global,
+    node: &mut FileNode<Cell, D>,
+    ask: Asked,
+) -> Result<Answer, Fail> {
     let ask = ask_of(alloc, ask)?;
     Ok(match node.serve(alloc, ask) {
-        Ok(tell) => Ok(tell_of(&tell)),
+        Ok(tell) => Ok(told_of(&tell)),
         Err(fault) => Err(fault),
     })
 }
@@ -101,8 +53,8 @@ enum Met {
 fn again<D: Device>(
     alloc: Global,
     node: &mut FileNode<Cell, D>,
-    ask: Ask,
-    tell: Tell,
+    ask: Asked,
+    tell: Told,
 ) -> Result<Met, Fail> {
     if asked(alloc, node, ask)? != Err(NodeFault::Failed) {
         return Err(Fail::from("a failed cell answered"));
@@ -118,8 +70,8 @@ fn again<D: Device>(
 fn ask_through<D: Device>(
     alloc: Global,
     node: &mut FileNode<Cell, D>,
-    ask: Ask,
-    tell: Tell,
+    ask: Asked,
+    tell: Told,
 ) -> Result<Met, Fail> {
     match asked(alloc, node, ask)? {
         Ok(told) if told == tell => Ok(Met::Nothing),
@@ -133,7 +85,7 @@ fn ask_through<D: Device>(
 fn ask_all<D: Device>(
     alloc: Global,
     node: &mut FileNode<Cell, D>,
-    rows: &[(Ask, Tell)],
+    rows: &[(Asked, Told)],
 ) -> Result<(Met, usize), Fail> {
     let mut met = Met::Nothing;
     for (number, (ask, tell)) in rows.iter().enumerate() {

@@ -2,10 +2,10 @@
 //! same, whether it was taken before or not, so each row's tell is as if no device had failed.
 ghost use Rattle.std.specs.Prelude.{◌≡◌, IfOk};
 
+use crate::log_asks::Asked::{Lock, Mark, MarkAsked, Peek, Push, Seed};
+use crate::log_asks::Told::{Gap, Held, Locked, Refused, Seeded, TooEarly};
+use crate::log_asks::{Asked, Row, Told, ask_of, epoch, told_of};
 use crate::record::devices::{crashed, failing};
-use crate::record::log_asks::Ask::{Lock, Mark, MarkAsked, Peek, Push, Seed};
-use crate::record::log_asks::Tell::{Gap, Held, Locked, Refused, Seeded, TooEarly};
-use crate::record::log_asks::{Ask, Row, Tell, ask_of, epoch, tell_of};
 use fr_base::{LogId, Node, NodeFault};
 use fr_device::{Device, FaultyDevice, MemoryDevice};
 use fr_log::LogRefusal::{NoMark, NotMine, Stale, Stopped, Unseeded};
@@ -53,12 +53,12 @@ const REFUSALS: [Row; 8] = [
     (Push(10, 11, 9, Some(1)), Refused(Stopped)),
 ];
 
-type Asked = Result<Tell, NodeFault>;
+type Answer = Result<Told, NodeFault>;
 
-fn asked<D: Device>(alloc: Global, node: &mut LogNode<D>, ask: Ask) -> Result<Asked, Fail> {
-    let ask = ask_of(alloc, node.plain().id().epoch, ask)?;
+fn asked<D: Device>(alloc: Global, node: &mut LogNode<D>, ask: Asked) -> Result<Answer, Fail> {
+    let ask = ask_of(alloc, node.plain().id().epoch.get(), ask)?;
     Ok(match node.serve(alloc, ask) {
-        Ok(tell) => Ok(tell_of(&tell)),
+        Ok(tell) => Ok(told_of(&tell)),
         Err(fault) => Err(fault),
     })
 }
@@ -78,8 +78,8 @@ enum Met {
 fn again<D: Device>(
     alloc: Global,
     node: &mut LogNode<D>,
-    ask: Ask,
-    tell: Tell,
+    ask: Asked,
+    tell: Told,
 ) -> Result<Met, Fail> {
     if asked(alloc, node, ask)? != Err(NodeFault::Failed) {
         return Err(Fail::from("a failed log answered"));
@@ -95,8 +95,8 @@ fn again<D: Device>(
 fn ask_through<D: Device>(
     alloc: Global,
     node: &mut LogNode<D>,
-    ask: Ask,
-    tell: Tell,
+    ask: Asked,
+    tell: Told,
 ) -> Result<Met, Fail> {
     match asked(alloc, node, ask)? {
         Ok(told) if told == tell => Ok(Met::Nothing),

@@ -1,4 +1,4 @@
-//! Asks of logs and their tells, by their numbers.
+//! Asks of logs and their tells as plain data, by their numbers.
 use fr_base::{Bytes, Epoch, Tag, Version};
 use fr_log::{LogAsk, LogRefusal, LogTell, Most, Push, Seed};
 use fr_mutation::{Batch, Mutation};
@@ -7,7 +7,7 @@ use fr_tags::Body;
 use std::alloc::Global;
 use std::test::Fail;
 
-fn at(number: u64) -> Result<Version, Fail> {
+pub(crate) fn at(number: u64) -> Result<Version, Fail> {
     Ok(Version::new(number).ok_or("a version")?)
 }
 
@@ -58,9 +58,9 @@ fn start(alloc: Global) -> Result<CoordState, Fail> {
     Ok(CoordState::new(alloc, first.ok_or("the start")?)?)
 }
 
-/// An ask, to log 0 of a generation of 4 logs with 2 holders of each tag.
+/// An ask of log 0 of a generation of 4 logs, of which 2 hold each tag.
 #[derive(Clone, Copy)]
-pub(crate) enum Ask {
+pub(crate) enum Asked {
     /// First and seeded_to, with no records.
     Seed(u64, u64),
     /// The version before, the version, the known one, and the value of a body of tag 0.
@@ -73,9 +73,9 @@ pub(crate) enum Ask {
     MarkAsked,
 }
 
-/// A tell.
+/// What it tells.
 #[derive(Clone, Copy, PartialEq, Eq)]
-pub(crate) enum Tell {
+pub(crate) enum Told {
     Seeded,
     Held(u64),
     /// Durable and known.
@@ -87,7 +87,7 @@ pub(crate) enum Tell {
 }
 
 /// An ask, and what a log tells.
-pub(crate) type Row = (Ask, Tell);
+pub(crate) type Row = (Asked, Told);
 
 fn seed(alloc: Global, epoch: Epoch, first: u64, to: u64) -> Result<LogAsk, Fail> {
     let seed = Seed::new(epoch, at(first)?, at(to)?, Vec::new(alloc));
@@ -124,33 +124,35 @@ fn peek(epoch: Epoch, number: u8, after: u64) -> Result<LogAsk, Fail> {
 }
 
 /// The ask to the log of this epoch.
-pub(crate) fn ask_of(alloc: Global, epoch: Epoch, ask: Ask) -> Result<LogAsk, Fail> {
-    match ask {
-        Ask::Seed(first, to) => seed(alloc, epoch, first, to),
-        Ask::Push(prev, version, known, value) => {
+pub(crate) fn ask_of(alloc: Global, number: u64, asked: Asked) -> Result<LogAsk, Fail> {
+    let epoch = epoch(number)?;
+    match asked {
+        Asked::Seed(first, to) => seed(alloc, epoch, first, to),
+        Asked::Push(prev, version, known, value) => {
             push(epoch, chain(prev, version, known)?, bodies(alloc, value)?)
         }
-        Ask::Mark(prev) => mark(alloc, epoch, prev),
-        Ask::Lock => Ok(LogAsk::Lock { epoch }),
-        Ask::Peek(number, after) => peek(epoch, number, after),
-        Ask::MarkAsked => Ok(LogAsk::MarkAsked { epoch }),
+        Asked::Mark(prev) => mark(alloc, epoch, prev),
+        Asked::Lock => Ok(LogAsk::Lock { epoch }),
+        Asked::Peek(number, after) => peek(epoch, number, after),
+        Asked::MarkAsked => Ok(LogAsk::MarkAsked { epoch }),
     }
 }
 
-fn refused(why: LogRefusal) -> Tell {
+fn refused(why: LogRefusal) -> Told {
     match why {
-        LogRefusal::Gap { durable } => Tell::Gap(durable.get()),
-        LogRefusal::TooEarly { first } => Tell::TooEarly(first.get()),
-        other => Tell::Refused(other),
+        LogRefusal::Gap { durable } => Told::Gap(durable.get()),
+        LogRefusal::TooEarly { first } => Told::TooEarly(first.get()),
+        other => Told::Refused(other),
     }
 }
 
-pub(crate) fn tell_of(tell: &LogTell) -> Tell {
+/// What a tell says.
+pub(crate) fn told_of(tell: &LogTell) -> Told {
     match tell {
-        LogTell::Seeded => Tell::Seeded,
-        LogTell::Held { version } => Tell::Held(version.get()),
-        LogTell::Locked { durable, known, .. } => Tell::Locked(durable.get(), known.get()),
+        LogTell::Seeded => Told::Seeded,
+        LogTell::Held { version } => Told::Held(version.get()),
+        LogTell::Locked { durable, known, .. } => Told::Locked(durable.get(), known.get()),
         LogTell::Refused { why } => refused(*why),
-        _ => Tell::Other,
+        _ => Told::Other,
     }
 }
