@@ -3,7 +3,6 @@ use fr_base::{Bytes, Tag, Version};
 use fr_sql_store::SqlStore;
 use fr_storage::{Storage, StorageFault};
 use fr_undo::ShardStore;
-use sqlite::MemStore;
 use std::alloc::Global;
 use std::process::Abort;
 use std::test::Fail;
@@ -22,21 +21,25 @@ type Place = (u64, u64, u64);
 /// The bytes that a store keeps, and where the server stands that takes it over at version 11, if one does.
 const ROWS: [(&[u8], Option<Place>); 3] = [(&BOTH, Some((513, 11, 0))), (b"\0", None), (b"", None)];
 
-/// A store at version 11 that keeps these bytes.
-fn kept(alloc: Global, bytes: &[u8]) -> Result<SqlStore<MemStore>, Fail> {
-    let mut store = SqlStore::in_memory(alloc)?;
+/// Has a store keep these bytes at version 11.
+fn keep<S: ShardStore>(alloc: Global, store: &mut S, bytes: &[u8]) -> Result<(), Fail> {
     store.set_state(alloc, Bytes::from_slice(alloc, bytes)?)?;
     store.advance(Version::new(11).ok_or("a version")?)?;
-    Ok(store)
+    Ok(())
 }
 
-fn place(storage: &Storage<SqlStore<MemStore>>) -> Place {
+fn place<S: ShardStore>(storage: &Storage<S>) -> Place {
     let (epoch, version) = storage.position();
     (epoch.get(), version.get(), storage.floor().get())
 }
 
-/// Where the server stands that takes a store over, none where the store keeps no state.
-fn adopted(alloc: Global, store: SqlStore<MemStore>) -> Result<Option<Place>, Fail> {
+/// Where the server stands that takes a store over which keeps these bytes at version 11, none where they are no state.
+fn adopted<S: ShardStore + Drop>(
+    alloc: Global,
+    mut store: S,
+    bytes: &[u8],
+) -> Result<Option<Place>, Fail> {
+    keep(alloc, &mut store, bytes)?;
     let tag = Tag::new(0).ok_or("a tag")?;
     match Storage::adopt(alloc, store, tag) {
         Ok(storage) => Ok(Some(place(&storage))),
@@ -46,8 +49,8 @@ fn adopted(alloc: Global, store: SqlStore<MemStore>) -> Result<Option<Place>, Fa
 }
 
 fn adopts(rt: &impl Abort, alloc: Global, bytes: &[u8], wanted: Option<Place>) -> Result<(), Fail> {
-    let store = kept(alloc, bytes)?;
-    assert_eq!(rt; adopted(alloc, store)?, wanted, "of {bytes:?}");
+    let store = SqlStore::in_memory(alloc)?;
+    assert_eq!(rt; adopted(alloc, store, bytes)?, wanted, "of {bytes:?}");
     Ok(())
 }
 

@@ -7,17 +7,20 @@ use std::test::Fail;
 use test_store_plain::{SlowStore, agrees, goes_back};
 
 /// Whether a store and lists do the same at each of 40 calls, and then on the way back.
-fn follows<S: ShardStore>(alloc: Global, seed: u64, store: &mut S) -> Result<bool, Fail> {
+fn follows<S: ShardStore + Drop>(alloc: Global, seed: u64, mut store: S) -> Result<bool, Fail> {
     let mut rng = Pcg32::new(seed, 54);
     let mut slow = SlowStore::new(alloc);
-    Ok(agrees(alloc, &mut rng, 40, store, &mut slow)? && goes_back(alloc, store, &mut slow)?)
+    Ok(
+        agrees(alloc, &mut rng, 40, &mut store, &mut slow)?
+            && goes_back(alloc, &mut store, &mut slow)?,
+    )
 }
 
 #[test]
 fn tables_agree_with_lists(rt: HostRuntime) -> Result<(), Fail> {
     for seed in 0..2u64 {
-        let mut store = SqlStore::in_memory(rt.alloc())?;
-        assert!(rt; follows(rt.alloc(), seed, &mut store)?, "{seed}");
+        let store = SqlStore::in_memory(rt.alloc())?;
+        assert!(rt; follows(rt.alloc(), seed, store)?, "{seed}");
     }
     Ok(())
 }
@@ -25,8 +28,8 @@ fn tables_agree_with_lists(rt: HostRuntime) -> Result<(), Fail> {
 #[test]
 fn a_map_agrees_with_lists(rt: HostRuntime) -> Result<(), Fail> {
     for seed in 0..2u64 {
-        let mut store = MapStore::new(rt.alloc());
-        assert!(rt; follows(rt.alloc(), seed, &mut store)?, "{seed}");
+        let store = MapStore::new(rt.alloc());
+        assert!(rt; follows(rt.alloc(), seed, store)?, "{seed}");
     }
     Ok(())
 }

@@ -3,7 +3,6 @@ use fr_base::{Bytes, Memory, Version};
 use fr_mutation::{Batch, Mutation, Shard};
 use fr_sql_store::SqlStore;
 use fr_undo::{ShardStore, StoreFault};
-use sqlite::MemStore;
 use std::alloc::Global;
 use std::test::Fail;
 
@@ -62,13 +61,6 @@ fn has<S: ShardStore>(
     Ok(holds(rows.as_slice(), wanted))
 }
 
-/// A store in memory, of `a`, `b` and `c` at version 3.
-fn filled(alloc: Global) -> Result<SqlStore<MemStore>, Fail> {
-    let mut store = SqlStore::in_memory(alloc)?;
-    store.apply(alloc, at(3)?, &sets(alloc)?)?;
-    Ok(store)
-}
-
 const SETS: [(&[u8], &[u8]); 3] = [(b"a", b""), (b"b", b"\x02"), (b"c", b"\x02")];
 
 const CLEARED: [(&[u8], &[u8]); 1] = [(b"c", b"\x03")];
@@ -79,13 +71,6 @@ fn comes_back<S: ShardStore>(alloc: Global, store: &mut S) -> Result<bool, Fail>
     let is_cleared = store.undo_rows() == 6 && has(alloc, store, CLEARED.as_slice())?;
     store.undo_to(alloc, at(4)?)?;
     Ok(is_cleared && has(alloc, store, SETS.as_slice())? && store.undo_rows() == 3)
-}
-
-#[test]
-fn a_cleared_range_comes_back_with_empty_values(rt: HostRuntime) -> Result<(), Fail> {
-    let mut store = filled(rt.alloc())?;
-    assert!(rt; comes_back(rt.alloc(), &mut store)?);
-    Ok(())
 }
 
 /// Whether the rows from `b` to `c` are that of `b` alone.
@@ -112,13 +97,6 @@ fn reads<S: ShardStore>(alloc: Global, store: &mut S) -> Result<bool, Fail> {
     Ok(is_there && length_of_a(alloc, store)?.is_none() && store.applied().get() == 0)
 }
 
-#[test]
-fn values_and_ranges(rt: HostRuntime) -> Result<(), Fail> {
-    let mut store = filled(rt.alloc())?;
-    assert!(rt; reads(rt.alloc(), &mut store)?);
-    Ok(())
-}
-
 /// Whether a store keeps these bytes.
 fn keeps<S: ShardStore>(alloc: Global, store: &mut S, wanted: &[u8]) -> Result<bool, Fail> {
     let kept = store.state_bytes(alloc)?;
@@ -131,13 +109,6 @@ fn keeps_state<S: ShardStore>(alloc: Global, store: &mut S) -> Result<bool, Fail
     store.set_state(alloc, bytes(alloc, b"state")?)?;
     store.reopen(alloc)?;
     Ok(was_empty && !store.is_failed() && keeps(alloc, store, b"state".as_slice())?)
-}
-
-#[test]
-fn state_bytes_are_kept(rt: HostRuntime) -> Result<(), Fail> {
-    let mut store = filled(rt.alloc())?;
-    assert!(rt; keeps_state(rt.alloc(), &mut store)?);
-    Ok(())
 }
 
 /// Whether versions that are not later, and those above what is applied, are refused.
@@ -156,14 +127,6 @@ fn refuses_below<S: ShardStore>(alloc: Global, store: &mut S) -> Result<bool, Fa
     Ok(is_below && store.undo_rows() == 3)
 }
 
-#[test]
-fn refusals(rt: HostRuntime) -> Result<(), Fail> {
-    let mut store = filled(rt.alloc())?;
-    assert!(rt; refuses(rt.alloc(), &mut store)?);
-    assert!(rt; refuses_below(rt.alloc(), &mut store)?);
-    Ok(())
-}
-
 /// Whether rows are forgotten that are not needed for undoing any more, and no others.
 fn forgets<S: ShardStore>(alloc: Global, store: &mut S) -> Result<bool, Fail> {
     store.advance(at(6)?)?;
@@ -173,9 +136,59 @@ fn forgets<S: ShardStore>(alloc: Global, store: &mut S) -> Result<bool, Fail> {
     Ok(is_there && undo_rows == 0 && floor == 3 && store.applied().get() == 6)
 }
 
+/// What is asked of a store of `a`, `b` and `c` at version 3.
+#[derive(Clone, Copy)]
+enum Asked {
+    ComesBack,
+    Reads,
+    KeepsState,
+    Refuses,
+    Forgets,
+}
+
+/// Whether a store does what is asked of it, once it has `a`, `b` and `c` at version 3.
+fn does<S: ShardStore + Drop>(alloc: Global, mut store: S, asked: Asked) -> Result<bool, Fail> {
+    store.apply(alloc, at(3)?, &sets(alloc)?)?;
+    match asked {
+        Asked::ComesBack => comes_back(alloc, &mut store),
+        Asked::Reads => reads(alloc, &mut store),
+        Asked::KeepsState => keeps_state(alloc, &mut store),
+        Asked::Refuses => Ok(refuses(alloc, &mut store)? && refuses_below(alloc, &mut store)?),
+        Asked::Forgets => forgets(alloc, &mut store),
+    }
+}
+
+/// Whether a store in memory does what is asked of it.
+fn is_done(alloc: Global, asked: Asked) -> Result<bool, Fail> {
+    does(alloc, SqlStore::in_memory(alloc)?, asked)
+}
+
+#[test]
+fn a_cleared_range_comes_back_with_empty_values(rt: HostRuntime) -> Result<(), Fail> {
+    assert!(rt; is_done(rt.alloc(), Asked::ComesBack)?);
+    Ok(())
+}
+
+#[test]
+fn values_and_ranges(rt: HostRuntime) -> Result<(), Fail> {
+    assert!(rt; is_done(rt.alloc(), Asked::Reads)?);
+    Ok(())
+}
+
+#[test]
+fn state_bytes_are_kept(rt: HostRuntime) -> Result<(), Fail> {
+    assert!(rt; is_done(rt.alloc(), Asked::KeepsState)?);
+    Ok(())
+}
+
+#[test]
+fn refusals(rt: HostRuntime) -> Result<(), Fail> {
+    assert!(rt; is_done(rt.alloc(), Asked::Refuses)?);
+    Ok(())
+}
+
 #[test]
 fn rows_are_forgotten(rt: HostRuntime) -> Result<(), Fail> {
-    let mut store = filled(rt.alloc())?;
-    assert!(rt; forgets(rt.alloc(), &mut store)?);
+    assert!(rt; is_done(rt.alloc(), Asked::Forgets)?);
     Ok(())
 }

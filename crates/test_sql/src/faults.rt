@@ -1,9 +1,9 @@
 //! A store whose files fail for a while, opened again in place once they work: it holds what stood before the call that
 //! met the fault, or what that call was to make.
 use crate::gap::Gap;
-use crate::scene::{Call, Held, Shown, kept, look, make};
+use crate::scene::{Answer, Call, Held, Shown, ask, kept};
 use fr_sql_files::SqlFileStore;
-use fr_undo::{ShardStore, StoreFault};
+use fr_undo::StoreFault;
 use sqlite::Files;
 use sqlite_disk::Memory as MemoryDisk;
 use std::alloc::Global;
@@ -28,17 +28,17 @@ const AFTER: Shown = Shown {
 /// What a store answers that may meet a fault, and shows once it was opened again.
 #[derive(Clone, Copy)]
 struct End {
-    answer: Result<(), StoreFault>,
-    reopened: Result<(), StoreFault>,
-    shown: Result<Shown, StoreFault>,
+    answer: Answer,
+    reopened: Answer,
+    shown: Answer,
     /// Whether no sync failed.
     may_be_used: bool,
 }
 
 fn end_of(alloc: Global, mut store: SqlFileStore<Gap<MemoryDisk>>) -> End {
-    let answer = make(alloc, &mut store, Call::Set(9, 2));
-    let reopened = store.reopen(alloc);
-    let shown = look(alloc, &mut store);
+    let answer = ask(alloc, &mut store, Call::Set(9, 2));
+    let reopened = ask(alloc, &mut store, Call::Reopen);
+    let shown = ask(alloc, &mut store, Call::Look);
     End {
         answer,
         reopened,
@@ -64,8 +64,8 @@ fn end_after(alloc: Global, passes: u64) -> Result<End, StoreFault> {
 /// else it is opened again.
 fn is_right(end: End) -> bool {
     match (end.answer, end.reopened) {
-        (Ok(()), _) => end.shown == Ok(AFTER),
-        (_, Ok(())) => end.shown == Ok(BEFORE) || end.shown == Ok(AFTER),
+        (Ok(_), _) => end.shown == Ok(Some(AFTER)),
+        (_, Ok(_)) => end.shown == Ok(Some(BEFORE)) || end.shown == Ok(Some(AFTER)),
         (_, Err(_)) => !end.may_be_used && end.shown == Err(StoreFault::Failed),
     }
 }
@@ -78,8 +78,8 @@ fn a_store_is_opened_again_after_a_fault(rt: HostRuntime) -> Result<(), Fail> {
             continue;
         };
         assert!(rt; is_right(end), "after {passes}");
-        is_again = is_again || end.answer != Ok(()) && end.reopened == Ok(());
-        is_whole = is_whole || end.answer == Ok(());
+        is_again = is_again || end.answer != Ok(None) && end.reopened == Ok(None);
+        is_whole = is_whole || end.answer == Ok(None);
     }
     assert!(rt; is_again && is_whole);
     Ok(())

@@ -22,7 +22,7 @@ const EMPTY: Shown = Shown {
 /// Whether a crash leaves a store empty that was made.
 fn is_left<D: FaithfulDisk + Crash + Drop>(alloc: Global, store: SqlFileStore<D>) -> bool {
     let files = crashed(store.into_files());
-    found(alloc, files, [].as_slice()) == Ok(EMPTY)
+    found(alloc, files, [].as_slice()) == Ok(Some(EMPTY))
 }
 
 /// Whether a store is made in empty files, of which each stops after so many calls.

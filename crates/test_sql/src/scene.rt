@@ -8,7 +8,7 @@ use sqlite::Files;
 use sqlite_disk::Memory as MemoryDisk;
 use std::alloc::Global;
 
-/// A call of a store that writes.
+/// A call of a store.
 #[derive(Clone, Copy)]
 pub(crate) enum Call {
     /// At a version, the key `a` takes a value of one byte.
@@ -17,7 +17,13 @@ pub(crate) enum Call {
     Clear(u64),
     Undo(u64),
     Forget(u64),
+    Reopen,
+    /// What the store shows is read.
+    Look,
 }
+
+/// What a call is answered: what the store shows, where that is asked for.
+pub(crate) type Answer = Result<Option<Shown>, StoreFault>;
 
 /// What the key `a` holds, where a store has no other one.
 #[derive(Clone, Copy, PartialEq, Eq)]
@@ -67,18 +73,34 @@ fn apply<S: ShardStore>(
     }
 }
 
-/// Makes a call.
-pub(crate) fn make<S: ShardStore>(
-    alloc: Global,
-    store: &mut S,
-    call: Call,
-) -> Result<(), StoreFault> {
-    match call {
-        Call::Set(version, value) => apply(alloc, store, at(version), set(alloc, value)),
-        Call::Clear(version) => apply(alloc, store, at(version), clear(alloc)),
-        Call::Undo(version) => store.undo_to(alloc, at(version)),
-        Call::Forget(version) => store.forget_through(alloc, at(version)),
+/// What a call is answered that shows nothing.
+fn done(answer: Result<(), StoreFault>) -> Answer {
+    match answer {
+        Ok(()) => Ok(None),
+        Err(fault) => Err(fault),
     }
+}
+
+/// Makes a call.
+fn make<S: ShardStore>(alloc: Global, store: &mut S, call: Call) -> Answer {
+    match call {
+        Call::Set(version, value) => done(apply(alloc, store, at(version), set(alloc, value))),
+        Call::Clear(version) => done(apply(alloc, store, at(version), clear(alloc))),
+        Call::Undo(version) => done(store.undo_to(alloc, at(version))),
+        Call::Forget(version) => done(store.forget_through(alloc, at(version))),
+        Call::Reopen => done(store.reopen(alloc)),
+        Call::Look => Ok(Some(look(alloc, store)?)),
+    }
+}
+
+/// Makes a call of a store in files. Each of these is made here, since the prover ties the tables of files to the traits
+/// that they meet anew in each function that hands such a store to one over stores of any kind.
+pub(crate) fn ask<D: FaithfulDisk + Drop>(
+    alloc: Global,
+    store: &mut SqlFileStore<D>,
+    call: Call,
+) -> Answer {
+    make(alloc, store, call)
 }
 
 fn at(number: u64) -> Version {
@@ -86,9 +108,13 @@ fn at(number: u64) -> Version {
 }
 
 /// Makes calls, up to one that is refused.
-fn make_all<S: ShardStore>(alloc: Global, store: &mut S, calls: &[Call]) -> Result<(), StoreFault> {
+fn ask_all<D: FaithfulDisk + Drop>(
+    alloc: Global,
+    store: &mut SqlFileStore<D>,
+    calls: &[Call],
+) -> Result<(), StoreFault> {
     for call in calls {
-        make(alloc, store, *call)?;
+        ask(alloc, store, *call)?;
     }
     Ok(())
 }
@@ -110,7 +136,7 @@ fn byte_in(key: &[u8], value: &[u8]) -> Held {
 }
 
 /// What a store shows.
-pub(crate) fn look<S: ShardStore>(alloc: Global, store: &mut S) -> Result<Shown, StoreFault> {
+fn look<S: ShardStore>(alloc: Global, store: &mut S) -> Result<Shown, StoreFault> {
     let held = match store.dump(alloc) {
         Ok(rows) => held_in(rows.as_slice()),
         Err(fault) => return Err(fault),
@@ -124,13 +150,13 @@ pub(crate) fn look<S: ShardStore>(alloc: Global, store: &mut S) -> Result<Shown,
 }
 
 /// What a store shows after calls.
-fn shown_after<S: ShardStore>(
+fn shown_after<D: FaithfulDisk + Drop>(
     alloc: Global,
-    store: &mut S,
+    store: &mut SqlFileStore<D>,
     calls: &[Call],
-) -> Result<Shown, StoreFault> {
-    make_all(alloc, store, calls)?;
-    look(alloc, store)
+) -> Answer {
+    ask_all(alloc, store, calls)?;
+    ask(alloc, store, Call::Look)
 }
 
 /// Two files that hold nothing.
@@ -147,8 +173,10 @@ fn closed<D: FaithfulDisk + Drop>(
     mut store: SqlFileStore<D>,
     calls: &[Call],
 ) -> Result<Files<D>, StoreFault> {
-    match make_all(alloc, &mut store, calls) {
-        Ok(()) => store.close(),
+    let made = ask_all(alloc, &mut store, calls);
+    let files = store.close();
+    match made {
+        Ok(()) => files,
         Err(fault) => Err(fault),
     }
 }
@@ -166,9 +194,13 @@ pub(crate) fn found<D: FaithfulDisk + Drop>(
     alloc: Global,
     files: Files<D>,
     calls: &[Call],
-) -> Result<Shown, StoreFault> {
+) -> Answer {
     match SqlFileStore::open(alloc, files) {
-        Ok(mut store) => shown_after(alloc, &mut store, calls),
+        Ok(mut store) => {
+            let shown = shown_after(alloc, &mut store, calls);
+            let _files = store.into_files();
+            shown
+        }
         Err(fault) => Err(fault),
     }
 }

@@ -1,9 +1,9 @@
 //! A file that stops at some call, a crash, and what is then found: what stood before the call of the store that met
 //! the stop, or what it was to make.
-use crate::scene::{Call, Held, Shown, found, kept, make};
+use crate::scene::{Answer, Call, Held, Shown, ask, found, kept};
 use fr_sql_files::SqlFileStore;
 use fr_sql_rows::FaithfulDisk;
-use fr_undo::{ShardStore, StoreFault};
+use fr_undo::StoreFault;
 use sqlite::Files;
 use sqlite_disk::{Crash, Fuse, Memory as MemoryDisk};
 use std::alloc::Global;
@@ -11,13 +11,13 @@ use std::process::Abort;
 use std::test::Fail;
 
 /// A call, and its answer.
-type Row = (Call, Result<(), StoreFault>);
+type Row = (Call, Answer);
 
 /// Two batches, a forget that takes the undo row of the first, an undo below the floor and a forget of what is to come.
 const ROWS: [Row; 5] = [
-    (Call::Set(8, 1), Ok(())),
-    (Call::Set(9, 2), Ok(())),
-    (Call::Forget(8), Ok(())),
+    (Call::Set(8, 1), Ok(None)),
+    (Call::Set(9, 2), Ok(None)),
+    (Call::Forget(8), Ok(None)),
     (Call::Undo(7), Err(StoreFault::BelowFloor)),
     (Call::Forget(10), Err(StoreFault::AboveApplied)),
 ];
@@ -47,15 +47,15 @@ struct End {
     /// How many calls were answered as they are to be, before one that was not.
     answered: usize,
     /// What a further call was answered.
-    further: Result<(), StoreFault>,
+    further: Answer,
     /// What was found after a crash.
-    found: Result<Shown, StoreFault>,
+    found: Answer,
 }
 
 /// How many of the calls a store answers as it is to, before one that it does not.
-fn answered<S: ShardStore>(alloc: Global, store: &mut S) -> usize {
+fn answered<D: FaithfulDisk + Drop>(alloc: Global, store: &mut SqlFileStore<D>) -> usize {
     for (number, (call, wanted)) in ROWS.iter().enumerate() {
-        if make(alloc, store, *call) != *wanted {
+        if ask(alloc, store, *call) != *wanted {
             return number;
         }
     }
@@ -72,7 +72,7 @@ pub(crate) fn crashed<D: Crash>(mut files: Files<D>) -> Files<D> {
 /// How the calls end on a store.
 fn end_of<D: FaithfulDisk + Crash + Drop>(alloc: Global, mut store: SqlFileStore<D>) -> End {
     let answered = answered(alloc, &mut store);
-    let further = make(alloc, &mut store, Call::Forget(8));
+    let further = ask(alloc, &mut store, Call::Forget(8));
     let files = crashed(store.into_files());
     End {
         answered,
@@ -106,11 +106,11 @@ fn fused(alloc: Global, log: u64, db: u64) -> Result<Files<Fuse<MemoryDisk>>, St
 /// refused.
 fn is_right(end: End) -> bool {
     if end.answered >= ROWS.len() {
-        return end.further == Ok(()) && end.found == Ok(shown_after(ROWS.len()));
+        return end.further == Ok(None) && end.found == Ok(Some(shown_after(ROWS.len())));
     }
     end.further == Err(StoreFault::Failed)
-        && (end.found == Ok(shown_after(end.answered))
-            || end.found == Ok(shown_after(end.answered + 1)))
+        && (end.found == Ok(Some(shown_after(end.answered)))
+            || end.found == Ok(Some(shown_after(end.answered + 1))))
 }
 
 /// Which calls met a stop, and whether some run met none.
