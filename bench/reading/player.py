@@ -1,5 +1,5 @@
-"""Worlds at random by the readings alone, in place of the program: they print what `test_random` prints. With a rule
-turned (`WRONG`) the run is one that the promises forbid, so that it is seen that they name it."""
+"""Worlds at random by the readings alone, in place of the program: they print what `test_scenarios SEED EVENTS` prints.
+With a rule turned (`WRONG`) the run is one that the promises forbid, so that it is seen that they name it."""
 
 import json
 import random

@@ -1,4 +1,4 @@
-"""One run of a world as `test_random` prints it: its lines and journals, looked at event by event."""
+"""One run of a world as `test_scenarios SEED EVENTS` prints it: its lines and journals, looked at event by event."""
 
 import collections
 import json

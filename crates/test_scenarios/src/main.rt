@@ -1,12 +1,14 @@
 //! Plays the scenarios of the folder, each file `NAME.md` but README.md, and prints a line for each scenario. It ends
-//! with status 1 where one does not hold.
+//! with status 1 where one does not hold. With words it plays a world at random, or the scenarios and then that.
 #![tactic(auto)]
 
 mod answers;
 mod events;
 mod found;
+mod random;
 mod worlds;
 
+use random::Plan;
 use std::alloc::Global;
 use std::process::ExitCode;
 use std::{fs, io};
@@ -34,19 +36,47 @@ impl Player for Players {
     }
 }
 
+/// With no words the scenarios are played. The words of a world at random are the seed, how many events are chosen and,
+/// in pairs, the first and the last number of those that are left out; with `all` before them both are played.
 fn main(rt: HostRuntime) -> anyhow::Result<ExitCode> {
-    let alloc = rt.alloc();
-    let mut report = Report::new(alloc);
-    for name in &names_of(&rt, alloc)? {
-        let text = fs::read_to_string(&rt, name.as_str())?;
-        play_file(alloc, &Players, name.as_str(), text.as_str(), &mut report)?;
-    }
-    print!(rt; "{}", report.text())?;
-    Ok(if report.holds() {
+    let words: Vec<String> = std::env::args(&rt)?.collect(rt.alloc())?;
+    Ok(if play(&rt, words.as_slice())? {
         ExitCode::SUCCESS
     } else {
         ExitCode::FAILURE
     })
+}
+
+/// Plays what the words of the program say, the first of which is its name: whether all scenarios of it hold.
+fn play(rt: &HostRuntime, words: &[String]) -> anyhow::Result<bool> {
+    match words {
+        [] | [_] => scenarios(rt),
+        [_, first, rest @ ..] if first.as_str() == "all" => all(rt, rest),
+        [_, rest @ ..] => {
+            random::print(rt, &Plan::read(rt.alloc(), rest)?)?;
+            Ok(true)
+        }
+    }
+}
+
+/// Plays the scenarios, and then a world at random.
+fn all(rt: &HostRuntime, words: &[String]) -> anyhow::Result<bool> {
+    let plan = Plan::read(rt.alloc(), words)?;
+    let holds = scenarios(rt)?;
+    random::print(rt, &plan)?;
+    Ok(holds)
+}
+
+/// Plays the scenarios: whether all of them hold.
+fn scenarios(rt: &HostRuntime) -> anyhow::Result<bool> {
+    let alloc = rt.alloc();
+    let mut report = Report::new(alloc);
+    for name in &names_of(rt, alloc)? {
+        let text = fs::read_to_string(rt, name.as_str())?;
+        play_file(alloc, &Players, name.as_str(), text.as_str(), &mut report)?;
+    }
+    print!(rt; "{}", report.text())?;
+    Ok(report.holds())
 }
 
 /// The names of the files, in order.

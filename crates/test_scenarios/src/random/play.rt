@@ -1,12 +1,12 @@
 //! A world is played.
-use crate::choice::{Choice, Weather};
-use crate::choose::choose;
-use crate::dice::Dice;
-use crate::journals::put_script;
-use crate::plan::Plan;
-use crate::report::{put_choice, put_refused, put_stand};
-use crate::seen::Seen;
-use crate::setting::config;
+use super::choice::{Choice, Weather};
+use super::choose::choose;
+use super::dice::Dice;
+use super::journals::put_script;
+use super::plan::Plan;
+use super::report::{put_choice, put_refused, put_stand};
+use super::seen::Seen;
+use super::setting::config;
 use anyhow::Context;
 use fr_base::Epoch;
 use fr_world::{Turn, World};

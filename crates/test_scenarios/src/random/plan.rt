@@ -12,11 +12,11 @@ pub(crate) struct Plan {
 }
 
 impl Plan {
-    /// Reads it from the words of the program, the first of which is its name.
+    /// Reads it from words.
     pub(crate) fn read(alloc: Global, words: &[String]) -> anyhow::Result<Plan> {
         match words {
-            [_, seed, events, rest @ ..] => Plan::of(alloc, seed, events, rest),
-            _ => bail!("words: SEED EVENTS [FIRST LAST]..")
+            [seed, events, rest @ ..] => Plan::of(alloc, seed, events, rest),
+            _ => bail!("words: none, or [all] SEED EVENTS [FIRST LAST]..")
         }
     }
 

@@ -1,8 +1,8 @@
 //! The next event.
-use crate::choice::{Choice, Kind, Weather};
-use crate::dice::Dice;
-use crate::seen::Seen;
-use crate::{chosen, messages};
+use super::choice::{Choice, Kind, Weather};
+use super::dice::Dice;
+use super::seen::Seen;
+use super::{chosen, messages};
 use fr_base::Memory;
 use fr_world::World;
 use std::alloc::Global;

@@ -1,5 +1,5 @@
 //! What is chosen.
-use crate::dice::Dice;
+use super::dice::Dice;
 use fr_world::Event;
 
 /// Of which kind a chosen event is.

@@ -1,8 +1,8 @@
 //! Messages drawn at random: those that are under way, late and repeated ones, and stray ones.
-use crate::choice::{Choice, Kind};
-use crate::dice::Dice;
-use crate::epochs::node;
-use crate::seen::{Letter, Seen, Sent, ask_at, tell_at};
+use super::choice::{Choice, Kind};
+use super::dice::Dice;
+use super::epochs::node;
+use super::seen::{Letter, Seen, Sent, ask_at, tell_at};
 use fr_ask::{Ask, Tell};
 use fr_base::{Memory, NodeId, Version};
 use fr_log::LogTell;

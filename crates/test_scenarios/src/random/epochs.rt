@@ -1,6 +1,6 @@
 //! Epochs, ballots and nodes drawn at random.
-use crate::dice::Dice;
-use crate::seen::Seen;
+use super::dice::Dice;
+use super::seen::Seen;
 use fr_base::{Ballot, Epoch, LogId, NodeId, Tag};
 use fr_world::World;
 

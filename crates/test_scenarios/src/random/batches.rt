@@ -1,5 +1,5 @@
 //! Batches drawn at random, over few keys, so that they meet.
-use crate::dice::Dice;
+use super::dice::Dice;
 use fr_base::{Bytes, Memory};
 use fr_mutation::{AtomicOp, Batch, Mutation};
 use std::alloc::Global;

@@ -1,5 +1,5 @@
 //! The world that a seed has.
-use crate::dice::Dice;
+use super::dice::Dice;
 use anyhow::bail;
 use fr_base::{Bytes, Shape};
 use fr_world::Config;

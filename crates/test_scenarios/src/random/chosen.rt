@@ -1,10 +1,10 @@
 //! What nodes do of their own accord, and what befalls them, drawn at random.
-use crate::batches::batch;
-use crate::choice::{Choice, Kind};
-use crate::dice::Dice;
-use crate::epochs;
-use crate::seen::Seen;
-use crate::setting::shape;
+use super::batches::batch;
+use super::choice::{Choice, Kind};
+use super::dice::Dice;
+use super::epochs;
+use super::seen::Seen;
+use super::setting::shape;
 use fr_ask::{Ask, Last};
 use fr_base::{Ballot, Epoch, LogId, Memory, NodeId, Step, Tag, Version};
 use fr_epoch::Phase;

@@ -1,5 +1,5 @@
 //! The lines of events.
-use crate::choice::Kind;
+use super::choice::Kind;
 use fr_ask::Last;
 use fr_base::{Bytes, NodeId, Tag};
 use fr_storage::StorageFault;
