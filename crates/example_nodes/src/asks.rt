@@ -2,16 +2,14 @@
 mod costly;
 mod pushes;
 
-use crate::parts::log_id;
+use crate::parts::{log_id, number};
 use anyhow::bail;
 use costly::Costly;
 use fr_base::Node;
-use fr_device::MemoryDevice;
+use fr_device::{Device, MemoryDevice};
 use fr_record_log::LogNode;
 use pushes::{begin, list};
 use std::time::{Duration, Instant};
-
-type Slow<'a> = LogNode<Costly<'a, HostRuntime, MemoryDevice>>;
 
 /// How many pushes are served.
 const COUNTS: [u64; 3] = [1, 8, 64];
@@ -24,6 +22,13 @@ const BEFORE: u64 = 3;
 struct Words {
     times: u64,
     wait: u64,
+}
+
+/// What some pushes cost.
+#[derive(Clone, Copy)]
+struct Cost {
+    syncs: u64,
+    micros: u128,
 }
 
 /// Says how many syncs some pushes cost. With two numbers for its words, how often they are served and how many
@@ -39,8 +44,8 @@ fn asked(words: &[String]) -> anyhow::Result<Option<Words>> {
     match words {
         [] => Ok(None),
         [times, wait] => Ok(Some(Words {
-            times: times.parse::<u64>()?,
-            wait: wait.parse::<u64>()?,
+            times: number(times)?,
+            wait: number(wait)?,
         })),
         _ => bail!("asks wants two numbers, or no words"),
     }
@@ -48,8 +53,8 @@ fn asked(words: &[String]) -> anyhow::Result<Option<Words>> {
 
 fn counted(rt: &HostRuntime) -> anyhow::Result<()> {
     for count in COUNTS {
-        let once = syncs(rt, 1, count)?;
-        let apart = syncs(rt, count, 1)?;
+        let once = cost_of(rt, 0, 1, count)?.syncs;
+        let apart = cost_of(rt, 0, count, 1)?.syncs;
         println!(rt; "{count} pushes: {once} syncs at once, {apart} one by one")?;
     }
     Ok(())
@@ -58,43 +63,36 @@ fn counted(rt: &HostRuntime) -> anyhow::Result<()> {
 fn timed(rt: &HostRuntime, words: Words) -> anyhow::Result<()> {
     for count in COUNTS {
         let times = words.times;
-        let once = micros(rt, words.wait, times, count)?;
-        let apart = micros(rt, words.wait, times.saturating_mul(count), 1)?;
+        let once = cost_of(rt, words.wait, times, count)?.micros;
+        let apart = cost_of(rt, words.wait, times.saturating_mul(count), 1)?.micros;
         println!(rt; "{count} pushes {times} times: {once} us at once, {apart} us one by one")?;
     }
     Ok(())
 }
 
-/// The syncs that so many lists cost, of so many pushes each.
-fn syncs(rt: &HostRuntime, lists: u64, len: u64) -> anyhow::Result<u64> {
-    let mut node = slow(rt, 0)?;
-    serve(rt, &mut node, lists, len)?;
-    Ok(node.into_device().syncs().saturating_sub(BEFORE))
-}
-
-/// The microseconds that so many lists cost, of so many pushes each, where a sync takes so many.
-fn micros(rt: &HostRuntime, wait: u64, lists: u64, len: u64) -> anyhow::Result<u128> {
-    let mut node = slow(rt, wait)?;
-    let start = Instant::now(rt)?;
-    serve(rt, &mut node, lists, len)?;
-    Ok(start.elapsed(rt)?.as_micros())
-}
-
-/// A log that holds its mark, over a device whose syncs take so many microseconds.
-fn slow<'a>(rt: &'a HostRuntime, wait: u64) -> anyhow::Result<Slow<'a>> {
+/// What so many lists cost, of so many pushes each, where a sync takes so many microseconds.
+fn cost_of(rt: &HostRuntime, wait: u64, lists: u64, len: u64) -> anyhow::Result<Cost> {
+    let id = log_id()?;
     let device = MemoryDevice::new(rt.alloc(), 1 << 24)?;
     let device = Costly::new(rt, device, Duration::from_micros(wait));
-    let mut node = LogNode::format(rt.alloc(), device, log_id()?, 1, 1)?;
-    node.serve_all(rt.alloc(), begin(rt.alloc())?)?;
-    Ok(node)
+    let mut node = LogNode::format(rt.alloc(), device, id, 1, 1)?;
+    let micros = served(rt, &mut node, lists, len)?;
+    let syncs = node.into_device().syncs().saturating_sub(BEFORE);
+    Ok(Cost { syncs, micros })
 }
 
-/// Serves so many lists of so many pushes.
-fn serve(rt: &HostRuntime, node: &mut Slow<'_>, lists: u64, len: u64) -> anyhow::Result<()> {
+/// Has a new log hold its mark, and then serve so many lists of so many pushes: in how many microseconds it serves them.
+fn served<D: Device>(
+    rt: &HostRuntime,
+    node: &mut LogNode<D>,
+    lists: u64,
+    len: u64,
+) -> anyhow::Result<u128> {
+    node.serve_all(rt.alloc(), begin(rt.alloc())?)?;
+    let start = Instant::now(rt)?;
     for _ in 0..lists {
         let durable = node.plain().durable().get();
-        let asks = list(rt.alloc(), durable, len)?;
-        node.serve_all(rt.alloc(), asks)?;
+        node.serve_all(rt.alloc(), list(rt.alloc(), durable, len)?)?;
     }
-    Ok(())
+    Ok(start.elapsed(rt)?.as_micros())
 }

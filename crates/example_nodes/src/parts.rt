@@ -3,11 +3,16 @@ ghost use Rattle.std.specs.Prelude.{◌≡◌, IfOk};
 
 use anyhow::{Context, bail};
 use fr_base::{Bytes, Epoch, LogId, Machine, Tag, Version};
-use fr_log::{Log, LogAsk, LogTell, Push, Seed};
+use fr_log::{Log, LogAsk, LogTell, Most, Push, Seed};
 use fr_mutation::{Batch, Mutation};
 use fr_state::{CoordState, Generation};
 use fr_tags::Body;
 use std::alloc::Global;
+
+/// The number that a word is.
+pub(crate) fn number(word: &str) -> anyhow::Result<u64> {
+    Ok(word.parse::<u64>()?)
+}
 
 /// The first epoch.
 pub(crate) fn epoch() -> anyhow::Result<Epoch> {
@@ -24,12 +29,9 @@ pub(crate) fn version(number: u64) -> anyhow::Result<Version> {
 
 /// A batch that sets one key.
 pub(crate) fn batch(alloc: Global, key: &[u8], value: &[u8]) -> anyhow::Result<Batch> {
-    let mut mutations = Vec::new(alloc);
-    mutations.push(Mutation::Set {
-        key: Bytes::from_slice(alloc, key)?,
-        value: Bytes::from_slice(alloc, value)?,
-    })?;
-    Ok(Batch::new(mutations)?)
+    let key = Bytes::from_slice(alloc, key)?;
+    let value = Bytes::from_slice(alloc, value)?;
+    Ok(Batch::new(vec![in alloc; Mutation::Set { key, value }]?)?)
 }
 
 /// The first generation: so many logs, on so many of which each tag stands, and the mark at version 1.
@@ -62,11 +64,20 @@ pub(crate) fn mark(alloc: Global, first: Generation) -> anyhow::Result<LogAsk> {
 
 /// A push of one tag's batch at the version after this one; known says through which version all is committed.
 pub(crate) fn push(alloc: Global, prev: u64, known: Version, body: Body) -> anyhow::Result<LogAsk> {
-    let mut bodies = Vec::new(alloc);
-    bodies.push(body)?;
+    let bodies = vec![in alloc; body]?;
     let next = version(prev.saturating_add(1))?;
     let pushed = Push::new(epoch()?, version(prev)?, next, known, bodies);
     Ok(LogAsk::Push(pushed.context("no push")?))
+}
+
+/// A peek of tag 0: at most so many records above this version.
+pub(crate) fn peek(after: u64, most: u8) -> anyhow::Result<LogAsk> {
+    Ok(LogAsk::Peek {
+        epoch: epoch()?,
+        tag: tag(0)?,
+        after: version(after)?,
+        most: Most::new(most).context("no number")?,
+    })
 }
 
 /// Gives a new log its seed and its mark: it is at version 1 then.

@@ -8,7 +8,7 @@ mod pulls;
 mod recovery;
 mod report;
 
-use crate::parts::epoch;
+use crate::parts::{epoch, number};
 use anyhow::{Context, bail};
 use cluster::{Cluster, HOLDERS};
 use fr_base::Epoch;
@@ -40,21 +40,25 @@ const SHOWN: Words = Words {
 pub(crate) fn run(rt: &HostRuntime, words: &[String]) -> anyhow::Result<()> {
     let words = asked(words)?;
     let mut cluster = Cluster::start(rt.alloc())?;
-    play(rt.alloc(), words, &mut cluster)?;
+    show(rt, words, &mut cluster)
+}
+
+fn show(rt: &HostRuntime, words: Words, cluster: &mut Cluster) -> anyhow::Result<()> {
+    play(rt.alloc(), words, cluster)?;
     println!(rt;
         "{} batches, {} recoveries",
         words.batches,
         recoveries(words, words.batches)
     )?;
-    report::tell(rt, &mut cluster, words.batches)
+    report::tell(rt, cluster, words.batches)
 }
 
 fn asked(words: &[String]) -> anyhow::Result<Words> {
     match words {
         [] => Ok(SHOWN),
         [batches, every, how] => Ok(Words {
-            batches: batches.parse::<u64>()?,
-            every: every.parse::<u64>()?,
+            batches: number(batches)?,
+            every: number(every)?,
             pops: lets_go(how)?,
         }),
         _ => bail!("pops wants three words, or none"),

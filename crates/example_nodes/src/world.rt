@@ -1,45 +1,42 @@
 //! A small world: a proxy takes a batch and has it numbered, and a storage server asks a log for its records.
 mod many;
 
-use crate::parts::{batch, epoch, tag};
+use crate::parts::{batch, epoch, number, peek, tag};
 use anyhow::{Context, bail};
 use fr_ask::{Ask, SeqAsk};
-use fr_base::{Bytes, Epoch, NodeId, Step, Version};
-use fr_log::{LogAsk, Most};
+use fr_base::{Bytes, Epoch, NodeId, Step};
 use fr_world::{Answer, Config, Event, World};
 use std::alloc::Global;
 
 /// With a number for its word, so many exchanges are replayed, and their time is told.
 pub(crate) fn run(rt: &HostRuntime, words: &[String]) -> anyhow::Result<()> {
+    let rounds = asked(words)?;
+    let mut world = World::start(rt.alloc(), config(rt.alloc())?)?;
+    match rounds {
+        Some(rounds) => many::run(rt, &mut world, rounds),
+        None => small(rt, &mut world),
+    }
+}
+
+fn asked(words: &[String]) -> anyhow::Result<Option<u64>> {
     match words {
-        [] => small(rt),
-        [rounds] => many::run(rt, rounds.parse::<u64>()?),
+        [] => Ok(None),
+        [rounds] => Ok(Some(number(rounds)?)),
         _ => bail!("world wants a number, or no words"),
     }
 }
 
 /// Three coordinators, two logs that both hold the one shard that there is, and one proxy.
 fn config(alloc: Global) -> anyhow::Result<Config> {
-    let mut shards = Vec::new(alloc);
-    shards.push(Bytes::empty(alloc))?;
+    let shards = vec![in alloc; Bytes::empty(alloc)]?;
     Ok(Config::new(3, 2, 2, shards, 1)?)
 }
 
-/// The world of that config, at its start.
-fn start(alloc: Global) -> anyhow::Result<World> {
-    Ok(World::start(alloc, config(alloc)?)?)
-}
-
-fn small(rt: &HostRuntime) -> anyhow::Result<()> {
-    let mut world = start(rt.alloc())?;
-    play(rt, &mut world)
-}
-
-fn play(rt: &HostRuntime, world: &mut World) -> anyhow::Result<()> {
+fn small(rt: &HostRuntime, world: &mut World) -> anyhow::Result<()> {
     let epoch = epoch()?;
     let step = Step::new(1).context("no step")?;
     submit(rt.alloc(), world, epoch, step)?;
-    number(rt, world, epoch, step)?;
+    have_numbered(rt, world, epoch, step)?;
     pull(rt, world, epoch)
 }
 
@@ -62,7 +59,12 @@ fn submit(alloc: Global, world: &mut World, epoch: Epoch, step: Step) -> anyhow:
 }
 
 /// It has the batch numbered.
-fn number(rt: &HostRuntime, world: &mut World, epoch: Epoch, step: Step) -> anyhow::Result<()> {
+fn have_numbered(
+    rt: &HostRuntime,
+    world: &mut World,
+    epoch: Epoch,
+    step: Step,
+) -> anyhow::Result<()> {
     let proxy = NodeId::Proxy { epoch, number: 0 };
     let sequencer = NodeId::Sequencer { epoch };
     let next = Ask::Seq(SeqAsk::Next {
@@ -75,16 +77,9 @@ fn number(rt: &HostRuntime, world: &mut World, epoch: Epoch, step: Step) -> anyh
 
 /// The storage server asks a log for its records.
 fn pull(rt: &HostRuntime, world: &mut World, epoch: Epoch) -> anyhow::Result<()> {
-    let tag = tag(0)?;
-    let most = Most::new(100).context("no number")?;
-    let peek = Ask::Log(LogAsk::Peek {
-        epoch,
-        tag,
-        after: Version::ZERO,
-        most,
-    });
+    let server = NodeId::Storage { tag: tag(0)? };
     let log = NodeId::Log { epoch, index: 0 };
-    serve(rt, world, NodeId::Storage { tag }, log, peek)
+    serve(rt, world, server, log, Ask::Log(peek(0, 100)?))
 }
 
 /// Delivers an ask, and has its sender hear what it is told.

@@ -7,10 +7,7 @@ use std::alloc::Global;
 
 /// An empty seed, and the mark after it: the log is at durable 1 then.
 pub(crate) fn begin(alloc: Global) -> anyhow::Result<Vec<LogAsk>> {
-    let mut asks = Vec::new(alloc);
-    asks.push(seed(alloc)?)?;
-    asks.push(mark(alloc, first(1, 1)?)?)?;
-    Ok(asks)
+    Ok(vec![in alloc; seed(alloc)?, mark(alloc, first(1, 1)?)?]?)
 }
 
 /// So many pushes behind a version, each of one key and a value of 100 bytes.

@@ -36,59 +36,72 @@ pub(super) struct Cluster {
 impl Cluster {
     /// A cluster of two shards, cut at the key 80 in hex, in its first epoch.
     pub(super) fn start(alloc: Global) -> anyhow::Result<Self> {
-        let first = first(LOGS, HOLDERS)?;
-        let map = shards(alloc)?;
-        let proxies = proxies(alloc, &map, first)?;
-        Ok(Cluster {
-            map,
-            nodes: Nodes::start(alloc, first)?,
-            newest: first,
-            proxies,
-            servers: servers(alloc, first)?,
+        let newest = first(LOGS, HOLDERS)?;
+        let sequencer = sequencer(alloc, newest)?;
+        let mut cluster = Cluster {
+            map: shards(alloc)?,
+            nodes: Nodes::new(alloc, sequencer),
+            newest,
+            proxies: Vec::new(alloc),
+            servers: Vec::new(alloc),
             turns: 0,
-        })
+        };
+        cluster.add_first(alloc)?;
+        Ok(cluster)
+    }
+
+    /// Adds the nodes with which it begins.
+    fn add_first(&mut self, alloc: Global) -> anyhow::Result<()> {
+        self.nodes.add_first(alloc, self.newest)?;
+        add_proxies(alloc, &mut self.proxies, &self.map, self.newest)?;
+        add_servers(alloc, &mut self.servers, self.newest)
     }
 
     /// Goes over to a generation whose mark its logs hold.
     pub(super) fn go_over(&mut self, alloc: Global, newest: Generation) -> anyhow::Result<()> {
-        self.proxies = proxies(alloc, &self.map, newest)?;
         self.nodes.sequencer = sequencer(alloc, newest)?;
         self.newest = newest;
-        Ok(())
+        self.proxies.clear();
+        add_proxies(alloc, &mut self.proxies, &self.map, newest)
     }
 }
 
 fn shards(alloc: Global) -> anyhow::Result<ShardMap> {
-    let mut begins = Vec::new(alloc);
-    begins.push(Bytes::empty(alloc))?;
-    begins.push(Bytes::from_slice(alloc, &[0x80])?)?;
-    Ok(ShardMap::new(begins)?)
+    let cut = Bytes::from_slice(alloc, &[0x80])?;
+    Ok(ShardMap::new(vec![in alloc; Bytes::empty(alloc), cut]?)?)
 }
 
 /// The sequencer of a generation: it goes on from the mark.
-pub(super) fn sequencer(alloc: Global, of: Generation) -> anyhow::Result<Sequencer> {
+fn sequencer(alloc: Global, of: Generation) -> anyhow::Result<Sequencer> {
     let mark = of.seeded_to().after().context("no version is left")?;
     Ok(Sequencer::new(alloc, of.epoch(), mark))
 }
 
-/// The proxies of a generation: they know what is before its first version.
-fn proxies(alloc: Global, map: &ShardMap, of: Generation) -> anyhow::Result<Vec<Proxy>> {
+/// Adds the proxies of a generation: they know what is before its first version.
+fn add_proxies(
+    alloc: Global,
+    proxies: &mut Vec<Proxy>,
+    map: &ShardMap,
+    of: Generation,
+) -> anyhow::Result<()> {
     let known = of.first().before().unwrap_or(Version::ZERO);
-    let mut all = Vec::new(alloc);
     for number in 0..PROXIES {
-        let proxy = Proxy::new(of.epoch(), number, LOGS, HOLDERS, map.copy()?, known);
-        all.push(proxy)?;
+        let map = map.copy()?;
+        proxies.push(Proxy::new(of.epoch(), number, LOGS, HOLDERS, map, known))?;
     }
-    Ok(all)
+    Ok(())
 }
 
-/// The storage servers of both shards, in the state of the first generation.
-fn servers(alloc: Global, first: Generation) -> anyhow::Result<Vec<Storage<MapStore>>> {
-    let mut all = Vec::new(alloc);
+/// Adds the storage servers of both shards, in the state of the first generation.
+fn add_servers(
+    alloc: Global,
+    servers: &mut Vec<Storage<MapStore>>,
+    first: Generation,
+) -> anyhow::Result<()> {
     for number in 0..2 {
+        let tag = tag(number)?;
         let state = CoordState::new(alloc, first)?;
-        let store = MapStore::new(alloc);
-        all.push(Storage::start(alloc, store, tag(number)?, state)?)?;
+        servers.push(Storage::start(alloc, MapStore::new(alloc), tag, state)?)?;
     }
-    Ok(all)
+    Ok(())
 }

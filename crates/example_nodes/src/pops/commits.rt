@@ -5,21 +5,20 @@ use super::orders::order;
 use anyhow::{Context, bail};
 use fr_ask::Ask;
 use fr_base::{NodeId, Step};
-use fr_mutation::Batch;
 use fr_proxy::{Outcome, Proxy};
 use std::alloc::Global;
 
 /// Has a proxy commit the batch of a number; the proxies take turns.
 pub(super) fn commit(alloc: Global, cluster: &mut Cluster, number: u64) -> anyhow::Result<()> {
-    let batch = order(alloc, number)?;
     let at = (number % u64::from(PROXIES)) as usize;
     let proxy = cluster.proxies.get_mut(at).context("no proxy")?;
-    submit(alloc, &mut cluster.nodes, proxy, batch)
+    submit(alloc, &mut cluster.nodes, proxy, number)
 }
 
 /// A proxy takes a batch, has it numbered at its first turn, and pushes it to all logs at its second.
-fn submit(alloc: Global, nodes: &mut Nodes, proxy: &mut Proxy, batch: Batch) -> anyhow::Result<()> {
-    proxy.submit(Step::new(1).context("no step")?, batch)?;
+fn submit(alloc: Global, nodes: &mut Nodes, proxy: &mut Proxy, number: u64) -> anyhow::Result<()> {
+    let step = Step::new(1).context("no step")?;
+    proxy.submit(step, order(alloc, number)?)?;
     turn(alloc, nodes, proxy)?;
     match turn(alloc, nodes, proxy)? {
         Outcome::Committed { .. } => Ok(()),

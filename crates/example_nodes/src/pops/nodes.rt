@@ -1,6 +1,6 @@
 //! The nodes that answer asks: cells, logs and the sequencer of the newest epoch.
-use super::cluster::{CELLS, HOLDERS, LOGS, sequencer};
-use crate::parts::{held, mark, seed};
+use super::cluster::{CELLS, HOLDERS, LOGS};
+use crate::parts::begin;
 use anyhow::{Context, bail};
 use fr_ask::{Ask, SeqAsk, Tell};
 use fr_base::{Epoch, LogId, Machine, NodeId};
@@ -19,19 +19,23 @@ pub(super) struct Nodes {
 }
 
 impl Nodes {
-    /// Those of a first generation: the cells hold its state, and the logs its mark.
-    pub(super) fn start(alloc: Global, first: Generation) -> anyhow::Result<Self> {
-        let mut logs = Vec::new(alloc);
-        add_logs(alloc, &mut logs, first.epoch())?;
-        for log in logs.iter_mut() {
-            held(alloc, log, seed(alloc)?)?;
-            held(alloc, log, mark(alloc, first)?)?;
+    /// A sequencer, as yet alone.
+    pub(super) fn new(alloc: Global, sequencer: Sequencer) -> Self {
+        Nodes {
+            cells: Vec::new(alloc),
+            logs: Vec::new(alloc),
+            sequencer,
         }
-        Ok(Nodes {
-            cells: cells(alloc, first)?,
-            logs,
-            sequencer: sequencer(alloc, first)?,
-        })
+    }
+
+    /// Adds those of a first generation: the cells hold its state, and the logs its mark.
+    pub(super) fn add_first(&mut self, alloc: Global, first: Generation) -> anyhow::Result<()> {
+        add_cells(alloc, &mut self.cells, first)?;
+        add_logs(alloc, &mut self.logs, first.epoch())?;
+        for log in self.logs.iter_mut() {
+            begin(alloc, log)?;
+        }
+        Ok(())
     }
 
     /// What the node of a name tells that is asked this.
@@ -83,14 +87,13 @@ impl Nodes {
     }
 }
 
-/// Cells that hold the state of a first generation.
-fn cells(alloc: Global, first: Generation) -> anyhow::Result<Vec<Cell>> {
+/// Adds cells that hold the state of a first generation.
+fn add_cells(alloc: Global, cells: &mut Vec<Cell>, first: Generation) -> anyhow::Result<()> {
     let state = CoordState::new(alloc, first)?;
-    let mut all = Vec::new(alloc);
     for _ in 0..CELLS {
-        all.push(cell(alloc, &state)?)?;
+        cells.push(cell(alloc, &state)?)?;
     }
-    Ok(all)
+    Ok(())
 }
 
 fn cell(alloc: Global, state: &CoordState) -> anyhow::Result<Cell> {

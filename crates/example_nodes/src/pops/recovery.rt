@@ -14,10 +14,20 @@ const TURNS: u8 = 6;
 pub(super) fn recover(alloc: Global, cluster: &mut Cluster, epoch: Epoch) -> anyhow::Result<()> {
     let map = cluster.map.copy()?;
     let mut recoverer = Recoverer::begin(alloc, epoch.ballot(), CELLS, map, None);
+    go_on(alloc, cluster, &mut recoverer, epoch)
+}
+
+/// A recoverer takes its turns.
+fn go_on(
+    alloc: Global,
+    cluster: &mut Cluster,
+    recoverer: &mut Recoverer,
+    epoch: Epoch,
+) -> anyhow::Result<()> {
     for _ in 0..TURNS {
-        turn(alloc, &mut cluster.nodes, &mut recoverer, epoch)?;
+        turn(alloc, &mut cluster.nodes, recoverer, epoch)?;
     }
-    open(alloc, cluster, &recoverer)
+    open(alloc, cluster, recoverer)
 }
 
 /// One turn of a recoverer, at which each pending ask is sent once. The logs that it opens are there once all is copied.

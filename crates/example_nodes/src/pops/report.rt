@@ -2,10 +2,10 @@
 use super::cluster::Cluster;
 use super::nodes::Nodes;
 use super::orders::{is_last, keys};
-use crate::parts::{epoch, tag, told, version};
-use anyhow::{Context, bail};
-use fr_base::Tag;
-use fr_log::{Log, LogAsk, LogTell, Most};
+use crate::parts::{peek, told};
+use anyhow::bail;
+use fr_base::{Bytes, Tag};
+use fr_log::{Log, LogTell};
 use fr_storage::Storage;
 use fr_undo::MapStore;
 use std::alloc::Global;
@@ -39,11 +39,15 @@ fn stands(rt: &HostRuntime, server: &Storage<MapStore>) -> anyhow::Result<()> {
     Ok(())
 }
 
-/// How many keys a storage server has, each of its shard and with the value of the last batch that sets it.
+/// How many keys a storage server has, as they are to be.
 fn counted(alloc: Global, server: &mut Storage<MapStore>, batches: u64) -> anyhow::Result<u64> {
     let tag = server.tag();
-    let rows = server.dump(alloc)?;
-    for (key, value) in rows.iter() {
+    of_last(tag, batches, server.dump(alloc)?.as_slice())
+}
+
+/// How many rows there are, each of a shard and with the value of the last batch that sets it.
+fn of_last(tag: Tag, batches: u64, rows: &[(Bytes, Bytes)]) -> anyhow::Result<u64> {
+    for (key, value) in rows {
         if !is_of(tag, key.as_slice()) || !is_last(batches, key.as_slice(), value.as_slice()) {
             bail!("a storage server has another value");
         }
@@ -69,14 +73,5 @@ fn has_first(alloc: Global, nodes: &mut Nodes) -> anyhow::Result<bool> {
 }
 
 fn tells_first(alloc: Global, log: &mut Log) -> anyhow::Result<bool> {
-    let peek = LogAsk::Peek {
-        epoch: epoch()?,
-        tag: tag(0)?,
-        after: version(1)?,
-        most: Most::new(1).context("no number")?,
-    };
-    match told(alloc, log, peek)? {
-        LogTell::Peeked(_) => Ok(true),
-        _ => Ok(false),
-    }
+    Ok(matches!(told(alloc, log, peek(1, 1)?)?, LogTell::Peeked(_)))
 }

@@ -1,10 +1,9 @@
 //! A list of many events, and how long its replay takes.
-use super::{config, happen, start};
-use crate::parts::{epoch, tag};
-use anyhow::{Context, bail};
+use super::{config, happen};
+use crate::parts::{epoch, peek, tag};
+use anyhow::bail;
 use fr_ask::{Ask, Tell};
-use fr_base::{NodeId, Version};
-use fr_log::{LogAsk, Most};
+use fr_base::NodeId;
 use fr_world::{Answer, Event, World};
 use std::alloc::Global;
 use std::time::Instant;
@@ -20,12 +19,14 @@ struct Exchange {
 
 /// A storage server asks a log for its records again and again, and hears each answer: replays the list of these
 /// events, and says how long that took.
-pub(crate) fn run(rt: &HostRuntime, rounds: u64) -> anyhow::Result<()> {
-    let alloc = rt.alloc();
-    let exchange = first_exchange(alloc)?;
-    let events = exchange.repeated(alloc, rounds)?;
+pub(crate) fn run(rt: &HostRuntime, world: &mut World, rounds: u64) -> anyhow::Result<()> {
+    let events = events(rt.alloc(), world, rounds)?;
+    timed(rt, events.as_slice())
+}
+
+fn timed(rt: &HostRuntime, events: &[Event]) -> anyhow::Result<()> {
     let start = Instant::now(rt)?;
-    let turns = replayed(alloc, events.as_slice())?;
+    let turns = replayed(rt.alloc(), events)?;
     let took = start.elapsed(rt)?.as_micros();
     println!(rt; "{turns} events replayed in {took} us")?;
     Ok(())
@@ -39,19 +40,25 @@ fn replayed(alloc: Global, events: &[Event]) -> anyhow::Result<usize> {
     }
 }
 
+/// The two events of the first exchange of a world, so many times.
+fn events(alloc: Global, world: &mut World, rounds: u64) -> anyhow::Result<Vec<Event>> {
+    let exchange = first_exchange(alloc, world)?;
+    let mut events = Vec::new(alloc);
+    for _ in 0..rounds {
+        exchange.add(&mut events)?;
+    }
+    Ok(events)
+}
+
 /// The first ask of a storage server, and what the log tells.
-fn first_exchange(alloc: Global) -> anyhow::Result<Exchange> {
-    let epoch = epoch()?;
-    let tag = tag(0)?;
-    let from = NodeId::Storage { tag };
-    let to = NodeId::Log { epoch, index: 0 };
-    let ask = Ask::Log(LogAsk::Peek {
-        epoch,
-        tag,
-        after: Version::ZERO,
-        most: Most::new(100).context("no number")?,
-    });
-    let tell = told(alloc, from, to, ask.copy()?)?;
+fn first_exchange(alloc: Global, world: &mut World) -> anyhow::Result<Exchange> {
+    let from = NodeId::Storage { tag: tag(0)? };
+    let to = NodeId::Log {
+        epoch: epoch()?,
+        index: 0,
+    };
+    let ask = Ask::Log(peek(0, 100)?);
+    let tell = told(alloc, world, from, to, ask.copy()?)?;
     Ok(Exchange {
         from,
         to,
@@ -60,25 +67,21 @@ fn first_exchange(alloc: Global) -> anyhow::Result<Exchange> {
     })
 }
 
-/// What is told at the start of a world.
-fn told(alloc: Global, from: NodeId, to: NodeId, ask: Ask) -> anyhow::Result<Tell> {
-    let mut world = start(alloc)?;
-    match happen(alloc, &mut world, &Event::Deliver { from, to, ask })? {
+/// What a node of a world tells another.
+fn told(
+    alloc: Global,
+    world: &mut World,
+    from: NodeId,
+    to: NodeId,
+    ask: Ask,
+) -> anyhow::Result<Tell> {
+    match happen(alloc, world, &Event::Deliver { from, to, ask })? {
         Answer::Told(tell) => Ok(tell),
         _ => bail!("nothing was told"),
     }
 }
 
 impl Exchange {
-    /// The two events of an exchange, so many times.
-    fn repeated(&self, alloc: Global, rounds: u64) -> anyhow::Result<Vec<Event>> {
-        let mut events = Vec::new(alloc);
-        for _ in 0..rounds {
-            self.add(&mut events)?;
-        }
-        Ok(events)
-    }
-
     /// Adds the two events of an exchange.
     fn add(&self, events: &mut Vec<Event>) -> anyhow::Result<()> {
         let ask = self.ask.copy()?;
