@@ -1,2 +1,3 @@
 mod Journals
+mod Places
 pub mod Sent

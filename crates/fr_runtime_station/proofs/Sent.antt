@@ -24,6 +24,7 @@ use Rattle.fr_runtime_station.specs.contracts.directory.Directory as directory
 use Rattle.fr_runtime_station.specs.contracts.epoch_nodes.EpochNodes as epoch_nodes
 use Rattle.fr_runtime_station.specs.contracts.epoch_nodes.Logs as logs
 use Rattle.fr_runtime_station.specs.contracts.epoch_nodes.Opened as opened
+use Rattle.fr_runtime_station.specs.contracts.first_nodes.FirstNodes as first_nodes
 use Rattle.fr_runtime_station.specs.contracts.station.Station as station
 
 module _ (N M A T : RattleType) (g : node.Ghosts N.Denot M.Denot A.Denot T.Denot) (h : machine.Ghosts M.Denot A.Denot T.Denot) (k : named.Ghosts M.Denot A.Denot T.Denot) where
@@ -49,17 +50,21 @@ module _ (L : RattleType) (h : node.Ghosts L.Denot Log LogAsk LogTell) where
   nodes-sync : IsSend L → IsSync (epoch_nodes.the_row L h)
   nodes-sync l = search (sendable, crosses, once_sync, logs-send, logs-sync, opened-send, opened-sync) depth 40
 
+  first-sync : IsSend L → IsSync (first_nodes.the_field L h).row
+  first-sync l =
+      struct_sync (shape (first_nodes.the_type L h)) (
+        search (sendable, crosses) depth 40,
+        (
+          search (sendable, crosses, station-sync, housed-send, log_ask.the_send) depth 40,
+          (search (sendable, crosses, housed-send, in_memory.the_send, sequencer.the_send, seq_ask.the_send) depth 40, tt),
+        ),
+      )
+
 module _ (C L : RattleType) (g : node.Ghosts C.Denot Cell CellAsk CellTell) (h : node.Ghosts L.Denot Log LogAsk LogTell) where
   pub directory-sync : IsSend C → IsSend L → IsSync (directory.the_row C L g h)
   directory-sync c l =
       let S = directory.the_type C L g h in
       recorded_sync _ _ _ S.to_one (struct_sync (shape S) (
         search (sendable, crosses, station-sync, housed-send, cell_ask.the_send) depth 40,
-        (
-          search (sendable, crosses) depth 40,
-          (
-            search (sendable, crosses, once_sync, logs-send, logs-sync, opened-send, opened-sync) depth 40,
-            (search (sendable, crosses, nodes-sync) depth 40, tt),
-          ),
-        ),
+        (first-sync L h l, (search (sendable, crosses, nodes-sync) depth 40, tt)),
       ))

@@ -1,5 +1,6 @@
 -- What a node behind a lock is called and what it answers.
-use Rattle.std.specs.Prelude.{ℕ, Bool, true, false, nat_le, ◌≡◌, ◌≤◌, ◌<◌, ◌⊎◌, ◌↔◌, ⊤, Some, Result, Ok, Err, IfOk, IfErr, OnErr}
+use Rattle.std.specs.Prelude.{ℕ, Bool, true, false, not, nat_le, ◌==◌, ◌≡◌, ◌≤◌, ◌<◌, ◌⊎◌, ◌↔◌, ⊤, if◌then◌else◌, List, Some, Result, Ok, Err, IfOk, IfErr, OnErr}
+use Rattle.std.specs.List.{list_any}
 use Rattle.fr_base.specs.declared.node.InMemory.{InMemory}
 use Rattle.fr_base.specs.declared.node.NodeFault.TheVariants as node
 use Rattle.fr_base.specs.declared.place.NodeId.{NodeId}
@@ -24,6 +25,7 @@ use Rattle.fr_runtime_housing.specs.Replays.{Steps, steps}
 use Rattle.fr_runtime_housing.specs.declared.fault.CallFault.{CallFault}
 use Rattle.fr_runtime_housing.specs.declared.fault.CallFault.TheVariants as call
 use Rattle.fr_runtime_station.specs.Answering.{IsAnswer, answers, is_asked_of}
+use Rattle.fr_runtime_station.specs.declared.chosen.Chosen.{Chosen}
 use Rattle.fr_runtime_station.specs.declared.directory_fault.DirectoryFault.{DirectoryFault}
 use Rattle.fr_runtime_station.specs.declared.directory_fault.DirectoryFault.TheVariants as fault
 
@@ -99,26 +101,50 @@ abbrev pub IsUncrashed : (Result ℕ CallFault → Type 0) → DirectoryFault �
 IsUncrashed Crash (fault.Call why) = Crash (Err why)
 IsUncrashed Crash why = ⊤
 
--- whether a directory of so many cells may lack a node: of logs and sequencers nobody knows whether they have come yet
-abbrev pub may_lack : ℕ → NodeId → Bool
-may_lack cells (place.Cell index) = nat_le cells index
-may_lack cells (place.Log epoch index) = true
-may_lack cells (place.Sequencer epoch) = true
-may_lack cells node = false
+-- the nodes for which a directory has a place: so many cells, so many logs and a sequencer of the generation of the start, and those of the later epochs that may come
+pub record Places : Type 0 where
+  pub cells : ℕ
+  pub start : Chosen
+  pub logs : ℕ
+  pub later : List ℕ
 
--- what a directory of so many cells answers to an ask
-pub record IsAnswered (C L : Type 0) (cells : ℕ) (stamp : ℕ) (from to : NodeId) (a : Ask) (result : Result (ℕ × Tell) DirectoryFault) : Type 0 where
+-- an epoch is that of the start
+abbrev pub is_first : Places → ℕ → Bool
+is_first p epoch = epoch == p.start.generation.epoch
+
+-- an epoch is one of those that may come
+abbrev pub may_come : Places → ℕ → Bool
+may_come p epoch = list_any (λ e. e == epoch) p.later
+
+-- a directory has no such node for sure: no such cell, no such log of the start, or a node of an epoch that is neither the start's nor may come
+abbrev pub must_lack : Places → NodeId → Bool
+must_lack p (place.Cell index) = nat_le p.cells index
+must_lack p (place.Log epoch index) = if is_first p epoch then nat_le p.logs index else not (may_come p epoch)
+must_lack p (place.Sequencer epoch) = if is_first p epoch then false else not (may_come p epoch)
+must_lack p node = false
+
+-- a directory may have no such node: that holds of those too of epochs that may come, since nobody knows whether they have come yet
+abbrev pub may_lack : Places → NodeId → Bool
+may_lack p (place.Cell index) = nat_le p.cells index
+may_lack p (place.Log epoch index) = if is_first p epoch then nat_le p.logs index else true
+may_lack p (place.Sequencer epoch) = not (is_first p epoch)
+may_lack p node = false
+
+-- what a directory of these places answers to an ask
+pub record IsAnswered (C L : Type 0) (places : Places) (stamp : ℕ) (from to : NodeId) (a : Ask) (result : Result (ℕ × Tell) DirectoryFault) : Type 0 where
   pub above : IfOk result (λ got. stamp < got.0)
   pub told : IfOk result (λ got. IsAnswer a got.1)
   pub kind : (result ≡ Err fault.NotAsked) ↔ (is_asked_of to a ≡ false)
-  pub there : (result ≡ Err fault.NotThere) → may_lack cells to ≡ true
+  pub there : (result ≡ Err fault.NotThere) → may_lack places to ≡ true
+  pub lacking : must_lack places to ≡ true → is_asked_of to a ≡ true → result ≡ Err fault.NotThere
   pub called : IfOk result (λ got. IsCall C L stamp from a (Ok got))
   pub uncalled : IfErr result (IsUncalled (IsCall C L stamp from a))
 
 -- the same of a crash
-pub record IsCrashAnswered (C L : Type 0) (cells : ℕ) (stamp : ℕ) (node : NodeId) (result : Result ℕ DirectoryFault) : Type 0 where
+pub record IsCrashAnswered (C L : Type 0) (places : Places) (stamp : ℕ) (node : NodeId) (result : Result ℕ DirectoryFault) : Type 0 where
   pub above : IfOk result (λ at. stamp < at)
   pub kind : (result ≡ Err fault.NotAsked) ↔ (answers node ≡ false)
-  pub there : (result ≡ Err fault.NotThere) → may_lack cells node ≡ true
+  pub there : (result ≡ Err fault.NotThere) → may_lack places node ≡ true
+  pub lacking : must_lack places node ≡ true → answers node ≡ true → result ≡ Err fault.NotThere
   pub crashed : IfOk result (λ at. IsCrash C L stamp node (Ok at))
   pub uncrashed : IfErr result (IsUncrashed (IsCrash C L stamp node))

@@ -1,3 +1,4 @@
 pub mod Answering
 pub mod Called
 pub mod Chosen
+pub mod Places

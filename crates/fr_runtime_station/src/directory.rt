@@ -1,15 +1,17 @@
 //! All nodes that answer asks, where threads find them.
-ghost use Rattle.std.specs.Prelude.{◌≡◌, ◌⊎◌, ◌↔◌, ◌≤◌, ◌<◌, length, false, IfErr, IfOk, None, Ok, Err, true};
+ghost use Rattle.std.specs.Prelude.{◌≡◌, ◌⊎◌, ◌↔◌, ◌≤◌, ◌<◌, ◌+◌, length, false, slice_get, IfErr, IfOk, IfSome, None, Ok, Err, Some, true};
 ghost use Rattle.fr_ask.specs.declared.ask.Ask.TheVariants as asked;
 ghost use Rattle.fr_base.specs.declared.place.NodeId.TheVariants as node;
 ghost use Rattle.fr_runtime_station.specs.Answering.{IsAnswer, IsClosingTrouble, all_answer, answers, is_asked_of};
-ghost use Rattle.fr_runtime_station.specs.Called.{IsAnswered, IsCall, IsCrash, IsCrashAnswered, IsUncalled, IsUncrashed, may_lack};
+ghost use Rattle.fr_runtime_station.specs.Called.{IsAnswered, IsCall, IsCrash, IsCrashAnswered, IsUncalled, IsUncrashed, is_first, may_come, may_lack, must_lack};
+ghost use Rattle.fr_runtime_station.specs.Places.{places_of};
 ghost use Rattle.fr_runtime_station.specs.declared.directory_fault.DirectoryFault.{DirectoryFault};
 
 use crate::chosen::{Chosen, first_stamp, later_of};
 use crate::closing::close_all;
 use crate::directory_fault::DirectoryFault;
-use crate::epoch_nodes::EpochNodes;
+use crate::epoch_nodes::{EpochNodes, all_to_come};
+use crate::first_nodes::FirstNodes;
 use crate::station::Station;
 use fr_ask::{Ask, SeqAsk, Tell};
 use fr_audit_journal::Journal;
@@ -29,14 +31,13 @@ use std::sync::Wait;
 #[derive(Drop)]
 pub struct Directory<C: Node<Plain = Cell>, L: Node<Plain = Log>> {
     cells: Vec<Station<C>>,
-    start: Chosen,
-    first: EpochNodes<L>,
+    first: FirstNodes<L>,
     later: Vec<EpochNodes<L>>,
 }
 
 impl<C: Node<Plain = Cell> + Drop, L: Node<Plain = Log> + Drop> Directory<C, L> {
     /// A directory of these cells, of the logs and the sequencer of the first generation, and of these epochs that may
-    /// come.
+    /// come. The first generation is there from stamp 0 on.
     pub fn new(
         alloc: Global,
         cells: Vec<Station<C>>,
@@ -46,28 +47,39 @@ impl<C: Node<Plain = Cell> + Drop, L: Node<Plain = Log> + Drop> Directory<C, L> 
         epochs: &[Epoch],
     ) -> Result<Self, Memory>
         requires place { answers sequencer.place ≡ true }
+        ensures { IfOk result (λ directory. places_of directory ≡ record {
+          cells = length cells.items;
+          start = record { generation = first; stamp = 0 };
+          logs = length logs.items;
+          later = epochs.now;
+        }) }
     {
-        let start = Chosen {
+        let later = all_to_come(alloc, epochs)?;
+        let chosen = Chosen {
             generation: first,
             stamp: first_stamp(),
         };
-        let mut later = Vec::with_capacity(alloc, epochs.len())?;
-        for epoch in epochs {
-            later.push(EpochNodes::to_come(*epoch))?;
-        }
-        let first = EpochNodes::started(logs, Station::new(sequencer), &start);
+        let first = FirstNodes::new(chosen, logs, Station::new(sequencer));
         Ok(Directory {
             cells,
-            start,
             first,
             later,
         })
     }
 
-    /// The logs and the sequencer of an epoch that is there or may come.
-    fn nodes_of(&self, epoch: Epoch) -> Option<&EpochNodes<L>> {
-        if self.first.epoch() == epoch {
-            return Some(&self.first);
+    /// Whether an epoch is that of the start.
+    fn is_first(&self, epoch: Epoch) -> bool
+        ensures { result ≡ is_first (places_of self.now) epoch }
+    {
+        self.first.chosen().generation.epoch() == epoch
+    }
+
+    /// The logs and the sequencer of a later epoch that may come.
+    fn nodes_of(&self, epoch: Epoch) -> Option<&EpochNodes<L>>
+        ensures { may_come (places_of self.now) epoch ≡ false → result ≡ None }
+    {
+        if self.is_first(epoch) {
+            return None;
         }
         for nodes in &self.later {
             if nodes.epoch() == epoch {
@@ -79,31 +91,45 @@ impl<C: Node<Plain = Cell> + Drop, L: Node<Plain = Log> + Drop> Directory<C, L> 
 
     /// The cell of a number.
     pub fn cell(&self, index: u8) -> Option<&Station<C>>
-        ensures { (result ≡ None) ↔ (length self.now.cells.items ≤ index) }
+        ensures { (result ≡ None) ↔ ((places_of self.now).cells ≤ index) }
     {
         self.cells.get(usize::from(index))
     }
 
-    /// A log, once it is there, with the stamp from which on it is.
-    pub fn log(&self, id: LogId) -> Option<(&Station<L>, Stamp)> {
-        let nodes = self.nodes_of(id.epoch)?;
-        let there = nodes.seeded_at()?;
-        let log = nodes.log(id.index)?;
-        Some((log, there))
+    /// A log, once it is there, with the stamp from which on it is. One of the first epoch is there from the start.
+    pub fn log(&self, id: LogId) -> Option<(&Station<L>, Stamp)>
+        ensures there { (result ≡ None) → may_lack (places_of self.now) (node.Log id.epoch id.index) ≡ true }
+        ensures lacking { must_lack (places_of self.now) (node.Log id.epoch id.index) ≡ true → result ≡ None }
+        ensures stamp { is_first (places_of self.now) id.epoch ≡ true
+            → IfSome result (λ found. found.1 ≡ (places_of self.now).start.stamp) }
+    {
+        if self.is_first(id.epoch) {
+            let log = self.first.log(id.index)?;
+            return Some((log, self.first.chosen().stamp));
+        }
+        self.nodes_of(id.epoch)?.log(id.index)
     }
 
-    /// The sequencer of an epoch, once it is there, with the stamp from which on it is.
-    pub fn sequencer(&self, epoch: Epoch) -> Option<(&Station<InMemory<Sequencer>>, Stamp)> {
-        let nodes = self.nodes_of(epoch)?;
-        let there = nodes.chosen_at()?;
-        let sequencer = nodes.sequencer()?;
-        Some((sequencer, there))
+    /// The sequencer of an epoch, once it is there, with the stamp from which on it is. That of the first epoch is there
+    /// from the start.
+    pub fn sequencer(&self, epoch: Epoch) -> Option<(&Station<InMemory<Sequencer>>, Stamp)>
+        ensures there { (result ≡ None) → may_lack (places_of self.now) (node.Sequencer epoch) ≡ true }
+        ensures lacking { must_lack (places_of self.now) (node.Sequencer epoch) ≡ true → result ≡ None }
+        ensures stamp { is_first (places_of self.now) epoch ≡ true
+            → IfSome result (λ found. found.1 ≡ (places_of self.now).start.stamp) }
+    {
+        if self.is_first(epoch) {
+            return Some((self.first.sequencer(), self.first.chosen().stamp));
+        }
+        self.nodes_of(epoch)?.sequencer()
     }
 
     /// The chosen generations, that of the start first, each with the stamp from which on it is.
-    pub fn epochs(&self, alloc: Global) -> Result<Vec<Chosen>, Memory> {
+    pub fn epochs(&self, alloc: Global) -> Result<Vec<Chosen>, Memory>
+        ensures start { IfOk result (λ all. slice_get all.items 0 ≡ Some (places_of self.now).start) }
+    {
         let mut all = Vec::with_capacity(alloc, self.later.len())?;
-        all.push(self.start)?;
+        all.push(self.first.chosen())?;
         for nodes in &self.later {
             if let Some(chosen) = nodes.chosen() {
                 all.push(chosen)?;
@@ -113,8 +139,10 @@ impl<C: Node<Plain = Cell> + Drop, L: Node<Plain = Log> + Drop> Directory<C, L> 
     }
 
     /// The chosen generation of the greatest epoch.
-    pub fn newest(&self) -> Chosen {
-        let mut newest = self.start;
+    pub fn newest(&self) -> Chosen
+        ensures { (places_of self.now).start.generation.epoch ≤ result.generation.epoch }
+    {
+        let mut newest = self.first.chosen();
         for nodes in &self.later {
             if let Some(chosen) = nodes.chosen() {
                 newest = later_of(newest, chosen);
@@ -162,7 +190,9 @@ impl<C: Node<Plain = Cell> + Drop, L: Node<Plain = Log> + Drop> Directory<C, L> 
         ensures above { IfOk result (λ got. stamp < got.0) }
         ensures told { IfOk result (λ got. IsAnswer ask got.1) }
         ensures kind { (result ≡ Err DirectoryFault.NotAsked) ↔ (is_asked_of to ask ≡ false) }
-        ensures there { (result ≡ Err DirectoryFault.NotThere) → may_lack (length self.now.cells.items) to ≡ true }
+        ensures there { (result ≡ Err DirectoryFault.NotThere) → may_lack (places_of self.now) to ≡ true }
+        ensures lacking { must_lack (places_of self.now) to ≡ true → is_asked_of to ask ≡ true
+            → result ≡ Err DirectoryFault.NotThere }
         ensures called { IfOk result (λ got. IsCall C L stamp from ask (Ok got)) }
         ensures uncalled { IfErr result (IsUncalled (IsCall C L stamp from ask)) }
     {
@@ -182,7 +212,7 @@ impl<C: Node<Plain = Cell> + Drop, L: Node<Plain = Log> + Drop> Directory<C, L> 
         to: NodeId,
         ask: CellAsk,
     ) -> Result<(Stamp, Tell), DirectoryFault>
-        ensures { IsAnswered C L (length self.now.cells.items) stamp from to (asked.Cell ask) result }
+        ensures { IsAnswered C L (places_of self.now) stamp from to (asked.Cell ask) result }
     {
         let NodeId::Cell { index } = to else {
             return Err(DirectoryFault::NotAsked);
@@ -205,7 +235,7 @@ impl<C: Node<Plain = Cell> + Drop, L: Node<Plain = Log> + Drop> Directory<C, L> 
         to: NodeId,
         ask: LogAsk,
     ) -> Result<(Stamp, Tell), DirectoryFault>
-        ensures { IsAnswered C L (length self.now.cells.items) stamp from to (asked.Log ask) result }
+        ensures { IsAnswered C L (places_of self.now) stamp from to (asked.Log ask) result }
     {
         let NodeId::Log { epoch, index } = to else {
             return Err(DirectoryFault::NotAsked);
@@ -228,7 +258,7 @@ impl<C: Node<Plain = Cell> + Drop, L: Node<Plain = Log> + Drop> Directory<C, L> 
         to: NodeId,
         ask: SeqAsk,
     ) -> Result<(Stamp, Tell), DirectoryFault>
-        ensures { IsAnswered C L (length self.now.cells.items) stamp from to (asked.Seq ask) result }
+        ensures { IsAnswered C L (places_of self.now) stamp from to (asked.Seq ask) result }
     {
         let NodeId::Sequencer { epoch } = to else {
             return Err(DirectoryFault::NotAsked);
@@ -255,7 +285,9 @@ impl<C: Node<Plain = Cell> + Drop, L: Node<Plain = Log> + Drop> Directory<C, L> 
     ) -> Result<Stamp, DirectoryFault>
         ensures above { IfOk result (λ at. stamp < at) }
         ensures kind { (result ≡ Err DirectoryFault.NotAsked) ↔ (answers node ≡ false) }
-        ensures there { (result ≡ Err DirectoryFault.NotThere) → may_lack (length self.now.cells.items) node ≡ true }
+        ensures there { (result ≡ Err DirectoryFault.NotThere) → may_lack (places_of self.now) node ≡ true }
+        ensures lacking { must_lack (places_of self.now) node ≡ true → answers node ≡ true
+            → result ≡ Err DirectoryFault.NotThere }
         ensures crashed { IfOk result (λ at. IsCrash C L stamp node (Ok at)) }
         ensures uncrashed { IfErr result (IsUncrashed (IsCrash C L stamp node)) }
     {
@@ -276,7 +308,7 @@ impl<C: Node<Plain = Cell> + Drop, L: Node<Plain = Log> + Drop> Directory<C, L> 
         stamp: Stamp,
         index: u8,
     ) -> Result<Stamp, DirectoryFault>
-        ensures { IsCrashAnswered C L (length self.now.cells.items) stamp (node.Cell index) result }
+        ensures { IsCrashAnswered C L (places_of self.now) stamp (node.Cell index) result }
     {
         match self.cell(index) {
             Some(cell) => match cell.crash(rt, alloc, stamp) {
@@ -294,7 +326,7 @@ impl<C: Node<Plain = Cell> + Drop, L: Node<Plain = Log> + Drop> Directory<C, L> 
         stamp: Stamp,
         id: LogId,
     ) -> Result<Stamp, DirectoryFault>
-        ensures { IsCrashAnswered C L (length self.now.cells.items) stamp (node.Log id.epoch id.index) result }
+        ensures { IsCrashAnswered C L (places_of self.now) stamp (node.Log id.epoch id.index) result }
     {
         match self.log(id) {
             Some((log, there)) => match log.crash(rt, alloc, stamp.max(there)) {
@@ -312,7 +344,7 @@ impl<C: Node<Plain = Cell> + Drop, L: Node<Plain = Log> + Drop> Directory<C, L> 
         stamp: Stamp,
         epoch: Epoch,
     ) -> Result<Stamp, DirectoryFault>
-        ensures { IsCrashAnswered C L (length self.now.cells.items) stamp (node.Sequencer epoch) result }
+        ensures { IsCrashAnswered C L (places_of self.now) stamp (node.Sequencer epoch) result }
     {
         match self.sequencer(epoch) {
             Some((sequencer, there)) => match sequencer.crash(rt, alloc, stamp.max(there)) {
@@ -325,23 +357,23 @@ impl<C: Node<Plain = Cell> + Drop, L: Node<Plain = Log> + Drop> Directory<C, L> 
 
     /// The journals of the nodes, each closed with its node's state: the cells' first, then epoch by epoch the logs' and
     /// the sequencer's. A node that stands failed is opened again for it. Journals of later epochs in which nothing was
-    /// entered are left out.
+    /// entered are left out, so there are at least those of the start.
     pub fn into_journals(self, alloc: Global) -> Result<Vec<Journal>, NodeFault>
         ensures answers { IfOk result (λ journals. all_answer journals.items ≡ true) }
-        ensures cells { IfOk result (λ journals. length self.cells.items ≤ length journals.items) }
+        ensures start { IfOk result (λ journals. (places_of self).cells + ((places_of self).logs + 1)
+            ≤ length journals.items) }
         ensures trouble { IfErr result (λ fault. IsClosingTrouble C.CanMeet fault ⊎ IsClosingTrouble L.CanMeet fault) }
     {
         let Directory {
             cells,
-            start: _,
             first,
             later,
         } = self;
         let mut journals = Vec::new(alloc);
         close_all(alloc, cells, true, &mut journals)?;
-        first.close(alloc, true, &mut journals)?;
+        first.close(alloc, &mut journals)?;
         for nodes in later {
-            nodes.close(alloc, false, &mut journals)?;
+            nodes.close(alloc, &mut journals)?;
         }
         Ok(journals)
     }

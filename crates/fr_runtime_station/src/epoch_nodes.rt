@@ -1,12 +1,12 @@
-//! The logs and the sequencer of an epoch.
-ghost use Rattle.std.specs.Prelude.{◌≡◌, ◌≤◌, length, IfErr, OnOk, true};
+//! The logs and the sequencer of an epoch that may come.
+ghost use Rattle.std.specs.Prelude.{◌≡◌, ◌≤◌, length, map, IfErr, IfOk, OnOk, true};
 ghost use Rattle.fr_runtime_station.specs.Answering.{IsClosingTrouble, all_answer};
 
 use crate::chosen::Chosen;
 use crate::closing::{close, close_all};
 use crate::station::Station;
 use fr_audit_journal::Journal;
-use fr_base::{Epoch, InMemory, Node, NodeFault, Stamp};
+use fr_base::{Epoch, InMemory, Memory, Node, NodeFault, Stamp};
 use fr_log::Log;
 use fr_proxy::Sequencer;
 use std::alloc::Global;
@@ -26,8 +26,8 @@ struct Opened {
     chosen: Chosen,
 }
 
-/// The logs of an epoch, as many as its generation has, and its sequencer. Each come once: until then no thread finds
-/// them, and from then on each does, and waits for nobody.
+/// The logs of an epoch that may come, as many as its generation has, and its sequencer. Each come once: until then no
+/// thread finds them, and from then on each does, and waits for nobody.
 #[derive(Drop)]
 pub(crate) struct EpochNodes<L: Node<Plain = Log>> {
     epoch: Epoch,
@@ -35,28 +35,29 @@ pub(crate) struct EpochNodes<L: Node<Plain = Log>> {
     opened: OnceLock<Opened>,
 }
 
+/// Those of epochs that may come, in their order.
+pub(crate) fn all_to_come<L: Node<Plain = Log> + Drop>(
+    alloc: Global,
+    epochs: &[Epoch],
+) -> Result<Vec<EpochNodes<L>>, Memory>
+    ensures { IfOk result (λ all. map (λ nodes. nodes.epoch) all.items ≡ epochs.now) }
+{
+    let mut all = Vec::with_capacity(alloc, epochs.len())?;
+    for epoch in epochs {
+        all.push(EpochNodes::to_come(*epoch))?;
+    }
+    Ok(all)
+}
+
 impl<L: Node<Plain = Log> + Drop> EpochNodes<L> {
     /// Those of an epoch that may come, of which none is there.
-    pub(crate) fn to_come(epoch: Epoch) -> Self {
+    pub(crate) fn to_come(epoch: Epoch) -> Self
+        ensures { result.epoch ≡ epoch }
+    {
         EpochNodes {
             epoch,
             logs: OnceLock::new(),
             opened: OnceLock::new(),
-        }
-    }
-
-    /// Those of a generation that is there from the start.
-    pub(crate) fn started(
-        stations: Vec<Station<L>>,
-        sequencer: Station<InMemory<Sequencer>>,
-        chosen: &Chosen,
-    ) -> Self {
-        let stamp = chosen.stamp;
-        let chosen = *chosen;
-        EpochNodes {
-            epoch: chosen.generation.epoch(),
-            logs: OnceLock::from(Logs { stations, stamp }),
-            opened: OnceLock::from(Opened { sequencer, chosen }),
         }
     }
 
@@ -83,28 +84,17 @@ impl<L: Node<Plain = Log> + Drop> EpochNodes<L> {
         let _ = self.opened.set(rt, Opened { sequencer, chosen });
     }
 
-    /// The log of a number, once it is there.
-    pub(crate) fn log(&self, index: u8) -> Option<&Station<L>> {
+    /// The log of a number, once it is there, with the stamp from which on it is.
+    pub(crate) fn log(&self, index: u8) -> Option<(&Station<L>, Stamp)> {
         let logs = self.logs.get()?;
-        logs.stations.get(usize::from(index))
+        let log = logs.stations.get(usize::from(index))?;
+        Some((log, logs.stamp))
     }
 
-    /// The stamp from which on the logs are there, once they are.
-    pub(crate) fn seeded_at(&self) -> Option<Stamp> {
-        let logs = self.logs.get()?;
-        Some(logs.stamp)
-    }
-
-    /// The sequencer, once it is there.
-    pub(crate) fn sequencer(&self) -> Option<&Station<InMemory<Sequencer>>> {
+    /// The sequencer, once it is there, with the stamp from which on it is.
+    pub(crate) fn sequencer(&self) -> Option<(&Station<InMemory<Sequencer>>, Stamp)> {
         let opened = self.opened.get()?;
-        Some(&opened.sequencer)
-    }
-
-    /// The stamp from which on the sequencer is there, once it is.
-    pub(crate) fn chosen_at(&self) -> Option<Stamp> {
-        let opened = self.opened.get()?;
-        Some(opened.chosen.stamp)
+        Some((&opened.sequencer, opened.chosen.stamp))
     }
 
     /// The generation, once its state is chosen.
@@ -113,14 +103,8 @@ impl<L: Node<Plain = Log> + Drop> EpochNodes<L> {
         Some(opened.chosen)
     }
 
-    /// Puts the closed journals of those that came behind others: of each, or of those alone in which something was
-    /// entered.
-    pub(crate) fn close(
-        self,
-        alloc: Global,
-        is_each: bool,
-        journals: &mut Vec<Journal>,
-    ) -> Result<(), NodeFault>
+    /// Puts the closed journals of those that came behind others, where something was entered.
+    pub(crate) fn close(self, alloc: Global, journals: &mut Vec<Journal>) -> Result<(), NodeFault>
         requires before { all_answer journals.old.items ≡ true }
         ensures answers { OnOk result (all_answer journals.new.items ≡ true) }
         ensures more { OnOk result (length journals.old.items ≤ length journals.new.items) }
@@ -132,10 +116,10 @@ impl<L: Node<Plain = Log> + Drop> EpochNodes<L> {
             opened,
         } = self;
         if let Some(logs) = logs.into_inner() {
-            close_all(alloc, logs.stations, is_each, journals)?;
+            close_all(alloc, logs.stations, false, journals)?;
         }
         if let Some(opened) = opened.into_inner() {
-            close(alloc, opened.sequencer, is_each, journals)?;
+            close(alloc, opened.sequencer, false, journals)?;
         }
         Ok(())
     }

@@ -8,6 +8,7 @@ mod directory;
 mod directory_fault;
 mod epoch_nodes;
 mod faults;
+mod first_nodes;
 mod station;
 
 pub use chosen::{Chosen, first_stamp};

@@ -149,11 +149,14 @@ fn answers<R: Wait>(
     asked(rt, alloc, directory, 3, NodeId::Log { epoch, index }, epoch)
 }
 
-/// Logs of a later epoch answer nothing until they are there, and from then on above the stamp at which they came.
+/// Logs of the start answer at once, one more than there are never, nor one of an epoch that may not come. Those of a
+/// later epoch answer nothing until they are there, and from then on above the stamp at which they came.
 fn logs_come<R: Wait + Abort>(rt: &R, alloc: Global, directory: &Plain) -> Result<(), Fail> {
     let later = epoch(513)?;
     let absent = DirectoryFault::NotThere;
     assert!(rt; answers(rt, alloc, directory, epoch(257)?, 0)? == Ok(4));
+    assert!(rt; answers(rt, alloc, directory, epoch(257)?, 2)? == Err(absent));
+    assert!(rt; answers(rt, alloc, directory, epoch(1025)?, 0)? == Err(absent));
     assert!(rt; answers(rt, alloc, directory, later, 0)? == Err(absent));
     directory.publish_logs(rt, later, logs(alloc, later)?, stamp(8)?);
     assert!(rt; answers(rt, alloc, directory, later, 1)? == Ok(9));

@@ -1,0 +1,76 @@
+//! The logs and the sequencer of the first generation.
+ghost use Rattle.std.specs.Prelude.{◌≡◌, ◌≤◌, ◌+◌, ◌↔◌, length, IfErr, None, OnOk, true};
+ghost use Rattle.fr_runtime_station.specs.Answering.{IsClosingTrouble, all_answer};
+
+use crate::chosen::Chosen;
+use crate::closing::{close, close_all};
+use crate::station::Station;
+use fr_audit_journal::Journal;
+use fr_base::{InMemory, Node, NodeFault};
+use fr_log::Log;
+use fr_proxy::Sequencer;
+use std::alloc::Global;
+
+/// The logs and the sequencer of the generation with which a cluster starts. They are there from the start, so nothing
+/// is written here while threads run.
+#[derive(Drop)]
+pub(crate) struct FirstNodes<L: Node<Plain = Log>> {
+    chosen: Chosen,
+    logs: Vec<Station<L>>,
+    sequencer: Station<InMemory<Sequencer>>,
+}
+
+impl<L: Node<Plain = Log> + Drop> FirstNodes<L> {
+    /// Those of a generation that is chosen from the start.
+    pub(crate) fn new(
+        chosen: Chosen,
+        logs: Vec<Station<L>>,
+        sequencer: Station<InMemory<Sequencer>>,
+    ) -> Self
+        ensures chosen { result.chosen ≡ chosen }
+        ensures logs { result.logs.items ≡ logs.items }
+    {
+        FirstNodes {
+            chosen,
+            logs,
+            sequencer,
+        }
+    }
+
+    /// The generation.
+    pub(crate) fn chosen(&self) -> Chosen
+        ensures { result ≡ self.now.chosen }
+    {
+        self.chosen
+    }
+
+    /// The log of a number.
+    pub(crate) fn log(&self, index: u8) -> Option<&Station<L>>
+        ensures { (result ≡ None) ↔ (length self.now.logs.items ≤ index) }
+    {
+        self.logs.get(usize::from(index))
+    }
+
+    /// The sequencer.
+    pub(crate) fn sequencer(&self) -> &Station<InMemory<Sequencer>> {
+        &self.sequencer
+    }
+
+    /// Puts their closed journals behind others, of each one.
+    pub(crate) fn close(self, alloc: Global, journals: &mut Vec<Journal>) -> Result<(), NodeFault>
+        requires before { all_answer journals.old.items ≡ true }
+        ensures answers { OnOk result (all_answer journals.new.items ≡ true) }
+        ensures each { OnOk result (length journals.new.items
+            ≡ length journals.old.items + (length self.logs.items + 1)) }
+        ensures trouble { IfErr result (IsClosingTrouble L.CanMeet) }
+    {
+        let FirstNodes {
+            chosen: _,
+            logs,
+            sequencer,
+        } = self;
+        close_all(alloc, logs, true, journals)?;
+        close(alloc, sequencer, true, journals)?;
+        Ok(())
+    }
+}
