@@ -12,7 +12,7 @@ use pushes::{begin, list};
 use std::time::{Duration, Instant};
 
 /// How many pushes are served.
-const COUNTS: [u64; 3] = [1, 8, 64];
+static COUNTS: [u64; 3] = [1, 8, 64];
 
 /// The syncs of a log that is made, and serves its seed and its mark at once.
 const BEFORE: u64 = 3;
@@ -52,7 +52,7 @@ fn asked(words: &[String]) -> anyhow::Result<Option<Words>> {
 }
 
 fn counted(rt: &HostRuntime) -> anyhow::Result<()> {
-    for count in COUNTS {
+    for &count in &COUNTS {
         let once = cost_of(rt, 0, 1, count)?.syncs;
         let apart = cost_of(rt, 0, count, 1)?.syncs;
         println!(rt; "{count} pushes: {once} syncs at once, {apart} one by one")?;
@@ -61,7 +61,7 @@ fn counted(rt: &HostRuntime) -> anyhow::Result<()> {
 }
 
 fn timed(rt: &HostRuntime, words: Words) -> anyhow::Result<()> {
-    for count in COUNTS {
+    for &count in &COUNTS {
         let times = words.times;
         let once = cost_of(rt, words.wait, times, count)?.micros;
         let apart = cost_of(rt, words.wait, times.saturating_mul(count), 1)?.micros;

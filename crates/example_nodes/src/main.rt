@@ -11,7 +11,7 @@ mod world;
 use anyhow::bail;
 
 /// The examples, in the order in which they run where none is named.
-const EXAMPLES: [&str; 4] = ["log", "pops", "asks", "world"];
+static EXAMPLES: [&str; 4] = ["log", "pops", "asks", "world"];
 
 /// Runs each example under a line with its name. With words the first one names the example that runs, and the others
 /// are for it.
@@ -24,7 +24,7 @@ fn main(rt: HostRuntime) -> anyhow::Result<()> {
 }
 
 fn all(rt: &HostRuntime) -> anyhow::Result<()> {
-    for name in EXAMPLES {
+    for &name in &EXAMPLES {
         println!(rt; "== {name}")?;
         one(rt, name, &[])?;
     }

@@ -6,7 +6,7 @@ use std::alloc::Global;
 use std::process::Abort;
 use std::test::Fail;
 
-const TEXTS: [&str; 9] = [
+static TEXTS: [&str; 9] = [
     r#""#,
     r#"{"config""#,
     r#"null"#,
@@ -18,7 +18,7 @@ const TEXTS: [&str; 9] = [
     r#"{"config":{"coordinators":1,"degree":1,"logs":1,"proxies":1,"shards":[""]},"journals":[],"more":0}"#,
 ];
 
-const CONFIGS: [&str; 8] = [
+static CONFIGS: [&str; 8] = [
     r#"{"coordinators":2,"degree":1,"logs":1,"proxies":1,"shards":[""]}"#,
     r#"{"coordinators":1,"degree":2,"logs":1,"proxies":1,"shards":[""]}"#,
     r#"{"coordinators":1,"degree":1,"logs":17,"proxies":1,"shards":[""]}"#,
@@ -29,7 +29,7 @@ const CONFIGS: [&str; 8] = [
     r#"{"coordinators":1,"degree":1,"logs":1,"proxies":1}"#,
 ];
 
-const ASKS: [&str; 59] = [
+static ASKS: [&str; 59] = [
     r#"{}"#,
     r#"null"#,
     r#"{"cell":{}}"#,
@@ -91,7 +91,7 @@ const ASKS: [&str; 59] = [
     r#"{"seq":{"last":{"proxy":0,"request":1,"step":1}}}"#,
 ];
 
-const TELLS: [&str; 41] = [
+static TELLS: [&str; 41] = [
     r#"{"cell":{"two_values":null}}"#,
     r#"{"cell":{"two_values":{"why":0}}}"#,
     r#"{"log":{"seeded":[]}}"#,
@@ -135,7 +135,7 @@ const TELLS: [&str; 41] = [
     r#"{"seq":{"numbered":{"prev":1,"request":0,"version":2}}}"#,
 ];
 
-const ACTS: [&str; 37] = [
+static ACTS: [&str; 37] = [
     r#""begun""#,
     r#"{"begun":null}"#,
     r#"{"begun":[]}"#,
@@ -175,7 +175,7 @@ const ACTS: [&str; 37] = [
     r#"{"submitted":{"batch":[],"step":1,"z":0}}"#,
 ];
 
-const NODES: [&str; 8] = [
+static NODES: [&str; 8] = [
     r#"{"cell":{"index":9}}"#,
     r#"{"log":{"epoch":257,"index":16}}"#,
     r#"{"log":{"index":0}}"#,
@@ -186,7 +186,7 @@ const NODES: [&str; 8] = [
     r#"{"storage":0}"#,
 ];
 
-const LASTS: [&str; 8] = [
+static LASTS: [&str; 8] = [
     r#"{}"#,
     r#"{"log":{"durable":0,"known":0,"seeded":0,"stopped":false}}"#,
     r#"{"recoverer":{"phase":null}}"#,
@@ -197,7 +197,7 @@ const LASTS: [&str; 8] = [
     r#"{"log":{"durable":0,"known":0,"popped":[[1,0],[0,0]],"seeded":true,"stopped":false}}"#,
 ];
 
-const ENTRIES: [&str; 8] = [
+static ENTRIES: [&str; 8] = [
     r#"{"act":{"begun":{}},"stamp":1099511627776}"#,
     r#"{"act":{"begun":{}}}"#,
     r#"{"act":{"begun":{}},"stamp":1},{"act":{"begun":{}},"stamp":1}"#,
@@ -208,7 +208,7 @@ const ENTRIES: [&str; 8] = [
     r#"{"act":{"submitted":{"batch":[],"step":1}},"stamp":1,"z":0}"#,
 ];
 
-const JOURNALS: [&str; 2] = ["{}", r#"{"entries":[],"last":null}"#];
+static JOURNALS: [&str; 2] = ["{}", r#"{"entries":[],"last":null}"#];
 
 fn is_bad(alloc: Global, text: &[u8]) -> bool {
     match read_script(alloc, text) {

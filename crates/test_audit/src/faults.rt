@@ -6,7 +6,7 @@ use std::process::Abort;
 use std::test::Fail;
 
 /// The script of the whole run with a text changed, which stands in it once, and the line.
-const CHANGES: [(&str, &str, &str); 19] = [
+static CHANGES: [(&str, &str, &str); 19] = [
     (
         r#""upto":1}}}}},"stamp":1"#,
         r#""upto":2}}}}},"stamp":1"#,
@@ -97,7 +97,7 @@ const CHANGES: [(&str, &str, &str); 19] = [
 ];
 
 /// The same with two texts changed: the first fault is named.
-const TWO_CHANGES: [(&str, &str, &str, &str, &str); 5] = [
+static TWO_CHANGES: [(&str, &str, &str, &str, &str); 5] = [
     (
         r#""upto":1}}}}},"stamp":1"#,
         r#""upto":2}}}}},"stamp":1"#,
@@ -137,7 +137,7 @@ const TWO_CHANGES: [(&str, &str, &str, &str, &str); 5] = [
 
 /// Two nodes may have one stamp, and then come in the order of nodes: the log before the storage server, the sequencer
 /// before the proxy.
-const STAMPS: [(&str, &str, &str); 4] = [
+static STAMPS: [(&str, &str, &str); 4] = [
     (r#""stamp":2"#, r#""stamp":1"#, "0 audit ok\n"),
     (r#""stamp":5"#, r#""stamp":4"#, "0 audit ok\n"),
     (r#""stamp":3"#, r#""stamp":4"#, "1 not a run at 2\n"),
@@ -145,7 +145,7 @@ const STAMPS: [(&str, &str, &str); 4] = [
 ];
 
 /// A journal of a node that the world lacks, or of which nothing is said at last.
-const STRANGERS: [(&str, &str); 10] = [
+static STRANGERS: [(&str, &str); 10] = [
     (
         r#"{"entries":[],"last":null,"node":{"cell":{"index":0}}}"#,
         "1 state differs at cell 0\n",
@@ -189,7 +189,7 @@ const STRANGERS: [(&str, &str); 10] = [
 ];
 
 /// Acts of the wrong kind: no node of this kind does such a thing.
-const WRONG_KINDS: [&str; 8] = [
+static WRONG_KINDS: [&str; 8] = [
     r#"{"entries":[{"act":{"submitted":{"batch":[],"step":1}},"stamp":9}],"last":null,"node":{"cell":{"index":0}}}"#,
     r#"{"entries":[{"act":{"lost":{}},"stamp":9}],"last":null,"node":{"cell":{"index":0}}}"#,
     r#"{"entries":[{"act":{"begun":{}},"stamp":9}],"last":null,"node":{"sequencer":{"epoch":257}}}"#,
@@ -288,7 +288,7 @@ fn acts_of_the_wrong_kind_are_no_run(rt: HostRuntime) -> Result<(), Fail> {
 }
 
 /// A crash at a stamp, and the line.
-const PLACES: [(u8, &str); 3] = [
+static PLACES: [(u8, &str); 3] = [
     (1, "1 not a run at 1\n"),
     (2, "0 audit ok\n"),
     (9, "0 audit ok\n"),
@@ -315,7 +315,7 @@ fn places_are_taken_once(rt: HostRuntime) -> Result<(), Fail> {
 }
 
 /// The only journal of a script, or none, and the line.
-const ALONE: [(&str, &str); 5] = [
+static ALONE: [(&str, &str); 5] = [
     ("", "0 audit ok\n"),
     (LOG, "0 audit ok\n"),
     (STORAGE, "1 not a run at 0\n"),

@@ -6,7 +6,7 @@ use std::alloc::Global;
 use std::process::Abort;
 use std::test::Fail;
 
-const ASKS: [&str; 14] = [
+static ASKS: [&str; 14] = [
     r#"{"cell":{"read":{"ballot":0}}}"#,
     r#"{"cell":{"write":{"ballot":281474976710655,"value":"00ff"}}}"#,
     r#"{"log":{"seed":{"epoch":256,"first":1,"records":[],"seeded_to":0}}}"#,
@@ -23,7 +23,7 @@ const ASKS: [&str; 14] = [
     r#"{"log":{"push":{"bodies":[],"epoch":513,"known":4,"mark":{"dropped":512,"gens":[{"epoch":513,"first":5,"k":16,"m":16,"seeded_to":7}]},"prev":7,"version":8}}}"#,
 ];
 
-const TELLS: [&str; 31] = [
+static TELLS: [&str; 31] = [
     r#"{"cell":{"promise":{"value":"","written":0}}}"#,
     r#"{"cell":{"promise":{"value":"79","written":513}}}"#,
     r#"{"cell":{"written":{"ballot":513}}}"#,
@@ -57,7 +57,7 @@ const TELLS: [&str; 31] = [
     r#"{"log":{"marked":{"state":{"dropped":1,"gens":[{"epoch":513,"first":3,"k":2,"m":2,"seeded_to":3},{"epoch":769,"first":3,"k":2,"m":2,"seeded_to":4}]}}}}"#,
 ];
 
-const ACTS: [&str; 12] = [
+static ACTS: [&str; 12] = [
     r#"{"heard":{"from":{"log":{"epoch":257,"index":15}},"outcome":null,"taken":3,"tell":{"log":{"seeded":{}}}}}"#,
     r#"{"heard":{"from":{"cell":{"index":8}},"outcome":{"waiting":{}},"taken":null,"tell":{"log":{"seeded":{}}}}}"#,
     r#"{"heard":{"from":{"cell":{"index":0}},"outcome":{"committed":{"version":2}},"taken":null,"tell":{"log":{"seeded":{}}}}}"#,
@@ -72,7 +72,7 @@ const ACTS: [&str; 12] = [
     r#"{"lost":{}}"#,
 ];
 
-const NODES: [&str; 8] = [
+static NODES: [&str; 8] = [
     r#"{"cell":{"index":8}}"#,
     r#"{"log":{"epoch":256,"index":15}}"#,
     r#"{"sequencer":{"epoch":257}}"#,
@@ -83,7 +83,7 @@ const NODES: [&str; 8] = [
     r#"{"storage":{"tag":31}}"#,
 ];
 
-const LASTS: [&str; 10] = [
+static LASTS: [&str; 10] = [
     r#"null"#,
     r#"{"cell":{"promised":513,"value":"0a","written":0}}"#,
     r#"{"log":{"durable":0,"known":0,"seeded":false,"stopped":false}}"#,
@@ -96,7 +96,7 @@ const LASTS: [&str; 10] = [
     r#"{"log":{"durable":4,"known":3,"popped":[[1,3],[2,0]],"seeded":true,"stopped":true}}"#,
 ];
 
-const CONFIGS: [&str; 3] = [
+static CONFIGS: [&str; 3] = [
     CONFIG,
     r#"{"coordinators":9,"degree":16,"logs":16,"proxies":16,"shards":["","61","ff"]}"#,
     r#"{"coordinators":3,"degree":1,"logs":2,"proxies":2,"shards":["","00"]}"#,
@@ -141,7 +141,7 @@ fn configs_are_written_as_read(rt: HostRuntime) -> Result<(), Fail> {
 
 /// The script of a cell that was lost, spelled in other ways: all in another order; the entry alone; with a member that
 /// stands there twice.
-const SPELLED: [&str; 3] = [
+static SPELLED: [&str; 3] = [
     r#" { "journals" : [ { "node":{"cell":{"index":7,"index":0}}, "last":null,
           "entries":[ {"stamp":7,"act":{"lost":{}},"stamp":1} ] } ],
         "config":{"shards":[""],"proxies":1,"logs":1,"degree":1,"co\u006frdinators":1} } "#,

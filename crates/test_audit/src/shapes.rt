@@ -27,7 +27,7 @@ const HEARS: &str =
 /// With which shape the recoverer began, and the line. Where there is but one new log the seed of the second one, the
 /// entry of number 8, comes to no node; with another shape than that of the state, or with seeds left, the write of it,
 /// of number 11, was never sent.
-const SHAPES: [(&str, &str); 7] = [
+static SHAPES: [(&str, &str); 7] = [
     (r#"{"degree":1,"logs":2}"#, "0 audit ok\n"),
     (r#"{}"#, "1 not a run at 8\n"),
     (r#"{"degree":1,"logs":1}"#, "1 not a run at 8\n"),

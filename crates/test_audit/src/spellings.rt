@@ -9,7 +9,7 @@ use std::test::Fail;
 
 /// What is asked, as it is written, and another spelling: in another order, with blanks, with escapes, with a member
 /// that stands there twice.
-const ASKS: [(&str, &str); 16] = [
+static ASKS: [(&str, &str); 16] = [
     (
         r#"{"log":{"push":{"bodies":[[2,[{"set":{"key":"61","value":"01"}}]]],"epoch":257,"known":7,"mark":null,"prev":7,"version":8}}}"#,
         r#"{"log":{"push":{"version":8,"prev":7,"mark":null,"known":7,"epoch":257,"bodies":[[2,[{"set":{"value":"01","key":"61"}}]]]}}}"#,
@@ -77,7 +77,7 @@ const ASKS: [(&str, &str); 16] = [
 ];
 
 /// What is told.
-const TELLS: [(&str, &str); 10] = [
+static TELLS: [(&str, &str); 10] = [
     (
         r#"{"log":{"held":{"version":2}}}"#,
         r#"{"log":{"held":{"version":3,"version":2}}}"#,
@@ -121,7 +121,7 @@ const TELLS: [(&str, &str); 10] = [
 ];
 
 /// What is done.
-const ACTS: [(&str, &str); 6] = [
+static ACTS: [(&str, &str); 6] = [
     (
         r#"{"asked":{"ask":{"log":{"pop":{"epoch":257,"tag":1,"through":2}}},"from":{"storage":{"tag":1}},"tell":{"log":{"popped":{"through":2}}}}}"#,
         r#"{"asked":{"tell":{"log":{"popped":{"through":2}}},"from":{"storage":{"tag":1}},"ask":{"log":{"pop":{"epoch":257,"tag":1,"through":2}}}}}"#,
@@ -149,7 +149,7 @@ const ACTS: [(&str, &str); 6] = [
 ];
 
 /// Entries, of which one alone is spelled otherwise.
-const ENTRIES: [(&str, &str); 2] = [
+static ENTRIES: [(&str, &str); 2] = [
     (
         r#"{"act":{"crashed":{}},"stamp":1},{"act":{"submitted":{"batch":[],"step":1}},"stamp":2},{"act":{"lost":{}},"stamp":1099511627775}"#,
         r#"{"act":{"crashed":{}},"stamp":1},{"stamp":2,"act":{"submitted":{"batch":[],"step":1}}},{"act":{"lost":{}},"stamp":1099511627775}"#,

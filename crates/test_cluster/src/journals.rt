@@ -115,7 +115,7 @@ fn what_is_printed_is_read_back_and_is_a_run(rt: HostRuntime) -> Result<(), Fail
     Ok(())
 }
 
-const OTHERS: [ClusterWords; 5] = [
+static OTHERS: [ClusterWords; 5] = [
     ClusterWords {
         coordinators: 4,
         ..DEFAULTS

@@ -8,7 +8,7 @@ use std::process::Abort;
 use std::test::Fail;
 
 /// Where the shard of each batch begins, and the batch's number.
-const GIVEN: [(u8, u8); 5] = [(0, 0), (8, 1), (16, 2), (0, 3), (8, 4)];
+static GIVEN: [(u8, u8); 5] = [(0, 0), (8, 1), (16, 2), (0, 3), (8, 4)];
 
 fn wanted(alloc: Global, begin: u8, number: u8) -> Result<Mutation, Fail> {
     let key = Bytes::from_slice(alloc, &[begin, 5])?;

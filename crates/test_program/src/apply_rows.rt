@@ -1,10 +1,11 @@
 //! Scripts of `apply` with their lines, which are the same on a map and on the tables of a database.
 use crate::ended::run;
+use crate::memory::Device;
 use std::alloc::{AllocError, Global};
 use std::sync::Wait;
 use std::thread::Threads;
 
-const ROWS: [(&str, &str); 7] = [
+static ROWS: [(&str, &str); 7] = [
     (
         "{\"ops\":[{\"advance\":{\"version\":4}},{\"apply\":{\"version\":5,\"batch\":[]}},{\"undo\":{\"to\":4}}]}",
         "ok 4 floor 0 undo 0\nok 5 floor 0 undo 0\nok 4 floor 0 undo 0\n",
@@ -41,10 +42,10 @@ fn prints_all<H: Threads + Wait + Sync>(
     alloc: Global,
     line: &str,
 ) -> Result<bool, AllocError> {
-    for (script, lines) in ROWS {
-        let mut written = Vec::new(alloc);
+    for &(script, lines) in &ROWS {
+        let mut written = Device::whole(Vec::new(alloc));
         let ending = run(rt, alloc, line, script.as_bytes(), &mut written)?;
-        if ending.status() != 0 || written.as_slice() != lines.as_bytes() {
+        if ending.status() != 0 || written.bytes.as_slice() != lines.as_bytes() {
             return Ok(false);
         }
     }
@@ -52,14 +53,14 @@ fn prints_all<H: Threads + Wait + Sync>(
 }
 
 /// A store in a map, and one in tables.
-const LINES: [&str; 2] = ["fdbrec apply --store map", "fdbrec apply --store sql"];
+static LINES: [&str; 2] = ["fdbrec apply --store map", "fdbrec apply --store sql"];
 
 /// The first store, if there is one, that does not print this.
 pub(crate) fn first_wrong<H: Threads + Wait + Sync>(
     rt: &H,
     alloc: Global,
 ) -> Result<Option<&'static str>, AllocError> {
-    for line in LINES {
+    for &line in &LINES {
         if !prints_all(rt, alloc, line)? {
             return Ok(Some(line));
         }

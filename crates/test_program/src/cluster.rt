@@ -20,7 +20,7 @@ const MOST: ClusterWords = ClusterWords {
 };
 
 /// Lines with the kind of store and the numbers that they choose.
-const CLUSTERS: [(&str, StoreKind, ClusterWords); 6] = [
+static CLUSTERS: [(&str, StoreKind, ClusterWords); 6] = [
     ("fdbrec cluster", StoreKind::Map, DEFAULTS),
     (
         "fdbrec cluster --turns=10000 --proxies 2",
@@ -56,7 +56,7 @@ fn chooses_cluster(
 
 /// The first line, if there is one, that does not choose its cluster.
 pub(crate) fn first_cluster(alloc: Global) -> Result<Option<&'static str>, AllocError> {
-    for (line, kind, words) in CLUSTERS {
+    for &(line, kind, words) in &CLUSTERS {
         if !chooses_cluster(alloc, line, kind, words)? {
             return Ok(Some(line));
         }
@@ -64,7 +64,7 @@ pub(crate) fn first_cluster(alloc: Global) -> Result<Option<&'static str>, Alloc
     Ok(None)
 }
 
-const REFUSED: [(&str, ErrorKind); 24] = [
+static REFUSED: [(&str, ErrorKind); 24] = [
     (
         "fdbrec cluster --coordinators=2",
         ErrorKind::ValueValidation,
@@ -108,7 +108,7 @@ const REFUSED: [(&str, ErrorKind); 24] = [
 
 /// The first line, if there is one, that is not refused for its reason.
 pub(crate) fn first_refused(alloc: Global) -> Result<Option<&'static str>, AllocError> {
-    for (line, kind) in REFUSED {
+    for &(line, kind) in &REFUSED {
         if !is_refused(alloc, line, kind)? {
             return Ok(Some(line));
         }

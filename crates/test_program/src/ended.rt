@@ -1,6 +1,6 @@
 //! How a program ends, and what it writes.
-use crate::words::words_of;
-use fr_cli::{Ending, run_program};
+use crate::memory::{Device, run_line};
+use fr_cli::Ending;
 use fr_cli_json::CliFault;
 use std::alloc::{AllocError, Global};
 use std::sync::Wait;
@@ -31,18 +31,10 @@ pub(crate) fn run<H: Threads + Wait + Sync>(
     alloc: Global,
     line: &str,
     input: &[u8],
-    writer: &mut Vec<u8>,
+    writer: &mut Device,
 ) -> Result<Ending, AllocError> {
-    let words = words_of(alloc, line)?;
-    let mut reader = input;
-    Ok(run_program(
-        rt,
-        None::<&HostRuntime>,
-        alloc,
-        words.as_slice(),
-        &mut reader,
-        writer,
-    ))
+    let mut reader = Device::whole(input.to_vec(alloc)?);
+    run_line(rt, alloc, line, &mut reader, writer)
 }
 
 fn how_of(ending: &Ending) -> How {
@@ -56,16 +48,16 @@ fn how_of(ending: &Ending) -> How {
 
 /// Whether a program ends as its row says.
 fn ends<H: Threads + Wait + Sync>(rt: &H, alloc: Global, row: Row) -> Result<bool, AllocError> {
-    let mut written = Vec::new(alloc);
+    let mut written = Device::whole(Vec::new(alloc));
     let ending = run(rt, alloc, row.line, row.input.as_bytes(), &mut written)?;
     Ok(
         how_of(&ending) == row.how
             && ending.status() == row.status
-            && written.as_slice() == row.writes.as_bytes(),
+            && written.bytes.as_slice() == row.writes.as_bytes(),
     )
 }
 
-const ROWS: [Row; 18] = [
+static ROWS: [Row; 18] = [
     Row {
         line: "fdbrec apply",
         input: "{\"ops\":[{\"advance\":{\"version\":4}}]}",
@@ -199,7 +191,7 @@ pub(crate) fn first_wrong<H: Threads + Wait + Sync>(
     rt: &H,
     alloc: Global,
 ) -> Result<Option<&'static str>, AllocError> {
-    for row in ROWS {
+    for &row in &ROWS {
         if !ends(rt, alloc, row)? {
             return Ok(Some(row.line));
         }
@@ -208,7 +200,7 @@ pub(crate) fn first_wrong<H: Threads + Wait + Sync>(
 }
 
 /// Lines that ask for help, with what they show.
-const SHOWN: [(&str, &str); 31] = [
+static SHOWN: [(&str, &str); 31] = [
     ("fdbrec --version", "fdbrec 0.1.0 (rattle logic "),
     ("fdbrec apply --help", "undo"),
     ("fdbrec apply --help", "forget"),
@@ -249,9 +241,9 @@ fn shows<H: Threads + Wait + Sync>(
     line: &str,
     text: &str,
 ) -> Result<bool, AllocError> {
-    let mut written = Vec::new(alloc);
+    let mut written = Device::whole(Vec::new(alloc));
     let ending = run(rt, alloc, line, b"".as_slice(), &mut written)?;
-    Ok(ending.status() == 0 && has(written.as_slice(), text.as_bytes()))
+    Ok(ending.status() == 0 && has(written.bytes.as_slice(), text.as_bytes()))
 }
 
 /// Whether a text stands in another.
@@ -264,7 +256,7 @@ pub(crate) fn first_unshown<H: Threads + Wait + Sync>(
     rt: &H,
     alloc: Global,
 ) -> Result<Option<&'static str>, AllocError> {
-    for (line, text) in SHOWN {
+    for &(line, text) in &SHOWN {
         if !shows(rt, alloc, line, text)? {
             return Ok(Some(text));
         }
@@ -279,10 +271,10 @@ pub(crate) fn audits_a_cluster<H: Threads + Wait + Sync>(
     rt: &H,
     alloc: Global,
 ) -> Result<Option<&'static str>, AllocError> {
-    let mut script = Vec::new(alloc);
+    let mut script = Device::whole(Vec::new(alloc));
     let is_done = run(rt, alloc, CLUSTER, b"".as_slice(), &mut script)?.status() == 0;
-    let is_script = script.starts_with(b"{\"config\":".as_slice());
-    let is_run = is_audited(rt, alloc, script.as_slice())?;
+    let is_script = script.bytes.starts_with(b"{\"config\":".as_slice());
+    let is_run = is_audited(rt, alloc, script.bytes.as_slice())?;
     Ok(if is_done && is_script && is_run {
         None
     } else {
@@ -295,7 +287,7 @@ fn is_audited<H: Threads + Wait + Sync>(
     alloc: Global,
     script: &[u8],
 ) -> Result<bool, AllocError> {
-    let mut written = Vec::new(alloc);
+    let mut written = Device::whole(Vec::new(alloc));
     let ending = run(rt, alloc, "fdbrec audit", script, &mut written)?;
-    Ok(ending.status() == 0 && written.as_slice() == b"audit ok\n".as_slice())
+    Ok(ending.status() == 0 && written.bytes.as_slice() == b"audit ok\n".as_slice())
 }

@@ -1,7 +1,8 @@
 //! Runs each script `NAME.json` of the folder as the program does, with the words of `NAME.words` (`apply` where there
 //! is no such file), and compares what it prints with `NAME.out`, and the status that it ends with with that of
 //! `NAME.status` (0 where there is no such file). It prints a line for each.
-use fr_cli::{Ending, run_program};
+use crate::memory::{Device, run_words};
+use fr_cli::Ending;
 use std::alloc::{AllocError, Global};
 use std::sync::Wait;
 use std::thread::Threads;
@@ -53,17 +54,11 @@ fn holds<H: Threads + Wait + Sync>(
     let status = status_of(rt, alloc, name)?;
     let script = fs::read(rt, format!(in alloc; "{name}.json")?.as_str())?;
     let wanted = fs::read(rt, format!(in alloc; "{name}.out")?.as_str())?;
-    let mut printed = Vec::new(alloc);
-    let ending = run_program(
-        threads,
-        None::<&HostRuntime>,
-        alloc,
-        words.as_slice(),
-        &mut script.as_slice(),
-        &mut printed,
-    );
+    let mut reader = Device::whole(script);
+    let mut printed = Device::whole(Vec::new(alloc));
+    let ending = run_words(threads, alloc, words.as_slice(), &mut reader, &mut printed);
     let is_done = matches!(ending, Ending::Done(found) if Some(found) == status);
-    Ok(is_done && printed.as_slice() == wanted.as_slice())
+    Ok(is_done && printed.bytes.as_slice() == wanted.as_slice())
 }
 
 /// The status that a script is to end with; none where its file has no number.

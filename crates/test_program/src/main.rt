@@ -7,6 +7,7 @@ mod apply_rows;
 mod cluster;
 mod ended;
 mod examples;
+mod memory;
 mod slow;
 mod words;
 

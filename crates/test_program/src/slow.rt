@@ -1,11 +1,9 @@
 //! Each command with a reader and a writer of one byte a call, of which each call fails in turn; and the fronts of its
 //! script, none of which is a script.
-use crate::words::words_of;
-use fr_cli::{Ending, run_program};
+use crate::memory::{Device, run_line};
+use fr_cli::Ending;
 use fr_cli_json::CliFault;
 use std::alloc::{AllocError, Global};
-use std::io;
-use std::io::{Error, ErrorKind, Read, Write};
 use std::sync::Wait;
 use std::thread::Threads;
 
@@ -18,7 +16,7 @@ struct Row {
 }
 
 /// Commands that read a script.
-const ROWS: [Row; 5] = [
+static ROWS: [Row; 5] = [
     Row {
         line: "fdbrec apply",
         script: UNDO,
@@ -63,7 +61,7 @@ const CLUSTER: Row = Row {
 };
 
 /// Lines that show a text.
-const SHOWN: [Row; 2] = [
+static SHOWN: [Row; 2] = [
     Row {
         line: "fdbrec --help",
         script: "",
@@ -75,61 +73,6 @@ const SHOWN: [Row; 2] = [
         lines: "",
     },
 ];
-
-/// A reader and a writer of one byte a call, of which one call fails, and none where that is number 0.
-#[derive(Drop)]
-struct Slow {
-    bytes: Vec<u8>,
-    at: usize,
-    calls: usize,
-    fails: usize,
-}
-
-impl Slow {
-    fn new(bytes: Vec<u8>, fails: usize) -> Slow {
-        Slow {
-            bytes,
-            at: 0,
-            calls: 0,
-            fails,
-        }
-    }
-
-    fn call(&mut self) -> io::Result<()> {
-        self.calls = self.calls.saturating_add(1);
-        if self.calls == self.fails {
-            return Err(Error::from(ErrorKind::BrokenPipe));
-        }
-        Ok(())
-    }
-}
-
-impl Read for Slow {
-    fn read(&mut self, buf: &mut [u8]) -> io::Result<usize> {
-        self.call()?;
-        if self.at >= self.bytes.len() || buf.is_empty() {
-            return Ok(0);
-        }
-        buf[0] = self.bytes[self.at];
-        self.at += 1;
-        Ok(1)
-    }
-}
-
-impl Write for Slow {
-    fn write(&mut self, buf: &[u8]) -> io::Result<usize> {
-        self.call()?;
-        if buf.is_empty() {
-            return Ok(0);
-        }
-        self.bytes.push(buf[0])?;
-        Ok(1)
-    }
-
-    fn flush(&mut self) -> io::Result<()> {
-        Ok(())
-    }
-}
 
 /// How a program ended: with its status, for want of input or output, or for what is no script.
 #[derive(Clone, Copy, PartialEq, Eq)]
@@ -152,26 +95,6 @@ fn how_of(ending: &Ending) -> (How, u8) {
     (how, ending.status())
 }
 
-/// Runs a row's command over these devices.
-fn runs<H: Threads + Wait + Sync>(
-    rt: &H,
-    alloc: Global,
-    line: &str,
-    reader: &mut Slow,
-    writer: &mut Slow,
-) -> Result<(How, u8), AllocError> {
-    let words = words_of(alloc, line)?;
-    let ending = run_program(
-        rt,
-        None::<&HostRuntime>,
-        alloc,
-        words.as_slice(),
-        reader,
-        writer,
-    );
-    Ok(how_of(&ending))
-}
-
 /// Whether a command ends so on these bytes and has written so many bytes of its lines, where these calls of its reader
 /// and of its writer fail.
 fn ends<H: Threads + Wait + Sync>(
@@ -182,9 +105,10 @@ fn ends<H: Threads + Wait + Sync>(
     fails: (usize, usize),
     wanted: (How, u8, usize),
 ) -> Result<bool, AllocError> {
-    let mut reader = Slow::new(script.to_vec(alloc)?, fails.0);
-    let mut writer = Slow::new(Vec::new(alloc), fails.1);
-    let (how, status) = runs(rt, alloc, row.line, &mut reader, &mut writer)?;
+    let mut reader = Device::slow(script.to_vec(alloc)?, fails.0);
+    let mut writer = Device::slow(Vec::new(alloc), fails.1);
+    let ending = run_line(rt, alloc, row.line, &mut reader, &mut writer)?;
+    let (how, status) = how_of(&ending);
     let is_front = row.lines.as_bytes().starts_with(writer.bytes.as_slice());
     Ok((how, status, writer.bytes.len()) == wanted && is_front)
 }
@@ -206,7 +130,7 @@ pub(crate) fn first_torn<H: Threads + Wait + Sync>(
     rt: &H,
     alloc: Global,
 ) -> Result<Option<&'static str>, AllocError> {
-    for row in ROWS {
+    for &row in &ROWS {
         if !is_whole(rt, alloc, row)? {
             return Ok(Some(row.line));
         }
@@ -237,7 +161,7 @@ pub(crate) fn first_unread<H: Threads + Wait + Sync>(
     rt: &H,
     alloc: Global,
 ) -> Result<Option<&'static str>, AllocError> {
-    for row in ROWS {
+    for &row in &ROWS {
         if !reads_fail(rt, alloc, row)? {
             return Ok(Some(row.line));
         }
@@ -296,7 +220,7 @@ pub(crate) fn first_taken<H: Threads + Wait + Sync>(
     rt: &H,
     alloc: Global,
 ) -> Result<Option<&'static str>, AllocError> {
-    for row in ROWS {
+    for &row in &ROWS {
         if !fronts_are_bad(rt, alloc, row)? {
             return Ok(Some(row.line));
         }

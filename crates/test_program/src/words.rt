@@ -30,7 +30,7 @@ pub(crate) fn is_refused(alloc: Global, line: &str, kind: ErrorKind) -> Result<b
     }
 }
 
-const STORES: [(&str, StoreKind); 5] = [
+static STORES: [(&str, StoreKind); 5] = [
     ("fdbrec apply", StoreKind::Map),
     ("fdbrec apply --store map", StoreKind::Map),
     ("fdbrec apply --store=map", StoreKind::Map),
@@ -42,7 +42,7 @@ const SIMULATION: &str = "fdbrec simulate";
 
 /// The first line, if there is one, that does not choose its store, or the simulation.
 pub(crate) fn first_store(alloc: Global) -> Result<Option<&'static str>, AllocError> {
-    for (line, kind) in STORES {
+    for &(line, kind) in &STORES {
         if !chooses(alloc, line, &Request::Apply(kind))? {
             return Ok(Some(line));
         }
@@ -52,7 +52,7 @@ pub(crate) fn first_store(alloc: Global) -> Result<Option<&'static str>, AllocEr
 }
 
 /// A line, its logs and its degree.
-const ENDS: [(&str, u8, u8); 4] = [
+static ENDS: [(&str, u8, u8); 4] = [
     ("fdbrec end --logs 4 --degree 2", 4, 2),
     ("fdbrec end --degree=16 --logs=16", 16, 16),
     ("fdbrec end --logs 16 --degree 1", 16, 1),
@@ -69,7 +69,7 @@ fn chooses_end(alloc: Global, line: &str, logs: u8, degree: u8) -> Result<bool, 
 
 /// The first line, if there is one, that does not choose its end of an epoch.
 pub(crate) fn first_end(alloc: Global) -> Result<Option<&'static str>, AllocError> {
-    for (line, logs, degree) in ENDS {
+    for &(line, logs, degree) in &ENDS {
         if !chooses_end(alloc, line, logs, degree)? {
             return Ok(Some(line));
         }
@@ -77,7 +77,7 @@ pub(crate) fn first_end(alloc: Global) -> Result<Option<&'static str>, AllocErro
     Ok(None)
 }
 
-const REFUSED: [(&str, ErrorKind); 21] = [
+static REFUSED: [(&str, ErrorKind); 21] = [
     ("fdbrec", ErrorKind::MissingSubcommand),
     ("fdbrec run", ErrorKind::InvalidSubcommand),
     ("fdbrec --store map", ErrorKind::UnknownArgument),
@@ -118,7 +118,7 @@ const REFUSED: [(&str, ErrorKind); 21] = [
 
 /// The first line, if there is one, that is not refused for its reason.
 pub(crate) fn first_refused(alloc: Global) -> Result<Option<&'static str>, AllocError> {
-    for (line, kind) in REFUSED {
+    for &(line, kind) in &REFUSED {
         if !is_refused(alloc, line, kind)? {
             return Ok(Some(line));
         }

@@ -19,7 +19,11 @@ const BOTH: [u8; 54] = [
 type Place = (u64, u64, u64);
 
 /// The bytes that a store keeps, and where the server stands that takes it over at version 11, if one does.
-const ROWS: [(&[u8], Option<Place>); 3] = [(&BOTH, Some((513, 11, 0))), (b"\0", None), (b"", None)];
+static ROWS: [(&[u8], Option<Place>); 3] = [
+    (&BOTH, Some((513, 11, 0))),
+    (b"\0", None),
+    (b"", None),
+];
 
 /// Has a store keep these bytes at version 11.
 fn keep<S: ShardStore>(alloc: Global, store: &mut S, bytes: &[u8]) -> Result<(), Fail> {
@@ -56,7 +60,7 @@ fn adopts(rt: &impl Abort, alloc: Global, bytes: &[u8], wanted: Option<Place>) -
 
 #[test]
 fn a_store_that_keeps_a_state_is_adopted(rt: HostRuntime) -> Result<(), Fail> {
-    for (bytes, wanted) in ROWS {
+    for &(bytes, wanted) in &ROWS {
         adopts(&rt, rt.alloc(), bytes, wanted)?;
     }
     Ok(())

@@ -6,7 +6,7 @@ use std::alloc::Global;
 use std::test::Fail;
 
 /// Two batches: `a` takes 01, and is cleared.
-const CALLS: [Call; 2] = [Call::Set(5, 1), Call::Clear(6)];
+static CALLS: [Call; 2] = [Call::Set(5, 1), Call::Clear(6)];
 
 /// What a store shows that is closed after the two batches, opened again and asked for calls.
 fn again(alloc: Global, calls: &[Call]) -> Answer {

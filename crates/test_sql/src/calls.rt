@@ -61,9 +61,9 @@ fn has<S: ShardStore>(
     Ok(holds(rows.as_slice(), wanted))
 }
 
-const SETS: [(&[u8], &[u8]); 3] = [(b"a", b""), (b"b", b"\x02"), (b"c", b"\x02")];
+static SETS: [(&[u8], &[u8]); 3] = [(b"a", b""), (b"b", b"\x02"), (b"c", b"\x02")];
 
-const CLEARED: [(&[u8], &[u8]); 1] = [(b"c", b"\x03")];
+static CLEARED: [(&[u8], &[u8]); 1] = [(b"c", b"\x03")];
 
 /// Whether a range that is cleared comes back with empty values.
 fn comes_back<S: ShardStore>(alloc: Global, store: &mut S) -> Result<bool, Fail> {

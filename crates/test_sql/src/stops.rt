@@ -14,7 +14,7 @@ use std::test::Fail;
 type Row = (Call, Answer);
 
 /// Two batches, a forget that takes the undo row of the first, an undo below the floor and a forget of what is to come.
-const ROWS: [Row; 5] = [
+static ROWS: [Row; 5] = [
     (Call::Set(8, 1), Ok(None)),
     (Call::Set(9, 2), Ok(None)),
     (Call::Forget(8), Ok(None)),

@@ -72,7 +72,7 @@ fn rack_of(fails: Fails) -> FileRack<FrailDevices<MemoryDevices>> {
 }
 
 /// The calls of the device in the append of a push, the first ones being those that make the file, its seed and its mark.
-const CALLS: [u64; 8] = [15, 16, 17, 18, 19, 20, 21, 22];
+static CALLS: [u64; 8] = [15, 16, 17, 18, 19, 20, 21, 22];
 
 /// Whether all batches are committed in order where the device fails once.
 fn commits<R: Threads + Wait + Sync>(rt: &R, alloc: Global, n: u64) -> Result<bool, Fail> {
@@ -84,7 +84,7 @@ fn commits<R: Threads + Wait + Sync>(rt: &R, alloc: Global, n: u64) -> Result<bo
 /// A log whose device fails once is opened again by the next ask, and takes what it had not taken.
 #[test]
 fn a_device_that_fails_once_holds_nothing_up(rt: HostRuntime) -> Result<(), Fail> {
-    for n in CALLS {
+    for &n in &CALLS {
         assert!(rt; commits(&rt, rt.alloc(), n)?, "{n}");
     }
     Ok(())
@@ -103,7 +103,7 @@ fn comes_of<R: Threads + Wait + Sync>(
 /// A log whose device fails for good cannot be opened again at the end, so there is no journal of it.
 #[test]
 fn a_device_that_fails_for_good_is_the_runs_fault(rt: HostRuntime) -> Result<(), Fail> {
-    for n in CALLS {
+    for &n in &CALLS {
         assert!(rt;
             comes_of(&rt, rt.alloc(), n)? == Some(RunFault::Rack),
             "{n}"

@@ -10,7 +10,7 @@ use std::process::Abort;
 use std::test::Fail;
 
 /// Numbers, and the first word of the generator that each seeds.
-const WORDS: [(u64, u32); 9] = [
+static WORDS: [(u64, u32); 9] = [
     (0, 298_703_107),
     (1, 866_585_574),
     (2, 663_514_024),
@@ -24,7 +24,7 @@ const WORDS: [(u64, u32); 9] = [
 
 #[test]
 fn words_are_those_of_the_table(rt: HostRuntime) {
-    for (number, word) in WORDS {
+    for &(number, word) in &WORDS {
         assert_eq!(rt; word_of(number), word, "{number}");
     }
 }
@@ -43,7 +43,7 @@ fn draws(seed: u64, strength: u16) -> Draws
 }
 
 /// What befalls the asks of seed 1 at half the strength, one after another.
-const VERDICTS: [Verdict; 24] = [
+static VERDICTS: [Verdict; 24] = [
     Verdict::Pass,
     Verdict::Pass,
     Verdict::Twice,
@@ -133,7 +133,7 @@ fn node(crashed: Crashed) -> Result<Option<NodeId>, Fail> {
 }
 
 /// What crashes in a storm of seed 7 at a hundred of 256, draw by draw.
-const CRASHES: [Crashed; 13] = [
+static CRASHES: [Crashed; 13] = [
     Crashed::Nothing,
     Crashed::Nothing,
     Crashed::Log(3),
@@ -150,7 +150,7 @@ const CRASHES: [Crashed; 13] = [
 ];
 
 /// What crashes where each draw is a fault.
-const ALL_CRASH: [Crashed; 16] = [
+static ALL_CRASH: [Crashed; 16] = [
     Crashed::Log(0),
     Crashed::Log(5),
     Crashed::Log(3),

@@ -18,7 +18,7 @@ enum Does {
 }
 
 /// The batches of workload 0 in a storm of seed 1, over three shards.
-const FIRST: [Does; 12] = [
+static FIRST: [Does; 12] = [
     Does::Clear(0x00),
     Does::Clear(0x08),
     Does::Clear(0x10),
@@ -34,7 +34,7 @@ const FIRST: [Does; 12] = [
 ];
 
 /// Those of workload 2 in a storm of the greatest seed, over 32 shards: of the generator that 1 seeds.
-const WRAPPED: [Does; 8] = [
+static WRAPPED: [Does; 8] = [
     Does::Clear(0x30),
     Does::Clear(0x88),
     Does::Clear(0xd8),

@@ -8,23 +8,23 @@ use std::process::Abort;
 use std::test::*;
 
 /// No mutation.
-const EMPTY: [u8; 3] = [0x01, 0x00, 0x00];
+static EMPTY: [u8; 3] = [0x01, 0x00, 0x00];
 
 /// Set `a` to 01.
-const SET: [u8; 12] = [
+static SET: [u8; 12] = [
     0x01, 0x00, 0x01, 0x01, 0x00, 0x01, 0x61, 0x00, 0x00, 0x00, 0x01, 0x01,
 ];
 
 /// Clear `a` up to `c`.
-const CLEAR: [u8; 10] = [0x01, 0x00, 0x01, 0x02, 0x00, 0x01, 0x61, 0x00, 0x01, 0x63];
+static CLEAR: [u8; 10] = [0x01, 0x00, 0x01, 0x02, 0x00, 0x01, 0x61, 0x00, 0x01, 0x63];
 
 /// Compare-and-clear `a` with 01: of format 2, and else as a set.
-const COMPARED: [u8; 12] = [
+static COMPARED: [u8; 12] = [
     0x02, 0x00, 0x01, 0x09, 0x00, 0x01, 0x61, 0x00, 0x00, 0x00, 0x01, 0x01,
 ];
 
 /// Set `a` to 01, then compare-and-clear `b` with no byte.
-const SET_AND_COMPARED: [u8; 20] = [
+static SET_AND_COMPARED: [u8; 20] = [
     0x02, 0x00, 0x02, 0x01, 0x00, 0x01, 0x61, 0x00, 0x00, 0x00, 0x01, 0x01, 0x09, 0x00, 0x01, 0x62,
     0x00, 0x00, 0x00, 0x00,
 ];
@@ -71,7 +71,7 @@ fn reads(alloc: Global, bytes: &[u8], wanted: Read) -> bool {
 }
 
 /// The mutations of one key, which differ in their kind's byte alone.
-const KINDS: [(u8, Read); 7] = [
+static KINDS: [(u8, Read); 7] = [
     (1, Set(b"a", b"\x01")),
     (3, Atomic(Add, b"a", b"\x01")),
     (4, Atomic(And, b"a", b"\x01")),
@@ -99,7 +99,7 @@ fn worked_batches(rt: HostRuntime) {
             Atomic(CompareAndClear, b"a", b"\x01")
         )
     );
-    for (kind, wanted) in KINDS {
+    for &(kind, wanted) in &KINDS {
         assert!(rt; reads_kind(rt.alloc(), kind, wanted), "{kind}");
     }
 }
@@ -114,7 +114,7 @@ fn are_refused(rt: &impl Abort, alloc: Global, rows: &[Refused]) {
     }
 }
 
-const REFUSED: [Refused; 8] = [
+static REFUSED: [Refused; 8] = [
     (&[0x01, 0x00], Short),
     (&[0x02, 0x00, 0x00], NeedlessFormat),
     (
@@ -139,7 +139,7 @@ fn refused_bytes(rt: HostRuntime) {
 }
 
 /// Bytes with two faults: the one that is met first from the left is answered.
-const TWO_FAULTS: [Refused; 12] = [
+static TWO_FAULTS: [Refused; 12] = [
     // Another format, and no number of mutations.
     (&[0x03], UnknownKind),
     // Another format, and 1,001 mutations.

@@ -101,9 +101,9 @@ fn are(rows: &Rows, wanted: &[(&[u8], &[u8])]) -> bool {
             && value.as_slice() == wanted.1)
 }
 
-const FIRST: [Change; 2] = [Set(Of(b"a"), Of(&[0xff])), Set(Of(b"b"), Of(&[0xff]))];
+static FIRST: [Change; 2] = [Set(Of(b"a"), Of(&[0xff])), Set(Of(b"b"), Of(&[0xff]))];
 
-const SECOND: [Change; 6] = [
+static SECOND: [Change; 6] = [
     Atomic(Add, Of(b"a"), Of(&[2])),
     Atomic(Add, Of(b"b"), Of(&[0, 1])),
     Atomic(And, Of(b"c"), Of(&[0x0f])),
@@ -112,16 +112,16 @@ const SECOND: [Change; 6] = [
     Atomic(Min, Of(b"b"), Of(&[0, 2])),
 ];
 
-const THIRD: [Change; 1] = [Clear(Of(b"b"), Of(b"d"))];
+static THIRD: [Change; 1] = [Clear(Of(b"b"), Of(b"d"))];
 
-const AFTER_SECOND: [(&[u8], &[u8]); 4] = [
+static AFTER_SECOND: [(&[u8], &[u8]); 4] = [
     (b"a", &[0, 1]),
     (b"b", &[0xff, 1]),
     (b"c", &[0x0f]),
     (b"d", &[0x0f]),
 ];
 
-const AFTER_THIRD: [(&[u8], &[u8]); 2] = [(b"a", &[0, 1]), (b"d", &[0x0f])];
+static AFTER_THIRD: [(&[u8], &[u8]); 2] = [(b"a", &[0, 1]), (b"d", &[0x0f])];
 
 fn act_in_turn(rt: &impl Abort, alloc: Global, rows: &mut Rows) -> Result<(), Fail> {
     acts(alloc, rows, &FIRST)?;
@@ -140,7 +140,7 @@ fn mutations_act_in_turn(rt: HostRuntime) -> Result<(), Fail> {
 /// The operation, the old value, the parameter and the new value.
 type Fitted = (AtomicOp, &'static [u8], &'static [u8], &'static [u8]);
 
-const FITTED: [Fitted; 9] = [
+static FITTED: [Fitted; 9] = [
     (Add, &[1, 2, 3], &[5], &[6]),
     (Add, &[0xff, 0xff], &[1, 0], &[0, 0]),
     (Add, &[7], &[], &[]),
@@ -175,7 +175,7 @@ fn old_values_are_fitted(rt: HostRuntime) -> Result<(), Fail> {
 /// Mutations, and the rows after them, in an empty map.
 type Compared = (&'static [Change], &'static [(&'static [u8], &'static [u8])]);
 
-const COMPARED: [Compared; 8] = [
+static COMPARED: [Compared; 8] = [
     // The value is the parameter: the key loses it.
     (
         &[
@@ -257,7 +257,7 @@ const LONG_VALUE: Text = Many(0, 100_001);
 /// So many times these mutations, and the limit that they break.
 type Limit = (usize, &'static [Change], Option<BatchFault>);
 
-const LIMITS: [Limit; 4] = [
+static LIMITS: [Limit; 4] = [
     (1, &[Set(Many(0, MAX_KEY), Many(0, MAX_VALUE))], None),
     (
         1,
@@ -278,7 +278,7 @@ const LIMITS: [Limit; 4] = [
 
 /// Two limits that mutations break: the number of mutations is tested first, then one mutation after the other, a key
 /// before a value, and a key before the order of a clear's ends.
-const TWO_LIMITS: [Limit; 8] = [
+static TWO_LIMITS: [Limit; 8] = [
     (
         1,
         &[Set(LONG_KEY, LONG_VALUE)],
@@ -355,7 +355,7 @@ fn the_first_limit_is_answered(rt: HostRuntime) -> Result<(), Fail> {
 }
 
 /// A name, and the operation of it.
-const NAMES: [(&str, Option<AtomicOp>); 8] = [
+static NAMES: [(&str, Option<AtomicOp>); 8] = [
     ("add", Some(Add)),
     ("and", Some(And)),
     ("or", Some(Or)),
@@ -377,7 +377,7 @@ fn is_found(name: &str, wanted: Option<AtomicOp>) -> bool {
 
 #[test]
 fn an_operation_is_found_by_its_name(rt: HostRuntime) {
-    for (name, wanted) in NAMES {
+    for &(name, wanted) in &NAMES {
         assert!(rt; is_found(name, wanted), "{name}");
     }
 }

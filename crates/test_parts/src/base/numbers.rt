@@ -3,7 +3,7 @@ use fr_base::{Ballot, Epoch, LogId, NodeId, Step, Tag, Version};
 use std::cmp::Ordering;
 
 /// A number, and whether it is that of a ballot.
-const BALLOTS: [(u64, bool); 6] = [
+static BALLOTS: [(u64, bool); 6] = [
     (0, true),
     (1, false),
     (255, false),
@@ -24,7 +24,7 @@ fn ballot_of(epoch: u64) -> Option<u64> {
 
 #[test]
 fn numbers_at_their_limits(rt: HostRuntime) {
-    for (number, is_ballot) in BALLOTS {
+    for &(number, is_ballot) in &BALLOTS {
         assert!(rt; Ballot::new(number).is_some() == is_ballot, "{number}");
         assert!(rt;
             Epoch::new(number).is_some() == (is_ballot && number != 0),
@@ -69,7 +69,7 @@ fn step(from: u64, to: u64) -> Option<Option<u64>> {
 }
 
 /// Two versions, and the number of the step from the one to the other.
-const STEPS: [(u64, u64, Option<u64>); 5] = [
+static STEPS: [(u64, u64, Option<u64>); 5] = [
     (5, 4, None),
     (5, 5, None),
     (5, 6, Some(1)),
@@ -79,7 +79,7 @@ const STEPS: [(u64, u64, Option<u64>); 5] = [
 
 #[test]
 fn steps_between_versions(rt: HostRuntime) {
-    for (from, to, wanted) in STEPS {
+    for &(from, to, wanted) in &STEPS {
         assert!(rt; step(from, to) == Some(wanted), "{from} {to}");
     }
     assert!(rt; Step::new(0).is_none());
@@ -132,7 +132,7 @@ fn stand(one: &NodeId, other: &NodeId) -> (Ordering, bool) {
 }
 
 /// Each of these stands before all that follow it.
-const NODES: [Node; 12] = [
+static NODES: [Node; 12] = [
     Node::Cell(0),
     Node::Cell(9),
     Node::Log(256, 7),

@@ -14,7 +14,7 @@ fn answers(alloc: Global, cell: &mut Cell, ask: Asked, tell: Told) -> Result<boo
 }
 
 /// What a cell is asked in turn, and what it tells.
-const TURNS: [(Asked, Told); 8] = [
+static TURNS: [(Asked, Told); 8] = [
     (Asked::Write(257, b'x'), Told::Written(257)),
     (Asked::Read(513), Told::Promise(257, b'x')),
     (Asked::Read(512), Told::Refused(513)),
@@ -138,7 +138,7 @@ const X: (u64, &[u8]) = (257, b"x");
 const Z: (u64, &[u8]) = (513, b"z");
 
 /// Of three cells.
-const WON_READS: [Read; 8] = [
+static WON_READS: [Read; 8] = [
     (3, Told::Promise(600, b's'), Answer::Waiting, NONE),
     (0, Told::Written(769), Answer::Waiting, NONE),
     (0, Told::Promise(257, b'x'), Answer::Waiting, X),
@@ -149,7 +149,7 @@ const WON_READS: [Read; 8] = [
     (2, Told::Promise(513, b'z'), Answer::Majority, Z),
 ];
 
-const LOST_READS: [Read; 5] = [
+static LOST_READS: [Read; 5] = [
     (0, Told::Refused(800), Answer::Lost(800), NONE),
     (1, Told::Refused(900), Answer::Lost(800), NONE),
     (1, Told::Promise(257, b'x'), Answer::Lost(800), X),
@@ -204,7 +204,7 @@ fn writes(rt: &impl Abort, alloc: Global, cells: u8, table: &[Write]) -> Result<
 }
 
 /// Of three cells.
-const LOST_WRITES: [Write; 8] = [
+static LOST_WRITES: [Write; 8] = [
     (3, Told::Refused(800), Answer::Waiting),
     (0, Told::Written(513), Answer::Waiting),
     (0, Told::Promise(257, b'x'), Answer::Waiting),
@@ -216,7 +216,7 @@ const LOST_WRITES: [Write; 8] = [
 ];
 
 /// Of one cell.
-const WON_WRITES: [Write; 2] = [
+static WON_WRITES: [Write; 2] = [
     (0, Told::Written(769), Answer::Majority),
     (0, Told::Refused(800), Answer::Majority),
 ];
@@ -271,7 +271,7 @@ fn a_majority_is_above_half(rt: HostRuntime) -> Result<(), Fail> {
 }
 
 /// No two of these are the same, and each is the same as itself and its copy.
-const ASKS: [Asked; 5] = [
+static ASKS: [Asked; 5] = [
     Asked::Read(256),
     Asked::Read(512),
     Asked::Write(256, b'x'),
@@ -280,7 +280,7 @@ const ASKS: [Asked; 5] = [
 ];
 
 /// No two of these either.
-const TELLS: [Told; 8] = [
+static TELLS: [Told; 8] = [
     Told::Promise(256, b'x'),
     Told::Promise(256, b'y'),
     Told::Promise(512, b'x'),

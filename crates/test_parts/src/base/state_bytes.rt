@@ -4,18 +4,18 @@ use std::alloc::Global;
 use std::test::Fail;
 
 /// One generation: epoch 257, 4 logs, degree 2, first 1, seeded to 0.
-const ONE: [u8; 28] = [
+static ONE: [u8; 28] = [
     1, 1, 0, 0, 0, 0, 0, 0, 1, 1, 4, 2, 0, 0, 0, 0, 0, 0, 0, 1, 0, 0, 0, 0, 0, 0, 0, 0,
 ];
 
 /// The same, and behind it epoch 513, 4 logs, degree 2, first 10, seeded to 10.
-const TWO: [u8; 54] = [
+static TWO: [u8; 54] = [
     1, 2, 0, 0, 0, 0, 0, 0, 1, 1, 4, 2, 0, 0, 0, 0, 0, 0, 0, 1, 0, 0, 0, 0, 0, 0, 0, 0, 0, 0, 0, 0,
     0, 0, 2, 1, 4, 2, 0, 0, 0, 0, 0, 0, 0, 10, 0, 0, 0, 0, 0, 0, 0, 10,
 ];
 
 /// Epochs 513 and 769, 2 logs and degree 2 each, first 3, seeded to 3 and 4, behind one that was dropped.
-const LEFT: [u8; 62] = [
+static LEFT: [u8; 62] = [
     2, 0, 0, 0, 0, 0, 0, 0, 1, 2, 0, 0, 0, 0, 0, 0, 2, 1, 2, 2, 0, 0, 0, 0, 0, 0, 0, 3, 0, 0, 0, 0,
     0, 0, 0, 3, 0, 0, 0, 0, 0, 0, 3, 1, 2, 2, 0, 0, 0, 0, 0, 0, 0, 3, 0, 0, 0, 0, 0, 0, 0, 4,
 ];

@@ -214,7 +214,7 @@ fn a_failing_reader_writes_nothing(rt: HostRuntime) -> Result<(), Fail> {
 }
 
 /// The call that fails, and how many bytes of the 66 of the lines are written before it.
-const FRONTS: [(u32, usize); 5] = [(1, 0), (2, 1), (20, 19), (21, 20), (66, 65)];
+static FRONTS: [(u32, usize); 5] = [(1, 0), (2, 1), (20, 19), (21, 20), (66, 65)];
 
 #[test]
 fn a_failing_writer_has_a_front(rt: HostRuntime) {

@@ -123,7 +123,7 @@ fn strangers_of_sixteen_logs(rt: HostRuntime) -> Result<(), Fail> {
     Ok(())
 }
 
-const LAYOUTS: [&str; 4] = [
+static LAYOUTS: [&str; 4] = [
     "{ \"replies\" :\t[ [ 0 , 7,\n3 ] ] } \r\n",
     r#"{"repl\u0069es":[[0,7,3]]}"#,
     r#"{"replies":[[0,9,9]],"replies":[[0,7,3]]}"#,
@@ -141,7 +141,7 @@ fn any_layout_of_replies(rt: HostRuntime) -> Result<(), Fail> {
     Ok(())
 }
 
-const NO_REPLIES: [&str; 14] = [
+static NO_REPLIES: [&str; 14] = [
     "{}",
     "null",
     "0",
@@ -163,11 +163,11 @@ fn no_replies(rt: HostRuntime) -> Result<(), Fail> {
     are_bad(&rt, rt.alloc(), &NO_REPLIES)
 }
 
-const NO_NUMBERS: [&str; 11] = [
+static NO_NUMBERS: [&str; 11] = [
     "-0", "-1", "1.0", "1e0", "01", "\"1\"", "null", "true", "[1]", "", "1 1",
 ];
 
-const TOO_GREAT: [&str; 5] = [
+static TOO_GREAT: [&str; 5] = [
     "[[256,1,1]]",
     "[[18446744073709551616,1,1]]",
     "[[0,4611686018427387904,1]]",
@@ -201,7 +201,7 @@ fn numbers_that_are_none(rt: HostRuntime) -> Result<(), Fail> {
     are_bad(&rt, rt.alloc(), &TOO_GREAT)
 }
 
-const NO_SCRIPTS: [&str; 7] = [
+static NO_SCRIPTS: [&str; 7] = [
     "",
     "{",
     "{}",
@@ -223,9 +223,9 @@ fn what_is_no_script_of_replies(rt: HostRuntime) {
     assert!(rt; is_no_script(rt.alloc(), b"{\"replies\":[]}\xff".as_slice()));
 }
 
-const SIZES: [(u8, u8); 4] = [(1, 1), (4, 2), (16, 1), (16, 16)];
+static SIZES: [(u8, u8); 4] = [(1, 1), (4, 2), (16, 1), (16, 16)];
 
-const NO_SIZES: [(u8, u8); 8] = [
+static NO_SIZES: [(u8, u8); 8] = [
     (0, 0),
     (1, 0),
     (0, 1),

@@ -18,7 +18,7 @@ fn a_failing_reader_of_replies(rt: HostRuntime) -> Result<(), Fail> {
 }
 
 /// The call that fails, and how many bytes of the 24 of the lines are written before it.
-const FRONTS: [(u32, usize); 5] = [(1, 0), (2, 1), (11, 10), (12, 11), (24, 23)];
+static FRONTS: [(u32, usize); 5] = [(1, 0), (2, 1), (11, 10), (12, 11), (24, 23)];
 
 #[test]
 fn a_failing_writer_of_ends(rt: HostRuntime) {

@@ -17,7 +17,7 @@ const OTHERS: &str =
     r#"{ "o\u0070s":[{"apply":{"batch":[{"add":{"key":"00","param":"ff00"}},{"compare_and_clear":{"value":"7f","key":"00"}}],"version":12}},{"advance":{"version" : 13}},{"forget":{"through":0}}]}"#;
 
 /// Short scripts, of which each byte is changed to each other.
-const CHANGED: [&str; 2] = [
+static CHANGED: [&str; 2] = [
     r#"{"ops":[{"undo":{"to":9}}]}"#,
     r#"{"ops":[{"apply":{"batch":[{"or":{"param":"0f","key":"a0"}}],"version":5}}]}"#,
 ];
@@ -135,9 +135,9 @@ fn undo_to(alloc: Global, text: &str) -> Result<String, AllocError> {
     format!(in alloc; "{{\"ops\":[{{\"undo\":{{\"to\":{text}}}}}]}}")
 }
 
-const NUMBERS: [&str; 6] = ["0", "1", "9", "4611686018427387903", " 7 ", "\t7\n"];
+static NUMBERS: [&str; 6] = ["0", "1", "9", "4611686018427387903", " 7 ", "\t7\n"];
 
-const NO_NUMBERS: [&str; 29] = [
+static NO_NUMBERS: [&str; 29] = [
     "",
     "-",
     "-0",
@@ -199,7 +199,7 @@ fn set_of(alloc: Global, key: &str) -> Result<String, AllocError> {
     )
 }
 
-const KEYS: [(&str, &str); 5] = [
+static KEYS: [(&str, &str); 5] = [
     ("", "ok 1 floor 0 undo 1\n- -\n"),
     ("00", "ok 1 floor 0 undo 1\n00 -\n"),
     ("09af", "ok 1 floor 0 undo 1\n09af -\n"),
@@ -210,7 +210,7 @@ const KEYS: [(&str, &str); 5] = [
     ),
 ];
 
-const NO_KEYS: [&str; 11] = [
+static NO_KEYS: [&str; 11] = [
     "0", "0a0", "0A", "g0", "0g", "/0", ":0", "`0", "é", "0 ", r"\n0",
 ];
 
@@ -235,7 +235,7 @@ fn hex_texts(rt: HostRuntime) -> Result<(), Fail> {
     Ok(())
 }
 
-const REPEATED: [&str; 8] = [
+static REPEATED: [&str; 8] = [
     r#"{"ops":[{"undo":{"to":3}},{"undo":{"to":3}}],"ops":[{"advance":{"version":7}}]}"#,
     r#"{"ops":[{"advance":{"version":1},"advance":{"version":7}}]}"#,
     r#"{"ops":[{"advance":{"version":1,"version":7}}]}"#,
@@ -301,7 +301,7 @@ fn nesting(rt: HostRuntime) -> Result<(), Fail> {
     Ok(())
 }
 
-const RESTS: [(&str, Result<u8, CliFault>); 8] = [
+static RESTS: [(&str, Result<u8, CliFault>); 8] = [
     ("", RUNS),
     (" \t\r\n", RUNS),
     ("0", BAD),

@@ -7,7 +7,7 @@ use std::alloc::{AllocError, Global};
 use std::process::Abort;
 use std::test::Fail;
 
-const EXAMPLES: [Example; 11] = [
+static EXAMPLES: [Example; 11] = [
     NO_KEY,
     UNDO,
     BEFORE_UNDO,
@@ -36,7 +36,7 @@ fn prints_the_lines(rt: HostRuntime) {
     are_printed(&rt, rt.alloc(), &EXAMPLES);
 }
 
-const NO_SCRIPTS: [&str; 39] = [
+static NO_SCRIPTS: [&str; 39] = [
     "",
     "{",
     "{}",
@@ -94,7 +94,7 @@ fn refuses_what_is_no_script(rt: HostRuntime) {
     assert!(rt; is_refused(rt.alloc(), b"{\"ops\":[]}\xff".as_slice()));
 }
 
-const LAYOUTS: [&str; 5] = [
+static LAYOUTS: [&str; 5] = [
     " {\"ops\" : [ { \"advance\" :\t{\"version\":7}} ] } \r\n",
     r#"{"o\u0070s":[{"adv\u0061nce":{"version":7}}]}"#,
     r#"{"ops":[1],"ops":[{"advance":{"version":7}}]}"#,
@@ -153,7 +153,7 @@ fn sets(alloc: Global, count: usize, key: usize, value: usize) -> Result<String,
 }
 
 /// How many sets, of keys and of values of so many bytes, and what is printed.
-const LIMITS: [(usize, usize, usize, &str); 4] = [
+static LIMITS: [(usize, usize, usize, &str); 4] = [
     (1, 10_001, 0, "refused KeyTooLong\n"),
     (1, 1, 100_001, "refused ValueTooLong\n"),
     (1_001, 0, 0, "refused TooMany\n"),
@@ -200,7 +200,7 @@ fn long_inputs_and_rows(rt: HostRuntime) -> Result<(), Fail> {
     Ok(())
 }
 
-const FAULTS: [(CliFault, &str, u8); 4] = [
+static FAULTS: [(CliFault, &str, u8); 4] = [
     (CliFault::BadScript, "bad script", 2),
     (CliFault::Memory, "out of memory", 3),
     (CliFault::Input, "input failed", 4),

@@ -14,7 +14,7 @@ use std::alloc::Global;
 use std::test::Fail;
 
 /// What a cell that holds x under ballot 257 is asked and tells.
-const ROW: [(Asked, Told); 5] = [
+static ROW: [(Asked, Told); 5] = [
     (Asked::Read(513), Told::Promise(257, b'x')),
     (Asked::Read(512), Told::Refused(513)),
     (Asked::Write(513, b'y'), Told::Written(513)),

@@ -84,7 +84,7 @@ enum Turn {
     Crash,
 }
 
-const GONE: [(Turn, Said); 4] = [
+static GONE: [(Turn, Said); 4] = [
     (Turn::Next, At(1)),
     (Turn::Crash, At(2)),
     (Turn::Next, No(Lost)),

@@ -46,7 +46,7 @@ pub(crate) enum Said {
 pub(crate) type Row = (Deed, Said);
 
 /// What a log takes to stand at version 7.
-pub(crate) const SEVEN: [Asked; 3] = [
+pub(crate) static SEVEN: [Asked; 3] = [
     Asked::Seed(1, 0),
     Asked::Mark(0),
     Asked::Push(1, 7, 0, None),

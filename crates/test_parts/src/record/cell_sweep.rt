@@ -13,7 +13,7 @@ use std::test::Fail;
 const ROOM: usize = 1024;
 
 /// Three of these change the cell, with four calls each. The file takes two calls before.
-const ROWS: [(Asked, Told); 6] = [
+static ROWS: [(Asked, Told); 6] = [
     (Asked::Write(257, b'x'), Told::Written(257)),
     (Asked::Read(513), Told::Promise(257, b'x')),
     (Asked::Read(512), Told::Refused(513)),

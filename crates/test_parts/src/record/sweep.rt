@@ -21,7 +21,7 @@ struct Case {
     calls: u64,
 }
 
-const CASES: [Case; 3] = [
+static CASES: [Case; 3] = [
     Case {
         adds: &[&[&[0x61, 0x62]]],
         calls: 6,
@@ -255,7 +255,7 @@ fn sweeps(
 
 #[test]
 fn each_call_fails_once(rt: HostRuntime) -> Result<(), Fail> {
-    for case in CASES {
+    for &case in &CASES {
         sweeps(&rt, rt.alloc(), case, false, 0xff)?;
     }
     Ok(())
@@ -263,7 +263,7 @@ fn each_call_fails_once(rt: HostRuntime) -> Result<(), Fail> {
 
 #[test]
 fn each_call_fails_from_then_on(rt: HostRuntime) -> Result<(), Fail> {
-    for case in CASES {
+    for &case in &CASES {
         for fill in [0x00, 0x01, 0xff] {
             sweeps(&rt, rt.alloc(), case, true, fill)?;
         }

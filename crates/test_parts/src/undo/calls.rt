@@ -18,7 +18,7 @@ const TWO: [Change; 1] = [Set(b'a', 2)];
 
 const SECOND: [Change; 3] = [Set(b'a', 2), Clear(b'a', b'c'), Add(b'a', 5)];
 
-const UNDONE: [Row; 10] = [
+static UNDONE: [Row; 10] = [
     (Apply(5, &ONE), Done),
     (UndoRows, Count(1)),
     (Apply(6, &SECOND), Done),
@@ -37,7 +37,7 @@ fn undo_gives_the_earlier_value(rt: HostRuntime) -> Result<(), Fail> {
     plays(&rt, rt.alloc(), &mut store, &UNDONE)
 }
 
-const FORGOTTEN: [Row; 9] = [
+static FORGOTTEN: [Row; 9] = [
     (Advance(4), Done),
     (Apply(8, &ONE), Done),
     (Apply(9, &TWO), Done),
@@ -50,7 +50,7 @@ const FORGOTTEN: [Row; 9] = [
 ];
 
 /// Of a copy.
-const COPIED: [Row; 4] = [
+static COPIED: [Row; 4] = [
     (Reopen, Done),
     (HasState(b"state"), Is(true)),
     (Holds(&[(b'a', 2)]), Is(true)),

@@ -24,7 +24,7 @@ const SEVEN: [Change; 3] = [Set(b'a', 7), Clear(b'b', b'c'), Add(b'd', 1)];
 const NINE: [Change; 3] = [Set(b'a', 9), Clear(b'b', b'c'), Add(b'd', 1)];
 
 /// Three batches applied and undone at once, and then one at a time: each undo gives what was there.
-const UNDOES: [Row; 14] = [
+static UNDOES: [Row; 14] = [
     FIRST,
     (Applied, Count(4)),
     (Apply(5, &FIVE), Done),
@@ -43,7 +43,7 @@ const UNDOES: [Row; 14] = [
 
 /// Of `a`, `b` and `c`, of which the last has no value, `a` alone holds the value with which it is compared: it loses
 /// it, and it alone has an undo row. One that gets its value back in the batch has none.
-const COMPARES: [Row; 13] = [
+static COMPARES: [Row; 13] = [
     (Apply(1, &[Set(b'a', 1), Set(b'b', 2)]), Done),
     (
         Apply(2, &[Compare(b'a', 1), Compare(b'b', 1), Compare(b'c', 1)]),
@@ -100,7 +100,7 @@ fn calls_compose(rt: HostRuntime) -> Result<(), Fail> {
 const EACH_BATCH: [Change; 3] = [Set(b'a', 1), Clear(b'b', b'c'), Add(b'd', 1)];
 
 /// Each call of a store.
-const EACH: [Call; 10] = [
+static EACH: [Call; 10] = [
     Apply(5, &EACH_BATCH),
     Advance(6),
     SetState(b"state"),
@@ -133,7 +133,7 @@ type Place = (u64, u64, usize);
 /// The same once the call after so many others failed and had done nothing, or all.
 type Left = (u32, Place, Place);
 
-const LEFT: [Left; 10] = [
+static LEFT: [Left; 10] = [
     (0, (4, 0, 0), (5, 0, 0)),
     (1, (5, 0, 0), (6, 0, 0)),
     (2, (6, 0, 0), (6, 0, 5)),
@@ -152,7 +152,7 @@ fn place(alloc: Global, store: &mut FailsOnce) -> Result<Place, Fail> {
 }
 
 /// Of a store whose device failed.
-const REOPENED: [Row; 5] = [
+static REOPENED: [Row; 5] = [
     (IsFailed, Is(true)),
     (Holds(&[]), No(Failed)),
     (Undo(0), No(Failed)),
@@ -195,7 +195,7 @@ fn goes_through(rt: &impl Abort, alloc: Global, store: &mut FailsOnce) -> Result
 
 #[test]
 fn a_failed_call_stands_before_or_after(rt: HostRuntime) -> Result<(), Fail> {
-    for (calls, before, after) in LEFT {
+    for &(calls, before, after) in &LEFT {
         stands(&rt, rt.alloc(), calls, false, before)?;
         stands(&rt, rt.alloc(), calls, true, after)?;
     }

@@ -6,7 +6,7 @@ use fr_world::Config;
 use std::alloc::Global;
 
 /// Where shards begin: as many of them, from the first on, as there are shards.
-const BEGINS: [&[u8]; 6] = [b"", b"a", b"ab", b"b", b"c", b"ca"];
+static BEGINS: [&[u8]; 6] = [b"", b"a", b"ab", b"b", b"c", b"ca"];
 
 /// How many of a kind there are: mostly few.
 fn few(dice: &mut Dice, most: u8) -> u8 {
