@@ -18,7 +18,8 @@ use Rattle.fr_run_event.specs.declared.event.Event.TheVariants.{Deliver}
 use Rattle.fr_run_event.specs.Law.{EventIsTurn}
 use Rattle.fr_run_event.specs.Step.{delivered, if_sent}
 use Rattle.fr_run_event.specs.Tests.{was_sent, storage_may_ask}
-use Rattle.fr_world.specs.World.{WorldState, next_turn}
+use Rattle.fr_world.specs.World.{next_turn}
+use Rattle.fr_world_kept.specs.Kept.{WorldState}
 use Rattle.fr_world.specs.Stepping.{why_not_up}
 use Rattle.fr_world.proofs.Ups.{up_turn}
 

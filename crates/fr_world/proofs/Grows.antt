@@ -12,7 +12,8 @@ use Rattle.fr_run_event.specs.Step.{answer_of}
 use Rattle.fr_run_headline.specs.Safety.{IsGrownFrom, EachTurnGrows, StandingGrows}
 use Rattle.fr_run_event.specs.ConfigLimits.{IsWithin}
 use Rattle.fr_world.specs.Stepping.{Steps}
-use Rattle.fr_world.specs.World.{WorldState, with_turn, next_turn, stepped_by}
+use Rattle.fr_world.specs.World.{next_turn, stepped_by}
+use Rattle.fr_world_kept.specs.Kept.{WorldState, with_turn}
 
 -- the limits of a config are those of the first generation
 pub is_config : {c : Config} → IsWithin c → IsConfig c

@@ -12,7 +12,7 @@ use Rattle.fr_run_event.specs.declared.not_enabled.NotEnabled.{NotEnabled}
 use Rattle.fr_run_event.specs.Law.{EventIsTurn}
 use Rattle.fr_run_event.specs.Tests.{was_told}
 use Rattle.fr_run_event.specs.Step.{turn_of, if_told}
-use Rattle.fr_world.specs.World.{WorldState}
+use Rattle.fr_world_kept.specs.Kept.{WorldState}
 use Rattle.fr_world.specs.Stepping.{why_not_up}
 use Rattle.fr_world.proofs.Ups.{up_turn}
 

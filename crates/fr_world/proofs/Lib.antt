@@ -1,5 +1,4 @@
 pub mod Ups
-pub mod Called
 pub mod Hears
 pub mod Heard
 pub mod ToProxies

@@ -8,7 +8,8 @@ use Rattle.fr_run_event.specs.declared.answer.Answer.{Answer}
 use Rattle.fr_run_event.specs.declared.event.Event.{Event}
 use Rattle.fr_run_event.specs.declared.not_enabled.NotEnabled.{NotEnabled}
 use Rattle.fr_run_event.specs.Step.{turn_of, answer_of, next_result, replay_from, replay}
-use Rattle.fr_world.specs.World.{WorldState, with_turn, next_turn, stepped_by}
+use Rattle.fr_world.specs.World.{next_turn, stepped_by}
+use Rattle.fr_world_kept.specs.Kept.{WorldState, with_turn}
 
 abbrev done : List Turn → Result (List Turn) (ℕ × NotEnabled)
 done h = Ok h

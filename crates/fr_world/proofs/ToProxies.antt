@@ -11,9 +11,10 @@ use Rattle.fr_run_event.specs.declared.not_enabled.NotEnabled.{NotEnabled}
 use Rattle.fr_run_event.specs.Law.{EventIsTurn}
 use Rattle.fr_run_event.specs.Step.{if_told, whole, heard_by}
 use Rattle.fr_run_event.specs.Tests.{was_told}
-use Rattle.fr_world.specs.World.{WorldState, next_turn}
+use Rattle.fr_world.specs.World.{next_turn}
+use Rattle.fr_world_kept.specs.Kept.{WorldState}
 use Rattle.fr_world.specs.Stepping.{why_not_up}
-use Rattle.fr_world.proofs.Called.{heard_in}
+use Rattle.fr_world_kept.proofs.Called.{heard_in}
 use Rattle.fr_world.proofs.Hears.{no_version}
 use Rattle.fr_world.proofs.Ups.{up_turn}
 

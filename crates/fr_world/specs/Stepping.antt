@@ -8,7 +8,8 @@ use Rattle.fr_run_event.specs.declared.event.Event.{Event}
 use Rattle.fr_run_event.specs.declared.not_enabled.NotEnabled.{NotEnabled}
 use Rattle.fr_run_event.specs.declared.not_enabled.NotEnabled.TheVariants as not_enabled
 use Rattle.fr_run_event.specs.Tests.{is_gone}
-use Rattle.fr_world.specs.World.{WorldState, next_turn, stepped}
+use Rattle.fr_world.specs.World.{next_turn, stepped}
+use Rattle.fr_world_kept.specs.Kept.{WorldState}
 
 -- why a node has no turn: it is not there, or it is gone
 abbrev pub why_not_up : WorldState → NodeId → Option NotEnabled

@@ -3,7 +3,6 @@
 #![tactic(auto)]
 
 mod events;
-mod nodes;
 mod replay;
 mod step;
 mod world;

@@ -9,10 +9,11 @@ ghost use Rattle.fr_world.specs.World.{next_turn, stepped};
 ghost use Rattle.fr_run.specs.Nodes as nodes;
 ghost use Rattle.fr_run_event.specs.Tests as tests;
 ghost use Rattle.fr_run_event.specs.At.{last_at, proxy_if_there};
+ghost use Rattle.fr_world_kept.specs.Kept.{state_of, IsKept};
 ghost use Rattle.fr_world_nodes.specs.Parts.{server_of};
 ghost use Rattle.fr_world_turns.specs.Turns.{history_of};
 
-use crate::nodes::Nodes;
+use crate::step::{step, step_owned};
 use fr_ask::{Ask, Last, Tell};
 use fr_base::{Ballot, Epoch, Memory, NodeId, Tag};
 use fr_epoch::Recoverer;
@@ -21,6 +22,7 @@ use fr_run_event::{Answer, Config, Event, NotEnabled};
 use fr_run_headline::laws::safety_law;
 use fr_storage::Storage;
 use fr_undo::MapStore;
+use fr_world_kept::Nodes;
 use fr_world_turns::Turn;
 use std::alloc::Global;
 use std::marker::Model;
@@ -33,13 +35,21 @@ pub struct World {
 }
 
 impl Model for World {
-    ghost use Rattle.fr_world.specs.World.{WorldState, state_of, IsKept};
+    ghost use Rattle.fr_world_kept.specs.Kept.{WorldState, IsKept};
 
     ghost Value = { WorldState };
 
-    ghost view = { λ w. state_of w.nodes };
+    ghost view = { λ w. record { config = w.nodes.config; turns = w.nodes.turns.turns } };
 
     ghost invariant = { λ w. IsKept w.nodes };
+}
+
+/// Says what is promised of the nodes, and does nothing.
+fn is_safe(kept: &Nodes)
+    requires { IsKept kept.now }
+    ensures { IsSafe (state_of kept.now).config (state_of kept.now).turns }
+{
+    safety_law();
 }
 
 impl World {
@@ -70,7 +80,7 @@ impl World {
         ensures grows { IsGrownFrom self.new.config self.old.turns self.new.turns }
     {
         safety_law();
-        self.nodes.step(alloc, event)
+        step(alloc, &mut self.nodes, event)
     }
 
     /// As [`World::step`], of a world that is given up where the event cannot happen or memory is wanting: so no hear of a
@@ -81,7 +91,7 @@ impl World {
         ensures refused { RefusesTurn (next_turn self event.now) result }
     {
         let mut nodes = self.nodes;
-        let answer = nodes.step_owned(alloc, event)?;
+        let answer = step_owned(alloc, &mut nodes, event)?;
         Ok((World { nodes }, answer))
     }
 
@@ -92,7 +102,7 @@ impl World {
     pub fn is_safe(&self)
         ensures { IsSafe self.now.config self.now.turns }
     {
-        self.nodes.is_safe()
+        is_safe(&self.nodes);
     }
 
     /// What it started from.

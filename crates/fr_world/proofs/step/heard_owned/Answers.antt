@@ -1,0 +1,11 @@
+use Rattle.std.proofs.Common.{sym, subst}
+use Rattle.fr_base.specs.declared.place.NodeId.{NodeId}
+use Rattle.fr_run_event.specs.declared.event.Event.TheVariants as event
+use Rattle.fr_world.specs.Stepping.{Refuses}
+use Rattle.fr_world_kept.specs.Kept.{state_of}
+use Rattle.fr_world.proofs.step.heard_owned.Goals as goal
+
+-- the node that hears is the one that its kind's own function has
+pub returns-in-Storage-clause-refused : goal.returns-in-Storage-clause-refused
+returns-in-Storage-clause-refused c =
+    subst (λ (by : NodeId). Refuses (state_of c.args.nodes.now) (event.Hear by c.args.from.now c.args.tell.now c.args.taken) c.heard_in_place.result) (sym c.in-Storage.is) c.heard_in_place.ensures.refused
