@@ -73,6 +73,16 @@ pub(crate) enum Asked {
     MarkAsked,
 }
 
+/// Why a log refuses, of the reasons without a number that rows name.
+#[derive(Clone, Copy, PartialEq, Eq)]
+pub(crate) enum Why {
+    Unseeded,
+    Stopped,
+    Stale,
+    NotMine,
+    NoMark,
+}
+
 /// What it tells.
 #[derive(Clone, Copy, PartialEq, Eq)]
 pub(crate) enum Told {
@@ -82,7 +92,7 @@ pub(crate) enum Told {
     Locked(u64, u64),
     Gap(u64),
     TooEarly(u64),
-    Refused(LogRefusal),
+    Refused(Why),
     Other,
 }
 
@@ -142,7 +152,12 @@ fn refused(why: LogRefusal) -> Told {
     match why {
         LogRefusal::Gap { durable } => Told::Gap(durable.get()),
         LogRefusal::TooEarly { first } => Told::TooEarly(first.get()),
-        other => Told::Refused(other),
+        LogRefusal::Unseeded => Told::Refused(Why::Unseeded),
+        LogRefusal::Stopped => Told::Refused(Why::Stopped),
+        LogRefusal::Stale => Told::Refused(Why::Stale),
+        LogRefusal::NotMine => Told::Refused(Why::NotMine),
+        LogRefusal::NoMark => Told::Refused(Why::NoMark),
+        _ => Told::Other,
     }
 }
 

@@ -2,10 +2,9 @@
 use crate::housing::scene::Deed::{Ask, Count, Crash, HasCrashed, Lose, Says};
 use crate::housing::scene::Said::{self, At, Is, Many, No};
 use crate::housing::scene::{Row, entered, proxy, runs, served, stamp};
-use crate::log_asks::{Asked, Told, at, epoch};
+use crate::log_asks::{Asked, Told, Why, at, epoch};
 use fr_ask::SeqAsk;
 use fr_base::{InMemory, NodeId, Step};
-use fr_log::LogRefusal;
 use fr_proxy::Sequencer;
 use fr_runtime_housing::CallFault::Lost;
 use fr_runtime_housing::Housed;
@@ -13,7 +12,7 @@ use std::alloc::Global;
 use std::process::Abort;
 use std::test::Fail;
 
-const LOST: [Row; 5] = [
+static LOST: [Row; 5] = [
     (Lose(0), At(1)),
     (Ask(0, Asked::Lock), No(Lost)),
     (Crash(0), No(Lost)),
@@ -26,7 +25,7 @@ fn a_lost_log_takes_no_call(rt: HostRuntime) -> Result<(), Fail> {
     runs(&rt, rt.alloc(), &LOST)
 }
 
-const CRASHED: [Row; 6] = [
+static CRASHED: [Row; 6] = [
     (Crash(0), At(1)),
     (Crash(0), At(2)),
     (Ask(0, Asked::Lock), At(3)),
@@ -41,7 +40,7 @@ fn a_crashed_log_stands_as_it_was(rt: HostRuntime) -> Result<(), Fail> {
 }
 
 /// A log that crashes once it is locked stays locked, and tells the lock again as it told it before.
-const LOCKED: [Row; 13] = [
+static LOCKED: [Row; 13] = [
     (Ask(0, Asked::Push(7, 8, 0, None)), At(1)),
     (Ask(0, Asked::Push(8, 9, 0, None)), At(2)),
     (Ask(0, Asked::Lock), At(3)),
@@ -57,7 +56,7 @@ const LOCKED: [Row; 13] = [
             4,
             5,
             Asked::Push(9, 10, 0, None),
-            Told::Refused(LogRefusal::Stopped),
+            Told::Refused(Why::Stopped),
         ),
         Is(true),
     ),

@@ -18,7 +18,7 @@ use std::test::Fail;
 type Faulty = LogNode<FaultyDevice<MemoryDevice>>;
 
 /// The device fails at the push of version 9, and not before.
-const AT_NINE: [Row; 5] = [
+static AT_NINE: [Row; 5] = [
     (Ask(0, Seed(1, 0)), At(1)),
     (Ask(0, Mark(0)), At(2)),
     (Ask(0, Push(1, 7, 0, None)), At(3)),
@@ -30,10 +30,10 @@ const AT_NINE: [Row; 5] = [
 ];
 
 /// The push is in no journal yet.
-const LOOK: [Row; 1] = [(Count, Many(4))];
+static LOOK: [Row; 1] = [(Count, Many(4))];
 
 /// It is locked, and has taken the push, which is entered with its own stamp.
-const LOCK_TAKEN: [Row; 4] = [
+static LOCK_TAKEN: [Row; 4] = [
     (Ask(0, Lock), At(11)),
     (Count, Many(6)),
     (Says(4, 10, Push(8, 9, 0, None), Held(9)), Is(true)),
@@ -41,14 +41,14 @@ const LOCK_TAKEN: [Row; 4] = [
 ];
 
 /// It is locked, and has not taken the push.
-const LOCK_LEFT: [Row; 3] = [
+static LOCK_LEFT: [Row; 3] = [
     (Ask(0, Lock), At(5)),
     (Count, Many(5)),
     (Says(4, 5, Lock, Locked(8, 0)), Is(true)),
 ];
 
 /// It crashes and is locked.
-const CRASH: [Row; 6] = [
+static CRASH: [Row; 6] = [
     (Crash(0), At(11)),
     (Ask(0, Lock), At(12)),
     (Count, Many(7)),
@@ -58,7 +58,7 @@ const CRASH: [Row; 6] = [
 ];
 
 /// It is lost.
-const LOSE: [Row; 4] = [
+static LOSE: [Row; 4] = [
     (Lose(20), At(21)),
     (Count, Many(6)),
     (Says(4, 10, Push(8, 9, 0, None), Held(9)), Is(true)),

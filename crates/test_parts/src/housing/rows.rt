@@ -1,32 +1,29 @@
 //! The worked rows of logs, read back from the journals of housed logs: in memory, and over files.
 use crate::housing::scene::{SEVEN, Said, asks, filed_after, housed_after, says};
-use crate::log_asks::{Asked, Told};
+use crate::log_asks::{Asked, Told, Why};
 use fr_audit_journal::{Entry, Journal};
 use fr_base::Node;
-use fr_log::{Log, LogRefusal};
+use fr_log::Log;
 use fr_runtime_housing::Housed;
 use std::alloc::Global;
 use std::process::Abort;
 use std::test::Fail;
 
 /// What a log at version 7 is asked and tells: it takes pushes in the order of their chain.
-const CHAIN: [(Asked, Told); 5] = [
+static CHAIN: [(Asked, Told); 5] = [
     (Asked::Push(9, 10, 0, None), Told::Gap(7)),
     (Asked::Push(7, 8, 0, None), Told::Held(8)),
     (Asked::Push(8, 9, 0, None), Told::Held(9)),
     (Asked::Push(8, 9, 0, None), Told::Held(9)),
-    (Asked::Push(7, 9, 0, None), Told::Refused(LogRefusal::Stale)),
+    (Asked::Push(7, 9, 0, None), Told::Refused(Why::Stale)),
 ];
 
 /// What a log whose epoch begins at version 10 is asked and tells.
-const LATER: [(Asked, Told); 4] = [
+static LATER: [(Asked, Told); 4] = [
     (Asked::Peek(0, 6), Told::TooEarly(10)),
-    (Asked::Peek(1, 9), Told::Refused(LogRefusal::NotMine)),
-    (Asked::MarkAsked, Told::Refused(LogRefusal::NoMark)),
-    (
-        Asked::Push(10, 11, 0, Some(1)),
-        Told::Refused(LogRefusal::NoMark),
-    ),
+    (Asked::Peek(1, 9), Told::Refused(Why::NotMine)),
+    (Asked::MarkAsked, Told::Refused(Why::NoMark)),
+    (Asked::Push(10, 11, 0, Some(1)), Told::Refused(Why::NoMark)),
 ];
 
 /// Asks a housed log of an epoch one after the other; whether each is entered.
@@ -145,6 +142,6 @@ fn the_asks_of_a_later_epoch_are_entered(rt: HostRuntime) -> Result<(), Fail> {
 
 #[test]
 fn a_lock_of_a_log_without_a_seed_is_entered(rt: HostRuntime) -> Result<(), Fail> {
-    let wanted = [(Asked::Lock, Told::Refused(LogRefusal::Unseeded))];
+    let wanted = [(Asked::Lock, Told::Refused(Why::Unseeded))];
     is_entered_in_both(&rt, rt.alloc(), 257, &[], &wanted)
 }

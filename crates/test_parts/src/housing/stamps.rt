@@ -9,7 +9,7 @@ use std::test::Fail;
 /// The last stamp.
 const LAST: u64 = (1 << 40) - 1;
 
-const ABOVE: [Row; 7] = [
+static ABOVE: [Row; 7] = [
     (Ask(0, MarkAsked), At(1)),
     (Ask(0, MarkAsked), At(2)),
     (Ask(40, MarkAsked), At(41)),
@@ -24,7 +24,7 @@ fn a_stamp_is_above_the_caller_and_the_journal(rt: HostRuntime) -> Result<(), Fa
     runs(&rt, rt.alloc(), &ABOVE)
 }
 
-const SPENT: [Row; 5] = [
+static SPENT: [Row; 5] = [
     (Ask(LAST, Lock), No(StampsSpent)),
     (Crash(LAST - 1), At(LAST)),
     (Ask(0, Lock), No(StampsSpent)),
@@ -37,7 +37,7 @@ fn there_is_no_stamp_above_the_last(rt: HostRuntime) -> Result<(), Fail> {
     runs(&rt, rt.alloc(), &SPENT)
 }
 
-const LOST: [Row; 2] = [(Lose(LAST - 1), At(LAST)), (Ask(LAST, Lock), No(Lost))];
+static LOST: [Row; 2] = [(Lose(LAST - 1), At(LAST)), (Ask(LAST, Lock), No(Lost))];
 
 #[test]
 fn a_lost_log_is_lost_before_its_stamps_are_spent(rt: HostRuntime) -> Result<(), Fail> {

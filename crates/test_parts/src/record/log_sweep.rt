@@ -4,11 +4,11 @@ ghost use Rattle.std.specs.Prelude.{◌≡◌, IfOk};
 
 use crate::log_asks::Asked::{Lock, Mark, MarkAsked, Peek, Push, Seed};
 use crate::log_asks::Told::{Gap, Held, Locked, Refused, Seeded, TooEarly};
+use crate::log_asks::Why::{NoMark, NotMine, Stale, Stopped, Unseeded};
 use crate::log_asks::{Asked, Row, Told, ask_of, epoch, told_of};
 use crate::record::devices::{crashed, failing};
 use fr_base::{LogId, Node, NodeFault};
 use fr_device::{Device, FaultyDevice, MemoryDevice};
-use fr_log::LogRefusal::{NoMark, NotMine, Stale, Stopped, Unseeded};
 use fr_record_log::LogNode;
 use std::alloc::Global;
 use std::process::Abort;
@@ -26,7 +26,7 @@ struct Case<'r> {
 }
 
 /// A log is seeded, takes pushes in the order of the chain alone, and is locked, which does not pass.
-const CHAIN: [Row; 12] = [
+static CHAIN: [Row; 12] = [
     (Seed(1, 0), Seeded),
     (Mark(0), Held(1)),
     (Push(1, 7, 1, Some(1)), Held(7)),
@@ -42,7 +42,7 @@ const CHAIN: [Row; 12] = [
 ];
 
 /// What a log of a later epoch refuses before its seed, before its mark and once it is locked.
-const REFUSALS: [Row; 8] = [
+static REFUSALS: [Row; 8] = [
     (Lock, Refused(Unseeded)),
     (Seed(10, 10), Seeded),
     (Peek(0, 6), TooEarly(10)),
