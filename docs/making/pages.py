@@ -58,15 +58,19 @@ def sizes(crate):
 
 
 class Log:
-    """What bench/gate wrote of a run: seconds of a processor by kind of work and crate."""
+    """What bench/gate wrote of a run, or was put together of several that shared the work: seconds of a processor by
+    kind of work and crate. Of several there is a line `parts DAY PROCESSORS RUNS COUNT SECONDS`: beside them fr_base
+    was proved so many times, in so many seconds on average."""
 
     def __init__(self, path):
-        self.took, self.run = {}, []
+        self.took, self.run, self.parts = {}, [], []
         with open(path, encoding="utf-8") as lines:
             for line in lines:
                 words = line.split()
                 if words[0] == "run":
                     self.run = words[1:]
+                elif words[0] == "parts":
+                    self.parts = words[1:]
                 else:
                     self.took[words[0], words[1]] = float(words[2]) / 60
 
@@ -86,12 +90,24 @@ class Log:
         return max(ends)
 
     def said(self, crates):
-        commit, day, processors, seconds, status = self.run
         unit = self.took.get(("proof", "fr_base"), 0) or 1
+        if self.parts:
+            day, processors, runs, count, seconds = self.parts
+            unit = float(seconds) / 60
         whole = sum(self.took.values())
         kinds = (("libraries", "proof"), ("tests", "tests"), ("programs", "program"), ("edits", "edits"))
         parts = [f"{name} {self.of_kind(kind):.0f}" for name, kind in kinds]
         took, names = self.chain(crates)
+        if self.parts:
+            return wrapped(
+                f"From {runs} runs of the gate on {day}, on {processors} processors, beside other work: each crate "
+                f"was proved from nothing in one of them, and what it took is counted once. All took {whole:.0f} "
+                f"minutes of a processor, {', '.join(parts)} and {self.of_kind('rest'):.0f} for sums of libraries. "
+                f"One unit is what fr_base's own proof took beside them, {unit:.2f} minutes in {count} proofs on "
+                f"average: the whole took {whole / unit:.0f} units, and the longest chain {took / unit:.0f} "
+                f"({', '.join(names)})."
+            )
+        commit, day, processors, seconds, status = self.run
         ended = "passed" if status == "0" else "failed"
         return wrapped(
             f"From a run of the gate from nothing on {day}, over what {commit} holds, on {processors} processors: it "
