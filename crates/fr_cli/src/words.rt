@@ -26,6 +26,11 @@ pub enum Request {
 /// mistake in the words, with the text for the user.
 pub fn read_words(alloc: Global, words: &[String]) -> Result<Request, Error> {
     let matches = command(alloc)?.try_get_matches_from(words)?;
+    read_request(alloc, &matches)
+}
+
+/// What the matches of words ask for. They have one of the commands: other words were refused.
+fn read_request(alloc: Global, matches: &ArgMatches<'_>) -> Result<Request, Error> {
     if let Some(end) = matches.subcommand_matches("end") {
         return read_end(alloc, end);
     }
@@ -38,7 +43,6 @@ pub fn read_words(alloc: Global, words: &[String]) -> Result<Request, Error> {
     if let Some(cluster) = matches.subcommand_matches("cluster") {
         return read_cluster(alloc, cluster);
     }
-    // There is one other command: other words are refused.
     match matches.subcommand_matches("apply") {
         Some(apply) => Ok(Request::Apply(read_store(apply))),
         None => Ok(Request::Apply(StoreKind::Map)),
@@ -97,76 +101,82 @@ fn number(matches: &ArgMatches<'_>, name: &str, default: u32) -> u32 {
 }
 
 fn command<'a>(alloc: Global) -> Result<Command<'a>, Error> {
-    let simulate = Command::new(alloc, "simulate")
+    let program = program_command(alloc).after_help(
+        "All commands but cluster read a script from standard input: 'fdbrec apply --help' shows one.",
+    );
+    let program = with(program, apply_command(alloc))?;
+    let program = with(program, end_command(alloc))?;
+    let program = with(program, Ok(simulate_command(alloc)))?;
+    let program = with(program, Ok(audit_command(alloc)))?;
+    with(program, cluster_command(alloc))
+}
+
+/// A command with one that stands below it.
+fn with<'a>(above: Command<'a>, below: Result<Command<'a>, Error>) -> Result<Command<'a>, Error> {
+    let below = below?;
+    Ok(above.subcommand(below)?)
+}
+
+/// The command `simulate`.
+fn simulate_command<'a>(alloc: Global) -> Command<'a> {
+    Command::new(alloc, "simulate")
         .about(
             "Takes steps in a world of coordinators, logs, proxies, recoverers and storage servers",
         )
-        .after_help(SIMULATE_HELP);
-    let audit = Command::new(alloc, "audit")
+        .after_help(SIMULATE_HELP)
+}
+
+/// The command `audit`.
+fn audit_command<'a>(alloc: Global) -> Command<'a> {
+    Command::new(alloc, "audit")
         .about("Tells whether the journals of all nodes are a run")
-        .after_help(AUDIT_HELP);
-    let command = program_command(alloc)
-        .after_help(
-            "All commands but cluster read a script from standard input: 'fdbrec apply --help' shows one.",
-        )
-        .subcommand(apply_command(alloc)?)?
-        .subcommand(end_command(alloc)?)?
-        .subcommand(simulate)?
-        .subcommand(audit)?
-        .subcommand(cluster_command(alloc)?)?;
-    Ok(command)
+        .after_help(AUDIT_HELP)
 }
 
 /// The command `end` with its words.
 fn end_command<'a>(alloc: Global) -> Result<Command<'a>, Error> {
-    let logs = Arg::new(alloc, "logs")
-        .long("logs")
-        .help("How many logs the locked generation has, 1 to 16")
-        .value_name("M")
-        .value_parser(value_parser!(u8).range(1..=16))
-        .required(true)
-        .action(ArgAction::Set);
-    let degree = Arg::new(alloc, "degree")
-        .long("degree")
-        .help("On how many of them each tag stands, 1 to M")
-        .value_name("K")
-        .value_parser(value_parser!(u8).range(1..=16))
-        .required(true)
-        .action(ArgAction::Set);
     let command = Command::new(alloc, "end")
         .about("Tells the end of an epoch, reply by reply of its locked logs")
         .after_help(END_HELP)
-        .arg(logs)?
-        .arg(degree)?;
+        .arg(of_shape(
+            alloc,
+            "logs",
+            "How many logs the locked generation has, 1 to 16",
+            "M",
+        ))?
+        .arg(of_shape(
+            alloc,
+            "degree",
+            "On how many of them each tag stands, 1 to M",
+            "K",
+        ))?;
     Ok(command)
+}
+
+/// A word with a number from 1 to 16, which must be there.
+fn of_shape<'a>(alloc: Global, name: &'a str, help: &'a str, value: &'a str) -> Arg<'a> {
+    Arg::new(alloc, name)
+        .long(name)
+        .help(help)
+        .value_name(value)
+        .value_parser(value_parser!(u8).range(1..=16))
+        .required(true)
+        .action(ArgAction::Set)
 }
 
 /// The command `cluster` with its words.
 fn cluster_command<'a>(alloc: Global) -> Result<Command<'a>, Error> {
-    let journal = Arg::new(alloc, "journal")
-        .long("journal")
-        .help("Prints the script of the audit in place of 'audit ok'")
-        .action(ArgAction::SetTrue);
-    let store = Arg::new(alloc, "store").long("store").help(
-        "What nodes and stores keep what they have in: maps, or files and tables, in memory",
-    );
-    let storm = Arg::new(alloc, "storm")
-        .long("storm")
-        .help("How many of 256 asks are lost or repeated, 0 to 256, and so for crashes")
-        .value_name("N")
-        .value_parser(value_parser!(u16).range(0..=256))
-        .default_value("0")
-        .action(ArgAction::Set);
-    let seed = Arg::new(alloc, "seed")
-        .long("seed")
-        .help("From what a storm is drawn, any number below 2^64")
-        .value_name("S")
-        .value_parser(value_parser!(u64))
-        .default_value("1")
-        .action(ArgAction::Set);
     let cluster = Command::new(alloc, "cluster")
         .about("Runs a cluster in threads, and audits what its nodes did")
-        .after_help(CLUSTER_HELP)
+        .after_help(CLUSTER_HELP);
+    let of_nodes = with_nodes(alloc, cluster)?;
+    let of_work = with_work(alloc, of_nodes)?;
+    with_storm(alloc, of_work)
+}
+
+/// With the words of how many nodes of each kind there are.
+fn with_nodes<'a>(alloc: Global, cluster: Command<'a>) -> Result<Command<'a>, Error> {
+    let command = cluster
         .arg(few(
             alloc,
             "coordinators",
@@ -206,7 +216,13 @@ fn cluster_command<'a>(alloc: Global) -> Result<Command<'a>, Error> {
             "2",
             1,
             16,
-        ))?
+        ))?;
+    Ok(command)
+}
+
+/// With the words of what they do.
+fn with_work<'a>(alloc: Global, cluster: Command<'a>) -> Result<Command<'a>, Error> {
+    let command = cluster
         .arg(many(
             alloc,
             "batches",
@@ -228,12 +244,53 @@ fn cluster_command<'a>(alloc: Global) -> Result<Command<'a>, Error> {
             "After how many turns a thread ends, 1 to 1,000,000",
             "10000",
             1,
-        ))?
-        .arg(of_kind(store))?
-        .arg(storm)?
-        .arg(seed)?
-        .arg(journal)?;
-    Ok(cluster)
+        ))?;
+    Ok(command)
+}
+
+/// With the words of the store, of a storm and of what is printed.
+fn with_storm<'a>(alloc: Global, cluster: Command<'a>) -> Result<Command<'a>, Error> {
+    let command = cluster
+        .arg(store_word(alloc))?
+        .arg(storm_word(alloc))?
+        .arg(seed_word(alloc))?
+        .arg(journal_word(alloc))?;
+    Ok(command)
+}
+
+fn store_word<'a>(alloc: Global) -> Arg<'a> {
+    of_kind(
+        Arg::new(alloc, "store").long("store").help(
+            "What nodes and stores keep what they have in: maps, or files and tables, in memory",
+        ),
+    )
+}
+
+fn storm_word<'a>(alloc: Global) -> Arg<'a> {
+    Arg::new(alloc, "storm")
+        .long("storm")
+        .help("How many of 256 asks are lost or repeated, 0 to 256, and so for crashes")
+        .value_name("N")
+        .value_parser(value_parser!(u16).range(0..=256))
+        .default_value("0")
+        .action(ArgAction::Set)
+}
+
+fn seed_word<'a>(alloc: Global) -> Arg<'a> {
+    Arg::new(alloc, "seed")
+        .long("seed")
+        .help("From what a storm is drawn, any number below 2^64")
+        .value_name("S")
+        .value_parser(value_parser!(u64))
+        .default_value("1")
+        .action(ArgAction::Set)
+}
+
+fn journal_word<'a>(alloc: Global) -> Arg<'a> {
+    Arg::new(alloc, "journal")
+        .long("journal")
+        .help("Prints the script of the audit in place of 'audit ok'")
+        .action(ArgAction::SetTrue)
 }
 
 /// A word with a number from `least` to `most`, and what it is where it is not there.

@@ -50,10 +50,11 @@ fn logs(alloc: Global, epoch: Epoch) -> Result<Vec<Station<InMemory<Log>>>, Fail
 fn directory(alloc: Global) -> Result<Plain, Fail> {
     let first = epoch(257)?;
     let later = [epoch(769)?, epoch(513)?];
-    let cells = Vec::new(alloc);
+    let start = generation(first)?;
     let logs = logs(alloc, first)?;
+    let cells = Vec::new(alloc);
     let sequencer = sequencer(alloc, first);
-    Ok(Directory::new(alloc, cells, logs, sequencer, generation(first)?, &later)?)
+    Ok(Directory::new(alloc, cells, logs, sequencer, start, &later)?)
 }
 
 /// The epochs that are chosen, each with its stamp, are these, and the newest is this one.
@@ -91,16 +92,35 @@ fn choose<R: Wait>(
     Ok(())
 }
 
-/// Whether epochs come, the greatest of which is the newest, whichever came last.
+/// Epochs that are chosen, each at a stamp; all that are then, each with its stamp; and the newest.
+type Coming = (&'static [(u64, u64)], &'static [(u64, u64)], u64);
+
+/// Epoch 513 comes once, and 1025 is not one that may come.
+static COMING: [Coming; 4] = [
+    (&[], &[(257, 0)], 257),
+    (&[(769, 7)], &[(257, 0), (769, 7)], 769),
+    (&[(513, 9)], &[(257, 0), (769, 7), (513, 9)], 769),
+    (
+        &[(513, 11), (1025, 12)],
+        &[(257, 0), (769, 7), (513, 9)],
+        769,
+    ),
+];
+
+/// Whether these are the epochs once those are chosen.
+fn comes<R: Wait>(rt: &R, alloc: Global, directory: &Plain, coming: &Coming) -> Result<bool, Fail> {
+    let (chosen, wanted, newest) = *coming;
+    for (number, at) in chosen {
+        choose(rt, alloc, directory, *number, *at)?;
+    }
+    has_epochs(alloc, directory, wanted, newest)
+}
+
+/// Asserts that epochs come, the greatest of which is the newest, whichever came last.
 fn come_and_go<R: Wait + Abort>(rt: &R, alloc: Global, directory: &Plain) -> Result<(), Fail> {
-    assert!(rt; has_epochs(alloc, directory, &[(257, 0)], 257)?);
-    choose(rt, alloc, directory, 769, 7)?;
-    assert!(rt; has_epochs(alloc, directory, &[(257, 0), (769, 7)], 769)?);
-    choose(rt, alloc, directory, 513, 9)?;
-    assert!(rt; has_epochs(alloc, directory, &[(257, 0), (769, 7), (513, 9)], 769)?);
-    choose(rt, alloc, directory, 513, 11)?;
-    choose(rt, alloc, directory, 1025, 12)?;
-    assert!(rt; has_epochs(alloc, directory, &[(257, 0), (769, 7), (513, 9)], 769)?);
+    for coming in &COMING {
+        assert!(rt; comes(rt, alloc, directory, coming)?);
+    }
     assert!(rt; directory.sequencer(epoch(513)?).is_some());
     assert!(rt; directory.sequencer(epoch(1025)?).is_none());
     Ok(())
@@ -149,27 +169,48 @@ fn answers<R: Wait>(
     asked(rt, alloc, directory, 3, NodeId::Log { epoch, index }, epoch)
 }
 
-/// Logs of the start answer at once, one more than there are never, nor one of an epoch that may not come. Those of a
-/// later epoch answer nothing until they are there, and from then on above the stamp at which they came.
+/// An epoch, a log's number, and the stamp at which it answers such a caller, or none where it is not there.
+type Answering = (u64, u8, Option<u64>);
+
+/// Logs of the start answer at once, one more than there are never, nor one of an epoch that may not come.
+static BEFORE: [Answering; 4] = [
+    (257, 0, Some(4)),
+    (257, 2, None),
+    (1025, 0, None),
+    (513, 0, None),
+];
+
+/// Those of a later epoch, once they came at stamp 8.
+static AFTER: [Answering; 2] = [(513, 1, Some(9)), (513, 2, None)];
+
+/// Asserts that logs answer so.
+fn answer_so<R: Wait + Abort>(
+    rt: &R,
+    alloc: Global,
+    directory: &Plain,
+    rows: &[Answering],
+) -> Result<(), Fail> {
+    for (number, index, wanted) in rows {
+        let found = answers(rt, alloc, directory, epoch(*number)?, *index)?;
+        assert!(rt;
+            found == wanted.ok_or(DirectoryFault::NotThere),
+            "{number} {index}"
+        );
+    }
+    Ok(())
+}
+
+/// Logs of a later epoch answer nothing until they are there, and from then on above the stamp at which they came.
 fn logs_come<R: Wait + Abort>(rt: &R, alloc: Global, directory: &Plain) -> Result<(), Fail> {
-    let later = epoch(513)?;
-    let absent = DirectoryFault::NotThere;
-    assert!(rt; answers(rt, alloc, directory, epoch(257)?, 0)? == Ok(4));
-    assert!(rt; answers(rt, alloc, directory, epoch(257)?, 2)? == Err(absent));
-    assert!(rt; answers(rt, alloc, directory, epoch(1025)?, 0)? == Err(absent));
-    assert!(rt; answers(rt, alloc, directory, later, 0)? == Err(absent));
-    directory.publish_logs(rt, later, logs(alloc, later)?, stamp(8)?);
-    assert!(rt; answers(rt, alloc, directory, later, 1)? == Ok(9));
-    assert!(rt; answers(rt, alloc, directory, later, 2)? == Err(absent));
-    let index = 1;
-    assert!(rt;
-        directory
-            .log(LogId {
-                epoch: later,
-                index
-            })
-            .is_some()
-    );
+    let (later, at) = (epoch(513)?, stamp(8)?);
+    answer_so(rt, alloc, directory, &BEFORE)?;
+    directory.publish_logs(rt, later, logs(alloc, later)?, at);
+    answer_so(rt, alloc, directory, &AFTER)?;
+    let id = LogId {
+        epoch: later,
+        index: 1,
+    };
+    assert!(rt; directory.log(id).is_some());
     Ok(())
 }
 
@@ -198,14 +239,24 @@ fn refuses<R: Wait + Abort>(rt: &R, alloc: Global, directory: &Plain) -> Result<
     };
     let last = (1 << 40) - 1;
     let spent = DirectoryFault::Call(CallFault::StampsSpent);
-    assert!(rt; asked(rt, alloc, directory, 3, cell, first)? == Err(DirectoryFault::NotAsked));
-    assert!(rt; asked(rt, alloc, directory, 3, proxy, first)? == Err(DirectoryFault::NotAsked));
-    assert!(rt; asked(rt, alloc, directory, last, log, first)? == Err(spent));
-    assert!(rt; asked(rt, alloc, directory, last - 1, log, first)? == Ok(last));
-    assert!(rt; asked(rt, alloc, directory, 3, log, first)? == Err(spent));
-    assert!(rt; directory.crash(rt, alloc, stamp(3)?, cell) == Err(DirectoryFault::NotThere));
-    assert!(rt; directory.crash(rt, alloc, stamp(3)?, proxy) == Err(DirectoryFault::NotAsked));
-    assert!(rt; directory.crash(rt, alloc, stamp(3)?, log) == Err(spent));
+    let asks = [
+        (3, cell, Err(DirectoryFault::NotAsked)),
+        (3, proxy, Err(DirectoryFault::NotAsked)),
+        (last, log, Err(spent)),
+        (last - 1, log, Ok(last)),
+        (3, log, Err(spent)),
+    ];
+    for (seen, to, wanted) in &asks {
+        assert!(rt; asked(rt, alloc, directory, *seen, *to, first)? == *wanted);
+    }
+    let crashes = [
+        (cell, DirectoryFault::NotThere),
+        (proxy, DirectoryFault::NotAsked),
+        (log, spent),
+    ];
+    for (node, wanted) in &crashes {
+        assert!(rt; directory.crash(rt, alloc, stamp(3)?, *node) == Err(*wanted));
+    }
     Ok(())
 }
 

@@ -79,7 +79,7 @@ impl Rack for RefusingRack {
 }
 
 /// What is refused, and what comes of the run. Log (513, 4) is none of a generation of 4 logs.
-static ROWS: [(Refused, Option<RunFault>); 8] = [
+const ROWS: [(Refused, Option<RunFault>); 8] = [
     (Refused::Cell(2, NodeFault::Device), Some(RunFault::Rack)),
     (Refused::Cell(0, NodeFault::Memory), Some(RunFault::Memory)),
     (Refused::Log(257, 3, NodeFault::Full), Some(RunFault::Rack)),

@@ -50,15 +50,46 @@ fn holds<H: Threads + Wait + Sync>(
     alloc: Global,
     name: &String,
 ) -> io::Result<bool> {
-    let words = words_of(rt, alloc, name)?;
     let status = status_of(rt, alloc, name)?;
-    let script = fs::read(rt, format!(in alloc; "{name}.json")?.as_str())?;
-    let wanted = fs::read(rt, format!(in alloc; "{name}.out")?.as_str())?;
+    let words = words_of(rt, alloc, name)?;
+    prints(rt, threads, alloc, name, words.as_slice(), status)
+}
+
+/// Whether the program of these words ends with this status and prints what stands beside its script.
+fn prints<H: Threads + Wait + Sync>(
+    rt: &HostRuntime,
+    threads: &H,
+    alloc: Global,
+    name: &String,
+    words: &[String],
+    status: Option<u8>,
+) -> io::Result<bool> {
+    let script = read_of(rt, format!(in alloc; "{name}.json"))?;
+    let wanted = read_of(rt, format!(in alloc; "{name}.out"))?;
+    let (found, printed) = printed_by(threads, alloc, words, script);
+    Ok(found.is_some() && found == status && printed.as_slice() == wanted.as_slice())
+}
+
+/// The bytes of a file.
+fn read_of(rt: &HostRuntime, name: Result<String, AllocError>) -> io::Result<Vec<u8>> {
+    let name = name?;
+    fs::read(rt, name.as_str())
+}
+
+/// The status with which the program of these words ends on a script, where it ends with one, and what it printed.
+fn printed_by<H: Threads + Wait + Sync>(
+    threads: &H,
+    alloc: Global,
+    words: &[String],
+    script: Vec<u8>,
+) -> (Option<u8>, Vec<u8>) {
     let mut reader = Device::whole(script);
     let mut printed = Device::whole(Vec::new(alloc));
-    let ending = run_words(threads, alloc, words.as_slice(), &mut reader, &mut printed);
-    let is_done = matches!(ending, Ending::Done(found) if Some(found) == status);
-    Ok(is_done && printed.bytes.as_slice() == wanted.as_slice())
+    let status = match run_words(threads, alloc, words, &mut reader, &mut printed) {
+        Ending::Done(status) => Some(status),
+        _ => None,
+    };
+    (status, printed.into_bytes())
 }
 
 /// The status that a script is to end with; none where its file has no number.

@@ -63,6 +63,18 @@ impl Device {
         }
     }
 
+    /// What it holds.
+    pub(crate) fn into_bytes(self) -> Vec<u8> {
+        let Device {
+            bytes,
+            width: _,
+            at: _,
+            calls: _,
+            fails: _,
+        } = self;
+        bytes
+    }
+
     fn call(&mut self) -> io::Result<()> {
         self.calls = self.calls.saturating_add(1);
         if self.calls == self.fails {
