@@ -5,9 +5,16 @@
  * those of the numbers REFUSE, REFUSE + REFUSE_STEP and so on. What came of each stands in the file REFUSE_TO: a line
  * `NUMBER STATUS END OUT ERR HASH KIND`, where STATUS is the copy's as wait(2) has it, END is 1 where it ended by itself,
  * and OUT and ERR are the lengths of what it wrote on its streams in all; what it wrote follows where KIND is new. Only a
- * program of one thread, whose first three streams are files, can be copied so. See bench/memory and bench/refused. */
+ * program of one thread, whose first three streams are files, can be copied so. See bench/memory and bench/refused.
+ *
+ * Numbers say nothing of the place in the program that wants the memory. So each allocation has a site too: a hash of
+ * the innermost return addresses into the program that lie on its stack. With REFUSE_SITES the program writes at its end
+ * a line `SITE COUNT` for each site into that file. With REFUSE_SITE, a site, the allocation of the number REFUSE among
+ * those of that site is refused, whatever thread makes it and however threads take turns. With REFUSE_FROM each
+ * allocation from that number on is refused, of the site where one is said. See bench/sites. */
 #define _GNU_SOURCE
 #include <fcntl.h>
+#include <link.h>
 #include <stdint.h>
 #include <stdio.h>
 #include <stdlib.h>
@@ -20,9 +27,22 @@
 extern void *__libc_malloc(size_t size);
 extern void *__libc_realloc(void *place, size_t size);
 
-enum { LINE = 200, KNOWN = 1 << 16, OPEN = 64, SECONDS = 120 };
+enum { LINE = 200, KNOWN = 1 << 16, OPEN = 64, SECONDS = 120, SITES = 1 << 14, DEPTH = 4, WORDS = 256 };
 
-static long made, refused = -1, step;
+/* A place of the program that wants memory, and how often it did. */
+struct site {
+    uint64_t name;
+    long count;
+};
+
+extern void *__libc_stack_end;
+
+static long made, refused = -1, from, step;
+static uint64_t wanted;
+static const char *sites_to;
+static struct site sites[SITES];
+static int is_held;
+static uintptr_t text_begin, text_end, text_base;
 static int to = -1, is_copy, is_over, streams[3];
 static int *has_ended;
 static uint64_t known[KNOWN];
@@ -136,9 +156,65 @@ static int refuses_in_copy(long number) {
     return 0;
 }
 
+/* Where the program's own code lies: the first object that is loaded is the program. */
+static int find_text(struct dl_phdr_info *found, size_t size, void *data) {
+    (void)size, (void)data;
+    for (int at = 0; at < found->dlpi_phnum; at++) {
+        const ElfW(Phdr) *part = &found->dlpi_phdr[at];
+        if (part->p_type == PT_LOAD && (part->p_flags & PF_X)) {
+            text_base = found->dlpi_addr;
+            text_begin = found->dlpi_addr + part->p_vaddr;
+            text_end = text_begin + part->p_memsz;
+        }
+    }
+    return 1;
+}
+
+/* Whether a word of the stack is an address behind a call: one whose target is near, or by a register or a place. */
+static int is_behind_call(uintptr_t word) {
+    if (word < text_begin + 7 || word >= text_end) return 0;
+    const unsigned char *code = (const unsigned char *)word;
+    if (code[-5] == 0xe8) return 1;
+    return (code[-2] == 0xff && (code[-1] & 0x38) == 0x10) || (code[-3] == 0xff && (code[-2] & 0x38) == 0x10) ||
+           (code[-6] == 0xff && (code[-5] & 0x38) == 0x10) || (code[-7] == 0xff && (code[-6] & 0x38) == 0x10);
+}
+
+/* The site of the allocation under way. Above the stack of a thread lies what the C library keeps of it, so that these
+ * words can be read; that of the first thread has an end of its own. */
+static uint64_t site(void) {
+    const uintptr_t *at = __builtin_frame_address(0), *end = at + WORDS;
+    if (syscall(SYS_gettid) == getpid() && end > (const uintptr_t *)__libc_stack_end) end = __libc_stack_end;
+    uint64_t sum = 0xcbf29ce484222325u;
+    for (int depth = 0; depth < DEPTH && at < end; at++)
+        if (is_behind_call(*at)) {
+            uintptr_t offset = *at - text_base;
+            sum = hash(sum, (const char *)&offset, sizeof offset);
+            depth++;
+        }
+    return sum;
+}
+
+/* Counts an allocation of a site, and returns its number there. */
+static long count(uint64_t name) {
+    while (__atomic_exchange_n(&is_held, 1, __ATOMIC_ACQUIRE)) {}
+    size_t at = (size_t)(name % SITES);
+    int look = 0;
+    while (sites[at].count > 0 && sites[at].name != name && look++ < SITES) at = (at + 1) % SITES;
+    if (look > SITES) stop("there are too many sites");
+    sites[at].name = name;
+    long number = ++sites[at].count;
+    __atomic_store_n(&is_held, 0, __ATOMIC_RELEASE);
+    return number;
+}
+
 static void look(void) {
     /* Two threads that come here at once find the same number. */
     const char *text = getenv("REFUSE"), *by = getenv("REFUSE_STEP"), *path = getenv("REFUSE_TO");
+    const char *name = getenv("REFUSE_SITE"), *first = getenv("REFUSE_FROM");
+    sites_to = getenv("REFUSE_SITES");
+    wanted = name ? strtoull(name, NULL, 16) : 0;
+    from = first ? atol(first) : 0;
+    if (name || sites_to) dl_iterate_phdr(find_text, NULL);
     if (path) {
         to = open(path, O_WRONLY | O_CREAT | O_TRUNC | O_CLOEXEC, 0600);
         streams[1] = memfd_create("out", MFD_CLOEXEC);
@@ -153,6 +229,12 @@ static void look(void) {
 static int refuses(void) {
     if (__atomic_load_n(&refused, __ATOMIC_RELAXED) < 0) look();
     long number = __atomic_add_fetch(&made, 1, __ATOMIC_RELAXED);
+    if ((sites_to || wanted) && !is_over) {
+        uint64_t name = site();
+        long own = count(name);
+        if (wanted) return name == wanted && (own == refused || (from > 0 && own >= from));
+    }
+    if (from > 0 && number >= from) return 1;
     if (to < 0) return number == refused;
     return !is_copy && !is_over && number >= refused && (number - refused) % step == 0 && refuses_in_copy(number);
 }
@@ -172,6 +254,9 @@ __attribute__((destructor)) static void say(void) {
     }
     /* (what the end itself takes is not the program's) */
     is_over = 1;
+    int file = sites_to ? open(sites_to, O_WRONLY | O_CREAT | O_TRUNC | O_CLOEXEC, 0600) : -1;
+    for (int at = 0; file >= 0 && at < SITES; at++)
+        if (sites[at].count > 0) dprintf(file, "%016llx %ld\n", (unsigned long long)sites[at].name, sites[at].count);
     dprintf(2, "\nallocations %ld\n", made);
 }
 

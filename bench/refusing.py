@@ -43,6 +43,28 @@ def run(words, script, path, number, cwd=None):
     return Ended(ran.returncode, ran.stdout, complained, int(found[1]) if found else None)
 
 
+def places(words, script, path, cwd=None):
+    """The sites at which a run with all of its memory takes some, each with how often: see refuse.c."""
+    with tempfile.NamedTemporaryFile() as file:
+        given = {**os.environ, "LD_PRELOAD": path, "REFUSE": "0", "REFUSE_SITES": file.name}
+        ran = subprocess.run(words, env=given, input=script, capture_output=True, timeout=120, check=False, cwd=cwd)
+        found = [line.split() for line in file.read().decode().splitlines()]
+    return ran, {name: int(count) for name, count in found}
+
+
+def at_place(words, script, path, site, number, goes_on, cwd=None):
+    """A run in which the allocation of this number among those of a site is refused, or where it goes on, each from that
+    number on. None where it has no end."""
+    given = {**os.environ, "LD_PRELOAD": path, "REFUSE_SITE": site, "REFUSE_FROM" if goes_on else "REFUSE": str(number)}
+    try:
+        ran = subprocess.run(words, env=given, input=script, capture_output=True, timeout=120, check=False, cwd=cwd)
+    except subprocess.TimeoutExpired:
+        return None
+    found = COUNT.search(ran.stderr)
+    complained = ran.stderr[: found.start()] if found else ran.stderr
+    return Ended(ran.returncode, ran.stdout, complained, int(found[1]) if found else None)
+
+
 LINE = re.compile(rb"(\d+) (\d+) ([01]) (\d+) (\d+) ([0-9a-f]{16}) (new|known)\n")
 
 
@@ -81,3 +103,38 @@ def each(numbers, jobs, does):
     """What a function makes of each number, so many at a time, in their order."""
     with concurrent.futures.ThreadPoolExecutor(jobs) as pool:
         yield from zip(numbers, pool.map(does, numbers))
+
+
+# ---- how a run ended: "same", "wanted" (memory), or else what is wrong with it
+
+
+def of_program(ended, first):
+    if ended.status == 3:
+        if ended.complained != b"out of memory\n":
+            return f"status 3, and it says {ended.complained[:200]}"
+        return "wanted" if first.said.startswith(ended.said) else "status 3, and other lines"
+    is_same = (ended.status, ended.said, ended.complained) == (first.status, first.said, first.complained)
+    return "same" if is_same else f"status {ended.status}, with what no run with all of its memory says"
+
+
+def of_cluster(ended, _):
+    if ended.status == 3:
+        is_bare = not ended.said and ended.complained == b"out of memory\n"
+        return "wanted" if is_bare else "status 3, and lines"
+    is_ok = ended.said == b"audit ok\n" or ended.said.startswith(b'{"config":{')
+    return "same" if ended.status == 0 and is_ok and not ended.complained else f"status {ended.status}"
+
+
+def of_player(ended, first):
+    """A scenario that does not hold is told as such; one without memory for itself ends the program."""
+    if (ended.status, ended.said) == (first.status, first.said):
+        return "same"
+    is_end = ended.status == 1 and not ended.said and re.search(rb"out of memory|AllocError|Memory", ended.complained)
+    return "wanted" if is_end else f"status {ended.status}"
+
+
+def of_test(ended, _):
+    said = ended.said + ended.complained
+    if ended.status == 0 and b"test result: ok" in said:
+        return "same"
+    return "wanted" if ended.status == 101 and WANT.search(said) else f"status {ended.status}"

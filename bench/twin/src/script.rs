@@ -32,8 +32,10 @@ pub fn read(text: &[u8]) -> Option<Vec<Operation>> {
 
 /// What a script of this form says, or none where it is not one.
 pub fn read_form<T: DeserializeOwned>(text: &[u8]) -> Option<T> {
-    let form = serde_json::from_slice(text).or_else(|_| {
-        let tree: serde_json::Value = serde_json::from_slice(text)?;
+    // (its encoding is looked at once, and not again in each of its strings)
+    let text = std::str::from_utf8(text).ok()?;
+    let form = serde_json::from_str(text).or_else(|_| {
+        let tree: serde_json::Value = serde_json::from_str(text)?;
         T::deserialize(tree)
     });
     form.ok()
@@ -203,14 +205,33 @@ impl Visitor<'_> for BytesVisitor {
     }
 
     fn visit_bytes<E: de::Error>(self, text: &[u8]) -> Result<Vec<u8>, E> {
-        if text.iter().any(u8::is_ascii_uppercase) {
-            return Err(E::custom("upper-case hex"));
+        if text.len() % 2 != 0 {
+            return Err(E::custom("half a byte"));
         }
-        let mut bytes = vec![0; text.len() / 2];
-        hex::decode_to_slice(text, &mut bytes).map_err(E::custom)?;
+        let mut wrong = 0;
+        let bytes = text.chunks_exact(2).map(|pair| {
+            let (high, low) = (DIGITS[pair[0] as usize], DIGITS[pair[1] as usize]);
+            wrong |= high | low;
+            high << 4 | low & 0x0f
+        });
+        let bytes = bytes.collect();
+        if wrong > 0x0f {
+            return Err(E::custom("no lower-case hex"));
+        }
         Ok(bytes)
     }
 }
+
+/// What each byte stands for as a lower-case digit; 255 where it is none.
+const DIGITS: [u8; 256] = {
+    let mut digits = [255; 256];
+    let mut digit = 0;
+    while digit < 16 {
+        digits[b"0123456789abcdef"[digit] as usize] = digit as u8;
+        digit += 1;
+    }
+    digits
+};
 
 /// A member's name, read as its place in a list of names.
 pub(crate) struct Name(pub &'static [&'static str]);

@@ -1,0 +1,147 @@
+"""What the sources weigh: the counts by which the repository is kept small (docs/tables --weight)."""
+import collections
+import re
+
+from making.sources import Crates, files_of, read
+
+FAMILIES = (
+    ("base", "fr_base fr_mutation fr_undo"),
+    ("protocol", "fr_register fr_state fr_tags fr_log fr_ask fr_proxy fr_tail fr_epoch fr_storage"),
+    ("records", "fr_device fr_record fr_record_node fr_record_log"),
+    ("tables", "fr_sql_"),
+    ("host", "fr_host_"),
+    ("runs", "fr_run fr_run_"),
+    ("worlds", "fr_world fr_world_"),
+    ("audit", "fr_audit fr_audit_journal fr_audit_script"),
+    ("runtime", "fr_runtime fr_runtime_"),
+    ("forms", "fr_form fr_json fr_simulate_script"),
+    ("commands", "fr_cli fdbrec"),
+    ("tests", "test_"),
+    ("examples", "example_"),
+)
+ASKS = (("MarkAsked|Marked|NoMark", "mark"), ("Pop|Popped", "pop"))
+PARAMETERS, BODY, RUN = 7, 40, 10
+FUNCTION = re.compile(r"^( *)((?:pub(?:\([a-z]+\))? )?)(?:const |unsafe |extern \"C\" )*fn (\w+)", re.M)
+TYPE = re.compile(r"^pub (?:struct|enum|trait|type) (\w+)", re.M)
+WORD = re.compile(r"[A-Za-z_]\w*|\d+|\"[^\"]*\"")
+
+
+def family_of(crate):
+    """The family that says the whole name of a crate, or else the longest beginning of it."""
+    named = [(word, name) for name, words in FAMILIES for word in words.split() if crate.startswith(word)]
+    found = [(word == crate, len(word), name) for word, name in named]
+    return max(found)[2] if found else "other"
+
+
+def balanced(text, at, opens, closes):
+    """Where what opens at a place is closed again; texts and comments are left out."""
+    depth = 0
+    skipped = r"//[^\n]*|\"(?:\\.|[^\"\\])*\"|'(?:\\.|[^'\\])'"
+    for it in re.compile(f"{skipped}|[{re.escape(opens + closes)}]").finditer(text, at):
+        depth += (it[0] in opens) - (it[0] in closes)
+        if it[0] in closes and depth == 0:
+            return it.end()
+    return len(text)
+
+
+def parameters(text):
+    """How many a list in parentheses has, self among them."""
+    inside, depth, count, has_any = text[1:-1], 0, 0, False
+    for it in inside:
+        depth += (it in "([{<") - (it in ")]}>")
+        has_any = has_any or not it.isspace()
+        count += it == "," and depth == 0
+    return count + (has_any and not inside.rstrip().endswith(","))
+
+
+def functions(path):
+    """Each function of a file: its name, whether it is public, its parameters, and the lines of its body."""
+    text = read(path)
+    for it in FUNCTION.finditer(text):
+        start = text.find("(", it.end())
+        angle = text.find("<", it.end(), start)
+        if angle == it.end():
+            start = text.find("(", balanced(text, angle, "<", ">"))
+        end = balanced(text, start, "(", ")")
+        rest = text[end : text.find("\n", end)]
+        body = re.compile(r"\{$" if rest.endswith("{") else r"^" + it[1] + r"\{$|;$", re.M).search(text, end)
+        lines = 0
+        if body and "{" in body[0]:
+            close = re.compile(r"^" + it[1] + r"\}", re.M).search(text, body.end())
+            lines = text.count("\n", body.end(), close.start()) if close else 0
+        yield it[3], it[2] == "pub ", parameters(text[start:end]), lines
+
+
+def shapes(path):
+    """The lines of a file as shapes: names, numbers and texts are all alike. Lines that say nothing are left out."""
+    for number, line in enumerate(read(path).split("\n"), 1):
+        line = line.strip()
+        if line and not re.match(r"//|use |ghost use |#\[|mod |pub mod |pub use ", line):
+            yield number, WORD.sub("x", line)
+
+
+def repeated(paths):
+    """Pairs of places with the same shapes over so many lines and more, each as long as it can be."""
+    lines = {path: list(shapes(path)) for path in paths}
+    places = collections.defaultdict(list)
+    for path, rows in lines.items():
+        for at in range(len(rows) - RUN + 1):
+            run = tuple(shape for _, shape in rows[at : at + RUN])
+            if len(set(run)) > RUN // 2:
+                places[run].append((path, at))
+    found = set()
+    for starts in places.values():
+        for one in range(len(starts)):
+            for other in range(one):
+                (path, at), (second, there) = starts[one], starts[other]
+                before = at and there and lines[path][at - 1][1] == lines[second][there - 1][1]
+                if not before and (path != second or abs(at - there) >= RUN):
+                    found.add((second, lines[second][there][0], path, lines[path][at][0]))
+    return sorted(found)
+
+
+def sources(part):
+    return [it for crate in Crates().names for it in files_of(f"crates/{crate}/{part}", (".rt", ".antt"))]
+
+
+def weight():
+    """The lines of a report."""
+    crates = Crates()
+    by_family = collections.Counter()
+    for crate in crates.names:
+        for part in ("src", "specs", "proofs"):
+            rows = sum(read(it).count("\n") for it in files_of(f"crates/{crate}/{part}", (".rt", ".antt")))
+            by_family[family_of(crate), part] += rows
+        by_family[family_of(crate), "crates"] += 1
+    said = ["| Family | Crates | Code | Definitions | Proofs |", "|---|---:|---:|---:|---:|"]
+    names = [name for name, _ in FAMILIES if by_family[name, "crates"]]
+    for name in names + ["other"] * bool(by_family["other", "crates"]):
+        numbers = (by_family[name, part] for part in ("crates", "src", "specs", "proofs"))
+        said.append(f"| {name} | " + " | ".join(f"{it:,}" for it in numbers) + " |")
+    columns = ("crates", "src", "specs", "proofs")
+    sums = (sum(count for (_, of), count in by_family.items() if of == part) for part in columns)
+    said.append("| in all | " + " | ".join(f"{it:,}" for it in sums) + " |")
+    said += ["", "| What | Count |", "|---|---:|"]
+    every = [it for part in ("src", "specs", "proofs") for it in sources(part)]
+    for words, name in ASKS:
+        files = [it for it in every if re.search(rf"\b(?:{words})\b", read(it))]
+        said.append(f"| files that name the asks and tells of a {name} | {len(files)} |")
+    code = sources("src")
+    found = [(it, *each) for it in code for each in functions(it)]
+    wide = [it for it in found if it[2] and it[3] > PARAMETERS]
+    long = [it for it in found if it[4] > BODY]
+    types = collections.defaultdict(set)
+    for path in code:
+        for name in TYPE.findall(read(path)):
+            types[name].add(path)
+    twice = sorted(name for name, paths in types.items() if len(paths) > 1)
+    pairs = repeated(code)
+    said.append(f"| public functions with more than {PARAMETERS} parameters | {len(wide)} |")
+    said.append(f"| bodies over {BODY} lines | {len(long)} |")
+    said.append(f"| public types that share a name | {len(twice)} |")
+    said.append(f"| pairs of places in code that are alike over {RUN} lines and more | {len(pairs)} |")
+    said += ["", *(f"{path}: {name} has {count} parameters" for path, name, _, count, _ in wide)]
+    said += [f"{path}: {name} has {lines} lines" for path, name, _, _, lines in long]
+    said += [f"{name}: {', '.join(sorted(types[name]))}" for name in twice]
+    said += [f"{path}:{at} is like {second}:{there}" for second, there, path, at in pairs]
+    return said
