@@ -185,7 +185,7 @@ class Proxy:
         self.epoch, self.m, self.known = epoch, m, known
         self.request = 0
         self.open = self.ended = False
-        self.place = None
+        self.place = self.prev = None
         self.held = set()
 
     def submit(self):
@@ -203,7 +203,7 @@ class Proxy:
             return {"waiting": {}}
         if is_sequencer and name == "numbered" and self.place is None and said["request"] == self.request:
             if self.known <= said["prev"] < said["version"] <= said["prev"] + 1000000:
-                self.place = said["version"]
+                self.place, self.prev = said["version"], said["prev"]
         elif is_sequencer and why == "spent" or is_log and kind == "log" and why == "stopped":
             self.open, self.ended = False, True
             return {"ended": {}}
@@ -230,7 +230,7 @@ class Recoverer:
         self.reads, self.replies, self.written, self.seeded = {}, {}, set(), set()
         self.refused_reads = set()
         self.parent = self.state = self.pev = self.rv = None
-        self.reached = []
+        self.reached, self.copied = [], {}
 
     def is_majority(self, heard):
         return 2 * len(heard) > self.cells
@@ -334,6 +334,23 @@ class Storage:
         self.state = state
         self.version = self.floor = 0
 
+    def may_break(self, node, tell, version):
+        """Whether a hear breaks off at a version: one that is refused at none, one with nothing to take where it stands."""
+        ((_, what),) = tell.items()
+        ((name, said),) = what.items()
+        stops = [self.version]
+        if "log" in node and name == "marked":
+            state, own = batches.state_in(said["state"]), self.state[-1][0]
+            if self.why_not_marked(state):
+                return False
+            cut = batches.cut_of(state, own) if state != self.state else None
+            stops += [] if cut is None else [min(self.version, cut)]
+        elif "log" in node and name == "peeked":
+            if self.why_not_peeked(node["log"]["epoch"], said):
+                return False
+            stops += self.stops(node["log"]["epoch"], said)
+        return version in stops
+
     def hear(self, node, tell, taken):
         """Why it does not take it."""
         ((_, what),) = tell.items()
@@ -344,7 +361,7 @@ class Storage:
             return self.hear_marked(batches.state_in(said["state"]), taken)
         return self.hear_peeked(node["log"]["epoch"], said, taken)
 
-    def hear_marked(self, state, taken):
+    def why_not_marked(self, state):
         own = self.state[-1][0]
         if state[-1][0] < own:
             return "Older"
@@ -353,8 +370,13 @@ class Storage:
         if state[-1][0] == own or not state.goes_on(self.state):
             return "Stranger"
         cut = batches.cut_of(state, own)
-        if cut is not None and cut < self.floor:
-            return "BelowFloor"
+        return "BelowFloor" if cut is not None and cut < self.floor else None
+
+    def hear_marked(self, state, taken):
+        why = self.why_not_marked(state)
+        if why or state == self.state:
+            return why
+        cut = batches.cut_of(state, self.state[-1][0])
         if cut is not None:
             undone = min(self.version, cut)
             want(taken is None or taken in (self.version, undone), "a mark's hear broke off elsewhere")
@@ -363,16 +385,24 @@ class Storage:
             self.version = undone if taken is None else taken
         return None
 
-    def hear_peeked(self, epoch, peeked, taken):
+    def why_not_peeked(self, epoch, peeked):
         if epoch != batches.source_of(self.state, self.version + 1):
             return "NotMyGeneration"
-        if peeked["after"] > self.version:
-            return "Hole"
+        return "Hole" if peeked["after"] > self.version else None
+
+    def stops(self, epoch, peeked):
+        """The versions at which a peek's hear can break off, and last the one at which it ends."""
         end = batches.end_of(self.state, epoch)
         within = lambda version: version if end is None else min(version, end)
         stops = [self.version]
         stops += [each["version"] for each in peeked["records"] if self.version < each["version"] == within(each["version"])]
-        stops.append(max(stops[-1], within(peeked["upto"])))
+        return stops + [max(stops[-1], within(peeked["upto"]))]
+
+    def hear_peeked(self, epoch, peeked, taken):
+        why = self.why_not_peeked(epoch, peeked)
+        if why:
+            return why
+        stops = self.stops(epoch, peeked)
         want(taken is None or taken in stops, "a peek's hear broke off elsewhere")
         self.version = stops[-1] if taken is None else taken
         if taken is None:

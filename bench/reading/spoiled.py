@@ -1,10 +1,10 @@
-"""Runs that are spoiled on purpose, in a copy of what the program printed: each must be found, by its name."""
+"""Runs that are spoiled on purpose, in a copy of what was drawn: each must be found, by its name."""
 
 import copy
 import functools
 import json
 
-from . import batches, player
+from . import batches, wrong
 from .rules import Fault
 from .run import Run
 
@@ -148,24 +148,24 @@ def passed_over(worlds, seeds):
     return False
 
 
-def turned(worlds, seeds, wrong):
+def turned(worlds, seeds, rule):
     """Whether a run in which nodes keep a wrong rule is named by the promises in some seed, and by few events."""
     worlds = copy.copy(worlds)
-    worlds.text, worlds.checks, worlds.audit = functools.partial(player.text_of, wrong=wrong), ("promises",), None
+    worlds.text, worlds.checks, worlds.audit = functools.partial(wrong.text_of, wrong=rule), ("promises",), None
     for seed in seeds:
         fault = worlds.fault(seed, list(range(worlds.events)))
         if fault:
             kept = worlds.shrunk(seed)
-            print(f"{wrong.__name__}, in played seed {seed}: {fault}")
+            print(f"{rule.__name__}, in seed {seed}: {fault}")
             print(f"    the same by {len(kept)} events: {worlds.fault(seed, kept)}")
             return len(kept) < worlds.events // 4
-    print(f"{wrong.__name__}: not found")
+    print(f"{rule.__name__}: not found")
     return False
 
 
 def is_right(seeds, events):
     """Whether the readings find nothing where nodes keep the rules."""
-    faults = [found(player.text_of(seed, events), checks) for seed in seeds for checks in ("rules", "promises")]
+    faults = [found(wrong.text_of(seed, events), checks) for seed in seeds for checks in ("rules", "promises")]
     print(f"{len(faults)} readings of what is played by the rules, {len(faults) - faults.count(None)} with a fault")
     return faults.count(None) == len(faults)
 
@@ -173,7 +173,7 @@ def is_right(seeds, events):
 def test(worlds, seeds):
     """The status: 0 where each is found."""
     good = [is_right(seeds[:10], worlds.events)]
-    good += [turned(worlds, seeds, wrong) for wrong in player.WRONG]
+    good += [turned(worlds, seeds, rule) for rule in wrong.WRONG]
     good += [spoiled(worlds, seeds, *each) for each in SPOILS] + [passed_over(worlds, seeds)]
     print(f"{sum(good)} of {len(good)} as it is to be")
     return 0 if all(good) else 1

@@ -1,14 +1,12 @@
 //! Plays the scenarios of the folder, each file `NAME.md` but README.md, and prints a line for each scenario. It ends
-//! with status 1 where one does not hold. With words it plays a world at random, or the scenarios and then that.
+//! with status 1 where one does not hold.
 #![tactic(auto)]
 
 mod answers;
 mod events;
 mod found;
-mod random;
 mod worlds;
 
-use random::Plan;
 use std::alloc::Global;
 use std::process::ExitCode;
 use std::{fs, io};
@@ -36,35 +34,12 @@ impl Player for Players {
     }
 }
 
-/// With no words the scenarios are played. The words of a world at random are the seed, how many events are chosen and,
-/// in pairs, the first and the last number of those that are left out; with `all` before them both are played.
 fn main(rt: HostRuntime) -> anyhow::Result<ExitCode> {
-    let words: Vec<String> = std::env::args(&rt)?.collect(rt.alloc())?;
-    Ok(if play(&rt, words.as_slice())? {
+    Ok(if scenarios(&rt)? {
         ExitCode::SUCCESS
     } else {
         ExitCode::FAILURE
     })
-}
-
-/// Plays what the words of the program say, the first of which is its name: whether all scenarios of it hold.
-fn play(rt: &HostRuntime, words: &[String]) -> anyhow::Result<bool> {
-    match words {
-        [] | [_] => scenarios(rt),
-        [_, first, rest @ ..] if first.as_str() == "all" => all(rt, rest),
-        [_, rest @ ..] => {
-            random::print(rt, &Plan::read(rt.alloc(), rest)?)?;
-            Ok(true)
-        }
-    }
-}
-
-/// Plays the scenarios, and then a world at random.
-fn all(rt: &HostRuntime, words: &[String]) -> anyhow::Result<bool> {
-    let plan = Plan::read(rt.alloc(), words)?;
-    let holds = scenarios(rt)?;
-    random::print(rt, &plan)?;
-    Ok(holds)
 }
 
 /// Plays the scenarios: whether all of them hold.
