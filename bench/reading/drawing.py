@@ -48,7 +48,7 @@ class Drawn:
         }
         self.events = Events(self.config)
         self.new_asks, self.new_tells, self.epochs = [], [], [FIRST]
-        self.lines, self.rows = [], []
+        self.lines, self.rows, self.came = [], [], set()
         self.weights = [WEIGHTS[kind][seed % 4] for kind in WEIGHTS]
 
     # draws
@@ -228,7 +228,7 @@ class Drawn:
     def begin(self):
         """A recoverer begins, mostly of the round after the greatest; one of two with a shape of its own."""
         round_of = max(self.epochs) // 256 + self.dice.choice([-1, 0, 0, 1, 1, 1, 1, 1])
-        ballot = round_of * 256 + self.dice.randint(1, 3)
+        ballot = max(1, round_of) * 256 + self.dice.randint(1, 3)
         if self.one_of(2):
             return "begin", {"ballot": ballot}
         logs = self.logs()
@@ -283,13 +283,16 @@ class Drawn:
             self.stood(given["by"]["storage"]["tag"], wanted)
 
     def row_of(self, word, given):
-        """What a row gives: a tell by its number, where it was told."""
+        """What a row gives: a tell by its number, where it was told; an ask by its number, where it came before."""
         given = dict(given)
         if word == "hear":
             tell = self.events.told.get(key_of(given["of"], given["by"], given["tell"]))
             return word, {"by": given.pop("by"), "from": given.pop("of"), **given, "tell": given["tell"] if tell is None else tell}
         if word == "deliver":
-            return word, {"from": given["by"], "to": given["to"], "ask": given["ask"]}
+            key = key_of(given["by"], given["to"], given["ask"])
+            number = self.events.given.get(key) if key in self.came else None
+            self.came.add(key)
+            return word, {"from": given["by"], "to": given["to"], "ask": given["ask"] if number is None else number}
         return word, given
 
     def stood(self, tag, wanted):

@@ -23,7 +23,7 @@ class Events:
     def __init__(self, config):
         self.config, self.nodes = config, nodes.Nodes(config)
         self.asks, self.tells = [], []
-        self.given, self.told, self.numbers = set(), {}, {}
+        self.given, self.told, self.numbers = {}, {}, {}
         self.steps = {}
         self.rows = [[(0, {})] for _ in config["shards"]]
         self.journals = {}
@@ -130,11 +130,19 @@ class Events:
             fault = None
         self.stamp += 1
         self.journals.setdefault(json.dumps(name), []).append({"act": act, "stamp": self.stamp})
-        for to, ask in self.pending(name) if asks else []:
-            if (to, ask) not in before:
-                self.asks.append((name, to, ask))
-                self.given.add(key_of(name, to, ask))
+        now = [each for each in self.pending(name) if each not in before] if asks else []
+        self.asks += [(name, *each) for each in now]
+        self.number(name, now)
         return fault
+
+    def number(self, name, now):
+        """Numbers the asks that a node gives in a turn: by turns in which it asks the other, and only where the turn has
+        no other ask of it."""
+        for to in [json.loads(it) for it in dict.fromkeys(json.dumps(to) for to, _ in now)]:
+            asks = [ask for other, ask in now if other == to]
+            number = self.numbers[key_of("asks", name, to)] = self.numbers.get(key_of("asks", name, to), -1) + 1
+            for ask in asks:
+                self.given.setdefault(key_of(name, to, ask), number if len(asks) == 1 else None)
 
     def begin(self, ballot, **shape):
         if ballot in self.nodes.recoverers or ballot in (0, rules.FIRST):

@@ -42,34 +42,61 @@ def rows_of(world):
 
 
 def wrapped(row):
-    """The lines of a row, which goes on behind commas that stand in no text."""
+    """The lines of a row, which goes on behind commas that stand in no text, and before its arrow."""
     lines, line = [], "    "
-    for part in re.findall(r'(?:"[^"]*"|[^,"])+,?', row):
+    for part in re.findall(r'(?: -> )?(?:"[^"]*"|(?! -> )[^,"])+,?', row):
         if len(line) + len(part) > WIDTH and line.strip():
             lines.append(line.rstrip())
             line = "        "
-        line += part
+        line += part if line.strip() else part.lstrip()
     return lines + [line]
 
 
-def names_in(texts):
-    """The names of nodes that stand in some rows three times or more."""
+# nodes, the bytes of a cell's value, and coordinated states
+NODES = r'\{"(?:cell|log|sequencer|proxy|recoverer|storage)":\{(?:"\w+":\d+,?)+\}\}'
+BYTES = r"\b(?:01|02[0-9a-f]{16})[0-9a-f]{2}(?:[0-9a-f]{52})+"
+STATES = r'\[\{"epoch":\d+,"m":\d+,[^]]*\]'
+
+
+def found_in(pattern, text, times):
+    """What a pattern finds so many times or more."""
     counts = {}
-    for node in re.findall(r'\{"(?:cell|log|sequencer|proxy|recoverer|storage)":\{(?:"\w+":\d+,?)+\}\}', "\n".join(texts)):
-        counts[node] = counts.get(node, 0) + 1
-    return {node: name_of(json.loads(node)) for node in sorted(counts) if counts[node] > 2}
+    for it in re.findall(pattern, text):
+        counts[it] = counts.get(it, 0) + 1
+    return sorted(it for it in counts if counts[it] >= times)
+
+
+def names_in(texts):
+    """The names of what stands in some rows three times or more, and of bytes of states, which no line could have: each
+    with what it stands for. The bytes are those of generations, which have names too."""
+    text = "\n".join(texts)
+    nodes = {node: name_of(json.loads(node)) for node in found_in(NODES, text, 3)}
+    names = [(name, node) for node, name in nodes.items() if name]
+    values = found_in(BYTES, text, 1)
+    fronts = {it: 4 if it.startswith("01") else 20 for it in values}
+    pieces = {it: re.findall(".{52}", it[fronts[it] :]) for it in values}
+    gens = sorted({each for it in values for each in pieces[it]})
+    names += [(f"gen{number:03}", it) for number, it in enumerate(gens)]
+    of_gens = {it: f"$gen{number:03}" for number, it in enumerate(gens)}
+    spelled = {it: it[: fronts[it]] + "".join(of_gens[each] for each in pieces[it]) for it in values}
+    names += [(f"bytes{number:03}", spelled[it]) for number, it in enumerate(values)]
+    states = found_in(STATES, text, 3)
+    names += [(f"state{number:03}", it) for number, it in enumerate(states)]
+    stands = {name: it for name, it in names} | {f"bytes{number:03}": it for number, it in enumerate(values)}
+    return names, {it: f"${name}" for name, it in stands.items() if not name.startswith("gen")}
 
 
 def page(title, prose, worlds):
     """The text of a file of scenarios: worlds, each with its heading."""
     each = [(heading, rows_of(world)) for heading, world in worlds]
-    names = names_in([row for _, rows in each for row in rows])
+    names, stands = names_in([row for _, rows in each for row in rows])
     lines = [f"# {title}", "", *prose, ""]
-    lines += [f"    let {name} = {node}" for node, name in names.items() if name]
+    for name, it in names:
+        lines += wrapped(f"let {name} = {it}")
+    # (a longer text first: a value may begin with another one)
+    any_of_them = re.compile("|".join(re.escape(it) for it in sorted(stands, key=len, reverse=True)))
     for heading, rows in each:
         lines += ["", f"## {heading}", ""]
         for row in rows:
-            for node, name in names.items():
-                row = row.replace(node, f"${name}") if name else row
-            lines += wrapped(row)
+            lines += wrapped(any_of_them.sub(lambda found: stands[found[0]], row))
     return "\n".join(lines) + "\n"

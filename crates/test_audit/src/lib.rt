@@ -6,15 +6,9 @@ mod audits;
 #[cfg(test)]
 mod bad_forms;
 #[cfg(test)]
-mod draws;
-#[cfg(test)]
-mod draws_of_logs;
-#[cfg(test)]
 mod faults;
 #[cfg(test)]
 mod forms;
-#[cfg(test)]
-mod random;
 #[cfg(test)]
 mod scripts;
 #[cfg(test)]

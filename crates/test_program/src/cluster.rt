@@ -1,8 +1,9 @@
 //! The words of the command `cluster`.
-use crate::words::{chooses, is_refused};
+use crate::words::{chooses, holds, is_refused};
 use clap::error::ErrorKind;
 use fr_cli::{ClusterOptions, ClusterWords, DEFAULTS, Request, StoreKind};
 use std::alloc::{AllocError, Global};
+use std::test::Fail;
 
 /// The greatest number of each word.
 const MOST: ClusterWords = ClusterWords {
@@ -55,7 +56,7 @@ fn chooses_cluster(
 }
 
 /// The first line, if there is one, that does not choose its cluster.
-pub(crate) fn first_cluster(alloc: Global) -> Result<Option<&'static str>, AllocError> {
+fn first_cluster(alloc: Global) -> Result<Option<&'static str>, AllocError> {
     for &(line, kind, words) in &CLUSTERS {
         if !chooses_cluster(alloc, line, kind, words)? {
             return Ok(Some(line));
@@ -107,11 +108,21 @@ static REFUSED: [(&str, ErrorKind); 24] = [
 ];
 
 /// The first line, if there is one, that is not refused for its reason.
-pub(crate) fn first_refused(alloc: Global) -> Result<Option<&'static str>, AllocError> {
+fn first_refused(alloc: Global) -> Result<Option<&'static str>, AllocError> {
     for &(line, kind) in &REFUSED {
         if !is_refused(alloc, line, kind)? {
             return Ok(Some(line));
         }
     }
     Ok(None)
+}
+
+#[test]
+fn words_choose_a_cluster(rt: HostRuntime) -> Result<(), Fail> {
+    holds(&rt, first_cluster(rt.alloc())?)
+}
+
+#[test]
+fn other_words_of_a_cluster_are_refused(rt: HostRuntime) -> Result<(), Fail> {
+    holds(&rt, first_refused(rt.alloc())?)
 }

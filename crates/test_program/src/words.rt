@@ -2,9 +2,11 @@
 use clap::error::ErrorKind;
 use fr_cli::{EndOptions, Request, StoreKind, read_words};
 use std::alloc::{AllocError, Global};
+use std::process::Abort;
+use std::test::Fail;
 
 /// The words of a line, the first of which is the program's name.
-pub(crate) fn words_of(alloc: Global, line: &str) -> Result<Vec<String>, AllocError> {
+fn words_of(alloc: Global, line: &str) -> Result<Vec<String>, AllocError> {
     let mut all = Vec::new(alloc);
     for word in line.split_whitespace() {
         all.push(String::from_str(alloc, word)?)?;
@@ -41,7 +43,7 @@ static STORES: [(&str, StoreKind); 5] = [
 const SIMULATION: &str = "fdbrec simulate";
 
 /// The first line, if there is one, that does not choose its store, or the simulation.
-pub(crate) fn first_store(alloc: Global) -> Result<Option<&'static str>, AllocError> {
+fn first_store(alloc: Global) -> Result<Option<&'static str>, AllocError> {
     for &(line, kind) in &STORES {
         if !chooses(alloc, line, &Request::Apply(kind))? {
             return Ok(Some(line));
@@ -68,7 +70,7 @@ fn chooses_end(alloc: Global, line: &str, logs: u8, degree: u8) -> Result<bool, 
 }
 
 /// The first line, if there is one, that does not choose its end of an epoch.
-pub(crate) fn first_end(alloc: Global) -> Result<Option<&'static str>, AllocError> {
+fn first_end(alloc: Global) -> Result<Option<&'static str>, AllocError> {
     for &(line, logs, degree) in &ENDS {
         if !chooses_end(alloc, line, logs, degree)? {
             return Ok(Some(line));
@@ -117,11 +119,32 @@ static REFUSED: [(&str, ErrorKind); 21] = [
 ];
 
 /// The first line, if there is one, that is not refused for its reason.
-pub(crate) fn first_refused(alloc: Global) -> Result<Option<&'static str>, AllocError> {
+fn first_refused(alloc: Global) -> Result<Option<&'static str>, AllocError> {
     for &(line, kind) in &REFUSED {
         if !is_refused(alloc, line, kind)? {
             return Ok(Some(line));
         }
     }
     Ok(None)
+}
+
+/// Says that a table holds, or the first line of it that does not.
+pub(crate) fn holds(rt: &impl Abort, wrong: Option<&'static str>) -> Result<(), Fail> {
+    assert!(rt; wrong.is_none(), "{wrong:?}");
+    Ok(())
+}
+
+#[test]
+fn words_choose_a_store(rt: HostRuntime) -> Result<(), Fail> {
+    holds(&rt, first_store(rt.alloc())?)
+}
+
+#[test]
+fn words_choose_the_end_of_an_epoch(rt: HostRuntime) -> Result<(), Fail> {
+    holds(&rt, first_end(rt.alloc())?)
+}
+
+#[test]
+fn other_words_are_refused(rt: HostRuntime) -> Result<(), Fail> {
+    holds(&rt, first_refused(rt.alloc())?)
 }

@@ -1,0 +1,37 @@
+/* Stands before the C library's read and write, for tests/devices: standard input and output take one byte a call, and
+   the call of a number (READ_FAILS, WRITE_FAILS, counted from 1) fails. */
+#define _GNU_SOURCE
+#include <dlfcn.h>
+#include <errno.h>
+#include <stdlib.h>
+#include <sys/types.h>
+#include <unistd.h>
+
+static long number_of(const char *name) {
+    const char *text = getenv(name);
+    return text ? atol(text) : 0;
+}
+
+ssize_t read(int file, void *to, size_t length) {
+    static ssize_t (*next)(int, void *, size_t);
+    static long calls;
+    if (!next) next = dlsym(RTLD_NEXT, "read");
+    if (file != 0) return next(file, to, length);
+    if (++calls == number_of("READ_FAILS")) {
+        errno = EIO;
+        return -1;
+    }
+    return next(file, to, length > 1 ? 1 : length);
+}
+
+ssize_t write(int file, const void *from, size_t length) {
+    static ssize_t (*next)(int, const void *, size_t);
+    static long calls;
+    if (!next) next = dlsym(RTLD_NEXT, "write");
+    if (file != 1) return next(file, from, length);
+    if (++calls == number_of("WRITE_FAILS")) {
+        errno = EIO;
+        return -1;
+    }
+    return next(file, from, length > 1 ? 1 : length);
+}
