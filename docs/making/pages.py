@@ -108,7 +108,7 @@ class Log:
                 f"({', '.join(names)})."
             )
         commit, day, processors, seconds, status = self.run
-        ended = "passed" if status == "0" else "failed"
+        ended = "passed" if status == "0" else "was cut off" if status == "cut" else "failed"
         return wrapped(
             f"From a run of the gate from nothing on {day}, over what {commit} holds, on {processors} processors: it "
             f"{ended} after {int(seconds) / 60:.0f} minutes and took {whole:.0f} of a processor, {', '.join(parts)} "
