@@ -10,3 +10,4 @@ mod GroupLemmas
 mod ReadRun
 mod ReadLemmas
 mod RestLemmas
+mod FaultLemmas

@@ -3,6 +3,7 @@ ghost use Rattle.std.specs.Prelude.{◌≡◌, ◌≢◌, ◌+◌, ◌-◌, ◌^
 ghost use Rattle.fr_device.specs.Disk.{MayLeave, IsDurable, Stands, Torn, bytes_at, written};
 ghost use Rattle.fr_device.specs.Moments.{LeavesOnly, Throughout};
 ghost use Rattle.fr_record.specs.File.{AreShort, StandsFor, IsLeft, IsFront, IsAtRest};
+ghost use Rattle.fr_record.specs.Fault.{met_device};
 ghost use Rattle.fr_record.specs.Put.{IsElsewhere};
 ghost use Rattle.fr_record.specs.Table.{IsFile, records_at};
 
@@ -17,6 +18,7 @@ use std::alloc::Global;
 fn load<D: Device>(alloc: Global, device: &mut D) -> Result<Vec<u8>, RecordFault>
     ensures bytes { IfOk result (λ bytes. bytes.items ≡ (D.disk device.old).content) }
     ensures durable { OnOk result (IsDurable (D.disk device.new)) }
+    ensures memory { (result ≡ Err RecordFault.Memory) → IsDurable (D.disk device.new) }
     ensures stands { Stands (D.disk device.old) (D.disk device.new) }
     ensures any_moment { Throughout D.Led D.disk (MayLeave (D.disk device.old)) device.old device.new }
     ensures capacity { D.capacity_of device.new ≡ D.capacity_of device.old }
@@ -42,6 +44,7 @@ pub(crate) fn read_record<D: Device>(
     requires { place.at + place.len ≤ length (D.disk device.old).content }
     ensures value { IfOk result (λ found. found ≡ bytes_at (D.disk device.old).content place.at place.len) }
     ensures stands { Stands (D.disk device.old) (D.disk device.new) }
+    ensures any_moment { Throughout D.Led D.disk (MayLeave (D.disk device.old)) device.old device.new }
     ensures capacity { D.capacity_of device.new ≡ D.capacity_of device.old }
     ensures never_full { result ≢ Err RecordFault.Full }
     ensures never_failed { result ≢ Err RecordFault.Failed }
@@ -91,6 +94,7 @@ pub(crate) fn read_file<D: Device>(
     ensures no_failure { OnOk result (D.failures_of device.new ≡ D.failures_of device.old) }
     ensures front { (rs : List (List ℕ)) → IsFront rs (D.disk device.old).content → IsFront rs (D.disk device.new).content }
     ensures memory { (result ≡ Err RecordFault.Memory) → Stands (D.disk device.old) (D.disk device.new) }
+    ensures durable { met_device result ≡ false → IsDurable (D.disk device.new) }
     ensures no_file { (result ≡ Err RecordFault.Broken) → Stands (D.disk device.old) (D.disk device.new) }
     ensures any_moment { (before : List (List ℕ)) (first : List ℕ) (others : List (List ℕ)) → AreShort (before ++ first ∷ others)
         → LeavesOnly D.Led D.disk (IsLeft before (first ∷ others)) device.old

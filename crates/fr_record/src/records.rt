@@ -1,10 +1,11 @@
 //! Record files.
-ghost use Rattle.std.specs.Prelude.{◌≡◌, ◌≢◌, ◌↔◌, ◌⊎◌, ◌||◌, ◌+◌, ◌-◌, ◌^◌, ◌<◌, nat_lt, min, [], ◌∷◌, ◌++◌, All, List, ℕ, length, false, Err, IsTrue, IfOk, IfErr, OnOk, OnErr};
-ghost use Rattle.fr_device.specs.Disk.{Stands, written};
+ghost use Rattle.std.specs.Prelude.{◌≡◌, ◌≢◌, ◌↔◌, ◌⊎◌, ◌||◌, ◌+◌, ◌-◌, ◌^◌, ◌<◌, nat_lt, min, [], ◌∷◌, ◌++◌, All, List, ℕ, length, false, Err, IsTrue, IsOk, IfOk, IfErr, OnOk, OnErr};
+ghost use Rattle.fr_device.specs.Disk.{MayLeave, IsDurable, Stands, written};
 ghost use Rattle.fr_record.specs.State.{record_at};
 ghost use Rattle.fr_device.specs.Moments.{Throughout, LeavesOnly};
 ghost use Rattle.fr_record.specs.Fault.{met_device};
 ghost use Rattle.fr_record.specs.Failing.{FailsOnceMore};
+ghost use Rattle.fr_record.specs.Opening.{IsOpening, HasGone};
 ghost use Rattle.fr_record.specs.Group.{records_of};
 ghost use Rattle.fr_record.specs.File.{frames, AreShort, StandsFor, IsLeft, IsAtRest};
 
@@ -58,6 +59,7 @@ impl<D: Device> Records<D> {
     fn has_room(&self, len: usize) -> bool
         ensures result { result ≡ nat_lt (length (frames self.now.records) + len) (D.capacity_of self.now.device) }
         ensures within { D.capacity_of self.now.device < 2 ^ 64 }
+        ensures least { length (frames self.now.records) < D.capacity_of self.now.device }
     {
         len < self.device.capacity() - self.end
     }
@@ -71,6 +73,7 @@ impl<D: Device> Records<D> {
         ensures same { self.new.records ≡ self.old.records }
         ensures fails { self.new.is_failed ≡ (self.old.is_failed || met_device result) }
         ensures stands { Stands (D.disk self.old.device) (D.disk self.new.device) }
+        ensures any_moment { Throughout D.Led D.disk (MayLeave (D.disk self.old.device)) self.old.device self.new.device }
         ensures capacity { D.capacity_of self.new.device ≡ D.capacity_of self.old.device }
         ensures device { (result ≡ Err RecordFault.Device) → D.failures_of self.new.device ≡ min (D.failures_of self.old.device + 1) (2 ^ 64 - 1) }
         ensures no_failure { OnOk result (D.failures_of self.new.device ≡ D.failures_of self.old.device) }
@@ -155,6 +158,7 @@ impl<D: Device> Records<D> {
             ↔ ((self.old.is_failed ≡ false)
             × (D.capacity_of self.old.device < length (frames self.old.records) + length
             (frames (records_of group.now)) + 1)) }
+        ensures none { group.now ≡ [] → self.old.is_failed ≡ false → IsOk result × (self.new ≡ self.old) }
         ensures capacity { D.capacity_of self.new.device ≡ D.capacity_of self.old.device }
         ensures any_moment { self.old.is_failed ≡ false
             → Throughout D.Led D.disk (IsLeft self.old.records (records_of group.now)) self.old.device
@@ -211,16 +215,13 @@ impl<D: Device> Records<D> {
         })
     }
 
-    /// The file that a device holds, whatever a crash made of it.
+    /// The file that a device holds, whatever a crash made of it. A refusal drops the device; what the records outlast
+    /// is said there too, of a device to which calls led.
     pub fn open(alloc: Global, device: D) -> Result<Self, RecordFault>
         ensures records { IfOk result (λ file. StandsFor (D.disk device).content file.records) }
-        ensures any_moment { IfOk result (λ file. (before : List (List ℕ)) (first : List ℕ) (others : List (List ℕ))
-            → AreShort (before ++ first ∷ others)
-            → LeavesOnly D.Led D.disk (IsLeft before (first ∷ others)) device
-            → Throughout D.Led D.disk (IsLeft before (first ∷ others)) device file.device) }
-        ensures at_rest { IfOk result (λ file. (before : List (List ℕ))
-            → LeavesOnly D.Led D.disk (IsAtRest before) device
-            → Throughout D.Led D.disk (IsAtRest before) device file.device) }
+        ensures any_moment { IfOk result (λ file. IsOpening D.Led D.disk device file.device) }
+        ensures gone { OnErr result (HasGone D.Led D.disk (met_device result) device) }
+        ensures durable { IfOk result (λ file. IsDurable (D.disk file.device)) }
         ensures works { IfOk result (λ file. file.is_failed ≡ false) }
         ensures kept { IfOk result (λ file. LeavesOnly D.Led D.disk (IsAtRest file.records) file.device) }
         ensures capacity { IfOk result (λ file. D.capacity_of file.device ≡ D.capacity_of device) }

@@ -1,9 +1,10 @@
-use Rattle.std.proofs.Common.{refl, ap, sym, subst, ◌∙◌, get_or, length, ◌<◌}
+use Rattle.std.proofs.Common.{refl, ap, sym, subst, ◌∙◌, get_or, length, ◌<◌, Err}
 use Rattle.std.proofs.lemmas.List.{get_or_read}
 use Rattle.fr_record.specs.File.{StandsFor}
 use Rattle.fr_record.specs.Table.{IsParsed, records_at}
 use Rattle.fr_record.proofs.ReadLemmas.{closed_file, closed_records, parsed_stands, while_read, while_closed, front_closed}
 use Rattle.fr_record.proofs.RestLemmas.{rest_read, rest_found}
+use Rattle.fr_record.proofs.FaultLemmas.{only_memory}
 use Rattle.fr_record.proofs.read.read_file.Goals as goal
 
 pub returns-in-Err-clause-any_moment : goal.returns-in-Err-clause-any_moment
@@ -90,3 +91,12 @@ returns-clause-at_rest g c before leaves =
     let within : end < length c.in-Ok.bytes.items = subst (λ l. end < length l) c.deref.ensures.value parsed.long in
     let zero = rest_found g.D.Device.Led g.D.Device.disk c.args.device.now before leaves c.deref.result.now (c.deref.ensures.value ∙ c.in-Ok.ensures.bytes) c.in-Ok-parse.found.0.items end parsed in
     absurd (c.if-index-eq0.false (get_or_read c.in-Ok.bytes.items end c.index.result.now within c.index.ensures 1 ∙ ap (λ l. get_or l end 1) (sym c.deref.ensures.value) ∙ zero))
+
+pub returns-in-Err-clause-durable : goal.returns-in-Err-clause-durable
+returns-in-Err-clause-durable g c e =
+    c.load.ensures.memory (c.in-Err.is ∙ ap (λ f. Err f) (only_memory c.in-Err.fault e (λ f. c.load.ensures.never_full (c.in-Err.is ∙ ap (λ f. Err f) f)) (λ f. c.load.ensures.never_failed (c.in-Err.is ∙ ap (λ f. Err f) f)) (λ f. c.load.ensures.never_broken (c.in-Err.is ∙ ap (λ f. Err f) f))))
+
+pub returns-clause-durable : goal.returns-clause-durable
+returns-clause-durable g c e =
+    let is = c.in-Err-close.is in
+    absurd (c.close.ensures.never_memory (is ∙ ap (λ f. Err f) (only_memory c.in-Err-close.fault e (λ f. c.close.ensures.never_full (is ∙ ap (λ f. Err f) f)) (λ f. c.close.ensures.never_failed (is ∙ ap (λ f. Err f) f)) (λ f. c.close.ensures.never_broken (is ∙ ap (λ f. Err f) f)))))
