@@ -1,0 +1,197 @@
+"use strict";
+// Entries, faults and ways of batches in words.
+
+function whyText(why) {
+  const [name, what] = variant(why), numbers = Object.values(what);
+  return numbers.length ? `${name} ${numbers.join(" ")}` : name;
+}
+
+/** What stands at a place of a value of JSON, cut where it is long. */
+function shortText(value) {
+  const text = value === undefined ? "nothing" : JSON.stringify(value);
+  return text.length > 160 ? text.slice(0, 157) + "..." : text;
+}
+
+/** The places at which two values differ, each with both: the deepest ones. */
+function differences(wanted, got, path = "") {
+  const isBoth = [wanted, got].every((it) => typeof it === "object" && it !== null);
+  if (isSame(wanted, got)) return [];
+  if (!isBoth || Array.isArray(wanted) !== Array.isArray(got)) return [[path || "as a whole", wanted, got]];
+  const names = [...new Set([...Object.keys(wanted), ...Object.keys(got)])];
+  return names.flatMap((it) => differences(wanted[it], got[it], path ? `${path}.${it}` : it));
+}
+
+/** An expected value beside one that stands there, in words: both, and the places at which they differ. */
+function unlikeWords(is, wanted, but, got) {
+  const all = differences(wanted, got), found = all.slice(0, 5);
+  const rest = all.length > 5 ? [`.. and at ${all.length - 5} further places.`] : [];
+  const places = found.map(([path, a, b]) => `At ${path}: ${shortText(a)} is expected, and ${shortText(b)} stands there.`);
+  return [...places, ...rest, `${is} ${shortText(wanted)}`, `${but} ${shortText(got)}`];
+}
+
+/** Why an entry cannot be, in words; null where it can. */
+function whyNot(run, { node, word, what, at }) {
+  if (word === "begun") return whyNotBegun(node);
+  if (node.machine === null) return [`${node.name} does something and is not there.`];
+  if (node.gone < at) return [`${node.name} does something and is gone: it ${run.entries[node.gone].word === "lost" ? "was lost" : "crashed"} at entry ${node.gone}.`];
+  if (word === "asked") return whyNotAsked(run, node, what);
+  if (word === "heard") return whyNotHeard(run, node, what);
+  if (word === "lost" && node.kind !== "log") return [`Only a log can be lost, and ${node.name} is none.`];
+  if (word !== "submitted") return null;
+  if (node.kind !== "proxy") return [`Only a proxy takes a batch, and ${node.name} is none.`];
+  if (node.machine.open) return [`${node.name} takes a batch while another one is under way.`];
+  return node.machine.ended ? [`${node.name} takes a batch after its end.`] : null;
+}
+
+function whyNotBegun(node) {
+  if (node.kind !== "recoverer") return [`Only a recoverer begins, and ${node.name} is none.`];
+  const isUsed = node.machine !== null || [0, FIRST].includes(node.what.ballot);
+  return isUsed ? [`Ballot ${node.what.ballot} is used already.`] : null;
+}
+
+const ASKS_OF = { cell: "cell", log: "log", sequencer: "seq" };
+
+function whyNotAsked(run, node, { ask, from }) {
+  const [kind, named] = variant(ask), by = run.node(from), [word, said] = variant(named);
+  if (ASKS_OF[node.kind] !== kind) return [`${node.name} is asked as a ${kind} is.`];
+  if (run.sent.has(`${by.key}>${node.key}>${JSON.stringify(ask)}`)) return null;
+  if (by.kind === "storage" && by.machine !== null && kind === "log") return whyNotOfStorage(by, word, said);
+  const sent = run.lastSent.get(`${by.key}>${node.key}>${word}`);
+  const head = `${by.name} never sent this ask to ${node.name}.`;
+  return sent ? [head, ...unlikeWords("Its last one of that kind is", sent, "what came is", ask)] : [head, `It sent no ${word} there before.`];
+}
+
+/** A storage server may ask any log for records of its tag and for the mark, and have what it has for good let go. */
+function whyNotOfStorage(by, word, said) {
+  const { tag, floor, state } = by.machine;
+  if (word === "mark_asked") return null;
+  if (!["peek", "pop"].includes(word)) return [`${by.name} is a storage server, and asks to ${word}.`];
+  if (said.tag !== tag) return [`${by.name} asks for tag ${said.tag}, and its own is ${tag}.`];
+  if (word === "peek") return null;
+  if (said.through > floor) return [`${by.name} lets its records go through ${said.through}, and its floor is ${floor}: no more than that is its for good.`];
+  return state.gens.some((it) => it.epoch === said.epoch) ? null : [`${by.name} lets records of epoch ${said.epoch} go, a generation that it has not.`];
+}
+
+function whyNotHeard(run, node, { from, tell, taken }) {
+  const by = run.node(from), [kind, named] = variant(tell), [word] = variant(named);
+  if (!["proxy", "recoverer", "storage"].includes(node.kind)) return [`${node.name} hears something: only proxies, recoverers and storage servers do.`];
+  if (taken !== null && node.kind !== "storage") return [`Only a storage server's hear breaks off.`];
+  if (run.told.has(`${by.key}>${node.key}>${JSON.stringify(tell)}`)) return null;
+  const told = run.lastTold.get(`${by.key}>${node.key}>${word}`);
+  const head = `${by.name} never told ${node.name} this.`;
+  return told ? [head, ...unlikeWords("What it told last of that kind is", told, "what is heard is", tell)] : [head, `It told it no ${word} of a ${kind} before.`];
+}
+
+// ---- entries
+
+function mutationText(mutation) {
+  const [name, what] = variant(mutation);
+  if (name === "clear") return `clear ${what.begin || "-"} to ${what.end || "-"}`;
+  return `${name.replaceAll("_", " ")} ${what.key || "-"} ${what.value ?? what.param}`;
+}
+
+function batchText(batch) {
+  const shown = batch.slice(0, 4).map(mutationText).join("; ");
+  return batch.length > 4 ? `${shown}; and ${batch.length - 4} more` : shown || "no mutation";
+}
+
+function stateText(state) {
+  const { dropped, gens } = stateIn(state);
+  return (dropped ? `${dropped} dropped, ` : "") + gens.map((it) => it.epoch).join(", ");
+}
+
+function bodiesText(bodies) {
+  return bodies.length ? bodies.map(([tag, batch]) => `tag ${tag}: ${batchText(batch)}`).join(" | ") : "no body";
+}
+
+function askText(ask) {
+  const [word, it] = variant(variant(ask)[1]);
+  if (word === "read") return `to promise ballot ${it.ballot} and read`;
+  if (word === "write") return `to write the state ${stateText(stateShown(stateRead(it.value) || { dropped: 0, gens: [] }))} by ballot ${it.ballot}`;
+  if (word === "seed") return `to take the seed of epoch ${it.epoch}: first ${it.first}, through ${it.seeded_to}, ${it.records.length} records`;
+  if (word === "push" && it.mark !== null) return `to hold the mark ${it.prev} → ${it.version} of epoch ${it.epoch}, with known ${it.known}`;
+  if (word === "push") return `to hold version ${it.version} after ${it.prev}, with known ${it.known} (${bodiesText(it.bodies)})`;
+  if (word === "lock") return `to lock`;
+  if (word === "peek") return `for records of tag ${it.tag} above ${it.after}`;
+  if (word === "mark_asked") return "for its mark";
+  if (word === "pop") return `to let tag ${it.tag} go through ${it.through}`;
+  return `for a number, as request ${it.request}, ${it.step} above the last one`;
+}
+
+function tellText(tell) {
+  const [word, it] = variant(variant(tell)[1]);
+  if (word === "refused") return `refused: ${"why" in it ? whyText(it.why) : `promised ${it.promised}`}`;
+  if (word === "promise") return `promised; written by ballot ${it.written}`;
+  if (word === "written") return `written by ballot ${it.ballot}`;
+  if (word === "two_values") return "another value is written by that ballot";
+  if (word === "seeded") return "seeded";
+  if (word === "held") return `version ${it.version} is held`;
+  if (word === "locked") return `locked: durable ${it.durable}, known ${it.known}` + (it.popped ? `, popped ${it.popped.map((each) => each.join(" through ")).join(", ")}` : "");
+  if (word === "peeked") return `${recordsText(it.records)}, complete through ${it.upto}, known ${it.known}`;
+  if (word === "marked") return `the state of generations ${stateText(it.state)}`;
+  if (word === "popped") return `let go through ${it.through}`;
+  return `numbered ${it.version}, after ${it.prev}`;
+}
+
+function recordsText(records) {
+  if (!records.length) return "no records";
+  const versions = records.map((it) => it.version);
+  return versions.length > 6 ? `${versions.length} records, ${versions[0]} to ${versions[versions.length - 1]}` : `records at ${versions.join(", ")}`;
+}
+
+function outcomeText(outcome) {
+  const [word, it] = variant(outcome);
+  return word === "committed" ? ` It says: committed at version ${it.version}.` : word === "ended" ? " It says: ended." : "";
+}
+
+/** What an entry is, in one or two sentences. */
+function entryText(run, entry) {
+  const { node, word, what } = entry, by = "from" in what ? run.node(what.from).name : "";
+  const flags = [entry.again && "again", entry.late && "late: it changes nothing"].filter(Boolean).join(", ");
+  const tail = flags ? ` (${flags})` : "";
+  if (word === "asked") return `${by} asks ${node.name} ${askText(what.ask)}${tail}. It tells: ${tellText(what.tell)}.`;
+  if (word === "heard") return `${node.name} hears of ${by}: ${tellText(what.tell)}${tail}.${heardText(entry)}`;
+  if (word === "submitted") return `The workload hands ${node.name} a batch: ${batchText(what.batch)}.`;
+  if (word === "begun") return `${node.name} begins` + ("logs" in what ? `, to open a generation of ${what.logs} logs, each tag on ${what.degree}.` : ".");
+  return `${node.name} ${word === "lost" ? "is lost for good" : "crashes"}.`;
+}
+
+function heardText(entry) {
+  const { node, what, rollback } = entry;
+  if (node.kind === "proxy") return outcomeText(what.outcome);
+  if (entry.why) return ` It refuses that: ${entry.why}.`;
+  const broke = what.taken === null ? "" : ` It broke off at version ${what.taken}.`;
+  if (rollback) return ` It rolls back from ${rollback.from} to ${rollback.to} for epoch ${rollback.epoch}: ${undoneText(rollback)}.${broke}`;
+  const applied = entry.applied && entry.applied.length ? ` It applies ${entry.applied.length > 6 ? `${entry.applied.length} versions` : `version${entry.applied.length > 1 ? "s" : ""} ${entry.applied.join(", ")}`}.` : "";
+  return applied + broke;
+}
+
+function undoneText({ versions, rows }) {
+  const back = rows.slice(0, 4).map(([, key, had, before]) => `key ${key || "-"} from ${had ?? "none"} back to ${before ?? "none"}`);
+  const more = rows.length > 4 ? `; and ${rows.length - 4} more` : "";
+  return (versions.length ? `version${versions.length > 1 ? "s" : ""} ${versions.join(", ")} undone` : "no batch undone") + (back.length ? ` (${back.join("; ")}${more})` : "");
+}
+
+// ---- the way of a batch
+
+/** Each step of a batch, from the workload to rows, or to where it was taken back: pairs of an entry and words. */
+function wayOf(run, it) {
+  const way = [[it.at, `handed to ${it.node.name}: ${batchText(it.batch)}`]];
+  if (it.given !== null) way.push([it.given, `numbered ${it.version} by sequencer ${it.node.what.epoch}`]);
+  for (const [log, at] of it.held) way.push([at, `held by ${log.name}`]);
+  if (it.ended !== null) way.push([it.ended, it.outcome === "committed" ? `acknowledged at version ${it.version}` : "ended: nothing is said of it"]);
+  for (const [server, at] of it.applied) way.push([at, `applied by ${server.name}`]);
+  for (const [server, at] of it.undone) way.push([at, `taken back by ${server.name}`]);
+  for (const each of run.recoveries) if (each.chosen !== null && each.parent === it.node.what.epoch && it.version !== null) {
+    const survives = it.version <= each.rv;
+    way.push([each.chosen, `epoch ${each.ballot} is chosen through ${each.rv}: version ${it.version} ${survives ? "is taken over" : "does not survive"}`]);
+  }
+  if (it.outcome === null && !it.undone.length) way.push([null, "under way at last"]);
+  return way.sort((a, b) => (a[0] ?? Infinity) - (b[0] ?? Infinity));
+}
+
+function fateOf(it) {
+  if (it.undone.length) return "taken back";
+  if (it.outcome === "committed") return it.applied.length ? "acknowledged and applied" : "acknowledged";
+  return it.outcome === "ended" ? "ended" : "under way";
+}
