@@ -9,9 +9,9 @@ function numbersIn(what) {
 
 /** One node: its name, its machine as it stands now, and copies of it from before. */
 class RunNode {
-  constructor(value) {
+  constructor(value, id) {
     [this.kind, this.what] = variant(value);
-    this.key = JSON.stringify(value);
+    this.id = id;
     const [epoch, number] = numbersIn(this.what);
     this.place = [ORDER.indexOf(this.kind), epoch, number];
     this.epoch = this.what.epoch ?? this.what.ballot ?? null;
@@ -72,15 +72,16 @@ class Run {
     merged.sort((a, b) => a.stamp - b.stamp || isBefore(a.node.place, b.node.place));
     this.entries = merged.map(({ stamp, node, act }, at) => {
       const [word, what] = variant(act);
-      return { at, stamp, node, word, what, news: false, arrows: null, late: false, again: false, why: null };
+      return { at, stamp, node, word, what, from: null, news: false, arrows: null, late: false, again: false, why: null };
     });
     this.take();
   }
 
   node(value) {
-    const key = JSON.stringify(value);
-    if (!this.nodes.has(key)) this.nodes.set(key, new RunNode(value));
-    return this.nodes.get(key);
+    const [kind, what] = variant(value), [epoch, number] = numbersIn(what), key = `${kind} ${epoch} ${number}`;
+    let found = this.nodes.get(key);
+    if (!found) this.nodes.set(key, (found = new RunNode(value, this.nodes.size)));
+    return found;
   }
 
   start() {
@@ -129,10 +130,9 @@ class Run {
   }
 
   arrow(it) {
-    for (const at of new Set([it.x0, it.x1])) {
-      const entry = this.entries[at];
-      if (entry) (entry.arrows ||= []).push(this.arrows.length);
-    }
+    const begin = this.entries[it.x0], end = this.entries[it.x1];
+    if (begin) (begin.arrows ||= []).push(this.arrows.length);
+    if (end && end !== begin) (end.arrows ||= []).push(this.arrows.length);
     this.arrows.push(it);
   }
 
@@ -143,7 +143,9 @@ class Run {
   }
 
   takeOne(entry) {
-    const { node, at } = entry, notARun = whyNot(this, entry);
+    const { node, at } = entry;
+    this.name(entry);
+    const notARun = whyNot(this, entry);
     if (notARun) return { at, line: `not a run at ${at}`, words: notARun };
     if (entry.word === "begun") this.begun(entry);
     else if (entry.word === "crashed" || entry.word === "lost") this.left(entry);
@@ -158,6 +160,15 @@ class Run {
     node.entries.push(at);
     node.keep();
     return null;
+  }
+
+  /** The texts by which an entry's ask and tell are found again, from node to node. */
+  name(entry) {
+    const { node, what, word } = entry;
+    if (word !== "asked" && word !== "heard") return;
+    const from = (entry.from = this.node(what.from)), tell = JSON.stringify(what.tell);
+    this.askKey = word === "asked" ? `${from.id}>${node.id}>${JSON.stringify(what.ask)}` : null;
+    this.tellKey = word === "asked" ? `${node.id}>${from.id}>${tell}` : `${from.id}>${node.id}>${tell}`;
   }
 
   /** How what is told, or said of a batch, is another thing than it must be. */
@@ -188,28 +199,37 @@ class Run {
 
   /** Enters what a proxy or a recoverer asks now. */
   issue(node, at) {
-    node.wanted = new Set();
-    for (const [place, ask] of pendingOf(this, node)) {
-      const to = this.node(place), key = `${node.key}>${to.key}>${JSON.stringify(ask)}`;
-      node.wanted.add(key);
-      if (this.sent.has(key)) continue;
-      this.sent.set(key, { ask, from: node, to, issued: at, count: 0 });
-      this.lastSent.set(`${node.key}>${to.key}>${variant(variant(ask)[1])[0]}`, ask);
+    const { machine } = node, isOld = node.kind === "proxy" && node.issued === machine.place && machine.open;
+    if (isOld && machine.place !== null) {
+      for (const index of machine.held) node.wanted.delete(node.pushKeys[index]);
+      return;
     }
+    node.issued = machine.place;
+    const keys = pendingOf(this, node).map(([place, ask]) => this.enterAsk(node, this.node(place), ask, at));
+    node.wanted = new Set(keys);
+    node.pushKeys = keys;
+  }
+
+  enterAsk(node, to, ask, at) {
+    const key = `${node.id}>${to.id}>${JSON.stringify(ask)}`;
+    if (this.sent.has(key)) return key;
+    this.sent.set(key, { ask, from: node, to, issued: at, count: 0 });
+    this.lastSent.set(`${node.id}>${to.id}>${variant(variant(ask)[1])[0]}`, ask);
+    return key;
   }
 
   asked(entry, tell) {
-    const { node, what, at } = entry, from = this.node(what.from), text = JSON.stringify(what.ask);
-    const key = `${from.key}>${node.key}>${text}`, sent = this.sent.get(key), latest = from.entries[from.entries.length - 1] ?? -1;
+    const { node, what, at, from } = entry, { askKey: key, tellKey } = this;
+    const sent = this.sent.get(key), latest = from.entries[from.entries.length - 1] ?? -1;
     entry.again = Boolean(sent && sent.count > 0);
     entry.late = Boolean(sent && !from.wanted.has(key));
     const x0 = sent && sent.count === 0 ? sent.issued : latest;
     if (sent) sent.count += 1;
     this.arrow({ kind: "ask", from, to: node, x0: sent ? x0 : at, x1: at, isLate: entry.late, isAgain: entry.again, isUndated: !sent });
-    const told = `${node.key}>${from.key}>${JSON.stringify(what.tell)}`;
-    if (!this.told.has(told)) this.told.set(told, { from: node, to: from, places: [], used: new Map() });
-    this.told.get(told).places.push(at);
-    this.lastTold.set(`${node.key}>${from.key}>${variant(variant(what.tell)[1])[0]}`, what.tell);
+    const told = this.told.get(tellKey);
+    if (told) told.places.push(at);
+    else this.told.set(tellKey, { from: node, to: from, places: [at], used: new Set() });
+    this.lastTold.set(`${node.id}>${from.id}>${variant(variant(what.tell)[1])[0]}`, what.tell);
     this.noteAsked(entry, variant(tell)[1], from);
   }
 
@@ -227,20 +247,19 @@ class Run {
   /** A refusal is news where the last one of that node and asker was another one. */
   noteRefused(entry, word, told) {
     const why = "two_values" in told ? "TwoValues" : "why" in told.refused ? whyText(told.refused.why) : `promised ${told.refused.promised}`;
-    const key = `${JSON.stringify(entry.what.from)} ${word} ${why}`;
+    const key = `${entry.from.id} ${word} ${why}`;
     entry.why = why;
     if (entry.node.lastRefusal !== key) entry.news = true;
     entry.node.lastRefusal = key;
   }
 
   heard(entry, got) {
-    const { node, what, at } = entry, from = this.node(what.from);
-    const told = this.told.get(`${from.key}>${node.key}>${JSON.stringify(what.tell)}`);
+    const { node, at, from } = entry, told = this.told.get(this.tellKey);
     let number = told.places.length - 1;
     while (number >= 0 && told.used.has(number)) number -= 1;
     entry.again = number < 0;
     if (number < 0) number = told.places.length - 1;
-    told.used.set(number, at);
+    told.used.add(number);
     if (node.kind === "storage") this.noteStorage(entry, got);
     if (node.kind === "proxy") this.noteProxy(entry, got);
     if (node.kind === "recoverer") this.noteRecoverer(entry);

@@ -1,67 +1,102 @@
-"""docs/layers.svg: the crates as layers."""
+"""docs/layers.svg: the crates as families in layers."""
+import re
+import textwrap
 from html import escape
 
-BOX, GAP, ROW = (132, 22), 10, 62
-# the colours of the families of crates, by how their names go on
-SHADES = {"runtime": "#d9e4f2", "run": "#dcecd9", "sql": "#ece2d4", "cli": "#f0dce4", "": "#eeeeee"}
+# each family: its name, a sentence, and which crates it has; the first that fits is a crate's own
+FAMILIES = (
+    ("Tests and examples", "they call everything below, and nothing stands on them", r"(test|example)_.*"),
+    ("Commands", "the program fdbrec, and each of its commands as a library", r"fr_cli(?!_json).*|fdbrec.*"),
+    ("Clusters in threads", "all nodes in threads, each with the journal of what it did", r"fr_runtime.*"),
+    ("Audits", "journals, their scripts, and whether they are a run", r"fr_audit.*|fr_form.*|fr_simulate_script"),
+    ("Worlds", "all nodes in one exact run, an event at a time", r"fr_world.*"),
+    ("Runs", "lists of turns of all nodes, and the laws of every run: the main theorem", r"fr_run.*"),
+    ("Nodes over disks", "disks that crash, record files, and nodes over them", r"fr_device|fr_record.*"),
+    ("Store in SQL", "the same store in tables of a database", r"fr_sql_.*"),
+    ("Nodes", "cells, logs, sequencers, proxies, recoverers and storage servers, each a machine", r"fr_(register|state|tags|log|ask|tail|epoch|proxy|storage)"),
+    ("Values and the store", "numbers, batches, texts of both, and the store of a shard with undo rows", r"fr_(base|mutation|undo|cli_json)"),
+)
+# what stands beside the main column, and in which one
+SIDE = {"Store in SQL": 0, "Nodes over disks": 1}
+WIDE, NARROW, GAP, LINE, PAD = 560, 260, 40, 15, 10
+
+
+def family_of(crate):
+    return next(name for name, _, crates in FAMILIES if re.fullmatch(crates, crate))
 
 
 def layers(crates):
-    """The crates but those of tests, each in the row of its longest way down, with lines to those it names directly."""
-    shown = [it for it in crates.names if not it.startswith("test_")]
-    rows = {}
-    for it in shown:
-        rows.setdefault(crates.level(it), []).append(it)
-    order(rows, crates)
-    widest = max(len(it) for it in rows.values())
-    width = widest * (BOX[0] + GAP) + GAP
-    height = len(rows) * ROW + 40
-    place = {}
-    for level, names in rows.items():
-        left = (width - len(names) * (BOX[0] + GAP) + GAP) / 2
-        for number, it in enumerate(names):
-            place[it] = (left + number * (BOX[0] + GAP), height - 40 - (level + 1) * ROW + (ROW - BOX[1]))
+    """The families, each above all that it stands on, with its sentence and its crates."""
+    inside = {name: [it for it in crates.names if family_of(it) == name] for name, _, _ in FAMILIES}
+    below = {name: {family_of(low) for it in inside[name] for low in crates.named[it]} - {name} for name in inside}
+    boxes = placed(inside, below)
+    width = 2 * (NARROW + GAP) + WIDE + 2 * PAD
+    height = max(y + high for _, y, _, high, _ in boxes.values()) + 26
     out = [
         f'<svg xmlns="http://www.w3.org/2000/svg" width="{width}" height="{height}" viewBox="0 0 {width} {height}" '
-        'font-family="sans-serif" font-size="11">',
-        "<title>The crates as layers: each stands above those that it names</title>",
+        'font-family="sans-serif" font-size="12">',
+        "<title>The families of crates in layers: each stands above those that its crates name</title>",
         f'<rect width="{width}" height="{height}" fill="white"/>',
     ]
-    out += [line(place[it], place[low]) for it in shown for low in crates.direct(it)]
-    out += [box(it, *place[it]) for it in shown]
-    tests = len(crates.names) - len(shown)
-    out.append(
-        f'<text x="{GAP}" y="{height - 14}">A line goes down to a crate that is named and that no other named one '
-        f"stands on. {tests} crates of tests stand above what they test, and are left out.</text>"
-    )
+    out += [line(boxes, name, low) for name in boxes for low in sorted(direct(below, name))]
+    for name in boxes:
+        out += box(name, *boxes[name])
+    out.append(f'<text x="{PAD}" y="{height - 8}" fill="#555555">A line goes down to a family on whose crates a family stands.</text>')
     return "\n".join(out + ["</svg>"]) + "\n"
 
 
-def order(rows, crates):
-    """Puts each row into the order of what its crates stand on, so that fewer lines cross."""
-    for _ in range(8):
-        for level in sorted(rows):
-            near = {it: number / len(names) for names in rows.values() for number, it in enumerate(names)}
-            means = {}
-            for it in rows[level]:
-                lows = crates.direct(it) + [high for high in near if it in crates.direct(high)]
-                means[it] = sum(near[low] for low in lows) / len(lows) if lows else near[it]
-            rows[level].sort(key=lambda it: (means[it], crates.names.index(it)))
+def all_below(below, name):
+    return below[name].union(*(all_below(below, it) for it in below[name]))
 
 
-def line(high, low):
-    x1, y1 = high[0] + BOX[0] / 2, high[1] + BOX[1]
-    x2, y2 = low[0] + BOX[0] / 2, low[1]
-    bend = (y2 - y1) / 2
-    return (
-        f'<path d="M{x1:g} {y1:g}C{x1:g} {y1 + bend:g} {x2:g} {y2 - bend:g} {x2:g} {y2:g}" '
-        'fill="none" stroke="#9a9a9a" stroke-width="0.8"/>'
-    )
+def direct(below, name):
+    """The families below one that no other of those stands on."""
+    return {it for it in below[name] if not any(it in all_below(below, other) for other in below[name] - {it})}
 
 
-def box(name, x, y):
-    shade = next((color for family, color in SHADES.items() if name.startswith(f"fr_{family}")), "#fff6c8")
-    return (
-        f'<rect x="{x:g}" y="{y:g}" width="{BOX[0]}" height="{BOX[1]}" rx="3" fill="{shade}" stroke="#555555"/>'
-        f'<text x="{x + BOX[0] / 2:g}" y="{y + 15:g}" text-anchor="middle">{escape(name)}</text>'
-    )
+def level(below, name):
+    return 1 + max((level(below, it) for it in below[name]), default=-1)
+
+
+def placed(inside, below):
+    """Where each box stands: x, y, width, height and its lines of text; a layer is as high as its highest box."""
+    rows = {}
+    for name in inside:
+        rows.setdefault(level(below, name), []).append(name)
+    boxes, y = {}, PAD
+    for row in sorted(rows, reverse=True):
+        high = 0
+        for name in rows[row]:
+            wide = NARROW if name in SIDE else WIDE
+            x = PAD + SIDE.get(name, 2) * (NARROW + GAP)
+            sentence = next(words for it, words, _ in FAMILIES if it == name)
+            lines = [*textwrap.wrap(sentence, wide // 7), *textwrap.wrap(", ".join(inside[name]), int(wide / 6.4), break_long_words=False)]
+            count = len(textwrap.wrap(sentence, wide // 7))
+            tall = 26 + LINE * len(lines) + 6
+            boxes[name] = (x, y, wide, tall, (lines, count))
+            high = max(high, tall)
+        y += high + 24
+    return boxes
+
+
+def line(boxes, high, low):
+    """Straight down within a column; from one beside, up and then to the left edge of the upper box."""
+    x1, y1, wide, tall, _ = boxes[high]
+    x2, y2, low_wide, _, _ = boxes[low]
+    if x1 == x2:
+        way = f"M{x1 + wide / 2:g} {y1 + tall:g}V{y2:g}"
+    elif x2 < x1:
+        way = f"M{x1:g} {y1 + tall / 2 - 8 * (2 - SIDE.get(low, 2)):g}H{x2 + low_wide / 2:g}V{y2:g}"
+    else:
+        way = f"M{x1 + wide / 2:g} {y1 + tall:g}V{y2 + 14 + 16 * SIDE.get(high, 0):g}H{x2:g}"
+    return f'<path d="{way}" fill="none" stroke="#777777" stroke-width="1.2"/>'
+
+
+def box(name, x, y, wide, tall, text):
+    lines, count = text
+    out = [f'<rect x="{x:g}" y="{y:g}" width="{wide}" height="{tall}" rx="4" fill="#f4f6f9" stroke="#555555"/>']
+    out.append(f'<text x="{x + 10:g}" y="{y + 18:g}" font-weight="bold" font-size="13">{escape(name)}</text>')
+    for at, words in enumerate(lines):
+        style = "" if at < count else ' font-size="11" fill="#444444"'
+        out.append(f'<text x="{x + 10:g}" y="{y + 35 + LINE * at:g}"{style}>{escape(words)}</text>')
+    return out
