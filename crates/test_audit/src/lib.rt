@@ -1,17 +1,10 @@
-//! Tests of audits: the forms of their scripts, read and written, and each fault at each place.
+//! Tests of the scripts of audits: each form is written as it was read, and is read however it is spelled. What is no
+//! script, and each fault at each place, is shown by `tests/`, over the built program.
 #![tactic(auto)]
 
-#[cfg(test)]
-mod audits;
-#[cfg(test)]
-mod bad_forms;
-#[cfg(test)]
-mod faults;
 #[cfg(test)]
 mod forms;
 #[cfg(test)]
 mod scripts;
-#[cfg(test)]
-mod shapes;
 #[cfg(test)]
 mod spellings;

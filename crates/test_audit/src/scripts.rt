@@ -4,10 +4,7 @@ use std::alloc::{AllocError, Global};
 /// The place of a form in a script.
 #[derive(Clone, Copy)]
 pub enum Place {
-    /// The form is the whole text.
-    Whole,
     Config,
-    Journal,
     Node,
     Last,
     Entries,
@@ -29,7 +26,7 @@ const ASK: &str = r#"{"cell":{"read":{"ballot":513}}}"#;
 const TELL: &str = r#"{"cell":{"two_values":{}}}"#;
 
 /// The script of these journals.
-pub fn script_of(alloc: Global, config: &str, journals: &str) -> Result<String, AllocError> {
+fn script_of(alloc: Global, config: &str, journals: &str) -> Result<String, AllocError> {
     format!(in alloc; r#"{{"config":{config},"journals":[{journals}]}}"#)
 }
 
@@ -52,9 +49,7 @@ fn script_of_ask(alloc: Global, ask: &str, tell: &str) -> Result<String, AllocEr
 /// The script with this form in its place, and else as small as can be.
 pub fn script_in(alloc: Global, place: Place, form: &str) -> Result<String, AllocError> {
     match place {
-        Place::Whole => String::from_str(alloc, form),
         Place::Config => script_of(alloc, form, ""),
-        Place::Journal => script_of(alloc, CONFIG, form),
         Place::Node => script_with(alloc, form, "", "null"),
         Place::Last => script_with(alloc, NODE, "", form),
         Place::Entries => script_with(alloc, NODE, form, "null"),
