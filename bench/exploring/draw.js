@@ -68,6 +68,7 @@ class Picture {
     pen.font = WORDS;
     pen.textBaseline = "middle";
     this.drawn = { arrows: 0, marks: 0 };
+    this.labels = [];
     this.lane = Math.max(LEAST_LANE, Math.min(MOST_LANE, (height - this.head()) / Math.max(1, this.lanes.length)));
     pen.save();
     pen.beginPath();
@@ -78,6 +79,7 @@ class Picture {
     this.drawBars();
     if (this.scale >= 5) this.drawArrows();
     this.drawMarks();
+    for (const it of this.labels) this.label(...it);
     pen.restore();
     this.drawBands(width, height);
     this.drawAxis(width);
@@ -199,12 +201,16 @@ class Picture {
     pen.setLineDash(dash);
     pen.strokeRect(x, y, wide, 12);
     pen.setLineDash([]);
-    if (this.scale >= 12) this.label(text, Math.max(x, GUTTER) + 9, y - 6, Math.max(wide, this.scale * 3));
+    if (this.scale >= 12) this.labels.push([text, Math.max(x, GUTTER) + 9, y - 6, Math.max(wide, this.scale * 3)]);
   }
   label(text, x, y, most = Infinity) {
     const { pen, ink } = this;
     pen.font = SMALL;
     if (pen.measureText(text).width > most) return (pen.font = WORDS);
+    pen.strokeStyle = ink.paper;
+    pen.lineWidth = 3;
+    pen.strokeText(text, x, y);
+    pen.lineWidth = 1;
     pen.fillStyle = ink.ink;
     pen.fillText(text, x, y);
     pen.font = WORDS;
@@ -233,7 +239,7 @@ class Picture {
       this.path([[a, y0], [b, y1]], dash);
       if (it.isAgain) this.path([[a + 3, y0], [b + 3, y1]], dash);
       this.arrowHead(a, y0, b, y1);
-      if ((it.isLate || it.isAgain) && this.scale >= 26) this.label(it.isLate ? "late" : "again", (a + b) / 2 + 4, (y0 + y1) / 2);
+      if ((it.isLate || it.isAgain) && this.scale >= 26) this.labels.push([it.isLate ? "late" : "again", (a + b) / 2 + 4, (y0 + y1) / 2]);
     }
     pen.lineWidth = 1;
   }
@@ -271,14 +277,15 @@ class Picture {
   drawMark(entry, mark, x, y) {
     const { pen, ink } = this;
     if (this.hits.has(entry.at)) {
-      pen.fillStyle = ink.hit;
-      pen.fillRect(x - 8, y - this.lane / 2 + 1, 16, this.lane - 2);
+      pen.strokeStyle = ink.hit;
+      pen.lineWidth = 2.5;
+      pen.strokeRect(x - 9, y - this.lane / 2 + 2, 18, this.lane - 4);
     }
     pen.fillStyle = pen.strokeStyle = entry.at >= this.run.read ? ink.tell : mark.isBad ? ink.bad : mark.isGreat ? ink.now : entry.news ? ink.ink : ink.tell;
     pen.lineWidth = 1.6;
     SHAPES[mark.shape](pen, x, y, entry.at === this.step ? 1.35 : this.scale < 6 ? 0.6 : 1);
     pen.lineWidth = 1;
-    if (this.scale >= 24 && mark.text) this.label(mark.text, x + 7, y - 8, this.scale * 1.6);
+    if (this.scale >= 24 && mark.text) this.labels.push([mark.text, x + 7, y - 8, this.scale * 1.6]);
   }
   drawFault(x, node) {
     const { pen, ink } = this;

@@ -141,8 +141,8 @@ class Page {
 
   story() {
     const { run } = this, counts = (outcome) => run.batches.filter((it) => it.outcome === outcome).length;
-    this.listItems(`The story: ${run.batches.length} batches, ${counts("committed")} committed, ${counts("ended")} ended, ${run.recoveries.length} recoveries, ${run.rollbacks.length} rollbacks`, storyOf(run));
-    at("sums").textContent = `${run.entries.length} entries, ${this.picture.lanes.length} nodes · ${run.fault ? `the page's reading: ${run.fault.line}` : "the page's reading: a run"}`;
+    this.listItems(`The story: ${countText(run.batches.length, "batch", "batches")}, ${counts("committed")} committed, ${counts("ended")} ended, ${countText(run.recoveries.length, "recovery", "recoveries")}, ${countText(run.rollbacks.length, "rollback")}`, storyOf(run));
+    at("sums").textContent = `${countText(run.entries.length, "entry", "entries")}, ${countText(this.picture.lanes.length, "node")} · ${run.fault ? `the page's reading: ${run.fault.line}` : "the page's reading: a run"}`;
   }
 
   find(text) {

@@ -8,6 +8,10 @@ function element(name, content = "", attributes = {}) {
   return it;
 }
 
+function countText(count, one, many = `${one}s`) {
+  return `${count} ${count === 1 ? one : many}`;
+}
+
 /** The lines of a machine's state: a name with its text, in the order in which they are shown. */
 function linesOf(kind, it) {
   return LINES[kind](it);
@@ -24,7 +28,7 @@ const LINES = {
     seed: it.seed === null ? "none" : `first ${it.seed.first}, through ${it.seed.seeded_to}`,
     locked: it.stopped ? "yes: it takes no push" : "no",
     popped: [...it.popped].map(([tag, through]) => `tag ${tag} through ${through}`).join(", ") || "nothing",
-    holds: `${it.count} push${it.count === 1 ? "" : "es"}, each tag on ${it.k} of ${it.m} logs`,
+    holds: `${countText(it.count, "push", "pushes")}, each tag on ${it.k} of ${it.m} logs`,
   }),
   sequencer: (it) => ({
     last: `${it.latest}`,
@@ -34,7 +38,7 @@ const LINES = {
     known: `${it.known}`,
     batch: it.open ? `under way, request ${it.request}` : it.ended ? "none; it takes no more" : "none",
     place: it.open && it.place ? `${it.place.version} after ${it.place.prev}` : "none",
-    "held by": it.open ? `${[...it.held].sort().map((at) => `log ${at}`).join(", ") || "none"}, of ${it.m}` : "",
+    "held by": it.open ? `${[...it.held].sort().map((at) => `log ${at}`).join(", ") || "none"}, of ${it.m}` : "none",
   }),
   recoverer: (it) => ({
     phase: it.last().phase,

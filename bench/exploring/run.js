@@ -58,22 +58,23 @@ function signature(kind, it) {
 }
 
 class Run {
-  constructor({ config, journals }) {
+  /** What bench/explore packed: journals whose entries name nodes, asks and tells by their numbers in tables. */
+  constructor({ asks, config, journals, nodes, tells }) {
     Object.assign(this, { config, nodes: new Map(), sent: new Map(), told: new Map(), lastSent: new Map(), lastTold: new Map() });
     Object.assign(this, { arrows: [], batches: [], byVersion: new Map(), recoveries: [], rollbacks: [], plans: new Map(), fault: null });
     this.cached = null;
     this.start();
+    const named = nodes.map((it) => this.node(it));
+    this.askNumbers = new Map(asks.map((it, number) => [JSON.stringify(it), number]));
     const merged = [];
-    for (const { entries, last, node } of journals) {
-      const it = this.node(node);
-      it.last = last;
-      for (const { act, stamp } of entries) merged.push({ stamp, node: it, act });
+    for (const [number, last, entries] of journals) {
+      const node = named[number];
+      node.last = last;
+      for (const [stamp, word, what] of entries) merged.push(this.entry(stamp, node, word, what, { named, nodes, asks, tells }));
     }
     merged.sort((a, b) => a.stamp - b.stamp || isBefore(a.node.place, b.node.place));
-    this.entries = merged.map(({ stamp, node, act }, at) => {
-      const [word, what] = variant(act);
-      return { at, stamp, node, word, what, from: null, news: false, arrows: null, late: false, again: false, why: null };
-    });
+    merged.forEach((it, at) => (it.at = at));
+    this.entries = merged;
     this.take();
   }
 
@@ -82,6 +83,25 @@ class Run {
     let found = this.nodes.get(key);
     if (!found) this.nodes.set(key, (found = new RunNode(value, this.nodes.size)));
     return found;
+  }
+
+  entry(stamp, node, word, what, { named, nodes, asks, tells }) {
+    const it = { at: 0, stamp, node, word, what, from: null, ask: -1, tell: -1, news: false, arrows: null, late: false, again: false, why: null };
+    if (word === "asked") {
+      [it.from, it.ask, it.tell] = [named[what[0]], what[1], what[2]];
+      it.what = { ask: asks[what[1]], from: nodes[what[0]], tell: tells[what[2]] };
+    } else if (word === "heard") {
+      [it.from, it.tell] = [named[what[0]], what[1]];
+      it.what = { from: nodes[what[0]], outcome: what[3], taken: what[2], tell: tells[what[1]] };
+    }
+    return it;
+  }
+
+  /** The number of an ask: of the journals, or a new one where none of them has it. */
+  numberOf(ask) {
+    const text = JSON.stringify(ask);
+    if (!this.askNumbers.has(text)) this.askNumbers.set(text, this.askNumbers.size);
+    return this.askNumbers.get(text);
   }
 
   start() {
@@ -162,12 +182,11 @@ class Run {
     return null;
   }
 
-  /** The texts by which an entry's ask and tell are found again, from node to node. */
+  /** The keys by which an entry's ask and tell are found again, from node to node. */
   name(entry) {
-    const { node, what, word } = entry;
-    if (word !== "asked" && word !== "heard") return;
-    const from = (entry.from = this.node(what.from)), tell = JSON.stringify(what.tell);
-    this.askKey = word === "asked" ? `${from.id}>${node.id}>${JSON.stringify(what.ask)}` : null;
+    const { node, from, ask, tell, word } = entry;
+    if (from === null) return;
+    this.askKey = `${from.id}>${node.id}>${ask}`;
     this.tellKey = word === "asked" ? `${node.id}>${from.id}>${tell}` : `${from.id}>${node.id}>${tell}`;
   }
 
@@ -211,7 +230,7 @@ class Run {
   }
 
   enterAsk(node, to, ask, at) {
-    const key = `${node.id}>${to.id}>${JSON.stringify(ask)}`;
+    const key = `${node.id}>${to.id}>${this.numberOf(ask)}`;
     if (this.sent.has(key)) return key;
     this.sent.set(key, { ask, from: node, to, issued: at, count: 0 });
     this.lastSent.set(`${node.id}>${to.id}>${variant(variant(ask)[1])[0]}`, ask);

@@ -8,7 +8,7 @@ use std::io::{Eprint, Write};
 use std::process::ExitCode;
 
 /// The version, and the logic that it is proved in, as `rt version` names it.
-const VERSION: &str = "0.1.0 (rattle logic dac8208d650f15bf)";
+const VERSION: &str = "0.2.0 (rattle logic dac8208d650f15bf)";
 
 /// The status of bad words.
 pub const BAD_WORDS: u8 = 2;
