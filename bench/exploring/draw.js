@@ -10,6 +10,7 @@ class Picture {
     this.lanes = lanesOf(run);
     this.lanes.forEach((node, at) => (node.lane = at));
     this.bands = bandsOf(run);
+    this.fit();
     this.rows = Math.max(0, ...this.bands.map((it) => it.row + 1));
     this.show(false);
   }
@@ -40,11 +41,21 @@ class Picture {
   yOf(node) {
     return this.head() + node.lane * this.lane + this.lane / 2 - this.top;
   }
+  /** Takes the size that the page gives the canvas: to ask for it has the page laid out. */
+  fit() {
+    [this.wide, this.high] = [this.canvas.clientWidth, this.canvas.clientHeight];
+  }
+  /** Whether a node's lane is in view. */
+  isInView(node) {
+    if (node.lane === undefined) return false;
+    const y = this.yOf(node);
+    return y > this.head() - this.lane && y < this.high + this.lane;
+  }
   width() {
-    return this.canvas.clientWidth;
+    return this.wide;
   }
   height() {
-    return this.canvas.clientHeight;
+    return this.high;
   }
   /** The columns in view. */
   view() {
@@ -88,6 +99,7 @@ class Picture {
   drawLanes(width) {
     const { pen, ink } = this;
     this.lanes.forEach((node, at) => {
+      if (!this.isInView(node)) return;
       const y = this.yOf(node);
       pen.fillStyle = at % 2 ? ink.row : ink.paper;
       pen.fillRect(GUTTER, y - this.lane / 2, width, this.lane);
@@ -161,6 +173,7 @@ class Picture {
     pen.fillStyle = ink.paper;
     pen.fillRect(0, head - 4, GUTTER, height);
     for (const node of this.lanes) {
+      if (!this.isInView(node)) continue;
       const y = this.yOf(node), isChosen = node === this.chosen;
       if (isChosen) {
         pen.fillStyle = ink.now;
@@ -178,20 +191,23 @@ class Picture {
   /** Batches: from when a proxy took one to what it said, filled where that is committed. */
   drawBars() {
     const { run } = this, count = this.entryAt.length;
+    this.seen = this.view();
     for (const it of run.batches) {
-      const text = `${it.number}${it.version === null ? "" : ` at ${it.version}`}`;
+      const a = this.column(it.at), b = it.ended === null ? count : this.column(it.ended);
+      if (b < this.seen[0] || a > this.seen[1]) continue;
       const end = it.outcome === "ended" ? ", ended" : it.outcome === null ? ", open" : "";
-      this.bar(it.node, this.column(it.at), it.ended === null ? count : this.column(it.ended), `batch ${text}${end}`, BARS[it.outcome]);
+      this.bar(it.node, a, b, `batch ${it.number}${it.version === null ? "" : ` at ${it.version}`}${end}`, BARS[it.outcome]);
     }
     // what a rollback undid: from where it was applied
     for (const it of run.rollbacks) {
-      const from = it.since ?? it.at, text = it.versions.length ? `undone: ${it.versions.slice(0, 8).join(", ")}` : "";
-      this.bar(it.node, this.column(from), this.column(it.at), text, BARS.undone);
+      const a = this.column(it.since ?? it.at), b = this.column(it.at);
+      if (b < this.seen[0] || a > this.seen[1]) continue;
+      this.bar(it.node, a, b, it.versions.length ? `undone: ${it.versions.slice(0, 8).join(", ")}` : "", BARS.undone);
     }
   }
   bar(node, a, b, text, { dash, colour, fill }) {
-    const { pen, ink } = this, [from, upto] = this.view();
-    if (node.lane === undefined || b < from || a > upto) return;
+    const { pen, ink } = this;
+    if (!this.isInView(node)) return;
     const x = this.xOf(a), wide = Math.max(3, this.xOf(b) - x), y = this.yOf(node) - 6;
     pen.strokeStyle = pen.fillStyle = ink[colour];
     pen.globalAlpha = 0.26;
@@ -224,6 +240,7 @@ class Picture {
   }
   drawArrow(it) {
     if (it.from.lane === undefined || it.to.lane === undefined) return;
+    if (!this.isInView(it.from) && !this.isInView(it.to)) return;
     if (this.onlyNews && !this.isShown(it.x1)) return;
     // (when a storage server sent its ask is not recorded: a line of one column)
     const start = it.isUndated ? this.column(it.x1) - Math.min(0.8, 24 / this.scale) : this.column(it.x0);
@@ -264,7 +281,7 @@ class Picture {
     const [from, upto] = this.view(), lastAt = new Map();
     for (let column = from; column <= upto; column++) {
       const entry = this.run.entries[this.entryAt[column]], x = this.xOf(column);
-      if (entry.node.lane === undefined) continue;
+      if (!this.isInView(entry.node)) continue;
       const pixel = Math.round(x), mark = markOf(entry);
       if (this.scale < 2 && lastAt.get(entry.node) === pixel && !mark.isGreat) continue;
       lastAt.set(entry.node, pixel);

@@ -271,7 +271,7 @@ class Page {
     at("follow").onclick = () => this.setFollow(!this.follow);
     at("theme").onclick = () => this.theme(document.documentElement.dataset.theme === "dark" ? "light" : "dark");
     at("follow").setAttribute("aria-pressed", true);
-    new ResizeObserver(() => this.paint()).observe(canvas);
+    new ResizeObserver(() => (picture.fit(), this.paint())).observe(canvas);
     this.listenCanvas(canvas);
   }
 

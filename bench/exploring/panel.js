@@ -92,16 +92,15 @@ function tableOf([caption, heads, rows]) {
 
 /** Shows a node's state after a step, and what of it the step changed. */
 function showState(run, node, step, place) {
-  const before = run.machineAt(node, step - 1), old = before ? linesOf(node.kind, before) : null, now = run.machineAt(node, step);
+  const old = run.linesAt(node, step - 1, linesOf), lines = run.linesAt(node, step, linesOf), list = element("dl");
   place.replaceChildren();
-  if (now === null) return place.append(element("p", "It is not there yet."));
-  const lines = linesOf(node.kind, now), list = element("dl");
+  if (lines === null) return place.append(element("p", "It is not there yet."));
   for (const name in lines) {
     const isNew = old !== null && old[name] !== lines[name];
     list.append(element("dt", name), element("dd", isNew ? [element("b", lines[name]), element("span", ` (was ${old[name]})`, { class: "was" })] : lines[name]));
   }
   if (node.gone <= step) list.append(element("dt", "gone"), element("dd", `${run.entries[node.gone].word} at entry ${node.gone}`));
-  place.append(list, ...tablesOf(node.kind, now).map(tableOf));
+  place.append(list, ...tablesOf(node.kind, run.machineAt(node, step)).map(tableOf));
 }
 
 // ---- the story, and what is found: { head } or { at, words }

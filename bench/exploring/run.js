@@ -27,7 +27,7 @@ class RunNode {
   keep() {
     const size = this.kind === "storage" ? this.machine.rows.size + this.machine.undo.length : 0;
     const count = this.entries.length, last = this.copies[this.copies.length - 1].count;
-    if (count - last >= Math.max(64, size)) this.copies.push({ count, machine: this.machine.copy() });
+    if (count - last >= Math.max(64, size / 8)) this.copies.push({ count, machine: this.machine.copy() });
   }
 }
 
@@ -62,7 +62,7 @@ class Run {
   constructor({ asks, config, journals, nodes, tells }) {
     Object.assign(this, { config, nodes: new Map(), sent: new Map(), told: new Map(), lastSent: new Map(), lastTold: new Map() });
     Object.assign(this, { arrows: [], batches: [], byVersion: new Map(), recoveries: [], rollbacks: [], plans: new Map(), fault: null });
-    this.cached = null;
+    this.cached = this.lines = null;
     this.start();
     const named = nodes.map((it) => this.node(it));
     this.askNumbers = new Map(asks.map((it, number) => [JSON.stringify(it), number]));
@@ -361,6 +361,15 @@ class Run {
       if (!isSame(wanted, node.last)) return { at, node, line, words: unlikeWords(`${node.name} is to stand at last at`, wanted, "the journal says", node.last) };
     }
     return null;
+  }
+
+  /** The lines of a node's state after an entry, by how they are made; those that were made last are kept. */
+  linesAt(node, step, make) {
+    if (node.machine === null || node.born > step) return null;
+    const count = countThrough(node.entries, step), { lines } = this;
+    if (!lines || lines.node !== node || lines.count !== count)
+      this.lines = { node, count, made: make(node.kind, this.machineAt(node, step)) };
+    return this.lines.made;
   }
 
   /** A node's machine as it stands after an entry; null where it is not there yet. */
