@@ -14,7 +14,8 @@ class Fault(Exception):
 
 def program():
     """The browser's program, or nothing where it is not there."""
-    return next((found for it in ("chromium", "chromium-browser", "google-chrome") if (found := shutil.which(it))), None)
+    names = ("chromium", "chromium-browser", "google-chrome")
+    return next((found for it in names if (found := shutil.which(it))), None)
 
 
 class Browser:
@@ -24,8 +25,9 @@ class Browser:
         self.room = tempfile.mkdtemp(prefix="explore_")
         asks, self.ask = os.pipe()
         self.told, tells = os.pipe()
-        words = [program(), "--headless=new", "--no-sandbox", "--disable-gpu", "--disable-dev-shm-usage", "--no-first-run"]
-        words += ["--disable-background-networking", "--host-resolver-rules=MAP * ~NOTFOUND", f"--user-data-dir={self.room}"]
+        words = [program(), "--headless=new", "--no-sandbox", "--disable-gpu", "--disable-dev-shm-usage"]
+        words += ["--no-first-run", "--disable-background-networking", "--host-resolver-rules=MAP * ~NOTFOUND"]
+        words += [f"--user-data-dir={self.room}"]
         words += [f"--window-size={width},{height}", "--hide-scrollbars", "--remote-debugging-pipe", "about:blank"]
 
         def pipes():
@@ -35,7 +37,12 @@ class Browser:
             os.dup2(other, 4)
 
         self.process = subprocess.Popen(
-            words, preexec_fn=pipes, close_fds=False, stdout=subprocess.DEVNULL, stderr=subprocess.DEVNULL, start_new_session=True
+            words,
+            preexec_fn=pipes,
+            close_fds=False,
+            stdout=subprocess.DEVNULL,
+            stderr=subprocess.DEVNULL,
+            start_new_session=True,
         )
         os.close(asks)
         os.close(tells)
@@ -121,7 +128,7 @@ class Browser:
         got = self.call("Runtime.evaluate", expression=text, returnByValue=True, awaitPromise=True)
         if "exceptionDetails" in got:
             it = got["exceptionDetails"]
-            raise Fault(f"{text}: {it.get('exception', {}).get('description', it['text'])}")
+            raise Fault(f"{text[:80]}: {it.get('exception', {}).get('description', it['text'])}")
         return got["result"].get("value")
 
     def text(self, name):

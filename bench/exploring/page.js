@@ -247,7 +247,7 @@ class Page {
     const keys = {
       ArrowRight: () => this.by(many), ArrowLeft: () => this.by(-many), Home: () => this.by(-Infinity), End: () => this.by(Infinity),
       PageDown: () => this.by(100), PageUp: () => this.by(-100), ArrowDown: () => this.byLane(1), ArrowUp: () => this.byLane(-1),
-      "+": () => this.zoom(1.4), "=": () => this.zoom(1.4), "-": () => this.zoom(1 / 1.4), 0: () => this.zoom(1e-9), "[": () => this.pan(-wide / 2), "]": () => this.pan(wide / 2),
+      "+": () => this.zoom(1.4), "=": () => this.zoom(1.4), "-": () => this.zoom(1 / 1.4), 0: () => (this.zoom(1e-9), this.pan(-Infinity)), "[": () => this.pan(-wide / 2), "]": () => this.pan(wide / 2),
       "/": () => (at("what").focus(), at("what").select()), n: () => this.next(1), p: () => this.next(-1), r: () => this.toNext(run.recoveries.map((it) => it.begun)),
       b: () => this.toNext(run.rollbacks.map((it) => it.at)), "!": () => run.fault && this.go(run.fault.at), q: () => this.onlyNews(!picture.onlyNews),
       f: () => this.setFollow(!this.follow), s: () => (this.story(), this.paint()), d: () => at("theme").click(),

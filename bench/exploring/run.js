@@ -255,7 +255,7 @@ class Run {
   /** What an ask did to a batch or a recovery. */
   noteAsked(entry, told, from) {
     const { node, what, at } = entry, [word, said] = variant(variant(what.ask)[1]);
-    if ("refused" in told || "two_values" in told) this.noteRefused(entry, word, told);
+    if ("refused" in told || "two_values" in told) return this.noteRefused(entry, word, told);
     if (!entry.news) return;
     if (word === "next" && from.batch) Object.assign(from.batch, { given: at, version: told.numbered.version });
     if (word === "push" && said.mark !== null && from.recovery) from.recovery.mark ??= at;
