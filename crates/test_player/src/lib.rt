@@ -1,9 +1,11 @@
 //! Plays scenarios of nodes and of what they are made of, against these.
 #![tactic(auto)]
 
+mod contents;
 mod copies;
 mod logs;
 mod nodes;
+mod polls;
 mod proxies;
 mod recoverers;
 mod shards;

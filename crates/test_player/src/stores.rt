@@ -7,6 +7,7 @@ use fr_forms::fields::{Fields, tag_of, version_of};
 use fr_forms::lists::write_all;
 use fr_forms::object::{Object, hex_value};
 use fr_forms::read_batch;
+use fr_mutation::Shard;
 use fr_storage::Storage;
 use fr_undo::{MapStore, ShardStore, StoreFault};
 use serde_json::Value;
@@ -44,6 +45,10 @@ impl Plays<MapStore> for Nodes {
         match word {
             "state" => copied_place(alloc, store.copy(alloc)),
             "adopt" => adopt(alloc, store, given.all()),
+            "copied" => copied_contents(alloc, store.copy(alloc)),
+            "lent" => lent(alloc, store, given.all()),
+            "lent_rows" => Ok(Value::from(store.rows().len())),
+            "lent_bytes" => Ok(hex_value(alloc, store.bytes().as_slice())?),
             _ => play_word(alloc, store, word, given),
         }
     }
@@ -80,11 +85,13 @@ fn play_word<S: ShardStore>(
         "kept" => write_kept(alloc, store.state_bytes(alloc)),
         "get" => get(alloc, store, given.all()),
         "rows" => rows_of(alloc, store.dump(alloc)),
+        "below" => below(alloc, store, given.all()),
         "failed" => Ok(Value::from(store.is_failed())),
         "reopen" => write_done(alloc, store.reopen(alloc)),
         _ => no_such_word(
-            "rows of a store: apply, undo, forget, advance, keep, kept, get, rows, state, failed, \
-             reopen, and of one that never fails adopt",
+            "rows of a store: apply, undo, forget, advance, keep, kept, get, rows, below, state, \
+             failed, reopen, and of one that never fails adopt, copied, lent, \
+             lent_rows, lent_bytes",
         ),
     }
 }
@@ -118,6 +125,25 @@ fn keep<S: ShardStore>(alloc: Global, store: &mut S, given: &Value) -> Result<Va
 fn get<S: ShardStore>(alloc: Global, store: &mut S, given: &Value) -> Result<Value, Wrong> {
     let key = read_bytes(alloc, Some(given))?;
     write_found(alloc, store.get(alloc, &key))
+}
+
+/// The value that a store lends of a key, or null.
+fn lent(alloc: Global, store: &MapStore, given: &Value) -> Result<Value, Wrong> {
+    let key = read_bytes(alloc, Some(given))?;
+    match store.value_at(&key) {
+        Some(value) => Ok(hex_value(alloc, value.as_slice())?),
+        None => Ok(Value::Null),
+    }
+}
+
+/// The rows below a key; of null all of them.
+fn below<S: ShardStore>(alloc: Global, store: &mut S, given: &Value) -> Result<Value, Wrong> {
+    let begin = Bytes::empty(alloc);
+    let end = match given {
+        Value::Null => None,
+        key => Some(read_bytes(alloc, Some(key))?),
+    };
+    rows_of(alloc, store.range(alloc, &Shard { begin, end }))
 }
 
 /// Where a storage server stands that takes the store over, or why it does not. The store is then given back.
@@ -181,6 +207,17 @@ fn rows_of(alloc: Global, rows: Result<Vec<(Bytes, Bytes)>, StoreFault>) -> Resu
 /// The same as `write_place`, of a copy.
 fn copied_place(alloc: Global, store: Result<MapStore, Memory>) -> Result<Value, Wrong> {
     write_place(alloc, &store?)
+}
+
+/// What a copy holds, opened again: its rows, and the bytes that it keeps.
+fn copied_contents(alloc: Global, store: Result<MapStore, Memory>) -> Result<Value, Wrong> {
+    let mut copy = store?;
+    let reopened = write_done(alloc, copy.reopen(alloc))?;
+    let object = Object::new(alloc)
+        .with("reopened", reopened)?
+        .with("rows", rows_of(alloc, copy.dump(alloc))?)?
+        .with("kept", write_kept(alloc, copy.state_bytes(alloc))?)?;
+    Ok(object.value())
 }
 
 /// The version applied last, the floor, and how many undo rows there are.

@@ -1,4 +1,5 @@
 //! Batches, and their bytes.
+use crate::changing::{Spelled, change_each};
 use crate::states::write_bytes;
 use crate::subjects::Files;
 use fr_base::Memory;
@@ -28,8 +29,9 @@ impl Plays<Batch> for Files {
         match word {
             "bytes" => write_bytes(alloc, encode(alloc, batch)),
             "read" => read(alloc, given.all()),
+            "changed" => change_each(alloc, &BatchBytes, given.all()),
             "state" => write_copy(alloc, batch.copy()),
-            _ => no_such_word("rows of a batch: bytes, read, state"),
+            _ => no_such_word("rows of a batch: bytes, read, changed, state"),
         }
     }
 }
@@ -53,4 +55,17 @@ fn write_read(alloc: Global, batch: &Batch, used: usize) -> Result<Value, Memory
         .with("used", Value::from(used))?
         .and("batch", write_batch(alloc, batch))?;
     Ok(read.value())
+}
+
+/// The bytes of batches.
+struct BatchBytes;
+
+impl Spelled for BatchBytes {
+    fn is_one_or_none(&self, alloc: Global, bytes: &[u8]) -> Result<bool, Wrong> {
+        match decode(alloc, bytes) {
+            Ok((batch, used)) => Ok(Some(encode(alloc, &batch)?.as_slice()) == bytes.get(..used)),
+            Err(DecodeFault::Memory) => Err(Wrong::Memory),
+            Err(_) => Ok(true),
+        }
+    }
 }

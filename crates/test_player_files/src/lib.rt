@@ -4,11 +4,16 @@
 
 mod batches;
 mod cells;
+mod changing;
 mod counting;
+mod housed;
+mod housing;
 mod logs;
 mod place;
 mod records;
+mod scripts;
 mod states;
 mod subjects;
+mod sweeping;
 
 pub use subjects::play;

@@ -1,6 +1,7 @@
 //! Devices in memory, and the files that stand on them.
 use crate::counting::Counting;
 use crate::subjects::Files;
+use crate::sweeping::sweep;
 use fr_base::NodeFault;
 use fr_cli_json::tree::read_bytes;
 use fr_device::{Device, DeviceFault, FaultyDevice, MemoryDevice};
@@ -142,7 +143,7 @@ impl<K: Kept> Place<K> {
             "write" => write_at(alloc, self.device()?, given.of(2)),
             "bytes" => Ok(hex_value(alloc, self.device()?.bytes())?),
             _ => no_such_word(
-                "rows of any file: read, calls, syncs; of one that is not open: format, open, crash, \
+                "rows of any file: read, calls, syncs, sweep; of one that is not open: format, open, crash, \
                  sync, write, bytes",
             ),
         }
@@ -183,6 +184,7 @@ impl<K: Kept> Plays<Place<K>> for Files {
             "calls" => Ok(Value::from(place.calls)),
             "syncs" => Ok(Value::from(place.syncs)),
             "close" => place.close(),
+            "sweep" => sweep(alloc, &place.kept, place.room, given.of(2)),
             _ => match &mut place.file {
                 Some(file) => place.kept.play(alloc, file, word, given),
                 None => place.play_closed(alloc, word, given),
@@ -193,7 +195,7 @@ impl<K: Kept> Plays<Place<K>> for Files {
 
 /// In which call a device fails.
 #[derive(Clone, Copy)]
-enum Plan {
+pub(crate) enum Plan {
     /// In this one alone, the first being 1; in none where it is 0.
     Once(u64),
     /// In this one and all later ones.
@@ -201,7 +203,7 @@ enum Plan {
 }
 
 impl Plan {
-    fn over(self, device: MemoryDevice) -> FaultyDevice<MemoryDevice> {
+    pub(crate) fn over(self, device: MemoryDevice) -> FaultyDevice<MemoryDevice> {
         match self {
             Plan::Once(call) => FaultyDevice::once(device, call),
             Plan::From(call) => FaultyDevice::from(device, call),

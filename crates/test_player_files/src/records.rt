@@ -48,12 +48,13 @@ impl Kept for RecordFile {
         match word {
             "append" => append(alloc, file, given.all()),
             "group" => append_group(alloc, file, given.take_all()),
+            "put" => put(alloc, file, given.of(2)),
             "get" => get(alloc, file, given.all()),
             "count" => Ok(Value::from(file.len())),
             "failed" => Ok(Value::from(file.is_failed())),
             "reopen" => write_done(alloc, file.reopen(alloc)),
             _ => no_such_word(
-                "rows of a record file: append, group, get, count, failed, reopen, close, read, \
+                "rows of a record file: append, group, put, get, count, failed, reopen, close, read, \
                  calls, syncs",
             ),
         }
@@ -84,6 +85,29 @@ fn get(alloc: Global, file: &mut Records<Disk>, given: &Value) -> Result<Value, 
 fn append_group(alloc: Global, file: &mut Records<Disk>, given: Value) -> Result<Value, Wrong> {
     let group = read_group(alloc, given)?;
     write_done(alloc, file.append_group(alloc, &group))
+}
+
+/// Adds records, alone or as a group, behind so many others, where they are not there yet. They are there whole or not at
+/// all.
+fn put(alloc: Global, file: &mut Records<Disk>, fields: &mut Fields) -> Result<Value, Wrong> {
+    let at = usize::from(fields.index("at", u8::MAX)?);
+    let group = read_group(alloc, fields.take("records")?)?;
+    if file.len() == at {
+        add(alloc, file, &group)
+    } else if file.len() >= at.saturating_add(group.len()) {
+        Ok(Value::Null)
+    } else {
+        Err(Wrong::Form("these records are there in part"))
+    }
+}
+
+fn add(alloc: Global, file: &mut Records<Disk>, group: &Vec<Vec<u8>>) -> Result<Value, Wrong>
+    requires { All (λ v. length v.items < 2 ^ 32) group.now.items }
+{
+    match group.as_slice() {
+        [record] => append_short(alloc, file, record.as_slice()),
+        _ => write_done(alloc, file.append_group(alloc, group)),
+    }
 }
 
 /// Records in hex.

@@ -1,4 +1,5 @@
 //! Coordinated states, and their bytes.
+use crate::changing::{Spelled, change_each};
 use crate::subjects::Files;
 use fr_base::{Memory, Version};
 use fr_cli_json::tree::read_bytes;
@@ -28,6 +29,7 @@ impl Plays<CoordState> for Files {
             "extend" => extend(alloc, state, given.take_all()),
             "bytes" => write_bytes(alloc, encode(alloc, state)),
             "read" => read(alloc, given.all()),
+            "changed" => change_each(alloc, &StateBytes, given.all()),
             "end_of" => Ok(version_or_null(state.end_of(epoch_of(given.all())?))),
             "cut_of" => Ok(version_or_null(state.cut_of(epoch_of(given.all())?))),
             "source_for" => { write_one(alloc, state.source_for(version_of(given.all())?.get())) }
@@ -35,7 +37,7 @@ impl Plays<CoordState> for Files {
             "drop_before" => Ok(Value::from(state.drop_before(epoch_of(given.all())?))),
             "state" => write_copy(alloc, state.copy()),
             _ => no_such_word(
-                "rows of a coordinated_state: extend, bytes, read, end_of, cut_of, source_for, \
+                "rows of a coordinated_state: extend, bytes, read, changed, end_of, cut_of, source_for, \
                  begins_with, drop_before, state",
             ),
         }
@@ -96,5 +98,18 @@ fn write_one(alloc: Global, generation: Option<Generation>) -> Result<Value, Wro
     match generation {
         Some(generation) => write_copy(alloc, CoordState::new(alloc, generation)),
         None => Ok(Value::Null),
+    }
+}
+
+/// The bytes of coordinated states.
+struct StateBytes;
+
+impl Spelled for StateBytes {
+    fn is_one_or_none(&self, alloc: Global, bytes: &[u8]) -> Result<bool, Wrong> {
+        match decode(alloc, bytes) {
+            Ok(state) => Ok(encode(alloc, &state)?.as_slice() == bytes),
+            Err(DecodeFault::Memory) => Err(Wrong::Memory),
+            Err(_) => Ok(true),
+        }
     }
 }

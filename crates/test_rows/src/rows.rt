@@ -1,6 +1,7 @@
 //! Scenarios and their rows.
 use crate::names::Names;
 use crate::wrong::Wrong;
+use fr_forms::object::write_text;
 use serde_json::Value;
 use std::alloc::{AllocError, Global};
 
@@ -25,6 +26,18 @@ pub(crate) struct Parts<'t> {
     pub(crate) word: &'t str,
     pub(crate) given: &'t str,
     pub(crate) wanted: Option<&'t str>,
+}
+
+impl Parts<'_> {
+    /// What is given, as JSON; of a word of texts the text itself, which may be no JSON.
+    pub(crate) fn given_to(&self, alloc: Global, text_words: &[&str]) -> Result<Value, Wrong> {
+        for word in text_words {
+            if self.word == *word {
+                return Ok(write_text(alloc, self.given)?);
+            }
+        }
+        json_or_null(alloc, self.given)
+    }
 }
 
 impl Scenario {

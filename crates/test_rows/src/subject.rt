@@ -26,6 +26,7 @@ pub struct Scene<'t> {
     made: Parts<'t>,
     rows: &'t [Row],
     seen_by: &'static str,
+    text_words: &'static [&'static str],
     is_once: bool,
 }
 
@@ -43,6 +44,7 @@ impl<'t> Scene<'t> {
             made,
             rows,
             seen_by: "state",
+            text_words: &[],
             is_once: false,
         })
     }
@@ -52,6 +54,14 @@ impl<'t> Scene<'t> {
     pub fn seen_by(self, word: &'static str) -> Self {
         Scene {
             seen_by: word,
+            ..self
+        }
+    }
+
+    /// The same, in which what rows of these words give is a text, and stands there as it is.
+    pub fn texts_by(self, words: &'static [&'static str]) -> Self {
+        Scene {
+            text_words: words,
             ..self
         }
     }
@@ -99,12 +109,31 @@ impl<'t> Scene<'t> {
             *at = row.line;
             let parts = row.parts();
             if self.is_once {
-                play_row(alloc, player, subject, &parts)?;
+                play_row(alloc, player, subject, &parts, self.text_words)?;
             } else {
-                play_or_again(alloc, player, subject, &parts, self.seen_by)?;
+                self.play_or_again(alloc, player, subject, &parts)?;
             }
         }
         Ok(())
+    }
+
+    /// Plays a row, and once more where there was no memory for it.
+    fn play_or_again<T, P: Plays<T>>(
+        &self,
+        alloc: Global,
+        player: &P,
+        subject: &mut T,
+        parts: &Parts,
+    ) -> Result<(), Wrong> {
+        let before = seen(alloc, player, subject, self.seen_by);
+        match play_row(alloc, player, subject, parts, self.text_words) {
+            Err(Wrong::Memory) => {
+                compare_seen(seen(alloc, player, subject, self.seen_by), before)?;
+                play_row(alloc, player, subject, parts, self.text_words)
+            }
+            Err(Wrong::InPart) => play_row(alloc, player, subject, parts, self.text_words),
+            played => played,
+        }
     }
 }
 
@@ -119,12 +148,14 @@ fn play_row<T, P: Plays<T>>(
     player: &P,
     subject: &mut T,
     parts: &Parts,
+    text_words: &[&str],
 ) -> Result<(), Wrong> {
     let Some(wanted) = parts.wanted else {
         return Err(Wrong::Form("no arrow and what is wanted behind it"));
     };
     let wanted = text_of(alloc, json_of(alloc, wanted))?;
-    let told = tell(alloc, player, subject, parts)?;
+    let given = Fields::new(parts.given_to(alloc, text_words)?, 0);
+    let told = tell(alloc, player, subject, parts.word, given)?;
     compare(told, wanted)
 }
 
@@ -133,10 +164,10 @@ fn tell<T, P: Plays<T>>(
     alloc: Global,
     player: &P,
     subject: &mut T,
-    parts: &Parts,
+    word: &str,
+    mut given: Fields,
 ) -> Result<Vec<u8>, Wrong> {
-    let mut given = Fields::new(json_or_null(alloc, parts.given)?, 0);
-    let told = player.play_row(alloc, subject, parts.word, &mut given)?;
+    let told = player.play_row(alloc, subject, word, &mut given)?;
     match told.to_vec(alloc) {
         Ok(text) => Ok(text),
         Err(_) => said(text_of(alloc, Ok(told))),
@@ -146,25 +177,6 @@ fn tell<T, P: Plays<T>>(
 /// A value as text, where there is one.
 fn text_of(alloc: Global, value: Result<Value, Wrong>) -> Result<Vec<u8>, Wrong> {
     Ok(value?.to_vec(alloc)?)
-}
-
-/// Plays a row, and once more where there was no memory for it.
-fn play_or_again<T, P: Plays<T>>(
-    alloc: Global,
-    player: &P,
-    subject: &mut T,
-    parts: &Parts,
-    seen_by: &str,
-) -> Result<(), Wrong> {
-    let before = seen(alloc, player, subject, seen_by);
-    match play_row(alloc, player, subject, parts) {
-        Err(Wrong::Memory) => {
-            compare_seen(seen(alloc, player, subject, seen_by), before)?;
-            play_row(alloc, player, subject, parts)
-        }
-        Err(Wrong::InPart) => play_row(alloc, player, subject, parts),
-        played => played,
-    }
 }
 
 /// What a row of a word shows of a subject; none where there is no memory to tell it.

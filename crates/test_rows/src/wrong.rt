@@ -1,5 +1,5 @@
 //! Why a row does not hold.
-use fr_base::Memory;
+use fr_base::{Memory, NodeFault};
 use fr_cli_json::CliFault;
 use fr_forms::ScriptFault;
 use fr_forms::lists::{WriteItem, write_all};
@@ -58,6 +58,18 @@ pub const NO_FORM: Wrong = Wrong::Form(
 impl From<Memory> for Wrong {
     fn from(_: Memory) -> Wrong {
         Wrong::Memory
+    }
+}
+
+/// Of a node that is made, opened or asked where the row says nothing of a fault.
+impl From<NodeFault> for Wrong {
+    fn from(fault: NodeFault) -> Wrong {
+        match fault {
+            NodeFault::Memory => Wrong::Memory,
+            NodeFault::Device | NodeFault::Full | NodeFault::Failed | NodeFault::Broken => {
+                Wrong::Form("a node met a fault that no row says")
+            }
+        }
     }
 }
 

@@ -17,9 +17,10 @@ struct Players;
 
 /// What a scenario can be about.
 const SUBJECTS: &str =
-    "a scenario begins with: asks, batch, cell, cell_file, coordinated_state, end_tally, lasts, log, \
-     log_file, proxy, record_file, recoverer, sequencer, shards, storage, failing_storage, store, \
-     failing_store, tail, tells, world";
+    "a scenario begins with: apply, asks, batch, cell, cell_file, coordinated_state, end, end_tally, \
+     housed_cell, housed_log, housed_sequencer, lasts, log, log_file, proxy, read_tally, record_file, \
+     recoverer, rows, sequencer, shard, shards, storage, failing_storage, store, failing_store, tail, \
+     tells, world, write_tally";
 
 impl Player for Players {
     fn play(&self, alloc: Global, scene: Scene<'_>, at: &mut usize) -> Result<(), Wrong> {

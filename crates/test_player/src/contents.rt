@@ -1,0 +1,123 @@
+//! Rows without a store, on which batches act; and shards, of which batches are parts.
+use crate::subjects::Nodes;
+use fr_base::{Bytes, Memory};
+use fr_cli_json::tree::read_bytes;
+use fr_forms::fields::Fields;
+use fr_forms::lists::write_all;
+use fr_forms::object::{Object, hex_value};
+use fr_forms::{read_batch, write_batch};
+use fr_mutation::{Batch, MAX_KEY, Shard, apply, clip};
+use serde_json::Value;
+use std::alloc::Global;
+use std::collections::BTreeMap;
+use test_rows::{NO_FORM, Plays, Scene, Wrong, no_such_word, of_nothing, said};
+
+/// Keys and their values.
+type Rows = BTreeMap<Bytes, Bytes>;
+
+/// Plays batches on rows of which there are none.
+pub(crate) fn play_rows(alloc: Global, scene: Scene, at: &mut usize) -> Result<(), Wrong> {
+    let rows: Result<Rows, Wrong> = of_nothing(alloc, scene, BTreeMap::new(alloc));
+    scene.once().play_made(alloc, &Nodes, rows, at)
+}
+
+impl Plays<Rows> for Nodes {
+    fn play_row(
+        &self,
+        alloc: Global,
+        rows: &mut Rows,
+        word: &str,
+        given: &mut Fields,
+    ) -> Result<Value, Wrong> {
+        match word {
+            "apply" => {
+                act(alloc, rows, read_batch(alloc, given.take_all())?.copy())?;
+                write_rows(alloc, rows)
+            }
+            "state" => write_rows(alloc, rows),
+            _ => no_such_word("rows of rows: apply, state"),
+        }
+    }
+}
+
+fn act(alloc: Global, rows: &mut Rows, batch: Result<Batch, Memory>) -> Result<(), Wrong> {
+    Ok(apply(alloc, rows, &batch?)?)
+}
+
+fn write_rows(alloc: Global, rows: &Rows) -> Result<Value, Wrong> {
+    let mut pairs = Vec::new(alloc);
+    for (key, value) in rows {
+        pairs.push((key.copy()?, value.copy()?))?;
+    }
+    Ok(write_all(alloc, pairs.as_slice())?)
+}
+
+/// Plays rows with a shard.
+pub(crate) fn play_shard(alloc: Global, scene: Scene, at: &mut usize) -> Result<(), Wrong> {
+    let shard = read_shard(alloc, scene.given(alloc)?.of(2));
+    scene.play_made(alloc, &Nodes, shard, at)
+}
+
+/// The keys from `begin` on, up to `end` where that is none.
+fn read_shard(alloc: Global, fields: &Fields) -> Result<Shard, Wrong> {
+    let begin = fields.bytes(alloc, "begin")?;
+    let end = match fields.value("end")? {
+        Value::Null => None,
+        end => Some(read_bytes(alloc, Some(end))?),
+    };
+    Ok(Shard { begin, end })
+}
+
+impl Plays<Shard> for Nodes {
+    fn play_row(
+        &self,
+        alloc: Global,
+        shard: &mut Shard,
+        word: &str,
+        given: &mut Fields,
+    ) -> Result<Value, Wrong> {
+        match word {
+            "has" => has(shard.copy(), &read_bytes(alloc, Some(given.all()))?),
+            "clip" => cut(alloc, shard, given.take_all()),
+            "state" => write_shard(alloc, shard),
+            _ => no_such_word("rows of a shard: has, clip, state"),
+        }
+    }
+}
+
+fn has(shard: Result<Shard, Memory>, key: &Bytes) -> Result<Value, Wrong> {
+    Ok(Value::from(shard?.contains(key)))
+}
+
+/// The part of a batch that acts on keys of the shard.
+fn cut(alloc: Global, shard: &Shard, given: Value) -> Result<Value, Wrong> {
+    let batch = read_batch(alloc, given)?;
+    if shard.begin.len() > MAX_KEY {
+        return Err(NO_FORM);
+    }
+    match &shard.end {
+        Some(end) => {
+            if end.len() > MAX_KEY {
+                Err(NO_FORM)
+            } else {
+                write_part(alloc, clip(alloc, &batch, shard))
+            }
+        }
+        None => write_part(alloc, clip(alloc, &batch, shard)),
+    }
+}
+
+fn write_part(alloc: Global, part: Result<Batch, Memory>) -> Result<Value, Wrong> {
+    Ok(write_batch(alloc, &part?)?)
+}
+
+fn write_shard(alloc: Global, shard: &Shard) -> Result<Value, Wrong> {
+    let end = match &shard.end {
+        Some(end) => hex_value(alloc, end.as_slice())?,
+        None => Value::Null,
+    };
+    let object = Object::new(alloc)
+        .bytes("begin", shard.begin.as_slice())?
+        .with("end", end)?;
+    Ok(object.value())
+}

@@ -1,0 +1,146 @@
+//! Nodes with their journals.
+use crate::place::write_node_fault;
+use crate::subjects::Files;
+use fr_audit_journal::{Act, Entry, Journal};
+use fr_base::{Machine, Memory, Node, NodeId, Stamp};
+use fr_forms::fields::{Fields, items};
+use fr_forms::object::Object;
+use fr_forms::{
+    read_cell_ask, read_log_ask, read_node, read_seq_ask, write_ask, write_node, write_tell,
+};
+use fr_log::Log;
+use fr_proxy::Sequencer;
+use fr_register::Cell;
+use fr_runtime_housing::{CallFault, Housable, Housed};
+use serde_json::Value;
+use std::alloc::Global;
+use test_rows::{NO_FORM, Plays, Wrong, no_such_word, write_name};
+
+/// A machine whose asks are read.
+pub(crate) trait Asked: Housable {
+    /// An ask, without the name of its kind.
+    fn read_ask(alloc: Global, given: Value) -> Result<Self::Ask, Wrong>;
+}
+
+impl Asked for Cell {
+    fn read_ask(alloc: Global, given: Value) -> Result<Self::Ask, Wrong> {
+        Ok(read_cell_ask(alloc, given)?)
+    }
+}
+
+impl Asked for Log {
+    fn read_ask(alloc: Global, given: Value) -> Result<Self::Ask, Wrong> {
+        Ok(read_log_ask(alloc, given)?)
+    }
+}
+
+impl Asked for Sequencer {
+    fn read_ask(_alloc: Global, given: Value) -> Result<Self::Ask, Wrong> {
+        Ok(read_seq_ask(given)?)
+    }
+}
+
+/// Asks a node, before it has a journal, what stands in a list.
+pub(crate) fn serve_before<N: Node + Drop>(
+    alloc: Global,
+    node: &mut N,
+    given: Value,
+) -> Result<(), Wrong>
+where
+    N::Plain: Asked,
+    <N::Plain as Machine>::Ask: Drop,
+    <N::Plain as Machine>::Tell: Drop,
+{
+    for item in items(given)? {
+        let ask = <N::Plain as Asked>::read_ask(alloc, item)?;
+        let _told = node.serve(alloc, ask)?;
+    }
+    Ok(())
+}
+
+impl<N: Node + Drop> Plays<Housed<N>> for Files
+where
+    N::Plain: Asked,
+    <N::Plain as Machine>::Ask: Drop,
+{
+    fn play_row(
+        &self,
+        alloc: Global,
+        housed: &mut Housed<N>,
+        word: &str,
+        given: &mut Fields,
+    ) -> Result<Value, Wrong> {
+        match word {
+            "ask" => ask(alloc, housed, given.of(3)),
+            "crash" => write_stamp(alloc, housed.crash(alloc, stamp_of(given.all())?)),
+            "lose" => write_stamp(alloc, housed.lose(alloc, stamp_of(given.all())?)),
+            "journal" => write_copy(alloc, housed.journal().copy()),
+            "count" => Ok(Value::from(housed.journal().entries().len())),
+            _ => no_such_word("rows of a node with its journal: ask, crash, lose, journal, count"),
+        }
+    }
+}
+
+fn stamp_of(given: &Value) -> Result<Stamp, Wrong> {
+    Stamp::new(given.as_u64().ok_or(NO_FORM)?).ok_or(NO_FORM)
+}
+
+/// The stamp with which an ask is entered, or why it is not.
+fn ask<N: Node + Drop>(
+    alloc: Global,
+    housed: &mut Housed<N>,
+    fields: &mut Fields,
+) -> Result<Value, Wrong>
+where
+    N::Plain: Asked,
+    <N::Plain as Machine>::Ask: Drop,
+{
+    let stamp = stamp_of(fields.value("stamp")?)?;
+    let from = read_node(fields.take("from")?)?;
+    let ask = <N::Plain as Asked>::read_ask(alloc, fields.take("ask")?)?;
+    let entered = match housed.ask(alloc, stamp, from, ask) {
+        Ok((stamp, _tell)) => Ok(stamp),
+        Err(fault) => Err(fault),
+    };
+    write_stamp(alloc, entered)
+}
+
+fn write_stamp(alloc: Global, entered: Result<Stamp, CallFault>) -> Result<Value, Wrong> {
+    match entered {
+        Ok(stamp) => Ok(Value::from(stamp.get())),
+        Err(CallFault::Node(fault)) => write_node_fault(alloc, fault),
+        Err(CallFault::StampsSpent) => write_name(alloc, "StampsSpent"),
+        Err(CallFault::Lost) => write_name(alloc, "Lost"),
+    }
+}
+
+/// Of a copy of a journal its node and its entries.
+fn write_copy(alloc: Global, journal: Result<Journal, Memory>) -> Result<Value, Wrong> {
+    let journal = journal?;
+    let mut entries = Vec::new(alloc);
+    for entry in journal.entries() {
+        entries.push(write_entry(alloc, entry)?)?;
+    }
+    let object = Object::new(alloc)
+        .and("node", write_node(alloc, &journal.node()))?
+        .with("entries", Value::Array(entries))?;
+    Ok(object.value())
+}
+
+/// Who asked, what, and what was told, with its stamp; or the stamp under what happened else.
+fn write_entry(alloc: Global, entry: &Entry) -> Result<Value, Wrong> {
+    let stamp = entry.stamp.get();
+    match &entry.act {
+        Act::Asked { from, ask, tell } => {
+            let object = Object::new(alloc)
+                .with("at", Value::from(stamp))?
+                .and("from", write_node(alloc, from))?
+                .and("ask", write_ask(alloc, ask))?
+                .and("tell", write_tell(alloc, tell))?;
+            Ok(object.value())
+        }
+        Act::Crashed => Ok(Object::of(alloc, &[("crashed", stamp)])?.value()),
+        Act::Lost => Ok(Object::of(alloc, &[("lost", stamp)])?.value()),
+        _ => Err(NO_FORM),
+    }
+}
