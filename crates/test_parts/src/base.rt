@@ -1,10 +1,5 @@
-//! Tests of numbers, mutations, the bytes of batches and of states, and the register: worked examples, vectors and
-//! refused calls.
-mod batch_bytes;
-mod mutation;
+//! Tests of numbers and names, of a node in memory, and of two ballots that contend.
+mod names;
 mod nodes;
 mod numbers;
-mod register;
-mod shards;
-mod state_bytes;
 mod two_ballots;

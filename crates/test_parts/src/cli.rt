@@ -1,10 +1,7 @@
-//! Tests of scripts: what each prints, how it may be written, and what failing devices leave.
+//! Tests of commands that run with readers and writers that fail or are interrupted, and of the store that one is lent.
 mod counts;
 mod devices;
-mod end;
 mod end_devices;
 mod examples;
-mod forms;
-mod lengths;
+mod faults;
 mod lent;
-mod lines;

@@ -1,18 +1,12 @@
-//! Tests of what stands low in crates.txt, a module for each layer: they are one crate, since each would read, link and
-//! compile anew what is below it.
+//! Tests of what stands low in crates.txt and what no scenario can say: numbers at their limits, a node in memory, devices
+//! that fail when they are told to, readers and writers that fail, a store beside plain lists.
 #![tactic(auto)]
 
 #[cfg(test)]
 mod base;
 #[cfg(test)]
-mod cell_asks;
-#[cfg(test)]
 mod cli;
 #[cfg(test)]
-mod housing;
+mod devices;
 #[cfg(test)]
-mod log_asks;
-#[cfg(test)]
-mod record;
-#[cfg(test)]
-mod undo;
+mod store_agrees;

@@ -1,6 +1,5 @@
 //! A node without a device: what it tells, where it stands, and the machine that it gives back.
-use crate::cell_asks::ballot;
-use fr_base::{InMemory, Node, Reopened};
+use fr_base::{Ballot, InMemory, Node, Reopened};
 use fr_register::{Cell, CellAsk, CellTell};
 use std::alloc::Global;
 use std::test::Fail;
@@ -24,7 +23,7 @@ fn told_by(tell: &CellTell) -> Said {
 /// What the node tells that is asked to promise a ballot, and then opened again: nothing was owed, so that it stands
 /// before.
 fn reads<N: Node<Plain = Cell>>(alloc: Global, node: &mut N, number: u64) -> Result<Said, Fail> {
-    let ballot = ballot(number)?;
+    let ballot = Ballot::new(number).ok_or("a ballot")?;
     let tell = node.serve(alloc, CellAsk::Read { ballot })?;
     match node.reopen(alloc)? {
         Reopened::Before => Ok(told_by(&tell)),

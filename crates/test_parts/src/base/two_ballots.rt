@@ -1,9 +1,12 @@
 //! What two ballots that contend over three cells come to.
-use crate::cell_asks::value;
 use example_ballots::{Outcome, in_turn, overtaken};
 use fr_register::{Cell, CellValue, Progress};
 use std::alloc::Global;
 use std::test::Fail;
+
+fn value(alloc: Global, byte: u8) -> Result<CellValue, Fail> {
+    Ok(CellValue::new(Vec::from_slice(alloc, &[byte])?).ok_or("a value")?)
+}
 
 /// Whether the cell promised and wrote this ballot, with this value.
 fn holds(cell: &Cell, ballot: u64, value: &CellValue) -> bool {

@@ -9,28 +9,6 @@ use std::test::Fail;
 
 const ROOM: usize = 64;
 
-/// A device in memory whose call `n` fails, and all later ones where that is to last.
-pub(crate) fn failing(
-    alloc: Global,
-    room: usize,
-    n: u64,
-    is_lasting: bool,
-) -> Result<FaultyDevice<MemoryDevice>, Memory> {
-    let device = MemoryDevice::new(alloc, room)?;
-    Ok(if is_lasting {
-        FaultyDevice::from(device, n)
-    } else {
-        FaultyDevice::once(device, n)
-    })
-}
-
-/// The device in memory after a crash that left this fill in what was not synced.
-pub(crate) fn crashed(device: FaultyDevice<MemoryDevice>, fill: u8) -> MemoryDevice {
-    let mut left = device.into_inner();
-    left.crash(fill);
-    left
-}
-
 /// Writes these bytes from a place on, and does not sync them.
 fn put<D: Device>(device: &mut D, at: usize, bytes: &[u8]) -> Result<(), DeviceFault>
     requires { at ≤ length (D.disk device.old).content }
