@@ -1,5 +1,5 @@
 /* Stands before the C library's read and write, for tests/devices: standard input and output take one byte a call, and
-   the call of a number (READ_FAILS, WRITE_FAILS, counted from 1) fails. */
+   from the call of a number on (READ_FAILS, WRITE_FAILS, counted from 1; 0 is none) each fails. */
 #define _GNU_SOURCE
 #include <dlfcn.h>
 #include <errno.h>
@@ -7,9 +7,10 @@
 #include <sys/types.h>
 #include <unistd.h>
 
-static long number_of(const char *name) {
+static int fails(long call, const char *name) {
     const char *text = getenv(name);
-    return text ? atol(text) : 0;
+    long first = text ? atol(text) : 0;
+    return first && call >= first;
 }
 
 ssize_t read(int file, void *to, size_t length) {
@@ -17,7 +18,7 @@ ssize_t read(int file, void *to, size_t length) {
     static long calls;
     if (!next) next = dlsym(RTLD_NEXT, "read");
     if (file != 0) return next(file, to, length);
-    if (++calls == number_of("READ_FAILS")) {
+    if (fails(++calls, "READ_FAILS")) {
         errno = EIO;
         return -1;
     }
@@ -29,7 +30,7 @@ ssize_t write(int file, const void *from, size_t length) {
     static long calls;
     if (!next) next = dlsym(RTLD_NEXT, "write");
     if (file != 1) return next(file, from, length);
-    if (++calls == number_of("WRITE_FAILS")) {
+    if (fails(++calls, "WRITE_FAILS")) {
         errno = EIO;
         return -1;
     }
