@@ -8,13 +8,24 @@ FAMILIES = (
     ("Tests and examples", "they call everything below, and nothing stands on them", r"(test|example)_.*"),
     ("Commands", "the program fdbrec, and each of its commands as a library", r"fr_cli(?!_json).*|fdbrec.*"),
     ("Clusters in threads", "all nodes in threads, each with the journal of what it did", r"fr_runtime.*"),
-    ("Audits", "journals, their scripts, and whether they are a run", r"fr_audit.*|fr_form.*|fr_simulate_script"),
+    (
+        "Audits",
+        "journals, their scripts, and whether they are a run",
+        r"fr_audit.*|fr_forms|fr_form_.*|fr_simulate_script"),
     ("Worlds", "all nodes in one exact run, an event at a time", r"fr_world.*"),
     ("Runs", "lists of turns of all nodes, and the laws of every run: the main theorem", r"fr_run.*"),
     ("Nodes over disks", "disks that crash, record files, and nodes over them", r"fr_device|fr_record.*"),
     ("Store in SQL", "the same store in tables of a database", r"fr_sql_.*"),
-    ("Nodes", "cells, logs, sequencers, proxies, recoverers and storage servers, each a machine", r"fr_(register|state|tags|log|ask|tail|epoch|proxy|storage)"),
-    ("Values and the store", "numbers, batches, texts of both, and the store of a shard with undo rows", r"fr_(base|mutation|undo|cli_json)"),
+    (
+        "Nodes",
+        "cells, logs, sequencers, proxies, recoverers and storage servers, each a machine",
+        r"fr_(register|state|tags|log|ask|tail|epoch|proxy|storage)",
+    ),
+    (
+        "Values and the store",
+        "numbers, batches, texts of both, and the store of a shard with undo rows",
+        r"fr_(base|mutation|undo|cli_json)",
+    ),
 )
 # what stands beside the main column, and in which one
 SIDE = {"Store in SQL": 0, "Nodes over disks": 1}
@@ -41,7 +52,8 @@ def layers(crates):
     out += [line(boxes, name, low) for name in boxes for low in sorted(direct(below, name))]
     for name in boxes:
         out += box(name, *boxes[name])
-    out.append(f'<text x="{PAD}" y="{height - 8}" fill="#555555">A line goes down to a family on whose crates a family stands.</text>')
+    words = "A line goes down to a family on whose crates a family stands."
+    out.append(f'<text x="{PAD}" y="{height - 8}" fill="#555555">{words}</text>')
     return "\n".join(out + ["</svg>"]) + "\n"
 
 
@@ -70,8 +82,9 @@ def placed(inside, below):
             wide = NARROW if name in SIDE else WIDE
             x = PAD + SIDE.get(name, 2) * (NARROW + GAP)
             sentence = next(words for it, words, _ in FAMILIES if it == name)
-            lines = [*textwrap.wrap(sentence, wide // 7), *textwrap.wrap(", ".join(inside[name]), int(wide / 6.4), break_long_words=False)]
-            count = len(textwrap.wrap(sentence, wide // 7))
+            said = textwrap.wrap(sentence, wide // 7)
+            lines = said + textwrap.wrap(", ".join(inside[name]), int(wide / 6.4), break_long_words=False)
+            count = len(said)
             tall = 26 + LINE * len(lines) + 6
             boxes[name] = (x, y, wide, tall, (lines, count))
             high = max(high, tall)
