@@ -2,10 +2,15 @@
 import base64
 import json
 import os
+import select
 import shutil
+import signal
 import subprocess
 import tempfile
 import time
+
+# how long it may say nothing
+SECONDS = 90
 
 
 class Fault(Exception):
@@ -63,7 +68,7 @@ class Browser:
             self.call("Browser.close")
             self.process.wait(10)
         except (Fault, OSError, subprocess.TimeoutExpired):
-            self.process.kill()
+            os.killpg(self.process.pid, signal.SIGKILL)
             self.process.wait()
         os.close(self.ask)
         os.close(self.told)
@@ -72,9 +77,10 @@ class Browser:
     def message(self):
         """The next message of the browser."""
         while b"\0" not in self.left:
-            got = os.read(self.told, 1 << 20)
+            is_there, _, _ = select.select([self.told], [], [], SECONDS)
+            got = os.read(self.told, 1 << 20) if is_there else b""
             if not got:
-                raise Fault("the browser ended")
+                raise Fault("the browser ended" if is_there else f"the browser said nothing for {SECONDS} seconds")
             self.left += got
         text, _, self.left = self.left.partition(b"\0")
         return json.loads(text)
