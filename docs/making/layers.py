@@ -15,8 +15,8 @@ FAMILIES = (
     ),
     ("Worlds", "all nodes in one exact run, an event at a time", r"fr_world.*"),
     ("Runs", "lists of turns of all nodes, and the laws of every run: the main theorem", r"fr_run.*"),
-    ("Nodes over disks", "disks that crash, record files, and nodes over them", r"fr_device|fr_record.*"),
-    ("Store in SQL", "the same store in tables of a database", r"fr_sql_.*"),
+    ("Nodes over disks", "disks that crash, record files, and nodes over them", r"fr_(device|host_device|record).*"),
+    ("Store in SQL", "the same store in tables of a database, and of files", r"fr_sql_.*|fr_host_mirror"),
     (
         "Nodes",
         "cells, logs, sequencers, proxies, recoverers and storage servers, each a machine",
