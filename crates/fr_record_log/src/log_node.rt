@@ -4,13 +4,16 @@ ghost use Rattle.fr_base.specs.Faults.{met_device};
 ghost use Rattle.fr_log.specs.LogState.{fresh_log};
 ghost use Rattle.fr_log.specs.Step.{answer_of, after_ask};
 ghost use Rattle.fr_device.specs.Moments.{Throughout};
+ghost use Rattle.fr_device.specs.Moments as moments;
 ghost use Rattle.fr_record.specs.File.{StandsFor};
 ghost use Rattle.fr_record.specs.Failing.{FailsOnceMore};
+ghost use Rattle.fr_record.specs.Opening.{IsOpening, HasGone};
 ghost use Rattle.fr_record_node.specs.Several.{told_all};
 ghost use Rattle.fr_record_node.specs.Node.{HasNoRoom, is_trouble};
 ghost use Rattle.fr_record_node.specs.Replay.{replayed, Opens};
 ghost use Rattle.fr_record_log.specs.LogFile.{fresh_of, replay_log, IsSettledLog};
 ghost use Rattle.fr_record_log.specs.Law.{after_all, written_all};
+ghost use Rattle.fr_record_log.specs.Spelling.{written_log};
 
 use crate::limits::log_within_limits;
 use crate::log_file::FileLog;
@@ -82,7 +85,8 @@ impl<D: Device> LogNode<D> {
     }
 
     /// The log whose file a device holds, whatever a crash made of it. `Broken` where the device holds no
-    /// record file, or one of records that no run of a log of this id, `m` and `k` writes.
+    /// record file, or one of records that no run of a log of this id, `m` and `k` writes. A refusal drops the device;
+    /// what its records outlast is said there too, of a device to which calls led.
     pub fn open(alloc: Global, device: D, id: LogId, m: u8, k: u8) -> Result<Self, NodeFault>
         requires some { 1 ≤ k }
         requires fits { k ≤ m }
@@ -92,8 +96,11 @@ impl<D: Device> LogNode<D> {
         ensures replays { IfOk result (λ node. replayed replay_log (Some (fresh_log id.epoch id.index m k)) node.records ≡ Some node.machine) }
         ensures works { IfOk result (λ node. node.is_failed ≡ false) }
         ensures free { IfOk result (λ node. node.owed ≡ None) }
+        ensures any_moment { IfOk result (λ node. IsOpening D.Led D.disk device node.device) }
+        ensures gone { OnErr result (HasGone D.Led D.disk (met_device result) device) }
         ensures kept { IfOk result (λ node. Throughout D.Led D.disk (Opens replay_log (fresh_of node.machine) (λ x. x
             ≡ node.machine)) node.device node.device) }
+        ensures capacity { IfOk result (λ node. D.capacity_of node.device ≡ D.capacity_of device) }
         ensures broken { (result ≡ Err NodeFault.Broken) → (records : List (List ℕ))
             → StandsFor (D.disk device).content records
             → replayed replay_log (Some (fresh_log id.epoch id.index m k)) records ≡ None }
@@ -127,6 +134,7 @@ impl<D: Device> LogNode<D> {
             → HasNoRoom (D.capacity_of self.old.device) self.old.records (written_all self.old.machine asks.items) }
         ensures owes { (result ≡ Err NodeFault.Device) → self.new.owed ≡ Some (after_all self.old.machine asks.items) }
         ensures owes_still { result ≢ Err NodeFault.Device → self.new.owed ≡ self.old.owed }
+        ensures capacity { D.capacity_of self.new.device ≡ D.capacity_of self.old.device }
         ensures trouble { IfErr result (λ fault. fault ≢ NodeFault.Failed → IsTrue (is_trouble fault)) }
         ensures any_moment { self.old.is_failed ≡ false
             → Throughout D.Led D.disk (Opens replay_log (fresh_of self.old.machine) (λ x. (x ≡ self.old.machine)
@@ -169,7 +177,28 @@ impl<D: Device> Node for LogNode<D> {
 
     ghost CanMeet = { λ fault. IsTrue (is_trouble fault) };
 
-    fn serve(&mut self, alloc: Global, ask: LogAsk) -> Result<LogTell, NodeFault> {
+    fn serve(&mut self, alloc: Global, ask: LogAsk) -> Result<LogTell, NodeFault>
+        ensures told { IfOk result (λ tell. tell ≡ answer_of self.old.machine ask) }
+        ensures after { OnOk result (self.new.machine ≡ after_ask self.old.machine ask) }
+        ensures records { OnOk result (self.new.records ≡ self.old.records ++ written_log self.old.machine ask) }
+        ensures still { written_log self.old.machine ask ≡ [] → self.new.device ≡ self.old.device }
+        ensures err { OnErr result (self.new.machine ≡ self.old.machine) }
+        ensures err_records { OnErr result (self.new.records ≡ self.old.records) }
+        ensures failed { (result ≡ Err NodeFault.Failed) ↔ IsTrue self.old.is_failed }
+        ensures fails { self.new.is_failed ≡ (self.old.is_failed || met_device result) }
+        ensures device { (result ≡ Err NodeFault.Device) → D.failures_of self.new.device ≡ min (D.failures_of self.old.device + 1) (2 ^ 64 - 1) }
+        ensures full { (result ≡ Err NodeFault.Full)
+            → HasNoRoom (D.capacity_of self.old.device) self.old.records (written_log self.old.machine ask) }
+        ensures owes { (result ≡ Err NodeFault.Device) → self.new.owed ≡ Some (after_ask self.old.machine ask) }
+        ensures owes_still { result ≢ Err NodeFault.Device → self.new.owed ≡ self.old.owed }
+        ensures capacity { D.capacity_of self.new.device ≡ D.capacity_of self.old.device }
+        ensures trouble { IfErr result (λ fault. fault ≢ NodeFault.Failed → IsTrue (is_trouble fault)) }
+        ensures any_moment { self.old.is_failed ≡ false
+            → moments.Throughout D.Led D.disk (Opens replay_log (fresh_of self.old.machine) (λ x. (x ≡ self.old.machine)
+            ⊎ (x ≡ after_ask self.old.machine ask))) self.old.device self.new.device }
+        ensures kept { OnOk result (moments.Throughout D.Led D.disk (Opens replay_log (fresh_of self.new.machine) (λ x. x
+            ≡ self.new.machine)) self.new.device self.new.device) }
+    {
         self.node.serve(alloc, ask)
     }
 
