@@ -1,6 +1,7 @@
 //! The program over its words, a reader and a writer.
 use clap::error::{Error, ErrorKind};
-use fr_cli_apply::{ApplyOptions, run_apply};
+use fr_cli_apply::{ApplyOptions, apply_counted};
+use fr_cli_json::CallCounts;
 use fr_cli_words::{Ending, StoreKind, apply_command, program_command, read_store, show};
 use std::alloc::Global;
 use std::io::{Read, Write};
@@ -16,9 +17,11 @@ pub(crate) fn run_program<R: Read, W: Write>(
         Ok(options) => options,
         Err(error) => return show(alloc, error, writer),
     };
-    match run_apply(alloc, options, reader, writer) {
+    let mut place = String::new(alloc);
+    let mut calls = CallCounts::new();
+    match apply_counted(alloc, options, &mut calls, &mut place, reader, writer) {
         Ok(status) => Ending::Done(status),
-        Err(fault) => Ending::Fault(fault),
+        Err(fault) => Ending::of_fault(fault, place),
     }
 }
 

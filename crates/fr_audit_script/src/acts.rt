@@ -2,55 +2,49 @@
 use fr_ask::{Ask, Tell};
 use fr_audit_journal::Act;
 use fr_base::{Memory, NodeId, Shape, Version};
-use fr_forms::fields::{Fields, variant, version_of};
+use fr_cli_json::tokens::Unread;
 use fr_forms::object::{Object, bare_named, numbered};
 use fr_forms::{
-    ScriptFault, names, read_ask, read_batch, read_node, read_outcome, read_step, read_tell,
-    write_ask, write_batch, write_node, write_outcome, write_tell,
+    FromRow, names, node_of, outcome_of, step_of, write_ask, write_batch, write_node,
+    write_outcome, write_tell,
 };
+use fr_json_forms::Row;
+use fr_mutation::Batch;
 use serde_json::Value;
 use std::alloc::Global;
 
-pub(crate) fn read_act(alloc: Global, value: Value) -> Result<Act, ScriptFault> {
-    let (name, mut content) = variant(value)?;
-    read_named(alloc, name.as_str(), &mut content)
-}
-
-pub(crate) fn read_named(
-    alloc: Global,
-    name: &str,
-    content: &mut Fields,
-) -> Result<Act, ScriptFault> {
-    match name {
-        names::ASKED => read_asked(alloc, content.of(3)),
-        names::HEARD => read_heard(alloc, content.of(4)),
-        names::SUBMITTED => read_submitted(alloc, content.of(2)),
+/// The act that was read.
+pub(crate) fn act_of(alloc: Global, row: Row<'_>) -> Result<Act, Unread> {
+    let fields = row.content();
+    match row.name() {
+        names::ASKED => asked_of(alloc, fields),
+        names::HEARD => heard_of(alloc, fields),
+        names::SUBMITTED => submitted_of(alloc, fields),
         names::BEGUN => {
-            let shape = read_shape(content)?;
+            let shape = shape_of(fields.member(1), fields.member(0))?;
             Ok(Act::Begun { shape })
         }
-        names::CRASHED => content.bare(Act::Crashed),
-        names::LOST => content.bare(Act::Lost),
-        _ => Err(ScriptFault::BadScript),
+        names::CRASHED => Ok(Act::Crashed),
+        _ => Ok(Act::Lost),
     }
 }
 
-fn read_asked(alloc: Global, fields: &mut Fields) -> Result<Act, ScriptFault> {
-    let from = read_node(fields.take(names::FROM)?)?;
-    let ask = read_ask(alloc, fields.take(names::ASK)?)?;
-    with_tell(from, ask, read_tell(alloc, fields.take(names::TELL)?))
+fn asked_of(alloc: Global, row: Row<'_>) -> Result<Act, Unread> {
+    let from = node_of(row.member(1))?;
+    let ask = Ask::from_row(alloc, row.member(0))?;
+    with_tell(from, ask, Tell::from_row(alloc, row.member(2)))
 }
 
-fn with_tell(from: NodeId, ask: Ask, tell: Result<Tell, ScriptFault>) -> Result<Act, ScriptFault> {
+fn with_tell(from: NodeId, ask: Ask, tell: Result<Tell, Unread>) -> Result<Act, Unread> {
     let tell = tell?;
     Ok(Act::Asked { from, ask, tell })
 }
 
-fn read_heard(alloc: Global, fields: &mut Fields) -> Result<Act, ScriptFault> {
-    let from = read_node(fields.take(names::FROM)?)?;
-    let taken = read_taken(fields.value(names::TAKEN)?)?;
-    let outcome = read_outcome(fields.take(names::OUTCOME)?)?;
-    let tell = read_tell(alloc, fields.take(names::TELL)?)?;
+fn heard_of(alloc: Global, row: Row<'_>) -> Result<Act, Unread> {
+    let from = node_of(row.member(0))?;
+    let outcome = outcome_of(row.member(1))?;
+    let taken = taken_of(row.member(2))?;
+    let tell = Tell::from_row(alloc, row.member(3))?;
     Ok(Act::Heard {
         from,
         tell,
@@ -59,30 +53,33 @@ fn read_heard(alloc: Global, fields: &mut Fields) -> Result<Act, ScriptFault> {
     })
 }
 
-fn read_submitted(alloc: Global, fields: &mut Fields) -> Result<Act, ScriptFault> {
-    let step = read_step(fields)?;
-    let batch = read_batch(alloc, fields.take(names::BATCH)?)?;
+/// The version at which a hear broke off, or null.
+fn taken_of(row: Row<'_>) -> Result<Option<Version>, Unread> {
+    if row.is_none() {
+        return Ok(None);
+    }
+    match Version::new(row.number()) {
+        Some(version) => Ok(Some(version)),
+        None => Err(Unread::Unusual),
+    }
+}
+
+fn submitted_of(alloc: Global, row: Row<'_>) -> Result<Act, Unread> {
+    let step = step_of(row.member(1).number())?;
+    let batch = Batch::from_row(alloc, row.member(0))?;
     Ok(Act::Submitted { step, batch })
 }
 
-/// The shape with which a recoverer began: that of two members, or none where there is no member.
-fn read_shape(fields: &mut Fields) -> Result<Option<Shape>, ScriptFault> {
-    if fields.bare(()).is_ok() {
-        return Ok(None);
+/// The shape of a generation, whose two numbers are both there or both left out.
+fn shape_of(logs: Row<'_>, degree: Row<'_>) -> Result<Option<Shape>, Unread> {
+    match (logs.is_none(), degree.is_none()) {
+        (true, true) => Ok(None),
+        (false, false) => match Shape::new(logs.byte(), degree.byte()) {
+            Some(shape) => Ok(Some(shape)),
+            None => Err(Unread::Unusual),
+        },
+        _ => Err(Unread::Unusual),
     }
-    let fields = fields.of(2);
-    let logs = fields.index(names::LOGS, u8::MAX)?;
-    let degree = fields.index(names::DEGREE, u8::MAX)?;
-    let shape = Shape::new(logs, degree).ok_or(ScriptFault::BadScript)?;
-    Ok(Some(shape))
-}
-
-/// The version at which a hear broke off, or null.
-pub(crate) fn read_taken(value: &Value) -> Result<Option<Version>, ScriptFault> {
-    if value.is_null() {
-        return Ok(None);
-    }
-    Ok(Some(version_of(value)?))
 }
 
 pub(crate) fn write_act(alloc: Global, act: &Act) -> Result<Value, Memory> {

@@ -1,68 +1,55 @@
 //! Journals.
-use crate::acts::{read_act, write_act};
+use crate::acts::{act_of, write_act};
+use fr_ask::Last;
 use fr_audit_journal::{Entry, Journal, JournalFault};
-use fr_base::{Memory, Stamp};
-use fr_forms::fields::{Fields, items};
+use fr_base::{Memory, NodeId, Stamp};
+use fr_cli_json::tokens::Unread;
 use fr_forms::object::Object;
-use fr_forms::{ScriptFault, names, read_last, read_node, write_last, write_node};
+use fr_forms::{FromRow, names, write_last, write_node};
+use fr_json_forms::Row;
 use serde_json::Value;
 use std::alloc::Global;
 
-/// A journal. One whose stamps do not rise is no script.
-pub(crate) fn read_journal(alloc: Global, fields: &mut Fields) -> Result<Journal, ScriptFault> {
-    let node = read_node(fields.take(names::NODE)?)?;
-    let mut journal = Journal::new(alloc, node);
-    read_into(alloc, fields, &mut journal)?;
-    Ok(journal)
+/// The entry that was read.
+pub(crate) fn entry_of(alloc: Global, row: Row<'_>) -> Result<Entry, Unread> {
+    let [stamp]: [u64; 1] = row.numbers();
+    let stamp = Stamp::new(stamp).ok_or(Unread::Unusual)?;
+    let act = act_of(alloc, row.member(0))?;
+    Ok(Entry { stamp, act })
 }
 
-/// A journal of what was read of its parts. One whose stamps do not rise is no script.
+/// A journal of a node, closed with the last state that was read, where there is one. One whose stamps do not rise is no
+/// script.
 pub(crate) fn journal_of(
     alloc: Global,
-    node: Value,
+    node: NodeId,
     entries: Vec<Entry>,
-    last: Value,
-) -> Result<Journal, ScriptFault> {
-    let mut journal = Journal::new(alloc, read_node(node)?);
+    last: Option<Last>,
+) -> Result<Journal, Unread> {
+    let mut journal = Journal::new(alloc, node);
     for entry in entries {
         enter(&mut journal, entry)?;
     }
-    close(alloc, &mut journal, last)?;
+    if let Some(last) = last {
+        journal.close(last);
+    }
     Ok(journal)
 }
 
-fn read_into(alloc: Global, fields: &mut Fields, journal: &mut Journal) -> Result<(), ScriptFault> {
-    for entry in items(fields.take(names::ENTRIES)?)? {
-        enter(journal, entry_of(alloc, entry)?)?;
-    }
-    close(alloc, journal, fields.take(names::LAST)?)
-}
-
-/// Closes a journal with the last state that is read, where there is one.
-fn close(alloc: Global, journal: &mut Journal, last: Value) -> Result<(), ScriptFault> {
-    if let Some(last) = read_last(alloc, last)? {
-        journal.close(last);
-    }
-    Ok(())
-}
-
-fn enter(journal: &mut Journal, entry: Entry) -> Result<(), ScriptFault> {
+fn enter(journal: &mut Journal, entry: Entry) -> Result<(), Unread> {
     match journal.push(entry) {
         Ok(()) => Ok(()),
-        Err(JournalFault::NotRising) => Err(ScriptFault::BadScript),
-        Err(JournalFault::Memory) => Err(ScriptFault::Memory),
+        Err(JournalFault::NotRising) => Err(Unread::Unusual),
+        Err(JournalFault::Memory) => Err(Unread::Memory),
     }
 }
 
-/// An entry.
-pub(crate) fn entry_of(alloc: Global, value: Value) -> Result<Entry, ScriptFault> {
-    read_entry(alloc, &mut Fields::new(value, 2))
-}
-
-fn read_entry(alloc: Global, fields: &mut Fields) -> Result<Entry, ScriptFault> {
-    let stamp = Stamp::new(fields.number(names::STAMP)?).ok_or(ScriptFault::BadScript)?;
-    let act = read_act(alloc, fields.take(names::ACT)?)?;
-    Ok(Entry { stamp, act })
+/// A last state that was read, or null.
+pub(crate) fn last_of(alloc: Global, row: Row<'_>) -> Result<Option<Last>, Unread> {
+    if row.is_none() {
+        return Ok(None);
+    }
+    Ok(Some(Last::from_row(alloc, row)?))
 }
 
 pub(crate) fn write_journal(alloc: Global, journal: &Journal) -> Result<Value, Memory> {

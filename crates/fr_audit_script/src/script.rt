@@ -6,47 +6,53 @@ ghost use Rattle.serde_json.specs.Data.{Data};
 ghost use Rattle.serde_json.specs.Read.{read};
 ghost use Rattle.serde_json.specs.Written.{IsInOrder};
 
-use crate::journals::{read_journal, write_journal};
-use crate::pieces::{self, Spelling};
-use crate::setting::{config_of, write_config};
+use crate::journals::write_journal;
+use crate::pieces;
+use crate::setting::write_config;
 use fr_audit_journal::Journal;
 use fr_base::Memory;
 use fr_cli_json::tokens::Unread;
-use fr_forms::fields::{Fields, items};
 use fr_forms::object::Object;
 use fr_forms::{ScriptFault, names};
+use fr_json_forms::{Form, Tape, explain};
 use fr_run_event::Config;
 use serde_json::Value;
-use std::alloc::Global;
+use std::alloc::{AllocError, Global};
 
 /// Reads the script that a text is: a config and journals, each within the limits of its type. Each object has
 /// exactly its members, in any order; of two members of one name the last one counts. What is no such text is
-/// `BadScript`. A text that is as [`write_script`] writes it is read piece by piece, and any other as one tree.
+/// `BadScript`, and `place` says where it is not. A text whose script and journals have their members in the order of
+/// their names' bytes is read piece by piece, and any other from the text of the tree of its JSON.
+pub fn read_script_or_place(
+    alloc: Global,
+    text: &[u8],
+    place: &mut String,
+) -> Result<(Config, Vec<Journal>), ScriptFault>
+    ensures utf8 { OnOk result (IsUtf8 text.now) }
+    ensures json { OnOk result ((d : Data) × (read text.now ≡ Some d)) }
+{
+    let mut tape = Tape::new(alloc);
+    match pieces::read_script(alloc, text, &mut tape) {
+        Ok(script) => Ok(script),
+        Err(Unread::Memory) => Err(ScriptFault::Memory),
+        Err(Unread::Unusual) => {
+            *place = explain(alloc, Form::AuditScript, text, &tape)?;
+            read_in_order(alloc, text)
+        }
+    }
+}
+
+/// As [`read_script_or_place`], with nothing said of where it is no script.
 pub fn read_script(alloc: Global, text: &[u8]) -> Result<(Config, Vec<Journal>), ScriptFault>
     ensures utf8 { OnOk result (IsUtf8 text.now) }
     ensures json { OnOk result ((d : Data) × (read text.now ≡ Some d)) }
 {
-    match pieces::read_script(alloc, text, Spelling::AsWritten) {
-        Ok(script) => Ok(script),
-        Err(Unread::Memory) => Err(ScriptFault::Memory),
-        Err(Unread::Unusual) => read_trees(alloc, text),
-    }
+    read_script_or_place(alloc, text, &mut String::new(alloc))
 }
 
-/// Reads the script that a text is, each entry as a tree, in which members stand in any order.
-fn read_trees(alloc: Global, text: &[u8]) -> Result<(Config, Vec<Journal>), ScriptFault>
-    ensures utf8 { OnOk result (IsUtf8 text.now) }
-    ensures json { OnOk result ((d : Data) × (read text.now ≡ Some d)) }
-{
-    match pieces::read_script(alloc, text, Spelling::AnyOrder) {
-        Ok(script) => Ok(script),
-        Err(Unread::Memory) => Err(ScriptFault::Memory),
-        Err(Unread::Unusual) => read_tree_of(alloc, text),
-    }
-}
-
-/// Reads the script that a text is from the tree of its JSON, which alone knows that it is none.
-fn read_tree_of(alloc: Global, text: &[u8]) -> Result<(Config, Vec<Journal>), ScriptFault>
+/// Reads the script that a text is from the text of the tree of its JSON, in which members stand in order, and each name
+/// once.
+fn read_in_order(alloc: Global, text: &[u8]) -> Result<(Config, Vec<Journal>), ScriptFault>
     ensures utf8 { OnOk result (IsUtf8 text.now) }
     ensures json { OnOk result ((d : Data) × (read text.now ≡ Some d)) }
 {
@@ -55,22 +61,17 @@ fn read_tree_of(alloc: Global, text: &[u8]) -> Result<(Config, Vec<Journal>), Sc
         Err(error) if error.is_memory() => return Err(ScriptFault::Memory),
         Err(_) => return Err(ScriptFault::BadScript),
     };
-    read_parts(alloc, &mut Fields::new(script, 2))
-}
-
-fn read_parts(alloc: Global, fields: &mut Fields) -> Result<(Config, Vec<Journal>), ScriptFault> {
-    let config = config_of(alloc, fields.take(names::CONFIG)?)?;
-    let journals = read_journals(alloc, fields.take(names::JOURNALS)?)?;
-    Ok((config, journals))
-}
-
-fn read_journals(alloc: Global, value: Value) -> Result<Vec<Journal>, ScriptFault> {
-    let items = items(value)?;
-    let mut journals = Vec::with_capacity(alloc, items.len())?;
-    for item in items {
-        journals.push(read_journal(alloc, &mut Fields::new(item, 3))?)?;
+    let sorted = text_of(alloc, script)?;
+    match pieces::read_script(alloc, sorted.as_slice(), &mut Tape::new(alloc)) {
+        Ok(script) => Ok(script),
+        Err(Unread::Memory) => Err(ScriptFault::Memory),
+        Err(Unread::Unusual) => Err(ScriptFault::BadScript),
     }
-    Ok(journals)
+}
+
+/// The text of a tree, which is let go.
+fn text_of(alloc: Global, tree: Value) -> Result<Vec<u8>, AllocError> {
+    tree.to_vec(alloc)
 }
 
 /// Writes a config and journals as a script: members in the order of their names' bytes, without blanks. It is read

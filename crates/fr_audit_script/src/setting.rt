@@ -1,27 +1,28 @@
 //! Configs.
 use fr_base::Memory;
-use fr_forms::fields::Fields;
+use fr_cli_json::tokens::Unread;
+use fr_forms::lists::list_of;
 use fr_forms::object::Object;
-use fr_forms::{ScriptFault, names, read_shards, write_shards};
+use fr_forms::{names, write_shards};
+use fr_json_forms::{Row, byte_of};
 use fr_run_event::{Config, ConfigFault};
 use serde_json::Value;
 use std::alloc::Global;
 
 /// A config within its limits.
-pub(crate) fn config_of(alloc: Global, value: Value) -> Result<Config, ScriptFault> {
-    read_config(alloc, &mut Fields::new(value, 5))
-}
-
-fn read_config(alloc: Global, fields: &mut Fields) -> Result<Config, ScriptFault> {
-    let coordinators = fields.index(names::COORDINATORS, u8::MAX)?;
-    let logs = fields.index(names::LOGS, u8::MAX)?;
-    let degree = fields.index(names::DEGREE, u8::MAX)?;
-    let proxies = fields.index(names::PROXIES, u8::MAX)?;
-    let shards = read_shards(alloc, fields.take(names::SHARDS)?)?;
-    match Config::new(coordinators, logs, degree, shards, proxies) {
+pub(crate) fn config_of(alloc: Global, row: Row<'_>) -> Result<Config, Unread> {
+    let [coordinators, degree, logs, proxies]: [u64; 4] = row.numbers();
+    let shards = list_of(alloc, row.member(4))?;
+    match Config::new(
+        byte_of(coordinators),
+        byte_of(logs),
+        byte_of(degree),
+        shards,
+        byte_of(proxies),
+    ) {
         Ok(config) => Ok(config),
-        Err(ConfigFault::Memory) => Err(ScriptFault::Memory),
-        Err(_) => Err(ScriptFault::BadScript),
+        Err(ConfigFault::Memory) => Err(Unread::Memory),
+        Err(_) => Err(Unread::Unusual),
     }
 }
 

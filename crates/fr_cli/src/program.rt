@@ -2,10 +2,10 @@
 use crate::apply::apply_to;
 use crate::cluster::cluster_on;
 use crate::words::{Request, read_words};
-use fr_cli_audit::run_audit;
-use fr_cli_end::run_end;
-use fr_cli_json::CliFault;
-use fr_cli_simulate::run_simulate;
+use fr_cli_audit::audit_counted;
+use fr_cli_end::end_counted;
+use fr_cli_json::{CallCounts, CliFault};
+use fr_cli_simulate::simulate_counted;
 use fr_cli_words::{Ending, show};
 use std::alloc::Global;
 use std::io::{Eprint, Read, Write};
@@ -26,26 +26,29 @@ pub fn run_program<H: Threads + Wait + Sync, E: Eprint + Sync, R: Read, W: Write
         Ok(request) => request,
         Err(error) => return show(alloc, error, writer),
     };
-    match run(rt, terminal, alloc, request, reader, writer) {
+    let mut place = String::new(alloc);
+    match run(rt, terminal, alloc, request, &mut place, reader, writer) {
         Ok(status) => Ending::Done(status),
-        Err(fault) => Ending::Fault(fault),
+        Err(fault) => Ending::of_fault(fault, place),
     }
 }
 
-/// Runs a command.
+/// Runs a command. Of a bad script `place` says where it is bad.
 fn run<H: Threads + Wait + Sync, E: Eprint + Sync, R: Read, W: Write>(
     rt: &H,
     terminal: Option<&E>,
     alloc: Global,
     request: Request,
+    place: &mut String,
     reader: &mut R,
     writer: &mut W,
 ) -> Result<u8, CliFault> {
+    let mut calls = CallCounts::new();
     match request {
-        Request::Apply(kind) => apply_to(kind, alloc, reader, writer),
-        Request::End(options) => run_end(alloc, options, reader, writer),
-        Request::Simulate => run_simulate(alloc, reader, writer),
-        Request::Audit => run_audit(alloc, reader, writer),
+        Request::Apply(kind) => apply_to(kind, alloc, place, reader, writer),
+        Request::End(options) => end_counted(alloc, options, &mut calls, place, reader, writer),
+        Request::Simulate => simulate_counted(alloc, &mut calls, place, reader, writer),
+        Request::Audit => audit_counted(alloc, &mut calls, place, reader, writer),
         Request::Cluster(kind, options) => cluster_on(kind, rt, terminal, alloc, options, writer),
     }
 }

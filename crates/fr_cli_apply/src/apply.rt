@@ -41,7 +41,7 @@ pub fn run_apply<R: Read, W: Write>(
         W.contents writer.old writer.new result }
 {
     let mut calls = CallCounts::new();
-    apply_counted(alloc, options, &mut calls, reader, writer)
+    apply_counted(alloc, options, &mut calls, &mut String::new(alloc), reader, writer)
 }
 
 /// As [`run_apply`], on a store with nothing applied, which then holds what the operations made. What the
@@ -57,16 +57,17 @@ pub fn run_apply_on<S: ShardStore, R: Read, W: Write>(
         W.contents writer.old writer.new result }
 {
     let mut calls = CallCounts::new();
-    apply_counted_on(alloc, store, &mut calls, reader, writer)
+    apply_counted_on(alloc, store, &mut calls, &mut String::new(alloc), reader, writer)
 }
 
 /// As [`run_apply`], with the calls of the reader and of the writer counted in `calls`, which has none
 /// yet: `Input` is answered only where a read failed or 2^30 of them found no end, `Output` only where
-/// a write or a flush failed.
+/// a write or a flush failed. Of a bad script `place` says where it is bad.
 pub fn apply_counted<R: Read, W: Write>(
     alloc: Global,
     options: ApplyOptions,
     calls: &mut CallCounts,
+    place: &mut String,
     reader: &mut R,
     writer: &mut W,
 ) -> Result<u8, CliFault>
@@ -76,7 +77,7 @@ pub fn apply_counted<R: Read, W: Write>(
     ensures cause { HasCause calls.new result }
 {
     let input = read_input(alloc, calls, reader)?;
-    let script = read_script(alloc, input)?;
+    let script = read_script(alloc, input, place)?;
     match options.store {
         StoreKind::Map => run_in_memory(alloc, script, calls, writer)?,
     }
@@ -90,6 +91,7 @@ pub fn apply_counted_on<S: ShardStore, R: Read, W: Write>(
     alloc: Global,
     store: &mut S,
     calls: &mut CallCounts,
+    place: &mut String,
     reader: &mut R,
     writer: &mut W,
 ) -> Result<u8, CliFault>
@@ -100,7 +102,7 @@ pub fn apply_counted_on<S: ShardStore, R: Read, W: Write>(
     ensures cause { HasCause calls.new result }
 {
     let bytes = read_input(alloc, calls, reader)?;
-    let operations = read_script(alloc, bytes)?;
+    let operations = read_script(alloc, bytes, place)?;
     run_on(alloc, store, operations, calls, writer)?;
     calls.flush(writer)?;
     Ok(0)

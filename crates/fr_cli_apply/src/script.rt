@@ -9,6 +9,7 @@ use crate::plan::Planned;
 use fr_base::Version;
 use fr_cli_json::tokens::Unread;
 use fr_cli_json::{CliFault, Mutations};
+use fr_json_forms::{Form, Tape, explain};
 use std::alloc::Global;
 
 /// An operation of a script.
@@ -25,8 +26,12 @@ pub enum Operation {
 }
 
 /// Reads the script that an input is: from its tokens, where it has the usual form, and else from the
-/// tree of its JSON, which alone knows that it is none.
-pub(crate) fn read_script(alloc: Global, input: Vec<u8>) -> Result<Vec<Planned>, CliFault>
+/// tree of its JSON, which alone knows that it is none. Of what is no script `place` says where.
+pub(crate) fn read_script(
+    alloc: Global,
+    input: Vec<u8>,
+    place: &mut String,
+) -> Result<Vec<Planned>, CliFault>
     ensures ok { IfOk result (λ script. plan_of input.items ≡ Some script.items) }
     ensures bad { result ≡ Err CliFault.BadScript → plan_of input.items ≡ None }
     ensures fault { IfErr result (λ e. (e ≡ CliFault.BadScript) ⊎ (e ≡ CliFault.Memory)) }
@@ -34,6 +39,9 @@ pub(crate) fn read_script(alloc: Global, input: Vec<u8>) -> Result<Vec<Planned>,
     match tokens::read_script(alloc, input.as_slice()) {
         Ok(script) => Ok(script),
         Err(Unread::Memory) => Err(CliFault::Memory),
-        Err(Unread::Unusual) => tree::read_script(alloc, input),
+        Err(Unread::Unusual) => {
+            *place = explain(alloc, Form::ApplyScript, input.as_slice(), &Tape::new(alloc))?;
+            tree::read_script(alloc, input)
+        }
     }
 }

@@ -30,15 +30,16 @@ pub fn run_apply_sql<R: Read, W: Write>(
         W.contents writer.old writer.new result }
 {
     let mut calls = CallCounts::new();
-    apply_sql_counted(alloc, &mut calls, reader, writer)
+    apply_sql_counted(alloc, &mut calls, &mut String::new(alloc), reader, writer)
 }
 
 /// As [`run_apply_sql`], with the calls of the reader and of the writer counted in `calls`, which has none yet:
 /// `Input` is answered only where a read failed or 2^30 of them found no end, `Output` only where a write or a flush
-/// failed.
+/// failed. Of a bad script `place` says where it is bad.
 pub fn apply_sql_counted<R: Read, W: Write>(
     alloc: Global,
     calls: &mut CallCounts,
+    place: &mut String,
     reader: &mut R,
     writer: &mut W,
 ) -> Result<u8, CliFault>
@@ -51,7 +52,7 @@ pub fn apply_sql_counted<R: Read, W: Write>(
         return Err(CliFault::Memory);
     };
     match SqlFileStore::create(alloc, files) {
-        Ok(mut store) => apply_counted_on(alloc, &mut store, calls, reader, writer),
+        Ok(mut store) => apply_counted_on(alloc, &mut store, calls, place, reader, writer),
         Err(_) => Err(CliFault::Memory),
     }
 }

@@ -27,16 +27,17 @@ pub fn run_end<R: Read, W: Write>(
         W.contents writer.old writer.new result }
 {
     let mut calls = CallCounts::new();
-    end_counted(alloc, options, &mut calls, reader, writer)
+    end_counted(alloc, options, &mut calls, &mut String::new(alloc), reader, writer)
 }
 
 /// As [`run_end`], with the calls of the reader and of the writer counted in `calls`, which has none
 /// yet: `Input` is answered only where a read failed or 2^30 of them found no end, `Output` only where
-/// a write or a flush failed.
+/// a write or a flush failed. Of a bad script `place` says where it is bad.
 pub fn end_counted<R: Read, W: Write>(
     alloc: Global,
     options: EndOptions,
     calls: &mut CallCounts,
+    place: &mut String,
     reader: &mut R,
     writer: &mut W,
 ) -> Result<u8, CliFault>
@@ -46,7 +47,7 @@ pub fn end_counted<R: Read, W: Write>(
     ensures cause { HasCause calls.new result }
 {
     let input = read_input(alloc, calls, reader)?;
-    let replies = read_script(alloc, input)?;
+    let replies = read_script(alloc, input, place)?;
     let mut tally = EndTally::new(options.logs(), options.degree());
     put_lines(alloc, &mut tally, replies, calls, writer)?;
     calls.flush(writer)?;

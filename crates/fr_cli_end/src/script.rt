@@ -6,11 +6,16 @@ use crate::{tokens, tree};
 use fr_cli_json::CliFault;
 use fr_cli_json::tokens::Unread;
 use fr_epoch::Reply;
+use fr_json_forms::{Form, Tape, explain};
 use std::alloc::Global;
 
 /// Reads the script that an input is: from its tokens, where it has the usual form, and else from the
-/// tree of its JSON, which alone knows that it is none.
-pub(crate) fn read_script(alloc: Global, input: Vec<u8>) -> Result<Vec<Reply>, CliFault>
+/// tree of its JSON, which alone knows that it is none. Of what is no script `place` says where.
+pub(crate) fn read_script(
+    alloc: Global,
+    input: Vec<u8>,
+    place: &mut String,
+) -> Result<Vec<Reply>, CliFault>
     ensures ok { IfOk result (λ replies. replies_of input.items ≡ Some replies.items) }
     ensures bad { result ≡ Err CliFault.BadScript → replies_of input.items ≡ None }
     ensures fault { IfErr result (λ e. (e ≡ CliFault.BadScript) ⊎ (e ≡ CliFault.Memory)) }
@@ -18,6 +23,9 @@ pub(crate) fn read_script(alloc: Global, input: Vec<u8>) -> Result<Vec<Reply>, C
     match tokens::read_script(alloc, input.as_slice()) {
         Ok(replies) => Ok(replies),
         Err(Unread::Memory) => Err(CliFault::Memory),
-        Err(Unread::Unusual) => tree::read_script(alloc, input),
+        Err(Unread::Unusual) => {
+            *place = explain(alloc, Form::EndScript, input.as_slice(), &Tape::new(alloc))?;
+            tree::read_script(alloc, input)
+        }
     }
 }

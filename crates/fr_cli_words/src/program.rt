@@ -20,6 +20,8 @@ pub enum Ending {
     Done(u8),
     /// The command ended early.
     Fault(CliFault),
+    /// The command's script is bad, and where.
+    BadScript(String),
     /// The words choose no command.
     BadWords(Error),
 }
@@ -30,7 +32,16 @@ impl Ending {
         match self {
             Ending::Done(status) => *status,
             Ending::Fault(fault) => fault.status(),
+            Ending::BadScript(_) => CliFault::BadScript.status(),
             Ending::BadWords(_) => BAD_WORDS,
+        }
+    }
+
+    /// The ending by a fault; of a bad script it is known where it is bad, where that was said.
+    pub fn of_fault(fault: CliFault, place: String) -> Ending {
+        match fault {
+            CliFault::BadScript if !place.is_empty() => Ending::BadScript(place),
+            _ => Ending::Fault(fault),
         }
     }
 
@@ -39,6 +50,7 @@ impl Ending {
         let _ = match self {
             Ending::Done(_) => Ok(()),
             Ending::Fault(fault) => eprintln!(rt; "{fault}"),
+            Ending::BadScript(place) => eprintln!(rt; "bad script: {place}"),
             Ending::BadWords(error) => rt.eprint(error),
         };
         ExitCode::from(self.status())

@@ -1,31 +1,38 @@
 //! What nodes are asked, and what they tell.
-use crate::cells::{read_cell_ask, read_cell_tell, write_cell_ask, write_cell_tell};
+use crate::cells::{cell_tell_of, write_cell_ask, write_cell_tell};
 use crate::fault::ScriptFault;
-use crate::fields::{Fields, variant};
-use crate::lists::{WriteItem, write_pair};
-use crate::logs::{read_log_ask, read_log_tell, write_log_ask, write_log_tell};
+use crate::lists::{FromRow, WriteItem, of_value, write_pair};
+use crate::logs::{log_tell_of, write_log_ask, write_log_tell};
 use crate::names;
 use crate::nodes::write_node;
 use crate::object::named;
-use crate::sequencers::{read_seq_ask, read_seq_tell, write_seq_ask, write_seq_tell};
-use fr_ask::{Ask, Tell};
+use crate::sequencers::{seq_tell_of, write_seq_ask, write_seq_tell};
+use fr_ask::{Ask, SeqAsk, Tell};
 use fr_base::{Memory, NodeId};
+use fr_cli_json::tokens::Unread;
+use fr_json_forms::{Form, Row};
+use fr_log::LogAsk;
+use fr_register::CellAsk;
 use serde_json::Value;
 use std::alloc::Global;
 
 /// Reads what a node of any kind is asked.
 pub fn read_ask(alloc: Global, value: Value) -> Result<Ask, ScriptFault> {
-    let (kind, mut content) = variant(value)?;
-    read_ask_of(alloc, kind.as_str(), &mut content)
+    of_value(alloc, value)
 }
 
-/// Reads what a node of a kind is asked.
-fn read_ask_of(alloc: Global, kind: &str, content: &mut Fields) -> Result<Ask, ScriptFault> {
-    match kind {
-        names::CELL => read_cell_ask(alloc, content.take_all()).map(Ask::Cell),
-        names::LOG => read_log_ask(alloc, content.take_all()).map(Ask::Log),
-        names::SEQ => read_seq_ask(content.take_all()).map(Ask::Seq),
-        _ => Err(ScriptFault::BadScript),
+impl FromRow for Ask {
+    fn form() -> Form {
+        Form::Ask
+    }
+
+    fn from_row(alloc: Global, row: Row<'_>) -> Result<Self, Unread> {
+        let ask = row.content();
+        match row.name() {
+            names::CELL => CellAsk::from_row(alloc, ask).map(Ask::Cell),
+            names::LOG => LogAsk::from_row(alloc, ask).map(Ask::Log),
+            _ => SeqAsk::from_row(alloc, ask).map(Ask::Seq),
+        }
     }
 }
 
@@ -54,17 +61,21 @@ impl WriteItem for (NodeId, Ask) {
 
 /// Reads what a node of any kind tells.
 pub fn read_tell(alloc: Global, value: Value) -> Result<Tell, ScriptFault> {
-    let (kind, mut content) = variant(value)?;
-    read_tell_of(alloc, kind.as_str(), &mut content)
+    of_value(alloc, value)
 }
 
-/// Reads what a node of a kind tells.
-fn read_tell_of(alloc: Global, kind: &str, content: &mut Fields) -> Result<Tell, ScriptFault> {
-    match kind {
-        names::CELL => read_cell_tell(alloc, content.take_all()).map(Tell::Cell),
-        names::LOG => read_log_tell(alloc, content.take_all()).map(Tell::Log),
-        names::SEQ => read_seq_tell(content.take_all()).map(Tell::Seq),
-        _ => Err(ScriptFault::BadScript),
+impl FromRow for Tell {
+    fn form() -> Form {
+        Form::Tell
+    }
+
+    fn from_row(alloc: Global, row: Row<'_>) -> Result<Self, Unread> {
+        let tell = row.content();
+        match row.name() {
+            names::CELL => cell_tell_of(alloc, tell).map(Tell::Cell),
+            names::LOG => log_tell_of(alloc, tell).map(Tell::Log),
+            _ => seq_tell_of(tell).map(Tell::Seq),
+        }
     }
 }
 

@@ -1,32 +1,37 @@
 //! What cells are asked, and what they tell.
 use crate::fault::ScriptFault;
-use crate::fields::{Fields, variant};
-use crate::lists::WriteItem;
+use crate::limits::ballot_of;
+use crate::lists::{FromRow, WriteItem, of_value};
 use crate::names;
 use crate::object::{Object, bare_named, numbered};
 use fr_base::Memory;
+use fr_cli_json::tokens::Unread;
+use fr_json_forms::{Form, Row};
 use fr_register::{CellAsk, CellTell, CellValue};
 use serde_json::Value;
 use std::alloc::Global;
 
 /// Reads what a cell is asked.
 pub fn read_cell_ask(alloc: Global, value: Value) -> Result<CellAsk, ScriptFault> {
-    let (name, mut content) = variant(value)?;
-    read_ask_named(alloc, name.as_str(), &mut content)
+    of_value(alloc, value)
 }
 
-fn read_ask_named(alloc: Global, name: &str, content: &mut Fields) -> Result<CellAsk, ScriptFault> {
-    match name {
-        names::READ => {
-            let ballot = content.of(1).ballot(names::BALLOT)?;
-            Ok(CellAsk::Read { ballot })
+impl FromRow for CellAsk {
+    fn form() -> Form {
+        Form::CellAsk
+    }
+
+    fn from_row(alloc: Global, row: Row<'_>) -> Result<Self, Unread> {
+        let fields = row.content();
+        let [ballot]: [u64; 1] = fields.numbers();
+        let ballot = ballot_of(ballot)?;
+        match row.name() {
+            names::READ => Ok(CellAsk::Read { ballot }),
+            _ => {
+                let value = cell_value_of(alloc, fields.member(1))?;
+                Ok(CellAsk::Write { ballot, value })
+            }
         }
-        names::WRITE => {
-            let ballot = content.of(2).ballot(names::BALLOT)?;
-            let value = read_cell_value(alloc, content)?;
-            Ok(CellAsk::Write { ballot, value })
-        }
-        _ => Err(ScriptFault::BadScript),
     }
 }
 
@@ -39,35 +44,23 @@ pub(crate) fn write_cell_ask(alloc: Global, ask: &CellAsk) -> Result<Value, Memo
     }
 }
 
-pub(crate) fn read_cell_tell(alloc: Global, value: Value) -> Result<CellTell, ScriptFault> {
-    let (name, mut content) = variant(value)?;
-    read_tell_named(alloc, name.as_str(), &mut content)
-}
-
-fn read_tell_named(
-    alloc: Global,
-    name: &str,
-    content: &mut Fields,
-) -> Result<CellTell, ScriptFault> {
-    match name {
-        names::PROMISE => read_promise(alloc, content.of(2)),
-        names::WRITTEN => {
-            let ballot = content.of(1).ballot(names::BALLOT)?;
-            Ok(CellTell::Written { ballot })
+/// What a cell tells.
+pub(crate) fn cell_tell_of(alloc: Global, row: Row<'_>) -> Result<CellTell, Unread> {
+    let fields = row.content();
+    let [ballot]: [u64; 1] = fields.numbers();
+    let ballot = ballot_of(ballot)?;
+    match row.name() {
+        names::PROMISE => {
+            let value = cell_value_of(alloc, fields.member(0))?;
+            Ok(CellTell::Promise {
+                written: ballot,
+                value,
+            })
         }
-        names::REFUSED => {
-            let promised = content.of(1).ballot(names::PROMISED)?;
-            Ok(CellTell::Refused { promised })
-        }
-        names::TWO_VALUES => content.bare(CellTell::TwoValues),
-        _ => Err(ScriptFault::BadScript),
+        names::WRITTEN => Ok(CellTell::Written { ballot }),
+        names::REFUSED => Ok(CellTell::Refused { promised: ballot }),
+        _ => Ok(CellTell::TwoValues),
     }
-}
-
-fn read_promise(alloc: Global, fields: &Fields) -> Result<CellTell, ScriptFault> {
-    let written = fields.ballot(names::WRITTEN)?;
-    let value = read_cell_value(alloc, fields)?;
-    Ok(CellTell::Promise { written, value })
 }
 
 impl WriteItem for CellTell {
@@ -113,8 +106,8 @@ pub(crate) fn holding(
         .named(name)
 }
 
-/// The value of a cell under the name `value`.
-pub(crate) fn read_cell_value(alloc: Global, fields: &Fields) -> Result<CellValue, ScriptFault> {
-    let bytes = fields.bytes(alloc, names::VALUE)?;
-    CellValue::new(bytes.into_vec()).ok_or(ScriptFault::BadScript)
+/// The value of a cell.
+pub(crate) fn cell_value_of(alloc: Global, row: Row<'_>) -> Result<CellValue, Unread> {
+    let bytes = row.bytes(alloc)?;
+    CellValue::new(bytes.into_vec()).ok_or(Unread::Unusual)
 }

@@ -1,50 +1,60 @@
 //! Last states.
-use crate::cells::{holding, read_cell_value};
+use crate::cells::{cell_value_of, holding};
 use crate::fault::ScriptFault;
-use crate::fields::{Fields, variant};
+use crate::limits::{ballot_of, epoch_of, version_of};
+use crate::lists::{FromRow, list_of, of_value};
 use crate::names;
 use crate::object::{Object, numbered, with_one, write_text};
-use crate::popped::{read_popped, says_popped, with_popped};
-use crate::values::{read_rows, write_rows};
+use crate::popped::{popped_of, with_popped};
+use crate::values::write_rows;
 use fr_ask::{Last, Rows};
 use fr_base::{Bytes, Memory};
+use fr_cli_json::tokens::Unread;
+use fr_json_forms::{Form, Row};
 use fr_log::PoppedTags;
 use serde_json::Value;
 use std::alloc::Global;
 
-/// A last state, or null.
+/// Reads a last state, or null.
 pub fn read_last(alloc: Global, value: Value) -> Result<Option<Last>, ScriptFault> {
     if value.is_null() {
         return Ok(None);
     }
-    let (kind, mut content) = variant(value)?;
-    let last = read_kind(alloc, kind.as_str(), &mut content)?;
-    Ok(Some(last))
+    Ok(Some(of_value(alloc, value)?))
 }
 
-/// The last state of a node of a kind.
-fn read_kind(alloc: Global, kind: &str, content: &mut Fields) -> Result<Last, ScriptFault> {
-    match kind {
-        names::CELL => read_cell(alloc, content.of(3)),
-        names::LOG => read_log(alloc, content),
-        names::SEQUENCER => {
-            let last = content.of(1).version(names::LAST)?;
-            Ok(Last::Sequencer { last })
+impl FromRow for Last {
+    fn form() -> Form {
+        Form::Last
+    }
+
+    fn from_row(alloc: Global, row: Row<'_>) -> Result<Self, Unread> {
+        let fields = row.content();
+        match row.name() {
+            names::CELL => cell_of(alloc, fields),
+            names::LOG => log_of(alloc, fields),
+            names::STORAGE => storage_of(alloc, fields),
+            names::RECOVERER => {
+                let phase = fields.member(0).bytes(alloc)?;
+                Ok(Last::Recoverer { phase })
+            }
+            name => {
+                let [version]: [u64; 1] = fields.numbers();
+                let version = version_of(version)?;
+                match name {
+                    names::SEQUENCER => Ok(Last::Sequencer { last: version }),
+                    _ => Ok(Last::Proxy { known: version }),
+                }
+            }
         }
-        names::PROXY => {
-            let known = content.of(1).version(names::KNOWN)?;
-            Ok(Last::Proxy { known })
-        }
-        names::RECOVERER => read_recoverer(alloc, content.of(1)),
-        names::STORAGE => read_storage(alloc, content.of(4)),
-        _ => Err(ScriptFault::BadScript),
     }
 }
 
-fn read_cell(alloc: Global, fields: &Fields) -> Result<Last, ScriptFault> {
-    let promised = fields.ballot(names::PROMISED)?;
-    let written = fields.ballot(names::WRITTEN)?;
-    let value = read_cell_value(alloc, fields)?;
+fn cell_of(alloc: Global, row: Row<'_>) -> Result<Last, Unread> {
+    let [promised, written]: [u64; 2] = row.numbers();
+    let promised = ballot_of(promised)?;
+    let written = ballot_of(written)?;
+    let value = cell_value_of(alloc, row.member(1))?;
     Ok(Last::Cell {
         promised,
         written,
@@ -52,38 +62,26 @@ fn read_cell(alloc: Global, fields: &Fields) -> Result<Last, ScriptFault> {
     })
 }
 
-fn read_log(alloc: Global, fields: &mut Fields) -> Result<Last, ScriptFault> {
-    let there = says_popped(fields, 4);
-    let seeded = fields.flag(names::SEEDED)?;
-    let durable = fields.version(names::DURABLE)?;
-    let known = fields.version(names::KNOWN)?;
-    let stopped = fields.flag(names::STOPPED)?;
-    let popped = read_popped(alloc, fields, there)?;
+fn log_of(alloc: Global, row: Row<'_>) -> Result<Last, Unread> {
+    let [durable, known]: [u64; 2] = row.numbers();
+    let durable = version_of(durable)?;
+    let known = version_of(known)?;
+    let popped = popped_of(alloc, row.member(2))?;
     Ok(Last::Log {
-        seeded,
+        seeded: row.member(3).flag(),
         durable,
         known,
-        stopped,
+        stopped: row.member(4).flag(),
         popped,
     })
 }
 
-/// The phase of a recoverer: any text.
-fn read_recoverer(alloc: Global, fields: &Fields) -> Result<Last, ScriptFault> {
-    match fields.value(names::PHASE)?.as_str() {
-        Some(text) => {
-            let phase = Bytes::from_slice(alloc, text.as_bytes())?;
-            Ok(Last::Recoverer { phase })
-        }
-        None => Err(ScriptFault::BadScript),
-    }
-}
-
-fn read_storage(alloc: Global, fields: &mut Fields) -> Result<Last, ScriptFault> {
-    let epoch = fields.epoch(names::EPOCH)?;
-    let version = fields.version(names::VERSION)?;
-    let floor = fields.version(names::FLOOR)?;
-    let rows = read_rows(alloc, fields.take(names::ROWS)?)?;
+fn storage_of(alloc: Global, row: Row<'_>) -> Result<Last, Unread> {
+    let [epoch, floor, version]: [u64; 3] = row.numbers();
+    let epoch = epoch_of(epoch)?;
+    let floor = version_of(floor)?;
+    let version = version_of(version)?;
+    let rows = Rows::from_vec(list_of(alloc, row.member(2))?);
     Ok(Last::Storage {
         epoch,
         version,

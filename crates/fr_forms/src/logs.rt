@@ -1,62 +1,65 @@
 //! What logs are asked, and what they tell.
 use crate::fault::ScriptFault;
-use crate::fields::{Fields, variant};
-use crate::lists::WriteItem;
+use crate::limits::{epoch_of, tag_of, version_of};
+use crate::lists::{FromRow, WriteItem, of_value};
 use crate::names;
 use crate::object::{Object, bare_named, named, numbered, with_one};
-use crate::popped::{read_popped, says_popped, with_popped};
-use crate::records::{read_peeked, read_push, read_seed, write_peeked, write_push, write_seed};
-use crate::states::{read_state, write_state};
+use crate::popped::{popped_of, with_popped};
+use crate::records::{peeked_of, push_of, seed_of, write_peeked, write_push, write_seed};
+use crate::states::write_state;
 use fr_base::Memory;
+use fr_cli_json::tokens::Unread;
+use fr_json_forms::{Form, Row, byte_of};
 use fr_log::{LogAsk, LogRefusal, LogTell, Most, PoppedTags};
+use fr_state::CoordState;
 use serde_json::Value;
 use std::alloc::Global;
 
 /// Reads what a log is asked.
 pub fn read_log_ask(alloc: Global, value: Value) -> Result<LogAsk, ScriptFault> {
-    let (name, mut content) = variant(value)?;
-    read_ask_named(alloc, name.as_str(), &mut content)
+    of_value(alloc, value)
 }
 
-fn read_ask_named(alloc: Global, name: &str, content: &mut Fields) -> Result<LogAsk, ScriptFault> {
-    match name {
-        names::SEED => read_seed(alloc, content.of(4)).map(LogAsk::Seed),
-        names::PUSH => read_push(alloc, content.of(6)).map(LogAsk::Push),
-        names::LOCK => {
-            let epoch = content.of(1).epoch(names::EPOCH)?;
-            Ok(LogAsk::Lock { epoch })
+impl FromRow for LogAsk {
+    fn form() -> Form {
+        Form::LogAsk
+    }
+
+    fn from_row(alloc: Global, row: Row<'_>) -> Result<Self, Unread> {
+        let fields = row.content();
+        match row.name() {
+            names::SEED => seed_of(alloc, fields).map(LogAsk::Seed),
+            names::PUSH => push_of(alloc, fields).map(LogAsk::Push),
+            names::PEEK => peek_of(fields),
+            names::POP => pop_of(fields),
+            name => {
+                let [epoch]: [u64; 1] = fields.numbers();
+                let epoch = epoch_of(epoch)?;
+                match name {
+                    names::LOCK => Ok(LogAsk::Lock { epoch }),
+                    _ => Ok(LogAsk::MarkAsked { epoch }),
+                }
+            }
         }
-        names::PEEK => read_peek(content.of(4)),
-        names::MARK_ASKED => {
-            let epoch = content.of(1).epoch(names::EPOCH)?;
-            Ok(LogAsk::MarkAsked { epoch })
-        }
-        names::POP => read_pop(content.of(3)),
-        _ => Err(ScriptFault::BadScript),
     }
 }
 
-fn read_peek(fields: &Fields) -> Result<LogAsk, ScriptFault> {
-    let epoch = fields.epoch(names::EPOCH)?;
-    let tag = fields.tag(names::TAG)?;
-    let after = fields.version(names::AFTER)?;
-    let most = Most::new(fields.index(names::MOST, u8::MAX)?).ok_or(ScriptFault::BadScript)?;
+fn peek_of(row: Row<'_>) -> Result<LogAsk, Unread> {
+    let [after, epoch, most, tag]: [u64; 4] = row.numbers();
     Ok(LogAsk::Peek {
-        epoch,
-        tag,
-        after,
-        most,
+        epoch: epoch_of(epoch)?,
+        tag: tag_of(tag)?,
+        after: version_of(after)?,
+        most: Most::new(byte_of(most)).ok_or(Unread::Unusual)?,
     })
 }
 
-fn read_pop(fields: &Fields) -> Result<LogAsk, ScriptFault> {
-    let epoch = fields.epoch(names::EPOCH)?;
-    let tag = fields.tag(names::TAG)?;
-    let through = fields.version(names::THROUGH)?;
+fn pop_of(row: Row<'_>) -> Result<LogAsk, Unread> {
+    let [epoch, tag, through]: [u64; 3] = row.numbers();
     Ok(LogAsk::Pop {
-        epoch,
-        tag,
-        through,
+        epoch: epoch_of(epoch)?,
+        tag: tag_of(tag)?,
+        through: version_of(through)?,
     })
 }
 
@@ -101,52 +104,42 @@ pub(crate) fn write_log_ask(alloc: Global, ask: &LogAsk) -> Result<Value, Memory
     }
 }
 
-pub(crate) fn read_log_tell(alloc: Global, value: Value) -> Result<LogTell, ScriptFault> {
-    let (name, mut content) = variant(value)?;
-    read_tell_named(alloc, name.as_str(), &mut content)
-}
-
-fn read_tell_named(
-    alloc: Global,
-    name: &str,
-    content: &mut Fields,
-) -> Result<LogTell, ScriptFault> {
-    match name {
-        names::SEEDED => content.bare(LogTell::Seeded),
-        names::HELD => {
-            let version = content.of(1).version(names::VERSION)?;
-            Ok(LogTell::Held { version })
-        }
-        names::LOCKED => read_locked(alloc, content),
-        names::PEEKED => read_peeked(alloc, content.of(5)).map(LogTell::Peeked),
-        names::MARKED => read_marked(alloc, content.of(1)),
-        names::POPPED => {
-            let through = content.of(1).version(names::THROUGH)?;
-            Ok(LogTell::Popped { through })
+/// What a log tells.
+pub(crate) fn log_tell_of(alloc: Global, row: Row<'_>) -> Result<LogTell, Unread> {
+    let fields = row.content();
+    match row.name() {
+        names::PEEKED => peeked_of(alloc, fields).map(LogTell::Peeked),
+        names::LOCKED => locked_of(alloc, fields),
+        names::MARKED => {
+            let state = CoordState::from_row(alloc, fields.member(0))?;
+            Ok(LogTell::Marked { state })
         }
         names::REFUSED => {
-            let why = read_log_refusal(content.of(1).take(names::WHY)?)?;
+            let why = log_refusal_of(fields.member(0))?;
             Ok(LogTell::Refused { why })
         }
-        _ => Err(ScriptFault::BadScript),
+        name => {
+            let [version]: [u64; 1] = fields.numbers();
+            let version = version_of(version)?;
+            match name {
+                names::HELD => Ok(LogTell::Held { version }),
+                names::POPPED => Ok(LogTell::Popped { through: version }),
+                _ => Ok(LogTell::Seeded),
+            }
+        }
     }
 }
 
-fn read_locked(alloc: Global, fields: &mut Fields) -> Result<LogTell, ScriptFault> {
-    let there = says_popped(fields, 2);
-    let durable = fields.version(names::DURABLE)?;
-    let known = fields.version(names::KNOWN)?;
-    let popped = read_popped(alloc, fields, there)?;
+fn locked_of(alloc: Global, row: Row<'_>) -> Result<LogTell, Unread> {
+    let [durable, known]: [u64; 2] = row.numbers();
+    let durable = version_of(durable)?;
+    let known = version_of(known)?;
+    let popped = popped_of(alloc, row.member(2))?;
     Ok(LogTell::Locked {
         durable,
         known,
         popped,
     })
-}
-
-fn read_marked(alloc: Global, fields: &mut Fields) -> Result<LogTell, ScriptFault> {
-    let state = read_state(alloc, fields.take(names::STATE)?)?;
-    Ok(LogTell::Marked { state })
 }
 
 impl WriteItem for LogTell {
@@ -198,40 +191,20 @@ fn write_locked(
     with_popped(alloc, object, popped)?.named(names::LOCKED)
 }
 
-fn read_log_refusal(value: Value) -> Result<LogRefusal, ScriptFault> {
-    let (name, mut content) = variant(value)?;
-    read_refusal_named(name.as_str(), &mut content)
-}
-
-fn read_refusal_named(name: &str, content: &mut Fields) -> Result<LogRefusal, ScriptFault> {
-    match name {
-        names::GAP => {
-            let durable = content.of(1).version(names::DURABLE)?;
-            Ok(LogRefusal::Gap { durable })
-        }
-        names::TOO_EARLY => {
-            let first = content.of(1).version(names::FIRST)?;
-            Ok(LogRefusal::TooEarly { first })
-        }
-        names::REMOVED => {
-            let through = content.of(1).version(names::THROUGH)?;
-            Ok(LogRefusal::Removed { through })
-        }
-        _ => content.bare(bare_refusal(name)?),
-    }
-}
-
-/// The refusal without content of a name.
-fn bare_refusal(name: &str) -> Result<LogRefusal, ScriptFault> {
-    match name {
+fn log_refusal_of(row: Row<'_>) -> Result<LogRefusal, Unread> {
+    let [version]: [u64; 1] = row.content().numbers();
+    let version = version_of(version)?;
+    match row.name() {
+        names::GAP => Ok(LogRefusal::Gap { durable: version }),
+        names::TOO_EARLY => Ok(LogRefusal::TooEarly { first: version }),
+        names::REMOVED => Ok(LogRefusal::Removed { through: version }),
         names::WRONG_EPOCH => Ok(LogRefusal::WrongEpoch),
         names::UNSEEDED => Ok(LogRefusal::Unseeded),
         names::STOPPED => Ok(LogRefusal::Stopped),
         names::STALE => Ok(LogRefusal::Stale),
         names::NOT_MINE => Ok(LogRefusal::NotMine),
         names::SEED_DIFFERS => Ok(LogRefusal::SeedDiffers),
-        names::NO_MARK => Ok(LogRefusal::NoMark),
-        _ => Err(ScriptFault::BadScript),
+        _ => Ok(LogRefusal::NoMark),
     }
 }
 

@@ -1,9 +1,12 @@
 //! Nodes.
 use crate::fault::ScriptFault;
 use crate::fields::{Fields, LAST_CELL, LAST_LOG, LAST_PROXY, variant};
+use crate::limits::{ballot_of, epoch_of, tag_of};
 use crate::names;
 use crate::object::numbered;
 use fr_base::{Memory, NodeId};
+use fr_cli_json::tokens::Unread;
+use fr_json_forms::{Row, byte_of};
 use serde_json::Value;
 use std::alloc::Global;
 
@@ -48,6 +51,33 @@ fn read_proxy(fields: &Fields) -> Result<NodeId, ScriptFault> {
     let epoch = fields.epoch(names::EPOCH)?;
     let number = fields.index(names::NUMBER, LAST_PROXY)?;
     Ok(NodeId::Proxy { epoch, number })
+}
+
+/// The node that was read.
+pub fn node_of(row: Row<'_>) -> Result<NodeId, Unread> {
+    let [first, second]: [u64; 2] = row.content().numbers();
+    match row.name() {
+        names::CELL => Ok(NodeId::Cell {
+            index: byte_of(first),
+        }),
+        names::LOG => Ok(NodeId::Log {
+            epoch: epoch_of(first)?,
+            index: byte_of(second),
+        }),
+        names::SEQUENCER => Ok(NodeId::Sequencer {
+            epoch: epoch_of(first)?,
+        }),
+        names::PROXY => Ok(NodeId::Proxy {
+            epoch: epoch_of(first)?,
+            number: byte_of(second),
+        }),
+        names::RECOVERER => Ok(NodeId::Recoverer {
+            ballot: ballot_of(first)?,
+        }),
+        _ => Ok(NodeId::Storage {
+            tag: tag_of(first)?,
+        }),
+    }
 }
 
 /// The form of a node.

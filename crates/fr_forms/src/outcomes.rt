@@ -1,32 +1,25 @@
 //! What proxies say of their batches.
-use crate::fault::ScriptFault;
-use crate::fields::{Fields, variant};
+use crate::limits::version_of;
 use crate::names;
 use crate::object::{bare_named, numbered};
 use fr_base::Memory;
+use fr_cli_json::tokens::Unread;
+use fr_json_forms::Row;
 use fr_proxy::Outcome;
 use serde_json::Value;
 use std::alloc::Global;
 
-/// Reads what a proxy said of its batch; nothing where null stands.
-pub fn read_outcome(value: Value) -> Result<Option<Outcome>, ScriptFault> {
-    if value.is_null() {
+/// What a proxy said of its batch; nothing where null stands.
+pub fn outcome_of(row: Row<'_>) -> Result<Option<Outcome>, Unread> {
+    if row.is_none() {
         return Ok(None);
     }
-    let (name, mut content) = variant(value)?;
-    let outcome = read_named(name.as_str(), &mut content)?;
-    Ok(Some(outcome))
-}
-
-fn read_named(name: &str, content: &mut Fields) -> Result<Outcome, ScriptFault> {
-    match name {
-        names::WAITING => content.bare(Outcome::Waiting),
-        names::COMMITTED => {
-            let version = content.of(1).version(names::VERSION)?;
-            Ok(Outcome::Committed { version })
-        }
-        names::ENDED => content.bare(Outcome::Ended),
-        _ => Err(ScriptFault::BadScript),
+    let [version]: [u64; 1] = row.content().numbers();
+    let version = version_of(version)?;
+    match row.name() {
+        names::WAITING => Ok(Some(Outcome::Waiting)),
+        names::COMMITTED => Ok(Some(Outcome::Committed { version })),
+        _ => Ok(Some(Outcome::Ended)),
     }
 }
 

@@ -1,36 +1,23 @@
 //! How far the tags of a log are popped, which is left out where none is.
-use crate::fault::ScriptFault;
-use crate::fields::{Fields, items, tag_of, version_of};
-use crate::lists::{ReadItem, WriteItem, read_all, write_all, write_pair};
+use crate::limits::{tag_of, version_of};
+use crate::lists::{FromRow, WriteItem, list_of, write_all, write_pair};
 use crate::names;
 use crate::object::Object;
 use fr_base::{Memory, Tag};
+use fr_cli_json::tokens::Unread;
+use fr_json_forms::{Form, Row};
 use fr_log::{PoppedTag, PoppedTags};
 use serde_json::Value;
 use std::alloc::Global;
 
-/// Whether an object, which is to have so many members, or one more where it says what is popped, says that.
-pub(crate) fn says_popped(fields: &mut Fields, without: u8) -> bool {
-    let there = fields.all().get(names::POPPED).is_some();
-    fields.of(usize::from(without) + usize::from(there));
-    there
-}
-
-/// How far tags are popped, where the object says it: a list of pairs of a tag and a version, one at least, by rising
-/// tags.
-pub(crate) fn read_popped(
-    alloc: Global,
-    fields: &mut Fields,
-    there: bool,
-) -> Result<PoppedTags, ScriptFault> {
-    if !there {
-        return Ok(PoppedTags::from_vec(Vec::new(alloc)));
-    }
-    let popped = read_all(alloc, fields.take(names::POPPED)?)?;
-    if rise(popped.as_slice()) {
+/// How far tags are popped: nothing where an object leaves it out, else a list of pairs of a tag and a version, one at
+/// least, by rising tags.
+pub(crate) fn popped_of(alloc: Global, row: Row<'_>) -> Result<PoppedTags, Unread> {
+    let popped = list_of(alloc, row)?;
+    if row.is_none() || rise(popped.as_slice()) {
         Ok(PoppedTags::from_vec(popped))
     } else {
-        Err(ScriptFault::BadScript)
+        Err(Unread::Unusual)
     }
 }
 
@@ -53,20 +40,17 @@ fn comes_after(last: Option<Tag>, tag: Tag) -> bool {
     }
 }
 
-impl ReadItem for PoppedTag {
-    fn read(_alloc: Global, item: Value) -> Result<Self, ScriptFault> {
-        let items = items(item)?;
-        match items.as_slice() {
-            [tag, version] => popped_tag(tag, version),
-            _ => Err(ScriptFault::BadScript),
-        }
+impl FromRow for PoppedTag {
+    fn form() -> Form {
+        Form::PoppedTag
     }
-}
 
-fn popped_tag(tag: &Value, version: &Value) -> Result<PoppedTag, ScriptFault> {
-    let tag = tag_of(tag)?;
-    let version = version_of(version)?;
-    Ok(PoppedTag { tag, version })
+    fn from_row(_alloc: Global, row: Row<'_>) -> Result<Self, Unread> {
+        let mut items = row.items();
+        let tag = tag_of(items.next_row().number())?;
+        let version = version_of(items.next_row().number())?;
+        Ok(PoppedTag { tag, version })
+    }
 }
 
 /// An object with how far tags are popped, where any is.

@@ -1,42 +1,46 @@
 //! Seeds, pushes and what is peeked, with their records.
-use crate::fault::ScriptFault;
-use crate::fields::{Fields, items, tag_of};
-use crate::lists::{ReadItem, WriteItem, read_all, write_all, write_pair};
+use crate::limits::{epoch_of, tag_of, version_of};
+use crate::lists::{FromRow, WriteItem, list_of, write_all, write_pair};
 use crate::names;
 use crate::object::Object;
-use crate::states::{read_state, write_state};
-use crate::values::{read_batch, write_batch};
+use crate::states::write_state;
+use crate::values::write_batch;
 use fr_base::{Epoch, Memory, Version};
+use fr_cli_json::tokens::Unread;
+use fr_json_forms::{Form, Row};
 use fr_log::{Peeked, PeekedRecord, Push, Seed, SeedRecord};
+use fr_mutation::Batch;
 use fr_state::CoordState;
 use fr_tags::Body;
 use serde_json::Value;
 use std::alloc::Global;
 
 /// A seed, whose records rise within its limits.
-pub(crate) fn read_seed(alloc: Global, fields: &mut Fields) -> Result<Seed, ScriptFault> {
-    let epoch = fields.epoch(names::EPOCH)?;
-    let first = fields.version(names::FIRST)?;
-    let seeded_to = fields.version(names::SEEDED_TO)?;
-    let records = read_all(alloc, fields.take(names::RECORDS)?)?;
-    Seed::new(epoch, first, seeded_to, records).ok_or(ScriptFault::BadScript)
+pub(crate) fn seed_of(alloc: Global, row: Row<'_>) -> Result<Seed, Unread> {
+    let [epoch, first, seeded_to]: [u64; 3] = row.numbers();
+    let epoch = epoch_of(epoch)?;
+    let first = version_of(first)?;
+    let seeded_to = version_of(seeded_to)?;
+    let records = list_of(alloc, row.member(2))?;
+    Seed::new(epoch, first, seeded_to, records).ok_or(Unread::Unusual)
 }
 
-impl ReadItem for SeedRecord {
-    fn read(alloc: Global, item: Value) -> Result<Self, ScriptFault> {
-        read_seed_record(alloc, &mut Fields::new(item, 3))
+impl FromRow for SeedRecord {
+    fn form() -> Form {
+        Form::SeedRecord
     }
-}
 
-fn read_seed_record(alloc: Global, fields: &mut Fields) -> Result<SeedRecord, ScriptFault> {
-    let version = fields.version(names::VERSION)?;
-    let tag = fields.tag(names::TAG)?;
-    let batch = read_batch(alloc, fields.take(names::BATCH)?)?;
-    Ok(SeedRecord {
-        version,
-        tag,
-        batch,
-    })
+    fn from_row(alloc: Global, row: Row<'_>) -> Result<Self, Unread> {
+        let [tag, version]: [u64; 2] = row.numbers();
+        let tag = tag_of(tag)?;
+        let version = version_of(version)?;
+        let batch = Batch::from_row(alloc, row.member(0))?;
+        Ok(SeedRecord {
+            version,
+            tag,
+            batch,
+        })
+    }
 }
 
 pub(crate) fn write_seed(alloc: Global, seed: &Seed) -> Result<Value, Memory> {
@@ -69,32 +73,14 @@ impl WriteItem for SeedRecord {
 }
 
 /// A push within its limits: of bodies, or of a mark without bodies, at the version after `prev`.
-pub(crate) fn read_push(alloc: Global, fields: &mut Fields) -> Result<Push, ScriptFault> {
-    if fields.value(names::MARK)?.is_null() {
-        read_push_of_bodies(alloc, fields)
+pub(crate) fn push_of(alloc: Global, row: Row<'_>) -> Result<Push, Unread> {
+    let place = place_of(row)?;
+    if row.member(3).is_none() {
+        place.push(list_of(alloc, row.member(0))?)
+    } else if row.member(0).len() == 0 {
+        place.mark(alloc, CoordState::from_row(alloc, row.member(3))?)
     } else {
-        read_push_of_mark(alloc, fields)
-    }
-}
-
-fn read_push_of_bodies(alloc: Global, fields: &mut Fields) -> Result<Push, ScriptFault> {
-    let place = read_place(fields)?;
-    let bodies = read_all(alloc, fields.take(names::BODIES)?)?;
-    place.push(bodies)
-}
-
-fn read_push_of_mark(alloc: Global, fields: &mut Fields) -> Result<Push, ScriptFault> {
-    let place = read_place(fields)?;
-    read_nothing(fields.value(names::BODIES)?)?;
-    let state = read_state(alloc, fields.take(names::MARK)?)?;
-    place.mark(alloc, state)
-}
-
-/// An empty array.
-fn read_nothing(value: &Value) -> Result<(), ScriptFault> {
-    match value.as_array() {
-        Some(items) if items.is_empty() => Ok(()),
-        _ => Err(ScriptFault::BadScript),
+        Err(Unread::Unusual)
     }
 }
 
@@ -107,53 +93,42 @@ struct Place {
     known: Version,
 }
 
-fn read_place(fields: &Fields) -> Result<Place, ScriptFault> {
-    let epoch = fields.epoch(names::EPOCH)?;
-    let prev = fields.version(names::PREV)?;
-    let version = fields.version(names::VERSION)?;
-    let known = fields.version(names::KNOWN)?;
+fn place_of(row: Row<'_>) -> Result<Place, Unread> {
+    let [epoch, known, prev, version]: [u64; 4] = row.numbers();
     Ok(Place {
-        epoch,
-        prev,
-        version,
-        known,
+        epoch: epoch_of(epoch)?,
+        prev: version_of(prev)?,
+        version: version_of(version)?,
+        known: version_of(known)?,
     })
 }
 
 impl Place {
     /// The push of bodies.
-    fn push(&self, bodies: Vec<Body>) -> Result<Push, ScriptFault> {
-        Push::new(self.epoch, self.prev, self.version, self.known, bodies).ok_or(
-            ScriptFault::BadScript,
-        )
+    fn push(&self, bodies: Vec<Body>) -> Result<Push, Unread> {
+        Push::new(self.epoch, self.prev, self.version, self.known, bodies).ok_or(Unread::Unusual)
     }
 
     /// The push of a mark, which has the version after `prev`.
-    fn mark(&self, alloc: Global, state: CoordState) -> Result<Push, ScriptFault> {
+    fn mark(&self, alloc: Global, state: CoordState) -> Result<Push, Unread> {
         match Push::mark(alloc, self.epoch, self.prev, self.known, state) {
             Some(push) if push.version() == self.version => Ok(push),
-            _ => Err(ScriptFault::BadScript),
+            _ => Err(Unread::Unusual),
         }
     }
 }
 
-impl ReadItem for Body {
-    fn read(alloc: Global, item: Value) -> Result<Self, ScriptFault> {
-        let mut items = items(item)?;
-        let Some(batch) = items.pop() else {
-            return Err(ScriptFault::BadScript);
-        };
-        match items.as_slice() {
-            [tag] => read_body(alloc, tag, batch),
-            _ => Err(ScriptFault::BadScript),
-        }
+impl FromRow for Body {
+    fn form() -> Form {
+        Form::Body
     }
-}
 
-fn read_body(alloc: Global, tag: &Value, batch: Value) -> Result<Body, ScriptFault> {
-    let batch = read_batch(alloc, batch)?;
-    let tag = tag_of(tag)?;
-    Ok(Body { tag, batch })
+    fn from_row(alloc: Global, row: Row<'_>) -> Result<Self, Unread> {
+        let mut items = row.items();
+        let tag = tag_of(items.next_row().number())?;
+        let batch = Batch::from_row(alloc, items.next_row())?;
+        Ok(Body { tag, batch })
+    }
 }
 
 pub(crate) fn write_push(alloc: Global, push: &Push) -> Result<Value, Memory> {
@@ -189,25 +164,27 @@ impl WriteItem for Body {
 }
 
 /// What is peeked, whose records rise within its limits.
-pub(crate) fn read_peeked(alloc: Global, fields: &mut Fields) -> Result<Peeked, ScriptFault> {
-    let tag = fields.tag(names::TAG)?;
-    let after = fields.version(names::AFTER)?;
-    let upto = fields.version(names::UPTO)?;
-    let known = fields.version(names::KNOWN)?;
-    let records = read_all(alloc, fields.take(names::RECORDS)?)?;
-    Peeked::new(tag, after, records, upto, known).ok_or(ScriptFault::BadScript)
+pub(crate) fn peeked_of(alloc: Global, row: Row<'_>) -> Result<Peeked, Unread> {
+    let [after, known, tag, upto]: [u64; 4] = row.numbers();
+    let after = version_of(after)?;
+    let known = version_of(known)?;
+    let tag = tag_of(tag)?;
+    let upto = version_of(upto)?;
+    let records = list_of(alloc, row.member(2))?;
+    Peeked::new(tag, after, records, upto, known).ok_or(Unread::Unusual)
 }
 
-impl ReadItem for PeekedRecord {
-    fn read(alloc: Global, item: Value) -> Result<Self, ScriptFault> {
-        read_peeked_record(alloc, &mut Fields::new(item, 2))
+impl FromRow for PeekedRecord {
+    fn form() -> Form {
+        Form::PeekedRecord
     }
-}
 
-fn read_peeked_record(alloc: Global, fields: &mut Fields) -> Result<PeekedRecord, ScriptFault> {
-    let version = fields.version(names::VERSION)?;
-    let batch = read_batch(alloc, fields.take(names::BATCH)?)?;
-    Ok(PeekedRecord { version, batch })
+    fn from_row(alloc: Global, row: Row<'_>) -> Result<Self, Unread> {
+        let [version]: [u64; 1] = row.numbers();
+        let version = version_of(version)?;
+        let batch = Batch::from_row(alloc, row.member(0))?;
+        Ok(PeekedRecord { version, batch })
+    }
 }
 
 pub(crate) fn write_peeked(alloc: Global, peeked: &Peeked) -> Result<Value, Memory> {

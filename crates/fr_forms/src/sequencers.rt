@@ -1,35 +1,36 @@
 //! What sequencers are asked, and what they tell.
 use crate::fault::ScriptFault;
-use crate::fields::{Fields, LAST_PROXY, variant};
-use crate::lists::WriteItem;
+use crate::fields::Fields;
+use crate::limits::{step_of, version_of};
+use crate::lists::{FromRow, WriteItem, of_value};
 use crate::names;
 use crate::object::{bare_named, numbered, with_one};
 use fr_ask::{SeqAsk, SeqRefusal, SeqTell};
 use fr_base::{Memory, Step};
+use fr_cli_json::tokens::Unread;
+use fr_json_forms::{Form, Row, byte_of};
 use serde_json::Value;
 use std::alloc::Global;
 
-/// No request has this number, or a greater one.
-const NO_REQUEST: u64 = 1 << 62;
-
 /// Reads what a sequencer is asked.
-pub fn read_seq_ask(value: Value) -> Result<SeqAsk, ScriptFault> {
-    let (name, mut content) = variant(value)?;
-    read_next(name.as_str(), content.of(3))
+pub fn read_seq_ask(alloc: Global, value: Value) -> Result<SeqAsk, ScriptFault> {
+    of_value(alloc, value)
 }
 
-fn read_next(name: &str, fields: &Fields) -> Result<SeqAsk, ScriptFault> {
-    if name != names::NEXT {
-        return Err(ScriptFault::BadScript);
+impl FromRow for SeqAsk {
+    fn form() -> Form {
+        Form::SeqAsk
     }
-    let proxy = fields.index(names::PROXY, LAST_PROXY)?;
-    let request = read_request(fields)?;
-    let step = read_step(fields)?;
-    Ok(SeqAsk::Next {
-        proxy,
-        request,
-        step,
-    })
+
+    fn from_row(_alloc: Global, row: Row<'_>) -> Result<Self, Unread> {
+        let [proxy, request, step]: [u64; 3] = row.content().numbers();
+        let step = step_of(step)?;
+        Ok(SeqAsk::Next {
+            proxy: byte_of(proxy),
+            request,
+            step,
+        })
+    }
 }
 
 pub(crate) fn write_seq_ask(alloc: Global, ask: &SeqAsk) -> Result<Value, Memory> {
@@ -49,26 +50,16 @@ pub(crate) fn write_seq_ask(alloc: Global, ask: &SeqAsk) -> Result<Value, Memory
     )
 }
 
-pub(crate) fn read_seq_tell(value: Value) -> Result<SeqTell, ScriptFault> {
-    let (name, mut content) = variant(value)?;
-    read_named(name.as_str(), &mut content)
-}
-
-fn read_named(name: &str, content: &mut Fields) -> Result<SeqTell, ScriptFault> {
-    match name {
-        names::NUMBERED => read_numbered(content.of(3)),
-        names::REFUSED => {
-            let why = read_seq_refusal(content.of(1).take(names::WHY)?)?;
-            Ok(SeqTell::Refused { why })
-        }
-        _ => Err(ScriptFault::BadScript),
+/// What a sequencer tells.
+pub(crate) fn seq_tell_of(row: Row<'_>) -> Result<SeqTell, Unread> {
+    let fields = row.content();
+    if row.name() == names::REFUSED {
+        let why = refusal_of(fields.member(0).name());
+        return Ok(SeqTell::Refused { why });
     }
-}
-
-fn read_numbered(fields: &Fields) -> Result<SeqTell, ScriptFault> {
-    let request = read_request(fields)?;
-    let prev = fields.version(names::PREV)?;
-    let version = fields.version(names::VERSION)?;
+    let [prev, request, version]: [u64; 3] = fields.numbers();
+    let prev = version_of(prev)?;
+    let version = version_of(version)?;
     Ok(SeqTell::Numbered {
         request,
         prev,
@@ -105,16 +96,10 @@ pub fn write_seq_tell(alloc: Global, tell: &SeqTell) -> Result<Value, Memory> {
     }
 }
 
-fn read_seq_refusal(value: Value) -> Result<SeqRefusal, ScriptFault> {
-    let (name, content) = variant(value)?;
-    content.bare(refusal_of(name.as_str())?)
-}
-
-fn refusal_of(name: &str) -> Result<SeqRefusal, ScriptFault> {
+fn refusal_of(name: &str) -> SeqRefusal {
     match name {
-        names::SPENT => Ok(SeqRefusal::Spent),
-        names::OUT_OF_TURN => Ok(SeqRefusal::OutOfTurn),
-        _ => Err(ScriptFault::BadScript),
+        names::SPENT => SeqRefusal::Spent,
+        _ => SeqRefusal::OutOfTurn,
     }
 }
 
@@ -122,14 +107,6 @@ fn refusal_name(why: SeqRefusal) -> &'static str {
     match why {
         SeqRefusal::Spent => names::SPENT,
         SeqRefusal::OutOfTurn => names::OUT_OF_TURN,
-    }
-}
-
-/// The number of a proxy's request under the name `request`: from 1 on, below 2^62.
-fn read_request(fields: &Fields) -> Result<u64, ScriptFault> {
-    match fields.number(names::REQUEST)? {
-        request if 1 <= request && request < NO_REQUEST => Ok(request),
-        _ => Err(ScriptFault::BadScript),
     }
 }
 

@@ -1,35 +1,40 @@
 //! Coordinated states.
 use crate::fault::ScriptFault;
-use crate::fields::{Fields, items};
-use crate::lists::{WriteItem, write_all};
+use crate::limits::{epoch_of, version_of};
+use crate::lists::{FromRow, WriteItem, of_value, write_all};
 use crate::names;
 use crate::object::Object;
 use fr_base::Memory;
+use fr_cli_json::tokens::Unread;
+use fr_json_forms::{Form, Row, byte_of};
 use fr_state::{CoordState, DecodeFault, Generation, StateFault, decode, encode};
 use serde_json::Value;
 use std::alloc::Global;
 
-/// A state: the list of its generations, or, where some were dropped, an object of their number and that list.
+/// Reads a state: the list of its generations, or, where some were dropped, an object of their number and that list.
 pub fn read_state(alloc: Global, value: Value) -> Result<CoordState, ScriptFault> {
-    if value.as_object().is_none() {
-        return read_generations(alloc, value);
-    }
-    read_dropped(alloc, &mut Fields::new(value, 2))
+    of_value(alloc, value)
 }
 
-fn read_dropped(alloc: Global, fields: &mut Fields) -> Result<CoordState, ScriptFault> {
-    let dropped = fields.number(names::DROPPED)?;
-    let state = read_generations(alloc, fields.take(names::GENS)?)?;
-    with_dropped(alloc, dropped, &state)
+impl FromRow for CoordState {
+    fn form() -> Form {
+        Form::State
+    }
+
+    fn from_row(alloc: Global, row: Row<'_>) -> Result<Self, Unread> {
+        if row.is_list() {
+            return generations_of(alloc, row);
+        }
+        let state = generations_of(alloc, row.member(1))?;
+        with_dropped(alloc, row.member(0).number(), &state)
+    }
 }
 
 /// A state, and so many generations that were dropped before those that are left: what the bytes of both are read as.
-fn with_dropped(
-    alloc: Global,
-    dropped: u64,
-    state: &CoordState,
-) -> Result<CoordState, ScriptFault> {
-    let spelled = encode(alloc, state)?;
+fn with_dropped(alloc: Global, dropped: u64, state: &CoordState) -> Result<CoordState, Unread> {
+    let Ok(spelled) = encode(alloc, state) else {
+        return Err(Unread::Memory);
+    };
     let mut bytes = Vec::with_capacity(alloc, 9 + spelled.len())?;
     bytes.push(2)?;
     bytes.extend_from_slice(&dropped.to_be_bytes())?;
@@ -38,19 +43,20 @@ fn with_dropped(
     }
     match decode(alloc, &bytes) {
         Ok(state) => Ok(state),
-        Err(DecodeFault::Memory) => Err(ScriptFault::Memory),
-        Err(_) => Err(ScriptFault::BadScript),
+        Err(DecodeFault::Memory) => Err(Unread::Memory),
+        Err(_) => Err(Unread::Unusual),
     }
 }
 
 /// The state of a list of generations, of which none was dropped.
-fn read_generations(alloc: Global, value: Value) -> Result<CoordState, ScriptFault> {
+fn generations_of(alloc: Global, row: Row<'_>) -> Result<CoordState, Unread> {
     let mut state = None;
-    for item in items(value)? {
-        let generation = read_generation(&Fields::new(item, 5))?;
+    let mut items = row.items();
+    for _turn in 0..row.len() {
+        let generation = generation_of(items.next_row())?;
         state = Some(with_generation(alloc, state, generation)?);
     }
-    state.ok_or(ScriptFault::BadScript)
+    state.ok_or(Unread::Unusual)
 }
 
 /// A state with one generation more.
@@ -58,24 +64,23 @@ fn with_generation(
     alloc: Global,
     state: Option<CoordState>,
     generation: Generation,
-) -> Result<CoordState, ScriptFault> {
+) -> Result<CoordState, Unread> {
     let Some(mut state) = state else {
-        return Ok(CoordState::new(alloc, generation)?);
+        return CoordState::new(alloc, generation).or(Err(Unread::Memory));
     };
     match state.extend(generation) {
         Ok(()) => Ok(state),
-        Err(StateFault::Memory) => Err(ScriptFault::Memory),
-        Err(_) => Err(ScriptFault::BadScript),
+        Err(StateFault::Memory) => Err(Unread::Memory),
+        Err(_) => Err(Unread::Unusual),
     }
 }
 
-fn read_generation(fields: &Fields) -> Result<Generation, ScriptFault> {
-    let epoch = fields.epoch(names::EPOCH)?;
-    let m = fields.index(names::M, u8::MAX)?;
-    let k = fields.index(names::K, u8::MAX)?;
-    let first = fields.version(names::FIRST)?;
-    let seeded_to = fields.version(names::SEEDED_TO)?;
-    Generation::new(epoch, m, k, first, seeded_to).ok_or(ScriptFault::BadScript)
+fn generation_of(row: Row<'_>) -> Result<Generation, Unread> {
+    let [epoch, first, k, m, seeded_to]: [u64; 5] = row.numbers();
+    let epoch = epoch_of(epoch)?;
+    let first = version_of(first)?;
+    let seeded_to = version_of(seeded_to)?;
+    Generation::new(epoch, byte_of(m), byte_of(k), first, seeded_to).ok_or(Unread::Unusual)
 }
 
 /// The form of a coordinated state: the list of its generations, with how many were dropped before, where some were.

@@ -1,22 +1,32 @@
 //! Batches, rows, and the keys at which shards begin.
 use crate::fault::ScriptFault;
-use crate::fields::items;
-use crate::lists::{ReadItem, WriteItem, read_all, write_all, write_pair};
+use crate::lists::{FromRow, WriteItem, list_of, of_value, write_all, write_pair};
 use crate::names;
 use crate::object::{Object, hex_value};
 use fr_ask::Rows;
 use fr_base::{Bytes, Memory};
-use fr_cli_json::tree::{read_batch as read_mutations, read_bytes};
+use fr_cli_json::tokens::Unread;
+use fr_json_forms::{Form, Row, mutations_of};
 use fr_mutation::{Batch, BatchFault, Mutation};
 use serde_json::Value;
 use std::alloc::Global;
 
-/// A batch within its limits.
+/// Reads a batch within its limits.
 pub fn read_batch(alloc: Global, value: Value) -> Result<Batch, ScriptFault> {
-    match Batch::new(read_mutations(alloc, value)?.into_vec()) {
-        Ok(batch) => Ok(batch),
-        Err(BatchFault::Memory) => Err(ScriptFault::Memory),
-        Err(_) => Err(ScriptFault::BadScript),
+    of_value(alloc, value)
+}
+
+impl FromRow for Batch {
+    fn form() -> Form {
+        Form::Batch
+    }
+
+    fn from_row(alloc: Global, row: Row<'_>) -> Result<Self, Unread> {
+        match Batch::new(mutations_of(alloc, row)?) {
+            Ok(batch) => Ok(batch),
+            Err(BatchFault::Memory) => Err(Unread::Memory),
+            Err(_) => Err(Unread::Unusual),
+        }
     }
 }
 
@@ -60,25 +70,18 @@ fn two_texts(
         .named(name)
 }
 
-pub(crate) fn read_rows(alloc: Global, value: Value) -> Result<Rows, ScriptFault> {
-    Ok(Rows::from_vec(read_all(alloc, value)?))
-}
-
 /// A row: its key and its value.
-impl ReadItem for (Bytes, Bytes) {
-    fn read(alloc: Global, item: Value) -> Result<Self, ScriptFault> {
-        let items = items(item)?;
-        match items.as_slice() {
-            [key, value] => read_row(alloc, key, value),
-            _ => Err(ScriptFault::BadScript),
-        }
+impl FromRow for (Bytes, Bytes) {
+    fn form() -> Form {
+        Form::RowPair
     }
-}
 
-fn read_row(alloc: Global, key: &Value, value: &Value) -> Result<(Bytes, Bytes), ScriptFault> {
-    let key = read_bytes(alloc, Some(key))?;
-    let value = read_bytes(alloc, Some(value))?;
-    Ok((key, value))
+    fn from_row(alloc: Global, row: Row<'_>) -> Result<Self, Unread> {
+        let mut items = row.items();
+        let key = items.next_row().bytes(alloc)?;
+        let value = items.next_row().bytes(alloc)?;
+        Ok((key, value))
+    }
 }
 
 /// The form of rows.
@@ -95,12 +98,31 @@ impl WriteItem for (Bytes, Bytes) {
 
 /// Reads the keys at which shards begin.
 pub fn read_shards(alloc: Global, value: Value) -> Result<Vec<Bytes>, ScriptFault> {
-    read_all(alloc, value)
+    let Keys(keys) = of_value(alloc, value)?;
+    Ok(keys)
 }
 
-impl ReadItem for Bytes {
-    fn read(alloc: Global, item: Value) -> Result<Self, ScriptFault> {
-        Ok(read_bytes(alloc, Some(&item))?)
+/// Keys at which shards begin.
+#[derive(Drop)]
+struct Keys(Vec<Bytes>);
+
+impl FromRow for Keys {
+    fn form() -> Form {
+        Form::Keys
+    }
+
+    fn from_row(alloc: Global, row: Row<'_>) -> Result<Self, Unread> {
+        Ok(Keys(list_of(alloc, row)?))
+    }
+}
+
+impl FromRow for Bytes {
+    fn form() -> Form {
+        Form::Hex
+    }
+
+    fn from_row(alloc: Global, row: Row<'_>) -> Result<Self, Unread> {
+        row.bytes(alloc)
     }
 }
 

@@ -1,7 +1,6 @@
 //! The script of `simulate`: a config and steps, read from JSON text.
 #![tactic(auto)]
 
-mod fields;
 mod pieces;
 mod script;
 mod setting;

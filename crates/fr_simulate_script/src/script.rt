@@ -4,12 +4,11 @@ ghost use Rattle.serde_json.specs.Data.{Data};
 ghost use Rattle.fr_cli_json.specs.Json.{data_of};
 
 use crate::pieces;
-use crate::setting::read_config;
-use crate::step::read_step;
 use fr_base::{Ballot, Epoch, LogId, Shape, Step, Tag};
 use fr_cli_json::tokens::Unread;
-use fr_cli_json::tree::{into_items, read_value, take_member};
+use fr_cli_json::tree::read_value;
 use fr_cli_json::{CliFault, Mutations};
+use fr_json_forms::{Form, Tape, explain};
 use fr_run_event::Config;
 use std::alloc::Global;
 
@@ -77,32 +76,38 @@ pub struct Recover {
     pub mark: Vec<u8>,
 }
 
-/// Reads the script that an input is: piece by piece, where it has the usual form, and else from the tree of its JSON,
-/// which alone knows that it is none.
-pub fn read_script(alloc: Global, input: Vec<u8>) -> Result<Script, CliFault>
+/// Reads the script that an input is: piece by piece, where it has the usual form, and else from the text of the tree of
+/// its JSON, in which members stand in order, and each name once. Of what is no script `place` says where.
+pub fn read_script(
+    alloc: Global,
+    input: Vec<u8>,
+    place: &mut String,
+) -> Result<Script, CliFault>
     ensures json { OnOk result ((d : Data) × (data_of input.items ≡ Some d)) }
     ensures fault { IfErr result (λ e. (e ≡ CliFault.BadScript) ⊎ (e ≡ CliFault.Memory)) }
 {
-    match pieces::read_script(alloc, input.as_slice()) {
+    let mut tape = Tape::new(alloc);
+    match pieces::read_script(alloc, input.as_slice(), &mut tape) {
         Ok(script) => Ok(script),
         Err(Unread::Memory) => Err(CliFault::Memory),
-        Err(Unread::Unusual) => read_tree_of(alloc, input),
+        Err(Unread::Unusual) => {
+            *place = explain(alloc, Form::SimulateScript, input.as_slice(), &tape)?;
+            read_in_order(alloc, input)
+        }
     }
 }
 
-/// Reads the script that an input is from the tree of its JSON. The input is let go before the steps are made.
-fn read_tree_of(alloc: Global, input: Vec<u8>) -> Result<Script, CliFault>
+/// Reads the script that an input is from the text of the tree of its JSON. The input is let go first.
+fn read_in_order(alloc: Global, input: Vec<u8>) -> Result<Script, CliFault>
     ensures json { OnOk result ((d : Data) × (data_of input.items ≡ Some d)) }
     ensures fault { IfErr result (λ e. (e ≡ CliFault.BadScript) ⊎ (e ≡ CliFault.Memory)) }
 {
-    let mut script = read_value(alloc, input)?;
-    let steps = take_member(&mut script, 2, "steps").and_then(into_items);
-    let config = take_member(&mut script, 2, "config");
-    let config = read_config(alloc, &config.ok_or(CliFault::BadScript)?)?;
-    let steps = steps.ok_or(CliFault::BadScript)?;
-    let mut acts = Vec::with_capacity(alloc, steps.len())?;
-    for step in steps {
-        acts.push(read_step(alloc, step)?)?;
+    let value = read_value(alloc, input)?;
+    let text = value.to_vec(alloc)?;
+    drop(value);
+    match pieces::read_script(alloc, text.as_slice(), &mut Tape::new(alloc)) {
+        Ok(script) => Ok(script),
+        Err(Unread::Memory) => Err(CliFault::Memory),
+        Err(Unread::Unusual) => Err(CliFault::BadScript),
     }
-    Ok(Script { config, acts })
 }

@@ -1,39 +1,33 @@
 //! The config of a script.
-ghost use Rattle.std.specs.Prelude.{◌≡◌, ◌⊎◌, IfErr};
-
-use crate::fields::Fields;
 use fr_base::Bytes;
-use fr_cli_json::CliFault;
-use fr_cli_json::tree::read_bytes;
+use fr_cli_json::tokens::Unread;
+use fr_json_forms::{Row, byte_of};
 use fr_run_event::{Config, ConfigFault};
-use serde_json::Value;
 use std::alloc::Global;
 
-/// Reads a config: an object of its five members, within their limits.
-pub(crate) fn read_config(alloc: Global, value: &Value) -> Result<Config, CliFault>
-    ensures fault { IfErr result (λ e. (e ≡ CliFault.BadScript) ⊎ (e ≡ CliFault.Memory)) }
-{
-    let fields = Fields::new(value, 5);
-    let coordinators = fields.index("coordinators", u8::MAX)?;
-    let logs = fields.index("logs", u8::MAX)?;
-    let degree = fields.index("degree", u8::MAX)?;
-    let proxies = fields.index("proxies", u8::MAX)?;
-    let shards = read_shards(alloc, fields.value("shards")?)?;
-    match Config::new(coordinators, logs, degree, shards, proxies) {
+/// A config within its limits.
+pub(crate) fn config_of(alloc: Global, row: Row<'_>) -> Result<Config, Unread> {
+    let [coordinators, degree, logs, proxies]: [u64; 4] = row.numbers();
+    let shards = keys_of(alloc, row.member(4))?;
+    match Config::new(
+        byte_of(coordinators),
+        byte_of(logs),
+        byte_of(degree),
+        shards,
+        byte_of(proxies),
+    ) {
         Ok(config) => Ok(config),
-        Err(ConfigFault::Memory) => Err(CliFault::Memory),
-        Err(_) => Err(CliFault::BadScript),
+        Err(ConfigFault::Memory) => Err(Unread::Memory),
+        Err(_) => Err(Unread::Unusual),
     }
 }
 
-/// Reads where shards begin: a list of keys.
-fn read_shards(alloc: Global, value: &Value) -> Result<Vec<Bytes>, CliFault>
-    ensures fault { IfErr result (λ e. (e ≡ CliFault.BadScript) ⊎ (e ≡ CliFault.Memory)) }
-{
-    let items = value.as_array().ok_or(CliFault::BadScript)?;
-    let mut shards = Vec::with_capacity(alloc, items.len())?;
-    for item in items {
-        shards.push(read_bytes(alloc, Some(item))?)?;
+/// The keys at which shards begin.
+fn keys_of(alloc: Global, row: Row<'_>) -> Result<Vec<Bytes>, Unread> {
+    let mut keys = Vec::with_capacity(alloc, row.len())?;
+    let mut items = row.items();
+    for _turn in 0..row.len() {
+        keys.push(items.next_row().bytes(alloc)?)?;
     }
-    Ok(shards)
+    Ok(keys)
 }

@@ -1,111 +1,110 @@
 //! The steps of a script.
-ghost use Rattle.std.specs.Prelude.{◌≡◌, ◌⊎◌, IfErr};
-
-use crate::fields::{Fields, LAST_CELL, LAST_LOG};
 use crate::script::{Act, Commit, Pull, Push, Recover};
-use fr_base::{Ballot, Shape, Step, Tag};
-use fr_cli_json::CliFault;
-use fr_cli_json::tree::{into_one_member, member_of, read_batch, take_member};
-use serde_json::Value;
+use fr_base::{Ballot, Epoch, LogId, Shape, Step, Tag};
+use fr_cli_json::Mutations;
+use fr_cli_json::tokens::Unread;
+use fr_json_forms::{Row, byte_of, mutations_of};
 use std::alloc::Global;
 
-/// The greatest tag.
-const LAST_TAG: u8 = 31;
-
-/// How many members a step `recover` has.
-const RECOVER: usize = 5;
-
-/// How many it has with a shape, which is two of them.
-const RECOVER_SHAPED: usize = RECOVER + 2;
-
-/// Reads a step: an object of one member, which names it.
-pub(crate) fn read_step(alloc: Global, value: Value) -> Result<Act, CliFault>
-    ensures fault { IfErr result (λ e. (e ≡ CliFault.BadScript) ⊎ (e ≡ CliFault.Memory)) }
-{
-    let (name, fields) = into_one_member(value).ok_or(CliFault::BadScript)?;
-    match name.as_str() {
-        "commit" => Ok(Act::Commit(read_commit(alloc, fields)?)),
-        "push" => Ok(Act::Push(read_push(alloc, &fields)?)),
-        "pull" => Ok(Act::Pull(read_pull(&fields)?)),
-        "mark" => Ok(Act::Mark(read_pull(&fields)?)),
-        "pop" => Ok(Act::Pop(read_pull(&fields)?)),
-        "recover" => Ok(Act::Recover(read_recover(alloc, &fields)?)),
-        "lose" => Ok(Act::Lose(Fields::new(&fields, 2).log()?)),
-        _ => Err(CliFault::BadScript),
+/// The step that was read.
+pub(crate) fn step_of(alloc: Global, row: Row<'_>) -> Result<Act, Unread> {
+    let fields = row.content();
+    match row.name() {
+        "commit" => commit_of(alloc, fields).map(Act::Commit),
+        "push" => push_of(alloc, fields).map(Act::Push),
+        "pull" => pull_of(fields).map(Act::Pull),
+        "mark" => pull_of(fields).map(Act::Mark),
+        "pop" => pull_of(fields).map(Act::Pop),
+        "recover" => recover_of(alloc, fields).map(Act::Recover),
+        _ => {
+            let [epoch, log]: [u64; 2] = fields.numbers();
+            log_of(epoch, log).map(Act::Lose)
+        }
     }
 }
 
-/// Reads a commit. Its batch may be beyond the limits of batches.
-fn read_commit(alloc: Global, mut value: Value) -> Result<Commit, CliFault>
-    ensures fault { IfErr result (λ e. (e ≡ CliFault.BadScript) ⊎ (e ≡ CliFault.Memory)) }
-{
-    let batch = take_member(&mut value, 5, "batch").ok_or(CliFault::BadScript)?;
-    let fields = Fields::new(&value, 5);
-    let epoch = fields.epoch()?;
-    let proxy = fields.proxy()?;
-    let step = Step::new(fields.number("step")?).ok_or(CliFault::BadScript)?;
-    let logs = fields.indexes(alloc, "logs", LAST_LOG)?;
-    let batch = read_batch(alloc, batch)?;
+fn epoch_of(number: u64) -> Result<Epoch, Unread> {
+    Epoch::new(number).ok_or(Unread::Unusual)
+}
+
+fn log_of(epoch: u64, log: u64) -> Result<LogId, Unread> {
+    let epoch = epoch_of(epoch)?;
+    Ok(LogId {
+        epoch,
+        index: byte_of(log),
+    })
+}
+
+/// A commit. Its batch may be beyond the limits of batches.
+fn commit_of(alloc: Global, row: Row<'_>) -> Result<Commit, Unread> {
+    let [epoch, proxy, step]: [u64; 3] = row.numbers();
+    let epoch = epoch_of(epoch)?;
+    let step = Step::new(step).ok_or(Unread::Unusual)?;
+    let logs = indexes_of(alloc, row.member(2))?;
+    let batch = Mutations::from_vec(mutations_of(alloc, row.member(0))?);
     Ok(Commit {
         epoch,
-        proxy,
+        proxy: byte_of(proxy),
         step,
         batch,
         logs,
     })
 }
 
-fn read_push(alloc: Global, value: &Value) -> Result<Push, CliFault>
-    ensures fault { IfErr result (λ e. (e ≡ CliFault.BadScript) ⊎ (e ≡ CliFault.Memory)) }
-{
-    let fields = Fields::new(value, 3);
+fn push_of(alloc: Global, row: Row<'_>) -> Result<Push, Unread> {
+    let [epoch, proxy]: [u64; 2] = row.numbers();
+    let epoch = epoch_of(epoch)?;
+    let logs = indexes_of(alloc, row.member(1))?;
     Ok(Push {
-        epoch: fields.epoch()?,
-        proxy: fields.proxy()?,
-        logs: fields.indexes(alloc, "logs", LAST_LOG)?,
+        epoch,
+        proxy: byte_of(proxy),
+        logs,
     })
 }
 
-/// Reads a storage server, and the log that it asks.
-fn read_pull(value: &Value) -> Result<Pull, CliFault>
-    ensures fault { IfErr result (λ e. (e ≡ CliFault.BadScript) ⊎ (e ≡ CliFault.Memory)) }
-{
-    let fields = Fields::new(value, 3);
-    let storage = Tag::new(fields.index("storage", LAST_TAG)?).ok_or(CliFault::BadScript)?;
-    Ok(Pull {
-        storage,
-        log: fields.log()?,
-    })
+/// A storage server, and the log that it asks.
+fn pull_of(row: Row<'_>) -> Result<Pull, Unread> {
+    let [epoch, log, storage]: [u64; 3] = row.numbers();
+    let storage = Tag::new(byte_of(storage)).ok_or(Unread::Unusual)?;
+    let log = log_of(epoch, log)?;
+    Ok(Pull { storage, log })
 }
 
-/// Reads a step of a recoverer, with the members `logs` and `degree` or with neither.
-fn read_recover(alloc: Global, value: &Value) -> Result<Recover, CliFault>
-    ensures fault { IfErr result (λ e. (e ≡ CliFault.BadScript) ⊎ (e ≡ CliFault.Memory)) }
-{
-    if member_of(value, RECOVER_SHAPED, "logs").is_none() {
-        return read_members(alloc, Fields::new(value, RECOVER), None);
-    }
-    let fields = Fields::new(value, RECOVER_SHAPED);
-    let logs = fields.index("logs", u8::MAX)?;
-    let degree = fields.index("degree", u8::MAX)?;
-    let shape = Shape::new(logs, degree).ok_or(CliFault::BadScript)?;
-    read_members(alloc, fields, Some(shape))
-}
-
-/// Reads the other members of a step of a recoverer.
-fn read_members(
-    alloc: Global,
-    fields: Fields<'_>,
-    shape: Option<Shape>,
-) -> Result<Recover, CliFault>
-    ensures fault { IfErr result (λ e. (e ≡ CliFault.BadScript) ⊎ (e ≡ CliFault.Memory)) }
-{
+fn recover_of(alloc: Global, row: Row<'_>) -> Result<Recover, Unread> {
+    let ballot = Ballot::new(row.member(0).number()).ok_or(Unread::Unusual)?;
+    let shape = shape_of(row.member(3), row.member(1))?;
+    let lock = indexes_of(alloc, row.member(2))?;
+    let mark = indexes_of(alloc, row.member(4))?;
+    let read = indexes_of(alloc, row.member(5))?;
+    let write = indexes_of(alloc, row.member(6))?;
     Ok(Recover {
-        ballot: Ballot::new(fields.number("ballot")?).ok_or(CliFault::BadScript)?,
+        ballot,
         shape,
-        read: fields.indexes(alloc, "read", LAST_CELL)?,
-        lock: fields.indexes(alloc, "lock", LAST_LOG)?,
-        write: fields.indexes(alloc, "write", LAST_CELL)?,
-        mark: fields.indexes(alloc, "mark", LAST_LOG)?,
+        read,
+        lock,
+        write,
+        mark,
     })
+}
+
+/// The shape of a generation, whose two numbers are both there or both left out.
+fn shape_of(logs: Row<'_>, degree: Row<'_>) -> Result<Option<Shape>, Unread> {
+    match (logs.is_none(), degree.is_none()) {
+        (true, true) => Ok(None),
+        (false, false) => match Shape::new(logs.byte(), degree.byte()) {
+            Some(shape) => Ok(Some(shape)),
+            None => Err(Unread::Unusual),
+        },
+        _ => Err(Unread::Unusual),
+    }
+}
+
+/// The numbers of nodes.
+fn indexes_of(alloc: Global, row: Row<'_>) -> Result<Vec<u8>, Unread> {
+    let mut indexes = Vec::with_capacity(alloc, row.len())?;
+    let mut items = row.items();
+    for _turn in 0..row.len() {
+        indexes.push(items.next_row().byte())?;
+    }
+    Ok(indexes)
 }

@@ -143,7 +143,7 @@ impl Plays<Sequencer> for Nodes {
         given: &mut Fields,
     ) -> Result<Value, Wrong> {
         match word {
-            "ask" => ask(alloc, sequencer, read_seq_ask(given.take_all())),
+            "ask" => ask(alloc, sequencer, read_seq_ask(alloc, given.take_all())),
             "state" => write_state_of(alloc, sequencer.copy()),
             _ => no_such_word("rows of a sequencer: ask, state"),
         }

@@ -40,7 +40,7 @@ pub(crate) fn run<H: Threads + Wait + Sync>(
 fn how_of(ending: &Ending) -> How {
     match ending {
         Ending::Done(_) => How::Done,
-        Ending::Fault(CliFault::BadScript) => How::BadScript,
+        Ending::Fault(CliFault::BadScript) | Ending::BadScript(_) => How::BadScript,
         Ending::Fault(_) => How::Otherwise,
         Ending::BadWords(_) => How::BadWords,
     }

@@ -89,7 +89,7 @@ fn how_of(ending: &Ending) -> (How, u8) {
         Ending::Done(_) => How::Done,
         Ending::Fault(CliFault::Input) => How::Input,
         Ending::Fault(CliFault::Output) => How::Output,
-        Ending::Fault(CliFault::BadScript) => How::BadScript,
+        Ending::Fault(CliFault::BadScript) | Ending::BadScript(_) => How::BadScript,
         _ => How::Otherwise,
     };
     (how, ending.status())

@@ -18,7 +18,7 @@ fn counted(found: Result<u8, CliFault>, calls: CallCounts) -> Counted {
 
 fn apply<R: Read, W: Write>(alloc: Global, reader: &mut R, writer: &mut W) -> Counted {
     let mut calls = CallCounts::new();
-    let found = apply_counted(alloc, OPTIONS, &mut calls, reader, writer);
+    let found = apply_counted(alloc, OPTIONS, &mut calls, &mut String::new(alloc), reader, writer);
     counted(found, calls)
 }
 
@@ -29,7 +29,7 @@ fn end<R: Read, W: Write>(
     writer: &mut W,
 ) -> Counted {
     let mut calls = CallCounts::new();
-    let found = end_counted(alloc, options, &mut calls, reader, writer);
+    let found = end_counted(alloc, options, &mut calls, &mut String::new(alloc), reader, writer);
     counted(found, calls)
 }
 

@@ -1,5 +1,5 @@
 use Rattle.std.proofs.Common.{ℕ, ◌≤◌, length}
-use Rattle.fr_form_pieces.proofs.PieceLemmas.{SomeLeft}
+use Rattle.fr_json_forms.proofs.PieceLemmas.{SomeLeft}
 use Rattle.fr_audit_script.proofs.pieces.read_entries.Given as goal
 
 abbrev pub invariant-loop-alloc : goal.invariant-loop-alloc

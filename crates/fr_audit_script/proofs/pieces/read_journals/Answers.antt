@@ -1,7 +1,7 @@
 use Rattle.std.proofs.Common.{◌≡◌, ◌-◌, ◌<◌, length, None, subst, arith}
 use Rattle.json.specs.Json.{after_end_array}
-use Rattle.fr_form_pieces.specs.Pieces.{HasValue}
-use Rattle.fr_form_pieces.proofs.PieceLemmas.{none_passed, one_passed, array_passed}
+use Rattle.fr_json_forms.specs.Pieces.{HasValue}
+use Rattle.fr_json_forms.proofs.PieceLemmas.{none_passed, one_passed, array_passed}
 use Rattle.fr_audit_script.proofs.pieces.read_journals.Goals as goal
 
 pub loop-alloc-init : goal.loop-alloc-init

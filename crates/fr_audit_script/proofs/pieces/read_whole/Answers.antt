@@ -1,11 +1,10 @@
 use Rattle.std.proofs.Common.{arith}
-use Rattle.serde_json.specs.View.{view}
-use Rattle.fr_form_pieces.proofs.PieceLemmas.{two_passed}
+use Rattle.fr_json_forms.proofs.PieceLemmas.{two_passed}
 use Rattle.fr_audit_script.proofs.pieces.read_whole.Goals as goal
 
 pub returns : goal.returns
 returns c =
     two_passed 127 _ _ c.args.reader.now c.open_object.new.reader
-    c.take_key.new.reader c.read_tree.new.reader c.take_key-2.new.reader c.read_journals.new.reader c.close_object.new.reader
-    (omega arith) c.in_ok-open_object.ensures c.in_ok-take_key.ensures (view c.in_ok-config.config, c.in_ok-config.ensures.value) c.in_ok-config.ensures.shorter
+    c.take_key.new.reader c.read_config.new.reader c.take_key-2.new.reader c.read_journals.new.reader c.close_object.new.reader
+    (omega arith) c.in_ok-open_object.ensures c.in_ok-take_key.ensures c.in_ok-config.ensures.value c.in_ok-config.ensures.shorter
     c.in_ok-take_key-2.ensures c.in_ok-journals.ensures.value c.in_ok-journals.ensures.shorter c.in_ok-close_object.ensures

@@ -2,7 +2,7 @@ use Rattle.std.proofs.Common.{[], ap, ◌∙◌, subst}
 use Rattle.json.specs.Lex.{tokens}
 use Rattle.fr_cli_json.proofs.JsonLemmas.{data_here}
 use Rattle.fr_cli_json.proofs.TokenLemmas.{whole_text}
-use Rattle.fr_form_pieces.specs.Pieces.{HasValue}
+use Rattle.fr_json_forms.specs.Pieces.{HasValue}
 use Rattle.fr_simulate_script.proofs.pieces.read_script.Goals as goal
 
 pub returns-in-None : goal.returns-in-None

@@ -1,8 +1,7 @@
 use Rattle.std.proofs.Common.{◌≡◌, ◌-◌, ◌<◌, length, None, subst, arith}
 use Rattle.json.specs.Json.{after_end_array}
-use Rattle.serde_json.specs.View.{view}
-use Rattle.fr_form_pieces.specs.Pieces.{HasValue}
-use Rattle.fr_form_pieces.proofs.PieceLemmas.{none_passed, one_passed, array_passed}
+use Rattle.fr_json_forms.specs.Pieces.{HasValue}
+use Rattle.fr_json_forms.proofs.PieceLemmas.{none_passed, one_passed, array_passed}
 use Rattle.fr_simulate_script.proofs.pieces.read_steps.Goals as goal
 
 pub loop-alloc-init : goal.loop-alloc-init
@@ -14,9 +13,9 @@ pub loop-alloc-preserved : goal.loop-alloc-preserved
 loop-alloc-preserved c =
     let l = c.loop-alloc in
     let n = l.invariant.0 in
-    let mid = c.read_tree.new.reader in
+    let mid = c.read_step.new.reader in
     let going : (after_end_array l.reader ≡ None) × (c.take_end_array.new.self ≡ l.reader) = grind arith in
-    let one : HasValue 125 l.reader mid = subst (λ xs. HasValue 125 xs mid) going.1 (view c.in_ok-step.step, c.in_ok-step.ensures.value) in
+    let one : HasValue 125 l.reader mid = subst (λ xs. HasValue 125 xs mid) going.1 c.in_ok-step.ensures.value in
     let less : length mid < length l.reader = subst (λ xs. length mid < length xs) going.1 c.in_ok-step.ensures.shorter in
     (n - 1, omega (arith, l.invariant.1), one_passed 125 c.open_array.new.reader n l.reader mid (omega (arith, l.invariant.1)) going.0 one l.invariant.2, omega (arith, l.invariant.3))
 
