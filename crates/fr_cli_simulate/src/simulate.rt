@@ -5,7 +5,7 @@ ghost use Rattle.fr_cli_json.specs.Calls.{no_calls, HasNoInput, HasNotFailed, Is
 use crate::lines::put_storages;
 use crate::steps::line_of;
 use fr_cli_json::{CallCounts, CliFault, put, read_input};
-use fr_simulate_script::{Act, Script, read_script};
+use fr_simulate_script::{Act, Script, read_script_or_place};
 use fr_world::World;
 use std::alloc::Global;
 use std::io::{Read, Write};
@@ -47,7 +47,7 @@ pub fn simulate_counted<R: Read, W: Write>(
     ensures done { OnOk result (HasNotFailed calls.new) }
 {
     let input = read_input(alloc, calls, reader)?;
-    let script = read_script(alloc, input, place)?;
+    let script = read_script_or_place(alloc, input, place)?;
     put_script(alloc, script, calls, writer)?;
     calls.flush(writer)?;
     Ok(0)

@@ -6,4 +6,4 @@ mod script;
 mod setting;
 mod step;
 
-pub use script::{Act, Commit, Pull, Push, Recover, Script, read_script};
+pub use script::{Act, Commit, Pull, Push, Recover, Script, read_script, read_script_or_place};

@@ -78,7 +78,7 @@ pub struct Recover {
 
 /// Reads the script that an input is: piece by piece, where it has the usual form, and else from the text of the tree of
 /// its JSON, in which members stand in order, and each name once. Of what is no script `place` says where.
-pub fn read_script(
+pub fn read_script_or_place(
     alloc: Global,
     input: Vec<u8>,
     place: &mut String,
@@ -95,6 +95,14 @@ pub fn read_script(
             read_in_order(alloc, input)
         }
     }
+}
+
+/// As [`read_script_or_place`], with nothing said of where it is no script.
+pub fn read_script(alloc: Global, input: Vec<u8>) -> Result<Script, CliFault>
+    ensures json { OnOk result ((d : Data) × (data_of input.items ≡ Some d)) }
+    ensures fault { IfErr result (λ e. (e ≡ CliFault.BadScript) ⊎ (e ≡ CliFault.Memory)) }
+{
+    read_script_or_place(alloc, input, &mut String::new(alloc))
 }
 
 /// Reads the script that an input is from the text of the tree of its JSON. The input is let go first.
