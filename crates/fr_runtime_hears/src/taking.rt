@@ -1,5 +1,5 @@
 //! A storage server hears an answer of a log, and is opened again where a call of its store failed in it.
-ghost use Rattle.std.specs.Prelude.{◌≡◌, false, true, Ok, None, max, min, IfOk, IfSome, OnOk, OnErr};
+ghost use Rattle.std.specs.Prelude.{◌≡◌, ◌⊎◌, false, true, Ok, Err, None, max, min, IfOk, IfSome, OnOk, OnErr};
 ghost use Rattle.fr_log.specs.Peeked.{IsPeeked};
 ghost use Rattle.fr_state.specs.Same.{is_same_state};
 ghost use Rattle.fr_storage.specs.Server.{IsOpeningTrouble, IsServer, kept_of, met_store, refusal_of, storage_of, store_fault};
@@ -10,7 +10,7 @@ use fr_base::{Epoch, Version};
 use fr_log::Peeked;
 use fr_state::{CoordState, equal_law, spelling_law};
 use fr_storage::{Storage, StorageFault, follow_law, position_law};
-use fr_undo::ShardStore;
+use fr_undo::{ShardStore, StoreFault};
 use std::alloc::Global;
 
 /// Tells a storage server what a log of an epoch has of its tag, as [`Storage::hear_peeked`] does. Where a call of its
@@ -53,7 +53,9 @@ pub fn take_peeked<S: ShardStore>(
 }
 
 /// Tells a storage server the coordinated state of a mark, as [`Storage::hear_marked`] does, and as [`take_peeked`] does
-/// where a call of its store fails in it. Nothing of the hear is missing where the server keeps the state.
+/// if a call of its store fails in it. Nothing of the hear is missing if the server keeps the state. A refusal is one of
+/// opening the server again, which it needs from then on, or want of memory for a copy of the state, which leaves the
+/// server as it was; either way the server keeps its tag, its state and what its store may leave.
 pub fn take_marked<S: ShardStore>(
     alloc: Global,
     storage: &mut Storage<S>,
@@ -67,6 +69,11 @@ pub fn take_marked<S: ShardStore>(
     ensures works { storage.old.failed ≡ false → OnOk result (storage.new.failed ≡ false) }
     ensures tag { storage.new.tag ≡ storage.old.tag }
     ensures refusal { refusal_of result ≡ None }
+    ensures trouble { IfSome (store_fault result) (λ fault. IsOpeningTrouble S.CanMeet S.CanMeetInPlace fault
+        ⊎ (fault ≡ StoreFault.Memory)) }
+    ensures fails { OnErr result ((storage.new.failed ≡ true)
+        ⊎ ((result ≡ Err (StorageFault.Store StoreFault.Memory)) × (storage.new ≡ storage.old))) }
+    ensures err { OnErr result (kept_of storage.new ≡ kept_of storage.old) }
 {
     follow_law();
     equal_law();
