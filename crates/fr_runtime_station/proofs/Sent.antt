@@ -20,6 +20,7 @@ use Rattle.fr_register.proofs.ask.CellAsk.TheSendSync as cell_ask
 use Rattle.fr_register.specs.declared.ask.CellAsk.{CellAsk}
 use Rattle.fr_register.specs.declared.ask.CellTell.{CellTell}
 use Rattle.fr_register.specs.declared.cell.Cell.{Cell}
+use Rattle.fr_runtime_station.specs.contracts.cells.Cells as cells
 use Rattle.fr_runtime_station.specs.contracts.directory.Directory as directory
 use Rattle.fr_runtime_station.specs.contracts.epoch_nodes.EpochNodes as epoch_nodes
 use Rattle.fr_runtime_station.specs.contracts.epoch_nodes.Logs as logs
@@ -60,11 +61,15 @@ module _ (L : RattleType) (h : node.Ghosts L.Denot Log LogAsk LogTell) where
         ),
       )
 
+module _ (C : RattleType) (g : node.Ghosts C.Denot Cell CellAsk CellTell) where
+  cells-sync : IsSend C → IsSync (cells.the_row C g)
+  cells-sync c = search (sendable, crosses, station-sync, housed-send, cell_ask.the_send) depth 40
+
 module _ (C L : RattleType) (g : node.Ghosts C.Denot Cell CellAsk CellTell) (h : node.Ghosts L.Denot Log LogAsk LogTell) where
   pub directory-sync : IsSend C → IsSend L → IsSync (directory.the_row C L g h)
   directory-sync c l =
       let S = directory.the_type C L g h in
       recorded_sync _ _ _ S.to_one (struct_sync (shape S) (
-        search (sendable, crosses, station-sync, housed-send, cell_ask.the_send) depth 40,
+        search (sendable, crosses, cells-sync) depth 40,
         (first-sync L h l, (search (sendable, crosses, nodes-sync) depth 40, tt)),
       ))
