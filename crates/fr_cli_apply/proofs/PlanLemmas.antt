@@ -7,16 +7,16 @@ use Rattle.serde_json.specs.Find.{as_array}
 use Rattle.fr_mutation.specs.declared.mutation.Mutation.{Mutation}
 use Rattle.fr_mutation.specs.declared.fault.BatchFault.{BatchFault}
 use Rattle.fr_mutation.specs.Limits.{batch_fault}
-use Rattle.fr_undo.specs.State.{StoreState, fresh}
+use Rattle.fr_undo.specs.State.{StoreState}
 use Rattle.fr_cli_apply.specs.declared.script.Operation.{Operation}
 use Rattle.fr_cli_apply.specs.declared.script.Operation.TheVariants.{Apply, Undo, Forget, Advance}
 use Rattle.fr_cli_apply.specs.declared.plan.Planned.{Planned}
 use Rattle.fr_cli_json.specs.Json.{data_of, only, each_of}
 use Rattle.fr_cli_apply.specs.Script.{operation_of, script_from, script_of}
-use Rattle.fr_cli_apply.specs.Lines.{apply_outcome, outcome_of, line_of, lines_from, lines_of, state_after}
+use Rattle.fr_cli_apply.specs.Lines.{apply_outcome, outcome_of, line_of, lines_from, left_by, state_after}
 use Rattle.fr_cli_json.specs.Text.{IsInput, HasRead, GainsFront}
 use Rattle.fr_cli_json.specs.Tokens.{Gives}
-use Rattle.fr_cli_apply.specs.Plan.{plan_batch, plan, planned_of, plan_from, plan_of, plan_outcome, plan_lines}
+use Rattle.fr_cli_apply.specs.Plan.{plan_batch, plan, planned_of, plan_from, plan_of, plan_outcome, plan_left, plan_lines}
 
 -- ---- read
 
@@ -72,6 +72,10 @@ pub same_lines : (s : StoreState) (os : List Operation) → plan_lines s (map pl
 same_lines s [] = refl
 same_lines s (o ∷ os) = rw (same_outcome s o) (ap (λ rest. line_of (outcome_of s o) ++ rest) (same_lines (state_after s (outcome_of s o)) os))
 
+same_left : (s : StoreState) (os : List Operation) → plan_left s (map plan os) ≡ left_by s os
+same_left s [] = refl
+same_left s (o ∷ os) = ap (λ x. plan_left (state_after s x) (map plan os)) (same_outcome s o) ∙ same_left (state_after s (outcome_of s o)) os
+
 -- ---- a whole run
 
 pub bad_found : (old new : Option (List ℕ)) (input : List ℕ) → IsInput old new input → plan_of input ≡ None → HasRead script_of old new None
@@ -86,12 +90,17 @@ module _ (old new : Option (List ℕ)) (input : List ℕ) (ps : List Planned) (w
   lines_found : (s : StoreState) (script : List Operation) → map plan script ≡ ps → plan_lines s ps ≡ lines_from s script
   lines_found s script e = ap (plan_lines s) (sym e) ∙ same_lines s script
 
-  pub front_found : (s : StoreState) (was now : Option (List ℕ)) → s ≡ fresh → GainsFront was now (plan_lines s ps) → (script : List Operation) × HasRead script_of old new (Some script) × GainsFront was now (lines_of script)
-  front_found s was now empty gains =
+  pub front_found : (s : StoreState) (was now : Option (List ℕ)) → GainsFront was now (plan_lines s ps) → (script : List Operation) × HasRead script_of old new (Some script) × GainsFront was now (lines_from s script)
+  front_found s was now gains =
       let found = script_found input ps meant in
-      (found.0, record { input = input; whole = whole; meant = found.1 }, subst (GainsFront was now) (lines_found s found.0 found.2 ∙ ap (λ x. lines_from x found.0) empty) gains)
+      (found.0, record { input = input; whole = whole; meant = found.1 }, subst (GainsFront was now) (lines_found s found.0 found.2) gains)
 
-  pub all_found : (s : StoreState) (was now : Option (List ℕ)) → s ≡ fresh → Appends was now (plan_lines s ps) → (script : List Operation) × HasRead script_of old new (Some script) × Appends was now (lines_of script)
-  all_found s was now empty gains =
+  pub all_found : (s : StoreState) (was now : Option (List ℕ)) → Appends was now (plan_lines s ps) → (script : List Operation) × HasRead script_of old new (Some script) × Appends was now (lines_from s script)
+  all_found s was now gains =
       let found = script_found input ps meant in
-      (found.0, record { input = input; whole = whole; meant = found.1 }, subst (Appends was now) (lines_found s found.0 found.2 ∙ ap (λ x. lines_from x found.0) empty) gains)
+      (found.0, record { input = input; whole = whole; meant = found.1 }, subst (Appends was now) (lines_found s found.0 found.2) gains)
+
+  pub left_found : (s left : StoreState) → left ≡ plan_left s ps → (script : List Operation) × HasRead script_of old new (Some script) × (left ≡ left_by s script)
+  left_found s left is =
+      let found = script_found input ps meant in
+      (found.0, record { input = input; whole = whole; meant = found.1 }, is ∙ ap (plan_left s) (sym found.2) ∙ same_left s found.0)

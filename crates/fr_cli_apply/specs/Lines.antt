@@ -84,6 +84,11 @@ abbrev pub lines_from : StoreState → List Operation → List ℕ
 lines_from s [] = row_lines (map.entries s.contents)
 lines_from s (o ∷ os) = line_of (outcome_of s o) ++ lines_from (state_after s (outcome_of s o)) os
 
+-- the state that operations leave of a store in this state
+abbrev pub left_by : StoreState → List Operation → StoreState
+left_by s [] = s
+left_by s (o ∷ os) = left_by (state_after s (outcome_of s o)) os
+
 -- the lines of a script, on an empty store
 abbrev pub lines_of : List Operation → List ℕ
 lines_of script = lines_from fresh script

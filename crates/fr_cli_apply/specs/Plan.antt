@@ -49,6 +49,11 @@ plan_outcome s (planned.Undo to) = if nat_lt to s.floor then refused (codes "Bel
 plan_outcome s (planned.Forget through) = if nat_lt s.applied through then refused (codes "AboveApplied") else done (forgotten s through)
 plan_outcome s (planned.Advance version) = if_after s version (advanced s version)
 
+-- the state that it all leaves of a store in this state
+abbrev pub plan_left : StoreState → List Planned → StoreState
+plan_left s [] = s
+plan_left s (p ∷ ps) = plan_left (state_after s (plan_outcome s p)) ps
+
 -- the lines of it all, on a store in this state
 abbrev pub plan_lines : StoreState → List Planned → List ℕ
 plan_lines s [] = row_lines (map.entries s.contents)

@@ -1,10 +1,10 @@
 //! The command `apply`.
-ghost use Rattle.std.specs.Prelude.{◌≡◌};
-ghost use Rattle.fr_undo.specs.State.{fresh};
+ghost use Rattle.std.specs.Prelude.{◌≡◌, Some, OnOk};
 ghost use Rattle.fr_cli_json.specs.Calls.{no_calls, HasCause};
 ghost use Rattle.fr_cli_json.specs.Command.{Prints};
+ghost use Rattle.fr_cli_json.specs.Text.{HasRead};
 ghost use Rattle.fr_cli_apply.specs.Script.{script_of};
-ghost use Rattle.fr_cli_apply.specs.Lines.{lines_of};
+ghost use Rattle.fr_cli_apply.specs.Lines.{lines_of, lines_from, left_by};
 
 use crate::operations::{run_in_memory, run_on};
 use crate::script::read_script;
@@ -44,17 +44,18 @@ pub fn run_apply<R: Read, W: Write>(
     apply_counted(alloc, options, &mut calls, reader, writer)
 }
 
-/// As [`run_apply`], on a store with nothing applied, which then holds what the operations made. What the
-/// store keeps its rows in changes no line.
+/// As [`run_apply`], on a store in any state, which then holds what the operations left of it. What the store keeps
+/// its rows in changes no line. Each line is flushed once its operation is done.
 pub fn run_apply_on<S: ShardStore, R: Read, W: Write>(
     alloc: Global,
     store: &mut S,
     reader: &mut R,
     writer: &mut W,
 ) -> Result<u8, CliFault>
-    requires empty { S.state store.old ≡ fresh }
-    ensures prints { Prints script_of lines_of (R.remaining reader.old) (R.remaining reader.new)
+    ensures prints { Prints script_of (lines_from (S.state store.old)) (R.remaining reader.old) (R.remaining reader.new)
         W.contents writer.old writer.new result }
+    ensures left { OnOk result ((script : _) × HasRead script_of (R.remaining reader.old) (R.remaining reader.new) (Some script)
+        × (S.state store.new ≡ left_by (S.state store.old) script)) }
 {
     let mut calls = CallCounts::new();
     apply_counted_on(alloc, store, &mut calls, reader, writer)
@@ -84,8 +85,8 @@ pub fn apply_counted<R: Read, W: Write>(
     Ok(0)
 }
 
-/// As [`apply_counted`], on a store with nothing applied, which then holds what the operations made. What
-/// the store keeps its rows in changes no line.
+/// As [`apply_counted`], on a store in any state, which then holds what the operations left of it. What the store keeps
+/// its rows in changes no line. Each line is flushed once its operation is done.
 pub fn apply_counted_on<S: ShardStore, R: Read, W: Write>(
     alloc: Global,
     store: &mut S,
@@ -93,10 +94,11 @@ pub fn apply_counted_on<S: ShardStore, R: Read, W: Write>(
     reader: &mut R,
     writer: &mut W,
 ) -> Result<u8, CliFault>
-    requires empty { S.state store.old ≡ fresh }
     requires fresh { calls.old ≡ no_calls }
-    ensures prints { Prints script_of lines_of (R.remaining reader.old) (R.remaining reader.new)
+    ensures prints { Prints script_of (lines_from (S.state store.old)) (R.remaining reader.old) (R.remaining reader.new)
         W.contents writer.old writer.new result }
+    ensures left { OnOk result ((script : _) × HasRead script_of (R.remaining reader.old) (R.remaining reader.new) (Some script)
+        × (S.state store.new ≡ left_by (S.state store.old) script)) }
     ensures cause { HasCause calls.new result }
 {
     let bytes = read_input(alloc, calls, reader)?;

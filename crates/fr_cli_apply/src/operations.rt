@@ -4,8 +4,8 @@ ghost use Rattle.std.specs.Io.KnownBytes.{Appends};
 ghost use Rattle.std.specs.FinMap as map;
 ghost use Rattle.fr_undo.specs.State.{fresh};
 ghost use Rattle.fr_cli_json.specs.Text.{GainsFront, Owes};
-ghost use Rattle.fr_cli_json.specs.Calls.{IsWriteFault};
-ghost use Rattle.fr_cli_apply.specs.Plan.{plan_lines, plan_outcome};
+ghost use Rattle.fr_cli_json.specs.Calls.{IsOutputFault, IsWriteFault};
+ghost use Rattle.fr_cli_apply.specs.Plan.{plan_lines, plan_left, plan_outcome};
 ghost use Rattle.fr_cli_apply.specs.Lines.{ok_line, line_of as line_text, row_lines, state_after, name_in, name_of};
 
 use crate::plan::Planned;
@@ -28,11 +28,11 @@ pub(crate) fn run_in_memory<W: Write>(
     ensures done { OnOk result (calls.new ≡ calls.old) }
 {
     let mut store = MapStore::new(alloc);
-    run_operations(alloc, &mut store, operations, calls, writer)?;
+    run_operations(alloc, &mut store, operations, Pace::Whole, calls, writer)?;
     put_tree(alloc, store.rows(), calls, writer)
 }
 
-/// Runs operations on a store, and writes a line for each and then the rows.
+/// Runs operations on a store, and writes a line for each, which it flushes before the next one, and then the rows.
 pub(crate) fn run_on<S: ShardStore, W: Write>(
     alloc: Global,
     store: &mut S,
@@ -41,12 +41,41 @@ pub(crate) fn run_on<S: ShardStore, W: Write>(
     writer: &mut W,
 ) -> Result<(), CliFault>
     ensures ok { OnOk result (Appends (W.contents writer.old) (W.contents writer.new) (plan_lines (S.state store.old) operations.items)) }
+    ensures left { OnOk result (S.state store.new ≡ plan_left (S.state store.old) operations.items) }
     ensures front { GainsFront (W.contents writer.old) (W.contents writer.new) (plan_lines (S.state store.old) operations.items) }
     ensures fault { IfErr result (λ e. IsWriteFault calls.new e) }
     ensures done { OnOk result (calls.new ≡ calls.old) }
 {
-    run_operations(alloc, store, operations, calls, writer)?;
+    run_operations(alloc, store, operations, Pace::Line, calls, writer)?;
     put_contents(alloc, store, calls, writer)
+}
+
+/// When the lines of operations leave a buffer below.
+#[derive(Clone, Copy)]
+enum Pace {
+    /// Each as soon as its operation is done.
+    Line,
+    /// Once all are done.
+    Whole,
+}
+
+/// Writes the line of an operation.
+fn put_line<W: Write>(
+    calls: &mut CallCounts,
+    writer: &mut W,
+    line: &str,
+    pace: Pace,
+) -> Result<(), CliFault>
+    ensures ok { OnOk result (Appends (W.contents writer.old) (W.contents writer.new) line.now) }
+    ensures front { GainsFront (W.contents writer.old) (W.contents writer.new) line.now }
+    ensures fault { IfErr result (λ e. IsOutputFault calls.new e) }
+    ensures done { OnOk result (calls.new ≡ calls.old) }
+{
+    put(calls, writer, line)?;
+    match pace {
+        Pace::Line => calls.flush(writer),
+        Pace::Whole => Ok(()),
+    }
 }
 
 /// Runs operations on a store, and writes a line for each. What is left to be written then is the rows.
@@ -54,18 +83,20 @@ fn run_operations<S: ShardStore, W: Write>(
     alloc: Global,
     store: &mut S,
     operations: Vec<Planned>,
+    pace: Pace,
     calls: &mut CallCounts,
     writer: &mut W,
 ) -> Result<(), CliFault>
     ensures ok { OnOk result (Owes (W.contents writer.old) (W.contents writer.new)
         (row_lines (map.entries (S.state store.new).contents)) (plan_lines (S.state store.old) operations.items)) }
+    ensures left { OnOk result (S.state store.new ≡ plan_left (S.state store.old) operations.items) }
     ensures front { GainsFront (W.contents writer.old) (W.contents writer.new) (plan_lines (S.state store.old) operations.items) }
     ensures fault { IfErr result (λ e. IsWriteFault calls.new e) }
     ensures done { OnOk result (calls.new ≡ calls.old) }
 {
     for operation in operations {
         let line = line_of(alloc, store, operation)?;
-        put(calls, writer, line.as_str())?;
+        put_line(calls, writer, line.as_str(), pace)?;
     }
     Ok(())
 }
@@ -142,6 +173,7 @@ fn put_contents<S: ShardStore, W: Write>(
     writer: &mut W,
 ) -> Result<(), CliFault>
     ensures ok { OnOk result (Appends (W.contents writer.old) (W.contents writer.new) (row_lines (map.entries (S.state store.old).contents))) }
+    ensures same { OnOk result (S.state store.new ≡ S.state store.old) }
     ensures front { GainsFront (W.contents writer.old) (W.contents writer.new) (row_lines (map.entries (S.state store.old).contents)) }
     ensures fault { IfErr result (λ e. IsWriteFault calls.new e) }
     ensures done { OnOk result (calls.new ≡ calls.old) }
