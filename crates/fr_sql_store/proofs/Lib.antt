@@ -2,3 +2,4 @@ pub mod OrderLemmas
 pub mod StoreLemmas
 pub mod FileLemmas
 pub mod ReadLemmas
+pub mod EmptyLemmas

@@ -4,4 +4,4 @@
 
 mod sql_store;
 
-pub use sql_store::{SEED, SqlStore};
+pub use sql_store::{OpenFault, SEED, SqlStore};

@@ -13,7 +13,7 @@ ghost use Rattle.fr_sql_store.specs.Tables.{state_in, state_of, has_failed, MayL
 
 mod files;
 
-pub use files::SEED;
+pub use files::{OpenFault, SEED};
 use fr_base::{Bytes, Version};
 use fr_mutation::{Batch, Shard};
 use fr_sql_calls::{Marks, advance, apply, bytes, dump, forget, range, set_state, undo_to, value};

@@ -10,11 +10,14 @@ ghost use Rattle.fr_sql_open.specs.Found.{IsFound};
 ghost use Rattle.fr_sql_store.specs.Tables.{state_in, state_of, MayLeave, StoreLeaves};
 ghost use Rattle.fr_sql_store.specs.Files.{HoldStore};
 
+mod opening;
+
 use crate::sql_store::SqlStore;
 use fr_sql_calls::Marks;
 use fr_sql_open::{Found, find, has_no_table, open_again};
 use fr_sql_rows::{Backing, FaithfulDisk, Refusals, fault_of};
 use fr_undo::{ShardStore, StoreFault};
+pub use opening::OpenFault;
 use sqlite::{Connection, Error, FileStore, Files, Options};
 use std::alloc::Global;
 
