@@ -1,0 +1,6 @@
+//! A disk over a file of the host that is read once, when it is opened.
+#![tactic(auto)]
+
+mod mirror;
+
+pub use mirror::Mirror;
