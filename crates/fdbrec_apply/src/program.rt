@@ -35,10 +35,11 @@ fn read_words(alloc: Global, words: &[String]) -> Result<ApplyOptions, Error> {
     }
 }
 
-/// The kind of store that the words name, else a map.
+/// The kind of store that the words name, else a map. A file is one of tables.
 fn read_kind(alloc: Global, words: &[String]) -> Result<StoreKind, Error> {
     let matches = command(alloc)?.try_get_matches_from(words)?;
     match matches.subcommand_matches("apply") {
+        Some(apply) if apply.get_str("db").is_some() => Ok(StoreKind::Sql),
         Some(apply) => Ok(read_store(apply)),
         None => Ok(StoreKind::Map),
     }

@@ -20,6 +20,8 @@ pub enum Ending {
     Done(u8),
     /// The command ended early.
     Fault(CliFault),
+    /// It ended early by what this text says, with this status.
+    Named(&'static str, u8),
     /// The words choose no command.
     BadWords(Error),
 }
@@ -30,6 +32,7 @@ impl Ending {
         match self {
             Ending::Done(status) => *status,
             Ending::Fault(fault) => fault.status(),
+            Ending::Named(_, status) => *status,
             Ending::BadWords(_) => BAD_WORDS,
         }
     }
@@ -39,6 +42,7 @@ impl Ending {
         let _ = match self {
             Ending::Done(_) => Ok(()),
             Ending::Fault(fault) => eprintln!(rt; "{fault}"),
+            Ending::Named(text, _) => eprintln!(rt; "{text}"),
             Ending::BadWords(error) => rt.eprint(error),
         };
         ExitCode::from(self.status())

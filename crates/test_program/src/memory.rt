@@ -1,11 +1,26 @@
 //! The program over a reader and a writer in memory.
 use crate::words::words_of;
-use fr_cli::{Ending, run_program};
+use fr_cli::{DbFault, Ending, Files, HostFile, Places, run_program};
 use std::alloc::{AllocError, Global};
 use std::io;
 use std::io::{Error, ErrorKind, Read, Write};
 use std::sync::Wait;
 use std::thread::Threads;
+
+/// A place without files.
+struct Nowhere;
+
+impl Places for Nowhere {
+    type Disk = HostFile;
+
+    fn files(&self, alloc: Global, name: &str) -> Result<Files<HostFile>, DbFault> {
+        Err(DbFault::Unopened)
+    }
+
+    fn is_there(&self, name: &str) -> bool {
+        false
+    }
+}
 
 /// How the program of these words ends, the first of which is its name.
 pub(crate) fn run_words<H: Threads + Wait + Sync>(
@@ -15,7 +30,15 @@ pub(crate) fn run_words<H: Threads + Wait + Sync>(
     reader: &mut Device,
     writer: &mut Device,
 ) -> Ending {
-    run_program(rt, None::<&HostRuntime>, alloc, words, reader, writer)
+    run_program(
+        rt,
+        None::<&HostRuntime>,
+        &Nowhere,
+        alloc,
+        words,
+        reader,
+        writer,
+    )
 }
 
 /// How the program of this line ends.

@@ -40,15 +40,32 @@ static STORES: [(&str, StoreKind); 5] = [
 
 const SIMULATION: &str = "fdbrec simulate";
 
-/// The first line, if there is one, that does not choose its store, or the simulation.
+/// The first line, if there is one, that does not choose its store, the simulation, or its file.
 pub(crate) fn first_store(alloc: Global) -> Result<Option<&'static str>, AllocError> {
     for &(line, kind) in &STORES {
         if !chooses(alloc, line, &Request::Apply(kind))? {
             return Ok(Some(line));
         }
     }
-    let is_chosen = chooses(alloc, SIMULATION, &Request::Simulate)?;
-    Ok(if is_chosen { None } else { Some(SIMULATION) })
+    if !chooses(alloc, SIMULATION, &Request::Simulate)? {
+        return Ok(Some(SIMULATION));
+    }
+    first_file(alloc)
+}
+
+const APPLIED: &str = "fdbrec apply --store sql --db a.db";
+
+const SHOWN: &str = "fdbrec rows --db=a.db";
+
+/// The first line, if there is one, that does not choose the store of its file.
+fn first_file(alloc: Global) -> Result<Option<&'static str>, AllocError> {
+    let file = String::from_str(alloc, "a.db")?;
+    if !chooses(alloc, APPLIED, &Request::ApplyTo(file))? {
+        return Ok(Some(APPLIED));
+    }
+    let file = String::from_str(alloc, "a.db")?;
+    let is_shown = chooses(alloc, SHOWN, &Request::Rows(file))?;
+    Ok(if is_shown { None } else { Some(SHOWN) })
 }
 
 /// A line, its logs and its degree.
@@ -77,13 +94,18 @@ pub(crate) fn first_end(alloc: Global) -> Result<Option<&'static str>, AllocErro
     Ok(None)
 }
 
-static REFUSED: [(&str, ErrorKind); 21] = [
+static REFUSED: [(&str, ErrorKind); 26] = [
     ("fdbrec", ErrorKind::MissingSubcommand),
     ("fdbrec run", ErrorKind::InvalidSubcommand),
     ("fdbrec --store map", ErrorKind::UnknownArgument),
     ("fdbrec apply --store tree", ErrorKind::InvalidValue),
     ("fdbrec apply --store", ErrorKind::InvalidValue),
     ("fdbrec apply more", ErrorKind::UnknownArgument),
+    ("fdbrec apply --db a.db", ErrorKind::ArgumentConflict),
+    ("fdbrec apply --store map --db a.db", ErrorKind::ArgumentConflict),
+    ("fdbrec apply --store sql --db", ErrorKind::InvalidValue),
+    ("fdbrec rows", ErrorKind::MissingRequiredArgument),
+    ("fdbrec rows --db a.db --store sql", ErrorKind::UnknownArgument),
     ("fdbrec simulate more", ErrorKind::UnknownArgument),
     ("fdbrec --help", ErrorKind::DisplayHelp),
     ("fdbrec --version", ErrorKind::DisplayVersion),

@@ -1,0 +1,25 @@
+//! The commands `apply` and `rows` of `fdbrec` on a store in a file, as a program of its own: it stands on few crates,
+//! and so it is proved and built in a part of the time of the whole.
+#![tactic(auto)]
+
+mod program;
+
+use fr_cli_json::CliFault;
+use fr_cli_words::{Ending, own_words};
+use program::run_program;
+use std::io;
+use std::io::BufWriter;
+use std::process::ExitCode;
+
+fn main(rt: HostRuntime) -> ExitCode {
+    let alloc = rt.alloc();
+    let words = match own_words(&rt, alloc) {
+        Ok(words) => words,
+        Err(status) => return status,
+    };
+    let Ok(mut writer) = BufWriter::new(alloc, io::writer(&rt)) else {
+        return Ending::Fault(CliFault::Memory).say(&rt);
+    };
+    let mut reader = rt.reader();
+    run_program(&rt, alloc, words.as_slice(), &mut reader, &mut writer).say(&rt)
+}
