@@ -1,0 +1,40 @@
+//! Laws of what comes of batches and of recoveries.
+ghost use Rattle.fr_run_outcomes.specs.Lost.{LostOnlySo, NoCellHasTwoValues};
+ghost use Rattle.fr_run_outcomes.specs.Once.{AcknowledgedIsAnswered, AnsweredExactlyOnce, CommittedAtMostOnce};
+ghost use Rattle.fr_run_outcomes.specs.Once.{CommittedWasSubmitted, RequestHasOneNumber};
+
+use fr_run::laws::{chosen_law, node_laws};
+use fr_run_contents::laws::issued_law;
+use fr_run_headline::laws::{headline_law, order_law};
+use fr_run_versions::laws::{proxies_law, seeded_law};
+use fr_state::extend_law;
+
+/// A batch that was submitted, which is a request of a proxy of an epoch, has at most one number, and stands at most once in
+/// the committed list, so at one version; what stands there was submitted. Where a proxy answered that it is committed, it
+/// stands there exactly once, at the version that was answered, then and at each later moment.
+pub fn once_law()
+    ensures number { RequestHasOneNumber }
+    ensures most { CommittedAtMostOnce }
+    ensures submitted { CommittedWasSubmitted }
+    ensures answered { AcknowledgedIsAnswered }
+    ensures exactly { AnsweredExactlyOnce }
+{
+    node_laws();
+    proxies_law();
+    chosen_law();
+    issued_law();
+    headline_law();
+}
+
+/// A recoverer that is lost is so because a cell promised a greater ballot, because there are as many generations as a list
+/// has room for, or because there is no version left. No cell ever finds two values for one ballot; what the cells hold is
+/// always a state; and what a recoverer would open is always later than what it read.
+pub fn lost_law()
+    ensures two { NoCellHasTwoValues }
+    ensures only { LostOnlySo }
+{
+    node_laws();
+    seeded_law();
+    extend_law();
+    order_law();
+}

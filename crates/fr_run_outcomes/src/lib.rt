@@ -1,0 +1,4 @@
+//! What comes of batches and of recoveries in every run.
+#![tactic(auto)]
+
+pub mod laws;
