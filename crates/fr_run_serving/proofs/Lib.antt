@@ -1,0 +1,5 @@
+pub mod Losses
+pub mod Snapshots
+pub mod Settling
+pub mod Letting
+pub mod Serving
