@@ -14,6 +14,12 @@ STATEMENTS = (
     ("Safety", "AreOrdered"),
 )
 RUN = ("fr_runtime", "cluster.rt", "run")
+BESIDE = (
+    ("fr_run_outcomes", "laws.rt", ("once_law", "lost_law")),
+    ("fr_run_serving", "laws.rt", ("serving_law", "loss_law", "snapshot_law")),
+    ("fr_run_progress", "laws.rt", ("pending_law",)),
+    ("fr_run_example", "laws.rt", ("pops_law",)),
+)
 RUN_TYPES = (
     ("fr_runtime", "Rack"),
     ("fr_runtime_threads", "Workload"),
@@ -89,8 +95,8 @@ BELIEVE = """# What must be believed
 
 A proof says that a statement follows. What the statement means is for its reader to judge, and rests on each
 definition that it names and on those that these name. This page has all of them: who goes through it has read all that
-the main theorem and the contract of a running cluster mean, with what is trusted beside. The proofs need not be read,
-nor the code, nor any other definition: those are checked by the prover.
+the main theorem, the contract of a running cluster and the laws beside them mean, with what is trusted. The proofs
+need not be read, nor the code, nor any other definition: those are checked by the prover.
 
 It is made by `docs/tables` from the sources. A definition stands below those that it names, by crate and by module, so
 that it can be read from here to the end, and the text of each is in the file that stands above it. The types of the
@@ -111,6 +117,13 @@ RUN_TEXT = """
 What `Cluster::run` of [crates/{crate}/src/{file}](../crates/{crate}/src/{file}) ensures of
 what it answers: the journals of its nodes are a run of the world, so all that is proved of every run holds of it; what
 each workload was told is what the journals have; and each recoverer that was to begin did.
+"""
+
+BESIDE_TEXT = """
+## The laws beside the main theorem
+
+Laws of every run that nothing else stands on: what comes of batches and of recoveries, what serving logs and storage
+servers answer from, what recoverers wait for, and a run that has what these speak of. Their clauses, by crate:
 """
 
 TRUSTED = """
@@ -152,11 +165,27 @@ def believe(crates, code):
     lines += RUN_TEXT.format(crate=RUN[0], file=RUN[1]).split("\n")
     lines += [broken(f"    {it.strip()}") for it in clauses.split("\n")] + [""]
     lines += counted("## What it names beside those of the main theorem", more) + listed(closure, more)
+    clauses, rest = beside(closure, code)
+    lines += BESIDE_TEXT.split("\n") + clauses
+    lines += counted("## What they name beside those above", rest) + listed(closure, rest)
     used = {it for name in programs(crates) for below in crates.below(name) | {name} for it in crates.kit[below]}
     lines += wrap_items(TRUSTED.format(kit=", ".join(sorted(used))))
     for path, names in sorted(closure.std.items()):
         lines.append(wrapped(f"{path}: {', '.join(sorted(names))}", "- ", "  "))
     return "\n".join(lines) + "\n"
+
+
+def beside(closure, code):
+    """The clauses of the laws that stand beside the theorem, and the definitions that only these rest on."""
+    known, lines = len(closure.order), []
+    for crate, file, laws in BESIDE:
+        path = f"crates/{crate}/src/{file}"
+        text = code.texts[path]
+        lines += [wrapped(f"`{'`, `'.join(laws)}` of [{path}](../{path}):"), ""]
+        for law in laws:
+            closure.take_all(contract_of(text, law), *uses_of(text))
+            lines += [broken(f"    {it.strip()}") for it in contract_of(text, law).split("\n")] + [""]
+    return lines, closure.order[known:]
 
 
 def counted(title, keys):

@@ -1,0 +1,4 @@
+pub mod Lists
+pub mod Asked
+pub mod Pending
+pub mod Exchanged
