@@ -17,7 +17,7 @@ RUN = ("fr_runtime", "cluster.rt", "run")
 BESIDE = (
     ("fr_run_outcomes", "laws.rt", ("once_law", "lost_law")),
     ("fr_run_serving", "laws.rt", ("serving_law", "loss_law", "snapshot_law")),
-    ("fr_run_progress", "laws.rt", ("pending_law",)),
+    ("fr_run_progress", "laws.rt", ("pending_law", "reading_law")),
     ("fr_run_example", "laws.rt", ("pops_law",)),
 )
 RUN_TYPES = (
