@@ -1,4 +1,5 @@
 mod Lemmas
+mod OpeningLemmas
 mod SeveralLemmas
 mod NodeLemmas
 mod ReadLemmas

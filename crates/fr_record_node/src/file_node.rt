@@ -2,8 +2,10 @@
 ghost use Rattle.std.specs.Prelude.{◌≡◌, ◌≢◌, ◌⊎◌, ◌||◌, ◌↔◌, ◌<◌, ◌+◌, ◌-◌, ◌^◌, ◌++◌, min, [], ◌∷◌, Ok, Err, Some, None, List, ℕ, IsOk, IfOk, OnOk, OnErr, IfErr, IsTrue, false};
 ghost use Rattle.fr_base.specs.Faults.{met_device};
 ghost use Rattle.fr_device.specs.Moments.{Throughout};
+ghost use Rattle.fr_device.specs.Moments as moments;
 ghost use Rattle.fr_record.specs.File.{StandsFor};
 ghost use Rattle.fr_record.specs.Failing.{FailsOnceMore};
+ghost use Rattle.fr_record.specs.Opening.{IsOpening, HasGone};
 ghost use Rattle.fr_record_node.specs.Several.{after_all, told_all, written_all};
 ghost use Rattle.fr_record_node.specs.Replay.{replayed, Opens};
 ghost use Rattle.fr_record_node.specs.Node.{HasNoRoom, is_trouble};
@@ -92,7 +94,8 @@ where
 
     /// The node whose file a device holds, whatever a crash made of it. The machine that is handed over was
     /// never asked; it takes the changes of the file. `Broken` where the device holds no record file, or
-    /// one of records that no asks of such a machine write.
+    /// one of records that no asks of such a machine write. A refusal drops the device; what its records outlast is said
+    /// there too, of a device to which calls led.
     pub fn open(alloc: Global, device: D, machine: M) -> Result<Self, NodeFault>
         requires fresh { M.fresh machine ≡ machine }
         requires sound { M.IsSound machine }
@@ -100,8 +103,11 @@ where
         ensures replays { IfOk result (λ node. replayed M.replay (Some machine) node.records ≡ Some node.machine) }
         ensures works { IfOk result (λ node. node.is_failed ≡ false) }
         ensures free { IfOk result (λ node. node.owed ≡ None) }
+        ensures any_moment { IfOk result (λ node. IsOpening D.Led D.disk device node.device) }
+        ensures gone { OnErr result (HasGone D.Led D.disk (met_device result) device) }
         ensures kept { IfOk result (λ node. Throughout D.Led D.disk (Opens M.replay (M.fresh node.machine) (λ x. x
             ≡ node.machine)) node.device node.device) }
+        ensures capacity { IfOk result (λ node. D.capacity_of node.device ≡ D.capacity_of device) }
         ensures broken { (result ≡ Err NodeFault.Broken) → (records : List (List ℕ))
             → StandsFor (D.disk device).content records → replayed M.replay (Some machine) records ≡ None }
         ensures device { (result ≡ Err NodeFault.Device) → FailsOnceMore D.failures_of device }
@@ -145,6 +151,7 @@ where
             (written_all M.after M.written self.old.machine asks.items) }
         ensures owes { (result ≡ Err NodeFault.Device) → self.new.owed ≡ Some (after_all M.after self.old.machine asks.items) }
         ensures owes_still { result ≢ Err NodeFault.Device → self.new.owed ≡ self.old.owed }
+        ensures capacity { D.capacity_of self.new.device ≡ D.capacity_of self.old.device }
         ensures trouble { IfErr result (λ fault. fault ≢ NodeFault.Failed → IsTrue (is_trouble fault)) }
         ensures any_moment { self.old.is_failed ≡ false
             → Throughout D.Led D.disk (Opens M.replay (M.fresh self.old.machine) (λ x. (x ≡ self.old.machine)
@@ -223,7 +230,28 @@ where
 
     ghost CanMeet = { λ fault. IsTrue (is_trouble fault) };
 
-    fn serve(&mut self, alloc: Global, ask: M::Ask) -> Result<M::Tell, NodeFault> {
+    fn serve(&mut self, alloc: Global, ask: M::Ask) -> Result<M::Tell, NodeFault>
+        ensures told { IfOk result (λ tell. tell ≡ M.told self.old.machine ask) }
+        ensures after { OnOk result (self.new.machine ≡ M.after self.old.machine ask) }
+        ensures records { OnOk result (self.new.records ≡ self.old.records ++ M.written self.old.machine ask) }
+        ensures still { M.written self.old.machine ask ≡ [] → self.new.device ≡ self.old.device }
+        ensures err { OnErr result (self.new.machine ≡ self.old.machine) }
+        ensures err_records { OnErr result (self.new.records ≡ self.old.records) }
+        ensures failed { (result ≡ Err NodeFault.Failed) ↔ IsTrue self.old.is_failed }
+        ensures fails { self.new.is_failed ≡ (self.old.is_failed || met_device result) }
+        ensures device { (result ≡ Err NodeFault.Device) → D.failures_of self.new.device ≡ min (D.failures_of self.old.device + 1) (2 ^ 64 - 1) }
+        ensures full { (result ≡ Err NodeFault.Full)
+            → HasNoRoom (D.capacity_of self.old.device) self.old.records (M.written self.old.machine ask) }
+        ensures owes { (result ≡ Err NodeFault.Device) → self.new.owed ≡ Some (M.after self.old.machine ask) }
+        ensures owes_still { result ≢ Err NodeFault.Device → self.new.owed ≡ self.old.owed }
+        ensures capacity { D.capacity_of self.new.device ≡ D.capacity_of self.old.device }
+        ensures trouble { IfErr result (λ fault. fault ≢ NodeFault.Failed → IsTrue (is_trouble fault)) }
+        ensures any_moment { self.old.is_failed ≡ false
+            → moments.Throughout D.Led D.disk (Opens M.replay (M.fresh self.old.machine) (λ x. (x ≡ self.old.machine)
+            ⊎ (x ≡ M.after self.old.machine ask))) self.old.device self.new.device }
+        ensures kept { OnOk result (moments.Throughout D.Led D.disk (Opens M.replay (M.fresh self.new.machine) (λ x. x
+            ≡ self.new.machine)) self.new.device self.new.device) }
+    {
         let asks = match self.only(alloc, ask) {
             Ok(asks) => asks,
             Err(fault) => return Err(fault),

@@ -1,6 +1,7 @@
 //! Bringing a machine back from its file.
 ghost use Rattle.std.specs.Prelude.{◌≡◌, ◌≢◌, ◌+◌, ◌-◌, ◌^◌, min, Err, Some, None, OnOk, OnErr, false};
 ghost use Rattle.fr_record_node.specs.Replay.{replayed};
+ghost use Rattle.fr_record_node.specs.Reading.{IsRead};
 
 use crate::fault::{ReadFault, node_fault};
 use crate::recorded::Recorded;
@@ -20,6 +21,8 @@ pub(super) fn read_all<M: Recorded, D: Device>(
     ensures ok { OnOk result (replayed M.replay (Some machine.old) file.old.records ≡ Some machine.new) }
     ensures broken { (result ≡ Err NodeFault.Broken) → replayed M.replay (Some machine.old) file.old.records ≡ None }
     ensures records { file.new.records ≡ file.old.records }
+    ensures still { IsRead D.Led D.disk file.old.device file.new.device }
+    ensures capacity { D.capacity_of file.new.device ≡ D.capacity_of file.old.device }
     ensures works { OnOk result (file.new.is_failed ≡ false) }
     ensures device { (result ≡ Err NodeFault.Device) → D.failures_of file.new.device ≡ min (D.failures_of file.old.device + 1) (2 ^ 64 - 1) }
     ensures never_full { result ≢ Err NodeFault.Full }

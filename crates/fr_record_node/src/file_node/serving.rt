@@ -90,6 +90,7 @@ fn put_group<D: Device>(
     ensures fails { file.new.is_failed ≡ met_device result }
     ensures device { (result ≡ Err NodeFault.Device) → D.failures_of file.new.device ≡ min (D.failures_of file.old.device + 1) (2 ^ 64 - 1) }
     ensures full { (result ≡ Err NodeFault.Full) → HasNoRoom (D.capacity_of file.old.device) file.old.records (records_of group.now) }
+    ensures capacity { D.capacity_of file.new.device ≡ D.capacity_of file.old.device }
     ensures trouble { IfErr result (λ fault. IsTrue (is_trouble fault)) }
     ensures any_moment { Throughout D.Led D.disk (InFlight file.old.records (records_of group.now)) file.old.device file.new.device }
 {
@@ -131,6 +132,7 @@ where
     ensures full { (result ≡ Err NodeFault.Full)
         → HasNoRoom (D.capacity_of file.old.device) file.old.records
         (written_all M.after M.written machine.old asks.now) }
+    ensures capacity { D.capacity_of file.new.device ≡ D.capacity_of file.old.device }
     ensures trouble { IfErr result (λ fault. IsTrue (is_trouble fault)) }
     ensures asked { (result ≡ Err NodeFault.Device) → All M.IsAsk asks.now }
     ensures left { (result ≡ Err NodeFault.Device)

@@ -1,9 +1,12 @@
-use Rattle.std.proofs.Common.{◌≡◌, Some, Err, ap, sym, ◌∙◌}
+use Rattle.std.proofs.Common.{◌≡◌, Some, Err, ap, sym, ◌∙◌, subst}
 use Rattle.fr_base.specs.declared.node.NodeFault.TheVariants as node
 use Rattle.fr_record_node.specs.Node.{node_fault, after_held, written_held, AreAsks}
 use Rattle.fr_record_node.specs.Replay.{replayed}
 use Rattle.fr_record_node.proofs.Lemmas.{is_broken}
 use Rattle.fr_record_node.proofs.NodeLemmas.{kept_now}
+use Rattle.fr_record_node.proofs.OpeningLemmas.{same_fault, stands_durable, opened_read}
+use Rattle.fr_base.specs.Faults as base
+use Rattle.fr_record.specs.Opening.{HasGone}
 use Rattle.fr_record_node.proofs.file_node.FileNode.open.Goals as goal
 
 pub returns-in-Err-clause-broken : goal.returns-in-Err-clause-broken
@@ -27,3 +30,16 @@ returns-clause-kept g c =
     ∙ c.in-Ok-read_all.ensures.ok in
     kept_now g.D.Device.Led g.D.Device.disk g.M.Recorded.fresh g.M.Recorded.replay (written_held g.M.Machine.after g.M.Recorded.written) (AreAsks g.M.Recorded.IsAsk) g.M.Recorded.IsSound (after_held g.M.Machine.after) c.left_law.ensures.at_rest machine records c.read_all.new.file.device replays
     (c.is_failed-is_failed.ensures.kept c.in-Ok-read_all.ensures.works)
+
+pub returns-clause-any_moment : goal.returns-clause-any_moment
+returns-clause-any_moment g c =
+    opened_read g.D.Device.Led g.D.Device.disk c.args.device c.in-Ok.file.device c.read_all.new.file.device c.in-Ok.ensures.any_moment c.read_all.ensures.still
+
+pub returns-in-Err-clause-gone : goal.returns-in-Err-clause-gone
+returns-in-Err-clause-gone g c =
+    subst (λ b. HasGone g.D.Device.Led g.D.Device.disk b c.args.device) (same_fault c.in-Err.fault ∙ ap base.is_device (sym c.node_fault.ensures)) c.in-Err.ensures.gone
+
+pub returns-in-Err-read_all-clause-gone : goal.returns-in-Err-read_all-clause-gone
+returns-in-Err-read_all-clause-gone g c =
+    let opening = opened_read g.D.Device.Led g.D.Device.disk c.args.device c.in-Ok.file.device c.read_all.new.file.device c.in-Ok.ensures.any_moment c.read_all.ensures.still in
+    (c.read_all.new.file.device, opening, λ e. stands_durable (g.D.Device.disk c.in-Ok.file.device) (g.D.Device.disk c.read_all.new.file.device) c.in-Ok.ensures.durable c.read_all.ensures.still.stands)

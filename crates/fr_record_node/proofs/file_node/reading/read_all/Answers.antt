@@ -1,6 +1,7 @@
 use Rattle.std.proofs.Common.{rules, ◌≡◌, ◌<◌, [], Some, Err, false, length, get_or, sym, ap, ◌∙◌, arith}
 use Rattle.fr_record.specs.State.{record_at}
 use Rattle.fr_record_node.proofs.ReadLemmas.{at_found, read_more, read_none}
+use Rattle.fr_record_node.proofs.OpeningLemmas.{read_on}
 use Rattle.fr_record_node.proofs.file_node.reading.read_all.Goals as goal
 
 pub unreachable-requires : goal.unreachable-requires
@@ -40,6 +41,20 @@ loop-i-preserved g c =
       sound = c.read.ensures.sound;
       same = g.met.M.Recorded.same_read c.loop-i.machine c.read.new.self c.as_slice.result.now reads ∙ c.loop-i.invariant.same;
       failures = c.in-Ok-Some.ensures.no_failure ∙ c.loop-i.invariant.failures;
+      still = read_on g.D.Device.Led g.D.Device.disk c.args.file.now.device c.loop-i.file.device c.get.new.self.device c.loop-i.invariant.still c.get.ensures.stands c.get.ensures.any_moment;
+      capacity = c.get.ensures.capacity ∙ c.loop-i.invariant.capacity;
       end = end;
       so_far = read_more g.M.Recorded.replay c.args.machine.now rs i c.loop-i.machine c.as_slice.result.now within found c.loop-i.invariant.so_far c.read.new.self reads;
     }
+
+pub returns-in-Err-clause-still : goal.returns-in-Err-clause-still
+returns-in-Err-clause-still g c =
+    read_on g.D.Device.Led g.D.Device.disk c.args.file.now.device c.loop-i.file.device c.get.new.self.device c.loop-i.invariant.still c.get.ensures.stands c.get.ensures.any_moment
+
+pub returns-in-Err-Broken-clause-still : goal.returns-in-Err-Broken-clause-still
+returns-in-Err-Broken-clause-still g c =
+    read_on g.D.Device.Led g.D.Device.disk c.args.file.now.device c.loop-i.file.device c.get.new.self.device c.loop-i.invariant.still c.get.ensures.stands c.get.ensures.any_moment
+
+pub returns-in-Err-Memory-clause-still : goal.returns-in-Err-Memory-clause-still
+returns-in-Err-Memory-clause-still g c =
+    read_on g.D.Device.Led g.D.Device.disk c.args.file.now.device c.loop-i.file.device c.get.new.self.device c.loop-i.invariant.still c.get.ensures.stands c.get.ensures.any_moment
