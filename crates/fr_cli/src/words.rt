@@ -85,7 +85,7 @@ fn read_cluster(alloc: Global, matches: &ArgMatches<'_>) -> Result<Request, Erro
     let message = if words.coordinators % 2 == 0 {
         "the value of '--coordinators <N>' is even: it can be 1, 3, 5, 7 or 9"
     } else {
-        "the value of '--degree <N>' is above that of '--logs <N>'"
+        "the value of '--degree <N>', 2 if it is not given, is above that of '--logs <N>'"
     };
     Err(command(alloc)?.error(ErrorKind::ValueValidation, message)?)
 }
