@@ -290,7 +290,7 @@ BUGS = {
         1,
         "tell differs at 36",
         '"peek" .. "upto"',
-        "`upto` is `durable` where all records are given.",
+        "`upto` is `durable` if all records are given.",
     ),
     "numbers-again": Bug(
         {"sequencer": NumbersAgain},
