@@ -13,7 +13,7 @@ FAMILIES = (
     ("Runs", "lists of turns of all nodes, and the laws of every run: the main theorem", r"fr_run.*"),
     ("Nodes over disks", "disks that crash, record files, and nodes over them", r"fr_device|fr_record.*"),
     ("Store in SQL", "the same store in tables of a database", r"fr_sql_.*"),
-    ("Nodes", "cells, logs, sequencers, proxies, recoverers and storage servers, each a machine", r"fr_(register|state|tags|log|ask|tail|epoch|proxy|storage)"),
+    ("Nodes", "cells, logs, sequencers, proxies, recoverers and storage servers, each a machine", r"fr_(register|state|tags|log|ask|tail|epoch|proxy|storage|part|c)"),
     ("Values and the store", "numbers, batches, texts of both, and the store of a shard with undo rows", r"fr_(base|mutation|undo|cli_json)"),
 )
 # what stands beside the main column, and in which one
