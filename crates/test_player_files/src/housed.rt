@@ -2,7 +2,8 @@
 use crate::place::write_node_fault;
 use crate::subjects::Files;
 use fr_audit_journal::{Act, Entry, Journal};
-use fr_base::{Machine, Memory, Node, NodeId, Stamp};
+use fr_base::{InMemory, Machine, Memory, Node, Stamp};
+use fr_device::{FaultyDevice, MemoryDevice};
 use fr_forms::fields::{Fields, items};
 use fr_forms::object::Object;
 use fr_forms::{
@@ -10,6 +11,8 @@ use fr_forms::{
 };
 use fr_log::Log;
 use fr_proxy::Sequencer;
+use fr_record_log::LogNode;
+use fr_record_node::CellNode;
 use fr_register::Cell;
 use fr_runtime_housing::{CallFault, Housable, Housed};
 use serde_json::Value;
@@ -58,26 +61,102 @@ where
     Ok(())
 }
 
-impl<N: Node + Drop> Plays<Housed<N>> for Files
+impl Plays<Housed<InMemory<Cell>>> for Files {
+    fn play_row(
+        &self,
+        alloc: Global,
+        housed: &mut Housed<InMemory<Cell>>,
+        word: &str,
+        given: &mut Fields,
+    ) -> Result<Value, Wrong> {
+        play_housed(alloc, housed, word, given)
+    }
+}
+
+impl Plays<Housed<CellNode<MemoryDevice>>> for Files {
+    fn play_row(
+        &self,
+        alloc: Global,
+        housed: &mut Housed<CellNode<MemoryDevice>>,
+        word: &str,
+        given: &mut Fields,
+    ) -> Result<Value, Wrong> {
+        play_housed(alloc, housed, word, given)
+    }
+}
+
+impl Plays<Housed<InMemory<Log>>> for Files {
+    fn play_row(
+        &self,
+        alloc: Global,
+        housed: &mut Housed<InMemory<Log>>,
+        word: &str,
+        given: &mut Fields,
+    ) -> Result<Value, Wrong> {
+        play_housed(alloc, housed, word, given)
+    }
+}
+
+impl Plays<Housed<LogNode<MemoryDevice>>> for Files {
+    fn play_row(
+        &self,
+        alloc: Global,
+        housed: &mut Housed<LogNode<MemoryDevice>>,
+        word: &str,
+        given: &mut Fields,
+    ) -> Result<Value, Wrong> {
+        play_housed(alloc, housed, word, given)
+    }
+}
+
+impl Plays<Housed<LogNode<FaultyDevice<MemoryDevice>>>> for Files {
+    fn play_row(
+        &self,
+        alloc: Global,
+        housed: &mut Housed<LogNode<FaultyDevice<MemoryDevice>>>,
+        word: &str,
+        given: &mut Fields,
+    ) -> Result<Value, Wrong> {
+        play_housed(alloc, housed, word, given)
+    }
+}
+
+impl Plays<Housed<InMemory<Sequencer>>> for Files {
+    fn play_row(
+        &self,
+        alloc: Global,
+        housed: &mut Housed<InMemory<Sequencer>>,
+        word: &str,
+        given: &mut Fields,
+    ) -> Result<Value, Wrong> {
+        play_housed(alloc, housed, word, given)
+    }
+}
+
+/// A row of a node with its journal.
+fn play_housed<N: Node + Drop>(
+    alloc: Global,
+    housed: &mut Housed<N>,
+    word: &str,
+    given: &mut Fields,
+) -> Result<Value, Wrong>
 where
     N::Plain: Asked,
     <N::Plain as Machine>::Ask: Drop,
 {
-    fn play_row(
-        &self,
-        alloc: Global,
-        housed: &mut Housed<N>,
-        word: &str,
-        given: &mut Fields,
-    ) -> Result<Value, Wrong> {
-        match word {
-            "ask" => ask(alloc, housed, given.of(3)),
-            "crash" => write_stamp(alloc, housed.crash(alloc, stamp_of(given.all())?)),
-            "lose" => write_stamp(alloc, housed.lose(alloc, stamp_of(given.all())?)),
-            "journal" => write_copy(alloc, housed.journal().copy()),
-            "count" => Ok(Value::from(housed.journal().entries().len())),
-            _ => no_such_word("rows of a node with its journal: ask, crash, lose, journal, count"),
+    match word {
+        "ask" => {
+            let fields = given.of(3);
+            let stamp = stamp_of(fields.value("stamp")?)?;
+            let from = read_node(fields.take("from")?)?;
+            let ask = <N::Plain as Asked>::read_ask(alloc, fields.take("ask")?)?;
+            write_told(alloc, housed.ask(alloc, stamp, from, ask))
         }
+        "crash" => write_stamp(alloc, housed.crash(alloc, stamp_of(given.all())?)),
+        "lose" => write_stamp(alloc, housed.lose(alloc, stamp_of(given.all())?)),
+        "journal" => write_copy(alloc, housed.journal().copy()),
+        "count" => Ok(Value::from(housed.journal().entries().len())),
+        _ => no_such_word("rows of a node with its journal: ask, crash, lose, journal, count"),
     }
 }
 
@@ -86,19 +165,8 @@ fn stamp_of(given: &Value) -> Result<Stamp, Wrong> {
 }
 
 /// The stamp with which an ask is entered, or why it is not.
-fn ask<N: Node + Drop>(
-    alloc: Global,
-    housed: &mut Housed<N>,
-    fields: &mut Fields,
-) -> Result<Value, Wrong>
-where
-    N::Plain: Asked,
-    <N::Plain as Machine>::Ask: Drop,
-{
-    let stamp = stamp_of(fields.value("stamp")?)?;
-    let from = read_node(fields.take("from")?)?;
-    let ask = <N::Plain as Asked>::read_ask(alloc, fields.take("ask")?)?;
-    let entered = match housed.ask(alloc, stamp, from, ask) {
+fn write_told<T: Drop>(alloc: Global, told: Result<(Stamp, T), CallFault>) -> Result<Value, Wrong> {
+    let entered = match told {
         Ok((stamp, _tell)) => Ok(stamp),
         Err(fault) => Err(fault),
     };

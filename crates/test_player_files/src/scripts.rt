@@ -1,4 +1,6 @@
 //! Scripts of the commands that run from a script alone, and what these print.
+ghost use Rattle.std.specs.Prelude.{◌<◌, length};
+
 use crate::subjects::Files;
 use fr_cli_apply::{ApplyOptions, StoreKind, run_apply};
 use fr_cli_end::{EndOptions, run_end};
@@ -59,8 +61,8 @@ impl Plays<Command> for Files {
                 read_bytes(alloc, Some(given.all()))?.as_slice(),
             ),
             "fronts" => run_fronts(alloc, *command, text_of(given.all())?.as_bytes()),
-            "changed" => run_changed(alloc, *command, text_of(given.all())?.as_bytes()),
-            "without" => run_without(alloc, *command, text_of(given.all())?.as_bytes()),
+            "changed" => run_changed(alloc, command, text_of(given.all())?.as_bytes()),
+            "without" => run_without(alloc, command, text_of(given.all())?.as_bytes()),
             "state" => Ok(Value::Null),
             _ => no_such_word("rows of apply and end: run, text, bytes, fronts, changed, without"),
         }
@@ -163,25 +165,39 @@ fn run_fronts(alloc: Global, command: Command, script: &[u8]) -> Result<Value, W
 }
 
 /// Null: each byte of a script is changed to each other one, and read both ways.
-fn run_changed(alloc: Global, command: Command, script: &[u8]) -> Result<Value, Wrong> {
+fn run_changed(alloc: Global, command: &Command, script: &[u8]) -> Result<Value, Wrong> {
     for place in 0..script.len() {
         for value in 0..=255_u8 {
-            let mut changed = script.to_vec(alloc)?;
-            if let Some(byte) = changed.get_mut(place) {
-                *byte = value;
-            }
-            let _ran = ran_both(alloc, command, changed.as_slice())?;
+            let changed = with_byte(alloc, script, place, value)?;
+            let _ran = ran_both(alloc, *command, changed.as_slice())?;
         }
     }
     Ok(Value::Null)
 }
 
+/// A copy with another byte at a place.
+fn with_byte(alloc: Global, bytes: &[u8], place: usize, value: u8) -> Result<Vec<u8>, AllocError> {
+    let mut changed = bytes.to_vec(alloc)?;
+    if let Some(byte) = changed.get_mut(place) {
+        *byte = value;
+    }
+    Ok(changed)
+}
+
 /// Null: each byte of a script is taken out, and the rest read both ways.
-fn run_without(alloc: Global, command: Command, script: &[u8]) -> Result<Value, Wrong> {
+fn run_without(alloc: Global, command: &Command, script: &[u8]) -> Result<Value, Wrong> {
     for place in 0..script.len() {
-        let mut shorter = script[..place].to_vec(alloc)?;
-        shorter.extend_from_slice(&script[place + 1..])?;
-        let _ran = ran_both(alloc, command, shorter.as_slice())?;
+        let shorter = without_byte(alloc, script, place)?;
+        let _ran = ran_both(alloc, *command, shorter.as_slice())?;
     }
     Ok(Value::Null)
+}
+
+/// A copy without the byte at a place.
+fn without_byte(alloc: Global, bytes: &[u8], place: usize) -> Result<Vec<u8>, AllocError>
+    requires { place < length bytes.now }
+{
+    let mut shorter = bytes[..place].to_vec(alloc)?;
+    shorter.extend_from_slice(&bytes[place + 1..])?;
+    Ok(shorter)
 }
