@@ -90,6 +90,10 @@ fn raise(number: &AtomicU64, to: u64) {
 impl<E: Eprint, F: Faults> Faults for Progress<'_, E, F> {
     ghost begun = { λ p. F.begun p.faults.now };
 
+    ghost MayBefall = { λ p. F.MayBefall p.faults.now };
+
+    ghost MayCrash = { λ p. F.MayCrash p.faults.now };
+
     fn verdict(&self, to: NodeId, ask: &Ask) -> Verdict {
         if let NodeId::Log { epoch, .. } = to {
             raise(&self.epoch, epoch.get());

@@ -4,5 +4,6 @@ mod Explained
 mod Gathers
 mod Heards
 mod Ordered
+mod Rows
 mod Starts
 mod Took

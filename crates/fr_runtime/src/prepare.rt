@@ -1,6 +1,8 @@
 //! What a cluster starts with.
-ghost use Rattle.std.specs.Prelude.{◌≡◌, ◌++◌, ◌∷◌, ◌<◌, [], false, IfOk, None, OnOk};
+ghost use Rattle.std.specs.Prelude.{◌≡◌, ◌++◌, ◌∷◌, ◌<◌, [], length, map, false, IfOk, None, OnOk};
+ghost use Rattle.fr_base.specs.declared.place.NodeId.TheVariants as node;
 ghost use Rattle.fr_run.specs.Config.{first_generation};
+ghost use Rattle.fr_runtime_station.specs.Named.{cells_named, logs_named};
 
 use crate::fault::Unfinished;
 use fr_base::{
@@ -101,18 +103,22 @@ fn started_log<N: Node<Plain = Log> + Drop>(
     Ok(node)
 }
 
-/// The cells of the start.
+/// The cells of the start, each in its place.
 fn cells<K: Rack>(
     alloc: Global,
     config: &Config,
     rack: &K,
     state: &CoordState,
-) -> Result<Vec<Station<K::Cell>>, Unfinished> {
+) -> Result<Vec<Station<K::Cell>>, Unfinished>
+    ensures number { IfOk result (λ cells. length cells.items ≡ config.now.cells) }
+    ensures named { IfOk result (λ cells. map (λ cell. cell.place) cells.items ≡ cells_named (length cells.items)) }
+{
     let mut all = Vec::new(alloc);
     for index in 0..config.coordinators() {
         let node = started_cell(alloc, rack.cell(alloc, index)?, state)?;
         let place = NodeId::Cell { index };
-        put(&mut all, Station::new(Housed::new(alloc, node, place)))?;
+        let housed = Housed::new(alloc, node, place);
+        put(&mut all, Station::new(housed))?;
     }
     Ok(all)
 }
@@ -126,6 +132,7 @@ fn log_station<K: Rack>(
     index: u8,
 ) -> Result<Station<K::Log>, Unfinished>
     requires place { index < config.now.m }
+    ensures place { IfOk result (λ log. log.place ≡ node.Log 257 index) }
 {
     let _within = config.coordinators();
     let epoch = first_epoch();
@@ -136,16 +143,20 @@ fn log_station<K: Rack>(
     Ok(Station::new(housed))
 }
 
-/// The logs of the start.
+/// The logs of the start, each in its place.
 fn logs<K: Rack>(
     alloc: Global,
     config: &Config,
     rack: &K,
     state: &CoordState,
-) -> Result<Vec<Station<K::Log>>, Unfinished> {
+) -> Result<Vec<Station<K::Log>>, Unfinished>
+    ensures number { IfOk result (λ logs. length logs.items ≡ config.now.m) }
+    ensures named { IfOk result (λ logs. map (λ log. log.place) logs.items ≡ logs_named 257 (length logs.items)) }
+{
     let mut all = Vec::new(alloc);
     for index in 0..config.logs() {
-        put(&mut all, log_station(alloc, config, rack, state, index)?)?;
+        let log = log_station(alloc, config, rack, state, index)?;
+        put(&mut all, log)?;
     }
     Ok(all)
 }

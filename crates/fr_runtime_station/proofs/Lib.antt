@@ -1,3 +1,4 @@
 mod Journals
+pub mod Named
 mod Places
 pub mod Sent

@@ -12,14 +12,17 @@ use Rattle.fr_base.specs.declared.node.Node as node
 use Rattle.fr_runtime_housing.proofs.Sent.{housed-send}
 use Rattle.fr_runtime_housing.specs.contracts.housed.Housed as housed
 use Rattle.fr_log.proofs.ask.LogAsk.TheSendSync as log_ask
+use Rattle.fr_log.specs.contracts.log.step.LogMachine.TheImpl as log_machine
 use Rattle.fr_log.specs.declared.ask.LogAsk.{LogAsk}
 use Rattle.fr_log.specs.declared.ask.LogTell.{LogTell}
 use Rattle.fr_log.specs.declared.log.Log.{Log}
 use Rattle.fr_proxy.proofs.sequencer.Sequencer.TheSendSync as sequencer
 use Rattle.fr_register.proofs.ask.CellAsk.TheSendSync as cell_ask
+use Rattle.fr_register.specs.contracts.cell.CellMachine.TheImpl as cell_machine
 use Rattle.fr_register.specs.declared.ask.CellAsk.{CellAsk}
 use Rattle.fr_register.specs.declared.ask.CellTell.{CellTell}
 use Rattle.fr_register.specs.declared.cell.Cell.{Cell}
+use Rattle.fr_runtime_station.specs.contracts.cells.Cells as cells
 use Rattle.fr_runtime_station.specs.contracts.directory.Directory as directory
 use Rattle.fr_runtime_station.specs.contracts.epoch_nodes.EpochNodes as epoch_nodes
 use Rattle.fr_runtime_station.specs.contracts.epoch_nodes.Logs as logs
@@ -40,19 +43,16 @@ opened-send = search (sendable, crosses, housed-send, in_memory.the_send, sequen
 opened-sync : IsSync opened.the_row
 opened-sync = search (sendable, crosses, housed-send, in_memory.the_send, sequencer.the_send, seq_ask.the_send) depth 40
 
-module _ (L : RattleType) (h : node.Ghosts L.Denot Log LogAsk LogTell) where
-  logs-send : IsSend L → IsSend (logs.the_row L h)
+module _ (L : RattleType) (h : node.Ghosts L.Denot Log LogAsk LogTell) (m : machine.Ghosts Log LogAsk LogTell) where
+  logs-send : IsSend L → IsSend (logs.the_row L h m)
   logs-send l = search (sendable, crosses, station-send, housed-send, log_ask.the_send) depth 40
 
-  logs-sync : IsSend L → IsSync (logs.the_row L h)
+  logs-sync : IsSend L → IsSync (logs.the_row L h m)
   logs-sync l = search (sendable, crosses, station-sync, housed-send, log_ask.the_send) depth 40
 
-  nodes-sync : IsSend L → IsSync (epoch_nodes.the_row L h)
-  nodes-sync l = search (sendable, crosses, once_sync, logs-send, logs-sync, opened-send, opened-sync) depth 40
-
-  first-sync : IsSend L → IsSync (first_nodes.the_field L h).row
+  first-sync : IsSend L → IsSync (first_nodes.the_field L h m).row
   first-sync l =
-      struct_sync (shape (first_nodes.the_type L h)) (
+      struct_sync (shape (first_nodes.the_type L h m)) (
         search (sendable, crosses) depth 40,
         (
           search (sendable, crosses, station-sync, housed-send, log_ask.the_send) depth 40,
@@ -60,11 +60,19 @@ module _ (L : RattleType) (h : node.Ghosts L.Denot Log LogAsk LogTell) where
         ),
       )
 
+module _ (L : RattleType) (h : node.Ghosts L.Denot Log LogAsk LogTell) where
+  nodes-sync : IsSend L → IsSync (epoch_nodes.the_row L h)
+  nodes-sync l = search (sendable, crosses, once_sync, logs-send, logs-sync, opened-send, opened-sync) depth 40
+
+module _ (C : RattleType) (g : node.Ghosts C.Denot Cell CellAsk CellTell) (m : machine.Ghosts Cell CellAsk CellTell) where
+  cells-sync : IsSend C → IsSync (cells.the_field C g m).row
+  cells-sync c = struct_sync (shape (cells.the_type C g m)) (search (sendable, crosses, station-sync, housed-send, cell_ask.the_send) depth 40, tt)
+
 module _ (C L : RattleType) (g : node.Ghosts C.Denot Cell CellAsk CellTell) (h : node.Ghosts L.Denot Log LogAsk LogTell) where
   pub directory-sync : IsSend C → IsSend L → IsSync (directory.the_row C L g h)
   directory-sync c l =
       let S = directory.the_type C L g h in
       recorded_sync _ _ _ S.to_one (struct_sync (shape S) (
-        search (sendable, crosses, station-sync, housed-send, cell_ask.the_send) depth 40,
-        (first-sync L h l, (search (sendable, crosses, nodes-sync) depth 40, tt)),
+        cells-sync C g cell_machine.ghosts c,
+        (first-sync L h log_machine.ghosts l, (search (sendable, crosses, nodes-sync) depth 40, tt)),
       ))

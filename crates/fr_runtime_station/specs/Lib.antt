@@ -1,4 +1,5 @@
 pub mod Answering
 pub mod Called
 pub mod Chosen
+pub mod Named
 pub mod Places

@@ -12,4 +12,4 @@ use Rattle.fr_runtime_station.specs.declared.directory.Directory.{Directory}
 
 -- the places of a directory of these cells and logs
 abbrev pub places_of : {C L : Type 0} {c : node.Ghosts C Cell CellAsk CellTell} {l : node.Ghosts L Log LogAsk LogTell} → Directory C L c l → Places
-places_of d = record { cells = length d.cells.items; start = d.first.chosen; logs = length d.first.logs.items; later = map (λ nodes. nodes.epoch) d.later.items }
+places_of d = record { cells = length d.cells.stations.items; start = d.first.chosen; logs = length d.first.logs.items; later = map (λ nodes. nodes.epoch) d.later.items }

@@ -1,12 +1,14 @@
 //! All nodes that answer asks, where threads find them.
-ghost use Rattle.std.specs.Prelude.{◌≡◌, ◌⊎◌, ◌↔◌, ◌≤◌, ◌<◌, ◌+◌, length, false, slice_get, IfErr, IfOk, IfSome, None, Ok, Err, Some, true};
+ghost use Rattle.std.specs.Prelude.{◌≡◌, ◌⊎◌, ◌↔◌, ◌≤◌, ◌<◌, ◌+◌, length, map, false, slice_get, IfErr, IfOk, IfSome, None, Ok, Err, Some, true};
 ghost use Rattle.fr_ask.specs.declared.ask.Ask.TheVariants as asked;
 ghost use Rattle.fr_base.specs.declared.place.NodeId.TheVariants as node;
 ghost use Rattle.fr_runtime_station.specs.Answering.{IsAnswer, IsClosingTrouble, all_answer, answers, is_asked_of};
 ghost use Rattle.fr_runtime_station.specs.Called.{IsAnswered, IsCall, IsCrash, IsCrashAnswered, IsUncalled, IsUncrashed, is_first, may_come, may_lack, must_lack};
+ghost use Rattle.fr_runtime_station.specs.Named.{cells_named, logs_named};
 ghost use Rattle.fr_runtime_station.specs.Places.{places_of};
 ghost use Rattle.fr_runtime_station.specs.declared.directory_fault.DirectoryFault.{DirectoryFault};
 
+use crate::cells::Cells;
 use crate::chosen::{Chosen, first_stamp, later_of};
 use crate::closing::close_all;
 use crate::directory_fault::DirectoryFault;
@@ -24,20 +26,20 @@ use fr_state::Generation;
 use std::alloc::Global;
 use std::sync::Wait;
 
-/// The cells, logs and sequencers of a cluster, which its threads share. Those of the first epoch are there from the
-/// start; of each later epoch that may come there is nothing but its number, until its recoverer puts its logs there,
-/// and then its sequencer, each with the stamp from which on they are there. To look for a node takes no lock and walks
-/// the epochs, at most one for each ballot.
+/// The cells, logs and sequencers of a cluster, which its threads share, each in its place. Those of the first epoch
+/// are there from the start; of each later epoch that may come there is nothing but its number, until its recoverer
+/// puts its logs there, and then its sequencer, each with the stamp from which on they are there. To look for a node
+/// takes no lock and walks the epochs, at most one for each ballot.
 #[derive(Drop)]
 pub struct Directory<C: Node<Plain = Cell>, L: Node<Plain = Log>> {
-    cells: Vec<Station<C>>,
+    cells: Cells<C>,
     first: FirstNodes<L>,
     later: Vec<EpochNodes<L>>,
 }
 
 impl<C: Node<Plain = Cell> + Drop, L: Node<Plain = Log> + Drop> Directory<C, L> {
-    /// A directory of these cells, of the logs and the sequencer of the first generation, and of these epochs that may
-    /// come. The first generation is there from stamp 0 on.
+    /// A directory of these cells, of the logs and the sequencer of the first generation, all in the order of their
+    /// numbers, and of these epochs that may come. The first generation is there from stamp 0 on.
     pub fn new(
         alloc: Global,
         cells: Vec<Station<C>>,
@@ -46,7 +48,9 @@ impl<C: Node<Plain = Cell> + Drop, L: Node<Plain = Log> + Drop> Directory<C, L> 
         first: Generation,
         epochs: &[Epoch],
     ) -> Result<Self, Memory>
-        requires place { answers sequencer.place ≡ true }
+        requires cells { map (λ cell. cell.place) cells.items ≡ cells_named (length cells.items) }
+        requires logs { map (λ log. log.place) logs.items ≡ logs_named first.epoch (length logs.items) }
+        requires place { sequencer.place ≡ node.Sequencer first.epoch }
         ensures { IfOk result (λ directory. places_of directory ≡ record {
           cells = length cells.items;
           start = record { generation = first; stamp = 0 };
@@ -61,7 +65,7 @@ impl<C: Node<Plain = Cell> + Drop, L: Node<Plain = Log> + Drop> Directory<C, L> 
         };
         let first = FirstNodes::new(chosen, logs, Station::new(sequencer));
         Ok(Directory {
-            cells,
+            cells: Cells::new(cells),
             first,
             later,
         })
@@ -91,15 +95,17 @@ impl<C: Node<Plain = Cell> + Drop, L: Node<Plain = Log> + Drop> Directory<C, L> 
 
     /// The cell of a number.
     pub fn cell(&self, index: u8) -> Option<&Station<C>>
-        ensures { (result ≡ None) ↔ ((places_of self.now).cells ≤ index) }
+        ensures there { (result ≡ None) ↔ ((places_of self.now).cells ≤ index) }
+        ensures found { IfSome result (λ cell. cell.now.place ≡ node.Cell index) }
     {
-        self.cells.get(usize::from(index))
+        self.cells.get(index)
     }
 
     /// A log, once it is there, with the stamp from which on it is. One of the first epoch is there from the start.
     pub fn log(&self, id: LogId) -> Option<(&Station<L>, Stamp)>
         ensures there { (result ≡ None) → may_lack (places_of self.now) (node.Log id.epoch id.index) ≡ true }
         ensures lacking { must_lack (places_of self.now) (node.Log id.epoch id.index) ≡ true → result ≡ None }
+        ensures found { IfSome result (λ found. found.0.now.place ≡ node.Log id.epoch id.index) }
         ensures stamp { is_first (places_of self.now) id.epoch ≡ true
             → IfSome result (λ found. found.1 ≡ (places_of self.now).start.stamp) }
     {
@@ -107,7 +113,7 @@ impl<C: Node<Plain = Cell> + Drop, L: Node<Plain = Log> + Drop> Directory<C, L> 
             let log = self.first.log(id.index)?;
             return Some((log, self.first.chosen().stamp));
         }
-        self.nodes_of(id.epoch)?.log(id.index)
+        self.nodes_of(id.epoch)?.log(id)
     }
 
     /// The sequencer of an epoch, once it is there, with the stamp from which on it is. That of the first epoch is there
@@ -115,13 +121,14 @@ impl<C: Node<Plain = Cell> + Drop, L: Node<Plain = Log> + Drop> Directory<C, L> 
     pub fn sequencer(&self, epoch: Epoch) -> Option<(&Station<InMemory<Sequencer>>, Stamp)>
         ensures there { (result ≡ None) → may_lack (places_of self.now) (node.Sequencer epoch) ≡ true }
         ensures lacking { must_lack (places_of self.now) (node.Sequencer epoch) ≡ true → result ≡ None }
+        ensures found { IfSome result (λ found. found.0.now.place ≡ node.Sequencer epoch) }
         ensures stamp { is_first (places_of self.now) epoch ≡ true
             → IfSome result (λ found. found.1 ≡ (places_of self.now).start.stamp) }
     {
         if self.is_first(epoch) {
             return Some((self.first.sequencer(), self.first.chosen().stamp));
         }
-        self.nodes_of(epoch)?.sequencer()
+        self.nodes_of(epoch)?.sequencer(epoch)
     }
 
     /// The chosen generations, that of the start first, each with the stamp from which on it is.
@@ -153,9 +160,11 @@ impl<C: Node<Plain = Cell> + Drop, L: Node<Plain = Log> + Drop> Directory<C, L> 
 
     /// The logs of an epoch that may come are there from this stamp on, in the order of their numbers. Where its logs came
     /// before, those stay.
-    pub fn publish_logs<R: Wait>(&self, rt: &R, epoch: Epoch, logs: Vec<Station<L>>, stamp: Stamp) {
+    pub fn publish_logs<R: Wait>(&self, rt: &R, epoch: Epoch, logs: Vec<Station<L>>, stamp: Stamp)
+        requires named { map (λ log. log.place) logs.items ≡ logs_named epoch (length logs.items) }
+    {
         if let Some(nodes) = self.nodes_of(epoch) {
-            nodes.put_logs(rt, logs, stamp);
+            nodes.put_logs(rt, epoch, logs, stamp);
         }
     }
 
@@ -167,7 +176,7 @@ impl<C: Node<Plain = Cell> + Drop, L: Node<Plain = Log> + Drop> Directory<C, L> 
         sequencer: Housed<InMemory<Sequencer>>,
         chosen: Chosen,
     )
-        requires place { answers sequencer.place ≡ true }
+        requires place { sequencer.place ≡ node.Sequencer chosen.generation.epoch }
     {
         if let Some(nodes) = self.nodes_of(chosen.generation.epoch()) {
             nodes.open(rt, Station::new(sequencer), chosen);
@@ -370,7 +379,7 @@ impl<C: Node<Plain = Cell> + Drop, L: Node<Plain = Log> + Drop> Directory<C, L> 
             later,
         } = self;
         let mut journals = Vec::new(alloc);
-        close_all(alloc, cells, true, &mut journals)?;
+        close_all(alloc, cells.into_stations(), true, &mut journals)?;
         first.close(alloc, &mut journals)?;
         for nodes in later {
             nodes.close(alloc, &mut journals)?;

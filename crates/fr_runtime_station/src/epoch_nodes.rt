@@ -1,22 +1,35 @@
 //! The logs and the sequencer of an epoch that may come.
-ghost use Rattle.std.specs.Prelude.{◌≡◌, ◌≤◌, length, map, IfErr, IfOk, OnOk, true};
+ghost use Rattle.std.specs.Prelude.{◌≡◌, ◌≤◌, length, map, IfErr, IfOk, IfSome, OnOk, true};
+ghost use Rattle.fr_base.specs.declared.place.NodeId.TheVariants as node;
 ghost use Rattle.fr_runtime_station.specs.Answering.{IsClosingTrouble, all_answer};
+ghost use Rattle.fr_runtime_station.specs.Named.{logs_named};
 
 use crate::chosen::Chosen;
 use crate::closing::{close, close_all};
 use crate::station::Station;
 use fr_audit_journal::Journal;
-use fr_base::{Epoch, InMemory, Memory, Node, NodeFault, Stamp};
+use fr_base::{Epoch, InMemory, LogId, Memory, Node, NodeFault, Stamp};
 use fr_log::Log;
 use fr_proxy::Sequencer;
 use std::alloc::Global;
 use std::sync::{OnceLock, Wait};
 
-/// The logs of a generation, and the stamp from which on they are there.
+/// The logs of an epoch, each in its place, and the stamp from which on they are there.
 #[derive(Drop)]
 struct Logs<L: Node<Plain = Log>> {
+    epoch: Epoch,
     stations: Vec<Station<L>>,
     stamp: Stamp,
+    ghost named: { map (λ log. log.place) stations.items ≡ logs_named epoch (length stations.items) },
+}
+
+impl<L: Node<Plain = Log>> Logs<L> {
+    /// The log of a number.
+    fn get(&self, index: u8) -> Option<&Station<L>>
+        ensures { IfSome result (λ log. log.now.place ≡ node.Log self.now.epoch index) }
+    {
+        self.stations.get(usize::from(index))
+    }
 }
 
 /// The sequencer of a generation whose state is chosen.
@@ -24,10 +37,12 @@ struct Logs<L: Node<Plain = Log>> {
 struct Opened {
     sequencer: Station<InMemory<Sequencer>>,
     chosen: Chosen,
+    ghost named: { sequencer.place ≡ node.Sequencer chosen.generation.epoch },
 }
 
 /// The logs of an epoch that may come, as many as its generation has, and its sequencer. Each come once: until then no
-/// thread finds them, and from then on each does, and waits for nobody.
+/// thread finds them, and from then on each does, and waits for nobody. What comes says itself of which epoch it is,
+/// and is looked for only there: a contract knows nothing of what is written once, but what is true of all of its type.
 #[derive(Drop)]
 pub(crate) struct EpochNodes<L: Node<Plain = Log>> {
     epoch: Epoch,
@@ -68,9 +83,24 @@ impl<L: Node<Plain = Log> + Drop> EpochNodes<L> {
         self.epoch
     }
 
-    /// The logs are there from this stamp on. Where others came before, those stay, and these are dropped.
-    pub(crate) fn put_logs<R: Wait>(&self, rt: &R, stations: Vec<Station<L>>, stamp: Stamp) {
-        let _ = self.logs.set(rt, Logs { stations, stamp });
+    /// The logs of the epoch are there from this stamp on. Where others came before, those stay, and these are dropped.
+    pub(crate) fn put_logs<R: Wait>(
+        &self,
+        rt: &R,
+        epoch: Epoch,
+        stations: Vec<Station<L>>,
+        stamp: Stamp,
+    )
+        requires named { map (λ log. log.place) stations.items ≡ logs_named epoch (length stations.items) }
+    {
+        let _ = self.logs.set(
+            rt,
+            Logs {
+                epoch,
+                stations,
+                stamp,
+            },
+        );
     }
 
     /// The state of the generation is chosen, and its sequencer is there. Where another came before, that one stays, and
@@ -80,20 +110,32 @@ impl<L: Node<Plain = Log> + Drop> EpochNodes<L> {
         rt: &R,
         sequencer: Station<InMemory<Sequencer>>,
         chosen: Chosen,
-    ) {
+    )
+        requires named { sequencer.place ≡ node.Sequencer chosen.generation.epoch }
+    {
         let _ = self.opened.set(rt, Opened { sequencer, chosen });
     }
 
-    /// The log of a number, once it is there, with the stamp from which on it is.
-    pub(crate) fn log(&self, index: u8) -> Option<(&Station<L>, Stamp)> {
+    /// This log, once it is there, with the stamp from which on it is.
+    pub(crate) fn log(&self, id: LogId) -> Option<(&Station<L>, Stamp)>
+        ensures found { IfSome result (λ found. found.0.now.place ≡ node.Log id.epoch id.index) }
+    {
         let logs = self.logs.get()?;
-        let log = logs.stations.get(usize::from(index))?;
+        if logs.epoch != id.epoch {
+            return None;
+        }
+        let log = logs.get(id.index)?;
         Some((log, logs.stamp))
     }
 
-    /// The sequencer, once it is there, with the stamp from which on it is.
-    pub(crate) fn sequencer(&self) -> Option<(&Station<InMemory<Sequencer>>, Stamp)> {
+    /// The sequencer of this epoch, once it is there, with the stamp from which on it is.
+    pub(crate) fn sequencer(&self, epoch: Epoch) -> Option<(&Station<InMemory<Sequencer>>, Stamp)>
+        ensures found { IfSome result (λ found. found.0.now.place ≡ node.Sequencer epoch) }
+    {
         let opened = self.opened.get()?;
+        if opened.chosen.generation.epoch() != epoch {
+            return None;
+        }
         Some((&opened.sequencer, opened.chosen.stamp))
     }
 

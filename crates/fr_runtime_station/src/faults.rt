@@ -19,19 +19,30 @@ pub enum Verdict {
 
 /// What befalls asks and nodes, and when recoverers begin. It is asked by the thread whose turn it is, with no lock held.
 pub trait Faults {
-    ghost use Rattle.std.specs.Prelude.{ℕ, Bool};
+    ghost use Rattle.std.specs.Prelude.{ℕ, Bool, Option};
+    ghost use Rattle.fr_ask.specs.declared.ask.Ask.{Ask};
+    ghost use Rattle.fr_base.specs.declared.place.NodeId.{NodeId};
+    ghost use Rattle.fr_runtime_station.specs.declared.faults.Verdict.{Verdict};
 
     /// Whether the recoverer of a ballot may begin at a turn.
     ghost begun: { Self → ℕ → ℕ → Bool };
 
+    /// What may befall an ask to a node.
+    ghost MayBefall: { Self → NodeId → Ask → Verdict → Type 0 } = { λ faults to ask verdict. Unit {0} };
+
+    /// Which node may crash at a turn of the thread of crashes, and whether none may.
+    ghost MayCrash: { Self → ℕ → Option NodeId → Type 0 } = { λ faults turn node. Unit {0} };
+
     /// What befalls this ask to a node.
-    fn verdict(&self, to: NodeId, ask: &Ask) -> Verdict;
+    fn verdict(&self, to: NodeId, ask: &Ask) -> Verdict
+        ensures { MayBefall self.now to ask.now result };
 
     /// The node told what it was asked.
     fn answered(&self, to: NodeId, ask: &Ask);
 
     /// The node that crashes at this turn of the thread of crashes.
-    fn crash(&self, turn: u32) -> Option<NodeId>;
+    fn crash(&self, turn: u32) -> Option<NodeId>
+        ensures { MayCrash self.now turn result };
 
     /// Whether the recoverer of this ballot, if it did not begin before, begins at this turn of its thread.
     fn begins(&self, ballot: Ballot, turn: u32) -> bool
@@ -50,9 +61,14 @@ pub trait Faults {
 pub struct NoFaults;
 
 impl Faults for NoFaults {
-    ghost use Rattle.std.specs.Prelude.{◌≡◌, ◌+◌, ◌*◌, ◌/◌, ◌==◌};
+    ghost use Rattle.std.specs.Prelude.{◌≡◌, ◌+◌, ◌*◌, ◌/◌, ◌==◌, None};
+    ghost use Rattle.fr_runtime_station.specs.declared.faults.Verdict.TheVariants.{Pass};
 
     ghost begun = { λ f ballot turn. turn + 100 == 100 * (ballot / 256) };
+
+    ghost MayBefall = { λ f to ask verdict. verdict ≡ Pass };
+
+    ghost MayCrash = { λ f turn node. node ≡ None };
 
     fn verdict(&self, _to: NodeId, _ask: &Ask) -> Verdict {
         Verdict::Pass

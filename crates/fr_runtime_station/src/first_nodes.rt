@@ -1,6 +1,8 @@
 //! The logs and the sequencer of the first generation.
-ghost use Rattle.std.specs.Prelude.{◌≡◌, ◌≤◌, ◌+◌, ◌↔◌, length, IfErr, None, OnOk, true};
+ghost use Rattle.std.specs.Prelude.{◌≡◌, ◌≤◌, ◌+◌, ◌↔◌, length, map, IfErr, IfSome, None, OnOk, true};
+ghost use Rattle.fr_base.specs.declared.place.NodeId.TheVariants as node;
 ghost use Rattle.fr_runtime_station.specs.Answering.{IsClosingTrouble, all_answer};
+ghost use Rattle.fr_runtime_station.specs.Named.{logs_named};
 
 use crate::chosen::Chosen;
 use crate::closing::{close, close_all};
@@ -11,13 +13,16 @@ use fr_log::Log;
 use fr_proxy::Sequencer;
 use std::alloc::Global;
 
-/// The logs and the sequencer of the generation with which a cluster starts. They are there from the start, so nothing
-/// is written here while threads run.
+/// The logs and the sequencer of the generation with which a cluster starts, each in its place. They are there from the
+/// start, so nothing is written here while threads run.
 #[derive(Drop)]
 pub(crate) struct FirstNodes<L: Node<Plain = Log>> {
     chosen: Chosen,
     logs: Vec<Station<L>>,
     sequencer: Station<InMemory<Sequencer>>,
+    ghost logs_named: { map (λ log. log.place) logs.items
+        ≡ logs_named chosen.generation.epoch (length logs.items) },
+    ghost sequencer_named: { sequencer.place ≡ node.Sequencer chosen.generation.epoch },
 }
 
 impl<L: Node<Plain = Log> + Drop> FirstNodes<L> {
@@ -27,6 +32,8 @@ impl<L: Node<Plain = Log> + Drop> FirstNodes<L> {
         logs: Vec<Station<L>>,
         sequencer: Station<InMemory<Sequencer>>,
     ) -> Self
+        requires logs { map (λ log. log.place) logs.items ≡ logs_named chosen.generation.epoch (length logs.items) }
+        requires sequencer { sequencer.place ≡ node.Sequencer chosen.generation.epoch }
         ensures chosen { result.chosen ≡ chosen }
         ensures logs { result.logs.items ≡ logs.items }
     {
@@ -46,13 +53,16 @@ impl<L: Node<Plain = Log> + Drop> FirstNodes<L> {
 
     /// The log of a number.
     pub(crate) fn log(&self, index: u8) -> Option<&Station<L>>
-        ensures { (result ≡ None) ↔ (length self.now.logs.items ≤ index) }
+        ensures there { (result ≡ None) ↔ (length self.now.logs.items ≤ index) }
+        ensures found { IfSome result (λ log. log.now.place ≡ node.Log self.now.chosen.generation.epoch index) }
     {
         self.logs.get(usize::from(index))
     }
 
     /// The sequencer.
-    pub(crate) fn sequencer(&self) -> &Station<InMemory<Sequencer>> {
+    pub(crate) fn sequencer(&self) -> &Station<InMemory<Sequencer>>
+        ensures { result.now.place ≡ node.Sequencer self.now.chosen.generation.epoch }
+    {
         &self.sequencer
     }
 
@@ -68,6 +78,7 @@ impl<L: Node<Plain = Log> + Drop> FirstNodes<L> {
             chosen: _,
             logs,
             sequencer,
+            ..
         } = self;
         close_all(alloc, logs, true, journals)?;
         close(alloc, sequencer, true, journals)?;

@@ -2,6 +2,7 @@
 #![tactic(auto)]
 
 mod answering;
+mod cells;
 mod chosen;
 mod closing;
 mod directory;

@@ -19,6 +19,8 @@ pub struct Station<N: Node>
 where
     N::Plain: Housable,
 {
+    /// The node, which stays the same: what is looked up by it needs no lock.
+    pub place: NodeId,
     lock: Mutex<Answering<N>>,
 }
 
@@ -30,8 +32,10 @@ where
     /// A station of this node.
     pub fn new(housed: Housed<N>) -> Self
         requires place { answers housed.place ≡ true }
+        ensures place { result.place ≡ housed.place }
     {
         Station {
+            place: housed.journal().node(),
             lock: Mutex::new(Answering::new(housed)),
         }
     }
@@ -76,7 +80,7 @@ where
     pub fn into_inner(self) -> Housed<N>
         ensures place { answers result.place ≡ true }
     {
-        let Station { lock } = self;
+        let Station { lock, .. } = self;
         lock.into_inner().into_housed()
     }
 }

@@ -1,6 +1,5 @@
 //! Faults that are drawn from a seed while threads run.
-ghost use Rattle.std.specs.Prelude.{◌≡◌, ◌≤◌, ℕ};
-ghost use Rattle.fr_runtime_storm.specs.Draws.{crash_at, verdict_of, word_at};
+ghost use Rattle.std.specs.Prelude.{◌≡◌, ◌≤◌};
 
 use crate::draws::Draws;
 use fr_ask::Ask;
@@ -40,13 +39,19 @@ impl Storm {
 }
 
 impl Faults for Storm {
-    ghost use Rattle.std.specs.Prelude.{◌+◌, ◌*◌, ◌/◌, ◌==◌};
+    ghost use Rattle.std.specs.Prelude.{◌≡◌, ◌+◌, ◌*◌, ◌/◌, ◌==◌, ℕ};
+    ghost use Rattle.fr_runtime_storm.specs.Draws.{crash_at, verdict_of, word_at};
 
     ghost begun = { λ storm ballot turn. turn + 100 == 100 * (ballot / 256) };
 
-    fn verdict(&self, _to: NodeId, _ask: &Ask) -> Verdict
-        ensures drawn { (call : ℕ) × (result ≡ verdict_of self.now.draws.strength (word_at self.now.draws.seed call)) }
-    {
+    ghost MayBefall = { λ storm to ask verdict. (call : ℕ)
+        × (verdict ≡ verdict_of storm.draws.strength (word_at storm.draws.seed call)) };
+
+    ghost MayCrash = { λ storm turn node. (call : ℕ)
+        × (node ≡ crash_at storm.draws.strength storm.draws.coordinators storm.draws.logs turn
+        (word_at storm.draws.seed call)) };
+
+    fn verdict(&self, _to: NodeId, _ask: &Ask) -> Verdict {
         let call = self.next_call();
         self.draws.verdict(call)
     }
@@ -55,10 +60,7 @@ impl Faults for Storm {
         NoFaults.answered(to, ask);
     }
 
-    fn crash(&self, turn: u32) -> Option<NodeId>
-        ensures drawn { (call : ℕ) × (result ≡ crash_at self.now.draws.strength self.now.draws.coordinators
-            self.now.draws.logs turn (word_at self.now.draws.seed call)) }
-    {
+    fn crash(&self, turn: u32) -> Option<NodeId> {
         if turn % 64 == 0 {
             let call = self.next_call();
             return self.draws.crash(call);

@@ -1,3 +1,4 @@
 pub mod Accounts
+mod Rows
 pub mod Steps
 mod Told

@@ -1,7 +1,8 @@
 //! The thread of a ballot: its recoverer begins when the faults say so, and goes on until it is chosen or lost.
-ghost use Rattle.std.specs.Prelude.{◌≡◌, ◌≢◌, ◌≤◌, ◌<◌, ◌+◌, ◌++◌, ◌∷◌, ℕ, [], length, false, IfNone, IfOk, IfSome, IsSome, OnOk, true};
+ghost use Rattle.std.specs.Prelude.{◌≡◌, ◌≢◌, ◌≤◌, ◌<◌, ◌+◌, ◌++◌, ◌∷◌, ℕ, [], length, map, false, IfNone, IfOk, IfSome, IsSome, OnOk, true};
 ghost use Rattle.fr_base.specs.declared.place.NodeId.{NodeId};
 ghost use Rattle.fr_log.specs.LogState.{fresh_log};
+ghost use Rattle.fr_runtime_station.specs.Named.{logs_named};
 ghost use Rattle.fr_runtime_threads.specs.Begins.{StartsWithBegun};
 
 use crate::fault::TurnFault;
@@ -135,7 +136,9 @@ fn fresh_logs<K: Rack>(
     rack: &K,
     generation: Generation,
 ) -> Result<Vec<Station<K::Log>>, NodeFault>
-    ensures { IfOk result (λ logs. length logs.items ≡ generation.m) }
+    ensures number { IfOk result (λ logs. length logs.items ≡ generation.m) }
+    ensures named { IfOk result (λ logs. map (λ log. log.place) logs.items
+        ≡ logs_named generation.epoch (length logs.items)) }
 {
     let mut logs = Vec::new(alloc);
     for index in 0..generation.m() {

@@ -1,6 +1,7 @@
 //! The nodes of epochs that come while threads run.
-ghost use Rattle.std.specs.Prelude.{◌≡◌, true};
-ghost use Rattle.fr_runtime_station.specs.Answering.{answers};
+ghost use Rattle.std.specs.Prelude.{◌≡◌, ◌<◌, length, map, IfOk};
+ghost use Rattle.fr_base.specs.declared.place.NodeId.TheVariants as node;
+ghost use Rattle.fr_runtime_station.specs.Named.{logs_named};
 
 use fr_ask::Ask;
 use fr_base::{Epoch, InMemory, LogId, NodeId, Stamp, Tag, Version};
@@ -24,25 +25,37 @@ fn stamp(number: u64) -> Result<Stamp, Fail> {
 }
 
 /// A generation of 2 logs that both hold each tag.
-fn generation(epoch: Epoch) -> Result<Generation, Fail> {
+fn generation(epoch: Epoch) -> Result<Generation, Fail>
+    ensures epoch { IfOk result (λ generation. generation.epoch ≡ epoch) }
+{
     let first = Version::new(1).ok_or("a version")?;
     Ok(Generation::new(epoch, 2, 2, first, Version::ZERO).ok_or("a generation")?)
 }
 
 fn sequencer(alloc: Global, epoch: Epoch) -> Housed<InMemory<Sequencer>>
-    ensures place { answers result.place ≡ true }
+    ensures place { result.place ≡ node.Sequencer epoch }
 {
     let node = InMemory::new(Sequencer::new(alloc, epoch, Version::ZERO));
     Housed::new(alloc, node, NodeId::Sequencer { epoch })
 }
 
+/// A log of an epoch.
+fn log(alloc: Global, epoch: Epoch, index: u8) -> Station<InMemory<Log>>
+    requires number { index < 2 }
+    ensures place { result.place ≡ node.Log epoch index }
+{
+    let log = InMemory::new(Log::new(alloc, LogId { epoch, index }, 2, 2));
+    Station::new(Housed::new(alloc, log, NodeId::Log { epoch, index }))
+}
+
 /// The logs of an epoch.
-fn logs(alloc: Global, epoch: Epoch) -> Result<Vec<Station<InMemory<Log>>>, Fail> {
+fn logs(alloc: Global, epoch: Epoch) -> Result<Vec<Station<InMemory<Log>>>, Fail>
+    ensures named { IfOk result (λ logs. map (λ log. log.place) logs.items
+        ≡ logs_named epoch (length logs.items)) }
+{
     let mut logs = Vec::new(alloc);
-    for index in 0..2 {
-        let log = InMemory::new(Log::new(alloc, LogId { epoch, index }, 2, 2));
-        logs.push(Station::new(Housed::new(alloc, log, NodeId::Log { epoch, index })))?;
-    }
+    logs.push(log(alloc, epoch, 0))?;
+    logs.push(log(alloc, epoch, 1))?;
     Ok(logs)
 }
 
