@@ -108,7 +108,7 @@ write_more t i u j e = go u (is_wanted t.poll i)
     go (ctell.Refused promised) true = refused_more t.poll i promised j e
     go ctell.TwoValues true = refused_more t.poll i t.ballot j e
 
-write_cells : (t : WriteState) (i : ℕ) (u : CellTell) → (hear_write t i u).poll.cells ≡ t.poll.cells
+pub write_cells : (t : WriteState) (i : ℕ) (u : CellTell) → (hear_write t i u).poll.cells ≡ t.poll.cells
 write_cells t i u = go u (is_wanted t.poll i)
   where
     refused : (promised : ℕ) (x : Progress) → (refused_at x t.poll i promised).cells ≡ t.poll.cells
@@ -134,27 +134,27 @@ poll_less f p q same more s k =
 
 -- ---- replies, seeds and marks
 
-replied_more : (end : EndState) (x : Reply) (j : ℕ) → has_replied end j ≡ true → has_replied (with_reply end x) j ≡ true
+pub replied_more : (end : EndState) (x : Reply) (j : ℕ) → has_replied end j ≡ true → has_replied (with_reply end x) j ≡ true
 replied_more end x j e = go (counts end x.log)
   where
     go : (b : Bool) → has_replied (cond b (record end { replies = end.replies ++ x ∷ [] }) end) j ≡ true
     go true = any_more (λ y. y.log == j) end.replies (x ∷ []) e
     go false = e
 
-in_more : (logs : List ℕ) (i j : ℕ) → is_in logs j ≡ true → is_in (logs ++ i ∷ []) j ≡ true
+pub in_more : (logs : List ℕ) (i j : ℕ) → is_in logs j ≡ true → is_in (logs ++ i ∷ []) j ≡ true
 in_more logs i j e = any_more (λ other. other == j) logs (i ∷ []) e
 
 -- ---- copies
 
 -- the part of another tag stays, and so do the ends, the shape and the responders of a copy
-record IsSameBut (tag : ℕ) (s n : TailState) : Type 0 where
-  m : n.m ≡ s.m
-  k : n.k ≡ s.k
-  responders : n.responders ≡ s.responders
-  rv : n.rv ≡ s.rv
-  pev : n.pev ≡ s.pev
-  others : (t : ℕ) → (t ≡ tag → ⊥) → part_at n t ≡ part_at s t
-  further : part_at n tag ≡ part_at s tag ⊎ ((part_at s tag).reached < (part_at n tag).reached)
+pub record IsSameBut (tag : ℕ) (s n : TailState) : Type 0 where
+  pub m : n.m ≡ s.m
+  pub k : n.k ≡ s.k
+  pub responders : n.responders ≡ s.responders
+  pub rv : n.rv ≡ s.rv
+  pub pev : n.pev ≡ s.pev
+  pub others : (t : ℕ) → (t ≡ tag → ⊥) → part_at n t ≡ part_at s t
+  pub further : part_at n tag ≡ part_at s tag ⊎ ((part_at s tag).reached < (part_at n tag).reached)
 
 same_tail : (tag : ℕ) (s : TailState) → IsSameBut tag s s
 same_tail tag s = record { m = refl; k = refl; responders = refl; rv = refl; pev = refl; others = λ t other. refl; further = inl refl }
@@ -171,7 +171,7 @@ with_part_other s tag p below more = record {
 }
 
 -- an answer to a peek brings the part of its tag further, or changes nothing
-peek_takes : (s : TailState) (log tag : ℕ) (peeked : PeekedContent) → IsSameBut tag s (after_peeked s log tag peeked)
+pub peek_takes : (s : TailState) (log tag : ℕ) (peeked : PeekedContent) → IsSameBut tag s (after_peeked s log tag peeked)
 peek_takes s log tag peeked = go (is_responder s log tag) refl
   where
     part : TagPart

@@ -2,3 +2,15 @@ pub mod Lists
 pub mod Asked
 pub mod Pending
 pub mod Exchanged
+pub mod Going
+pub mod Counts
+pub mod Lose
+pub mod Waiting
+pub mod Reading
+pub mod Locking
+pub mod Copies
+pub mod Copying
+pub mod Seeding
+pub mod Writing
+pub mod Recovering
+pub mod Hearing

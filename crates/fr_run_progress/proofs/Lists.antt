@@ -1,10 +1,12 @@
 -- What is left to be done of some numbers is no more once more is done.
-use Rattle.std.proofs.Common.{◌≡◌, ℕ, Bool, true, false, cond, not, ◌||◌, map, filter, List, [], ◌∷◌, ◌++◌, inl, inr, refl, sym, ◌∙◌, subst}
+use Rattle.std.proofs.Common.{◌≡◌, ℕ, ◌+◌, ◌<◌, Bool, true, false, cond, not, ◌||◌, map, filter, List, [], ◌∷◌, ◌++◌, inl, inr, refl, sym, ◌∙◌, ap, subst, arith}
 use Rattle.std.specs.Prelude.{flat_map}
 use Rattle.std.specs.List.{Contains, list_any, range_with_len}
 use Rattle.std.proofs.lemmas.Bool.{true≢false}
 use Rattle.std.proofs.lemmas.List.Elements.{Contains-append_left, Contains-append_right, Contains-append_cases}
 use Rattle.fr_epoch.specs.Asks.{left}
+use Rattle.std.proofs.lemmas.List.FromFn.{length-range_with_len, get_or-range_with_len}
+use Rattle.fr_run_headline.proofs.Places.{filter_has}
 use Rattle.fr_run.proofs.Cells.{Contains-here, Contains-later, Contains-none, Contains-cases}
 
 -- a test that more passes leaves less
@@ -25,6 +27,13 @@ filtered p q (x ∷ xs) more i k = go (p x) refl (q x) refl k (filtered p q xs m
 -- so it is of the numbers below one
 pub left_less : (n : ℕ) (p q : ℕ → Bool) → ((i : ℕ) → p i ≡ true → q i ≡ true) → (i : ℕ) → Contains (left n q) i → Contains (left n p) i
 left_less n p q more i k = filtered p q (range_with_len 0 n) more i k
+
+pub in_range : (n i : ℕ) → i < n → Contains (range_with_len 0 n) i
+in_range n i l = (i, (let e = length-range_with_len 0 n in omega (arith, e, l)), (let e = get_or-range_with_len 0 n i i l in e ∙ (let z : 0 + i ≡ i = omega arith in z)))
+
+-- a number that a test does not pass is left
+pub left_has : (n : ℕ) (p : ℕ → Bool) (i : ℕ) → i < n → p i ≡ false → Contains (left n p) i
+left_has n p i l e = filter_has (λ x. not (p x)) (range_with_len 0 n) i (in_range n i l) (ap not e)
 
 -- and of what is made of each
 pub map_from : {X : Type 0} (f : ℕ → X) (xs : List ℕ) (x : X) → Contains (map f xs) x → (i : ℕ) × Contains xs i × (f i ≡ x)

@@ -1,7 +1,18 @@
 //! Laws of recoveries that go on.
+ghost use Rattle.fr_run_progress.specs.Copying.{CopyingEnds, SeedingEnds};
+ghost use Rattle.fr_run_progress.specs.Hearing.{MarkIsHeard};
+ghost use Rattle.fr_run_progress.specs.Locking.{LockingEnds};
 ghost use Rattle.fr_run_progress.specs.Pending.{PendingIsSent, PendingMayBeHeard};
+ghost use Rattle.fr_run_progress.specs.Reading.{ReadingEnds};
+ghost use Rattle.fr_run_progress.specs.Recovering.{NoDeadEnd};
+ghost use Rattle.fr_run_progress.specs.Writing.{WritingEnds};
 
-use fr_run::laws::node_laws;
+use fr_run::laws::{node_laws, parents_law};
+use fr_run_contents::laws::contents_law;
+use fr_run_headline::laws::{follow_law, let_go_law};
+use fr_run_outcomes::laws::lost_law;
+use fr_run_versions::laws::{seeded_law, told_law};
+use fr_tags::laws::cover_law;
 
 /// Each ask whose answer a recoverer still wants it has sent. So where the node that is asked and the recoverer are up,
 /// there are two turns with which the run goes on: the node is asked and tells, and the recoverer hears it.
@@ -10,4 +21,80 @@ pub fn pending_law()
     ensures heard { PendingMayBeHeard }
 {
     node_laws();
+}
+
+/// The first phase comes to an end: from every moment of every run, a ballot that may begin, and above which no cell of
+/// some majority promised, finds its parent, which a cell of that majority had, in turns in which nothing is lost.
+pub fn reading_law()
+    ensures { ReadingEnds }
+{
+    node_laws();
+    lost_law();
+}
+
+/// The second phase comes to an end: a recoverer that is up and locks the logs of a generation of which fewer than k
+/// are lost comes to know the end of the epoch, in turns in which nothing is lost, and has a plan or no room for one.
+pub fn locking_law()
+    ensures { LockingEnds }
+{
+    node_laws();
+    pending_law();
+    lost_law();
+    seeded_law();
+}
+
+/// The third phase comes to an end: a recoverer that is up and copies has copied all, in turns in which nothing is lost,
+/// if of each tag a log that replied to it and holds the tag is up.
+pub fn copying_law()
+    ensures { CopyingEnds }
+{
+    node_laws();
+    pending_law();
+    contents_law();
+    let_go_law();
+}
+
+/// And then all logs of the new generation are seeded, in turns in which nothing is lost, if none of them is lost.
+pub fn seeding_law()
+    ensures { SeedingEnds }
+{
+    node_laws();
+    pending_law();
+}
+
+/// The last phase comes to an end: the state of a recoverer that is up and writes is chosen, in turns in which nothing
+/// is lost, if no cell of some majority promised a greater ballot.
+pub fn writing_law()
+    ensures { WritingEnds }
+{
+    node_laws();
+    pending_law();
+    lost_law();
+    cover_law();
+}
+
+/// A recovery has no dead end: from every moment of every run, a ballot that may begin is chosen in turns in which
+/// nothing is lost, or finds that there is no room, if no cell of some majority promised a greater one, and of the last
+/// generation of the greatest state that these cells have fewer than k logs are lost.
+pub fn recovery_law()
+    ensures { NoDeadEnd }
+{
+    node_laws();
+    parents_law();
+    cover_law();
+    reading_law();
+    locking_law();
+    copying_law();
+    seeding_law();
+    writing_law();
+}
+
+/// Where a log of an epoch is up and has its mark, each storage server comes to keep that epoch's state, in turns in which
+/// nothing is lost, unless it keeps the state of a greater epoch.
+pub fn hearing_law()
+    ensures { MarkIsHeard }
+{
+    node_laws();
+    told_law();
+    follow_law();
 }

@@ -1,0 +1,19 @@
+-- How a run goes on.
+use Rattle.std.specs.Prelude.{◌≡◌, ◌≤◌, ℕ, List, ◌++◌, All}
+use Rattle.fr_base.specs.declared.place.NodeId.{NodeId}
+use Rattle.fr_run.specs.Config.{Config}
+use Rattle.fr_run.specs.Turn.{Turn, Gone}
+use Rattle.fr_run.specs.Nodes.{cell_at}
+use Rattle.fr_run.specs.Run.{IsRun}
+
+-- a turn in which nothing is lost and nothing crashes for good
+abbrev pub LosesNothing : Turn → Type 0
+LosesNothing t = (who : NodeId) → t ≡ Gone who → ⊥
+
+-- a run goes on to a later moment without a loss, and no cell that promised no ballot above this one comes to promise one
+pub record GoesOn (c : Config) (b : ℕ) (h later : List Turn) : Type 0 where
+  pub more : List Turn
+  pub is : more ++ h ≡ later
+  pub is_run : IsRun c later
+  pub lossless : All LosesNothing more
+  pub low : (i : ℕ) → (cell_at c h i).promised ≤ b → (cell_at c later i).promised ≤ b
