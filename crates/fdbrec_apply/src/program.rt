@@ -1,7 +1,9 @@
 //! The program over its words, a reader and a writer.
 use clap::error::{Error, ErrorKind};
 use fr_cli_apply::{ApplyOptions, run_apply};
-use fr_cli_words::{Ending, StoreKind, apply_command, program_command, read_store, show};
+use fr_cli_words::{
+    Ending, StoreKind, apply_command, bad_words, program_command, read_store, show,
+};
 use std::alloc::Global;
 use std::io::{Read, Write};
 
@@ -30,15 +32,17 @@ fn read_words(alloc: Global, words: &[String]) -> Result<ApplyOptions, Error> {
         }),
         StoreKind::Sql => {
             let message = "this program has no store in tables: the whole program has";
-            Err(command(alloc)?.error(ErrorKind::InvalidValue, message)?)
+            let apply = apply_command(alloc)?;
+            Err(bad_words(apply, "fdbrec apply", ErrorKind::InvalidValue, message)?)
         }
     }
 }
 
-/// The kind of store that the words name, else a map.
+/// The kind of store that the words name, else a map. A file is one of tables.
 fn read_kind(alloc: Global, words: &[String]) -> Result<StoreKind, Error> {
     let matches = command(alloc)?.try_get_matches_from(words)?;
     match matches.subcommand_matches("apply") {
+        Some(apply) if apply.get_str("db").is_some() => Ok(StoreKind::Sql),
         Some(apply) => Ok(read_store(apply)),
         None => Ok(StoreKind::Map),
     }

@@ -12,8 +12,8 @@ version that it holds, KNOWN the greatest that it knows to be committed: numbers
 
 It prints a line for each reply:
 
-  none                  the replies do not cover yet: only those of more than M - K logs have
-                        a log of each tag among them
+  none                  not known yet: only the replies of more than M - K logs have a log of each
+                        tag among them
   pev P rv R            the end of the epoch: all through P is known to be committed, and the
                         next epoch takes over all through R
   inconsistent          P would be above R: a log knows a version to be committed that
@@ -40,9 +40,9 @@ The script is read from standard input. It says what a world starts from, and st
 
   {\"config\":{\"coordinators\":3,\"degree\":2,\"logs\":2,\"proxies\":1,\"shards\":[\"\"]},\"steps\":[..]}
 
-There are 1, 3, 5, 7 or 9 coordinators, 1 to 16 logs, each tag on degree of them, 1 to 16 proxies,
-and a storage server for each shard, of the keys from where it begins, in lower case hex, on. The
-first epoch is 257, its first version 1. A step is one of
+There are 1, 3, 5, 7 or 9 coordinators, 1 to 16 logs, each tag on degree of them, and 1 to 16 proxies.
+Of each shard its first key is given, in lower case hex; it has one storage server. The first epoch is
+257, its first version 1. A step is one of
 
   {\"commit\":{\"epoch\":E,\"proxy\":P,\"step\":D,\"batch\":[..],\"logs\":[I,..]}}
       a proxy takes a batch, has it numbered D above the last version, and pushes it to these logs;
@@ -97,8 +97,8 @@ output failed. A bad script prints no line.";
 
 /// What stands below the help of `audit`.
 pub(crate) const AUDIT_HELP: &str = "\
-The script is read from standard input. It says what a world starts from, as that of simulate does,
-and what each node says that it did:
+The script is read from standard input. It says what a world starts from, as a script of simulate does,
+and then what each node did, as that node tells it:
 
   {\"config\":{..},\"journals\":[{\"node\":NODE,\"entries\":[{\"stamp\":N,\"act\":ACT},..],\"last\":LAST},..]}
 
@@ -142,38 +142,43 @@ or output failed. A bad script prints no line.";
 
 /// What stands below the help of `cluster`.
 pub(crate) const CLUSTER_HELP: &str = "\
-Coordinators, logs, a sequencer and proxies run in memory, with a workload for each proxy, storage
+It runs coordinators, logs, a sequencer and proxies in memory, with a workload for each proxy, storage
 servers that pull, and recoverers. Each workload, storage server and recoverer has a thread, and takes
-turns in it: in a turn a workload hands out a batch, where it has none open, and its proxy sends each
-ask whose tell it wants once; a storage server asks one log for its records and one for the mark of
-the newest epoch, and has one of its own epoch let go of what it has for good; a recoverer sends each
-ask whose tell it wants once. Recovery I, counted from 1, begins at turn 100 I of its thread, or never
-where that is above the number of turns; one that begins while another is not done may end it. Where
-nothing is said of a storm no ask is lost and no node crashes. Batch J of workload W sets one key, of
-two bytes, 8 (J mod the number of storage servers) and W, to J, as four bytes.
+turns in it:
 
-In a storm, N of 256 asks are faulty on average: lost, or what is told of them is lost, or they come
-twice and are heard twice, each as often. At each 64th of its turns a further thread crashes a
-coordinator or a log of the first epoch, in N of 256 draws, each as often. Batches set, add to, combine
-or clear one of four keys of a shard. All is drawn from the seed: the faults by the count of the asks
-and draws of crashes so far, so the same words repeat the draws, while which thread meets which draw
-still differs from run to run. With --storm 256 each ask is faulty.
+  workload         hands out a batch, if none is open; its proxy then sends each ask whose tell it
+                   waits for, once
+  storage server   asks one log for its records, and one for the mark of the newest epoch; it has a
+                   log of its own epoch let go of what it has for good
+  recoverer        sends each ask whose tell it waits for, once
+
+Recovery I, counted from 1, begins at turn 100 I of its thread, if there are so many turns. One that
+begins while another is not done may end it. Batch J of workload W sets one key to J, as four bytes. The
+key has two bytes: 8 (J mod the number of storage servers), and W. Without --storm no ask is lost and no
+node crashes.
+
+In a storm N of 256 asks are faulty on average, and with --storm 256 each one is. A faulty ask is lost,
+or what is told of it is lost, or it comes twice and is heard twice, each as often. At each 64th of its
+turns a further thread crashes a coordinator or a log of the first epoch, in N of 256 draws, each as
+often. Batches set, add to, combine or clear one of four keys of a shard. All is drawn from the seed, by
+the count of the asks and of the draws so far. So the same words repeat the draws, but which thread
+meets which draw differs from run to run.
 
 With --store sql coordinators and logs keep what they have in record files, each on a device in memory
-with room for 16 MiB, and the storage servers their rows in the tables of databases in memory. It
-prints the same.
+with room for 16 MiB. Storage servers keep their rows in the tables of databases in memory. It prints
+the same.
 
-Each node keeps a journal of what it did. Once all threads are at their end the journals are audited,
-as by the command audit, and one line is printed:
+Each node keeps a journal of what it did. When all threads are done the journals are audited, as by the
+command audit, and one line is printed:
 
   audit ok                the journals are a run: all that is proved of runs holds of this one
 
-or the line of a fault, as audit prints it. With --journal the script of that audit is printed in
-place of audit ok, on one line: fdbrec audit reads it, and bench/timeline draws it.
+or the line of a fault, as audit prints it. With --journal the script of that audit is printed in place
+of audit ok, on one line: fdbrec audit reads it, and bench/explore makes a page of it.
 
-Where the words say nothing, 3 coordinators, 4 logs, each tag on 2 of them, 2 storage servers and 2
-proxies run, each workload has 20 batches, and one recovery begins. Which thread comes when, and with
-it what the journals say, differs from run to run.
+By default 3 coordinators, 4 logs, each tag on 2 of them, 2 storage servers and 2 proxies run. Each
+workload has 20 batches, and one recovery begins. Which thread comes when, and so what the journals say,
+differs from run to run.
 
 Statuses: 0 a run; 1 a fault of the journals; 2 bad words; 3 out of memory, or a thread, a node or a
 store could not be made, or one failed; 4 output failed. It reads no input, and takes memory for each

@@ -10,7 +10,7 @@ mod program;
 mod words;
 
 pub use fr_cli_apply::{ApplyOptions, run_apply, run_apply_on};
-pub use fr_cli_apply_sql::run_apply_sql;
+pub use fr_cli_apply_sql::{DbFault, FileFault, run_apply_db, run_apply_sql, run_rows_db};
 pub use fr_cli_audit::run_audit;
 pub use fr_cli_cluster::{ClusterOptions, ClusterWords, DEFAULTS, run_cluster};
 pub use fr_cli_cluster_sql::run_cluster_sql;
@@ -46,6 +46,7 @@ pub fn run_main<H: Threads + Wait + Sync>(rt: &HostRuntime, threads: &H) -> Exit
     run_program(
         threads,
         terminal,
+        rt,
         alloc,
         words.as_slice(),
         &mut reader,

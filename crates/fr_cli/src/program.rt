@@ -2,6 +2,7 @@
 use crate::apply::apply_to;
 use crate::cluster::cluster_on;
 use crate::words::{Request, read_words};
+use fr_cli_apply_sql::{DbFault, run_apply_db, run_rows_db};
 use fr_cli_audit::run_audit;
 use fr_cli_end::run_end;
 use fr_cli_json::CliFault;
@@ -13,10 +14,11 @@ use std::sync::Wait;
 use std::thread::Threads;
 
 /// Does what the words ask for, the first of which is the program's name. Where there is a terminal, a cluster that runs
-/// says there how far it has come.
+/// says there how far it has come. Files are those of `host`.
 pub fn run_program<H: Threads + Wait + Sync, E: Eprint + Sync, R: Read, W: Write>(
     rt: &H,
     terminal: Option<&E>,
+    host: &HostRuntime,
     alloc: Global,
     words: &[String],
     reader: &mut R,
@@ -26,26 +28,45 @@ pub fn run_program<H: Threads + Wait + Sync, E: Eprint + Sync, R: Read, W: Write
         Ok(request) => request,
         Err(error) => return show(alloc, error, writer),
     };
-    match run(rt, terminal, alloc, request, reader, writer) {
+    match request {
+        Request::ApplyTo(name) => {
+            in_file(run_apply_db(host, alloc, name.as_str(), reader, writer))
+        }
+        Request::Rows(name) => in_file(run_rows_db(host, alloc, name.as_str(), writer)),
+        Request::Apply(kind) => ending(apply_to(kind, alloc, reader, writer)),
+        Request::End(options) => ending(run_end(alloc, options, reader, writer)),
+        Request::Simulate => ending(run_simulate(alloc, reader, writer)),
+        Request::Audit => ending(run_audit(alloc, reader, writer)),
+        Request::Cluster(kind, options) => {
+            cluster_ending(cluster_on(kind, rt, terminal, alloc, options, writer))
+        }
+    }
+}
+
+/// How a command ends.
+fn ending(answer: Result<u8, CliFault>) -> Ending {
+    match answer {
         Ok(status) => Ending::Done(status),
         Err(fault) => Ending::Fault(fault),
     }
 }
 
-/// Runs a command.
-fn run<H: Threads + Wait + Sync, E: Eprint + Sync, R: Read, W: Write>(
-    rt: &H,
-    terminal: Option<&E>,
-    alloc: Global,
-    request: Request,
-    reader: &mut R,
-    writer: &mut W,
-) -> Result<u8, CliFault> {
-    match request {
-        Request::Apply(kind) => apply_to(kind, alloc, reader, writer),
-        Request::End(options) => run_end(alloc, options, reader, writer),
-        Request::Simulate => run_simulate(alloc, reader, writer),
-        Request::Audit => run_audit(alloc, reader, writer),
-        Request::Cluster(kind, options) => cluster_on(kind, rt, terminal, alloc, options, writer),
+/// How a cluster ends. Its answer does not tell which of these it was.
+fn cluster_ending(answer: Result<u8, CliFault>) -> Ending {
+    match answer {
+        Err(CliFault::Memory) => Ending::Named(
+            "out of memory, or a thread, a node or a store could not be made, or one failed",
+            CliFault::Memory.status(),
+        ),
+        answer => ending(answer),
+    }
+}
+
+/// How a command on a file ends.
+fn in_file(answer: Result<u8, DbFault>) -> Ending {
+    match answer {
+        Ok(status) => Ending::Done(status),
+        Err(DbFault::Command(fault)) => Ending::Fault(fault),
+        Err(DbFault::Files(fault)) => Ending::Named(fault.text(), fault.status()),
     }
 }

@@ -4,14 +4,21 @@ use clap::error::{Error, ErrorKind};
 use clap::{Arg, ArgAction, ArgMatches, Command, value_parser};
 use fr_cli_cluster::{ClusterOptions, ClusterWords, DEFAULTS};
 use fr_cli_end::EndOptions;
-use fr_cli_words::{StoreKind, apply_command, of_kind, program_command, read_store};
+use fr_cli_words::{
+    MIXED, StoreKind, StoreWords, apply_command, bad_words, of_kind, program_command, read_file,
+    read_store, read_store_words, rows_command,
+};
 use std::alloc::Global;
 
 /// What the words ask for.
-#[derive(Clone, Copy, Debug, PartialEq, Eq)]
+#[derive(Debug, Drop, PartialEq, Eq)]
 pub enum Request {
     /// The operations of a script, run on an empty store.
     Apply(StoreKind),
+    /// The operations of a script, run on the store of the file of this name.
+    ApplyTo(String),
+    /// The store of the file of this name, shown.
+    Rows(String),
     /// The end of an epoch, from the replies of a script.
     End(EndOptions),
     /// The steps of a script, taken in a world.
@@ -43,9 +50,24 @@ fn read_request(alloc: Global, matches: &ArgMatches<'_>) -> Result<Request, Erro
     if let Some(cluster) = matches.subcommand_matches("cluster") {
         return read_cluster(alloc, cluster);
     }
+    if let Some(rows) = matches.subcommand_matches("rows") {
+        return Ok(Request::Rows(read_file(alloc, rows)?));
+    }
     match matches.subcommand_matches("apply") {
-        Some(apply) => Ok(Request::Apply(read_store(apply))),
+        Some(apply) => read_apply(alloc, apply),
         None => Ok(Request::Apply(StoreKind::Map)),
+    }
+}
+
+/// Reads which store `apply` is to run on.
+fn read_apply(alloc: Global, matches: &ArgMatches<'_>) -> Result<Request, Error> {
+    match read_store_words(alloc, matches)? {
+        StoreWords::Memory(kind) => Ok(Request::Apply(kind)),
+        StoreWords::File(name) => Ok(Request::ApplyTo(name)),
+        StoreWords::Mixed => {
+            let apply = apply_command(alloc)?;
+            Err(bad_words(apply, "fdbrec apply", ErrorKind::ArgumentConflict, MIXED)?)
+        }
     }
 }
 
@@ -58,7 +80,8 @@ fn read_end(alloc: Global, matches: &ArgMatches<'_>) -> Result<Request, Error> {
         Some(options) => Ok(Request::End(options)),
         None => {
             let message = "the value of '--degree <K>' is above that of '--logs <M>'";
-            Err(command(alloc)?.error(ErrorKind::ValueValidation, message)?)
+            let end = end_command(alloc)?;
+            Err(bad_words(end, "fdbrec end", ErrorKind::ValueValidation, message)?)
         }
     }
 }
@@ -87,7 +110,13 @@ fn read_cluster(alloc: Global, matches: &ArgMatches<'_>) -> Result<Request, Erro
     } else {
         "the value of '--degree <N>', 2 if it is not given, is above that of '--logs <N>'"
     };
-    Err(command(alloc)?.error(ErrorKind::ValueValidation, message)?)
+    let cluster = cluster_command(alloc)?;
+    Err(bad_words(
+        cluster,
+        "fdbrec cluster",
+        ErrorKind::ValueValidation,
+        message,
+    )?)
 }
 
 /// The number of a word, below 256, or what it is where the word is not there.
@@ -102,9 +131,10 @@ fn number(matches: &ArgMatches<'_>, name: &str, default: u32) -> u32 {
 
 fn command<'a>(alloc: Global) -> Result<Command<'a>, Error> {
     let program = program_command(alloc).after_help(
-        "All commands but cluster read a script from standard input: 'fdbrec apply --help' shows one.",
+        "All commands but cluster and rows read a script from standard input: 'fdbrec apply --help' shows one.",
     );
     let program = with(program, apply_command(alloc))?;
+    let program = with(program, rows_command(alloc))?;
     let program = with(program, end_command(alloc))?;
     let program = with(program, Ok(simulate_command(alloc)))?;
     let program = with(program, Ok(audit_command(alloc)))?;

@@ -1,7 +1,11 @@
-//! The command `apply` of `fdbrec` on a store whose rows stand in the tables of a database in memory.
+//! The command `apply` of `fdbrec` on a store whose rows stand in the tables of a database, in memory or in files.
 #![tactic(auto)]
 
+mod db;
+mod fault;
+mod host;
 mod memory_file;
+mod show;
 
 ghost use Rattle.std.specs.Prelude.{◌≡◌};
 ghost use Rattle.fr_cli_json.specs.Calls.{no_calls, HasCause};
@@ -10,9 +14,12 @@ ghost use Rattle.fr_cli_apply.specs.Script.{script_of};
 ghost use Rattle.fr_cli_apply.specs.Lines.{lines_of};
 
 use crate::memory_file::blank_files;
+pub use db::{apply_on_files, show_files};
+pub use fault::{DbFault, FileFault};
 use fr_cli_apply::apply_counted_on;
 use fr_cli_json::{CallCounts, CliFault};
 use fr_sql_files::SqlFileStore;
+pub use host::{HostFile, run_apply_db, run_rows_db};
 use std::alloc::Global;
 use std::io::{Read, Write};
 

@@ -140,18 +140,20 @@ const BLANK: [u8; 108] = [
     0, 0, 0, 0, 0, 0, 0, 0, 0, 0, 0, 46, 118, 136, 13, 0, 0, 0, 0, 4, 0, 0,
 ];
 
-/// The two files of a database with no table and small pages.
-pub(crate) fn blank_files(alloc: Global) -> Result<Files<MemoryFile>, AllocError> {
-    let mut page = vec![in alloc; 0; PAGE_SIZE]?;
-    page[..BLANK.len()].copy_from_slice(&BLANK);
-    Ok(Files {
+/// A database file of these bytes, with an empty log.
+pub(crate) fn files_of(alloc: Global, bytes: Vec<u8>) -> Files<MemoryFile> {
+    Files {
         log: MemoryFile {
             bytes: Vec::new(alloc),
             faults: 0,
         },
-        db: MemoryFile {
-            bytes: page,
-            faults: 0,
-        },
-    })
+        db: MemoryFile { bytes, faults: 0 },
+    }
+}
+
+/// The two files of a database with no table and small pages.
+pub(crate) fn blank_files(alloc: Global) -> Result<Files<MemoryFile>, AllocError> {
+    let mut page = vec![in alloc; 0; PAGE_SIZE]?;
+    page[..BLANK.len()].copy_from_slice(&BLANK);
+    Ok(files_of(alloc, page))
 }

@@ -1,7 +1,7 @@
-//! The words of the command `apply`, and the word for a kind of store.
+//! The words of the commands `apply` and `rows`, and those for a store.
 use clap::error::Error;
 use clap::{Arg, ArgAction, ArgMatches, Command};
-use std::alloc::Global;
+use std::alloc::{AllocError, Global};
 
 /// What a store keeps its rows in.
 #[derive(Clone, Copy, Debug, PartialEq, Eq)]
@@ -20,11 +20,64 @@ pub fn apply_command<'a>(alloc: Global) -> Result<Command<'a>, Error> {
     let store = Arg::new(alloc, "store")
         .long("store")
         .help("What the store keeps its rows in");
+    let file = of_file(alloc).help(
+        "The file that keeps the rows, with --store sql; else they are in memory",
+    );
     let apply = Command::new(alloc, "apply")
-        .about("Runs store operations on an empty store")
+        .about("Runs store operations on an empty store, or on that of a file")
         .after_help(APPLY_HELP)
-        .arg(of_kind(store))?;
+        .arg(of_kind(store))?
+        .arg(file)?;
     Ok(apply)
+}
+
+/// The command `rows`, with its word and its help.
+pub fn rows_command<'a>(alloc: Global) -> Result<Command<'a>, Error> {
+    let file = of_file(alloc)
+        .help("The file that keeps the rows")
+        .required(true);
+    let rows = Command::new(alloc, "rows")
+        .about("Shows the store of a file")
+        .after_help(ROWS_HELP)
+        .arg(file)?;
+    Ok(rows)
+}
+
+/// A word that takes the name of a file.
+fn of_file<'a>(alloc: Global) -> Arg<'a> {
+    Arg::new(alloc, "db")
+        .long("db")
+        .value_name("FILE")
+        .action(ArgAction::Set)
+}
+
+/// Which store words name.
+#[derive(Debug, Drop, PartialEq, Eq)]
+pub enum StoreWords {
+    /// One in memory.
+    Memory(StoreKind),
+    /// That of the file of this name.
+    File(String),
+    /// A file for a store that is no database: bad words.
+    Mixed,
+}
+
+/// What is wrong with [`StoreWords::Mixed`].
+pub const MIXED: &str = "'--db <FILE>' goes with '--store sql' alone";
+
+/// Reads which store the words of `apply` name.
+pub fn read_store_words(alloc: Global, matches: &ArgMatches<'_>) -> Result<StoreWords, AllocError> {
+    let kind = read_store(matches);
+    match (matches.get_str("db"), kind) {
+        (None, _) => Ok(StoreWords::Memory(kind)),
+        (Some(name), StoreKind::Sql) => Ok(StoreWords::File(String::from_str(alloc, name)?)),
+        (Some(_), StoreKind::Map) => Ok(StoreWords::Mixed),
+    }
+}
+
+/// Reads the name of a file, which is there where the words were taken.
+pub fn read_file(alloc: Global, matches: &ArgMatches<'_>) -> Result<String, AllocError> {
+    String::from_str(alloc, matches.get_str("db").unwrap_or(""))
 }
 
 /// A word that takes a kind of store, and is a map where it is not there.
@@ -73,7 +126,9 @@ It prints a line for each operation, and then the rows of the store:
                         AboveApplied
   KEY VALUE             a row, - for no bytes
 
-With --store sql the rows are kept in the tables of a database in memory. It prints the same.
+With --store sql the rows are kept in the tables of a database in memory. It prints the same. With
+--db FILE too they are kept in that file, which is made where it is missing, and the operations go on
+from the store that it holds. A line is printed once what it says stands in the file.
 
 For instance
 
@@ -92,5 +147,16 @@ prints
   ok 5 floor 0 undo 1
   61 01
 
-Statuses: 0 done, refused operations included; 2 bad script, or bad words; 3 out of memory;
-4 input or output failed. A bad script prints no line.";
+Statuses: 0 done, refused operations included; 2 bad script, or bad words, or the file holds no
+store; 3 out of memory, or the store is busy, full or failed; 4 input or output failed. A bad script
+prints no line.";
+
+/// What stands below the help of `rows`.
+const ROWS_HELP: &str = "\
+It reads no input, and prints where the store of the file stands, and then its rows, as apply does:
+
+  ok A floor F undo U   the version applied, the floor and the number of undo rows
+  KEY VALUE             a row, - for no bytes
+
+Statuses: 0 done; 2 bad words, or the file is missing or holds no store; 3 out of memory, or the
+store is busy, full or failed; 4 output failed.";

@@ -4,5 +4,8 @@
 mod apply;
 mod program;
 
-pub use apply::{StoreKind, apply_command, of_kind, read_store};
-pub use program::{BAD_WORDS, Ending, own_words, program_command, show};
+pub use apply::{
+    MIXED, StoreKind, StoreWords, apply_command, of_kind, read_file, read_store, read_store_words,
+    rows_command,
+};
+pub use program::{BAD_WORDS, Ending, bad_words, own_words, program_command, show};

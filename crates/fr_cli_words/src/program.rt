@@ -2,7 +2,7 @@
 use clap::Command;
 use clap::error::{Error, ErrorKind};
 use fr_cli_json::CliFault;
-use std::alloc::Global;
+use std::alloc::{AllocError, Global};
 use std::io;
 use std::io::{Eprint, Write};
 use std::process::ExitCode;
@@ -13,6 +13,9 @@ const VERSION: &str = "0.2.0 (rattle logic dac8208d650f15bf)";
 /// The status of bad words.
 pub const BAD_WORDS: u8 = 2;
 
+/// What is said to who names a script's file.
+const FILE_TIP: &str = "  tip: a script is read from standard input, as in 'fdbrec apply < FILE'";
+
 /// How a program ends. What is to be said on standard error is left to who has one.
 #[derive(Debug, Drop)]
 pub enum Ending {
@@ -20,8 +23,12 @@ pub enum Ending {
     Done(u8),
     /// The command ended early.
     Fault(CliFault),
+    /// It ended early by what this text says, with this status.
+    Named(&'static str, u8),
     /// The words choose no command.
     BadWords(Error),
+    /// They are bad words, since they have one, and it is no option: a script's file, it seems.
+    FileNamed(Error),
 }
 
 impl Ending {
@@ -30,7 +37,9 @@ impl Ending {
         match self {
             Ending::Done(status) => *status,
             Ending::Fault(fault) => fault.status(),
+            Ending::Named(_, status) => *status,
             Ending::BadWords(_) => BAD_WORDS,
+            Ending::FileNamed(_) => BAD_WORDS,
         }
     }
 
@@ -39,7 +48,9 @@ impl Ending {
         let _ = match self {
             Ending::Done(_) => Ok(()),
             Ending::Fault(fault) => eprintln!(rt; "{fault}"),
+            Ending::Named(text, _) => eprintln!(rt; "{text}"),
             Ending::BadWords(error) => rt.eprint(error),
+            Ending::FileNamed(error) => eprintln!(rt; "{error}\n{FILE_TIP}"),
         };
         ExitCode::from(self.status())
     }
@@ -77,12 +88,40 @@ pub fn show<W: Write>(alloc: Global, error: Error, writer: &mut W) -> Ending {
         return Ending::Fault(CliFault::Memory);
     }
     if error.use_stderr() {
-        return Ending::BadWords(error);
+        return match names_file(alloc, &error) {
+            Ok(true) => Ending::FileNamed(error),
+            Ok(false) => Ending::BadWords(error),
+            Err(_) => Ending::Fault(CliFault::Memory),
+        };
     }
     match write_help(alloc, &error, writer) {
         Ok(()) => Ending::Done(0),
         Err(fault) => Ending::Fault(fault),
     }
+}
+
+/// Whether words are bad for one that no command takes, and that is no option.
+fn names_file(alloc: Global, error: &Error) -> Result<bool, AllocError> {
+    if error.kind() != ErrorKind::UnknownArgument {
+        return Ok(false);
+    }
+    let text = format!(in alloc; "{error}")?;
+    let text = text.as_str();
+    Ok(
+        text.starts_with("error: unexpected argument '")
+            && !text.starts_with("error: unexpected argument '-"),
+    )
+}
+
+/// Bad words of a command of the program: what is wrong with them, and the usage of that command. `name` is that of the
+/// program and of the command.
+pub fn bad_words(
+    command: Command<'_>,
+    name: &str,
+    kind: ErrorKind,
+    message: &str,
+) -> Result<Error, AllocError> {
+    command.bin_name(name)?.error(kind, message)
 }
 
 /// Writes help or the version.

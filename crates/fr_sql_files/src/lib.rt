@@ -8,6 +8,7 @@ mod sql_file_store;
 mod table_store;
 mod tables;
 
+pub use fr_sql_store::OpenFault;
 pub use kept::Kept;
 pub use sql_file_store::SqlFileStore;
 pub use table_store::TableStore;

@@ -1,14 +1,15 @@
 //! A store in files that opens them again after a fault.
-ghost use Rattle.std.specs.Prelude.{◌≡◌, ◌≢◌, ◌↔◌, false, Err, IfOk, IfErr, IsTrue};
+ghost use Rattle.std.specs.Prelude.{◌≡◌, ◌≢◌, ◌↔◌, [], false, Err, IfOk, IfErr, IsTrue};
 ghost use Rattle.fr_undo.specs.State.{StoreState, fresh};
 ghost use Rattle.fr_undo.specs.Calls.{IsTrouble};
 ghost use Rattle.fr_sql_work.specs.Calls.{MeetsAll};
 ghost use Rattle.fr_sql_store.specs.Files.{HoldStore};
+ghost use Rattle.fr_sql_store.specs.Opening.{IsOpenFault};
 
 use crate::shut::Shut;
 use crate::table_store::{Link, TableStore};
 use fr_sql_rows::FaithfulDisk;
-use fr_sql_store::SqlStore;
+use fr_sql_store::{OpenFault, SqlStore};
 use fr_undo::{ShardStore, StoreFault};
 use sqlite::{FileStore, Files};
 use std::alloc::Global;
@@ -53,6 +54,26 @@ impl<D: FaithfulDisk + Drop> SqlFileStore<D> {
         Ok(TableStore {
             link: Link::Open(SqlStore::open(alloc, files)?),
         })
+    }
+
+    /// The store that files hold, or an empty one in files that hold no table yet, with nothing applied. The files are
+    /// not trusted: what holds something else is refused. What refuses drops the files.
+    ///
+    /// # Errors
+    ///
+    /// `NoStore`: the files hold something else. `Fault`: they failed, have no room, or a growth was refused.
+    pub fn open_or_create(alloc: Global, files: Files<D>) -> Result<Self, OpenFault>
+        ensures found { IfOk result (λ store. (x : StoreState) → HoldStore D.Disk files x → ⟦<SqlFileStore<D> as ShardStore>⟧.state store ≡ x) }
+        ensures made { IfOk result (λ store. D.Disk.seen files.db ≡ [] → ⟦<SqlFileStore<D> as ShardStore>⟧.state store ≡ fresh) }
+        ensures works { IfOk result (λ store. ⟦<SqlFileStore<D> as ShardStore>⟧.is_failed store ≡ false) }
+        ensures trouble { IfErr result IsOpenFault }
+    {
+        match SqlStore::open_or_create(alloc, files) {
+            Ok(store) => Ok(TableStore {
+                link: Link::Open(store),
+            }),
+            Err(fault) => Err(fault),
+        }
     }
 
     /// Gives the files back, which then hold what the store did. What refuses drops the files.

@@ -42,15 +42,32 @@ static STORES: [(&str, StoreKind); 5] = [
 
 const SIMULATION: &str = "fdbrec simulate";
 
-/// The first line, if there is one, that does not choose its store, or the simulation.
+/// The first line, if there is one, that does not choose its store, the simulation, or its file.
 fn first_store(alloc: Global) -> Result<Option<&'static str>, AllocError> {
     for &(line, kind) in &STORES {
         if !chooses(alloc, line, &Request::Apply(kind))? {
             return Ok(Some(line));
         }
     }
-    let is_chosen = chooses(alloc, SIMULATION, &Request::Simulate)?;
-    Ok(if is_chosen { None } else { Some(SIMULATION) })
+    if !chooses(alloc, SIMULATION, &Request::Simulate)? {
+        return Ok(Some(SIMULATION));
+    }
+    first_file(alloc)
+}
+
+const APPLIED: &str = "fdbrec apply --store sql --db a.db";
+
+const SHOWN: &str = "fdbrec rows --db=a.db";
+
+/// The first line, if there is one, that does not choose the store of its file.
+fn first_file(alloc: Global) -> Result<Option<&'static str>, AllocError> {
+    let file = String::from_str(alloc, "a.db")?;
+    if !chooses(alloc, APPLIED, &Request::ApplyTo(file))? {
+        return Ok(Some(APPLIED));
+    }
+    let file = String::from_str(alloc, "a.db")?;
+    let is_shown = chooses(alloc, SHOWN, &Request::Rows(file))?;
+    Ok(if is_shown { None } else { Some(SHOWN) })
 }
 
 /// A line, its logs and its degree.
@@ -79,13 +96,24 @@ fn first_end(alloc: Global) -> Result<Option<&'static str>, AllocError> {
     Ok(None)
 }
 
-static REFUSED: [(&str, ErrorKind); 21] = [
+static REFUSED: [(&str, ErrorKind); 26] = [
     ("fdbrec", ErrorKind::MissingSubcommand),
     ("fdbrec run", ErrorKind::InvalidSubcommand),
     ("fdbrec --store map", ErrorKind::UnknownArgument),
     ("fdbrec apply --store tree", ErrorKind::InvalidValue),
     ("fdbrec apply --store", ErrorKind::InvalidValue),
     ("fdbrec apply more", ErrorKind::UnknownArgument),
+    ("fdbrec apply --db a.db", ErrorKind::ArgumentConflict),
+    (
+        "fdbrec apply --store map --db a.db",
+        ErrorKind::ArgumentConflict,
+    ),
+    ("fdbrec apply --store sql --db", ErrorKind::InvalidValue),
+    ("fdbrec rows", ErrorKind::MissingRequiredArgument),
+    (
+        "fdbrec rows --db a.db --store sql",
+        ErrorKind::UnknownArgument,
+    ),
     ("fdbrec simulate more", ErrorKind::UnknownArgument),
     ("fdbrec --help", ErrorKind::DisplayHelp),
     ("fdbrec --version", ErrorKind::DisplayVersion),
@@ -128,6 +156,47 @@ fn first_refused(alloc: Global) -> Result<Option<&'static str>, AllocError> {
     Ok(None)
 }
 
+/// A line, and what is said to who gives it.
+static SAID: [(&str, &str); 3] = [
+    (
+        "fdbrec end --logs 2 --degree 3",
+        "error: the value of '--degree <K>' is above that of '--logs <M>'\n\n\
+         Usage: fdbrec end --logs <M> --degree <K>\n\nFor more information, try '--help'.\n",
+    ),
+    (
+        "fdbrec cluster --logs 1",
+        "error: the value of '--degree <N>', 2 if it is not given, is above that of '--logs <N>'\n\n\
+         Usage: fdbrec cluster [OPTIONS]\n\nFor more information, try '--help'.\n",
+    ),
+    (
+        "fdbrec cluster --coordinators 2",
+        "error: the value of '--coordinators <N>' is even: it can be 1, 3, 5, 7 or 9\n\n\
+         Usage: fdbrec cluster [OPTIONS]\n\nFor more information, try '--help'.\n",
+    ),
+];
+
+/// Whether this is said to who gives a line.
+fn says(alloc: Global, line: &str, wanted: &str) -> Result<bool, AllocError> {
+    let words = words_of(alloc, line)?;
+    match read_words(alloc, words.as_slice()) {
+        Ok(_) => Ok(false),
+        Err(error) => {
+            let text = format!(in alloc; "{error}")?;
+            Ok(text.as_str() == wanted)
+        }
+    }
+}
+
+/// The first line, if there is one, to which something else is said.
+fn first_said(alloc: Global) -> Result<Option<&'static str>, AllocError> {
+    for &(line, wanted) in &SAID {
+        if !says(alloc, line, wanted)? {
+            return Ok(Some(line));
+        }
+    }
+    Ok(None)
+}
+
 /// Says that a table holds, or the first line of it that does not.
 pub(crate) fn holds(rt: &impl Abort, wrong: Option<&'static str>) -> Result<(), Fail> {
     assert!(rt; wrong.is_none(), "{wrong:?}");
@@ -147,4 +216,9 @@ fn words_choose_the_end_of_an_epoch(rt: HostRuntime) -> Result<(), Fail> {
 #[test]
 fn other_words_are_refused(rt: HostRuntime) -> Result<(), Fail> {
     holds(&rt, first_refused(rt.alloc())?)
+}
+
+#[test]
+fn mistakes_are_told_with_the_usage_of_their_command(rt: HostRuntime) -> Result<(), Fail> {
+    holds(&rt, first_said(rt.alloc())?)
 }
