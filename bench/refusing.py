@@ -117,9 +117,13 @@ def of_program(ended, first):
     return "same" if is_same else f"status {ended.status}, with what no run with all of its memory says"
 
 
+# (a cluster's answer does not tell memory from a thread, a node or a store)
+UNMADE = b"out of memory, or a thread, a node or a store could not be made, or one failed\n"
+
+
 def of_cluster(ended, _):
     if ended.status == 3:
-        is_bare = not ended.said and ended.complained == b"out of memory\n"
+        is_bare = not ended.said and ended.complained in (b"out of memory\n", UNMADE)
         return "wanted" if is_bare else "status 3, and lines"
     is_ok = ended.said == b"audit ok\n" or ended.said.startswith(b'{"config":{')
     return "same" if ended.status == 0 and is_ok and not ended.complained else f"status {ended.status}"
