@@ -106,19 +106,23 @@ class Browser:
         self.call("Emulation.setDeviceMetricsOverride", width=width, height=height, deviceScaleFactor=1, mobile=False)
 
     def open(self, path, words=""):
-        """Opens a file, and waits until its script is through. Answers the seconds that this took."""
+        """Opens a file, and waits until all of it is read. Answers the seconds until it was first shown, and until all
+        was."""
         self.events = []
         self.call("Page.navigate", url="about:blank")
         begun = time.monotonic()
         self.call("Page.navigate", url=f"file://{path}" + (f"#{words}" if words else ""))
-        while self.value("document.readyState === 'complete' && typeof page !== 'undefined'") is not True:
+        taken = []
+        for is_so in ("document.readyState === 'complete' && typeof page !== 'undefined'", "page.run.isDone"):
+            while self.value(is_so) is not True:
+                self.refuse_faults()
+                if time.monotonic() - begun > 60:
+                    raise Fault("the page does not open")
+                time.sleep(0.02)
             self.refuse_faults()
-            if time.monotonic() - begun > 60:
-                raise Fault("the page does not open")
-            time.sleep(0.02)
-        self.refuse_faults()
-        self.settle()
-        return time.monotonic() - begun
+            self.settle()
+            taken.append(time.monotonic() - begun)
+        return taken
 
     def settle(self):
         """Waits until what was asked to be drawn is drawn."""

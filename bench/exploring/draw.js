@@ -7,27 +7,32 @@ const WORDS = '12px system-ui, "DejaVu Sans", sans-serif', SMALL = '11px system-
 class Picture {
   constructor(canvas, run) {
     Object.assign(this, { canvas, run, pen: canvas.getContext("2d"), lane: LEAST_LANE, x: 0, scale: 40, top: 0, step: 0, hits: new Set() });
-    this.lanes = lanesOf(run);
-    this.lanes.forEach((node, at) => (node.lane = at));
-    this.bands = bandsOf(run);
+    this.onlyNews = false;
     this.fit();
-    this.rows = Math.max(0, ...this.bands.map((it) => it.row + 1));
-    this.show(false);
+    this.renew();
   }
-  /** Which entries have a column: all, or those that bring something new. */
+  /** Takes what the run holds now. */
+  renew() {
+    this.lanes = lanesOf(this.run);
+    this.lanes.forEach((node, at) => (node.lane = at));
+    this.bands = bandsOf(this.run);
+    this.rows = this.bands.reduce((most, it) => Math.max(most, it.row + 1), 0);
+    this.show(this.onlyNews);
+  }
+  /** Which entries have a column: of those that were read all, or those that bring something new. */
   show(onlyNews) {
-    const { entries } = this.run;
-    this.onlyNews = onlyNews;
-    this.columnOf = new Float64Array(entries.length);
+    const { entries, read, shown } = this.run;
+    [this.onlyNews, this.shown] = [onlyNews, shown];
+    this.columnOf = new Float64Array(shown);
     this.entryAt = [];
-    entries.forEach((it, at) => {
-      const isShown = !onlyNews || it.news || at >= this.run.read;
+    for (let at = 0; at < shown; at++) {
+      const isShown = !onlyNews || entries[at].news || at >= read;
       this.columnOf[at] = this.entryAt.length - (isShown ? 0 : 0.5);
       if (isShown) this.entryAt.push(at);
-    });
+    }
   }
   column(at) {
-    return at < 0 ? -1 : this.columnOf[at];
+    return at < 0 ? -1 : at < this.shown ? this.columnOf[at] : this.entryAt.length;
   }
   isShown(at) {
     return at >= 0 && Number.isInteger(this.columnOf[at]);
@@ -234,8 +239,8 @@ class Picture {
   drawArrows() {
     const [from, upto] = this.view(), seen = new Set();
     for (let column = from; column <= upto; column++)
-      for (const number of this.run.entries[this.entryAt[column]].arrows || []) seen.add(number);
-    for (const number of seen) this.drawArrow(this.run.arrows[number]);
+      for (const it of this.run.arrowsAt(this.entryAt[column])) seen.add(it);
+    for (const it of seen) this.drawArrow(it.isLost ? it : arrowOf(it));
     this.drawn.arrows = seen.size;
   }
   drawArrow(it) {
@@ -317,6 +322,11 @@ class Picture {
   }
 }
 
+/** The arrow of an entry: of its ask, to where it came, or of its tell, to where it was heard. */
+function arrowOf({ word, from, node, x0, at, late, again, isUndated }) {
+  return { kind: word === "asked" ? "ask" : "tell", from, to: node, x0, x1: at, isLate: late, isAgain: again, isUndated };
+}
+
 // ---- bars and shapes, told apart without colour
 
 const BARS = {
@@ -394,7 +404,7 @@ function lanesOf(run) {
 }
 
 function bandsOf(run) {
-  const ends = [], last = run.entries.length - 1;
+  const ends = [], last = run.shown - 1;
   return run.recoveries.map((it) => {
     const to = it.mark ?? it.lost ?? last, row = ends.findIndex((end) => end < it.begun);
     const end = it.chosen !== null ? `pev ${it.pev}, rv ${it.rv}` : it.lost !== null ? recoveryEnd(it) : "not done";

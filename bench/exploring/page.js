@@ -3,12 +3,16 @@
 
 const at = (id) => document.getElementById(id);
 
+// for how many milliseconds a run is read before the page first shows it, and then each time between keys and clicks
+const FIRST_READ = 250, NEXT_READ = 40;
+
 class Page {
   constructor() {
     const begun = performance.now();
-    this.run = new Run(JSON.parse(at("journals").textContent));
+    this.run = new Run(JSON.parse(at("journals").textContent), false);
+    this.readFor(FIRST_READ);
     this.picture = new Picture(at("picture"), this.run);
-    Object.assign(this, { follow: true, items: [], hit: -1, asked: false });
+    Object.assign(this, { follow: true, items: [], hit: -1, asked: false, isMoved: false });
     this.words = new URLSearchParams(location.hash.slice(1));
     this.theme(this.words.get("theme") || (matchMedia("(prefers-color-scheme: dark)").matches ? "dark" : "light"));
     this.legend();
@@ -16,6 +20,34 @@ class Page {
     this.listen();
     this.open();
     this.opened = performance.now() - begun;
+    this.readOn(begun);
+  }
+
+  /** Reads on for so many milliseconds, or to the end. */
+  readFor(most) {
+    const begun = performance.now();
+    do this.run.take(200);
+    while (!this.run.isDone && performance.now() - begun < most);
+  }
+
+  /** Reads a long run to its end, a part at a time, so that the page answers meanwhile; then shows all of it. */
+  readOn(begun) {
+    if (this.run.isDone) return (this.whole = performance.now() - begun);
+    setTimeout(() => {
+      this.readFor(NEXT_READ);
+      this.sums();
+      if (this.run.isDone) this.renew();
+      this.readOn(begun);
+    });
+  }
+
+  /** Shows a run that was read to its end: where the user did nothing meanwhile, as it opens. */
+  renew() {
+    this.picture.renew();
+    this.showFault();
+    if (!this.isMoved || this.run.fault) return this.open();
+    this.story();
+    this.go(this.picture.step);
   }
 
   /** Where the page opens: at the fault, else where the words behind # say, else at the first entry. */
@@ -30,6 +62,7 @@ class Page {
     if (node) this.choose(node);
     this.go(step);
     if (words.has("find")) this.find(words.get("find"));
+    this.isMoved = false;
   }
 
   theme(name) {
@@ -51,7 +84,7 @@ class Page {
 
   /** Goes to an entry; where only news are shown, to the last one that is shown up to there. */
   go(step) {
-    const { picture, run } = this, most = run.entries.length - 1;
+    const { picture, run } = this, most = picture.shown - 1;
     step = Math.max(0, Math.min(most, step || 0));
     picture.step = step;
     const entry = run.entries[step], column = Math.floor(picture.column(step));
@@ -141,11 +174,18 @@ class Page {
 
   story() {
     const { run } = this, counts = (outcome) => run.batches.filter((it) => it.outcome === outcome).length;
-    this.listItems(`The story: ${countText(run.batches.length, "batch", "batches")}, ${counts("committed")} committed, ${counts("ended")} ended, ${countText(run.recoveries.length, "recovery", "recoveries")}, ${countText(run.rollbacks.length, "rollback")}`, storyOf(run));
-    at("sums").textContent = `${countText(run.entries.length, "entry", "entries")}, ${countText(this.picture.lanes.length, "node")} · ${run.fault ? `the page's reading: ${run.fault.line}` : "the page's reading: a run"}`;
+    this.listItems(`The story${run.isDone ? "" : " so far"}: ${countText(run.batches.length, "batch", "batches")}, ${counts("committed")} committed, ${counts("ended")} ended, ${countText(run.recoveries.length, "recovery", "recoveries")}, ${countText(run.rollbacks.length, "rollback")}`, storyOf(run));
+    this.sums();
+  }
+
+  sums() {
+    const { run, picture } = this, part = Math.floor((100 * run.read) / run.entries.length);
+    const reading = run.isDone ? `the page's reading: ${run.fault ? run.fault.line : "a run"}` : `${part}% are read so far`;
+    at("sums").textContent = `${countText(run.entries.length, "entry", "entries")}, ${countText(picture.lanes.length, "node")} · ${reading}`;
   }
 
   find(text) {
+    this.isMoved = true;
     at("what").value = text;
     const items = found(this.run, text), count = items.filter((it) => it.at !== undefined && it.at !== null).length;
     this.listItems(count ? `Found for "${text}"` : `Nothing is found for "${text}"`, items);
@@ -255,6 +295,7 @@ class Page {
     const does = keys[event.key];
     if (!does) return;
     event.preventDefault();
+    this.isMoved = true;
     does();
   }
 
@@ -266,7 +307,7 @@ class Page {
       this.key(event);
     });
     at("find").onsubmit = (event) => (event.preventDefault(), this.find(at("what").value), canvas.focus());
-    at("slider").oninput = () => this.go(picture.entryAt[Number(at("slider").value)]);
+    at("slider").oninput = () => ((this.isMoved = true), this.go(picture.entryAt[Number(at("slider").value)]));
     at("news").onclick = () => this.onlyNews(!picture.onlyNews);
     at("follow").onclick = () => this.setFollow(!this.follow);
     at("theme").onclick = () => this.theme(document.documentElement.dataset.theme === "dark" ? "light" : "dark");
@@ -300,6 +341,7 @@ class Page {
 
   click(x, y) {
     const { picture } = this, lane = picture.lanes[Math.floor((y - picture.head() + picture.top) / picture.lane)];
+    this.isMoved = true;
     if (x < GUTTER) return lane && this.choose(lane);
     const column = Math.round((x - GUTTER) / picture.scale + picture.x - 0.5), entry = picture.entryAt[column];
     if (entry !== undefined) this.go(entry);

@@ -9,19 +9,26 @@ function numbersIn(what) {
 
 /** One node: its name, its machine as it stands now, and copies of it from before. */
 class RunNode {
-  constructor(value, id) {
+  constructor(value) {
     [this.kind, this.what] = variant(value);
-    this.id = id;
+    // its number among the nodes that the journals name, or none
+    this.number = -1;
     const [epoch, number] = numbersIn(this.what);
     this.place = [ORDER.indexOf(this.kind), epoch, number];
     this.epoch = this.what.epoch ?? this.what.ballot ?? null;
     this.name = [this.kind, ...["epoch", "ballot", "index", "number", "tag"].filter((it) => it in this.what).map((it) => this.what[it])].join(" ");
-    Object.assign(this, { entries: [], machine: null, copies: [], born: Infinity, gone: Infinity, wanted: new Set(), last: undefined });
+    Object.assign(this, { entries: [], machine: null, copies: [], born: Infinity, gone: Infinity, wanted: [], last: undefined });
   }
   begin(machine, at) {
     this.machine = machine;
     this.born = at;
     this.copies = [{ count: 0, machine: machine.copy() }];
+  }
+  /** Sets which of the asks that it sent it wants a tell of. */
+  want(asks) {
+    for (const it of this.wanted) it.isWanted = false;
+    for (const it of asks) it.isWanted = true;
+    this.wanted = asks;
   }
   /** Keeps a copy now and then, so that any state is a few steps behind one. */
   keep() {
@@ -46,62 +53,146 @@ function done(machine, word, what) {
   return word === "submitted" ? machine.submit(what) : null;
 }
 
-/** A short text that is another one once the machine stands elsewhere. */
-function signature(kind, it) {
-  if (kind === "cell") return `${it.promised} ${it.written}`;
-  if (kind === "log") return `${it.count} ${it.stopped} ${it.seed === null} ${[...it.popped.values()]}`;
-  if (kind === "sequencer") return `${it.latest}`;
-  if (kind === "proxy") return `${it.request} ${it.open} ${it.ended} ${it.place === null} ${it.held.size}`;
-  if (kind === "storage") return `${it.version} ${it.floor} ${newestOf(it.state).epoch}`;
-  const reached = it.parts.map((part) => part.reached);
-  return `${it.phase} ${it.reads.size} ${it.replies.size} ${it.written.size} ${it.seeded.size} ${it.marked.size} ${reached}`;
+/** Writes into a list what is another one once a machine stands elsewhere: its parts that rise, or that change once. */
+function standing(kind, it, into) {
+  if (kind === "log") {
+    into[0] = it.count;
+    into[1] = it.stopped;
+    into[2] = it.seed === null;
+    into[3] = it.popped.size;
+    if (it.popped.size) for (const through of it.popped.values()) into[3] += through;
+  } else if (kind === "sequencer") {
+    into[0] = it.latest;
+  } else if (kind === "proxy") {
+    into[0] = it.request;
+    into[1] = it.open;
+    into[2] = it.ended;
+    into[3] = it.place === null;
+    into[4] = it.held.size;
+  } else if (kind === "storage") {
+    into[0] = it.version;
+    into[1] = it.floor;
+    into[2] = newestOf(it.state).epoch;
+  } else if (kind === "cell") {
+    into[0] = it.promised;
+    into[1] = it.written;
+  } else {
+    into[0] = it.phase;
+    into[1] = it.reads.size;
+    into[2] = it.replies.size;
+    into[3] = it.written.size;
+    into[4] = it.seeded.size;
+    into[5] = it.marked.size;
+    into[6] = it.parts.reduce((sum, part) => sum + part.reached, 0);
+  }
+  return into;
+}
+
+/** How many parts those of a kind have. The lists are used for all kinds, and what another one left stands behind them. */
+const PARTS = { cell: 2, log: 4, sequencer: 1, proxy: 5, storage: 3, recoverer: 7 };
+
+/** Whether a machine of a kind stands elsewhere. */
+function isElsewhere(kind, before, after) {
+  for (let at = 0; at < PARTS[kind]; at++) if (before[at] !== after[at]) return true;
+  return false;
+}
+
+const ACTS = ["asked", "heard", "submitted", "begun", "crashed", "lost"];
+
+/** One entry. What it says is made where it is looked at. */
+class Entry {
+  constructor(run, at, columns) {
+    // (one by one: there are many entries, and lists on both sides would be made for each)
+    this.run = run;
+    this.at = at;
+    this.stamp = columns.stamps[at];
+    this.node = run.named[columns.nodes[at]];
+    this.word = ACTS[columns.words[at]];
+    this.send = columns.sends[at];
+    this.told = columns.tolds[at];
+    this.whatAt = columns.whats[at];
+    this.from = this.word === "asked" ? run.named[run.sends[3 * this.send]] : this.word === "heard" ? run.named[run.tolds[3 * this.told]] : null;
+    // from where its arrow comes; whether what is told here was heard, and the entry that told the same before
+    this.x0 = at;
+    this.toldBefore = -1;
+    this.isUndated = this.isHeard = this.news = this.late = this.again = false;
+    this.why = this.applied = this.rollback = null;
+  }
+  get ask() {
+    return this.run.asks[this.run.sends[3 * this.send + 2]];
+  }
+  get tell() {
+    return this.run.tells[this.run.tolds[3 * this.told + 2]];
+  }
+  get what() {
+    if (this.word === "asked") return { ask: this.ask, from: this.run.values[this.from.number], tell: this.tell };
+    const what = this.run.whats[this.whatAt];
+    return this.word === "heard" ? { from: this.run.values[this.from.number], outcome: what[1], taken: what[0], tell: this.tell } : what;
+  }
 }
 
 class Run {
-  /** What bench/explore packed: journals whose entries name nodes, asks and tells by their numbers in tables. */
-  constructor({ asks, config, journals, nodes, tells }) {
-    Object.assign(this, { config, nodes: new Map(), sent: new Map(), told: new Map(), lastSent: new Map(), lastTold: new Map() });
-    Object.assign(this, { arrows: [], batches: [], byVersion: new Map(), recoveries: [], rollbacks: [], plans: new Map(), fault: null });
+  /** What bench/explore packed: columns of all entries in their order, and tables of what they name by numbers. */
+  constructor({ asks, config, entries, lasts, nodes, sends, tells, tolds, whats }, isWhole = true) {
+    Object.assign(this, { asks, config, sends, tells, tolds, values: nodes, whats, nodes: new Map() });
+    Object.assign(this, { batches: [], byVersion: new Map(), recoveries: [], rollbacks: [], plans: new Map(), fault: null });
+    // asks that were sent: by their numbers among the sends, those that no journal has by their text, and in order
+    Object.assign(this, { sent: new Array(sends.length / 3), unheard: new Map(), issued: [] });
+    // the last entry that told something, by the number among the tolds
+    this.toldLast = new Int32Array(tolds.length / 3).fill(-1);
+    [this.before, this.after] = [[], []];
     this.cached = this.lines = null;
     this.start();
-    const named = nodes.map((it) => this.node(it));
-    this.askNumbers = new Map(asks.map((it, number) => [JSON.stringify(it), number]));
-    const merged = [];
-    for (const [number, last, entries] of journals) {
-      const node = named[number];
-      node.last = last;
-      for (const [stamp, word, what] of entries) merged.push(this.entry(stamp, node, word, what, { named, nodes, asks, tells }));
-    }
-    merged.sort((a, b) => a.stamp - b.stamp || isBefore(a.node.place, b.node.place));
-    merged.forEach((it, at) => (it.at = at));
-    this.entries = merged;
-    this.take();
+    this.named = nodes.map((it) => this.node(it));
+    this.named.forEach((node, number) => (node.number = number));
+    for (const [number, last] of lasts) this.named[number].last = last;
+    this.index();
+    this.entries = entries.stamps.map((_, at) => new Entry(this, at, entries));
+    // how many entries were read, and whether that is all
+    [this.read, this.isDone, this.lost] = [0, false, []];
+    if (isWhole || this.entries.length === 0) this.take();
   }
 
   node(value) {
     const [kind, what] = variant(value), [epoch, number] = numbersIn(what), key = `${kind} ${epoch} ${number}`;
     let found = this.nodes.get(key);
-    if (!found) this.nodes.set(key, (found = new RunNode(value, this.nodes.size)));
+    if (!found) this.nodes.set(key, (found = new RunNode(value)));
     return found;
   }
 
-  entry(stamp, node, word, what, { named, nodes, asks, tells }) {
-    const it = { at: 0, stamp, node, word, what, from: null, ask: -1, tell: -1, news: false, arrows: null, late: false, again: false, why: null };
-    if (word === "asked") {
-      [it.from, it.ask, it.tell] = [named[what[0]], what[1], what[2]];
-      it.what = { ask: asks[what[1]], from: nodes[what[0]], tell: tells[what[2]] };
-    } else if (word === "heard") {
-      [it.from, it.tell] = [named[what[0]], what[1]];
-      it.what = { from: nodes[what[0]], outcome: what[3], taken: what[2], tell: tells[what[1]] };
+  /** Chains of the asks that have one word and number, and of the sends of one ask. */
+  index() {
+    const { asks, sends } = this;
+    [this.askFirst, this.askNext] = [new Map(), new Int32Array(asks.length).fill(-1)];
+    [this.sendFirst, this.sendNext] = [new Int32Array(asks.length).fill(-1), new Int32Array(sends.length / 3).fill(-1)];
+    for (let number = asks.length - 1; number >= 0; number--) {
+      const found = this.alike(asks[number]), key = askNumber(asks[number]);
+      this.askNext[number] = found.get(key) ?? -1;
+      found.set(key, number);
     }
-    return it;
+    for (let number = sends.length / 3 - 1; number >= 0; number--) {
+      const ask = sends[3 * number + 2];
+      this.sendNext[number] = this.sendFirst[ask];
+      this.sendFirst[ask] = number;
+    }
   }
 
-  /** The number of an ask: of the journals, or a new one where none of them has it. */
-  numberOf(ask) {
-    const text = JSON.stringify(ask);
-    if (!this.askNumbers.has(text)) this.askNumbers.set(text, this.askNumbers.size);
-    return this.askNumbers.get(text);
+  /** The first ask of each number among those of a word. */
+  alike(ask) {
+    const word = variant(variant(ask)[1])[0], found = this.askFirst.get(word);
+    if (found) return found;
+    const none = new Map();
+    this.askFirst.set(word, none);
+    return none;
+  }
+
+  /** The number of what a node sends to another one, or none where no journal has it. */
+  sendOf(ask, from, to) {
+    let number = this.alike(ask).get(askNumber(ask)) ?? -1;
+    while (number >= 0 && !isSame(this.asks[number], ask)) number = this.askNext[number];
+    let send = number < 0 ? -1 : this.sendFirst[number];
+    while (send >= 0 && (this.sends[3 * send] !== from.number || this.sends[3 * send + 1] !== to.number)) send = this.sendNext[send];
+    return send;
   }
 
   start() {
@@ -134,26 +225,51 @@ class Run {
       this.node({ proxy: { epoch, number } }).begin(new Proxy(epoch, number, m, known), at);
   }
 
-  /** Takes all entries, up to the first that cannot be, and then looks at the last states. */
-  take() {
-    for (const entry of this.entries) {
+  /** Takes so many further entries, up to the first that cannot be; behind the last one it looks at the last states. */
+  take(most = Infinity) {
+    const upto = Math.min(this.entries.length, this.read + most);
+    while (!this.fault && this.read < upto) {
+      const entry = this.entries[this.read];
       this.fault = this.repeated(entry) || this.takeOne(entry);
-      if (this.fault) break;
+      if (!this.fault) this.read += 1;
     }
-    this.read = this.fault ? this.fault.at : this.entries.length;
-    if (!this.fault) this.fault = this.unlike();
-    for (const { ask, from, to, issued, count } of this.sent.values())
-      if (count === 0) this.arrow({ kind: "ask", from, to, x0: issued, x1: issued, isLost: true, ask });
-    for (const { from, to, places, used } of this.told.values())
-      for (const at of places.filter((_, number) => !used.has(number)))
-        this.arrow({ kind: "tell", from, to, x0: at, x1: at, isLost: true });
+    if (!this.isDone && (this.fault || this.read === this.entries.length)) this.end();
   }
 
-  arrow(it) {
-    const begin = this.entries[it.x0], end = this.entries[it.x1];
-    if (begin) (begin.arrows ||= []).push(this.arrows.length);
-    if (end && end !== begin) (end.arrows ||= []).push(this.arrows.length);
-    this.arrows.push(it);
+  /** How many entries can be shown: those that were read, and once that is done those behind a fault too. */
+  get shown() {
+    return this.isDone ? this.entries.length : this.read;
+  }
+
+  end() {
+    this.isDone = true;
+    if (!this.fault) this.fault = this.unlike();
+    // what never came: asks that were sent, and tells that nobody heard
+    this.lost = this.issued.filter((it) => it.count === 0).map(({ from, to, issued }) => ({ kind: "ask", from, to, x0: issued, x1: issued, isLost: true }));
+    for (const { at, from, isHeard, node, word } of this.entries.slice(0, this.read))
+      if (word === "asked" && !isHeard) this.lost.push({ kind: "tell", from: node, to: from, x0: at, x1: at, isLost: true });
+  }
+
+  /** The arrows that begin or end at an entry. */
+  arrowsAt(at) {
+    if (!this.arrowEnds || this.arrowEnds.shown !== this.shown) this.arrowEnds = this.ends();
+    const { first, next, arrows } = this.arrowEnds, found = [];
+    for (let end = first[at]; end >= 0; end = next[end]) found.push(arrows[end >> 1]);
+    return found;
+  }
+
+  /** All arrows: of the entries that were read, and of what never came, in a chain for each entry. */
+  ends() {
+    const isArrow = (it) => it.word === "asked" || it.word === "heard", arrows = this.entries.slice(0, this.read).filter(isArrow);
+    for (const it of this.lost) arrows.push(it);
+    const first = new Int32Array(this.entries.length).fill(-1), next = new Int32Array(2 * arrows.length).fill(-1);
+    const add = (at, end) => ([next[end], first[at]] = [first[at], end]);
+    arrows.forEach((it, number) => {
+      const x1 = it.x1 ?? it.at;
+      if (it.x0 >= 0) add(it.x0, 2 * number);
+      if (x1 >= 0 && x1 !== it.x0) add(x1, 2 * number + 1);
+    });
+    return { first, next, arrows, shown: this.shown };
   }
 
   repeated(entry) {
@@ -164,34 +280,25 @@ class Run {
 
   takeOne(entry) {
     const { node, at } = entry;
-    this.name(entry);
     const notARun = whyNot(this, entry);
     if (notARun) return { at, line: `not a run at ${at}`, words: notARun };
     if (entry.word === "begun") this.begun(entry);
     else if (entry.word === "crashed" || entry.word === "lost") this.left(entry);
     else {
-      const before = signature(node.kind, node.machine), got = done(node.machine, entry.word, entry.what);
-      if (got && got.cannotBreak) return { at, line: `not a run at ${at}`, words: [`What ${node.name} hears cannot break off at version ${entry.what.taken}.`] };
-      const differs = this.differs(entry, got);
+      const { what } = entry, before = standing(node.kind, node.machine, this.before), got = done(node.machine, entry.word, what);
+      if (got && got.cannotBreak) return { at, line: `not a run at ${at}`, words: [`What ${node.name} hears cannot break off at version ${what.taken}.`] };
+      const differs = this.differs(entry, what, got);
       if (differs) return { at, line: `tell differs at ${at}`, words: differs };
-      entry.news = entry.word === "submitted" || before !== signature(node.kind, node.machine);
-      this[entry.word](entry, got);
+      entry.news = entry.word === "submitted" || isElsewhere(node.kind, before, standing(node.kind, node.machine, this.after));
+      this[entry.word](entry, what, got);
     }
     node.entries.push(at);
     node.keep();
     return null;
   }
 
-  /** The keys by which an entry's ask and tell are found again, from node to node. */
-  name(entry) {
-    const { node, from, ask, tell, word } = entry;
-    if (from === null) return;
-    this.askKey = `${from.id}>${node.id}>${ask}`;
-    this.tellKey = word === "asked" ? `${node.id}>${from.id}>${tell}` : `${from.id}>${node.id}>${tell}`;
-  }
-
   /** How what is told, or said of a batch, is another thing than it must be. */
-  differs({ node, word, what }, got) {
+  differs({ node, word }, what, got) {
     if (word === "asked" && !isSame(got, what.tell)) return unlikeWords(`${node.name} is to tell`, got, "the journal has it tell", what.tell);
     const outcome = node.kind === "proxy" ? got : null;
     if (word === "heard" && !isSame(outcome, what.outcome)) return unlikeWords(`${node.name} is to say of its batch`, outcome, "the journal has it say", what.outcome);
@@ -212,7 +319,7 @@ class Run {
     const { node, word, at } = entry;
     entry.news = true;
     if (word === "lost" || ["proxy", "sequencer", "recoverer"].includes(node.kind)) node.gone = at;
-    if (node.gone === at) node.wanted = new Set();
+    if (node.gone === at) node.want([]);
     if (node.gone === at && node.recovery && node.recovery.chosen === null) node.recovery.lost ??= at;
   }
 
@@ -220,41 +327,51 @@ class Run {
   issue(node, at) {
     const { machine } = node, isOld = node.kind === "proxy" && node.issued === machine.place && machine.open;
     if (isOld && machine.place !== null) {
-      for (const index of machine.held) node.wanted.delete(node.pushKeys[index]);
+      for (const index of machine.held) node.wanted[index].isWanted = false;
       return;
     }
     node.issued = machine.place;
-    const keys = pendingOf(this, node).map(([place, ask]) => this.enterAsk(node, this.node(place), ask, at));
-    node.wanted = new Set(keys);
-    node.pushKeys = keys;
+    node.want(pendingOf(this, node).map(([place, ask]) => this.enterAsk(node, this.node(place), ask, at)));
   }
 
   enterAsk(node, to, ask, at) {
-    const key = `${node.id}>${to.id}>${this.numberOf(ask)}`;
-    if (this.sent.has(key)) return key;
-    this.sent.set(key, { ask, from: node, to, issued: at, count: 0 });
-    this.lastSent.set(`${node.id}>${to.id}>${variant(variant(ask)[1])[0]}`, ask);
-    return key;
+    const send = this.sendOf(ask, node, to), text = send < 0 ? `${node.name}>${to.name}>${JSON.stringify(ask)}` : "";
+    let it = send < 0 ? this.unheard.get(text) : this.sent[send];
+    if (it) return it;
+    it = { ask, from: node, to, issued: at, count: 0, isWanted: false };
+    if (send < 0) this.unheard.set(text, it);
+    else this.sent[send] = it;
+    this.issued.push(it);
+    return it;
   }
 
-  asked(entry, tell) {
-    const { node, what, at, from } = entry, { askKey: key, tellKey } = this;
-    const sent = this.sent.get(key), latest = from.entries[from.entries.length - 1] ?? -1;
+  /** The last ask of a word that a node sent to another one, or none. */
+  lastSent(from, to, word) {
+    const found = this.issued.filter((it) => it.from === from && it.to === to && word in variant(it.ask)[1]);
+    return found.length ? found[found.length - 1].ask : undefined;
+  }
+
+  /** The last thing of a word that a node told another one, or none. */
+  lastTold(from, to, word) {
+    const found = from.entries.map((at) => this.entries[at]).filter((it) => it.word === "asked" && it.from === to && word in variant(it.tell)[1]);
+    return found.length ? found[found.length - 1].tell : undefined;
+  }
+
+  asked(entry, what, tell) {
+    const { at, from } = entry, sent = this.sent[entry.send], latest = from.entries[from.entries.length - 1] ?? -1;
     entry.again = Boolean(sent && sent.count > 0);
-    entry.late = Boolean(sent && !from.wanted.has(key));
-    const x0 = sent && sent.count === 0 ? sent.issued : latest;
+    entry.late = Boolean(sent && !sent.isWanted);
+    entry.isUndated = !sent;
+    if (sent) entry.x0 = sent.count === 0 ? sent.issued : latest;
     if (sent) sent.count += 1;
-    this.arrow({ kind: "ask", from, to: node, x0: sent ? x0 : at, x1: at, isLate: entry.late, isAgain: entry.again, isUndated: !sent });
-    const told = this.told.get(tellKey);
-    if (told) told.places.push(at);
-    else this.told.set(tellKey, { from: node, to: from, places: [at], used: new Set() });
-    this.lastTold.set(`${node.id}>${from.id}>${variant(variant(what.tell)[1])[0]}`, what.tell);
-    this.noteAsked(entry, variant(tell)[1], from);
+    entry.toldBefore = this.toldLast[entry.told];
+    this.toldLast[entry.told] = at;
+    this.noteAsked(entry, what, variant(tell)[1], from);
   }
 
   /** What an ask did to a batch or a recovery. */
-  noteAsked(entry, told, from) {
-    const { node, what, at } = entry, [word, said] = variant(variant(what.ask)[1]);
+  noteAsked(entry, what, told, from) {
+    const { node, at } = entry, [word, said] = variant(variant(what.ask)[1]);
     if ("refused" in told || "two_values" in told) return this.noteRefused(entry, word, told);
     if (!entry.news) return;
     if (word === "next" && from.batch) Object.assign(from.batch, { given: at, version: told.numbered.version });
@@ -266,29 +383,28 @@ class Run {
   /** A refusal is news where the last one of that node and asker was another one. */
   noteRefused(entry, word, told) {
     const why = "two_values" in told ? "TwoValues" : "why" in told.refused ? whyText(told.refused.why) : `promised ${told.refused.promised}`;
-    const key = `${entry.from.id} ${word} ${why}`;
+    const key = `${entry.from.name} ${word} ${why}`;
     entry.why = why;
     if (entry.node.lastRefusal !== key) entry.news = true;
     entry.node.lastRefusal = key;
   }
 
-  heard(entry, got) {
-    const { node, at, from } = entry, told = this.told.get(this.tellKey);
-    let number = told.places.length - 1;
-    while (number >= 0 && told.used.has(number)) number -= 1;
-    entry.again = number < 0;
-    if (number < 0) number = told.places.length - 1;
-    told.used.add(number);
-    if (node.kind === "storage") this.noteStorage(entry, got);
+  heard(entry, what, got) {
+    const { node } = entry, last = this.toldLast[entry.told];
+    let place = last;
+    while (place >= 0 && this.entries[place].isHeard) place = this.entries[place].toldBefore;
+    entry.again = place < 0;
+    entry.x0 = place < 0 ? last : place;
+    this.entries[entry.x0].isHeard = true;
+    if (node.kind === "storage") this.noteStorage(entry, what, got);
     if (node.kind === "proxy") this.noteProxy(entry, got);
     if (node.kind === "recoverer") this.noteRecoverer(entry);
     entry.late = !entry.again && !entry.news && (node.kind !== "storage" || entry.why !== null);
-    if (entry.news) this.entries[told.places[number]].news = true;
-    this.arrow({ kind: "tell", from, to: node, x0: told.places[number], x1: at, isLate: entry.late, isAgain: entry.again });
+    if (entry.news) this.entries[entry.x0].news = true;
   }
 
-  noteStorage(entry, got) {
-    const { node, at, what } = entry, { origins } = node;
+  noteStorage(entry, what, got) {
+    const { node, at } = entry, { origins } = node;
     entry.applied = got.applied;
     for (const version of got.applied) {
       const batch = this.byVersion.get(`${this.originOf(got.epoch, version)}:${version}`) || null;
@@ -314,8 +430,8 @@ class Run {
     return epoch;
   }
 
-  submitted(entry) {
-    const { node, what, at } = entry;
+  submitted(entry, what) {
+    const { node, at } = entry;
     const batch = { number: this.batches.length + 1, node, request: node.machine.request, step: what.step, batch: what.batch, at };
     node.batch = Object.assign(batch, { given: null, version: null, numbered: null, held: [], outcome: null, ended: null, applied: [], undone: [] });
     this.batches.push(batch);
@@ -408,6 +524,12 @@ function lastAt(items, test) {
     else high = middle - 1;
   }
   return low;
+}
+
+/** A number by which an ask is found again among those of its word. */
+function askNumber(ask) {
+  const said = variant(variant(ask)[1])[1] ?? {};
+  return said.version ?? said.request ?? said.ballot ?? said.after ?? said.through ?? said.seeded_to ?? said.epoch ?? 0;
 }
 
 /** All asks whose tells a proxy or a recoverer wants. */

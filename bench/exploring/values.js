@@ -14,8 +14,18 @@ function isSame(a, b) {
   if (a === b) return true;
   if (typeof a !== "object" || typeof b !== "object" || a === null || b === null) return false;
   if (Array.isArray(a) !== Array.isArray(b)) return false;
-  const names = Object.keys(a);
-  return names.length === Object.keys(b).length && names.every((it) => it in b && isSame(a[it], b[it]));
+  if (Array.isArray(a)) {
+    if (a.length !== b.length) return false;
+    for (let at = 0; at < a.length; at++) if (!isSame(a[at], b[at])) return false;
+    return true;
+  }
+  let more = 0;
+  for (const name in a) {
+    if (!(name in b) || !isSame(a[name], b[name])) return false;
+    more += 1;
+  }
+  for (const _ in b) more -= 1;
+  return more === 0;
 }
 
 // ---- mutations and batches

@@ -30,12 +30,13 @@ function unlikeWords(is, wanted, but, got) {
 }
 
 /** Why an entry cannot be, in words; null where it can. */
-function whyNot(run, { node, word, what, at, from }) {
+function whyNot(run, entry) {
+  const { node, word, at, from } = entry;
   if (word === "begun") return whyNotBegun(node);
   if (node.machine === null) return [`${node.name} does something and is not there.`];
   if (node.gone < at) return [`${node.name} does something and is gone: it ${run.entries[node.gone].word === "lost" ? "was lost" : "crashed"} at entry ${node.gone}.`];
-  if (word === "asked") return whyNotAsked(run, node, what.ask, from);
-  if (word === "heard") return whyNotHeard(run, node, what, from);
+  if (word === "asked") return whyNotAsked(run, node, entry, from);
+  if (word === "heard") return whyNotHeard(run, node, entry, from);
   if (word === "lost" && node.kind !== "log") return [`Only a log can be lost, and ${node.name} is none.`];
   if (word !== "submitted") return null;
   if (node.kind !== "proxy") return [`Only a proxy takes a batch, and ${node.name} is none.`];
@@ -51,12 +52,12 @@ function whyNotBegun(node) {
 
 const ASKS_OF = { cell: "cell", log: "log", sequencer: "seq" };
 
-function whyNotAsked(run, node, ask, by) {
+function whyNotAsked(run, node, { ask, send }, by) {
   const [kind, named] = variant(ask), [word, said] = variant(named);
   if (ASKS_OF[node.kind] !== kind) return [`${node.name} is asked as a ${kind} is.`];
-  if (run.sent.has(run.askKey)) return null;
+  if (run.sent[send]) return null;
   if (by.kind === "storage" && by.machine !== null && kind === "log") return whyNotOfStorage(by, word, said);
-  const sent = run.lastSent.get(`${by.id}>${node.id}>${word}`);
+  const sent = run.lastSent(by, node, word);
   const head = `${by.name} never sent this ask to ${node.name}.`;
   return sent ? [head, ...unlikeWords("Its last one of that kind is", sent, "what came is", ask)] : [head, `It sent no ${word} there before.`];
 }
@@ -72,12 +73,12 @@ function whyNotOfStorage(by, word, said) {
   return state.gens.some((it) => it.epoch === said.epoch) ? null : [`${by.name} lets records of epoch ${said.epoch} go, a generation that it has not.`];
 }
 
-function whyNotHeard(run, node, { tell, taken }, by) {
+function whyNotHeard(run, node, { tell, told: number, what: { taken } }, by) {
   const [kind, named] = variant(tell), [word] = variant(named);
   if (!["proxy", "recoverer", "storage"].includes(node.kind)) return [`${node.name} hears something: only proxies, recoverers and storage servers do.`];
   if (taken !== null && node.kind !== "storage") return [`Only a storage server's hear breaks off.`];
-  if (run.told.has(run.tellKey)) return null;
-  const told = run.lastTold.get(`${by.id}>${node.id}>${word}`);
+  if (run.toldLast[number] >= 0) return null;
+  const told = run.lastTold(by, node, word);
   const head = `${by.name} never told ${node.name} this.`;
   return told ? [head, ...unlikeWords("What it told last of that kind is", told, "what is heard is", tell)] : [head, `It told it no ${word} of a ${kind} before.`];
 }
