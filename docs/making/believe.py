@@ -17,7 +17,20 @@ RUN = ("fr_runtime", "cluster.rt", "run")
 BESIDE = (
     ("fr_run_outcomes", "laws.rt", ("once_law", "lost_law")),
     ("fr_run_serving", "laws.rt", ("serving_law", "loss_law", "snapshot_law")),
-    ("fr_run_progress", "laws.rt", ("pending_law",)),
+    (
+        "fr_run_progress",
+        "laws.rt",
+        (
+            "pending_law",
+            "reading_law",
+            "locking_law",
+            "copying_law",
+            "seeding_law",
+            "writing_law",
+            "recovery_law",
+            "hearing_law",
+        ),
+    ),
     ("fr_run_example", "laws.rt", ("pops_law",)),
 )
 RUN_TYPES = (

@@ -1,60 +1,9 @@
-"""The tables of docs/ARCHITECTURE.md, docs/DEFINITIONS.md and docs/GATE.md."""
-import os
-import re
-
-from making.definitions import Module
-from making.sources import files_of, read, wrapped
+"""What a run of the gate took, and the paragraph of docs/GATE.md on it."""
+from making.sources import read, wrapped
 
 
-def rows_of(text, head):
-    """The table that begins with a line: where it begins and ends, and the cells of its rows by the first one."""
-    lines = text.split("\n")
-    start = lines.index(head) + 2
-    end = next(it for it in range(start, len(lines)) if not lines[it].startswith("|"))
-    rows = [[it.strip() for it in line.strip().strip("|").split("|")] for line in lines[start:end]]
-    return lines, start, end, {it[0]: it for it in rows}
-
-
-def architecture(crates, faults):
-    lines, start, end, rows = rows_of(read("docs/ARCHITECTURE.md"), "| Crate | What it is | Stands on |")
-    lacking = [it for it in crates.names if it not in rows]
-    gone = [it for it in rows if it not in crates.names]
-    faults += [f"docs/ARCHITECTURE.md: its table lacks {it}" for it in lacking]
-    faults += [f"docs/ARCHITECTURE.md: its table has {it}, which is no crate" for it in gone]
-    made = []
-    for it, row in rows.items():
-        lows = crates.direct(it) if it in crates.names else [row[2]]
-        made.append(f"| {it} | {row[1]} | {', '.join(lows)} |".replace("|  |", "| |"))
-    return "\n".join(lines[:start] + made + lines[end:])
-
-
-def definitions(crates):
-    lines, start, end, _ = rows_of(read("docs/DEFINITIONS.md"), "| Crate | Module | What it states |")
-    known = {tuple(it.split(" | ", 2)[:2]): it for it in lines[start:end]}
-    made = []
-    for crate in crates.names:
-        for file in files_of(f"crates/{crate}/specs", ".antt"):
-            name = os.path.basename(file).removesuffix(".antt")
-            head = Module(crate, name, read(file)).head.split(". ")[0].removesuffix(".").replace("|", "\\|")
-            if name != "Lib":
-                row = f"| {crate} | `{name}` | {head[:1].lower()}{head[1:]} |"
-                made.append(known.get((f"| {crate}", f"`{name}`"), row))
-    return "\n".join(lines[:start] + made + lines[end:])
-
-
-GATE_HEAD = "| Crate | Lines of code | of definitions | of proofs | Edits | Beside | Tests | Minutes |"
-
-
-def lines_in(crate, part, ending):
-    return sum(read(it).count("\n") for it in files_of(f"crates/{crate}/{part}", ending))
-
-
-def sizes(crate):
-    """Lines of code, of definitions and of proofs, edits of the gate and beside it, and tests."""
-    tests = sum(len(re.findall(r"^#\[test\]", read(it), re.M)) for it in files_of(f"crates/{crate}/src", ".rt"))
-    edits = [len(files_of(it, ".edit")) for it in (f"crates/{crate}/must-fail", f"edits/{crate}")]
-    code = [lines_in(crate, "src", ".rt"), lines_in(crate, "specs", ".antt"), lines_in(crate, "proofs", ".antt")]
-    return code + edits + [tests]
+# what a crate may take
+CRATE_UNITS = 4
 
 
 class Log:
@@ -89,6 +38,12 @@ class Log:
         ends = [(took + self.took.get(("edits", it), 0), names) for it, (took, names) in longest.items()]
         return max(ends)
 
+    def over(self, crates, unit):
+        """The crates that took more than so many units, the dearest first."""
+        took = sorted(((self.minutes(it) / unit, it) for it in crates.names), reverse=True)
+        named = [f"{it} {units:.1f}" for units, it in took if units > CRATE_UNITS]
+        return f"Above {CRATE_UNITS} units: {', '.join(named) or 'none'}."
+
     def said(self, crates):
         unit = self.took.get(("proof", "fr_base"), 0) or 1
         if self.parts:
@@ -105,7 +60,7 @@ class Log:
                 f"minutes of a processor, {', '.join(parts)} and {self.of_kind('rest'):.0f} for sums of libraries. "
                 f"One unit is what fr_base's own proof took beside them, {unit:.2f} minutes in {count} proofs on "
                 f"average: the whole took {whole / unit:.0f} units, and the longest chain {took / unit:.0f} "
-                f"({', '.join(names)})."
+                f"({', '.join(names)}). {self.over(crates, unit)}"
             )
         commit, day, processors, seconds, status = self.run
         ended = "passed" if status == "0" else "was cut off" if status == "cut" else "failed"
@@ -114,7 +69,7 @@ class Log:
             f"{ended} after {int(seconds) / 60:.0f} minutes and took {whole:.0f} of a processor, {', '.join(parts)} "
             f"and {self.of_kind('rest'):.0f} for sums of libraries. One unit is fr_base's own proof in the same run, "
             f"{unit:.1f} minutes: the whole took {whole / unit:.0f} units, and the longest chain {took / unit:.0f} "
-            f"({', '.join(names)})."
+            f"({', '.join(names)}). {self.over(crates, unit)}"
         )
 
 
@@ -122,20 +77,9 @@ RUN_START, RUN_END = "<!-- docs/tables --log: from here -->", "<!-- to here -->"
 
 
 def gate(crates, log):
-    """The table of docs/GATE.md: sizes from the sources, minutes as a log has them, or else as they stand there."""
+    """docs/GATE.md with the paragraph of a log, or else as it stands."""
     text = read("docs/GATE.md")
-    if log:
-        head, _, rest = text.partition(RUN_START)
-        text = f"{head}{RUN_START}\n{log.said(crates)}\n{RUN_END}{rest.partition(RUN_END)[2]}"
-    lines, start, end, rows = rows_of(text, GATE_HEAD)
-    kept = {name: float(row[7]) for name, row in rows.items() if row[7]}
-    took = {it: log.minutes(it) for it in crates.names} if log else kept
-    made, sums = [], [0] * 7
-    for it in crates.names:
-        counts = sizes(it) + [took.get(it, 0)]
-        sums = [a + b for a, b in zip(sums, counts)]
-        cells = [f"{n:,}" if n else "" for n in counts[:6]] + [f"{counts[6]:.1f}" if counts[6] else ""]
-        made.append(f"| {it} | {' | '.join(cells)} |")
-    cells = [f"{n:,}" for n in sums[:6]] + [f"{sums[6]:.0f}"]
-    made.append(f"| in all | {' | '.join(cells)} |")
-    return "\n".join(lines[:start] + made + lines[end:])
+    if not log:
+        return text
+    head, _, rest = text.partition(RUN_START)
+    return f"{head}{RUN_START}\n{log.said(crates)}\n{RUN_END}{rest.partition(RUN_END)[2]}"
