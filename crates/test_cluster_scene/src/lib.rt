@@ -2,6 +2,7 @@
 #![tactic(auto)]
 
 mod commits;
+mod fed;
 mod flag;
 mod meets;
 mod pushes;
@@ -14,6 +15,7 @@ mod shapes;
 mod watched;
 
 pub use commits::{AreCommitted, ONE};
+pub use fed::Fed;
 pub use flag::Flag;
 pub use rolls::{RollsBack, TWO};
 pub use runs::{Run, passes};
