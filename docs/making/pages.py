@@ -1,4 +1,6 @@
-"""What a run of the gate took, and the paragraph of docs/GATE.md on it."""
+"""What a run of the gate took, the paragraph of docs/GATE.md on it, and the minutes in other pages."""
+import re
+
 from making.sources import read, wrapped
 
 
@@ -83,3 +85,14 @@ def gate(crates, log):
         return text
     head, _, rest = text.partition(RUN_START)
     return f"{head}{RUN_START}\n{log.said(crates)}\n{RUN_END}{rest.partition(RUN_END)[2]}"
+
+
+# pages in which a number before `<!-- first check of CRATE -->` or `<!-- change in CRATE -->` is that of docs/CRATES.md
+MINUTED = ("README.md", "docs/START.md")
+MINUTE = re.compile(r"\d+(?=<!-- (first check of|change in) (\w+) -->)")
+
+
+def minuted(path, rows):
+    """A page with the minutes of these crates, as the rows of docs/CRATES.md have them."""
+    place = {"first check of": 7, "change in": 8}
+    return MINUTE.sub(lambda it: rows[it[2]][place[it[1]]], read(path))

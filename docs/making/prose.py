@@ -59,7 +59,7 @@ def blocks(text):
 
 def plain(block):
     """A block as it is read aloud: what is in code is one word, and of a link the text."""
-    block = re.sub(r"`[^`]*`", "Code", block)
+    block = re.sub(r"`[^`]*`", "Code", re.sub(r"<!--.*?-->", "", block))
     return re.sub(r"!?\[([^\]]*)\]\([^)]*\)", r"\1", block).replace("**", "").replace("*", "")
 
 
