@@ -1,0 +1,71 @@
+"""docs/TESTS.md: the lists of tests, from the scenarios, the crates of tests and the programs of tests/."""
+import os
+import re
+
+from making.sources import TOP, files_of, read, wrapped
+
+SCENARIOS = "crates/test_scenarios"
+HEAD = wrapped(
+    "`docs/tables` makes this page of the sources. [TESTED.md](TESTED.md) says what the tests show, and what no test "
+    "and no contract does."
+)
+SCENARIOS_HEAD = wrapped(
+    "What a machine is asked and what it tells, played by the program test_scenarios "
+    "([README](../crates/test_scenarios/data/README.md)). A row is one thing asked."
+)
+CRATES_HEAD = wrapped("The tests of each crate, by modules, each with its name as a sentence.")
+PROGRAMS_HEAD = "What `./test` runs behind `rt ci`, over the built program, in the words with which each begins."
+
+
+def scenarios():
+    """Each file of scenarios with its title, how many scenarios it has and how many rows."""
+    counts = {}
+    for line in read(f"{SCENARIOS}/stdout").split("\n"):
+        if found := re.fullmatch(r"(\S+): .*: (\d+) rows?", line):
+            count = counts.setdefault(found[1], [0, 0])
+            count[0] += 1
+            count[1] += int(found[2])
+    said = ["| File | What it is about | Scenarios | Rows |", "|---|---|---:|---:|"]
+    for file, (count, rows) in counts.items():
+        title = read(f"{SCENARIOS}/data/{file}").split("\n")[0].removeprefix("# ")
+        said.append(f"| [{file[:-3]}](../{SCENARIOS}/data/{file}) | {title} | {count} | {rows:,} |")
+    sums = [sum(it[at] for it in counts.values()) for at in (0, 1)]
+    return said + [f"| in all | | {sums[0]:,} | {sums[1]:,} |"]
+
+
+def crates_table(crates):
+    """Each module of a crate that has tests, with their names."""
+    said, count = ["| Crate | Module | Tests |", "|---|---|---|"], 0
+    for crate in crates.names:
+        for file in files_of(f"crates/{crate}/src", ".rt"):
+            names = re.findall(r"^#\[test\]\n(?:#.*\n)*(?:pub )?fn (\w+)", read(file), re.M)
+            module = file.removeprefix(f"crates/{crate}/src/").removesuffix(".rt")
+            said += [f"| {crate} | {module} | {'; '.join(it.replace('_', ' ') for it in names)} |"] * bool(names)
+            count += len(names)
+    return said + [f"| in all | | {count} |"]
+
+
+def said_of(text):
+    """The comment with which a program begins."""
+    if found := re.match(r'#!.*python3\n"""(.*?)"""', text, re.S):
+        return " ".join(found[1].split())
+    lines = text.split("\n")[1:]
+    end = next(at for at, it in enumerate(lines) if not it.startswith("#"))
+    return " ".join(it.removeprefix("#").strip() for it in lines[:end])
+
+
+def programs_table():
+    said = ["| Program | What it is |", "|---|---|"]
+    for name in sorted(os.listdir(f"{TOP}/tests")):
+        if "." not in name and name != "run" and os.path.isfile(f"{TOP}/tests/{name}"):
+            words = re.sub(rf"^tests/{name}(?: \[[^\]]*\])?: ", "", said_of(read(f"tests/{name}")))
+            said.append(f"| `{name}` | {words[:1].upper()}{words[1:]} |".replace("|  |", "| |"))
+    return said
+
+
+def tests_page(crates):
+    said = ["# Tests", "", *HEAD.split("\n"), ""]
+    said += ["## Scenarios", "", *SCENARIOS_HEAD.split("\n"), "", *scenarios(), ""]
+    said += ["## Crates of tests", "", *CRATES_HEAD.split("\n"), "", *crates_table(crates), ""]
+    said += ["## The built program", "", *PROGRAMS_HEAD.split("\n"), "", *programs_table(), ""]
+    return "\n".join(said)
