@@ -29,6 +29,8 @@ WEIGHTS = {
     "lose": (3, 1, 1, 2),
 }
 SMALL = 3
+# The same of worlds that are drawn apart: those in which recoveries drop generations.
+DROPPING = {"ask": 450, "tell": 450, "submit": 20, "pull": 30, "mark": 60, "pop": 60, "again": 20, "begin": 16}
 
 
 class Drawn:
@@ -203,9 +205,12 @@ class Drawn:
         held = lambda index: log.durable if (log := self.events.nodes.logs.get((epoch, index))) else 0
         return {"log": {"epoch": epoch, "index": other if held(one) < held(other) else one}}
 
+    def pulling(self):
+        return self.tag()
+
     def pull(self):
         """A storage server asks a log for records: mostly for what it wants next."""
-        tag = self.tag()
+        tag = self.pulling()
         server = self.events.nodes.storages[tag]
         epoch = batches.source_of(server.state, server.version + 1) or server.state[0][0]
         epoch = self.epoch() if self.one_of(10) else epoch
@@ -310,3 +315,22 @@ class Drawn:
     def text(self):
         """What is printed of it: its lines and the journals."""
         return "\n".join(self.lines + [json.dumps(self.events.script(), separators=(",", ":"))])
+
+
+class Dropping(Drawn):
+    """A world of two tags and few logs, in which logs let go often and recoveries follow soon. The server of the first
+    tag seldom asks for records, so that the two lie apart."""
+
+    def __init__(self, seed):
+        super().__init__(seed)
+        self.is_small = True
+        self.weights = [DROPPING.get(kind, 0) for kind in WEIGHTS]
+
+    def few(self, most):
+        return 2
+
+    def logs(self):
+        return self.dice.choice([1, 1, 2])
+
+    def pulling(self):
+        return self.tag() if self.one_of(4) else 1

@@ -6,7 +6,8 @@ rollback    one that rolled back holds what is committed, and has applied at mos
 kept        what was acknowledged is in the committed list, and no storage server that applied it takes it back
 agreement   chosen states are one chain, and what logs tell, of whatever generation, is what was issued at that version
 removed     no log lets go of a version above the floor of its tag's storage server, and none of these is told that what
-            it asks for from its applied version on is gone
+            it asks for from its applied version on is gone; no state that is chosen drops a generation of which some
+            server's floor has not come to the end
 """
 
 from . import batches
@@ -167,6 +168,9 @@ class Promises:
             old, new = sorted((other, ballot))
             goes_on = self.states[new].begins_with(self.states[old])
             want(goes_on, "agreement: the states of", old, "and", new, "are no chain")
+        first = self.states[ballot][0][3] if self.states[ballot].dropped else 0
+        for tag, floor in enumerate(self.floors):
+            want(floor + 1 >= first, "removed: tag", tag, "has version", floor, "for good, and what is below", first, "is dropped")
         self.chosen = sorted(self.chosen + [ballot])
         self.look()
 

@@ -5,6 +5,7 @@ import functools
 import json
 
 from . import batches, wrong
+from .drawing import Drawn, Dropping
 from .rules import Fault
 from .run import Run
 
@@ -165,7 +166,8 @@ def turned(worlds, seeds, rule):
 
 def is_right(seeds, events):
     """Whether the readings find nothing where nodes keep the rules."""
-    faults = [found(wrong.text_of(seed, events), checks) for seed in seeds for checks in ("rules", "promises")]
+    texts = [wrong.text_of(seed, events, drawn=drawn) for seed in seeds for drawn in (Drawn, Dropping)]
+    faults = [found(text, checks) for text in texts for checks in ("rules", "promises")]
     print(f"{len(faults)} readings of what is played by the rules, {len(faults) - faults.count(None)} with a fault")
     return faults.count(None) == len(faults)
 

@@ -1,7 +1,7 @@
 """Worlds in which nodes keep a wrong rule: runs that the promises forbid, so that it is seen that they name it."""
 
 from . import batches, nodes, rules
-from .drawing import Drawn
+from .drawing import Drawn, Dropping
 
 
 def commit_by_half(proxy, node, tell):
@@ -79,15 +79,17 @@ WRONG = {
     newest_cut: (rules.Storage, "hear_marked"),
     never_undone: (rules.Storage, "hear_marked"),
 }
+# A rule that shows in worlds of a drawing of its own.
+DRAWN = {dropped_by_the_greatest: Dropping}
 RIGHT = {place: getattr(*place) for place in WRONG.values()}
 
 
-def text_of(seed, events, without=(), wrong=None):
+def text_of(seed, events, without=(), wrong=None, drawn=None):
     """What is printed of a seed; with a wrong rule in place of the right one."""
     if wrong:
         setattr(*WRONG[wrong], lambda *words: wrong(*words))
     try:
-        return Drawn(seed).play(events, without).text()
+        return (drawn or DRAWN.get(wrong, Drawn))(seed).play(events, without).text()
     finally:
         for place, right in RIGHT.items():
             setattr(*place, right)
