@@ -1,5 +1,5 @@
 /* A library that refuses one allocation of a program: the one of the number that REFUSE says, counted from 1, whichever
- * thread makes it. At its end the program says on its third stream how many there were.
+ * thread makes it. At its end the program says on its third stream how many there were, and how many of them were refused.
  *
  * With REFUSE_TO it refuses many, each in a copy of the program that is made at that allocation and goes on to its end:
  * those of the numbers REFUSE, REFUSE + REFUSE_STEP and so on. What came of each stands in the file REFUSE_TO: a line
@@ -37,7 +37,7 @@ struct site {
 
 extern void *__libc_stack_end;
 
-static long made, refused = -1, from, step;
+static long made, refused = -1, from, step, denied;
 static uint64_t wanted;
 static const char *sites_to;
 static struct site sites[SITES];
@@ -239,12 +239,18 @@ static int refuses(void) {
     return !is_copy && !is_over && number >= refused && (number - refused) % step == 0 && refuses_in_copy(number);
 }
 
+static int is_denied(void) {
+    int is_so = refuses();
+    if (is_so) __atomic_add_fetch(&denied, 1, __ATOMIC_RELAXED);
+    return is_so;
+}
+
 void *malloc(size_t size) {
-    return refuses() ? NULL : __libc_malloc(size);
+    return is_denied() ? NULL : __libc_malloc(size);
 }
 
 void *realloc(void *place, size_t size) {
-    return refuses() ? NULL : __libc_realloc(place, size);
+    return is_denied() ? NULL : __libc_realloc(place, size);
 }
 
 __attribute__((destructor)) static void say(void) {
@@ -257,7 +263,7 @@ __attribute__((destructor)) static void say(void) {
     int file = sites_to ? open(sites_to, O_WRONLY | O_CREAT | O_TRUNC | O_CLOEXEC, 0600) : -1;
     for (int at = 0; file >= 0 && at < SITES; at++)
         if (sites[at].count > 0) dprintf(file, "%016llx %ld\n", (unsigned long long)sites[at].name, sites[at].count);
-    dprintf(2, "\nallocations %ld\n", made);
+    dprintf(2, "\nallocations %ld refused %ld\n", made, denied);
 }
 
 /* A program that has a status of its own ends by this call, and no destructor runs. */

@@ -7,7 +7,9 @@ import subprocess
 import tempfile
 
 BENCH = os.path.dirname(os.path.abspath(__file__))
-COUNT = re.compile(rb"\nallocations (\d+)\n\Z")
+COUNT = re.compile(rb"\nallocations (\d+) refused (\d+)\n\Z")
+# How long a run may take: by the clock, which it may share with many.
+SECONDS = 600
 # What a test ends with that had no memory itself: the name of such an error, whole.
 WANT = re.compile(rb"^error: (?:AllocFailed|AllocError|Memory|Err\((?:AllocError|Memory)\))(?!\w)", re.M)
 # What a test says that made a call again which had found no memory.
@@ -15,10 +17,11 @@ AGAIN = re.compile(rb"^again$", re.M)
 
 
 class Ended:
-    """How a run ended: its status, what it said on its streams, and how many allocations it made."""
+    """How a run ended: its status, what it said on its streams, how many allocations it made, and how many of them were
+    refused."""
 
-    def __init__(self, status, said, complained, made):
-        self.status, self.said, self.complained, self.made = status, said, complained, made
+    def __init__(self, status, said, complained, made, denied=1):
+        self.status, self.said, self.complained, self.made, self.denied = status, said, complained, made, denied
 
 
 @contextlib.contextmanager
@@ -31,23 +34,29 @@ def library():
         yield path
 
 
-def run(words, script, path, number, cwd=None):
-    """A run whose allocation of this number is refused; with 0 it has all of its memory. None where it has no end."""
-    given = {**os.environ, "LD_PRELOAD": path, "REFUSE": str(number)}
+def ended(words, script, given, cwd):
+    """A run with such an environment. None where it has no end."""
+    given = {**os.environ, **given}
     try:
-        ran = subprocess.run(words, env=given, input=script, capture_output=True, timeout=120, check=False, cwd=cwd)
+        ran = subprocess.run(words, env=given, input=script, capture_output=True, timeout=SECONDS, check=False, cwd=cwd)
     except subprocess.TimeoutExpired:
         return None
     found = COUNT.search(ran.stderr)
     complained = ran.stderr[: found.start()] if found else ran.stderr
-    return Ended(ran.returncode, ran.stdout, complained, int(found[1]) if found else None)
+    made, denied = (int(it) for it in found.groups()) if found else (None, None)
+    return Ended(ran.returncode, ran.stdout, complained, made, denied)
+
+
+def run(words, script, path, number, cwd=None):
+    """A run whose allocation of this number is refused; with 0 it has all of its memory. None where it has no end."""
+    return ended(words, script, {"LD_PRELOAD": path, "REFUSE": str(number)}, cwd)
 
 
 def places(words, script, path, cwd=None):
     """The sites at which a run with all of its memory takes some, each with how often: see refuse.c."""
     with tempfile.NamedTemporaryFile() as file:
         given = {**os.environ, "LD_PRELOAD": path, "REFUSE": "0", "REFUSE_SITES": file.name}
-        ran = subprocess.run(words, env=given, input=script, capture_output=True, timeout=120, check=False, cwd=cwd)
+        ran = subprocess.run(words, env=given, input=script, capture_output=True, timeout=SECONDS, check=False, cwd=cwd)
         found = [line.split() for line in file.read().decode().splitlines()]
     return ran, {name: int(count) for name, count in found}
 
@@ -55,14 +64,8 @@ def places(words, script, path, cwd=None):
 def at_place(words, script, path, site, number, goes_on, cwd=None):
     """A run in which the allocation of this number among those of a site is refused, or where it goes on, each from that
     number on. None where it has no end."""
-    given = {**os.environ, "LD_PRELOAD": path, "REFUSE_SITE": site, "REFUSE_FROM" if goes_on else "REFUSE": str(number)}
-    try:
-        ran = subprocess.run(words, env=given, input=script, capture_output=True, timeout=120, check=False, cwd=cwd)
-    except subprocess.TimeoutExpired:
-        return None
-    found = COUNT.search(ran.stderr)
-    complained = ran.stderr[: found.start()] if found else ran.stderr
-    return Ended(ran.returncode, ran.stdout, complained, int(found[1]) if found else None)
+    how = "REFUSE_FROM" if goes_on else "REFUSE"
+    return ended(words, script, {"LD_PRELOAD": path, "REFUSE_SITE": site, how: str(number)}, cwd)
 
 
 LINE = re.compile(rb"(\d+) (\d+) ([01]) (\d+) (\d+) ([0-9a-f]{16}) (new|known)\n")
@@ -115,6 +118,12 @@ def of_program(ended, first):
         return "wanted" if first.said.startswith(ended.said) else "status 3, and other lines"
     is_same = (ended.status, ended.said, ended.complained) == (first.status, first.said, first.complained)
     return "same" if is_same else f"status {ended.status}, with what no run with all of its memory says"
+
+
+def of_files(ended, first):
+    """A store in files that is refused memory, and again where it is asked whether it works, may be told as failed."""
+    is_failed = ended.status == 3 and ended.complained == b"store failed\n"
+    return "wanted" if is_failed and first.said.startswith(ended.said) else of_program(ended, first)
 
 
 # (a cluster's answer does not tell memory from a thread, a node or a store)
