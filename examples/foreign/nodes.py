@@ -1,37 +1,11 @@
-"""The other nodes, as simple as may be, by docs/PROTOCOL.md: sequencer, proxy, recoverer and storage server. Those that
-ask have `pending`, the asks whose tells they want, each with the node that it goes to, and `hear`, which takes a tell.
-A state is the list of its generations, as a journal has it."""
+"""A sequencer, a proxy and a recoverer, as simple as may be, by docs/PROTOCOL.md. Those that ask have `pending`, the asks
+whose tells they want, each with the node that it goes to, and `hear`, which takes a tell."""
 
 from log import holds
+from states import dropped, gens, read, spelled, state_of
+from storage import log, only
 
-NUMBERS = ("epoch", "m", "k", "first", "seeded_to")
-WIDTHS = (8, 1, 1, 8, 8)
-
-
-def spelled(state):
-    """The bytes of a state, in hex, as docs/FORMATS.md gives them: format 1, since nothing is ever dropped here."""
-    fields = [gen[name].to_bytes(width, "big") for gen in state for name, width in zip(NUMBERS, WIDTHS)]
-    return (bytes([1, len(state)]) + b"".join(fields)).hex()
-
-
-def read(value):
-    """The state that such bytes spell."""
-    data, state = bytes.fromhex(value)[2:], []
-    while data:
-        gen = {}
-        for name, width in zip(NUMBERS, WIDTHS):
-            gen[name], data = int.from_bytes(data[:width], "big"), data[width:]
-        state.append(gen)
-    return state
-
-
-def log(epoch, index):
-    return {"log": {"epoch": epoch, "index": index}}
-
-
-def only(it):
-    ((name, what),) = it.items()
-    return name, what
+MOST = 2**62  # no version is as great
 
 
 def clip(batch, begin, end):
@@ -60,6 +34,8 @@ class Sequencer:
             return self.again(it["proxy"], given)
         if it["request"] != given["request"] + 1:
             return {"seq": {"refused": {"why": {"out_of_turn": {}}}}}
+        if self.latest + it["step"] >= MOST:
+            return {"seq": {"refused": {"why": {"spent": {}}}}}
         return self.next(it["proxy"], it["request"], it["step"])
 
     def again(self, _, given):
@@ -110,15 +86,20 @@ class Proxy:
         if place == "sequencer":
             if name == "numbered" and self.place is None and it["request"] == self.request and self.known <= it["prev"]:
                 self.place = it
+            elif name == "refused" and "spent" in it["why"]:
+                return self.end()
         elif name == "refused" and "stopped" in it["why"]:
-            self.batch, self.ended = None, True
-            return {"ended": {}}
+            return self.end()
         elif name == "held" and self.place is not None and it["version"] == self.place["version"]:
             self.held.add(where["index"])
             if self.is_held():
                 self.batch, self.known = None, it["version"]
                 return {"committed": {"version": it["version"]}}
         return {"waiting": {}}
+
+    def end(self):
+        self.batch, self.ended = None, True
+        return {"ended": {}}
 
     def is_held(self):
         return len(self.held) == self.m
@@ -186,7 +167,7 @@ class Recoverer:
         elif place == "cell" and self.phase == "writing" and where["index"] not in self.written:
             self.hear_written(where["index"], name, it)
         elif place == "log" and self.phase == "locking" and name == "locked" and where["epoch"] == self.ends:
-            self.replies.setdefault(where["index"], (it["durable"], it["known"]))
+            self.replies.setdefault(where["index"], (it["durable"], it["known"], dict(it.get("popped", []))))
             if len(self.replies) > self.old["m"] - self.old["k"]:
                 self.plan()
         elif place == "log" and self.phase == "copying" and name == "peeked" and where["epoch"] == self.ends:
@@ -203,7 +184,10 @@ class Recoverer:
             self.promised[at] = it["written"], it["value"]
             if 2 * len(self.promised) > self.cells:
                 self.parent = read(max(self.promised.values(), key=lambda pair: pair[0])[1])
-                self.old = self.parent[-1]
+                if self.parent is None:
+                    self.phase = "lost BadState"
+                    return
+                self.old = gens(self.parent)[-1]
                 self.ends, self.phase = self.old["epoch"], "locking"
 
     def hear_written(self, at, name, it):
@@ -223,15 +207,34 @@ class Recoverer:
     def plan(self):
         """What the replies come to, once they cover."""
         self.pev, self.rv = self.end()
-        if self.pev > self.rv or self.ballot <= self.ends:
-            self.phase = "lost Inconsistent" if self.pev > self.rv else "lost NotLater"
-            return
+        self.state = self.left()
+        why = [
+            ("Inconsistent", self.pev > self.rv),
+            ("Spent", self.rv + 1 >= MOST),
+            ("NotLater", self.ballot <= self.ends),
+            ("TooMany", len(gens(self.state)) == 64),
+        ]
+        for name, is_so in why:
+            if is_so:
+                self.phase = "lost " + name
+                return
         m, k = self.shape or (self.old["m"], self.old["k"])
         self.new = {"epoch": self.ballot, "first": self.pev + 1, "k": k, "m": m, "seeded_to": self.rv}
-        self.state, self.reached, self.phase = self.parent + [self.new], [self.pev] * self.tags, "copying"
+        self.state = state_of(gens(self.state) + [self.new], dropped(self.state))
+        self.reached, self.phase = [self.pev] * self.tags, "copying"
 
     def end(self):
-        return max(known for _, known in self.replies.values()), min(durable for durable, _ in self.replies.values())
+        return max(it[1] for it in self.replies.values()), min(it[0] for it in self.replies.values())
+
+    def left(self):
+        """The parent without the generations that no storage server needs, by what its logs popped of which tags."""
+        shown = [[it[2][tag] for it in self.replies.values() if tag in it[2]] for tag in range(self.tags)]
+        if not all(shown):
+            return self.parent
+        through = min(map(max, shown))
+        its = gens(self.parent)
+        count = max([at for at, gen in enumerate(its) if gen["first"] <= through + 1], default=0)
+        return state_of(its[count:], dropped(self.parent) + count)
 
     def hear_peeked(self, at, it):
         tag = it["tag"]
@@ -245,105 +248,3 @@ class Recoverer:
 
     def last(self):
         return {"phase": self.phase}
-
-
-class Storage:
-    """A storage server with its store in memory: rows, and undo rows by version. Of the mutations it has set, clear and
-    add, which is what the batches of this cluster are made of."""
-
-    def __init__(self, tag, state):
-        self.tag, self.state = tag, state
-        self.version = self.floor = 0
-        self.rows, self.undo = {}, []  # undo: (version, {key: what it held before, or None})
-        self.newest = state[-1]  # (who tells it of generations is outside of the protocol)
-
-    def source(self):
-        """The generation to ask for the version after the one applied, and its last version (None: no end)."""
-        at = max([at for at, gen in enumerate(self.state) if gen["first"] <= self.version + 1], default=0)
-        return self.state[at], self.state[at + 1]["first"] - 1 if at + 1 < len(self.state) else None
-
-    def pending(self):
-        gen, own = self.source()[0], self.state[-1]
-        peek = {"log": {"peek": {"after": self.version, "epoch": gen["epoch"], "most": 100, "tag": self.tag}}}
-        asks = [(log(gen["epoch"], at), peek) for at in range(gen["m"]) if holds(at, self.tag, gen["m"], gen["k"])]
-        mark = {"log": {"mark_asked": {"epoch": self.newest["epoch"]}}}
-        asks += [(log(self.newest["epoch"], at), mark) for at in range(self.newest["m"])]
-        pop = {"log": {"pop": {"epoch": own["epoch"], "tag": self.tag, "through": self.to_pop()}}}
-        holders = [at for at in range(own["m"]) if holds(at, self.tag, own["m"], own["k"])]
-        return asks + [(log(own["epoch"], holders[self.floor % len(holders)]), pop)]
-
-    def to_pop(self):
-        return self.floor
-
-    def hear(self, by, tell):
-        name, it = only(only(tell)[1])
-        if name == "marked":
-            self.hear_marked(it["state"])
-        elif name == "peeked":
-            self.hear_peeked(by["log"]["epoch"], it)
-
-    def hear_peeked(self, epoch, it):
-        gen, end = self.source()
-        if gen["epoch"] != epoch or it["after"] > self.version:
-            return
-        within = lambda version: version if end is None else min(version, end)
-        for record in it["records"]:
-            if self.is_new(record["version"]) and record["version"] == within(record["version"]):
-                self.apply(record["version"], record["batch"])
-        self.version = max(self.version, within(it["upto"]))
-        self.floor = max(self.floor, min(it["known"], self.version))
-        self.undo = [row for row in self.undo if row[0] > self.floor]
-
-    def is_new(self, version):
-        return version > self.version
-
-    def hear_marked(self, state):
-        own = self.state
-        if self.is_older(state) or state == own or state[: len(own)] != own or len(state) == len(own):
-            return
-        cut = state[len(own)]["seeded_to"]
-        if cut >= self.floor:
-            self.undo_to(cut)
-            self.state = state
-
-    def is_older(self, state):
-        return state[-1]["epoch"] < self.state[-1]["epoch"]
-
-    def apply(self, version, batch):
-        before = {}
-        for mutation in batch:
-            name, it = only(mutation)
-            keys = [it["key"]] if name != "clear" else [key for key in self.rows if it["begin"] <= key < it["end"]]
-            for key in keys:
-                before.setdefault(key, self.rows.get(key))
-                self.put(key, self.made(name, it, self.rows.get(key)))
-        self.version = version
-        self.keep(version, before)
-
-    def keep(self, version, before):
-        self.undo.append((version, before))
-
-    def made(self, name, it, old):
-        """The value of a key after a mutation, or None. Sums are little-endian and as long as the parameter."""
-        if name != "add":
-            return it.get("value")
-        size = len(it["param"]) // 2
-        had, more = bytes.fromhex(old or "")[:size], bytes.fromhex(it["param"])
-        total = int.from_bytes(had, "little") + int.from_bytes(more, "little")
-        return (total % 256**size).to_bytes(size, "little").hex()
-
-    def put(self, key, value):
-        if value is None:
-            self.rows.pop(key, None)
-        else:
-            self.rows[key] = value
-
-    def undo_to(self, version):
-        while self.undo and self.undo[-1][0] > version:
-            for key, value in self.undo.pop()[1].items():
-                self.put(key, value)
-        self.version = min(self.version, version)
-
-    def last(self):
-        rows = [[key, self.rows[key]] for key in sorted(self.rows)]
-        return {"epoch": self.state[-1]["epoch"], "floor": self.floor, "rows": rows, "version": self.version}

@@ -9,6 +9,7 @@ from typing import NamedTuple
 import nodes
 from cell import Cell
 from log import Log
+from storage import Storage
 
 
 class Bug(NamedTuple):
@@ -159,7 +160,7 @@ class InventsATell(nodes.Proxy):
 
 class TakesTheGreatestDurable(nodes.Recoverer):
     def end(self):
-        return super().end()[0], max(durable for durable, _ in self.replies.values())
+        return super().end()[0], max(it[0] for it in self.replies.values())
 
 
 class TakesWhatIsKnown(nodes.Recoverer):
@@ -187,22 +188,22 @@ class WritesBeforeAllSeeds(nodes.Recoverer):
 # ---- storage servers
 
 
-class LosesAnUndoRow(nodes.Storage):
+class LosesAnUndoRow(Storage):
     def keep(self, version, before):
         return super().keep(version, dict(list(before.items())[1:]))
 
 
-class KeepsWhatIsCutOff(nodes.Storage):
+class KeepsWhatIsCutOff(Storage):
     def undo_to(self, version):
         self.version = min(self.version, version)
 
 
-class AppliesARecordTwice(nodes.Storage):
+class AppliesARecordTwice(Storage):
     def is_new(self, version):
         return version >= self.version
 
 
-class PopsAboveItsFloor(nodes.Storage):
+class PopsAboveItsFloor(Storage):
     def to_pop(self):
         return self.version
 
