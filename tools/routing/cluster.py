@@ -1,0 +1,225 @@
+"""A cluster of processes, and the network between them: what flies, what comes, late or again, and what stands still."""
+
+import collections
+import json
+
+from . import drawing
+from .members import Members
+from .processes import spoken
+
+FIRST = 257
+FLYING = 14  # so many messages fly at most, beside those that are kept to come late
+KEPT = 60
+
+
+def log(epoch, index):
+    return {"log": {"epoch": epoch, "index": index}}
+
+
+class Message:
+    """An ask or a tell on its way, or one that is kept to come later. `number` counts tells by their order."""
+
+    def __init__(self, kind, by, to, what, number):
+        self.kind, self.by, self.to, self.what, self.number = kind, by, to, what, number
+
+
+class Cluster:
+    """The nodes of a world, by the seed. `commands` says by which programs each kind of node runs."""
+
+    def __init__(self, seed, room, commands, has_files):
+        self.seed, self.room, self.commands, self.has_files = seed, room, commands, has_files
+        self.config = drawing.config_of(seed)
+        self.counts = collections.Counter()
+        self.members = Members(room, self.heed, self.counts)
+        self.shapes = {FIRST: (self.config["logs"], self.config["degree"])}
+        self.ends = {}  # by a recoverer's ballot: the epoch that it ends
+        self.newest, self.chosen = FIRST, {}
+        self.flying, self.late, self.walls, self.told, self.came = [], [], [], 0, {}
+        self.turns, self.rounds, self.used = collections.Counter(), 1, {0, FIRST}
+        self.open = {}  # by a proxy: whether it has a batch under way
+        self.start()
+
+    # ---- nodes
+
+    def make(self, name, *words):
+        ((kind, _),) = name.items()
+        dice = drawing.Dice(self.seed, "program", spoken(name))
+        command = dice.choice(self.commands[kind])
+        return self.members.make(name, [*command, kind, *map(str, words)], self.has_files)
+
+    def config_file(self, epoch):
+        """The config of an epoch: the world's, with the shape of that generation."""
+        path = f"{self.room}/config-{epoch}.json"
+        logs, degree = self.shapes[epoch]
+        with open(path, "w", encoding="utf-8") as it:
+            json.dump(self.config | {"logs": logs, "degree": degree}, it)
+        return path
+
+    def start(self):
+        config = self.config_file(FIRST)
+        for at in range(self.config["coordinators"]):
+            self.make({"cell": {"index": at}}, "--index", at, "--start", "--config", config)
+        for at in range(self.config["logs"]):
+            self.make_log(FIRST, at)
+        for tag in range(len(self.config["shards"])):
+            self.make({"storage": {"tag": tag}}, "--tag", tag, "--config", config)
+        self.open_epoch(FIRST, 1, 0)
+
+    def make_log(self, epoch, at):
+        logs, degree = self.shapes[epoch]
+        words = ["--epoch", epoch, "--index", at, "--logs", logs, "--degree", degree]
+        self.make(log(epoch, at), *words, *(["--start"] if epoch == FIRST else []))
+
+    def open_epoch(self, epoch, last, known):
+        """Its sequencer and its proxies, once its state is chosen."""
+        config = self.config_file(epoch)
+        self.make({"sequencer": {"epoch": epoch}}, "--epoch", epoch, "--last", last)
+        for number in range(self.config["proxies"]):
+            words = ["--epoch", epoch, "--number", number, "--known", known, "--config", config]
+            self.make({"proxy": {"epoch": epoch, "number": number}}, *words)
+        self.newest = max(self.newest, epoch)
+
+    def begin(self, dice):
+        """A recoverer begins, under a ballot that nobody used; sometimes under one below another's."""
+        self.rounds += dice.randrange(3) > 0
+        free = [it for it in range(1, 5) if self.rounds * 256 + 256 + it not in self.used]
+        if not free:
+            self.rounds += 1
+            free = [1]
+        ballot = self.rounds * 256 + 256 + dice.choice(free)
+        self.used.add(ballot)
+        shape = drawing.shape_of(dice)
+        if shape:
+            self.shapes[ballot] = shape
+        words = ["--ballot", ballot, "--config", f"{self.room}/config-{FIRST}.json"]
+        words += ["--logs", shape[0], "--degree", shape[1]] if shape else []
+        return self.make({"recoverer": {"ballot": ballot}}, *words)
+
+    # ---- what nodes answer
+
+    def heed(self, it, given, entries, was):
+        """Takes in an answer of a node: the tells that now fly, and what comes to be by it."""
+        for entry in entries:
+            if "asked" in entry["act"]:
+                asked = entry["act"]["asked"]
+                self.fly("hear", it.name, asked["from"], asked["tell"])
+            elif "submitted" in entry["act"]:
+                self.counts["submitted"] += 1
+                self.open[it.text] = True
+            elif "heard" in entry["act"] and entry["act"]["heard"]["outcome"]:
+                self.outcome(it, entry["act"]["heard"]["outcome"])
+        if it.kind == "recoverer":
+            self.recover(it, was)
+        elif it.kind == "storage" and was and it.last:
+            self.stand(it, was["storage"], it.last["storage"])
+
+    def outcome(self, it, outcome):
+        if "waiting" not in outcome:
+            self.open[it.text] = False
+        self.counts["acknowledged"] += "committed" in outcome
+        self.counts["ended"] += "ended" in outcome
+
+    def recover(self, it, was):
+        """Logs of a generation come to be when they are to be seeded, its sequencer and proxies once it is chosen."""
+        ballot = it.its["ballot"]
+        for to, ask in it.wants:
+            word = next(iter(ask.get("log", {"": 0})))
+            if word == "lock":
+                self.ends[ballot] = ask["log"]["lock"]["epoch"]
+            if word == "seed" and self.members.find(to) is None:
+                self.shape(ballot)
+                self.make_log(ballot, to["log"]["index"])
+        phase = it.last["recoverer"]["phase"]
+        if was is None or phase == was["recoverer"]["phase"]:
+            return
+        self.counts["lost"] += phase.startswith("lost")
+        if phase.startswith("chosen"):
+            _, _, pev, _, rv = phase.split(" ")
+            self.counts["chosen"] += 1
+            self.chosen[ballot] = int(rv)
+            self.shape(ballot)
+            self.open_epoch(ballot, int(rv) + 1, int(pev))
+
+    def shape(self, ballot):
+        """A generation has the shape that its recoverer was given, or that of the one which it ends."""
+        self.shapes.setdefault(ballot, self.shapes[self.ends.get(ballot, FIRST)])
+
+    def stand(self, it, was, now):
+        """A storage server came to stand elsewhere."""
+        if now["version"] < was["version"]:
+            self.counts["rollbacks"] += 1
+            self.counts["undone"] += was["version"] - now["version"]
+        if now["epoch"] != was["epoch"]:
+            # (a pop of a generation that it dropped would be one that it cannot give any more)
+            is_pop = lambda one: one.by == it.name and "pop" in one.what.get("log", {}) and one.kind == "ask"
+            self.flying = [one for one in self.flying if not is_pop(one)]
+            self.late = [one for one in self.late if not is_pop(one)]
+
+    # ---- the network
+
+    def fly(self, kind, by, to, what):
+        self.told += 1
+        self.flying.append(Message(kind, by, to, what, self.told))
+
+    def is_walled(self, message, step):
+        return any(step < until and {spoken(message.by), spoken(message.to)} & names == names for until, names in self.walls)
+
+    def give(self, message):
+        """A message comes to its node, if that is up. What it was on its way is gone."""
+        it = self.members.find(message.to)
+        if it is None or it.state != "up":
+            return None
+        key = spoken(message.by), it.text
+        if message.kind == "hear":
+            self.counts["late"] += message.number < self.came.get(key, 0)
+            self.came[key] = max(self.came.get(key, 0), message.number)
+        word = {"hear": "tell", "ask": "ask"}[message.kind]
+        self.members.give(it, {"type": message.kind, "at": self.members.stamp, "from": message.by, word: message.what})
+        return it
+
+    def collect(self):
+        for it in list(self.members.all.values()):
+            if it.state == "up":
+                self.members.collect(it)
+
+    def wanted(self, it, is_asked):
+        """What a node asks now: as it last said, or as it says when it is asked."""
+        if it.kind == "storage":
+            self.turns[it.text] += 1
+            newest = {"epoch": self.newest, "logs": self.shapes[self.newest][0]}
+            return self.members.ask(it, {"type": "wants", "turn": self.turns[it.text], "newest": newest})["wants"]
+        if is_asked:
+            self.members.ask(it, {"type": "wants"})
+        else:
+            self.members.collect(it)
+        return it.wants
+
+    def script(self):
+        for it in self.members.all.values():
+            if it.state == "up":
+                self.members.ask(it, {"type": "last"})
+        journals = [it.journal() for it in self.members.all.values()]
+        return {"config": self.config, "journals": journals}
+
+    def batches(self):
+        """How many batches were acknowledged, are waiting, and were taken back: those that have a version which the next
+        epoch did not take over."""
+        taken = 0
+        for it in self.members.of("sequencer"):
+            later = [epoch for epoch in self.chosen if epoch > it.its["epoch"]]
+            cut = self.chosen[min(later)] if later else None
+            tells = [entry["act"]["asked"]["tell"]["seq"] for entry in it.entries if "asked" in entry["act"]]
+            versions = {tell["numbered"]["version"] for tell in tells if "numbered" in tell}
+            taken += sum(1 for version in versions if cut is not None and version > cut)
+        known = self.counts["acknowledged"]
+        return known, self.counts["submitted"] - known - taken, taken
+
+    def close(self):
+        for it in self.members.all.values():
+            if it.state == "up":
+                it.process.close()
+
+    def drop(self):
+        for it in self.members.all.values():
+            if it.process:
+                it.process.drop()

@@ -1,0 +1,165 @@
+"""The nodes of a cluster: their processes, their journals, and what becomes of both at a kill."""
+
+import json
+import os
+
+from .processes import Process, Trouble, spoken
+
+ENTERING = ("ask", "hear", "submit")  # the lines that are given again after a kill
+FILED = ("cell", "log", "storage")
+
+
+class Member:
+    """A node with its journal. It is `up`, `down` (killed, and to be started again over its files) or `gone`."""
+
+    def __init__(self, name, words, room, has_files):
+        ((self.kind, self.its),) = name.items()
+        self.name, self.text, self.words, self.room = name, spoken(name), words, room
+        self.has_files = has_files and self.kind in FILED
+        self.entries, self.last, self.wants = [], None, []
+        self.process, self.state, self.left = None, "down", []
+
+    def start(self):
+        words = self.words + (["--dir", f"{self.room}/files"] if self.has_files else [])
+        with open(f"{self.room}/said/{self.text.replace(' ', '-')}", "ab") as errors:
+            self.process = Process(self.text, words, errors)
+        self.state = "up"
+
+    def said(self):
+        """The last of what it wrote on standard error."""
+        with open(f"{self.room}/said/{self.text.replace(' ', '-')}", encoding="utf-8", errors="replace") as it:
+            return it.read()[-400:].strip()
+
+    def journal(self):
+        return {"entries": self.entries, "last": self.last, "node": self.name}
+
+
+class Members:
+    """All nodes, and the greatest stamp that was seen. `heeds` is told of each answer that enters something."""
+
+    def __init__(self, room, heeds, counts):
+        self.room, self.heeds, self.counts = room, heeds, counts
+        self.all, self.stamp = {}, 0
+        for each in ("files", "said"):
+            os.makedirs(f"{room}/{each}")
+
+    def find(self, name):
+        return self.all.get(spoken(name))
+
+    def of(self, *kinds):
+        return [it for it in self.all.values() if it.kind in kinds]
+
+    def make(self, name, words, has_files):
+        """Starts a node that is new."""
+        it = self.all[spoken(name)] = Member(name, words, self.room, has_files)
+        self.begin(it)
+        if it.kind == "recoverer":
+            self.ask(it, {"type": "begin", "at": self.stamp})
+        return it
+
+    def begin(self, it):
+        it.start()
+        found = self.ask(it, {"type": "init"})
+        if found.get("node") != it.name:
+            raise Trouble(f"{it.text} says at its start that it is {found.get('node')}")
+
+    # ---- lines
+
+    def give(self, it, body):
+        """Gives a line whose answer is taken later."""
+        if not it.process.has_room(body):
+            self.collect(it)
+        it.process.give(body)
+
+    def ask(self, it, body):
+        """Gives a line, takes all answers up to its own, and returns that."""
+        it.process.give(body)
+        found = self.collect(it)
+        return found or {}
+
+    def collect(self, it):
+        """Takes the answers to all lines that are open, and returns the last one's body."""
+        found = None
+        while it.process.open:
+            took = it.process.answer()
+            if took is None:
+                raise Trouble(f"{it.text} ended by itself, with status {it.process.it.wait()}: {it.said()}")
+            found = took[1]
+            self.took(it, *took)
+        return found
+
+    def took(self, it, given, body):
+        """Takes in what a node answered."""
+        word = given["type"]
+        if body.get("type") == "error":
+            self.failed(it, given, body)
+            return
+        if body.get("type") != f"{word}_ok":
+            raise Trouble(f"{it.text} answers {word} by {json.dumps(body)[:300]}")
+        entries = body.get("entries", [body["entry"]] if "entry" in body else [])
+        was, it.last = it.last, body.get("last", it.last)
+        it.wants = body.get("wants", it.wants)
+        for entry in entries:
+            self.enter(it, entry)
+        if word != "init":
+            self.heeds(it, given, entries, was)
+
+    def enter(self, it, entry):
+        it.entries.append(entry)
+        self.stamp = max(self.stamp, entry["stamp"])
+
+    def act(self, it, act):
+        """Enters an act that the router makes."""
+        self.enter(it, {"act": act, "stamp": self.stamp + 1})
+
+    def failed(self, it, given, body):
+        code = body.get("code")
+        if given["type"] == "begin" and code == 10:
+            given = dict(zip(it.words, it.words[1:]))
+            self.act(it, {"begun": {name: int(given[f"--{name}"]) for name in ("degree", "logs") if f"--{name}" in given}})
+        elif code != 14:
+            raise Trouble(f"{it.text} answers {given['type']} by error {code}: {body.get('text')}")
+
+    # ---- kills
+
+    def kill(self, it):
+        """Kills a node, and takes what its pipe still holds."""
+        self.counts["kills"] += 1
+        it.process.kill()
+        while it.process.open:
+            took = it.process.answer()
+            if took is None:
+                break
+            self.took(it, *took)
+        it.left = [body for _, body in it.process.open if body["type"] in ENTERING]
+        it.process.drop()
+        words = [body["type"] for body in it.left]
+        self.counts["inside"] += "ask" in words
+        it.state = "down" if it.has_files else "gone"
+        if it.state == "gone":
+            self.act(it, {"lost": {}} if it.kind == "log" else {"crashed": {}})
+        return it.left
+
+    def lose(self, it):
+        """A log that is killed and whose file is lost too."""
+        if it.state == "up":
+            self.kill(it)
+        if it.state == "down":
+            self.act(it, {"lost": {}})
+        it.state = "gone"
+
+    def back(self, it):
+        """Starts a node that was killed over its files. What was left without an answer is given again, first."""
+        self.begin(it)
+        body = {"type": "back", "at": self.stamp}
+        hearing = it.left[0] if it.left and it.left[0]["type"] == "hear" else None
+        if hearing:
+            self.counts["hears"] += 1
+            body["hearing"] = {"from": hearing["from"], "tell": hearing["tell"]}
+        found = self.ask(it, body)
+        heard = [entry["act"]["heard"] for entry in found.get("entries", []) if "heard" in entry["act"]]
+        self.counts["parts"] += any(each["taken"] is not None for each in heard)
+        for each in it.left[len(heard) :]:
+            self.counts["settled"] += each["type"] == "ask"
+            self.ask(it, each | {"at": self.stamp})
+        it.left = []
