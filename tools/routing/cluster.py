@@ -21,6 +21,7 @@ class Message:
 
     def __init__(self, kind, by, to, what, number):
         self.kind, self.by, self.to, self.what, self.number = kind, by, to, what, number
+        self.ends = {spoken(by), spoken(to)}
 
 
 class Cluster:
@@ -162,7 +163,7 @@ class Cluster:
         self.flying.append(Message(kind, by, to, what, self.told))
 
     def is_walled(self, message, step):
-        return any(step < until and {spoken(message.by), spoken(message.to)} & names == names for until, names in self.walls)
+        return any(step < until and message.ends == ends for until, ends in self.walls)
 
     def give(self, message):
         """A message comes to its node, if that is up. What it was on its way is gone."""
@@ -182,22 +183,19 @@ class Cluster:
             if it.state == "up":
                 self.members.collect(it)
 
-    def wanted(self, it, is_asked):
-        """What a node asks now: as it last said, or as it says when it is asked."""
+    def ask_wants(self, it):
+        """Asks a node what it asks now, and does not wait for its answer."""
+        self.turns[it.text] += 1
+        body = {"type": "wants", "turn": self.turns[it.text]}
         if it.kind == "storage":
-            self.turns[it.text] += 1
-            newest = {"epoch": self.newest, "logs": self.shapes[self.newest][0]}
-            return self.members.ask(it, {"type": "wants", "turn": self.turns[it.text], "newest": newest})["wants"]
-        if is_asked:
-            self.members.ask(it, {"type": "wants"})
-        else:
-            self.members.collect(it)
-        return it.wants
+            body["newest"] = {"epoch": self.newest, "logs": self.shapes[self.newest][0]}
+        self.members.give(it, body)
 
     def script(self):
         for it in self.members.all.values():
             if it.state == "up":
-                self.members.ask(it, {"type": "last"})
+                self.members.give(it, {"type": "last"})
+        self.collect()
         journals = [it.journal() for it in self.members.all.values()]
         return {"config": self.config, "journals": journals}
 
@@ -215,9 +213,11 @@ class Cluster:
         return known, self.counts["submitted"] - known - taken, taken
 
     def close(self):
-        for it in self.members.all.values():
-            if it.state == "up":
-                it.process.close()
+        found = [it.process for it in self.members.all.values() if it.state == "up"]
+        for it in found:
+            it.end()
+        for it in found:
+            it.close()
 
     def drop(self):
         for it in self.members.all.values():

@@ -8,8 +8,8 @@ KEYS = ("", "60", "61", "616161", "6162", "62", "6262", "63", "6361", "7a")
 COMBINED = ("add", "and", "or", "xor", "max", "min")
 # Of 1,000 steps: a node asks, a message comes, a batch is handed out, what is open is taken, a node comes back, a wall is
 # put up, a recoverer begins, a log is lost.
-WEIGHTS = {"ask": 360, "come": 480, "submit": 60, "take": 40, "back": 40, "wall": 8, "begin": 6, "lose": 1}
-KINDS = {"proxy": 5, "recoverer": 6, "storage": 3}
+WEIGHTS = {"ask": 260, "come": 500, "submit": 60, "take": 150, "back": 30, "wall": 4, "begin": 2, "lose": 1}
+KINDS = {"proxy": 6, "recoverer": 8, "storage": 4}
 KILLED = {"cell": 3, "log": 4, "storage": 4, "sequencer": 1, "proxy": 1, "recoverer": 2}
 
 

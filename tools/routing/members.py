@@ -17,7 +17,8 @@ class Member:
         self.name, self.text, self.words, self.room = name, spoken(name), words, room
         self.has_files = has_files and self.kind in FILED
         self.entries, self.last, self.wants = [], None, []
-        self.process, self.state, self.left = None, "down", []
+        self.process, self.state = None, "down"
+        self.left, self.is_back = [], True  # what was left without an answer at a kill; whether `back` was answered since
 
     def start(self):
         words = self.words + (["--dir", f"{self.room}/files"] if self.has_files else [])
@@ -54,39 +55,28 @@ class Members:
         it = self.all[spoken(name)] = Member(name, words, self.room, has_files)
         self.begin(it)
         if it.kind == "recoverer":
-            self.ask(it, {"type": "begin", "at": self.stamp})
+            self.give(it, {"type": "begin", "at": self.stamp})
         return it
 
     def begin(self, it):
         it.start()
-        found = self.ask(it, {"type": "init"})
-        if found.get("node") != it.name:
-            raise Trouble(f"{it.text} says at its start that it is {found.get('node')}")
+        self.give(it, {"type": "init"})
 
     # ---- lines
 
     def give(self, it, body):
-        """Gives a line whose answer is taken later."""
-        if not it.process.has_room(body):
+        """Gives a line whose answer is taken later. What was left at a kill comes first."""
+        if not it.is_back or not it.process.has_room(body):
             self.collect(it)
         it.process.give(body)
 
-    def ask(self, it, body):
-        """Gives a line, takes all answers up to its own, and returns that."""
-        it.process.give(body)
-        found = self.collect(it)
-        return found or {}
-
     def collect(self, it):
-        """Takes the answers to all lines that are open, and returns the last one's body."""
-        found = None
+        """Takes the answers to all lines that are open."""
         while it.process.open:
             took = it.process.answer()
             if took is None:
                 raise Trouble(f"{it.text} ended by itself, with status {it.process.it.wait()}: {it.said()}")
-            found = took[1]
             self.took(it, *took)
-        return found
 
     def took(self, it, given, body):
         """Takes in what a node answered."""
@@ -96,11 +86,15 @@ class Members:
             return
         if body.get("type") != f"{word}_ok":
             raise Trouble(f"{it.text} answers {word} by {json.dumps(body)[:300]}")
+        if word == "init" and body.get("node") != it.name:
+            raise Trouble(f"{it.text} says at its start that it is {body.get('node')}")
         entries = body.get("entries", [body["entry"]] if "entry" in body else [])
         was, it.last = it.last, body.get("last", it.last)
         it.wants = body.get("wants", it.wants)
         for entry in entries:
             self.enter(it, entry)
+        if word == "back":
+            self.settle(it, entries)
         if word != "init":
             self.heeds(it, given, entries, was)
 
@@ -131,14 +125,13 @@ class Members:
             if took is None:
                 break
             self.took(it, *took)
-        it.left = [body for _, body in it.process.open if body["type"] in ENTERING]
         it.process.drop()
-        words = [body["type"] for body in it.left]
-        self.counts["inside"] += "ask" in words
+        if it.is_back:
+            it.left = [body for _, body in it.process.open if body["type"] in ENTERING]
+            self.counts["inside"] += any(body["type"] == "ask" for body in it.left)
         it.state = "down" if it.has_files else "gone"
         if it.state == "gone":
             self.act(it, {"lost": {}} if it.kind == "log" else {"crashed": {}})
-        return it.left
 
     def lose(self, it):
         """A log that is killed and whose file is lost too."""
@@ -149,17 +142,21 @@ class Members:
         it.state = "gone"
 
     def back(self, it):
-        """Starts a node that was killed over its files. What was left without an answer is given again, first."""
+        """Starts a node that was killed over its files. It may be killed again before it has answered."""
+        it.is_back = True
         self.begin(it)
         body = {"type": "back", "at": self.stamp}
-        hearing = it.left[0] if it.left and it.left[0]["type"] == "hear" else None
-        if hearing:
-            self.counts["hears"] += 1
-            body["hearing"] = {"from": hearing["from"], "tell": hearing["tell"]}
-        found = self.ask(it, body)
-        heard = [entry["act"]["heard"] for entry in found.get("entries", []) if "heard" in entry["act"]]
+        if it.left and it.left[0]["type"] == "hear":
+            body["hearing"] = {"from": it.left[0]["from"], "tell": it.left[0]["tell"]}
+        self.give(it, body)
+        it.is_back = False
+
+    def settle(self, it, entries):
+        """Once it is back, what was left without an answer is given again, first: but a hear that it answered so."""
+        heard = [entry["act"]["heard"] for entry in entries if "heard" in entry["act"]]
+        self.counts["hears"] += bool(it.left) and it.left[0]["type"] == "hear"
         self.counts["parts"] += any(each["taken"] is not None for each in heard)
-        for each in it.left[len(heard) :]:
+        left, it.left, it.is_back = it.left[len(heard) :], [], True
+        for each in left:
             self.counts["settled"] += each["type"] == "ask"
-            self.ask(it, each | {"at": self.stamp})
-        it.left = []
+            self.give(it, each | {"at": self.stamp})

@@ -82,12 +82,15 @@ class Process:
         self.it.send_signal(signal.SIGKILL)
         self.it.wait()
 
+    def end(self):
+        """Ends its input."""
+        self.it.stdin.close()
+
     def close(self):
-        """Ends its input, and waits for its end."""
+        """Waits for its end."""
         try:
-            self.it.stdin.close()
             status = self.it.wait(PATIENCE)
-        except (BrokenPipeError, subprocess.TimeoutExpired):
+        except subprocess.TimeoutExpired:
             self.drop()
             raise Trouble(f"{self.text} goes on after the end of its input") from None
         self.it.stdout.close()

@@ -4,8 +4,14 @@ import time
 
 from . import drawing
 from .cluster import FLYING, KEPT, Cluster
+from .processes import spoken
 
 CALM = 400  # rounds in which all that is asked comes, until a cluster that does not come to its end is left as it is
+TRYING = 2  # so many recoverers contend, beside those that nobody hears any more
+
+
+def phase_of(it):
+    return it.last["recoverer"]["phase"] if it.last else "reading"
 
 
 class Story(Cluster):
@@ -18,12 +24,12 @@ class Story(Cluster):
                 continue
             dice = drawing.Dice(self.seed, "step", step)
             if step in fatal:
-                self.kill(dice, step)
+                self.kill(dice)
             else:
                 getattr(self, "do_" + dice.weighed(self.weights(dice)))(dice, step)
-        self.collect()
         for it in self.members.of("cell", "log", "storage"):
             self.bring_back(it)
+        self.collect()
         if drawing.Dice(self.seed, "calm").one_of(2):
             self.calm()
 
@@ -31,17 +37,18 @@ class Story(Cluster):
         """What a step may be. Where nothing goes on in the newest epoch, a recoverer is more likely to begin."""
         is_full = len(self.flying) >= FLYING
         weights = drawing.WEIGHTS | {"ask": 0 if is_full else drawing.WEIGHTS["ask"]}
-        return weights | ({"begin": 30} if self.is_stuck() else {})
+        trying = [it for it in self.members.of("recoverer") if self.is_trying(it)]
+        more = 20 if self.is_stuck() and not trying else drawing.WEIGHTS["begin"] if len(trying) < TRYING else 0
+        return weights | {"begin": more}
 
     def is_stuck(self):
         epoch = self.newest
         proxies = [it for it in self.members.of("proxy") if it.its["epoch"] == epoch and it.state == "up"]
         sequencer = self.members.find({"sequencer": {"epoch": epoch}})
-        recoverers = [it for it in self.members.of("recoverer") if it.state == "up" and self.is_trying(it)]
-        return not recoverers and (sequencer.state != "up" or not proxies or self.has_lost(epoch))
+        return sequencer.state != "up" or not proxies or self.has_lost(epoch)
 
     def is_trying(self, it):
-        return not it.last["recoverer"]["phase"].startswith(("lost", "chosen"))
+        return it.state == "up" and not phase_of(it).startswith(("lost", "chosen"))
 
     def has_lost(self, epoch):
         return any(it.state == "gone" for it in self.members.of("log") if it.its["epoch"] == epoch)
@@ -59,13 +66,20 @@ class Story(Cluster):
         return found
 
     def do_ask(self, dice, _):
-        kinds = {kind: weight for kind, weight in drawing.KINDS.items() if self.active(kind)}
+        """Of a node that has answered all its lines some of the asks fly which it then wanted; or it is asked for them."""
+        found = {kind: [it for it in self.active(kind) if not it.process.open] for kind in drawing.KINDS}
+        kinds = {kind: weight for kind, weight in drawing.KINDS.items() if found[kind]}
         if not kinds:
             return
-        it = dice.choice(self.active(dice.weighed(kinds)))
-        asks = self.wanted(it, dice.one_of(4))
-        for to, ask in dice.sample(asks, min(len(asks), dice.choice([1, 1, 2, 3]))):
+        it = dice.choice(found[dice.weighed(kinds)])
+        asks, is_again = it.wants, dice.one_of(6)
+        if not is_again:
+            flying = [(one.to, one.what) for one in self.flying if one.by == it.name]
+            asks = [ask for ask in asks if tuple(ask) not in flying]
+        for to, ask in dice.sample(asks, min(len(asks), dice.choice([1, 2, 3, 5]))):
             self.fly("ask", it.name, to, ask)
+        if it.kind == "storage" or dice.one_of(6):
+            self.ask_wants(it)
 
     def do_come(self, dice, step):
         """A message comes, or is lost; it may come again, or be kept to come late; or one that was kept comes."""
@@ -83,7 +97,7 @@ class Story(Cluster):
         if dice.one_of(16):
             return
         it = self.give(message)
-        if it and not dice.one_of(4):
+        if it and dice.one_of(8):
             self.members.collect(it)
 
     def do_take(self, _, __):
@@ -97,10 +111,12 @@ class Story(Cluster):
             it = dice.choice(found)
             step = dice.choice([1, 1, 1, 2, 3, 50])
             self.members.give(it, {"type": "submit", "at": self.members.stamp, "batch": drawing.batch_of(dice), "step": step})
-            self.members.collect(it)
 
-    def do_begin(self, dice, _):
+    def do_begin(self, dice, step):
+        """A recoverer begins; often a log falls behind meanwhile, so that storage servers come to be ahead of it."""
         self.begin(dice)
+        if not dice.one_of(3):
+            self.do_wall(dice, step)
 
     def do_wall(self, dice, step):
         """For a while nothing comes from one log to others, or to it: it falls behind."""
@@ -149,15 +165,25 @@ class Story(Cluster):
                 found.setdefault(it.kind, []).append(it)
         return found
 
-    def kill(self, dice, step):
+    def messages(self):
+        """What flies to which node."""
+        found = {}
+        for one in self.flying + self.late:
+            found.setdefault(spoken(one.to), []).append(one)
+        return found
+
+    def kill(self, dice):
         """A node is killed: mostly a moment after it was given lines that it has not answered."""
         victims = self.victims()
-        if not victims:
+        asked = self.messages()
+        busy = {kind: [it for it in its if it.text in asked] for kind, its in victims.items()}
+        busy = {kind: its for kind, its in busy.items() if its}
+        found = busy if busy and not dice.one_of(4) else victims
+        if not found:
             return
-        weights = {kind: drawing.KILLED[kind] for kind in victims}
-        it = dice.choice(victims[dice.weighed(weights)])
-        mine = [one for one in self.flying + self.late if self.members.find(one.to) is it]
-        for message in dice.sample(mine, min(len(mine), dice.choice([0, 1, 1, 2]))):
+        it = dice.choice(found[dice.weighed({kind: drawing.KILLED[kind] for kind in found})])
+        mine = asked.get(it.text, [])
+        for message in dice.sample(mine, min(len(mine), dice.choice([1, 1, 2, 3]))):
             self.give(message)
         if it.process.open:
             time.sleep(10 ** dice.uniform(-5, -2.3))
@@ -175,10 +201,8 @@ class Story(Cluster):
             if last.its["ballot"] == self.newest and self.is_level():
                 self.counts["level"] += 1
                 return
-            for it in [last] if last.its["ballot"] != self.newest or turn % 8 == 0 else []:
-                self.exchange(it)
-            for it in self.active("storage"):
-                self.exchange(it)
+            asking = [last] if last.its["ballot"] != self.newest or turn % 8 == 0 else []
+            self.exchange(asking + self.active("storage"))
 
     def is_level(self):
         """Whether each storage server that is up has come to the newest epoch, and to what its logs hold."""
@@ -187,11 +211,16 @@ class Story(Cluster):
         stands = [it.last["storage"] for it in self.members.of("storage") if it.state == "up"]
         return all(it["epoch"] == self.newest and it["version"] >= most for it in stands)
 
-    def exchange(self, it):
-        """All that a node asks now comes, and what is told is heard."""
-        for to, ask in self.wanted(it, True):
-            self.fly("ask", it.name, to, ask)
+    def exchange(self, asking):
+        """All that some nodes ask now comes, and what is told is heard."""
+        for it in asking:
+            self.ask_wants(it)
+        self.collect()
+        for it in asking:
+            for to, ask in it.wants:
+                self.fly("ask", it.name, to, ask)
         while self.flying:
-            to = self.give(self.flying.pop(0))
-            if to:
-                self.members.collect(to)
+            flying, self.flying = self.flying, []
+            for message in flying:
+                self.give(message)
+            self.collect()
