@@ -52,13 +52,16 @@ class Storage:
         gen, newest = self.source()[0], self.newest
         asks = [(to, self.peek(gen)) for to in self.holders(gen)]
         asks += [(log(newest["epoch"], at), self.mark_asked(newest["epoch"])) for at in range(newest["m"])]
-        return asks + [self.pop(self.floor)]
+        own = gens(self.state)[-1]
+        holders = self.holders(own)
+        return asks + [(holders[self.floor % len(holders)], self.pop(own))]
 
     def wants(self, turn, newest):
         """What it asks in a turn, of one log each: records, a mark of the newest epoch, and to let go of records."""
-        gen, epoch = self.source()[0], newest["epoch"]
-        peek = self.holders(gen)[turn % gen["k"]], self.peek(gen)
-        return [peek, (log(epoch, turn % newest["logs"]), self.mark_asked(epoch)), self.pop(turn)]
+        gen, own, epoch = self.source()[0], gens(self.state)[-1], newest["epoch"]
+        holder = lambda gen: log(gen["epoch"], (self.tag + turn % gen["k"]) % gen["m"])
+        mark = log(epoch, turn % newest["logs"]), self.mark_asked(epoch)
+        return [(holder(gen), self.peek(gen)), mark, (holder(own), self.pop(own))]
 
     def holders(self, gen):
         return [log(gen["epoch"], at) for at in range(gen["m"]) if holds(at, self.tag, gen["m"], gen["k"])]
@@ -69,11 +72,8 @@ class Storage:
     def mark_asked(self, epoch):
         return {"log": {"mark_asked": {"epoch": epoch}}}
 
-    def pop(self, turn):
-        own = gens(self.state)[-1]
-        holders = self.holders(own)
-        pop = {"log": {"pop": {"epoch": own["epoch"], "tag": self.tag, "through": self.to_pop()}}}
-        return holders[turn % len(holders)], pop
+    def pop(self, own):
+        return {"log": {"pop": {"epoch": own["epoch"], "tag": self.tag, "through": self.to_pop()}}}
 
     def to_pop(self):
         return self.floor

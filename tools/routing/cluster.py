@@ -155,6 +155,7 @@ class Cluster:
             is_pop = lambda one: one.by == it.name and "pop" in one.what.get("log", {}) and one.kind == "ask"
             self.flying = [one for one in self.flying if not is_pop(one)]
             self.late = [one for one in self.late if not is_pop(one)]
+            it.wants = []
 
     # ---- the network
 

@@ -56,14 +56,20 @@ class Story(Cluster):
     # ---- steps
 
     def active(self, kind):
-        """The nodes of a kind that may ask: of recoverers those that are not lost, and of those that are chosen the last."""
+        """The nodes of a kind that ask: of recoverers those that are not lost, and the last one until its marks are held."""
         found = [it for it in self.members.of(kind) if it.state == "up"]
         if kind == "recoverer":
-            ballots = lambda it: it.its["ballot"] == self.newest or self.is_trying(it)
-            return [it for it in found if ballots(it)]
+            is_opening = lambda it: it.its["ballot"] == self.newest and not self.is_marked()
+            return [it for it in found if self.is_trying(it) or is_opening(it)]
         if kind == "proxy":
             return [it for it in found if self.open.get(it.text)]
         return found
+
+    def is_marked(self):
+        """Whether the logs of the newest epoch hold its mark, but for those that are gone."""
+        rv = self.chosen.get(self.newest, 0)
+        logs = [it for it in self.members.of("log") if it.its["epoch"] == self.newest and it.state != "gone"]
+        return all(it.last and it.last["log"]["durable"] > rv for it in logs)
 
     def do_ask(self, dice, _):
         """Of a node that has answered all its lines some of the asks fly which it then wanted; or it is asked for them."""

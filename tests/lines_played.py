@@ -1,0 +1,194 @@
+"""Lines played to nodes: those of `lines.py`, those of journals that bench/reading draws, and bad ones."""
+
+import json
+import os
+import subprocess
+import sys
+import tempfile
+
+import built
+import lines
+
+sys.path.insert(0, f"{built.TOP}/bench")
+
+from reading import judging
+from reading.drawing import Drawn
+
+PATIENCE = 60
+
+
+def text(it):
+    return json.dumps(it, separators=(",", ":"), sort_keys=True)
+
+
+def answers(words, given):
+    """The lines that a process answers to these, which are bytes; it has to end with status 0 and to complain of nothing."""
+    ran = subprocess.run(words, input=b"".join(it + b"\n" for it in given), capture_output=True, timeout=PATIENCE)
+    return ran.stdout.split(b"\n")[:-1], (ran.returncode, ran.stderr)
+
+
+def line(name, number, body):
+    return text({"body": body | {"msg_id": number}, "dest": name, "src": "router"}).encode()
+
+
+def with_config(words, config, room):
+    if config is None:
+        return words
+    with open(f"{room}/config.json", "w", encoding="utf-8") as it:
+        json.dump(config, it)
+    return words + ["--config", f"{room}/config.json"]
+
+
+# ---- by hand
+
+
+def is_answer(found, wanted, is_exact):
+    """Whether a line is the one that is wanted: to the byte, or by its content, with more asks that were asked before."""
+    its = json.loads(found)
+    if wanted["body"]["type"] == "error" and "text" not in wanted["body"]:
+        wanted = wanted | {"body": wanted["body"] | {"text": its["body"].get("text")}}
+    if is_exact:
+        return found == text(wanted).encode()
+    least, asks = wanted["body"].get("wants", []), its["body"].get("wants", [])
+    is_more = all(ask in asks for ask in least)
+    return is_more and text(its | {"body": its["body"] | {"wants": 0}}) == text(wanted | {"body": wanted["body"] | {"wants": 0}})
+
+
+def by_hand(checks, command, is_exact, kinds=("cell", "log", "sequencer", "proxy", "recoverer", "storage")):
+    """The scripts of lines.py; a node with a file answers the same."""
+    for title, (words, config, rows) in lines.SCRIPTS.items():
+        if words.split()[0] not in kinds:
+            continue
+        for is_filed in (False, True):
+            with tempfile.TemporaryDirectory() as room:
+                more = ["--dir", room] if is_filed and words.split()[0] in ("cell", "log", "storage") else []
+                if is_filed and not more:
+                    continue
+                words_of = with_config([*command, *words.split(), *more], config, room)
+                name = lines.NAMES[title]
+                given = [line(name, number, body) for number, (body, _) in enumerate(rows)]
+                found, end = answers(words_of, given)
+                checks.check(end == (0, b"") and len(found) == len(rows), title, "ended with", end, len(found))
+                for number, (it, (body, answer)) in enumerate(zip(found, rows)):
+                    wanted = {"body": answer | {"in_reply_to": number}, "dest": "router", "src": name}
+                    checks.check(is_answer(it, wanted, is_exact), title, text(body), "answers", it, "and not", text(wanted))
+
+
+# ---- drawn
+
+
+def words_of(events, name):
+    """The words of a node of a drawn world."""
+    ((kind, it),) = name.items()
+    words = [kind, *(word for each in sorted(it) for word in (f"--{each}", it[each]))]
+    if kind == "log":
+        node = events.nodes.logs[it["epoch"], it["index"]]
+        words += ["--logs", node.m, "--degree", node.k]
+    first = kind == "cell" or kind == "log" and it["epoch"] == 257
+    rv = pev = None
+    if kind in ("sequencer", "proxy"):
+        recoverer = events.nodes.recoverers.get(it["epoch"])
+        pev, rv = (recoverer.pev, recoverer.rv) if recoverer else (0, 0)
+        words += ["--last", rv + 1] if kind == "sequencer" else ["--known", pev]
+    return [str(word) for word in words] + (["--start"] if first else [])
+
+
+def config_of(events, name):
+    """The config that it is given: that of the world, and for a proxy with the shape of its epoch."""
+    if "proxy" not in name:
+        return events.config
+    log = events.nodes.logs[name["proxy"]["epoch"], 0]
+    return events.config | {"logs": log.m, "degree": log.k}
+
+
+def line_of(act, stamp):
+    """The line by which an act comes to be, or None where none does."""
+    ((kind, it),) = act.items()
+    if kind == "asked":
+        return {"type": "ask", "at": stamp - 1, "from": it["from"], "ask": it["ask"]}
+    if kind == "heard" and it["taken"] is None:
+        return {"type": "hear", "at": stamp - 1, "from": it["from"], "tell": it["tell"]}
+    if kind == "submitted":
+        return {"type": "submit", "at": stamp - 1} | it
+    return {"type": "begin", "at": stamp - 1} if kind == "begun" else None
+
+
+def shape_words(journal):
+    begun = [it["act"]["begun"] for it in journal["entries"] if "begun" in it["act"]]
+    return [str(word) for it in begun for name in it for word in (f"--{name}", it[name])]
+
+
+def drawn(checks, command, seeds, events=400):
+    """Each node of worlds that bench/reading draws is given what it was asked and heard there; it has to enter the same.
+    A crash is passed over, since it changes nothing; a node whose hear broke off is left there."""
+    for seed in seeds:
+        world = Drawn(seed).play(events).events
+        for journal in world.script()["journals"]:
+            name, entries = journal["node"], journal["entries"]
+            parts = [at for at, it in enumerate(entries) if it["act"].get("heard", {}).get("taken") is not None]
+            entries = entries[: parts[0]] if parts else entries
+            played = [(line_of(it["act"], it["stamp"]), it) for it in entries]
+            played = [(body, it) for body, it in played if body]
+            with tempfile.TemporaryDirectory() as room:
+                its = [*command, *words_of(world, name), *shape_words(journal)]
+                config = None if {"log", "sequencer"} & set(name) else config_of(world, name)
+                words, spoken = with_config(its, config, room), judging.spoken(name)
+                bodies = [body for body, _ in played] + [{"type": "last"}]
+                found, end = answers(words, [line(spoken, at, body) for at, body in enumerate(bodies)])
+            checks.check(end == (0, b"") and len(found) == len(bodies), "seed", seed, spoken, "ended with", end)
+            for it, (body, entry) in zip(found, played):
+                its = json.loads(it)["body"]
+                checks.check(its.get("entry") == entry, "seed", seed, spoken, text(body), "enters", it, "and not", text(entry))
+            if found and not parts:
+                its = json.loads(found[-1])["body"]
+                checks.check(its.get("last") == journal["last"], "seed", seed, spoken, "stands at", found[-1])
+
+
+# ---- bad lines, and ends
+
+BAD = [
+    (b"", None, 12),
+    (b"x", None, 12),
+    (b"{", None, 12),
+    (b"[]", None, 12),
+    (b'"cell 0"', None, 12),
+    (b"\xff\xfe", None, 12),
+    (b"[" * 5000, None, 12),
+    (b'{"src":"router","dest":"cell 0","body":{"type":"last"}}', None, 12),
+    (b'{"src":"router","dest":"cell 0","body":{"type":"last","msg_id":"1"}}', None, 12),
+    (b'{"src":"router","dest":"cell 0","body":{"type":"last","msg_id":-1}}', None, 12),
+    (b'{"src":"router","dest":"cell 0","body":{"type":"last","msg_id":9007199254740992}}', None, 12),
+    (b'{"src":"router","dest":"cell 0","body":{"msg_id":1}}', 1, 12),
+    (b'{"src":"router","dest":"cell 1","body":{"type":"last","msg_id":2}}', 2, 12),
+    (b'{"src":"router","dest":"cell 0","body":{"type":"sing","msg_id":9007199254740991}}', 9007199254740991, 10),
+    (b'{"src":"router","dest":"cell 0","body":{"type":"submit","msg_id":3,"at":1,"batch":[],"step":1}}', 3, 10),
+]
+
+
+def bad_lines(checks, command):
+    """Each is answered by an error with its code, and changes nothing."""
+    with tempfile.TemporaryDirectory() as room:
+        words = with_config([*command, "cell", "--index", "0", "--start"], lines.CONFIG, room)
+        found, end = answers(words, [it for it, _, _ in BAD] + [line("cell 0", 4, {"type": "last"})])
+    checks.check(end == (0, b"") and len(found) == len(BAD) + 1, "bad lines:", len(found), "answers, and the end", end)
+    for it, (given, number, code) in zip(found, BAD):
+        body = json.loads(it)["body"]
+        is_so = body["type"] == "error" and body["code"] == code and body.get("in_reply_to") == number and body["text"]
+        checks.check(is_so, given[:100], "is answered by", it)
+    last = json.loads(found[-1])["body"] if found else {}
+    checks.check(last.get("last") == lines.cell(257, 257, lines.ONE), "after bad lines it stands at", last)
+
+
+def ends(checks, command):
+    """A node ends with status 0 at the end of its input, and by itself where nobody reads what it answers."""
+    with tempfile.TemporaryDirectory() as room:
+        words = with_config([*command, "cell", "--index", "0", "--start"], lines.CONFIG, room)
+        found, end = answers(words, [])
+        checks.check((found, end) == ([], (0, b"")), "without a line it ended with", end, found)
+        one, other = os.pipe()
+        os.close(one)
+        ran = subprocess.run(words, input=line("cell 0", 1, {"type": "last"}) + b"\n", stdout=other, stderr=subprocess.PIPE, timeout=PATIENCE)
+        os.close(other)
+        checks.check(ran.returncode == 4, "without a reader it ended with", ran.returncode, ran.stderr[-300:])
+        closed = subprocess.run([*words[:-1], f"{room}/none.json"], stdin=subprocess.DEVNULL, capture_output=True, timeout=PATIENCE)
+        checks.check(closed.returncode not in (0, None) and closed.stdout == b"", "without its config it ended with", closed)
