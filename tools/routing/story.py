@@ -15,7 +15,7 @@ def phase_of(it):
 
 
 class Story(Cluster):
-    """`without` are steps that are left out."""
+    """`without` are steps that are left out; the one behind the last is that the cluster comes to rest."""
 
     def play(self, steps, kills, without=()):
         fatal = drawing.kills_of(self.seed, steps, kills)
@@ -30,7 +30,7 @@ class Story(Cluster):
         for it in self.members.of("cell", "log", "storage"):
             self.bring_back(it)
         self.collect()
-        if drawing.Dice(self.seed, "calm").one_of(2):
+        if drawing.Dice(self.seed, "calm").one_of(2) and steps not in without:
             self.calm()
 
     def weights(self, dice):

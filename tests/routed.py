@@ -1,0 +1,72 @@
+"""Runs of tools/router, side by side."""
+
+import concurrent.futures
+import json
+import re
+import subprocess
+import sys
+import tempfile
+
+import built
+
+sys.path.insert(0, f"{built.TOP}/examples/foreign")
+
+import zoo
+
+ROUTER, FOREIGN = f"{built.TOP}/tools/router", f"{built.TOP}/examples/foreign/node"
+JUDGE = f"{built.TOP}/bench/judge"
+
+
+class Ran:
+    """A run: its status, the lines that it printed, and the counts by their words."""
+
+    def __init__(self, room, words):
+        self.words, self.room = words, room
+        ran = subprocess.run([ROUTER, *words, "--dir", room], capture_output=True, text=True, timeout=250)
+        self.status, self.lines, self.errors = ran.returncode, ran.stdout.splitlines(), ran.stderr
+        counts = next((line for line in self.lines if " kills, " in line), "")
+        self.counts = {word: int(number) for number, word in re.findall(r"(\d+) ([^,]+)", counts)}
+
+    def entry(self):
+        """The entry that the line names, as bench/entry prints it, or the line itself."""
+        at = re.fullmatch(r".* at (\d+)", self.lines[0])
+        if not at:
+            return self.lines[0]
+        with open(f"{self.room}/journals.json", encoding="utf-8") as it:
+            return subprocess.run([f"{built.TOP}/bench/entry", at[1]], stdin=it, capture_output=True, text=True).stdout
+
+
+def runs(checks, cases, then):
+    """Runs cases two at a time, each a name with its words, and calls `then` with each name and run."""
+    with tempfile.TemporaryDirectory() as room, concurrent.futures.ThreadPoolExecutor(2) as pool:
+        begun = [(name, pool.submit(Ran, f"{room}/{at}", words)) for at, (name, words) in enumerate(cases)]
+        for name, it in begun:
+            then(checks, name, it.result())
+
+
+def is_run(checks, name, ran):
+    """A run that is right: its status, its three lines, and counts that go together."""
+    checks.check(ran.status == 0 and ran.lines[:1] == ["audit ok"], name, ran.words, ran.status, ran.lines, ran.errors[-400:])
+    checks.check(ran.lines[1:2] == [f"journals: {ran.room}/journals.json"], name, "says where its journals lie:", ran.lines)
+    its = ran.counts
+    checks.check(its.get("batches acknowledged", 0) > 0 and its.get("recoveries chosen", 0) > 0, name, "did too little:", its)
+
+
+def is_found(checks, name, ran):
+    """A bug that is found: at a node of its kind, or at an entry that it is to blame for."""
+    line, kinds = ran.lines[0] if ran.lines else "", set(zoo.BUGS[name].nodes)
+    checks.check(ran.status == 1 and line != "audit ok", name, "is not found:", ran.lines, ran.errors[-400:])
+    if line.startswith("tell differs"):
+        at = re.search(r"node (\{.*?\}\}): ", ran.entry())
+        checks.check(at and set(json.loads(at[1])) <= kinds, name, "is found at another node:", line, ran.entry()[:200])
+    elif line.startswith("state differs"):
+        checks.check(line.split(" ")[3] in kinds, name, "is found at another node:", line)
+    else:
+        checks.check(line.startswith("not a run at "), name, "ended otherwise:", line, ran.errors[-400:])
+
+
+def bug_words(name, others, seed=1, steps=2500):
+    """The words of a run in which the nodes of a bug's kinds have it. Others run by a program, or as the example does."""
+    words = ["--seed", str(seed), "--steps", str(steps), "--kills", "0", "--store", "memory"]
+    words += [it for kind in zoo.BUGS[name].nodes for it in ("--node", f"{kind}={FOREIGN} --bug {name}")]
+    return words + ["--node", others]
