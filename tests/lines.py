@@ -1,5 +1,6 @@
-"""Lines to nodes and what each answers, worked out by hand from docs/PROTOCOL.md and docs/NODES.md. A script is the words
-of a node, the config that these name, and rows: the body of a line, and that of its answer (without numbers of lines)."""
+"""Lines to nodes and what each answers, worked out by hand from docs/PROTOCOL.md and docs/NODES.md. A script is the
+words of a node, the config that these name, and rows: the body of a line, and that of its answer (without numbers of
+lines)."""
 
 CONFIG = {"coordinators": 1, "degree": 2, "logs": 2, "proxies": 1, "shards": [""]}
 HALVES = {"coordinators": 1, "degree": 1, "logs": 2, "proxies": 1, "shards": ["", "6d"]}
@@ -132,6 +133,7 @@ def lock(epoch):
 
 UNSEEDED = {"log": {"durable": 0, "known": 0, "seeded": False, "stopped": False}}
 LAST = {"popped": [[0, 11]]}
+MARK_ASKED = {"log": {"mark_asked": {"epoch": 513}}}
 LOGS = [
     begins(log(513, 0), UNSEEDED),
     asked(5, STORAGE, PEEK, 6, refused("unseeded"), UNSEEDED),
@@ -152,7 +154,7 @@ LOGS = [
     asked(20, STORAGE, pop(0, 20), 21, told("popped", through=11), log_last(14, 11, True, **LAST)),
     asked(21, STORAGE, PEEK, 22, refused("removed", through=11), log_last(14, 11, True, **LAST)),
     asked(22, RECOVERER, lock(513), 23, told("locked", durable=14, known=11, **LAST), log_last(14, 11, True, **LAST)),
-    asked(23, STORAGE, {"log": {"mark_asked": {"epoch": 513}}}, 24, told("marked", state=STATE), log_last(14, 11, True, **LAST)),
+    asked(23, STORAGE, MARK_ASKED, 24, told("marked", state=STATE), log_last(14, 11, True, **LAST)),
     fault({"type": "submit", "at": 30, "batch": [], "step": 1}, 10),
     fault({"type": "ask", "at": 30, "from": STORAGE, "ask": read(513)}, 12),
 ]
@@ -199,8 +201,8 @@ def submitted(at, batch, stamp, last, wants):
 
 
 def pushed(at, tag, batch, known, prev, version):
-    its = {"bodies": [[tag, batch]], "epoch": 257, "known": known, "mark": None, "prev": prev, "version": version}
-    return [log(257, at), {"log": {"push": its}}]
+    its = {"bodies": [[tag, batch]] if batch else [], "epoch": 257, "known": known, "mark": None}
+    return [log(257, at), {"log": {"push": its | {"prev": prev, "version": version}}}]
 
 
 def clear(begin, end):
@@ -212,8 +214,8 @@ WAITING, ENDED = {"waiting": {}}, {"ended": {}}
 HELD = {"log": {"held": {"version": 2}}}
 STOPPED = refused("stopped")
 PUSHES = [pushed(0, 0, clear("61", "6d"), 0, 1, 2), pushed(1, 1, clear("6d", "7a"), 0, 1, 2)]
-MORE = [pushed(0, 0, BATCH, 2, 2, 3)[0:1] + [{"log": {"push": {**pushed(0, 0, BATCH, 2, 2, 3)[1]["log"]["push"]}}}]]
-EMPTY = [log(257, 1), {"log": {"push": {**pushed(1, 1, [], 2, 2, 3)[1]["log"]["push"], "bodies": []}}}]
+# (the second batch is in the shard of tag 0 alone)
+MORE = [pushed(0, 0, BATCH, 2, 2, 3), pushed(1, 1, [], 2, 2, 3)]
 OVER = {"type": "submit", "at": 60, "batch": [], "step": 1}
 PROXIES = [
     begins(proxy(257), KNOWN(0)),
@@ -227,8 +229,8 @@ PROXIES = [
     heard(20, log(257, 1), HELD, 21, KNOWN(2), [], {"committed": {"version": 2}}),
     wanted(1, []),
     submitted(21, BATCH, 22, KNOWN(2), [[SEQUENCER, ask_next(0, 2, 1)]]),
-    heard(22, SEQUENCER, numbered(2, 2, 3), 23, KNOWN(2), MORE + [EMPTY], WAITING),
-    wanted(2, MORE + [EMPTY]),
+    heard(22, SEQUENCER, numbered(2, 2, 3), 23, KNOWN(2), MORE, WAITING),
+    wanted(2, MORE),
     heard(23, log(257, 1), STOPPED, 24, KNOWN(2), [], ENDED),
     heard(24, log(257, 0), {"log": {"held": {"version": 3}}}, 25, KNOWN(2), [], WAITING),
     fault(OVER, 14, "Over"),
@@ -279,11 +281,13 @@ OTHER_SHAPE = [
 
 
 def stands(epoch, version, floor, **rows):
-    return {"storage": {"epoch": epoch, "floor": floor, "rows": [[key[1:], rows[key]] for key in rows], "version": version}}
+    found = [[key[1:], rows[key]] for key in rows]
+    return {"storage": {"epoch": epoch, "floor": floor, "rows": found, "version": version}}
 
 
 def peeked(after, known, upto, *records):
-    return told("peeked", after=after, known=known, records=[{"batch": it[1], "version": it[0]} for it in records], tag=0, upto=upto)
+    found = [{"batch": batch, "version": version} for version, batch in records]
+    return told("peeked", after=after, known=known, records=found, tag=0, upto=upto)
 
 
 def asks(epoch, at, after, through):
@@ -322,6 +326,13 @@ SCRIPTS = {
     "a recoverer with a shape": ("recoverer --ballot 513 --logs 3 --degree 1", CONFIG, OTHER_SHAPE),
     "a storage server": ("storage --tag 0", CONFIG, STORAGES),
 }
-NAMES = {"a sequencer at the last versions": "sequencer 257", "a recoverer with a shape": "recoverer 513", "a cell": "cell 0"}
-NAMES |= {"a log": "log 513 0", "a sequencer": "sequencer 257", "a proxy": "proxy 257 0", "a recoverer": "recoverer 513"}
-NAMES |= {"a storage server": "storage 0"}
+NAMES = {
+    "a cell": "cell 0",
+    "a log": "log 513 0",
+    "a sequencer": "sequencer 257",
+    "a sequencer at the last versions": "sequencer 257",
+    "a proxy": "proxy 257 0",
+    "a recoverer": "recoverer 513",
+    "a recoverer with a shape": "recoverer 513",
+    "a storage server": "storage 0",
+}

@@ -22,7 +22,7 @@ def text(it):
 
 
 def answers(words, given):
-    """The lines that a process answers to these, which are bytes; it has to end with status 0 and to complain of nothing."""
+    """The lines that a process answers to these, as bytes; its status at the end, and what it complains of."""
     ran = subprocess.run(words, input=b"".join(it + b"\n" for it in given), capture_output=True, timeout=PATIENCE)
     return ran.stdout.split(b"\n")[:-1], (ran.returncode, ran.stderr)
 
@@ -43,15 +43,15 @@ def with_config(words, config, room):
 
 
 def is_answer(found, wanted, is_exact):
-    """Whether a line is the one that is wanted: to the byte, or by its content, with more asks that were asked before."""
+    """Whether a line is the one that is wanted: to the byte, or by its content, with asks of before among its wants."""
     its = json.loads(found)
     if wanted["body"]["type"] == "error" and "text" not in wanted["body"]:
         wanted = wanted | {"body": wanted["body"] | {"text": its["body"].get("text")}}
     if is_exact:
         return found == text(wanted).encode()
     least, asks = wanted["body"].get("wants", []), its["body"].get("wants", [])
-    is_more = all(ask in asks for ask in least)
-    return is_more and text(its | {"body": its["body"] | {"wants": 0}}) == text(wanted | {"body": wanted["body"] | {"wants": 0}})
+    rest = [text(it | {"body": it["body"] | {"wants": 0}}) for it in (its, wanted)]
+    return all(ask in asks for ask in least) and rest[0] == rest[1]
 
 
 def by_hand(checks, command, is_exact, kinds=("cell", "log", "sequencer", "proxy", "recoverer", "storage")):
@@ -71,7 +71,8 @@ def by_hand(checks, command, is_exact, kinds=("cell", "log", "sequencer", "proxy
                 checks.check(end == (0, b"") and len(found) == len(rows), title, "ended with", end, len(found))
                 for number, (it, (body, answer)) in enumerate(zip(found, rows)):
                     wanted = {"body": answer | {"in_reply_to": number}, "dest": "router", "src": name}
-                    checks.check(is_answer(it, wanted, is_exact), title, text(body), "answers", it, "and not", text(wanted))
+                    is_so = is_answer(it, wanted, is_exact)
+                    checks.check(is_so, title, text(body), "answers", it, "and not", text(wanted))
 
 
 # ---- drawn
@@ -119,8 +120,8 @@ def shape_words(journal):
 
 
 def drawn(checks, command, seeds, events=400):
-    """Each node of worlds that bench/reading draws is given what it was asked and heard there; it has to enter the same.
-    A crash is passed over, since it changes nothing; a node whose hear broke off is left there."""
+    """Each node of worlds that bench/reading draws is given what it was asked and heard there, and has to enter the
+    same. A crash is passed over, since it changes nothing; a node whose hear broke off is left there."""
     for seed in seeds:
         world = Drawn(seed).play(events).events
         for journal in world.script()["journals"]:
@@ -138,7 +139,8 @@ def drawn(checks, command, seeds, events=400):
             checks.check(end == (0, b"") and len(found) == len(bodies), "seed", seed, spoken, "ended with", end)
             for it, (body, entry) in zip(found, played):
                 its = json.loads(it)["body"]
-                checks.check(its.get("entry") == entry, "seed", seed, spoken, text(body), "enters", it, "and not", text(entry))
+                is_so = its.get("entry") == entry
+                checks.check(is_so, "seed", seed, spoken, text(body), "enters", it, "and not", text(entry))
             if found and not parts:
                 its = json.loads(found[-1])["body"]
                 checks.check(its.get("last") == journal["last"], "seed", seed, spoken, "stands at", found[-1])
@@ -187,8 +189,9 @@ def ends(checks, command):
         checks.check((found, end) == ([], (0, b"")), "without a line it ended with", end, found)
         one, other = os.pipe()
         os.close(one)
-        ran = subprocess.run(words, input=line("cell 0", 1, {"type": "last"}) + b"\n", stdout=other, stderr=subprocess.PIPE, timeout=PATIENCE)
+        given = line("cell 0", 1, {"type": "last"}) + b"\n"
+        ran = subprocess.run(words, input=given, stdout=other, stderr=subprocess.PIPE, timeout=PATIENCE)
         os.close(other)
         checks.check(ran.returncode == 4, "without a reader it ended with", ran.returncode, ran.stderr[-300:])
-        closed = subprocess.run([*words[:-1], f"{room}/none.json"], stdin=subprocess.DEVNULL, capture_output=True, timeout=PATIENCE)
-        checks.check(closed.returncode not in (0, None) and closed.stdout == b"", "without its config it ended with", closed)
+        ran = subprocess.run([*words[:-1], f"{room}/none"], input=b"", capture_output=True, timeout=PATIENCE)
+        checks.check(ran.returncode > 0 and ran.stdout == b"", "without its config it ended with", ran)

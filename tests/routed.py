@@ -46,10 +46,12 @@ def runs(checks, cases, then):
 
 def is_run(checks, name, ran):
     """A run that is right: its status, its three lines, and counts that go together."""
-    checks.check(ran.status == 0 and ran.lines[:1] == ["audit ok"], name, ran.words, ran.status, ran.lines, ran.errors[-400:])
-    checks.check(ran.lines[1:2] == [f"journals: {ran.room}/journals.json"], name, "says where its journals lie:", ran.lines)
-    its = ran.counts
-    checks.check(its.get("batches acknowledged", 0) > 0 and its.get("recoveries chosen", 0) > 0, name, "did too little:", its)
+    is_so = ran.status == 0 and ran.lines[:1] == ["audit ok"]
+    checks.check(is_so, name, ran.words, ran.status, ran.lines, ran.errors[-400:])
+    is_so = ran.lines[1:2] == [f"journals: {ran.room}/journals.json"]
+    checks.check(is_so, name, "says where its journals lie:", ran.lines)
+    is_so = ran.counts.get("batches acknowledged", 0) > 0 and ran.counts.get("recoveries chosen", 0) > 0
+    checks.check(is_so, name, "did too little:", ran.counts)
 
 
 def is_found(checks, name, ran):
@@ -66,7 +68,7 @@ def is_found(checks, name, ran):
 
 
 def bug_words(name, others, seed=1, steps=2500):
-    """The words of a run in which the nodes of a bug's kinds have it. Others run by a program, or as the example does."""
+    """The words of a run in which the nodes of a bug's kinds have it; others run by another program."""
     words = ["--seed", str(seed), "--steps", str(steps), "--kills", "0", "--store", "memory"]
     words += [it for kind in zoo.BUGS[name].nodes for it in ("--node", f"{kind}={FOREIGN} --bug {name}")]
     return words + ["--node", others]

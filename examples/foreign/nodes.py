@@ -1,5 +1,5 @@
-"""A sequencer, a proxy and a recoverer, as simple as may be, by docs/PROTOCOL.md. Those that ask have `pending`, the asks
-whose tells they want, each with the node that it goes to, and `hear`, which takes a tell."""
+"""A sequencer, a proxy and a recoverer, as simple as may be, by docs/PROTOCOL.md. Those that ask have `pending`, the
+asks whose tells they want, each with the node that it goes to, and `hear`, which takes a tell."""
 
 from log import holds
 from states import dropped, gens, read, spelled, state_of

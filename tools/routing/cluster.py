@@ -1,4 +1,4 @@
-"""A cluster of processes, and the network between them: what flies, what comes, late or again, and what stands still."""
+"""A cluster of processes, and the network between them: what flies, what comes late or again, what stands still."""
 
 import collections
 import json
@@ -201,7 +201,7 @@ class Cluster:
         return {"config": self.config, "journals": journals}
 
     def batches(self):
-        """How many batches were acknowledged, are waiting, and were taken back: those that have a version which the next
+        """How many batches were acknowledged, are waiting, and were taken back: those with a version that the next
         epoch did not take over."""
         taken = 0
         for it in self.members.of("sequencer"):

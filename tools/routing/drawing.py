@@ -1,13 +1,13 @@
-"""What a seed draws: the cluster, its batches, and what each step does. Each step has draws of its own, made of the seed
-and its number, so that steps can be left out and the others are drawn as before."""
+"""What a seed draws: the cluster, its batches, and what each step does. Each step has draws of its own, made of the
+seed and its number, so that steps can be left out and the others are drawn as before."""
 
 import random
 
 BEGINS = ["", "61", "6162", "62", "63", "6361"]
 KEYS = ("", "60", "61", "616161", "6162", "62", "6262", "63", "6361", "7a")
 COMBINED = ("add", "and", "or", "xor", "max", "min")
-# Of 1,000 steps: a node asks, a message comes, a batch is handed out, what is open is taken, a node comes back, a wall is
-# put up, a recoverer begins, a log is lost.
+# Of some 1,000 steps: a node asks, a message comes, a batch is handed out, what is open is taken, a node comes back, a
+# wall is put up, a recoverer begins, a log is lost.
 WEIGHTS = {"ask": 260, "come": 500, "submit": 60, "take": 150, "back": 30, "wall": 4, "begin": 2, "lose": 1}
 KINDS = {"proxy": 6, "recoverer": 8, "storage": 4}
 KILLED = {"cell": 3, "log": 4, "storage": 4, "sequencer": 1, "proxy": 1, "recoverer": 2}

@@ -18,7 +18,8 @@ class Member:
         self.has_files = has_files and self.kind in FILED
         self.entries, self.last, self.wants = [], None, []
         self.process, self.state = None, "down"
-        self.left, self.is_back = [], True  # what was left without an answer at a kill; whether `back` was answered since
+        self.left = []  # what was left without an answer at a kill
+        self.is_back = True  # whether `back` was answered since
 
     def start(self):
         words = self.words + (["--dir", f"{self.room}/files"] if self.has_files else [])
@@ -109,8 +110,9 @@ class Members:
     def failed(self, it, given, body):
         code = body.get("code")
         if given["type"] == "begin" and code == 10:
-            given = dict(zip(it.words, it.words[1:]))
-            self.act(it, {"begun": {name: int(given[f"--{name}"]) for name in ("degree", "logs") if f"--{name}" in given}})
+            words = dict(zip(it.words, it.words[1:]))
+            shape = {name: int(words[f"--{name}"]) for name in ("degree", "logs") if f"--{name}" in words}
+            self.act(it, {"begun": shape})
         elif code != 14:
             raise Trouble(f"{it.text} answers {given['type']} by error {code}: {body.get('text')}")
 

@@ -1,4 +1,4 @@
-"""The steps of a cluster, by its seed: asks, messages, batches, recoverers, walls, kills; and how it comes to its end."""
+"""The steps of a cluster, by its seed: asks, messages, batches, recoverers, walls, kills; and how it comes to rest."""
 
 import time
 
@@ -56,7 +56,7 @@ class Story(Cluster):
     # ---- steps
 
     def active(self, kind):
-        """The nodes of a kind that ask: of recoverers those that are not lost, and the last one until its marks are held."""
+        """The nodes of a kind that ask: of recoverers those that try, and the last one until its marks are held."""
         found = [it for it in self.members.of(kind) if it.state == "up"]
         if kind == "recoverer":
             is_opening = lambda it: it.its["ballot"] == self.newest and not self.is_marked()
@@ -72,7 +72,7 @@ class Story(Cluster):
         return all(it.last and it.last["log"]["durable"] > rv for it in logs)
 
     def do_ask(self, dice, _):
-        """Of a node that has answered all its lines some of the asks fly which it then wanted; or it is asked for them."""
+        """Of a node that has answered all its lines some of the asks fly that it wanted then."""
         found = {kind: [it for it in self.active(kind) if not it.process.open] for kind in drawing.KINDS}
         kinds = {kind: weight for kind, weight in drawing.KINDS.items() if found[kind]}
         if not kinds:
@@ -116,7 +116,8 @@ class Story(Cluster):
         if found:
             it = dice.choice(found)
             step = dice.choice([1, 1, 1, 2, 3, 50])
-            self.members.give(it, {"type": "submit", "at": self.members.stamp, "batch": drawing.batch_of(dice), "step": step})
+            its = {"batch": drawing.batch_of(dice), "step": step}
+            self.members.give(it, {"type": "submit", "at": self.members.stamp} | its)
 
     def do_begin(self, dice, step):
         """A recoverer begins; often a log falls behind meanwhile, so that storage servers come to be ahead of it."""
@@ -156,8 +157,9 @@ class Story(Cluster):
         if it.state == "gone":
             return False
         if it.kind == "log":
-            gone = [one for one in self.members.of("log") if one.its["epoch"] == it.its["epoch"] and one.state == "gone"]
-            return len(gone) + 1 < self.shapes[it.its["epoch"]][1]
+            epoch = it.its["epoch"]
+            gone = [one for one in self.members.of("log") if one.its["epoch"] == epoch and one.state == "gone"]
+            return len(gone) + 1 < self.shapes[epoch][1]
         if it.kind == "cell":
             gone = [one for one in self.members.of("cell") if one.state == "gone"]
             return 2 * (len(gone) + 1) < self.config["coordinators"]
