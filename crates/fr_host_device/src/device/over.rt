@@ -80,4 +80,11 @@ impl<K: Disk + Drop> DiskDevice<K> {
     {
         let _leaves = self.failures;
     }
+
+    /// Gives the disk back.
+    pub fn into_below(self) -> K
+        ensures { result ≡ below_of self }
+    {
+        self.below
+    }
 }

@@ -30,11 +30,19 @@ impl<D: Disk + Drop> Mirror<D> {
         Ok(Mirror {
             bytes,
             below,
+            due: None,
             is_torn: false,
             is_lost: false,
             mixes,
             faults: 0,
             refused: 0,
         })
+    }
+
+    /// The disk below.
+    pub fn below(&self) -> &D
+        ensures { result.now ≡ below_of self.now }
+    {
+        &self.below
     }
 }
