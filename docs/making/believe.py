@@ -149,8 +149,9 @@ TRUSTED = """
   Those that a program of this repository stands on: {kit}.
 - **The C library and the operating system**; that memory which was given is kept; of a disk, that it does what
   `Device` of fr_device says. Of a file of the host (`fr_host_mirror`, `fr_host_device`): that what the host answered
-  when the file was read, at its open, is what the file holds; that nobody else writes it; and that a crash leaves of it what the model of
-  `sqlite_disk` allows. That the contracts over such a file speak of the file is this premise, and no proof.
+  when the file was read, at its open, is what the file holds; that nobody else writes it; and that a crash leaves of it
+  what the model of `sqlite_disk` allows. That the contracts over such a file speak of the file is this premise, and no
+  proof.
 - **The words of std** that the definitions above use, which mean what their names say: see below.
 
 Nothing is proved of what threads do when: that a recovery or a pull ever comes to an end, that nothing waits for ever,
