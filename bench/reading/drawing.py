@@ -42,7 +42,7 @@ class Drawn:
         self.is_small = seed % 4 == SMALL
         logs = self.logs()
         self.config = {
-            "coordinators": self.dice.choice([1] * 4 + [3] * 8 + [5, 5, 7, 9] * (not self.is_small)),
+            "coordinators": self.coordinators(),
             "degree": self.dice.randint(1, logs),
             "logs": logs,
             "proxies": self.few(16),
@@ -57,6 +57,9 @@ class Drawn:
 
     def one_of(self, number):
         return self.dice.randrange(number) == 0
+
+    def coordinators(self):
+        return self.dice.choice([1] * 4 + [3] * 8 + [5, 5, 7, 9] * (not self.is_small))
 
     def few(self, most):
         return self.dice.randint(1, 2 if self.is_small else most if self.one_of(8) else min(most, 4))
@@ -318,19 +321,22 @@ class Drawn:
 
 
 class Dropping(Drawn):
-    """A world of two tags and few logs, in which logs let go often and recoveries follow soon. The server of the first
-    tag seldom asks for records, so that the two lie apart."""
+    """A world of two tags, one proxy and few logs, in which logs let go often and recoveries follow soon. The server of
+    the first tag seldom asks for records, so that the two lie apart."""
 
     def __init__(self, seed):
         super().__init__(seed)
         self.is_small = True
         self.weights = [DROPPING.get(kind, 0) for kind in WEIGHTS]
 
+    def coordinators(self):
+        return self.dice.choice([1, 1, 3])
+
     def few(self, most):
-        return 2
+        return 2 if most == len(BEGINS) else 1
 
     def logs(self):
-        return self.dice.choice([1, 1, 2])
+        return self.dice.choice([1, 1, 1, 2])
 
     def pulling(self):
         return self.tag() if self.one_of(4) else 1
