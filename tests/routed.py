@@ -27,6 +27,11 @@ class Ran:
         counts = next((line for line in self.lines if " kills, " in line), "")
         self.counts = {word: int(number) for number, word in re.findall(r"(\d+) ([^,]+)", counts)}
 
+    def judged(self):
+        """What bench/judge says of its journals."""
+        with open(f"{self.room}/journals.json", encoding="utf-8") as it:
+            return subprocess.run([JUDGE], stdin=it, capture_output=True, text=True).stdout.strip()
+
     def entry(self):
         """The entry that the line names, as bench/entry prints it, or the line itself."""
         at = re.fullmatch(r".* at (\d+)", self.lines[0])
@@ -36,12 +41,13 @@ class Ran:
             return subprocess.run([f"{built.TOP}/bench/entry", at[1]], stdin=it, capture_output=True, text=True).stdout
 
 
-def runs(checks, cases, then):
-    """Runs cases two at a time, each a name with its words, and calls `then` with each name and run."""
+def runs(checks, cases, *then):
+    """Runs cases two at a time, each a name with its words, and has each run looked at by these functions."""
     with tempfile.TemporaryDirectory() as room, concurrent.futures.ThreadPoolExecutor(2) as pool:
         begun = [(name, pool.submit(Ran, f"{room}/{at}", words)) for at, (name, words) in enumerate(cases)]
         for name, it in begun:
-            then(checks, name, it.result())
+            for each in then:
+                each(checks, name, it.result())
 
 
 def is_run(checks, name, ran):
@@ -52,6 +58,12 @@ def is_run(checks, name, ran):
     checks.check(is_so, name, "says where its journals lie:", ran.lines)
     is_so = ran.counts.get("batches acknowledged", 0) > 0 and ran.counts.get("recoveries chosen", 0) > 0
     checks.check(is_so, name, "did too little:", ran.counts)
+
+
+def are_agreed(checks, name, ran):
+    """The audit and bench/judge say the same line."""
+    said = ran.judged() if ran.lines else None
+    checks.check(ran.lines[:1] == [said], name, "is judged otherwise by bench/judge:", ran.lines[:1], said)
 
 
 def is_found(checks, name, ran):
