@@ -197,7 +197,7 @@ class Cluster:
             if it.state == "up":
                 self.members.give(it, {"type": "last"})
         self.collect()
-        journals = [it.journal() for it in self.members.all.values()]
+        journals = [it.journal() for it in self.members.all.values() if it.is_there()]
         return {"config": self.config, "journals": journals}
 
     def batches(self):

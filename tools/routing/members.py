@@ -32,6 +32,10 @@ class Member:
         with open(f"{self.room}/said/{self.text.replace(' ', '-')}", encoding="utf-8", errors="replace") as it:
             return it.read()[-400:].strip()
 
+    def is_there(self):
+        """Whether it came to be: it said where it stands, and a recoverer that it begins."""
+        return self.last is not None and (self.kind != "recoverer" or bool(self.entries))
+
     def journal(self):
         return {"entries": self.entries, "last": self.last, "node": self.name}
 
@@ -132,14 +136,14 @@ class Members:
             it.left = [body for _, body in it.process.open if body["type"] in ENTERING]
             self.counts["inside"] += any(body["type"] == "ask" for body in it.left)
         it.state = "down" if it.has_files else "gone"
-        if it.state == "gone":
+        if it.state == "gone" and it.is_there():
             self.act(it, {"lost": {}} if it.kind == "log" else {"crashed": {}})
 
     def lose(self, it):
         """A log that is killed and whose file is lost too."""
         if it.state == "up":
             self.kill(it)
-        if it.state == "down":
+        if it.state == "down" and it.is_there():
             self.act(it, {"lost": {}})
         it.state = "gone"
 
