@@ -10,7 +10,9 @@ COMBINED = ("add", "and", "or", "xor", "max", "min")
 # wall is put up, a recoverer begins, a log is lost.
 WEIGHTS = {"ask": 260, "come": 500, "submit": 60, "take": 150, "back": 30, "wall": 4, "begin": 2, "lose": 1}
 KINDS = {"proxy": 6, "recoverer": 8, "storage": 4}
-KILLED = {"cell": 3, "log": 4, "storage": 4, "sequencer": 1, "proxy": 1, "recoverer": 2}
+# Which kinds are killed, of nodes with files and of those that are then gone for good.
+KILLED = {"cell": 6, "log": 8, "storage": 8, "sequencer": 2, "proxy": 2, "recoverer": 4}
+GONE = {"cell": 4, "log": 4, "storage": 1, "sequencer": 2, "proxy": 4, "recoverer": 8}
 
 
 class Dice(random.Random):

@@ -189,7 +189,8 @@ class Story(Cluster):
         found = busy if busy and not dice.one_of(4) else victims
         if not found:
             return
-        it = dice.choice(found[dice.weighed({kind: drawing.KILLED[kind] for kind in found})])
+        weights = drawing.KILLED if self.has_files else drawing.GONE
+        it = dice.choice(found[dice.weighed({kind: weights[kind] for kind in found})])
         mine = asked.get(it.text, [])
         for message in dice.sample(mine, min(len(mine), dice.choice([1, 1, 2, 3]))):
             self.give(message)
