@@ -53,7 +53,8 @@ fn found<K: Disk + Drop>(alloc: Global, below: K, kept: usize) -> bool {
         return false;
     };
     match Records::open(alloc, device) {
-        Ok(mut file) => has(alloc, &mut file, kept) || has(alloc, &mut file, kept + 1),
+        Ok(mut file) => has(alloc, &mut file, kept)
+            || has(alloc, &mut file, kept.saturating_add(1)),
         Err(_) => false,
     }
 }
@@ -96,7 +97,7 @@ fn stays_shut<D: Device>(device: &mut D) -> bool {
     let was = device.failures();
     device.sync() == Err(DeviceFault::Device)
         && device.len() == Err(DeviceFault::Device)
-        && device.failures() == was + 2
+        && device.failures() == was.saturating_add(2)
 }
 
 #[test]
@@ -108,7 +109,7 @@ fn a_disk_below_fails_for_a_while(rt: HostRuntime) {
             Some(mut file) => {
                 // (each record takes two writes and two syncs)
                 assert!(rt;
-                    kept(alloc, &mut file) == (before as usize - 5) / 4,
+                    kept(alloc, &mut file) == (before as usize).saturating_sub(5) / 4,
                     "failed after {before}"
                 );
                 assert!(rt;

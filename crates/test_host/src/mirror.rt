@@ -7,6 +7,14 @@ use std::alloc::Global;
 use std::process::Abort;
 use std::test::Fail;
 
+/// A mirror of a disk.
+fn over<D: Disk + Drop>(alloc: Global, below: D) -> Option<Mirror<D>> {
+    if !below.may_be_used() {
+        return None;
+    }
+    Mirror::over(alloc, below).ok()
+}
+
 /// A call that changes a file.
 #[derive(Clone, Copy)]
 enum Call {
@@ -35,7 +43,7 @@ static ROWS: [(Call, &[u8]); 10] = [
 fn after(calls: usize) -> &'static [u8] {
     match calls {
         0 => &[],
-        _ => match ROWS.get(calls - 1) {
+        _ => match ROWS.get(calls.saturating_sub(1)) {
             Some(row) => row.1,
             None => &[],
         },
@@ -89,7 +97,7 @@ fn is_over<D: Disk>(disk: &mut D) -> bool {
 
 /// A mirror of a disk that stops after so many calls: what was done stands below too, and no call is done after it.
 fn stops(rt: &impl Abort, alloc: Global, calls: u64) -> Option<usize> {
-    let Ok(mut mirror) = Mirror::over(alloc, Fuse::new(MemoryDisk::new(alloc), calls)) else {
+    let Some(mut mirror) = over(alloc, Fuse::new(MemoryDisk::new(alloc), calls)) else {
         return None;
     };
     let number = done(rt, &mut mirror);
@@ -98,7 +106,7 @@ fn stops(rt: &impl Abort, alloc: Global, calls: u64) -> Option<usize> {
     }
     let below = mirror.below().inner().bytes();
     assert!(rt;
-        below == after(number) || below == after(number + 1),
+        below == after(number) || below == after(number.saturating_add(1)),
         "stopped after {calls}"
     );
     Some(number)
@@ -113,7 +121,9 @@ fn a_disk_below_stops_at_each_call(rt: HostRuntime) {
             None => assert!(rt; calls < 2),
             Some(number) => {
                 assert!(rt;
-                    number == met || number == met + 1 || number == met + 2,
+                    number == met
+                        || number == met.saturating_add(1)
+                        || number == met.saturating_add(2),
                     "stopped after {calls}"
                 );
                 met = number;
@@ -135,8 +145,7 @@ fn does_at_last<D: Disk>(disk: &mut D, call: Call) -> bool {
 
 /// A mirror of a disk that fails so many times after so many calls, each call made anew: how many are done.
 fn goes_on(rt: &impl Abort, alloc: Global, before: u64, failing: u64) -> Option<usize> {
-    let Ok(mut mirror) = Mirror::over(alloc, Lapse::new(MemoryDisk::new(alloc), before, failing))
-    else {
+    let Some(mut mirror) = over(alloc, Lapse::new(MemoryDisk::new(alloc), before, failing)) else {
         return None;
     };
     for (number, (call, wanted)) in ROWS.iter().enumerate() {
@@ -161,12 +170,15 @@ fn goes_on(rt: &impl Abort, alloc: Global, before: u64, failing: u64) -> Option<
 #[test]
 fn a_disk_below_fails_for_a_while(rt: HostRuntime) {
     for failing in 1..4u64 {
-        let mut whole = 0;
+        let mut whole: usize = 0;
         for before in 2..40u64 {
             match goes_on(&rt, rt.alloc(), before, failing) {
                 None => assert!(rt; false, "not read after {before}"),
-                Some(number) if number == ROWS.len() => whole += 1,
-                Some(_) => (),
+                Some(number) => {
+                    if number == ROWS.len() {
+                        whole = whole.saturating_add(1);
+                    }
+                }
             }
         }
         // (of its 11 calls below five are writes and what compares a gap; behind them none fails)
@@ -180,7 +192,7 @@ fn a_write_is_made_anew_before_the_next_call(rt: HostRuntime) -> Result<(), Fail
     for next in [Call::Write(4, b"ef"), Call::Sync, Call::Cut(4)] {
         // (it is measured, read, written and synced before it fails)
         let below = Lapse::new(MemoryDisk::new(rt.alloc()), 4, 1);
-        let Ok(mut mirror) = Mirror::over(rt.alloc(), below) else {
+        let Some(mut mirror) = over(rt.alloc(), below) else {
             return Err(Fail::from("it was not read"));
         };
         assert!(rt; does(&mut mirror, Call::Write(0, b"abcd")) && does(&mut mirror, Call::Sync));
