@@ -54,12 +54,15 @@ def is_answer(found, wanted, is_exact):
     return all(ask in asks for ask in least) and rest[0] == rest[1]
 
 
-def by_hand(checks, command, is_exact, kinds=("cell", "log", "sequencer", "proxy", "recoverer", "storage")):
+ALL = ("cell", "log", "sequencer", "proxy", "recoverer", "storage")
+
+
+def by_hand(checks, command, is_exact, kinds=ALL, files=(False, True)):
     """The scripts of lines.py; a node with a file answers the same."""
     for title, (words, config, rows) in lines.SCRIPTS.items():
         if words.split()[0] not in kinds:
             continue
-        for is_filed in (False, True):
+        for is_filed in files:
             with tempfile.TemporaryDirectory() as room:
                 more = ["--dir", room] if is_filed and words.split()[0] in ("cell", "log", "storage") else []
                 if is_filed and not more:

@@ -2,6 +2,7 @@
 
 import collections
 import json
+import os
 
 from . import drawing
 from .members import Members
@@ -49,8 +50,11 @@ class Cluster:
         return self.members.make(name, [*command, kind, *map(str, words)], self.has_files)
 
     def config_file(self, epoch):
-        """The config of an epoch: the world's, with the shape of that generation."""
+        """The config of an epoch: the world's, with the shape of that generation. It is written once, since nodes that
+        were just started may be reading it."""
         path = f"{self.room}/config-{epoch}.json"
+        if os.path.exists(path):
+            return path
         logs, degree = self.shapes[epoch]
         with open(path, "w", encoding="utf-8") as it:
             json.dump(self.config | {"logs": logs, "degree": degree}, it)
