@@ -6,7 +6,7 @@ import json
 
 from . import batches, wrong
 from .drawing import Drawn, Dropping
-from .rules import Fault
+from .rules import FIRST, Fault
 from .run import Run
 
 
@@ -56,12 +56,19 @@ def above_the_cut(lines, script):
 
 
 def too_early(lines, script):
-    """A proxy says committed where not all logs hold the version."""
+    """A proxy of the first epoch says committed where not all logs hold the version, then or later."""
+    holders = {}
+    for node, _, held in tells(script, "held"):
+        if node["log"]["epoch"] == FIRST:
+            holders.setdefault(held["version"], set()).add(node["log"]["index"])
     for node, act in acts_of(script, "heard"):
         tell = act["tell"].get("log", {})
-        if "proxy" in node and act["outcome"] == {"waiting": {}} and "held" in tell:
-            act["outcome"] = {"committed": {"version": tell["held"]["version"]}}
-            return True
+        is_waiting = "proxy" in node and act["outcome"] == {"waiting": {}} and "held" in tell
+        if is_waiting and node["proxy"]["epoch"] == FIRST:
+            version = tell["held"]["version"]
+            if len(holders[version]) < script["config"]["logs"]:
+                act["outcome"] = {"committed": {"version": version}}
+                return True
     return False
 
 
