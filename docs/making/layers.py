@@ -11,7 +11,7 @@ FAMILIES = (
     (
         "Audits",
         "journals, their scripts, and whether they are a run",
-        r"fr_audit.*|fr_forms|fr_form_.*|fr_simulate_script",
+        r"fr_audit.*|fr_forms|fr_simulate_script",
     ),
     ("Worlds", "all nodes in one exact run, an event at a time", r"fr_world.*"),
     ("Runs", "lists of turns of all nodes, and the laws of every run: the main theorem", r"fr_run.*"),

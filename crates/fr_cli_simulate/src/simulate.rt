@@ -25,15 +25,16 @@ pub fn run_simulate<R: Read, W: Write>(
         → writer.new ≡ writer.old }
 {
     let mut calls = CallCounts::new();
-    simulate_counted(alloc, &mut calls, reader, writer)
+    simulate_counted(alloc, &mut calls, &mut String::new(alloc), reader, writer)
 }
 
 /// As [`run_simulate`], with the calls of the reader and of the writer counted in `calls`, which has none
 /// yet: `Input` is answered only where a read failed or 2^30 of them found no end, `Output` only where
-/// a write or a flush failed.
+/// a write or a flush failed. Of a bad script `place` says where it is bad.
 pub fn simulate_counted<R: Read, W: Write>(
     alloc: Global,
     calls: &mut CallCounts,
+    place: &mut String,
     reader: &mut R,
     writer: &mut W,
 ) -> Result<u8, CliFault>
@@ -46,7 +47,7 @@ pub fn simulate_counted<R: Read, W: Write>(
     ensures done { OnOk result (HasNotFailed calls.new) }
 {
     let input = read_input(alloc, calls, reader)?;
-    let script = read_script(alloc, input)?;
+    let script = read_script(alloc, input, place)?;
     put_script(alloc, script, calls, writer)?;
     calls.flush(writer)?;
     Ok(0)

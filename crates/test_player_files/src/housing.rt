@@ -5,7 +5,7 @@ use crate::housed::serve_before;
 use crate::subjects::Files;
 use fr_base::{InMemory, LogId, Node, NodeFault, NodeId};
 use fr_device::{FaultyDevice, MemoryDevice};
-use fr_forms::fields::Fields;
+use test_rows::fields::Fields;
 use fr_log::Log;
 use fr_proxy::Sequencer;
 use fr_record_log::LogNode;

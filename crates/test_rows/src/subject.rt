@@ -3,7 +3,7 @@ ghost use Rattle.std.specs.Prelude.{◌≡◌, ◌↔◌, IsOk};
 
 use crate::rows::{Parts, Row, json_of, json_or_null};
 use crate::wrong::{Wrong, said};
-use fr_forms::fields::Fields;
+use crate::fields::Fields;
 use serde_json::Value;
 use std::alloc::Global;
 

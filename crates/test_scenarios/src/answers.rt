@@ -1,6 +1,6 @@
 //! What comes of events.
-use fr_forms::object::{Object, write_text};
-use fr_forms::{write_outcome, write_tell};
+use test_rows::object::{Object, write_text};
+use test_rows::json::{value_of};
 use fr_storage::StorageFault;
 use fr_undo::StoreFault;
 use fr_world::{Answer, NotEnabled};
@@ -12,8 +12,8 @@ use test_rows::{Wrong, write_name};
 pub(crate) fn write_answer(alloc: Global, answer: &Answer) -> Result<Value, Wrong> {
     match answer {
         Answer::Done => Ok(Value::Null),
-        Answer::Told(tell) => Ok(write_tell(alloc, tell)?),
-        Answer::Heard(outcome) => Ok(write_outcome(alloc, &Some(*outcome))?),
+        Answer::Told(tell) => Ok(value_of(alloc, tell)?),
+        Answer::Heard(outcome) => Ok(value_of(alloc, &Some(*outcome))?),
         Answer::Refused(fault) => write_refused(alloc, *fault),
     }
 }
