@@ -8,9 +8,11 @@ TABLE = "crates/fr_forms/src/table.rt"
 
 # what the rows of the page are called, and their forms
 ROWS = [
-    ("node", "NODE"), ("act", "ACT"), ("ask", "ASK"), ("tell", "TELL"), ("ask of a cell", "CELL_ASK"), ("tell of a cell", "CELL_TELL"),
-    ("ask of a log", "LOG_ASK"), ("tell of a log", "LOG_TELL"), ("why of a log", "LOG_REFUSAL"), ("ask of a sequencer", "SEQ_ASK"),
-    ("tell of a sequencer", "SEQ_TELL"), ("why of a sequencer", "SEQ_REFUSAL"), ("outcome", "OUTCOME"), ("last state", "LAST"),
+    ("node", "NODE"), ("act", "ACT"), ("ask", "ASK"), ("tell", "TELL"),
+    ("ask of a cell", "CELL_ASK"), ("tell of a cell", "CELL_TELL"),
+    ("ask of a log", "LOG_ASK"), ("tell of a log", "LOG_TELL"), ("why of a log", "LOG_REFUSAL"),
+    ("ask of a sequencer", "SEQ_ASK"), ("tell of a sequencer", "SEQ_TELL"), ("why of a sequencer", "SEQ_REFUSAL"),
+    ("outcome", "OUTCOME"), ("last state", "LAST"),
 ]
 SCRIPTS = {"apply": "APPLY", "end": "END", "simulate": "SIMULATE", "audit": "AUDIT"}
 KINDS = "Number OrZero Hex Object OneOf Tuple List Handed OrNull Optional Either".split()
@@ -23,7 +25,8 @@ class Forms(dict):
         super().__init__({kind: lambda *of, kind=kind: (kind, *of) for kind in KINDS}, Flag=("Flag",), Text=("Text",))
         text = read(TABLE)
         self.texts = dict(re.findall(r"(?:const|static) (\w+): Form = (.*?);\n", text, re.S))
-        self.rows = dict(re.findall(r"\((\w+) \$\(\$way:tt\)\+\) => \{ \$crate::\w+! \{ \$\(\$way\)\+; (.*?) ?\}\};?\n", text, re.S))
+        row = r"\((\w+) \$\(\$way:tt\)\+\) => \{ \$crate::\w+! \{ \$\(\$way\)\+; (.*?) ?\}\};?\n"
+        self.rows = dict(re.findall(row, text, re.S))
 
     def __missing__(self, name):
         if name not in self.texts:
@@ -33,21 +36,26 @@ class Forms(dict):
 
     def form(self, text):
         text = re.sub(r"kind!\((\w+) form\)", r"kind('\1')", text)
-        text = re.sub(r"Part::(\w+)", r"'\1'", text.replace("&", "")).replace("usize::MAX", "2**64").replace("u64::MAX", "2**64 - 1")
+        text = re.sub(r"Part::(\w+)", r"'\1'", text.replace("&", ""))
+        text = text.replace("usize::MAX", "2**64").replace("u64::MAX", "2**64 - 1")
         return eval(text.replace("Form::", ""), {"kind": self.kind, "__builtins__": {}}, self)
 
     def kind(self, name):
         text = self.rows[name]
         variants = re.findall(r'"(\w+)" \w+ ?(?:\{ ?(.*?) ?\}|\((.*?)\)|\[(.*?)\]);', text)
         if variants:
-            return "OneOf", [(it, self.form((whole or only).split(": ")[1]) if whole or only else self.parts(parts)) for it, parts, whole, only in variants]
+            return "OneOf", [(it, self.content_of(parts, whole or only)) for it, parts, whole, only in variants]
         body = re.search(r"([\[{])(.*)[\]}]", text, re.S)
         if body[1] == "[":
             return "Tuple", [form for _, form in self.parts(body[2])[1]]
         return self.parts(body[2])
 
+    def content_of(self, parts, whole):
+        return self.form(whole.split(": ")[1]) if whole else self.parts(parts)
+
     def parts(self, text):
-        return "Object", [(name, self.form(form)) for name, form in re.findall(r"(\w+)(?:\(all\))?: (\w+(?:\([^)]*\))?)", text)]
+        found = re.findall(r"(\w+)(?:\(all\))?: (\w+(?:\([^)]*\))?)", text)
+        return "Object", [(name, self.form(form)) for name, form in found]
 
     def words(self, name):
         """A variant as the page has it: each name with its members."""
@@ -125,12 +133,14 @@ class Schemas:
         one_of = it.get("anyOf") and [self.follow(name, part)[1] for part in it["anyOf"]] or [it]
         there = set().union(*(part.get("properties", {}) for part in one_of))
         if there != {member for member, _ in members}:
-            self.faults.append(f"docs/schema: {path}: members {sorted(there)}, and the table has {[m for m, _ in members]}")
+            of_table = sorted(member for member, _ in members)
+            self.faults.append(f"docs/schema: {path}: members {sorted(there)}, and the table has {of_table}")
             return
         needed = set.intersection(*(set(part.get("required", [])) for part in one_of))
         wanted = {member for member, inner in members if inner[0] != "Optional"}
         if kind == "Object" and needed != wanted:
-            self.faults.append(f"docs/schema: {path}: {sorted(needed)} are there always, and {sorted(wanted)} in the table")
+            said = f"{sorted(needed)} are there always, and {sorted(wanted)} in the table"
+            self.faults.append(f"docs/schema: {path}: {said}")
         for part in one_of:
             for member, inner in members:
                 if member in part.get("properties", {}):

@@ -52,6 +52,7 @@ impl<R: Read> Read for Kept<'_, R> {
 }
 
 /// Nobody takes the parts.
+#[derive(Drop)]
 struct Nobody;
 
 impl Sink for Nobody {

@@ -107,24 +107,45 @@ fn read_whole<S: Sink>(
     let mut scratch = Scratch::new(alloc);
     let mut reader = Reader::new(text, &mut scratch)?;
     let mut tape = Tape::new(alloc);
-    let read = read_value(alloc, &mut tape, &mut reader, sink, form, 127);
+    let slot = read_first(alloc, &mut tape, &mut reader, sink, form, mistake)?;
+    match reader.next() {
+        None => end(alloc, &tape, sink, slot, mistake),
+        Some(_) => Err(Unread::Unusual),
+    }
+}
+
+/// Reads the value of a text, and says how far that went.
+fn read_first<'a, S: Sink>(
+    alloc: Global,
+    tape: &mut Tape<'a>,
+    reader: &mut Reader<'a>,
+    sink: &mut S,
+    form: &'static Form,
+    mistake: &mut Mistake,
+) -> Result<Slot<'a>, Unread>
+    ensures value { OnOk result (HasValue 127 reader.old reader.new) }
+{
+    let read = read_value(alloc, tape, reader, sink, form, 127);
     mistake.end = reader.offset();
-    let slot = read?;
-    if reader.next().is_some() {
+    read
+}
+
+/// Gives the value of a text to who takes it, or its first mistake.
+fn end<S: Sink>(
+    alloc: Global,
+    tape: &Tape<'_>,
+    sink: &mut S,
+    slot: Slot<'_>,
+    mistake: &mut Mistake,
+) -> Result<(), Unread> {
+    if let Slot::Wrong(index) = slot {
+        if let Some(first) = tape.mistakes.get(index) {
+            *mistake = *first;
+        }
         return Err(Unread::Unusual);
     }
-    match slot {
-        Slot::Wrong(index) => {
-            if let Some(first) = tape.mistakes.get(index) {
-                *mistake = *first;
-            }
-            Err(Unread::Unusual)
-        }
-        _ => {
-            mistake.wanted = Wanted::Whole;
-            sink.end(alloc, Row::new(tape.parts.as_slice(), slot))
-        }
-    }
+    mistake.wanted = Wanted::Whole;
+    sink.end(alloc, Row::new(tape.parts.as_slice(), slot))
 }
 
 /// Reads the next value, which is to be of a form: arrays and objects nest no deeper than `depth`. What is no JSON is

@@ -2,14 +2,14 @@
 use crate::subjects::Nodes;
 use fr_base::{Bytes, Memory};
 use fr_cli_json::tree::read_bytes;
-use test_rows::fields::Fields;
 use fr_forms::write_all;
-use test_rows::object::{Object, hex_value};
-use test_rows::json::{read_batch, value_of};
 use fr_mutation::{Batch, MAX_KEY, Shard, apply, clip};
 use serde_json::Value;
 use std::alloc::Global;
 use std::collections::BTreeMap;
+use test_rows::fields::Fields;
+use test_rows::json::{read_batch, value_of};
+use test_rows::object::{Object, hex_value};
 use test_rows::{NO_FORM, Plays, Scene, Wrong, no_such_word, of_nothing, said};
 
 /// Keys and their values.

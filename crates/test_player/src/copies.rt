@@ -2,14 +2,13 @@
 use crate::subjects::Nodes;
 use fr_ask::{Ask, Last, Tell};
 use fr_base::Memory;
-use test_rows::fields::{Fields, items};
 use fr_forms::Formed;
-use test_rows::json::{read_ask, read_last, read_tell, value_of, write_all};
-use test_rows::ScriptFault;
 use fr_log::{LogAsk, LogTell, Peeked, PeekedRecord, Push, Seed, SeedRecord};
 use serde_json::Value;
 use std::alloc::Global;
-use test_rows::{NO_FORM, Plays, Scene, Wrong, no_such_word};
+use test_rows::fields::{Fields, items};
+use test_rows::json::{read_ask, read_last, read_tell, value_of, write_all};
+use test_rows::{NO_FORM, Plays, Scene, ScriptFault, Wrong, no_such_word};
 
 /// What is copied and has a form.
 pub(crate) trait Copied: Sized + Drop {

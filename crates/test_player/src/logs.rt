@@ -3,19 +3,19 @@ ghost use Rattle.std.specs.Prelude.{◌≡◌, OnOk};
 
 use crate::subjects::Nodes;
 use fr_base::{LogId, Machine, Memory};
-use test_rows::fields::Fields;
 use fr_forms::Formed;
-use test_rows::object::Object;
-use test_rows::json::{read_cell_ask, read_log_ask, read_seq_ask};
-use test_rows::ScriptFault;
 use fr_log::laws::place_law;
 use fr_log::{Log, LogAsk, LogTell};
 use fr_proxy::Sequencer;
 use fr_register::Cell;
 use serde_json::Value;
 use std::alloc::Global;
+use test_rows::fields::Fields;
+use test_rows::json::{read_cell_ask, read_log_ask, read_seq_ask};
+use test_rows::object::Object;
 use test_rows::{
-    NO_FORM, Plays, Scene, Wrong, no_such_word, of_nothing, read_sizes, told, write_state_of,
+    NO_FORM, Plays, Scene, ScriptFault, Wrong, no_such_word, of_nothing, read_sizes, told,
+    write_state_of,
 };
 
 /// Plays rows with a cell that was never asked.

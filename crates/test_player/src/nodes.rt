@@ -1,13 +1,13 @@
 //! What several subjects are made of, hear and ask.
 use fr_ask::{Ask, Tell};
 use fr_base::{Bytes, Memory, NodeId};
-use test_rows::fields::{Fields, index_of, items};
 use fr_forms::write_all;
-use test_rows::json::{read_node, read_shards, read_tell};
 use fr_tags::{ShardFault, ShardMap};
 use serde_json::Value;
 use std::alloc::Global;
 use test_rows::Wrong;
+use test_rows::fields::{Fields, index_of, items};
+use test_rows::json::{read_node, read_shards, read_tell};
 
 /// Numbers of logs.
 pub(crate) fn read_logs(alloc: Global, given: Value) -> Result<Vec<u8>, Wrong> {

@@ -3,13 +3,13 @@ use crate::nodes::{read_map, read_told, write_asks};
 use crate::subjects::Nodes;
 use fr_ask::{Ask, Last};
 use fr_base::{Memory, NodeId};
-use test_rows::fields::Fields;
 use fr_forms::write_all;
-use test_rows::object::Object;
-use test_rows::json::{read_batch, read_step, value_of, write_all};
 use fr_proxy::{Outcome, Proxy, SubmitFault};
 use serde_json::Value;
 use std::alloc::Global;
+use test_rows::fields::Fields;
+use test_rows::json::{read_batch, read_step, value_of, write_all};
+use test_rows::object::Object;
 use test_rows::{
     Plays, Scene, Wrong, no_such_word, read_sizes, said, told, write_last_state, write_name,
 };

@@ -4,12 +4,12 @@ use crate::subjects::Nodes;
 use fr_ask::{Ask, Last};
 use fr_base::{Bytes, Memory, NodeId, Shape};
 use fr_epoch::{Phase, Recoverer};
-use test_rows::fields::Fields;
-use test_rows::object::Object;
-use test_rows::json::{value_of, write_all};
 use fr_state::CoordState;
 use serde_json::Value;
 use std::alloc::{AllocError, Global};
+use test_rows::fields::Fields;
+use test_rows::json::{value_of, write_all};
+use test_rows::object::Object;
 use test_rows::{NO_FORM, Plays, Scene, Wrong, no_such_word, told_all, write_last_state};
 
 /// Plays rows with a recoverer that heard nothing.

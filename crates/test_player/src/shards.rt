@@ -3,13 +3,13 @@ use crate::nodes::{map_of, read_logs};
 use crate::subjects::Nodes;
 use fr_base::{Bytes, Memory, Tag};
 use fr_cli_json::tree::read_bytes;
-use test_rows::fields::{Fields, tag_of};
-use test_rows::object::{Object, hex_value};
-use test_rows::json::{read_batch, read_shards, write_all};
 use fr_mutation::Shard;
 use fr_tags::{Body, ShardFault, ShardMap, covers, holders, is_held};
 use serde_json::Value;
 use std::alloc::Global;
+use test_rows::fields::{Fields, tag_of};
+use test_rows::json::{read_batch, read_shards, write_all};
+use test_rows::object::{Object, hex_value};
 use test_rows::{Plays, Scene, Wrong, no_such_word, read_sizes, write_name};
 
 /// Plays rows with a map of shards that begin at these keys.

@@ -3,17 +3,16 @@ use crate::stores::read_failing;
 use crate::subjects::Nodes;
 use fr_ask::{Ask, Tell};
 use fr_base::{Bytes, Epoch, Memory, Version};
-use test_rows::fields::{Fields, items};
 use fr_forms::write_all;
-use test_rows::object::{Object, write_text};
-use test_rows::json::{read_state, read_tell, value_of};
-use test_rows::ScriptFault;
 use fr_log::LogTell;
 use fr_storage::{Answer, Storage, StorageFault};
 use fr_undo::{MapStore, ShardStore, StoreFault};
 use serde_json::Value;
 use std::alloc::Global;
-use test_rows::{NO_FORM, Plays, Scene, Wrong, no_such_word, said, write_name};
+use test_rows::fields::{Fields, items};
+use test_rows::json::{read_state, read_tell, value_of};
+use test_rows::object::{Object, write_text};
+use test_rows::{NO_FORM, Plays, Scene, ScriptFault, Wrong, no_such_word, said, write_name};
 
 /// Plays rows with a storage server that applied nothing yet.
 pub(crate) fn play_storage(alloc: Global, scene: Scene, at: &mut usize) -> Result<(), Wrong> {

@@ -3,15 +3,15 @@ use crate::storages::{write_fault, write_standing};
 use crate::subjects::Nodes;
 use fr_base::{Bytes, Memory};
 use fr_cli_json::tree::read_bytes;
-use test_rows::fields::{Fields, tag_of, version_of};
 use fr_forms::write_all;
-use test_rows::object::{Object, hex_value};
-use test_rows::json::read_batch;
 use fr_mutation::Shard;
 use fr_storage::Storage;
 use fr_undo::{MapStore, ShardStore, StoreFault};
 use serde_json::Value;
 use std::alloc::Global;
+use test_rows::fields::{Fields, tag_of, version_of};
+use test_rows::json::read_batch;
+use test_rows::object::{Object, hex_value};
 use test_rows::{Plays, Scene, Wrong, no_such_word, of_nothing, write_name};
 use test_store_failing::FailsOnce;
 

@@ -5,16 +5,15 @@ use crate::nodes::read_logs;
 use crate::subjects::Nodes;
 use fr_ask::{Ask, Tell};
 use fr_base::{LogId, Memory, Version};
-use test_rows::fields::{Fields, tag_of};
-use test_rows::object::Object;
-use test_rows::json::{read_tell, value_of};
-use test_rows::ScriptFault;
 use fr_log::{LogAsk, LogTell, Peeked, Seed};
 use fr_tags::MAX_SHARDS;
 use fr_tail::{Tail, TailFault};
 use serde_json::Value;
 use std::alloc::Global;
-use test_rows::{NO_FORM, Plays, Scene, Wrong, no_such_word, read_sizes, write_name};
+use test_rows::fields::{Fields, tag_of};
+use test_rows::json::{read_tell, value_of};
+use test_rows::object::Object;
+use test_rows::{NO_FORM, Plays, Scene, ScriptFault, Wrong, no_such_word, read_sizes, write_name};
 
 /// Plays rows with a copy that heard nothing.
 pub(crate) fn play_tail(alloc: Global, scene: Scene, at: &mut usize) -> Result<(), Wrong> {

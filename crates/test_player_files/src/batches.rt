@@ -4,12 +4,12 @@ use crate::states::write_bytes;
 use crate::subjects::Files;
 use fr_base::Memory;
 use fr_cli_json::tree::read_bytes;
-use test_rows::fields::Fields;
-use test_rows::object::Object;
-use test_rows::json::{read_batch, value_of};
 use fr_mutation::{Batch, DecodeFault, decode, encode};
 use serde_json::Value;
 use std::alloc::Global;
+use test_rows::fields::Fields;
+use test_rows::json::{read_batch, value_of};
+use test_rows::object::Object;
 use test_rows::{Plays, Scene, Wrong, no_such_word, write_name};
 
 /// Plays rows with a batch.

@@ -4,9 +4,6 @@ use crate::subjects::Files;
 use fr_audit_journal::{Act, Entry, Journal};
 use fr_base::{InMemory, Machine, Memory, Node, Stamp};
 use fr_device::{FaultyDevice, MemoryDevice};
-use test_rows::fields::{Fields, items};
-use test_rows::object::Object;
-use test_rows::json::{read_cell_ask, read_log_ask, read_node, read_seq_ask, value_of};
 use fr_log::Log;
 use fr_proxy::Sequencer;
 use fr_record_log::LogNode;
@@ -15,6 +12,9 @@ use fr_register::Cell;
 use fr_runtime_housing::{CallFault, Housable, Housed};
 use serde_json::Value;
 use std::alloc::Global;
+use test_rows::fields::{Fields, items};
+use test_rows::json::{read_cell_ask, read_log_ask, read_node, read_seq_ask, value_of};
+use test_rows::object::Object;
 use test_rows::{NO_FORM, Plays, Wrong, no_such_word, write_name};
 
 /// A machine whose asks are read.

@@ -3,12 +3,12 @@ use crate::changing::{Spelled, change_each};
 use crate::subjects::Files;
 use fr_base::{Memory, Version};
 use fr_cli_json::tree::read_bytes;
-use test_rows::fields::{Fields, epoch_of, version_of};
-use test_rows::object::hex_value;
-use test_rows::json::{read_state, value_of};
 use fr_state::{CoordState, DecodeFault, Generation, StateFault, decode, encode};
 use serde_json::Value;
 use std::alloc::Global;
+use test_rows::fields::{Fields, epoch_of, version_of};
+use test_rows::json::{read_state, value_of};
+use test_rows::object::hex_value;
 use test_rows::{Plays, Scene, Wrong, no_such_word, write_name};
 
 /// Plays rows with a coordinated state.

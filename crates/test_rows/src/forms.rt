@@ -1,14 +1,14 @@
 //! Forms that several players read and write.
 ghost use Rattle.std.specs.Prelude.{◌≤◌, IfOk};
 
+use crate::fields::Fields;
+use crate::json::value_of;
+use crate::object::write_text;
 use crate::subject::Scene;
 use crate::wrong::{NO_FORM, Wrong};
 use fr_ask::{Last, Named};
 use fr_base::Memory;
 use fr_cli_json::tree::into_one_member;
-use crate::fields::Fields;
-use crate::object::write_text;
-use crate::json::value_of;
 use fr_tags::MAX_LOGS;
 use serde_json::Value;
 use std::alloc::Global;

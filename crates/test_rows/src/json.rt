@@ -4,8 +4,8 @@ use crate::fields::Fields;
 use fr_ask::{Ask, Last, SeqAsk, Tell};
 use fr_base::{Bytes, Memory, NodeId, Step};
 use fr_cli_json::CliFault;
-use fr_forms::{Form, Formed, read_one, table};
 pub use fr_forms::write_all;
+use fr_forms::{Form, Formed, read_one, table};
 use fr_log::LogAsk;
 use fr_mutation::Batch;
 use fr_register::CellAsk;
@@ -14,22 +14,27 @@ use serde_json::Value;
 use std::alloc::Global;
 
 static ASK: Form = table::ASK;
+
 static TELL: Form = table::TELL;
+
 static CELL_ASK: Form = table::CELL_ASK;
+
 static LOG_ASK: Form = table::LOG_ASK;
+
 static SEQ_ASK: Form = table::SEQ_ASK;
+
 static NODE: Form = table::NODE;
+
 static LAST: Form = table::LAST;
+
 static STATE: Form = table::STATE;
+
 static BATCH: Form = table::BATCH;
+
 static SHARDS: Form = table::SHARDS;
 
 /// A value of a form: the text of the tree is read.
-fn read<T: Formed>(
-    alloc: Global,
-    value: Value,
-    form: &'static Form,
-) -> Result<T, ScriptFault> {
+fn read<T: Formed>(alloc: Global, value: Value, form: &'static Form) -> Result<T, ScriptFault> {
     let text = value.to_vec(alloc)?;
     match read_one(alloc, text.as_slice(), form, &mut String::new(alloc)) {
         Ok(value) => Ok(value),

@@ -83,11 +83,7 @@ pub fn bare_named(alloc: Global, name: &str) -> Result<Value, Memory> {
 }
 
 /// A variant with its content.
-pub fn named(
-    alloc: Global,
-    name: &str,
-    content: Result<Value, Memory>,
-) -> Result<Value, Memory> {
+pub fn named(alloc: Global, name: &str, content: Result<Value, Memory>) -> Result<Value, Memory> {
     Ok(Object::new(alloc).and(name, content)?.value())
 }
 

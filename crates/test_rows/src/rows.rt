@@ -1,7 +1,7 @@
 //! Scenarios and their rows.
 use crate::names::Names;
-use crate::wrong::Wrong;
 use crate::object::write_text;
+use crate::wrong::Wrong;
 use serde_json::Value;
 use std::alloc::{AllocError, Global};
 

@@ -1,7 +1,7 @@
 //! Why a row does not hold.
+use crate::fault::ScriptFault;
 use fr_base::{Memory, NodeFault};
 use fr_cli_json::CliFault;
-use crate::fault::ScriptFault;
 use fr_forms::{Formed, write_all};
 use serde_json::Value;
 use std::alloc::{AllocError, AllocFailed, Global};

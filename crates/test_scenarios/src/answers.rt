@@ -1,11 +1,11 @@
 //! What comes of events.
-use test_rows::object::{Object, write_text};
-use test_rows::json::{value_of};
 use fr_storage::StorageFault;
 use fr_undo::StoreFault;
 use fr_world::{Answer, NotEnabled};
 use serde_json::Value;
 use std::alloc::Global;
+use test_rows::json::value_of;
+use test_rows::object::{Object, write_text};
 use test_rows::{Wrong, write_name};
 
 /// What an event answers: null where there is nothing to tell.

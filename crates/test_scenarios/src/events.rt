@@ -2,11 +2,11 @@
 use crate::found;
 use fr_ask::{Ask, Tell};
 use fr_base::{LogId, NodeId, Shape, Version};
-use test_rows::fields::Fields;
-use test_rows::json::{read_ask, read_batch, read_node, read_shards, read_step, read_tell};
 use fr_world::{Config, ConfigFault, Event, World};
 use serde_json::Value;
 use std::alloc::Global;
+use test_rows::fields::Fields;
+use test_rows::json::{read_ask, read_batch, read_node, read_shards, read_step, read_tell};
 use test_rows::{NO_FORM, Wrong};
 
 /// What a world starts from.

@@ -2,12 +2,12 @@
 use crate::answers::{write_answer, write_why};
 use crate::events::{read_config, read_event, was_sent, was_told};
 use fr_base::Memory;
-use test_rows::fields::Fields;
-use test_rows::object::Object;
-use test_rows::json::read_node;
 use fr_world::{Answer, Event, NotEnabled, World};
 use serde_json::Value;
 use std::alloc::Global;
+use test_rows::fields::Fields;
+use test_rows::json::read_node;
+use test_rows::object::Object;
 use test_rows::{Plays, Scene, Wrong, no_such_word, played, said, write_last_state};
 
 /// The player of worlds.
