@@ -247,5 +247,9 @@ fn put_names(
         said.push_str(name)?;
         between = ", ";
     }
-    said.push_str(if members.is_empty() { "an object of no members" } else { "" })
+    said.push_str(if members.is_empty() {
+        "an object of no members"
+    } else {
+        ""
+    })
 }

@@ -229,7 +229,7 @@ fn read_items<'a, S: Sink>(
         sink.begin(part);
     }
     'items: while !reader.take_end_array() {
-        let item = tape.item(&mut open, reader.offset())?;
+        let item = tape.item(&mut open);
         let first = tape.parts.len();
         let slot = read_value(alloc, tape, reader, sink, item.within(), depth)?;
         let slot = hand(alloc, tape, sink, item, slot, (first, reader.offset()))?;
@@ -304,7 +304,9 @@ fn is_in_range(digits: &[u8]) -> bool
     ensures { IsTrue result → (n : Num) × (number_of digits.now ≡ Some n) }
 {
     if !digits.is_empty() && digits[0] == b'-' {
-        Numeral::scan(&digits[1..]).to_float::<f64>(true).is_finite()
+        Numeral::scan(&digits[1..])
+            .to_float::<f64>(true)
+            .is_finite()
     } else {
         Numeral::scan(digits).to_float::<f64>(false).is_finite()
     }

@@ -52,7 +52,9 @@ impl<'t> Row<'t> {
     fn slots(self) -> &'t [Slot<'t>] {
         match self.slot {
             Slot::Parts(first, count) => {
-                self.tape.get(first..first.wrapping_add(count)).unwrap_or(&[])
+                self.tape
+                    .get(first..first.wrapping_add(count))
+                    .unwrap_or(&[])
             }
             _ => &[],
         }

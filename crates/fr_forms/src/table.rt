@@ -123,41 +123,74 @@ macro_rules! kind {
 
 // ---- numbers and bytes
 const VERSION: Form = Number(0, (1 << 62) - 1);
+
 const EPOCH: Form = Number(256, (1 << 48) - 1);
+
 const BALLOT: Form = OrZero(&EPOCH);
+
 const REQUEST: Form = Number(1, (1 << 62) - 1);
+
 const STEP: Form = Number(1, 1_000_000);
+
 const STAMP: Form = Number(0, (1 << 40) - 1);
+
 const MOST: Form = Number(1, 100);
+
 const CELL: Form = Number(0, 8);
+
 const LOG: Form = Number(0, 15);
+
 const PROXY: Form = Number(0, 15);
+
 const TAG: Form = Number(0, 31);
+
 const BYTE: Form = Number(0, 255);
+
 const HEX: Form = Hex(usize::MAX);
+
 const CELL_VALUE: Form = Hex(4096);
 
 // ---- types
 pub const NODE: Form = kind!(NodeId form);
+
 pub const ASK: Form = kind!(Ask form);
+
 pub const TELL: Form = kind!(Tell form);
+
 pub const CELL_ASK: Form = kind!(CellAsk form);
+
 const CELL_TELL: Form = kind!(CellTell form);
+
 pub const LOG_ASK: Form = kind!(LogAsk form);
+
 const SEED: Form = kind!(Seed form);
+
 const SEED_RECORD: Form = kind!(SeedRecord form);
+
 const LOG_TELL: Form = kind!(LogTell form);
+
 const POPPED: Form = List(&kind!(PoppedTag form));
+
 const PEEKED: Form = kind!(Peeked form);
+
 const PEEKED_RECORD: Form = kind!(PeekedRecord form);
+
 const LOG_REFUSAL: Form = kind!(LogRefusal form);
+
 pub const SEQ_ASK: Form = kind!(SeqAsk form);
+
 const SEQ_TELL: Form = kind!(SeqTell form);
+
 const SEQ_REFUSAL: Form = kind!(SeqRefusal form);
+
 const GENERATIONS: Form = List(&kind!(Generation form));
+
 const ENTRY: Form = kind!(Entry form);
+
 const ACT: Form = kind!(Act form);
+
 const OUTCOME: Form = kind!(Outcome form);
+
 const LAST: Form = kind!(Last form);
 
 // ---- what types have, and parts of them that stand by other names
@@ -169,12 +202,19 @@ const PUSH: Form = Object(&[
     ("prev", VERSION),
     ("version", VERSION),
 ]);
+
 const DROPPED: Form = Object(&[("dropped", Number(0, u64::MAX)), ("gens", GENERATIONS)]);
+
 pub const STATE: Form = Either(&GENERATIONS, &DROPPED);
+
 const BEGUN: Form = Object(&[("degree", Optional(&BYTE)), ("logs", Optional(&BYTE))]);
+
 const ROWS: Form = List(&Tuple(&[HEX, HEX]));
+
 const KEY_VALUE: Form = Object(&[("key", HEX), ("value", HEX)]);
+
 const OPERAND: Form = Object(&[("key", HEX), ("param", HEX)]);
+
 pub const BATCH: Form = List(&OneOf(&[
     ("set", KEY_VALUE),
     ("clear", Object(&[("begin", HEX), ("end", HEX)])),
@@ -189,9 +229,13 @@ pub const BATCH: Form = List(&OneOf(&[
 
 // ---- steps of `simulate`
 const CELLS: Form = List(&CELL);
+
 const LOGS: Form = List(&LOG);
+
 const LOG_ID: Form = Object(&[("epoch", EPOCH), ("log", LOG)]);
+
 const PULL: Form = Object(&[("epoch", EPOCH), ("log", LOG), ("storage", TAG)]);
+
 const COMMIT: Form = Object(&[
     ("batch", BATCH),
     ("epoch", EPOCH),
@@ -199,6 +243,7 @@ const COMMIT: Form = Object(&[
     ("proxy", PROXY),
     ("step", STEP),
 ]);
+
 const SIMULATE_STEP: Form = OneOf(&[
     ("commit", COMMIT),
     ("push", kind!(PushStep form)),
@@ -208,6 +253,7 @@ const SIMULATE_STEP: Form = OneOf(&[
     ("recover", RECOVER),
     ("lose", LOG_ID),
 ]);
+
 const RECOVER: Form = Object(&[
     ("ballot", BALLOT),
     ("degree", Optional(&BYTE)),
@@ -220,6 +266,7 @@ const RECOVER: Form = Object(&[
 
 // ---- scripts
 pub const SHARDS: Form = List(&HEX);
+
 const CONFIG: Form = Object(&[
     ("coordinators", BYTE),
     ("degree", BYTE),
@@ -227,24 +274,31 @@ const CONFIG: Form = Object(&[
     ("proxies", BYTE),
     ("shards", SHARDS),
 ]);
+
 const OPERATION: Form = OneOf(&[
     ("apply", Object(&[("batch", BATCH), ("version", VERSION)])),
     ("undo", Object(&[("to", VERSION)])),
     ("forget", Object(&[("through", VERSION)])),
     ("advance", Object(&[("version", VERSION)])),
 ]);
+
 const REPLY: Form = Tuple(&[BYTE, VERSION, VERSION]);
+
 const JOURNAL: Form = Object(&[
     ("entries", List(&Handed(Part::Entry, &ENTRY))),
     ("last", OrNull(&LAST)),
     ("node", NODE),
 ]);
+
 pub static APPLY: Form = Object(&[("ops", List(&Handed(Part::Line, &OPERATION)))]);
+
 pub static END: Form = Object(&[("replies", List(&Handed(Part::Line, &REPLY)))]);
+
 pub static SIMULATE: Form = Object(&[
     ("config", Handed(Part::Config, &CONFIG)),
     ("steps", List(&Handed(Part::Step, &SIMULATE_STEP))),
 ]);
+
 pub static AUDIT: Form = Object(&[
     ("config", Handed(Part::Config, &CONFIG)),
     ("journals", List(&Handed(Part::Journal, &JOURNAL))),

@@ -41,7 +41,7 @@ pub(crate) struct Open {
     form: &'static Form,
     /// Where its parts begin among those under way.
     base: usize,
-    /// The part that is likely next.
+    /// The member that is likely next, or how many items were begun.
     next: usize,
     /// The one member of an object that has one.
     name: &'static str,
@@ -167,20 +167,14 @@ impl<'a> Tape<'a> {
         }
     }
 
-    /// The form of the next item.
-    pub(crate) fn item(&mut self, open: &mut Open, end: usize) -> Result<&'static Form, Unread> {
+    /// The form of the next item; one that an array has too many counts for nothing.
+    pub(crate) fn item(&self, open: &mut Open) -> &'static Form {
         let index = open.next;
         open.next = index.wrapping_add(1);
         match open.form {
-            Form::List(form) => Ok(form),
-            Form::Tuple(forms) => match forms.get(index) {
-                Some(form) => Ok(form),
-                None => {
-                    self.spoil(open, end, Wanted::Items(forms.len()))?;
-                    Ok(&ANY)
-                }
-            },
-            _ => Ok(&ANY),
+            Form::List(form) => form,
+            Form::Tuple(forms) => forms.get(index).unwrap_or(&ANY),
+            _ => &ANY,
         }
     }
 
@@ -219,7 +213,7 @@ impl<'a> Tape<'a> {
         }
     }
 
-    /// What an object or an array under way still lacks.
+    /// What an object or an array under way still lacks, or has too much.
     fn lacks(&self, open: &Open) -> Option<Wanted> {
         match open.form {
             Form::Object(members) => {
@@ -236,7 +230,7 @@ impl<'a> Tape<'a> {
                 None
             }
             Form::OneOf(_) if open.name.is_empty() => Some(Wanted::Member(open.form)),
-            Form::Tuple(forms) if open.next < forms.len() => Some(Wanted::Items(forms.len())),
+            Form::Tuple(forms) if open.next != forms.len() => Some(Wanted::Items(forms.len())),
             _ => None,
         }
     }

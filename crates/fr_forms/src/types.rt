@@ -5,9 +5,7 @@ use crate::row::{Formed, Row};
 use fr_ask::{Ask, Last, SeqAsk, SeqRefusal, SeqTell, Tell};
 use fr_base::{Memory, NodeId};
 use fr_cli_json::tokens::Unread;
-use fr_log::{
-    LogAsk, LogRefusal, LogTell, Peeked, PeekedRecord, PoppedTag, Seed, SeedRecord,
-};
+use fr_log::{LogAsk, LogRefusal, LogTell, Peeked, PeekedRecord, PoppedTag, Seed, SeedRecord};
 use fr_proxy::Outcome;
 use fr_register::{CellAsk, CellTell};
 use fr_state::Generation;
@@ -216,7 +214,9 @@ impl Formed for Last {
             Last::Recoverer { phase } => {
                 let phase = std::str::from_utf8(phase.as_slice()).unwrap_or("");
                 let phase = Value::try_from_str(alloc, phase)?;
-                Object::new(alloc).put("phase", Ok(phase))?.named("recoverer")
+                Object::new(alloc)
+                    .put("phase", Ok(phase))?
+                    .named("recoverer")
             }
             _ => kind!(Last write self alloc),
         }

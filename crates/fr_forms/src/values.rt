@@ -198,7 +198,10 @@ impl Formed for LogId {
     }
 
     fn to_value(&self, alloc: Global) -> Result<Value, Memory> {
-        Object::new(alloc).with("epoch", &self.epoch)?.with("log", &self.index)?.value()
+        Object::new(alloc)
+            .with("epoch", &self.epoch)?
+            .with("log", &self.index)?
+            .value()
     }
 }
 
@@ -209,7 +212,10 @@ impl Formed for Shape {
     }
 
     fn to_value(&self, alloc: Global) -> Result<Value, Memory> {
-        Object::new(alloc).with("degree", &self.k())?.with("logs", &self.m())?.value()
+        Object::new(alloc)
+            .with("degree", &self.k())?
+            .with("logs", &self.m())?
+            .value()
     }
 }
 
@@ -242,9 +248,18 @@ impl Formed for Mutation {
         let (name, key, first, operand, second) = match self {
             Mutation::Set { key, value } => ("set", "key", key, "value", value),
             Mutation::Clear { begin, end } => ("clear", "begin", begin, "end", end),
-            Mutation::Atomic { op, key, param } => (op.name(), "key", key, op.operand_name(), param),
+            Mutation::Atomic { op, key, param } => (
+                op.name(),
+                "key",
+                key,
+                op.operand_name(),
+                param,
+            ),
         };
-        Object::new(alloc).with(key, first)?.with(operand, second)?.named(name)
+        Object::new(alloc)
+            .with(key, first)?
+            .with(operand, second)?
+            .named(name)
     }
 }
 

@@ -104,7 +104,7 @@ static CONFIGS: [&str; 3] = [
 
 /// Whether a script is written so once it was read.
 pub(crate) fn is_written(alloc: Global, script: &[u8], wanted: &[u8]) -> Result<bool, Fail> {
-    let (config, journals) = read_script(alloc, script)?;
+    let (config, journals) = read_script(alloc, script, &mut String::new(alloc))?;
     let written = write_script(alloc, &config, journals.as_slice())?;
     Ok(written.as_slice() == wanted)
 }

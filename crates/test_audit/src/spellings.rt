@@ -2,7 +2,8 @@
 use crate::forms::is_written;
 use crate::scripts::Place::{self, Act, Ask, Entries, Tell};
 use crate::scripts::script_in;
-use fr_audit_script::{ScriptFault, read_script};
+use fr_audit_script::read_script;
+use fr_cli_json::CliFault;
 use std::alloc::Global;
 use std::process::Abort;
 use std::test::Fail;
@@ -197,8 +198,8 @@ const CUT: &str =
     r#"{"act":{"asked":{"ask":{"log":{"push":{"bodies":[[0,[{"set":{"key":"61","value":"01"}}]]],"epoch":257,"known":0,"mark":null,"prev":1,"version":2}}},"from":{"proxy":{"epoch":257,"number":0}},"tell":{"log":{"held":{"version":2}}}}},"stamp":1},{"act":{"asked":{"ask":{"log":{"peek":{"after":1,"epoch":257,"most":100,"tag":0}}},"from":{"storage":{"tag":0}},"tell":{"log":{"peeked":{"after":1,"known":0,"records":[{"batch":[{"set":{"key":"61","value":"01"}}],"version":2}],"tag":0,"upto":2}}}}},"stamp":2}"#;
 
 fn is_bad(alloc: Global, text: &[u8]) -> bool {
-    match read_script(alloc, text) {
-        Err(ScriptFault::BadScript) => true,
+    match read_script(alloc, text, &mut String::new(alloc)) {
+        Err(CliFault::BadScript) => true,
         _ => false,
     }
 }
