@@ -260,10 +260,13 @@ pub(crate) fn write_node_fault(alloc: Global, fault: NodeFault) -> Result<Value,
     }
 }
 
-/// The room of a device, at most 65,535 bytes.
+/// The greatest room of a device: that of the nodes of a cluster over files.
+const MOST_ROOM: usize = 16_777_216;
+
+/// The room of a device, at most 16,777,216 bytes.
 pub(crate) fn read_room(fields: &Fields) -> Result<usize, Wrong> {
-    match u16::try_from(fields.number("room")?) {
-        Ok(room) => Ok(usize::from(room)),
-        Err(_) => Err(NO_FORM),
+    match usize::try_from(fields.number("room")?) {
+        Ok(room) if room <= MOST_ROOM => Ok(room),
+        _ => Err(NO_FORM),
     }
 }
