@@ -29,7 +29,7 @@ pub trait Machine {
     /// The asks that are answered without memory.
     ghost TakesNone: { Self → Self.Ask → Type 0 };
 
-    /// Answers an ask. Want of memory changes nothing.
+    /// Answers an ask. Out of memory changes nothing.
     fn step(&mut self, alloc: Global, ask: Self::Ask) -> Result<Self::Tell, Memory>
         ensures reached { IsReached self.new }
         ensures told { IfOk result (λ tell. tell ≡ told self.old ask) }

@@ -30,7 +30,7 @@ pub struct ApplyOptions {
 /// Runs the operations of a script on an empty store, and writes a line for each and then the rows.
 ///
 /// The status is 0. A script is read whole before its first line is written, so what is no script
-/// writes nothing. A store that fails ends the command as want of memory does.
+/// writes nothing. A store that fails ends the command as `Memory` does.
 pub fn run_apply<R: Read, W: Write>(
     alloc: Global,
     options: ApplyOptions,

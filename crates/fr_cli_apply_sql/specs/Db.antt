@@ -26,7 +26,7 @@ Keeps g x left left_now files = (script : List Operation) × HasRead script_of l
 abbrev pub show_lines : StoreState → List ℕ
 show_lines s = ok_line s ++ row_lines (map.entries s.contents)
 
--- what a fault is to the reader and the writer of a command: one of files came before or between their calls, as want of memory does
+-- what a fault is to the reader and the writer of a command: one of files came before or between their calls, as `Memory` does
 abbrev pub cli_of : DbFault → CliFault
 cli_of (db.Command fault) = fault
 cli_of (db.Files fault) = Memory

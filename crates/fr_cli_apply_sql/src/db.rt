@@ -47,7 +47,7 @@ fn opened<D: FaithfulDisk + Drop>(
     }
 }
 
-/// Why a command ended by want of memory on a store, which answers so too where the store failed or has no room.
+/// Why a command ended by `Memory` on a store, which answers so too where the store failed or has no room.
 fn failure<D: FaithfulDisk + Drop>(store: SqlFileStore<D>) -> DbFault
     ensures { cli_of result ≡ CliFault.Memory }
 {

@@ -27,7 +27,7 @@ use std::io::{Read, Write};
 /// as [`fr_cli_apply::run_apply`] writes on a map.
 ///
 /// The status is 0. A script is read whole before its first line is written, so what is no script writes nothing. A
-/// store that fails, or that cannot be made, ends the command as want of memory does.
+/// store that fails, or that cannot be made, ends the command as `Memory` does.
 pub fn run_apply_sql<R: Read, W: Write>(
     alloc: Global,
     reader: &mut R,

@@ -155,7 +155,7 @@ fn run_works<
     }
 }
 
-/// The fault that the audit of a run found. Want of a thread or of a node is want of memory to who runs a cluster.
+/// The fault that the audit of a run found. Want of a thread or of a node is want of memory to whoever runs a cluster.
 fn audit_fault(fault: RunFault) -> Result<AuditFault, Memory>
     ensures { IfOk result (λ found. (fault ≡ RunFault.Audit found) × (found ≢ AuditFault.Memory)) }
 {

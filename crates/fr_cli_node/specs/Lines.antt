@@ -37,7 +37,7 @@ abbrev pub IfUndone : Result Reply LineFault → Type 0 → Type 0
 IfUndone (Ok reply) P = ⊤
 IfUndone (Err f) P = IfNone (crash_in_fault f) P
 
--- a process ends for want of memory, or by what its node can say
+-- a process ends out of memory, or by what its node can say
 abbrev pub IsEnd : (Crash → Type 0) → Crash → Type 0
 IsEnd CanCrash why = (why ≡ crash.Memory) ⊎ CanCrash why
 
@@ -48,7 +48,7 @@ EndsBy CanCrash end.NoConfig = ⊥
 EndsBy CanCrash end.NotThere = ⊥
 EndsBy CanCrash (end.Crashed why) = IsEnd CanCrash why
 
--- an answer is not written for want of memory, or where a call of the writer failed
+-- an answer is not written out of memory, or where a call of the writer failed
 abbrev pub IsPutFault : Counts → NodeEnd → Type 0
 IsPutFault calls (end.Command f) = (f ≡ cli.Output) × (0 < calls.failed_writes)
 IsPutFault calls end.NoConfig = ⊥

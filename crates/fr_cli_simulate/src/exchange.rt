@@ -91,7 +91,7 @@ fn hear(
     }
 }
 
-/// An ask that came nowhere, unless memory was wanting.
+/// An ask that came nowhere, unless memory ran out.
 fn passed_over(why: NotEnabled) -> Result<Option<Exchange>, Memory> {
     match why {
         NotEnabled::Memory => Err(Memory),

@@ -13,10 +13,10 @@ const VERSION: &str = "0.2.0 (rattle logic dac8208d650f15bf)";
 /// The status of bad words.
 pub const BAD_WORDS: u8 = 2;
 
-/// What is said to who names a script's file.
+/// What is said to whoever names a script's file.
 const FILE_TIP: &str = "  tip: a script is read from standard input, as in 'fdbrec apply < FILE'";
 
-/// How a program ends. What is to be said on standard error is left to who has one.
+/// How a program ends. What is to be said on standard error is left to the caller.
 #[derive(Debug, Drop)]
 pub enum Ending {
     /// The command was done, or help or the version was asked for and shown.

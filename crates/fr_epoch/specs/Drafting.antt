@@ -62,7 +62,7 @@ plan_after ballot shape tags p end s = record {
   tail = new_tail tags p.last.m p.last.k (responders end) (pev_of end) (rv_of end);
 }
 
--- the plan of the state with that generation, or why there is none; extending answers no want of memory
+-- the plan of the state with that generation, or why there is none; extending never answers `Memory`
 abbrev pub drafted : ℕ → Option ShapeContent → ℕ → Parent → EndState → Result CoordinatedState StateFault → Result Plan LostWhy
 drafted ballot shape tags p end (Ok s) = Ok (plan_after ballot shape tags p end s)
 drafted ballot shape tags p end (Err fault.NotLater) = Err why.NotLater

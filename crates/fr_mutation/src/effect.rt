@@ -15,7 +15,7 @@ use fr_base::{Bytes, Memory};
 use std::alloc::Global;
 use std::collections::BTreeMap;
 
-/// Lets the mutations act on the rows, from first to last. Want of memory leaves the rows as some first
+/// Lets the mutations act on the rows, from first to last. `Memory` leaves the rows as some first
 /// mutations made them.
 pub fn apply(alloc: Global, rows: &mut BTreeMap<Bytes, Bytes>, batch: &Batch) -> Result<(), Memory>
     ensures ok { OnOk result (map_of rows.new ≡ after (map_of rows.old) batch.now) }
@@ -27,7 +27,7 @@ pub fn apply(alloc: Global, rows: &mut BTreeMap<Bytes, Bytes>, batch: &Batch) ->
     Ok(())
 }
 
-/// Lets one mutation act on the rows. Want of memory changes nothing.
+/// Lets one mutation act on the rows. Out of memory changes nothing.
 fn act(alloc: Global, rows: &mut BTreeMap<Bytes, Bytes>, mutation: &Mutation) -> Result<(), Memory>
     requires { mutation_fault mutation.now ≡ None }
     ensures ok { OnOk result ((q : List ℕ) → tree.get bytes_cmp rows.new q ≡ value_after mutation.now q (tree.get bytes_cmp rows.old q)) }

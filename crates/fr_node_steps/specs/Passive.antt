@@ -48,7 +48,7 @@ passive_refusal unwrapped has_files entries at (turn.Ask from ask) = ask_refusal
 passive_refusal unwrapped has_files entries at turn.Back = back_refusal has_files entries at
 passive_refusal unwrapped has_files entries at t = Some refusal.NotTaken
 
--- why a node cannot go on: for want of memory, or by a fault that it can meet
+-- why a node cannot go on: out of memory, or by a fault that it can meet
 abbrev pub IsCrash : (NodeFault → Type 0) → Crash → Type 0
 IsCrash CanMeet crash.Memory = Unit {0}
 IsCrash CanMeet crash.Device = CanMeet node.Device

@@ -56,7 +56,7 @@ pub trait Recorded: Machine + Drop {
     fn place(&self, alloc: Global) -> Result<Self::Place, Memory>
         ensures { IfOk result (λ place. IsPlaceOf self.now place) };
 
-    /// Answers an ask, and keeps what the ask lets go. Want of memory changes nothing.
+    /// Answers an ask, and keeps what the ask lets go. Out of memory changes nothing.
     fn keep(&mut self, alloc: Global, ask: Self::Ask) -> Result<Self::Tell, Memory>
         ensures told { IfOk result (λ tell. tell ≡ Self.told self.old ask) }
         ensures after { OnOk result (self.new ≡ kept self.old ask) }

@@ -54,7 +54,7 @@ pub fn take_peeked<S: ShardStore>(
 
 /// Tells a storage server the coordinated state of a mark, as [`Storage::hear_marked`] does, and as [`take_peeked`] does
 /// if a call of its store fails in it. Nothing of the hear is missing if the server keeps the state. A refusal is one of
-/// opening the server again, which it needs from then on, or want of memory for a copy of the state, which leaves the
+/// opening the server again, which it needs from then on, or `Memory` for a copy of the state, which leaves the
 /// server as it was; either way the server keeps its tag, its state and what its store may leave.
 pub fn take_marked<S: ShardStore>(
     alloc: Global,

@@ -131,7 +131,7 @@ pub record IsHoused {N S A : Type 0} (m : Steps S A) (IsReached : S → Type 0) 
   pub reached : IsReached (before m h)
   pub stands : Stands m (before m h) h.entries h.state h.is_failed owed h.kept
 
--- a fault that such a node can meet, or want of memory
+-- a fault that such a node can meet, or `Memory`
 abbrev pub IsTrouble : (NodeFault → Type 0) → CallFault → Type 0
 IsTrouble CanMeet (call.Node fault) = (fault ≡ node.Memory) ⊎ CanMeet fault
 IsTrouble CanMeet call.StampsSpent = Unit {0}

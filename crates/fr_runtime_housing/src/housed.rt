@@ -160,7 +160,7 @@ where
     /// Asks the node. A node that stands failed is opened again first, and the ask that met the fault is entered where
     /// the node took it. The entry's stamp is one more than the greater of the caller's and the journal's last, and the
     /// answer is that stamp and what the node told. A fault of the node enters nothing more; where its device failed in
-    /// the ask, this is kept with its sender and the stamp that its entry would have. Want of memory may be answered when
+    /// the ask, this is kept with its sender and the stamp that its entry would have. `Memory` may be answered when
     /// the ask was taken and entered.
     pub fn ask(
         &mut self,

@@ -42,7 +42,7 @@ where
 
     /// Asks the node, as [`Housed::ask`] does, once the lock is free: what is answered and what is left are those of one
     /// ask of such a node where it stood when the lock was taken. The stamp is above the caller's; a fault is one that the
-    /// node can meet, want of memory, or that it takes no call.
+    /// node can meet, `Memory`, or that it takes no call.
     pub fn call<R: Wait>(
         &self,
         rt: &R,

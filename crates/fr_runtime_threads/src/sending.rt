@@ -1,4 +1,4 @@
-//! Asks on their way, and what befalls them.
+//! Asks on their way, and what happens to them.
 ghost use Rattle.std.specs.Prelude.{◌≡◌, OnOk};
 ghost use Rattle.fr_runtime_threads.specs.Hears.{HasHeard};
 

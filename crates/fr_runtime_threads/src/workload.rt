@@ -26,7 +26,7 @@ pub trait Workload {
         ensures heard { heard self.new ≡ heard self.old }
         ensures err { OnErr result (given self.new ≡ given self.old) };
 
-    /// Is told what became of the first batch of which it was told nothing. Want of memory tells it nothing.
+    /// Is told what became of the first batch of which it was told nothing. `Memory` tells it nothing.
     fn told(&mut self, outcome: Outcome) -> Result<(), Memory>
         ensures heard { OnOk result (heard self.new ≡ heard self.old ++ outcome ∷ []) }
         ensures given { given self.new ≡ given self.old }

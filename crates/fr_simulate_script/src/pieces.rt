@@ -58,7 +58,7 @@ fn read_steps(alloc: Global, reader: &mut Reader<'_>) -> Result<Vec<Act>, Unread
     Ok(acts)
 }
 
-/// What was read of a tree, where that has its form: a tree without it is left to who reads the whole script as one.
+/// What was read of a tree, where that has its form: a tree without it is left to whoever reads the whole script as one.
 fn usual<T: Drop>(read: Result<T, CliFault>) -> Result<T, Unread> {
     match read {
         Ok(value) => Ok(value),

@@ -1,5 +1,5 @@
 //! What the statements were answered that were refused. Only sqlite makes a [`Refused`]: each call of it by this crate
-//! stands here, and nothing else can make one, but want of memory. So a body above that answers a trouble was told so.
+//! stands here, and nothing else can make one, but `Memory`. So a body above that answers a trouble was told so.
 ghost use Rattle.std.specs.Prelude.{◌≡◌, ◌≢◌, ◌↔◌, ◌⊎◌, ◌<◌, ◌≤◌, ◌+◌, ◌^◌, ℕ, pos, false, [], codes, length, IsTrue, Err, IfOk, IfErr, OnOk};
 ghost use Rattle.sqlite.specs.Values.{bound};
 ghost use Rattle.sqlite.specs.Order.{Row as SqlRow, column};

@@ -52,7 +52,7 @@ fn settle(
     }
 }
 
-/// Applies a batch at a version above all rows: all of it, or nothing where memory is wanting.
+/// Applies a batch at a version above all rows: all of it, or nothing if memory runs out.
 pub(crate) fn extend(
     alloc: Global,
     contents: &mut BTreeMap<Bytes, Bytes>,

@@ -54,7 +54,7 @@ fn give_one(
     }
 }
 
-/// Gives the keys of a plan their values, and notes what became of each. Want of memory leaves a front of
+/// Gives the keys of a plan their values, and notes what became of each. `Memory` leaves a front of
 /// them with theirs.
 fn give_all(
     contents: &mut BTreeMap<Bytes, Bytes>,
@@ -110,7 +110,7 @@ fn take_back(contents: &mut BTreeMap<Bytes, Bytes>, fates: Vec<(Bytes, Fate)>)
     }
 }
 
-/// Carries a plan out as far as it can want memory, all of that or nothing: keys have the values that they
+/// Carries a plan out as far as it can run out of memory, all of that or nothing: keys have the values that they
 /// are to hold, and those that are to hold none still have theirs. Each key is looked up once, and no value
 /// is copied.
 pub(crate) fn give_values(

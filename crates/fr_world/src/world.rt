@@ -83,7 +83,7 @@ impl World {
         step(alloc, &mut self.nodes, event)
     }
 
-    /// As [`World::step`], of a world that is given up where the event cannot happen or memory is wanting: so no hear of a
+    /// As [`World::step`], of a world that is given up where the event cannot happen or memory runs out: so no hear of a
     /// storage server needs a copy of it, and an event costs what it touches. What [`World::is_safe`] says holds of the
     /// world that it answers, as of every other.
     pub fn step_owned(self, alloc: Global, event: &Event) -> Result<(World, Answer), NotEnabled>

@@ -44,7 +44,7 @@ pub fn tell_server(
     Ok(Heard { server, fault })
 }
 
-/// As [`tell_server`], with no copy of the server: want of memory may leave it failed, with a part of what it heard.
+/// As [`tell_server`], with no copy of the server: running out of memory may leave it failed, with a part of what it heard.
 pub fn tell_in_place(
     alloc: Global,
     server: &mut Storage<MapStore>,
@@ -62,7 +62,7 @@ pub fn tell_in_place(
     }
 }
 
-/// Tells a server what a log of an epoch told it, and answers why it refuses that. Want of memory may leave it
+/// Tells a server what a log of an epoch told it, and answers why it refuses that. running out of memory may leave it
 /// failed.
 fn hear(
     alloc: Global,
@@ -138,7 +138,7 @@ pub fn break_server(
     Ok(server)
 }
 
-/// As [`break_server`], with no copy of the server: want of memory may leave it failed, with a part of what it heard.
+/// As [`break_server`], with no copy of the server: running out of memory may leave it failed, with a part of what it heard.
 pub fn break_in_place(
     alloc: Global,
     server: &mut Storage<MapStore>,

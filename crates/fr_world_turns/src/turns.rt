@@ -51,7 +51,7 @@ impl Turns {
         }
     }
 
-    /// Makes room for one turn more. Want of memory changes no turn.
+    /// Makes room for one turn more. Out of memory changes no turn.
     pub fn reserve(&mut self) -> Result<(), Memory>
         ensures turns { self.new.turns ≡ self.old.turns }
         ensures room { OnOk result (1 ≤ self.new.room) }

@@ -80,7 +80,7 @@ impl<S: ShardStore + Drop> Plays<Storage<S>> for Nodes {
     }
 }
 
-/// A hear that broke off for want of memory left the server failed: it is opened again.
+/// A hear that broke off out of memory left the server failed: it is opened again.
 fn reopen<S: ShardStore + Drop>(alloc: Global, storage: &mut Storage<S>) -> Result<Value, Wrong> {
     if storage.reopen(alloc).is_err() {
         return Err(Wrong::Unsaid);

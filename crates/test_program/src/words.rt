@@ -156,7 +156,7 @@ fn first_refused(alloc: Global) -> Result<Option<&'static str>, AllocError> {
     Ok(None)
 }
 
-/// A line, and what is said to who gives it.
+/// A line, and what is said to whoever gives it.
 static SAID: [(&str, &str); 3] = [
     (
         "fdbrec end --logs 2 --degree 3",
@@ -175,7 +175,7 @@ static SAID: [(&str, &str); 3] = [
     ),
 ];
 
-/// Whether this is said to who gives a line.
+/// Whether this is said to whoever gives a line.
 fn says(alloc: Global, line: &str, wanted: &str) -> Result<bool, AllocError> {
     let words = words_of(alloc, line)?;
     match read_words(alloc, words.as_slice()) {

@@ -75,7 +75,7 @@ fn happen(
     }
 }
 
-/// What comes of an event. Where memory is wanting the world stands as it was, and the event is tried again.
+/// What comes of an event. if memory runs out the world stands as it was, and the event is tried again.
 fn take(alloc: Global, played: &mut Played, event: Event) -> Result<Value, Wrong> {
     let turns = played.world.turns().len();
     let given = match played.world.step(alloc, &event) {

@@ -1,5 +1,5 @@
 //! The steps `pull`, `mark` and `pop`: a storage server asks a log for something, and hears in place what it is told: where
-//! memory is wanting the world is given up, so that no hear needs a copy of the server.
+//! memory runs out the world is given up, so that no hear needs a copy of the server.
 ghost use Rattle.std.specs.Prelude.{◌≡◌, None, IfOk, IsOk};
 ghost use Rattle.fr_base.specs.declared.place.NodeId.TheVariants as node;
 ghost use Rattle.fr_run_event.specs.Step.{turn_of};

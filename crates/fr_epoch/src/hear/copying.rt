@@ -139,7 +139,7 @@ impl Standing {
     }
 }
 
-/// A copy hears what the log of this number answered; want of memory leaves it as it was.
+/// A copy hears what the log of this number answered; `Memory` leaves it as it was.
 fn take(tail: &mut Tail, index: u8, peeked: Peeked) -> Result<(), Memory>
     ensures ok { OnOk result (tail.new ≡ after_peeked tail.old index peeked.tag peeked) }
     ensures err { OnErr result (tail.new ≡ tail.old) }

@@ -155,7 +155,7 @@ impl Log {
         }
     }
 
-    /// Answers an ask, and lets nothing go. Want of memory changes nothing.
+    /// Answers an ask, and lets nothing go. Out of memory changes nothing.
     pub fn keep(&mut self, alloc: Global, ask: LogAsk) -> Result<LogTell, Memory>
         ensures told { IfOk result (λ tell. tell ≡ answer_of self.old ask) }
         ensures after { IfOk result (λ _. self.new ≡ next_of self.old ask) }

@@ -75,7 +75,7 @@ impl Headers {
         self.runs[after - 1].heads(push)
     }
 
-    /// Adds a header above all others. Want of memory changes nothing.
+    /// Adds a header above all others. Out of memory changes nothing.
     pub(crate) fn push(&mut self, header: PushHeader) -> Result<(), Memory>
         requires { RiseFrom 0 (self.old ++ header ∷ []) }
         ensures after { OnOk result (self.new ≡ self.old ++ header ∷ []) }

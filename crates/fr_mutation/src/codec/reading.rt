@@ -207,7 +207,7 @@ fn header_at(bytes: &[u8]) -> Result<(Format, usize, &[u8]), DecodeFault>
 
 /// Reads a batch from the front of the bytes, and says how many of them it took; what follows is left.
 /// It answers the first fault from the left, and after those that its mutations are in format 2 without
-/// need. The bytes are looked through before any is copied, so want of memory is answered only where
+/// need. The bytes are looked through before any is copied, so `Memory` is answered only where
 /// there is no other fault.
 pub fn decode(alloc: Global, bytes: &[u8]) -> Result<(Batch, usize), DecodeFault>
     ensures ok { IfOk result (λ found. decoded bytes.now ≡ Ok found) }

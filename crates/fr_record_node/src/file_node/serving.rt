@@ -22,7 +22,7 @@ pub(super) struct Taken<T> {
     group: Vec<Vec<u8>>,
 }
 
-/// Takes an ask more. Where memory is wanting the machine has taken it, or it has not.
+/// Takes an ask more. if memory runs out the machine has taken it, or it has not.
 fn take_one<M: Recorded>(
     machine: &mut M,
     alloc: Global,
@@ -48,7 +48,7 @@ where
     Ok(())
 }
 
-/// Takes asks one after another. Where memory is wanting the machine has taken a front of them.
+/// Takes asks one after another. if memory runs out the machine has taken a front of them.
 pub(super) fn take_all<M: Recorded>(
     machine: &mut M,
     alloc: Global,

@@ -98,7 +98,7 @@ fn hear_in_part(
     Ok(Answer::Done)
 }
 
-/// As [`heard_by_storage`], with no copy of the server: where memory is wanting the nodes are given up.
+/// As [`heard_by_storage`], with no copy of the server: if memory runs out the nodes are given up.
 pub(crate) fn heard_in_place(
     alloc: Global,
     nodes: &mut Nodes,
