@@ -84,7 +84,7 @@ CELLS = [
     asked(40, RECOVERER, read(770), 41, {"cell": {"promise": {"value": TWO, "written": 513}}}, cell(770, 513, TWO)),
     is_last(cell(770, 513, TWO)),
     fault({"type": "hear", "at": 50, "from": CELL, "tell": {"cell": {"two_values": {}}}}, 10),
-    fault({"type": "wants", "turn": 1}, 10),
+    ({"type": "wants", "turn": 1}, {"type": "wants_ok", "wants": []}),
     fault({"type": "sing"}, 10),
     fault({"type": "ask", "at": 50, "from": RECOVERER}, 12),
     fault({"type": "ask", "at": 50, "from": RECOVERER, "ask": {"cell": {"read": {}}}}, 12),
