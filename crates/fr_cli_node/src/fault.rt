@@ -1,0 +1,69 @@
+//! Why a node's process ends early.
+use fr_base::Memory as NoMemory;
+use fr_cli_json::CliFault;
+use fr_node_steps::Crash;
+use std::alloc::{AllocError, AllocFailed};
+
+/// Why a node's process ends before its input does.
+#[derive(Clone, Copy, Debug, PartialEq, Eq)]
+pub enum NodeEnd {
+    /// By a fault that any command has.
+    Command(CliFault),
+    /// Its file of a config is missing, or holds none.
+    NoConfig,
+    /// The node is none of its config's world.
+    NotThere,
+    /// The node cannot go on.
+    Crashed(Crash),
+}
+
+impl NodeEnd {
+    /// What the user is told.
+    pub fn text(self) -> &'static str {
+        match self {
+            NodeEnd::Command(CliFault::BadScript) => "bad script",
+            NodeEnd::Command(CliFault::Memory) => "out of memory",
+            NodeEnd::Command(CliFault::Input) => "input failed",
+            NodeEnd::Command(CliFault::Output) => "output failed",
+            NodeEnd::NoConfig => "no config: the file is missing, or holds none",
+            NodeEnd::NotThere => "no such node: the config has fewer",
+            NodeEnd::Crashed(Crash::Memory) => "out of memory",
+            NodeEnd::Crashed(Crash::Device) => "a file failed",
+            NodeEnd::Crashed(Crash::Broken) => "a file is none of such a node",
+            NodeEnd::Crashed(Crash::Store) => "a store failed",
+        }
+    }
+
+    /// The exit status of a program that ends so.
+    pub fn status(self) -> u8 {
+        match self {
+            NodeEnd::Command(fault) => fault.status(),
+            NodeEnd::NoConfig | NodeEnd::NotThere => 2,
+            NodeEnd::Crashed(_) => 3,
+        }
+    }
+}
+
+impl From<CliFault> for NodeEnd {
+    fn from(fault: CliFault) -> NodeEnd {
+        NodeEnd::Command(fault)
+    }
+}
+
+impl From<AllocError> for NodeEnd {
+    fn from(_: AllocError) -> NodeEnd {
+        NodeEnd::Command(CliFault::Memory)
+    }
+}
+
+impl<T: Drop> From<AllocFailed<T>> for NodeEnd {
+    fn from(_: AllocFailed<T>) -> NodeEnd {
+        NodeEnd::Command(CliFault::Memory)
+    }
+}
+
+impl From<NoMemory> for NodeEnd {
+    fn from(_: NoMemory) -> NodeEnd {
+        NodeEnd::Command(CliFault::Memory)
+    }
+}

@@ -1,0 +1,120 @@
+//! Lines of a reader.
+ghost use Rattle.std.specs.Prelude.{◌≤◌, length};
+
+use fr_cli_json::CliFault;
+use std::alloc::Global;
+use std::io::{ErrorKind, Read};
+
+/// The most bytes that one read gives.
+const READ_SIZE: usize = 8192;
+
+/// What a reader has next.
+#[derive(Debug, Drop)]
+pub(crate) enum Found {
+    /// A line, without its end.
+    Line(Vec<u8>),
+    /// One that is longer than it may be, which was read to its end.
+    TooLong,
+    /// No more.
+    End,
+}
+
+/// A line under way: its bytes, or that it is too long.
+#[derive(Drop)]
+struct Part {
+    bytes: Vec<u8>,
+    is_long: bool,
+}
+
+impl Part {
+    /// With bytes more, where the line may have them.
+    fn with(self, bytes: &[u8], most: usize) -> Result<Self, CliFault> {
+        let mut part = self;
+        let room = most.saturating_sub(part.bytes.len());
+        if part.is_long || bytes.len() > room {
+            part.is_long = true;
+            part.bytes.clear();
+        } else {
+            part.bytes.extend_from_slice(bytes)?;
+        }
+        Ok(part)
+    }
+
+    /// The line, at its end.
+    fn found(self) -> Found {
+        if self.is_long {
+            Found::TooLong
+        } else {
+            Found::Line(self.bytes)
+        }
+    }
+
+    /// Whether there is nothing of it.
+    fn is_nothing(&self) -> bool {
+        self.bytes.is_empty() && !self.is_long
+    }
+}
+
+/// The lines of a reader: bytes that were read, of which those from a place on are not given out.
+#[derive(Drop)]
+pub(crate) struct Lines {
+    chunk: Vec<u8>,
+    from: usize,
+    ghost within: { from ≤ length chunk.items },
+}
+
+impl Lines {
+    /// Nothing is read yet.
+    pub(crate) fn new(alloc: Global) -> Self {
+        Lines {
+            chunk: Vec::new(alloc),
+            from: 0,
+        }
+    }
+
+    /// The next line, of at most so many bytes. What follows the last end of a line is a line too.
+    pub(crate) fn next<R: Read>(
+        &mut self,
+        alloc: Global,
+        reader: &mut R,
+        most: usize,
+    ) -> Result<Found, CliFault> {
+        let mut part = Part {
+            bytes: Vec::new(alloc),
+            is_long: false,
+        };
+        for _turn in 0..u64::MAX {
+            let rest = &self.chunk.as_slice()[self.from..];
+            match rest.iter().position(|byte| *byte == b'\n') {
+                Some(end) => {
+                    let part = part.with(&rest[..end], most)?;
+                    self.from += end + 1;
+                    return Ok(part.found());
+                }
+                None => part = part.with(rest, most)?,
+            }
+            if !self.fill(reader)? {
+                return Ok(if part.is_nothing() { Found::End } else { part.found() });
+            }
+        }
+        Err(CliFault::Input)
+    }
+
+    /// Reads what comes next; false where there is no more.
+    fn fill<R: Read>(&mut self, reader: &mut R) -> Result<bool, CliFault> {
+        let mut chunk = [0u8; READ_SIZE];
+        for _turn in 0..u64::MAX {
+            match reader.read(&mut chunk) {
+                Ok(count) => {
+                    self.from = 0;
+                    self.chunk.clear();
+                    self.chunk.extend_from_slice(&chunk[..count])?;
+                    return Ok(count > 0);
+                }
+                Err(error) if error.kind() == ErrorKind::Interrupted => {}
+                Err(_) => return Err(CliFault::Input),
+            }
+        }
+        Err(CliFault::Input)
+    }
+}

@@ -1,0 +1,309 @@
+//! The words of the command `node`.
+use clap::error::{Error, ErrorKind};
+use clap::{Arg, ArgAction, ArgMatches, Command, value_parser};
+use fr_base::{Ballot, Epoch, Shape, Tag, Version};
+use fr_cli_words::bad_words;
+use std::alloc::{AllocError, Global};
+
+/// Which node the words name, and how it begins.
+#[derive(Debug, Drop, PartialEq, Eq)]
+pub enum NodeWords {
+    /// A coordinator's cell, as the world of a config starts with it, or a fresh one.
+    Cell {
+        index: u8,
+        config: Option<String>,
+    },
+    /// A log, which a world starts with, or a fresh one.
+    Log {
+        epoch: Epoch,
+        index: u8,
+        shape: Shape,
+        is_started: bool,
+    },
+    /// A sequencer, which gave this version last.
+    Sequencer {
+        epoch: Epoch,
+        last: Version,
+    },
+    /// A storage server, as a world starts with it.
+    Storage {
+        tag: Tag,
+        config: String,
+    },
+    /// A proxy of an epoch, of the shape of its generation, or of that of the first one.
+    Proxy {
+        epoch: Epoch,
+        number: u8,
+        known: Version,
+        shape: Option<Shape>,
+        config: String,
+    },
+    /// A recoverer, with the shape of the generation that it is to open, where it is given one.
+    Recoverer {
+        ballot: Ballot,
+        shape: Option<Shape>,
+        config: String,
+    },
+}
+
+/// The command `node`, with a command below it for each kind of node.
+pub fn node_command<'a>(alloc: Global) -> Result<Command<'a>, Error> {
+    let node = Command::new(alloc, "node")
+        .about("Serves one node: reads lines of JSON, and answers each by one line")
+        .after_help(NODE_HELP)
+        .subcommand_required(true);
+    let node = with(node, cell_command(alloc))?;
+    let node = with(node, log_command(alloc))?;
+    let node = with(node, sequencer_command(alloc))?;
+    let node = with(node, storage_command(alloc))?;
+    let node = with(node, proxy_command(alloc))?;
+    with(node, recoverer_command(alloc))
+}
+
+/// A command with one that stands below it.
+fn with<'a>(above: Command<'a>, below: Result<Command<'a>, Error>) -> Result<Command<'a>, Error> {
+    let below = below?;
+    Ok(above.subcommand(below)?)
+}
+
+fn cell_command<'a>(alloc: Global) -> Result<Command<'a>, Error> {
+    let cell = Command::new(alloc, "cell")
+        .about("A coordinator's cell")
+        .arg(few(alloc, "index", "Its number, 0 to 8", 0, 8).required(true))?
+        .arg(config_word(alloc).help("The file that holds the config of the world, with --start"))?
+        .arg(start_word(alloc))?;
+    Ok(cell)
+}
+
+fn log_command<'a>(alloc: Global) -> Result<Command<'a>, Error> {
+    let log = Command::new(alloc, "log")
+        .about("A log of a generation")
+        .arg(number(alloc, "epoch", "The epoch of its generation").required(true))?
+        .arg(few(alloc, "index", "Its number, 0 to 15", 0, 15).required(true))?
+        .arg(few(alloc, "logs", "How many logs the generation has", 1, 16).required(true))?
+        .arg(few(alloc, "degree", "On how many of them each tag stands", 1, 16).required(true))?
+        .arg(start_word(alloc))?;
+    Ok(log)
+}
+
+fn sequencer_command<'a>(alloc: Global) -> Result<Command<'a>, Error> {
+    let sequencer = Command::new(alloc, "sequencer")
+        .about("The sequencer of a generation")
+        .arg(number(alloc, "epoch", "The epoch of its generation").required(true))?
+        .arg(number(alloc, "last", "The version that it begins from, that of the mark").required(true))?;
+    Ok(sequencer)
+}
+
+fn storage_command<'a>(alloc: Global) -> Result<Command<'a>, Error> {
+    let storage = Command::new(alloc, "storage")
+        .about("A storage server")
+        .arg(few(alloc, "tag", "Its tag, 0 to 31", 0, 31).required(true))?
+        .arg(config_word(alloc).required(true))?;
+    Ok(storage)
+}
+
+fn proxy_command<'a>(alloc: Global) -> Result<Command<'a>, Error> {
+    let proxy = Command::new(alloc, "proxy")
+        .about("A proxy of a generation")
+        .arg(number(alloc, "epoch", "The epoch of its generation").required(true))?
+        .arg(few(alloc, "number", "Its number, 0 to 15", 0, 15).required(true))?
+        .arg(number(alloc, "known", "The version before the first one of its generation").required(true))?
+        .arg(few(alloc, "logs", "How many logs the generation has, if not those of the config", 1, 16))?
+        .arg(few(alloc, "degree", "On how many of them each tag stands", 1, 16))?
+        .arg(config_word(alloc).required(true))?;
+    Ok(proxy)
+}
+
+fn recoverer_command<'a>(alloc: Global) -> Result<Command<'a>, Error> {
+    let recoverer = Command::new(alloc, "recoverer")
+        .about("The recoverer of a ballot")
+        .arg(number(alloc, "ballot", "Its ballot").required(true))?
+        .arg(few(alloc, "logs", "How many logs the next generation is to have", 1, 16))?
+        .arg(few(alloc, "degree", "On how many of them each tag is to stand", 1, 16))?
+        .arg(config_word(alloc).required(true))?;
+    Ok(recoverer)
+}
+
+/// A word with a number from `least` to `most`.
+fn few<'a>(alloc: Global, name: &'a str, help: &'a str, least: u8, most: u8) -> Arg<'a> {
+    Arg::new(alloc, name)
+        .long(name)
+        .help(help)
+        .value_name("N")
+        .value_parser(value_parser!(u8).range(i64::from(least)..=i64::from(most)))
+        .action(ArgAction::Set)
+}
+
+/// A word with any number.
+fn number<'a>(alloc: Global, name: &'a str, help: &'a str) -> Arg<'a> {
+    Arg::new(alloc, name)
+        .long(name)
+        .help(help)
+        .value_name("N")
+        .value_parser(value_parser!(u64))
+        .action(ArgAction::Set)
+}
+
+fn config_word<'a>(alloc: Global) -> Arg<'a> {
+    Arg::new(alloc, "config")
+        .long("config")
+        .help("The file that holds the config of the world")
+        .value_name("FILE")
+        .action(ArgAction::Set)
+}
+
+fn start_word<'a>(alloc: Global) -> Arg<'a> {
+    Arg::new(alloc, "start")
+        .long("start")
+        .help("It holds what a world starts with")
+        .action(ArgAction::SetTrue)
+}
+
+/// Reads which node the words of `node` name. What is left to be refused is a number that is none of its type, a degree
+/// above the number of logs, one of these two without the other, and a cell's start without its config or the other way
+/// round.
+pub fn read_node_words(alloc: Global, matches: &ArgMatches<'_>) -> Result<NodeWords, Error> {
+    match read_kind(alloc, matches)? {
+        Some(words) => Ok(words),
+        None => {
+            let message = "a number is beyond its limits, or a word is there without the one that goes with it";
+            let node = node_command(alloc)?;
+            Err(bad_words(node, "fdbrec node", ErrorKind::ValueValidation, message)?)
+        }
+    }
+}
+
+fn read_kind(alloc: Global, matches: &ArgMatches<'_>) -> Result<Option<NodeWords>, AllocError> {
+    if let Some(cell) = matches.subcommand_matches("cell") {
+        return read_cell(alloc, cell);
+    }
+    if let Some(log) = matches.subcommand_matches("log") {
+        return Ok(read_log(log));
+    }
+    if let Some(sequencer) = matches.subcommand_matches("sequencer") {
+        return Ok(read_sequencer(sequencer));
+    }
+    if let Some(storage) = matches.subcommand_matches("storage") {
+        return read_storage(alloc, storage);
+    }
+    if let Some(proxy) = matches.subcommand_matches("proxy") {
+        return read_proxy(alloc, proxy);
+    }
+    match matches.subcommand_matches("recoverer") {
+        Some(recoverer) => read_recoverer(alloc, recoverer),
+        None => Ok(None),
+    }
+}
+
+/// The shape that two words name, or that they name none; None where they are no shape.
+fn read_shape(matches: &ArgMatches<'_>) -> Option<Option<Shape>> {
+    match (matches.get_one::<u8>("logs"), matches.get_one::<u8>("degree")) {
+        (None, None) => Some(None),
+        (Some(logs), Some(degree)) => match Shape::new(logs, degree) {
+            Some(shape) => Some(Some(shape)),
+            None => None,
+        },
+        _ => None,
+    }
+}
+
+/// A cell is as a world starts with it where both its config and `start` are there.
+fn read_cell(alloc: Global, matches: &ArgMatches<'_>) -> Result<Option<NodeWords>, AllocError> {
+    let index = matches.get_one::<u8>("index").unwrap_or(0);
+    match (matches.get_str("config"), matches.get_flag("start")) {
+        (Some(name), true) => {
+            let config = Some(String::from_str(alloc, name)?);
+            Ok(Some(NodeWords::Cell { index, config }))
+        }
+        (None, false) => Ok(Some(NodeWords::Cell {
+            index,
+            config: None,
+        })),
+        _ => Ok(None),
+    }
+}
+
+fn read_log(matches: &ArgMatches<'_>) -> Option<NodeWords> {
+    let index = matches.get_one::<u8>("index").unwrap_or(0);
+    let shape = read_shape(matches)??;
+    if index >= shape.m() {
+        return None;
+    }
+    Some(NodeWords::Log {
+        epoch: read_epoch(matches)?,
+        index,
+        shape,
+        is_started: matches.get_flag("start"),
+    })
+}
+
+fn read_epoch(matches: &ArgMatches<'_>) -> Option<Epoch> {
+    Epoch::new(matches.get_one::<u64>("epoch").unwrap_or(0))
+}
+
+fn read_version(matches: &ArgMatches<'_>, name: &str) -> Option<Version> {
+    Version::new(matches.get_one::<u64>(name).unwrap_or(u64::MAX))
+}
+
+fn read_sequencer(matches: &ArgMatches<'_>) -> Option<NodeWords> {
+    Some(NodeWords::Sequencer {
+        epoch: read_epoch(matches)?,
+        last: read_version(matches, "last")?,
+    })
+}
+
+/// The name of a file, which is there where the words were taken.
+fn read_config(alloc: Global, matches: &ArgMatches<'_>) -> Result<String, AllocError> {
+    String::from_str(alloc, matches.get_str("config").unwrap_or(""))
+}
+
+fn read_storage(alloc: Global, matches: &ArgMatches<'_>) -> Result<Option<NodeWords>, AllocError> {
+    let config = read_config(alloc, matches)?;
+    match Tag::new(matches.get_one::<u8>("tag").unwrap_or(0)) {
+        Some(tag) => Ok(Some(NodeWords::Storage { tag, config })),
+        None => Ok(None),
+    }
+}
+
+fn read_proxy(alloc: Global, matches: &ArgMatches<'_>) -> Result<Option<NodeWords>, AllocError> {
+    let config = read_config(alloc, matches)?;
+    let number = matches.get_one::<u8>("number").unwrap_or(0);
+    match (read_epoch(matches), read_version(matches, "known"), read_shape(matches)) {
+        (Some(epoch), Some(known), Some(shape)) => Ok(Some(NodeWords::Proxy {
+            epoch,
+            number,
+            known,
+            shape,
+            config,
+        })),
+        _ => Ok(None),
+    }
+}
+
+fn read_recoverer(alloc: Global, matches: &ArgMatches<'_>) -> Result<Option<NodeWords>, AllocError> {
+    let config = read_config(alloc, matches)?;
+    let ballot = Ballot::new(matches.get_one::<u64>("ballot").unwrap_or(0));
+    match (ballot, read_shape(matches)) {
+        (Some(ballot), Some(shape)) if ballot.epoch().is_some() => {
+            Ok(Some(NodeWords::Recoverer {
+                ballot,
+                shape,
+                config,
+            }))
+        }
+        _ => Ok(None),
+    }
+}
+
+/// What stands below its help.
+const NODE_HELP: &str = "\
+Lines of JSON are read from standard input, one object a line, and each is answered by one line:
+
+  {\"src\":NAME,\"dest\":NAME,\"body\":{\"type\":TYPE,\"msg_id\":N,..}}
+
+NAME of a node is as audit prints it, as 'cell 0' or 'log 257 0'. docs/NODES.md has the types, and what
+each answers. A line that makes an entry of the node's journal has it in its answer; config and journals
+are then a script for audit.
+
+Statuses: 0 at the end of the input; 2 bad words, or no config; 3 the node cannot go on, for want of
+memory or since a file failed; 4 input or output failed.";

@@ -1,0 +1,4 @@
+pub mod Leads
+pub mod Told
+pub mod Steps
+pub mod Nodes

@@ -1,0 +1,73 @@
+-- Nodes that ask others, each with its journal, as contracts see them.
+use Rattle.std.specs.Prelude.{ℕ, ◌≡◌, ◌⊎◌, ◌+◌, ◌%◌, ◌==◌, ◌++◌, nat_lt, Bool, true, false, not, List, [], ◌∷◌, Option, None, Some, find, if◌then◌else◌}
+use Rattle.fr_base.specs.declared.place.NodeId.{NodeId}
+use Rattle.fr_base.specs.declared.place.NodeId.TheVariants as node
+use Rattle.fr_ask.specs.declared.ask.Ask.{Ask}
+use Rattle.fr_ask.specs.declared.ask.Ask.TheVariants as ask
+use Rattle.fr_log.specs.declared.ask.LogAsk.TheVariants as log
+use Rattle.fr_audit_journal.specs.declared.act.Entry.{Entry}
+use Rattle.fr_proxy.specs.declared.fault.SubmitFault.{SubmitFault}
+use Rattle.fr_proxy.specs.declared.fault.SubmitFault.TheVariants as submit
+use Rattle.fr_proxy.specs.Proxy.{ProxyState, submit_fault}
+use Rattle.fr_state.specs.Generations.{LogGeneration}
+use Rattle.fr_storage.specs.Storage.{StorageState, ask_after, own_epoch}
+use Rattle.fr_node_steps.specs.Passive.{are_spent}
+use Rattle.fr_node_steps.specs.declared.turn.Turn.{Turn}
+use Rattle.fr_node_steps.specs.declared.turn.Turn.TheVariants as turn
+use Rattle.fr_node_steps.specs.declared.fault.Refusal.{Refusal}
+use Rattle.fr_node_steps.specs.declared.fault.Refusal.TheVariants as refusal
+use Rattle.fr_node_steps.specs.declared.fault.Crash.{Crash}
+use Rattle.fr_node_steps.specs.declared.fault.Crash.TheVariants as crash
+
+-- a node, its place, the state in which its process began, and what it did since
+pub record Active (S : Type 0) : Type 0 where
+  pub state : S
+  pub place : NodeId
+  pub first : S
+  pub entries : List Entry
+
+-- the reason where the stamps are spent
+abbrev pub spent_refusal : List Entry → ℕ → Option Refusal
+spent_refusal entries at = if are_spent entries at then Some refusal.StampsSpent else None
+
+-- ---- proxies
+
+-- the reason why a proxy does not take a batch
+abbrev pub submit_refusal : Option SubmitFault → Option Refusal → Option Refusal
+submit_refusal None other = other
+submit_refusal (Some submit.TwoOpen) other = Some refusal.TwoOpen
+submit_refusal (Some submit.Over) other = Some refusal.Over
+submit_refusal (Some submit.Memory) other = Some refusal.Over
+
+abbrev pub proxy_refusal : ProxyState → List Entry → ℕ → Turn → Option Refusal
+proxy_refusal p entries at (turn.Ask from a) = Some refusal.NotTaken
+proxy_refusal p entries at (turn.Hear from tell) = spent_refusal entries at
+proxy_refusal p entries at (turn.Submit step batch) = submit_refusal (submit_fault p) (spent_refusal entries at)
+proxy_refusal p entries at turn.Begin = Some refusal.NotTaken
+proxy_refusal p entries at turn.Back = Some refusal.NotTaken
+
+-- ---- recoverers
+
+abbrev pub recoverer_refusal : Bool → List Entry → ℕ → Turn → Option Refusal
+recoverer_refusal begun entries at (turn.Ask from a) = Some refusal.NotTaken
+recoverer_refusal begun entries at (turn.Hear from tell) = if begun then spent_refusal entries at else Some refusal.NotBegun
+recoverer_refusal begun entries at (turn.Submit step batch) = Some refusal.NotTaken
+recoverer_refusal begun entries at turn.Begin = if begun then Some refusal.Begun else spent_refusal entries at
+recoverer_refusal begun entries at turn.Back = Some refusal.NotTaken
+
+-- ---- storage servers
+
+abbrev pub storage_refusal : List Entry → ℕ → Turn → Option Refusal
+storage_refusal entries at (turn.Ask from a) = Some refusal.NotTaken
+storage_refusal entries at (turn.Hear from tell) = spent_refusal entries at
+storage_refusal entries at (turn.Submit step batch) = Some refusal.NotTaken
+storage_refusal entries at turn.Begin = Some refusal.NotTaken
+storage_refusal entries at turn.Back = Some refusal.NotTaken
+
+-- a node in memory alone goes on for as long as there is memory
+abbrev pub IsMemory : Crash → Type 0
+IsMemory why = why ≡ crash.Memory
+
+-- one with a store, which may fail too
+abbrev pub IsStoreCrash : Crash → Type 0
+IsStoreCrash why = (why ≡ crash.Memory) ⊎ (why ≡ crash.Store)

@@ -1,0 +1,26 @@
+-- What a storage server asks in a turn.
+use Rattle.std.specs.Prelude.{ℕ, ◌+◌, ◌%◌, ◌==◌, ◌++◌, nat_lt, List, [], ◌∷◌, Option, None, Some, find, if◌then◌else◌}
+use Rattle.fr_base.specs.declared.place.NodeId.{NodeId}
+use Rattle.fr_base.specs.declared.place.NodeId.TheVariants as node
+use Rattle.fr_ask.specs.declared.ask.Ask.{Ask}
+use Rattle.fr_ask.specs.declared.ask.Ask.TheVariants as ask
+use Rattle.fr_log.specs.declared.ask.LogAsk.{LogAsk}
+use Rattle.fr_log.specs.declared.ask.LogAsk.TheVariants as log
+use Rattle.fr_state.specs.Generations.{LogGeneration, last_generation}
+use Rattle.fr_storage.specs.Server.{Server}
+use Rattle.fr_storage.specs.Storage.{ask_after}
+use Rattle.fr_node_steps.specs.declared.turn.Newest.{Newest}
+
+-- a log on which a tag stands, the next one in each turn
+abbrev pub holder : LogGeneration → ℕ → ℕ → NodeId
+holder g tag turn = node.Log g.epoch ((tag + turn % g.k) % g.m)
+
+-- the ask for records, of a generation that is known
+abbrev pub peek_asks : Option LogGeneration → ℕ → ℕ → LogAsk → List (NodeId × Ask)
+peek_asks None tag turn asked = []
+peek_asks (Some g) tag turn asked = (holder g tag turn, ask.Log asked) ∷ []
+
+-- the ask for the mark of the newest epoch, if that is known and has logs, of the next one in each turn
+abbrev pub mark_asks : Option Newest → ℕ → List (NodeId × Ask)
+mark_asks None turn = []
+mark_asks (Some n) turn = if nat_lt 0 n.logs then (node.Log n.epoch (turn % n.logs), ask.Log (log.MarkAsked n.epoch)) ∷ [] else []

@@ -1,0 +1,11 @@
+//! Nodes that a process serves and that ask others: proxies, recoverers and storage servers, each with its journal.
+#![tactic(auto)]
+
+mod proxies;
+mod pulls;
+mod recoverers;
+mod storages;
+
+pub use proxies::ProxyNode;
+pub use recoverers::RecovererNode;
+pub use storages::StorageNode;

@@ -1,0 +1,109 @@
+//! What a storage server asks in a turn.
+ghost use Rattle.std.specs.Prelude.{◌≡◌, ◌<◌, ◌==◌, ◌+◌, ◌%◌, find, IfOk};
+ghost use Rattle.fr_base.specs.declared.place.NodeId.{NodeId};
+ghost use Rattle.fr_node_active.specs.Pulls.{asks_of, holder, mark_asks, peek_asks};
+
+use fr_ask::Ask;
+use fr_base::{Epoch, Memory, NodeId, Tag};
+use fr_log::LogAsk;
+use fr_node_steps::Newest;
+use fr_state::Generation;
+use fr_storage::Storage;
+use fr_undo::ShardStore;
+use std::alloc::Global;
+
+/// The generation of an epoch among these.
+fn of_epoch(gens: &[Generation], epoch: Epoch) -> Option<Generation>
+    ensures { result ≡ find (λ g. g.epoch == epoch) gens.now }
+{
+    gens.iter().copied().find(|g| g.epoch() == epoch)
+}
+
+/// The log of a generation that is asked for a tag's records in a turn: one of those on which the tag stands, the next
+/// one in each turn.
+fn holder_at(generation: Generation, tag: Tag, turn: u32) -> NodeId
+    ensures { result ≡ holder generation tag turn }
+{
+    let number = u64::from(tag.get()) + u64::from(turn % u32::from(generation.k()));
+    NodeId::Log {
+        epoch: generation.epoch(),
+        index: (number % u64::from(generation.m())) as u8,
+    }
+}
+
+/// The log of an epoch that is asked for its mark in a turn: the next one in each turn.
+fn log_at(newest: Newest, turn: u32) -> NodeId
+    requires some { 0 < newest.logs }
+    ensures { result ≡ NodeId.Log newest.epoch (turn % newest.logs) }
+{
+    NodeId::Log {
+        epoch: newest.epoch,
+        index: (turn % u32::from(newest.logs)) as u8,
+    }
+}
+
+/// What is asked for records of a tag: of a generation that is known.
+fn add_peek(
+    asks: &mut Vec<(NodeId, Ask)>,
+    source: Option<Generation>,
+    tag: Tag,
+    turn: u32,
+    ask: LogAsk,
+) -> Result<(), Memory>
+    ensures { OnOk result (asks.new.items ≡ asks.old.items ++ peek_asks source tag turn ask) }
+{
+    if let Some(source) = source {
+        let to = holder_at(source, tag, turn);
+        asks.reserve(1)?;
+        asks.push_reserved((to, Ask::Log(ask)));
+    }
+    Ok(())
+}
+
+/// What is asked for the mark of the newest epoch, if it is known and has logs.
+fn add_mark(
+    asks: &mut Vec<(NodeId, Ask)>,
+    newest: Option<Newest>,
+    turn: u32,
+) -> Result<(), Memory>
+    ensures { OnOk result (asks.new.items ≡ asks.old.items ++ mark_asks newest turn) }
+{
+    if let Some(newest) = newest {
+        if newest.logs > 0 {
+            let to = log_at(newest, turn);
+            let ask = LogAsk::MarkAsked {
+                epoch: newest.epoch,
+            };
+            asks.reserve(1)?;
+            asks.push_reserved((to, Ask::Log(ask)));
+        }
+    }
+    Ok(())
+}
+
+/// What a storage server asks in a turn: a holder of its tag for its records, a log of the newest epoch for its mark,
+/// and a holder of its own epoch to let go of what it has for good.
+pub(crate) fn asks_at<S: ShardStore>(
+    alloc: Global,
+    storage: &Storage<S>,
+    turn: u32,
+    newest: Option<Newest>,
+) -> Result<Vec<(NodeId, Ask)>, Memory>
+    ensures { IfOk result (λ asks. asks.items ≡ asks_of storage.now turn newest) }
+{
+    let tag = storage.tag();
+    let (epoch, ask) = storage.next_ask();
+    let source = of_epoch(storage.state().gens(), epoch);
+    let mut asks = Vec::new(alloc);
+    add_peek(&mut asks, source, tag, turn, ask)?;
+    add_mark(&mut asks, newest, turn)?;
+    let own = storage.state().last();
+    let ask = LogAsk::Pop {
+        epoch: own.epoch(),
+        tag,
+        through: storage.floor(),
+    };
+    asks.reserve(1)?;
+    asks.push_reserved((holder_at(own, tag, turn), Ask::Log(ask)));
+    Ok(asks)
+}

@@ -1,0 +1,197 @@
+//! Recoverers, each with its journal.
+ghost use Rattle.std.specs.Prelude.{◌≡◌, [], false, IfOk};
+ghost use Rattle.fr_base.specs.declared.place.NodeId.{NodeId};
+ghost use Rattle.fr_node_active.specs.Leads.{LeadsTo};
+ghost use Rattle.fr_node_active.specs.Nodes.{IsMemory, recoverer_refusal};
+ghost use Rattle.fr_node_active.specs.Steps.{RecStep};
+ghost use Rattle.fr_node_steps.specs.declared.turn.Turn.{Turn};
+ghost use Rattle.fr_node_steps.specs.Turns.{IfCrashed, IfRefused, IsTaken, Refuses};
+
+use fr_ask::{Last, Tell};
+use fr_audit_journal::{Act, Entry, Journal};
+use fr_base::{NodeId, Shape, Stamp};
+use fr_epoch::Recoverer;
+use fr_node_steps::{Acting, Newest, Refusal, Turn, TurnFault, Wants, stamp_above};
+use fr_run_event::last_of_recoverer;
+use std::alloc::Global;
+use std::marker::Model;
+use std::snapshot::Snapshot;
+
+/// A recoverer, the shape of the generation that it is to open, where it was given one, and its journal. Contracts see the
+/// recoverer and whether it began, its place, the one that its process began with, and what it did since.
+#[derive(Drop)]
+pub struct RecovererNode {
+    recoverer: Recoverer,
+    shape: Option<Shape>,
+    journal: Journal,
+    first: Snapshot<Recoverer>,
+    has_begun: bool,
+}
+
+impl Model for RecovererNode {
+    ghost use Rattle.std.specs.Prelude.{◌≡◌, false};
+    ghost use Rattle.fr_node_active.specs.Nodes.{Active};
+    ghost use Rattle.fr_node_active.specs.Leads.{LeadsTo};
+    ghost use Rattle.fr_node_active.specs.Steps.{RecStep, Recovering};
+
+    ghost Value = { Active Recovering };
+
+    ghost view = { λ r. record {
+      state = record { recoverer = r.recoverer; has_begun = r.has_begun };
+      place = r.journal.node;
+      first = record { recoverer = r.first.value; has_begun = false };
+      entries = r.journal.entries;
+    } };
+
+    ghost invariant = { λ r. (r.shape ≡ r.recoverer.shape)
+        × LeadsTo RecStep (record { recoverer = r.first.value; has_begun = false }) r.journal.entries
+        (record { recoverer = r.recoverer; has_begun = r.has_begun }) };
+}
+
+impl RecovererNode {
+    /// A recoverer that has not begun, to open a generation of this shape, which it was given.
+    pub fn new(alloc: Global, recoverer: Recoverer, shape: Option<Shape>) -> Self
+        requires shape { shape ≡ recoverer.shape }
+        ensures recoverer { result.state.recoverer ≡ recoverer }
+        ensures has_begun { result.state.has_begun ≡ false }
+        ensures place { result.place ≡ NodeId.Recoverer recoverer.ballot }
+        ensures entries { result.entries ≡ [] }
+    {
+        let ballot = recoverer.ballot();
+        let first = Snapshot::of(&recoverer);
+        RecovererNode {
+            recoverer,
+            shape,
+            journal: Journal::new(alloc, NodeId::Recoverer { ballot }),
+            first,
+            has_begun: false,
+        }
+    }
+
+    /// What it did. It leads from the recoverer that the process began with to the one that it has.
+    pub fn journal(&self) -> &Journal
+        ensures place { result.now.node ≡ self.now.place }
+        ensures entries { result.now.entries ≡ self.now.entries }
+        ensures leads { LeadsTo RecStep self.now.first result.now.entries self.now.state }
+    {
+        &self.journal
+    }
+
+    /// Begins, and enters that.
+    fn begin(&mut self, at: Stamp) -> Result<Entry, TurnFault>
+        ensures place { self.new.place ≡ self.old.place }
+        ensures taken { IfOk result (λ entry. IsTaken self.old.entries self.new.entries at Turn.Begin entry) }
+        ensures refused { Refuses (recoverer_refusal self.old.state.has_begun self.old.entries at Turn.Begin) result }
+        ensures left { IfRefused result (self.new ≡ self.old) }
+        ensures crashed { IfCrashed result IsMemory }
+    {
+        if self.has_begun {
+            return Err(TurnFault::Refused(Refusal::Begun));
+        }
+        let Some(stamp) = stamp_above(&self.journal, at) else {
+            return Err(TurnFault::Refused(Refusal::StampsSpent));
+        };
+        let entry = Entry {
+            stamp,
+            act: Act::Begun { shape: self.shape },
+        };
+        let answered = entry.copy()?;
+        self.journal.reserve()?;
+        self.has_begun = true;
+        self.journal.push_reserved(entry);
+        Ok(answered)
+    }
+
+    /// Hears what a node told it, and enters that.
+    fn hear(
+        &mut self,
+        alloc: Global,
+        at: Stamp,
+        from: NodeId,
+        tell: Tell,
+    ) -> Result<Entry, TurnFault>
+        ensures place { self.new.place ≡ self.old.place }
+        ensures taken { IfOk result (λ entry. IsTaken self.old.entries self.new.entries at (Turn.Hear from tell) entry) }
+        ensures refused { Refuses (recoverer_refusal self.old.state.has_begun self.old.entries at (Turn.Hear from tell)) result }
+        ensures left { IfRefused result (self.new ≡ self.old) }
+        ensures crashed { IfCrashed result IsMemory }
+    {
+        if !self.has_begun {
+            return Err(TurnFault::Refused(Refusal::NotBegun));
+        }
+        let Some(stamp) = stamp_above(&self.journal, at) else {
+            return Err(TurnFault::Refused(Refusal::StampsSpent));
+        };
+        self.journal.reserve()?;
+        let heard = tell.copy()?;
+        let _asks = self.recoverer.hear(alloc, from, heard)?;
+        let entry = Entry {
+            stamp,
+            act: Act::Heard {
+                from,
+                tell,
+                taken: None,
+                outcome: None,
+            },
+        };
+        let answered = entry.copy();
+        self.journal.push_reserved(entry);
+        Ok(answered?)
+    }
+}
+
+impl Acting for RecovererNode {
+    ghost use Rattle.std.specs.Prelude.{true, [], if◌then◌else◌};
+    ghost use Rattle.fr_epoch.specs.Asks.{pending};
+    ghost use Rattle.fr_run_event.specs.Last as last;
+    ghost use Rattle.fr_node_active.specs.Nodes.{IsMemory, recoverer_refusal};
+
+    ghost node = { λ r. r.place };
+
+    ghost entries = { λ r. r.entries };
+
+    ghost last_of = { λ r. last.last_of_recoverer r.state.recoverer };
+
+    ghost works = { λ r. true };
+
+    ghost refusal = { λ r at turn. recoverer_refusal r.state.has_begun r.entries at turn };
+
+    ghost wanted = { λ r turn newest. if r.state.has_begun then pending r.state.recoverer else [] };
+
+    ghost CanCrash = { IsMemory };
+
+    fn place(&self) -> NodeId {
+        self.journal.node()
+    }
+
+    fn act(&mut self, alloc: Global, at: Stamp, turn: Turn) -> Result<Entry, TurnFault> {
+        match turn {
+            Turn::Begin => self.begin(at),
+            Turn::Hear { from, tell } => self.hear(alloc, at, from, tell),
+            Turn::Ask { .. } => Err(TurnFault::Refused(Refusal::NotTaken)),
+            Turn::Submit { .. } => Err(TurnFault::Refused(Refusal::NotTaken)),
+            Turn::Back => Err(TurnFault::Refused(Refusal::NotTaken)),
+        }
+    }
+
+    fn last(&mut self, alloc: Global) -> Result<Last, TurnFault> {
+        Ok(last_of_recoverer(alloc, &self.recoverer)?)
+    }
+
+    fn tells_wants(&self) -> bool {
+        true
+    }
+
+    fn wants(
+        &self,
+        alloc: Global,
+        _turn: u32,
+        _newest: Option<Newest>,
+    ) -> Result<Wants, TurnFault> {
+        if self.has_begun {
+            Ok(Wants::from_vec(self.recoverer.pending(alloc)?))
+        } else {
+            Ok(Wants::none(alloc))
+        }
+    }
+}

@@ -1,0 +1,19 @@
+//! The lines of a process that serves a node: what it is asked, read from a line of JSON, and what it answers, written
+//! as one.
+#![tactic(auto)]
+
+mod config;
+mod envelope;
+mod fault;
+mod names;
+mod reading;
+mod records;
+mod writing;
+
+pub use config::read_config;
+pub use envelope::Envelope;
+pub use fault::LineFault;
+pub use fr_forms::ScriptFault;
+pub use names::name_of;
+pub use reading::{Line, read_line};
+pub use writing::{write_error, write_reply};

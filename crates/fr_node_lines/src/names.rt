@@ -1,0 +1,84 @@
+//! The names of members and types: one table, by which they are read and written.
+use fr_base::NodeId;
+use std::alloc::{AllocError, Global};
+
+pub(crate) const SRC: &str = "src";
+
+pub(crate) const DEST: &str = "dest";
+
+pub(crate) const BODY: &str = "body";
+
+pub(crate) const TYPE: &str = "type";
+
+pub(crate) const MSG_ID: &str = "msg_id";
+
+pub(crate) const IN_REPLY_TO: &str = "in_reply_to";
+
+pub(crate) const AT: &str = "at";
+
+pub(crate) const CODE: &str = "code";
+
+pub(crate) const ENTRY: &str = "entry";
+
+pub(crate) const NEWEST: &str = "newest";
+
+pub(crate) const TEXT: &str = "text";
+
+pub(crate) const TURN: &str = "turn";
+
+pub(crate) const WANTS: &str = "wants";
+
+// ---- types
+
+pub(crate) const INIT: &str = "init";
+
+pub(crate) const HEAR: &str = "hear";
+
+pub(crate) const SUBMIT: &str = "submit";
+
+pub(crate) const BACK: &str = "back";
+
+pub(crate) const INIT_OK: &str = "init_ok";
+
+pub(crate) const LAST_OK: &str = "last_ok";
+
+pub(crate) const WANTS_OK: &str = "wants_ok";
+
+pub(crate) const ASK_OK: &str = "ask_ok";
+
+pub(crate) const HEAR_OK: &str = "hear_ok";
+
+pub(crate) const SUBMIT_OK: &str = "submit_ok";
+
+pub(crate) const BEGIN_OK: &str = "begin_ok";
+
+pub(crate) const BACK_OK: &str = "back_ok";
+
+pub(crate) const ERROR: &str = "error";
+
+/// The name by which a node is written to: its kind, and its numbers.
+pub fn name_of(alloc: Global, node: NodeId) -> Result<String, AllocError> {
+    match node {
+        NodeId::Cell { index } => format!(in alloc; "cell {index}"),
+        NodeId::Log { epoch, index } => {
+            let epoch = epoch.get();
+            format!(in alloc; "log {epoch} {index}")
+        }
+        NodeId::Sequencer { epoch } => {
+            let epoch = epoch.get();
+            format!(in alloc; "sequencer {epoch}")
+        }
+        NodeId::Proxy { epoch, number } => {
+            let epoch = epoch.get();
+            format!(in alloc; "proxy {epoch} {number}")
+        }
+        NodeId::Recoverer { ballot } => {
+            let ballot = ballot.get();
+            format!(in alloc; "recoverer {ballot}")
+        }
+        NodeId::Storage { tag } => {
+            let tag = tag.get();
+            format!(in alloc; "storage {tag}")
+        }
+    }
+}

@@ -1,0 +1,211 @@
+//! Lines read.
+use crate::envelope::{Envelope, text_of};
+use crate::fault::{LineFault, at};
+use crate::names::{self, name_of};
+use fr_ask::{Ask, Tell};
+use fr_base::{Memory, NodeId, Stamp};
+use fr_forms::fields::Fields;
+use fr_forms::names as forms;
+use fr_forms::{ScriptFault, read_ask, read_batch, read_node, read_step, read_tell};
+use fr_mutation::Batch;
+use fr_node_steps::{Newest, Order, Turn};
+use serde_json::Value;
+use std::alloc::{AllocError, Global};
+
+/// The most logs that a generation has.
+const MAX_LOGS: u8 = 16;
+
+/// A line: who sent it, and what it asks of the node, or why it asks nothing.
+#[derive(Debug, Drop)]
+pub struct Line {
+    pub envelope: Envelope,
+    pub order: Result<Order, LineFault>,
+}
+
+/// Reads a line to a node. It has exactly its members, in any order; of two members of one name the last one counts.
+pub fn read_line(alloc: Global, node: NodeId, text: &[u8]) -> Line {
+    let line = match Value::from_slice(alloc, text) {
+        Ok(line) => line,
+        Err(error) if error.is_memory() => return nothing(LineFault::from(Memory)),
+        Err(_) => return nothing(LineFault::NotJson),
+    };
+    let envelope = match Envelope::of(alloc, &line) {
+        Ok(envelope) => envelope,
+        Err(error) => return nothing(LineFault::from(error)),
+    };
+    let order = read_order(alloc, node, &envelope, line);
+    Line { envelope, order }
+}
+
+/// A line of which nothing is known.
+fn nothing(fault: LineFault) -> Line {
+    Line {
+        envelope: Envelope::unknown(),
+        order: Err(fault),
+    }
+}
+
+/// What a line asks of a node.
+fn read_order(
+    alloc: Global,
+    node: NodeId,
+    envelope: &Envelope,
+    line: Value,
+) -> Result<Order, LineFault> {
+    let mut fields = fields_of(line, 3)?;
+    if envelope.sender.is_none() {
+        return Err(LineFault::Member(names::SRC));
+    }
+    let dest = at(names::DEST, fields.take(names::DEST))?;
+    if dest.as_str() != Some(name_of(alloc, node)?.as_str()) {
+        return Err(LineFault::OtherNode);
+    }
+    let body = at(names::BODY, fields.take(names::BODY))?;
+    if envelope.number.is_none() {
+        return Err(LineFault::Member(names::MSG_ID));
+    }
+    let Some(kind) = type_of(alloc, &body)? else {
+        return Err(LineFault::Member(names::TYPE));
+    };
+    read_kind(alloc, kind.as_str(), body)
+}
+
+/// The type of a line, from its body.
+fn type_of(alloc: Global, body: &Value) -> Result<Option<String>, AllocError> {
+    match body.get(names::TYPE) {
+        Some(kind) => text_of(alloc, kind),
+        None => Ok(None),
+    }
+}
+
+/// Reads the body of a line of a type.
+fn read_kind(alloc: Global, kind: &str, body: Value) -> Result<Order, LineFault> {
+    match kind {
+        names::INIT => read_init(body),
+        forms::LAST => read_last(body),
+        names::WANTS => read_wants(body),
+        forms::ASK => read_asked(alloc, body),
+        names::HEAR => read_heard(alloc, body),
+        names::SUBMIT => read_submitted(alloc, body),
+        forms::BEGIN => read_bare(body, Turn::Begin),
+        names::BACK => read_bare(body, Turn::Back),
+        _ => Err(LineFault::NoType),
+    }
+}
+
+/// An object of so many members.
+fn fields_of(value: Value, count: usize) -> Result<Fields, LineFault> {
+    match value.as_object() {
+        Some(members) if members.len() == count => Ok(Fields::new(value, count)),
+        _ => Err(LineFault::Members),
+    }
+}
+
+fn read_init(body: Value) -> Result<Order, LineFault> {
+    let _fields = fields_of(body, 2)?;
+    Ok(Order::Init)
+}
+
+fn read_last(body: Value) -> Result<Order, LineFault> {
+    let _fields = fields_of(body, 2)?;
+    Ok(Order::Last)
+}
+
+/// What is asked in a turn. A line without the newest epoch asks none of its logs for their mark.
+fn read_wants(body: Value) -> Result<Order, LineFault> {
+    if body.get(names::NEWEST).is_none() {
+        let fields = fields_of(body, 3)?;
+        let turn = read_turn(&fields)?;
+        return Ok(Order::Wants { turn, newest: None });
+    }
+    let mut fields = fields_of(body, 4)?;
+    let turn = read_turn(&fields)?;
+    let newest = read_newest(at(names::NEWEST, fields.take(names::NEWEST))?)?;
+    Ok(Order::Wants { turn, newest })
+}
+
+/// The number of a turn.
+fn read_turn(fields: &Fields) -> Result<u32, LineFault> {
+    match u32::try_from(at(names::TURN, fields.number(names::TURN))?) {
+        Ok(turn) => Ok(turn),
+        Err(_) => Err(LineFault::Member(names::TURN)),
+    }
+}
+
+/// The newest epoch and how many logs it has, or null.
+fn read_newest(value: Value) -> Result<Option<Newest>, LineFault> {
+    if value.is_null() {
+        return Ok(None);
+    }
+    let fields = Fields::new(value, 2);
+    let epoch = at(names::NEWEST, fields.epoch(forms::EPOCH))?;
+    let logs = at(names::NEWEST, fields.index(forms::LOGS, MAX_LOGS))?;
+    if logs == 0 {
+        return Err(LineFault::Member(names::NEWEST));
+    }
+    Ok(Some(Newest { epoch, logs }))
+}
+
+/// The greatest stamp that the sender has seen.
+fn read_stamp(fields: &Fields) -> Result<Stamp, LineFault> {
+    match Stamp::new(at(names::AT, fields.number(names::AT))?) {
+        Some(stamp) => Ok(stamp),
+        None => Err(LineFault::Member(names::AT)),
+    }
+}
+
+/// A turn without content.
+fn read_bare(body: Value, turn: Turn) -> Result<Order, LineFault> {
+    let fields = fields_of(body, 3)?;
+    let at = read_stamp(&fields)?;
+    Ok(Order::Take { at, turn })
+}
+
+fn read_asked(alloc: Global, body: Value) -> Result<Order, LineFault> {
+    let mut fields = fields_of(body, 5)?;
+    let stamp = read_stamp(&fields)?;
+    let from = at(forms::FROM, read_from(&mut fields))?;
+    let ask = at(forms::ASK, read_ask_in(alloc, &mut fields))?;
+    Ok(Order::Take {
+        at: stamp,
+        turn: Turn::Ask { from, ask },
+    })
+}
+
+fn read_heard(alloc: Global, body: Value) -> Result<Order, LineFault> {
+    let mut fields = fields_of(body, 5)?;
+    let stamp = read_stamp(&fields)?;
+    let from = at(forms::FROM, read_from(&mut fields))?;
+    let tell = at(forms::TELL, read_tell_in(alloc, &mut fields))?;
+    Ok(Order::Take {
+        at: stamp,
+        turn: Turn::Hear { from, tell },
+    })
+}
+
+fn read_submitted(alloc: Global, body: Value) -> Result<Order, LineFault> {
+    let mut fields = fields_of(body, 5)?;
+    let stamp = read_stamp(&fields)?;
+    let step = at(forms::STEP, read_step(&fields))?;
+    let batch = at(forms::BATCH, read_batch_in(alloc, &mut fields))?;
+    Ok(Order::Take {
+        at: stamp,
+        turn: Turn::Submit { step, batch },
+    })
+}
+
+fn read_from(fields: &mut Fields) -> Result<NodeId, ScriptFault> {
+    read_node(fields.take(forms::FROM)?)
+}
+
+fn read_ask_in(alloc: Global, fields: &mut Fields) -> Result<Ask, ScriptFault> {
+    read_ask(alloc, fields.take(forms::ASK)?)
+}
+
+fn read_tell_in(alloc: Global, fields: &mut Fields) -> Result<Tell, ScriptFault> {
+    read_tell(alloc, fields.take(forms::TELL)?)
+}
+
+fn read_batch_in(alloc: Global, fields: &mut Fields) -> Result<Batch, ScriptFault> {
+    read_batch(alloc, fields.take(forms::BATCH)?)
+}

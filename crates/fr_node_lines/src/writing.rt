@@ -1,0 +1,122 @@
+//! Lines written.
+use crate::envelope::Envelope;
+use crate::fault::LineFault;
+use crate::names::{self, name_of};
+use crate::records::write_entry;
+use fr_ask::Last;
+use fr_audit_journal::Entry;
+use fr_base::{Memory, NodeId};
+use fr_forms::lists::write_all;
+use fr_forms::names as forms;
+use fr_forms::object::{Object, write_text};
+use fr_forms::{write_last, write_node};
+use fr_node_steps::{Kind, Reply, Wants};
+use serde_json::Value;
+use std::alloc::Global;
+
+/// The line that answers another one, with its end.
+pub fn write_reply(
+    alloc: Global,
+    node: NodeId,
+    envelope: &Envelope,
+    reply: &Reply,
+) -> Result<Vec<u8>, Memory> {
+    let body = match reply {
+        Reply::Init { node, last } => of_type(alloc, names::INIT_OK)?
+            .and(forms::NODE, write_node(alloc, node))?
+            .and(forms::LAST, write_last(alloc, last))?,
+        Reply::Last { last } => {
+            of_type(alloc, names::LAST_OK)?.and(forms::LAST, write_last(alloc, last))?
+        }
+        Reply::Wants { wants } => {
+            of_type(alloc, names::WANTS_OK)?.and(names::WANTS, write_all(alloc, wants.as_slice()))?
+        }
+        Reply::Taken {
+            kind,
+            entry,
+            last,
+            wants,
+        } => {
+            let body = write_taken(alloc, *kind, entry, last)?;
+            with_wants(alloc, body, wants)?
+        }
+    };
+    write_line(alloc, node, envelope, body)
+}
+
+/// The line that says why another one is not done, with its end.
+pub fn write_error(
+    alloc: Global,
+    node: NodeId,
+    envelope: &Envelope,
+    fault: LineFault,
+) -> Result<Vec<u8>, Memory> {
+    let body = of_type(alloc, names::ERROR)?
+        .with(names::CODE, Value::from(fault.code()))?
+        .and(names::TEXT, write_text(alloc, fault.text()))?;
+    write_line(alloc, node, envelope, body)
+}
+
+fn of_type(alloc: Global, name: &str) -> Result<Object, Memory> {
+    Object::new(alloc).and(names::TYPE, write_text(alloc, name))
+}
+
+/// What is entered of a turn, and where the node then stands. Started again, a node answers a list.
+fn write_taken(alloc: Global, kind: Kind, entry: &Entry, last: &Last) -> Result<Object, Memory> {
+    let body = of_type(alloc, type_of(kind))?.and(forms::LAST, write_last(alloc, last))?;
+    let written = write_entry(alloc, entry)?;
+    match kind {
+        Kind::Back => {
+            let mut entries = Vec::with_capacity(alloc, 1)?;
+            entries.push(written)?;
+            body.with(forms::ENTRIES, Value::Array(entries))
+        }
+        _ => body.with(names::ENTRY, written),
+    }
+}
+
+/// The type of the answer to a turn of a kind.
+fn type_of(kind: Kind) -> &'static str {
+    match kind {
+        Kind::Ask => names::ASK_OK,
+        Kind::Hear => names::HEAR_OK,
+        Kind::Submit => names::SUBMIT_OK,
+        Kind::Begin => names::BEGIN_OK,
+        Kind::Back => names::BACK_OK,
+    }
+}
+
+fn with_wants(
+    alloc: Global,
+    body: Object,
+    wants: &Option<Wants>,
+) -> Result<Object, Memory> {
+    match wants {
+        Some(wants) => body.and(names::WANTS, write_all(alloc, wants.as_slice())),
+        None => Ok(body),
+    }
+}
+
+/// A line from a node with this body, to who sent the one that it answers.
+fn write_line(
+    alloc: Global,
+    node: NodeId,
+    envelope: &Envelope,
+    body: Object,
+) -> Result<Vec<u8>, Memory> {
+    let body = match envelope.number {
+        Some(number) => body.with(names::IN_REPLY_TO, Value::from(number))?,
+        None => body,
+    };
+    let name = name_of(alloc, node)?;
+    let line = Object::new(alloc)
+        .and(names::SRC, write_text(alloc, name.as_str()))?
+        .with(names::BODY, body.value())?;
+    let line = match &envelope.sender {
+        Some(sender) => line.and(names::DEST, write_text(alloc, sender.as_str()))?,
+        None => line,
+    };
+    let mut text = line.value().to_vec(alloc)?;
+    text.push(b'\n')?;
+    Ok(text)
+}

@@ -1,0 +1,58 @@
+-- What a node that answers asks did is one entry longer.
+use Rattle.std.proofs.Common.{refl, subst, sym, ap, ◌∙◌}
+use Rattle.std.specs.Prelude.{ℕ, Bool, false, ◌≡◌, ◌++◌, List, [], ◌∷◌, Option, Some}
+use Rattle.fr_base.specs.declared.place.NodeId.{NodeId}
+use Rattle.fr_ask.specs.declared.ask.Ask.{Ask}
+use Rattle.fr_ask.specs.declared.tell.Tell.{Tell}
+use Rattle.fr_audit_journal.specs.declared.act.Act.TheVariants as act
+use Rattle.fr_audit_journal.specs.declared.act.Entry.{Entry}
+use Rattle.fr_runtime_housing.specs.Replays.{Steps, told_at, after_at, after_act, state_after, TellsAre, IsTold, gone_after, gone_at_end, IsThere}
+use Rattle.fr_node_steps.specs.Passive.{IsServed}
+
+state-append : {S A : Type 0} (m : Steps S A) (s : S) (es : List Entry) (e : Entry)
+    → state_after m s (es ++ e ∷ []) ≡ after_act m (state_after m s es) e.act
+state-append m s [] e = refl
+state-append m s (x ∷ es) e = state-append m (after_act m s x.act) es e
+
+tells-append : {S A : Type 0} (m : Steps S A) (s : S) (es : List Entry) (e : Entry)
+    → TellsAre m s es → IsTold m (state_after m s es) e.act → TellsAre m s (es ++ e ∷ [])
+tells-append m s [] e h t = (t, record {})
+tells-append m s (x ∷ es) e h t = (h.0, tells-append m (after_act m s x.act) es e h.1 t)
+
+gone-append : (n : NodeId) (gone : Bool) (es : List Entry) (e : Entry)
+    → gone_at_end n gone (es ++ e ∷ []) ≡ gone_after n (gone_at_end n gone es) e.act
+gone-append n gone [] e = refl
+gone-append n gone (x ∷ es) e = gone-append n (gone_after n gone x.act) es e
+
+there-append : (n : NodeId) (gone : Bool) (es : List Entry) (e : Entry)
+    → IsThere n gone es → gone_at_end n gone es ≡ false → IsThere n gone (es ++ e ∷ [])
+there-append n gone [] e h t = (t, record {})
+there-append n gone (x ∷ es) e h t = (h.0, there-append n (gone_after n gone x.act) es e h.1 t)
+
+-- an ask of the machine's own is entered, with what the machine tells
+served-asked : {S A : Type 0} (m : Steps S A) (place : NodeId) (first : S) (es : List Entry) (s : S) (stamp : ℕ) (from : NodeId) (a : A)
+    → IsServed m place first es s → m.unwrapped (m.wrapped a) ≡ Some a
+    → IsServed m place first (es ++ record { stamp = stamp; act = act.Asked from (m.wrapped a) (m.told s a) } ∷ []) (m.after s a)
+served-asked m place first es s stamp from a h own =
+    let e : Entry = record { stamp = stamp; act = act.Asked from (m.wrapped a) (m.told s a) } in
+    let b = state_after m first es in
+    let told : told_at m b (m.unwrapped (m.wrapped a)) ≡ Some (m.told s a) = ap (told_at m b) own ∙ ap (λ x. Some (m.told x a)) (sym h.state_is) in
+    let after : after_at m b (m.unwrapped (m.wrapped a)) ≡ m.after s a = ap (after_at m b) own ∙ ap (λ x. m.after x a) (sym h.state_is) in
+    record {
+      tells = tells-append m first es e h.tells told;
+      there = there-append place false es e h.there h.stays;
+      stays = gone-append place false es e ∙ h.stays;
+      state_is = sym (state-append m first es e ∙ after);
+    }
+
+-- so it is where the node, its journal and what is entered are known by equations
+pub served-entered : {S A : Type 0} (m : Steps S A) (place now : NodeId) (first : S) (es longer : List Entry) (s t : S) (stamp : ℕ) (from : NodeId) (a served : A) (ask : Ask) (tell : Tell)
+    → IsServed m place first es s → now ≡ place → longer ≡ es ++ record { stamp = stamp; act = act.Asked from ask tell } ∷ []
+    → ask ≡ m.wrapped a → m.unwrapped ask ≡ Some a → served ≡ a → tell ≡ m.told s served → t ≡ m.after s served
+    → IsServed m now first longer t
+served-entered m place now first es longer s t stamp from a served ask tell h p e w own c told after =
+    let r = served-asked m place first es s stamp from a h (ap m.unwrapped (sym w) ∙ own) in
+    let k : tell ≡ m.told s a = told ∙ ap (m.told s) c in
+    let x : longer ≡ es ++ record { stamp = stamp; act = act.Asked from (m.wrapped a) (m.told s a) } ∷ [] = e ∙ rw (w, k) refl in
+    let y : t ≡ m.after s a = after ∙ ap (m.after s) c in
+    rw (p, x, y) r

@@ -1,0 +1,5 @@
+pub mod Kinds
+pub mod Faults
+pub mod Turns
+pub mod Passive
+pub mod Answers

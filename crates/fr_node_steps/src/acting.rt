@@ -1,0 +1,87 @@
+//! Nodes that a process serves.
+ghost use Rattle.std.specs.Prelude.{◌≡◌, true, IfOk, OnOk};
+ghost use Rattle.fr_node_steps.specs.Turns.{IfCrashed, IfRefused, IsTaken, Refuses, UnlessCrashed};
+
+use crate::fault::TurnFault;
+use crate::turn::{Newest, Turn};
+use crate::wants::Wants;
+use fr_ask::Last;
+use fr_audit_journal::Entry;
+use fr_base::{NodeId, Stamp};
+use std::alloc::Global;
+
+/// A node that a process serves: each turn that it takes is one entry more of its journal, and that entry is answered.
+pub trait Acting {
+    ghost use Rattle.std.specs.Prelude.{ℕ, Bool, List, Option};
+    ghost use Rattle.fr_base.specs.declared.place.NodeId.{NodeId};
+    ghost use Rattle.fr_ask.specs.declared.ask.Ask.{Ask};
+    ghost use Rattle.fr_ask.specs.declared.last.Last.{Last};
+    ghost use Rattle.fr_audit_journal.specs.declared.act.Entry.{Entry};
+    ghost use Rattle.fr_node_steps.specs.declared.turn.Turn.{Turn};
+    ghost use Rattle.fr_node_steps.specs.declared.turn.Newest.{Newest};
+    ghost use Rattle.fr_node_steps.specs.declared.fault.Refusal.{Refusal};
+    ghost use Rattle.fr_node_steps.specs.declared.fault.Crash.{Crash};
+
+    /// The node.
+    ghost node: { Self → NodeId };
+
+    /// What it did, the oldest first.
+    ghost entries: { Self → List Entry };
+
+    /// Where it stands, as others see it.
+    ghost last_of: { Self → Last };
+
+    /// Whether it works: no file or store of it has failed.
+    ghost works: { Self → Bool };
+
+    /// The reason why a turn is refused, above a stamp, where there is one.
+    ghost refusal: { Self → ℕ → Turn → Option Refusal };
+
+    /// What it asks in a turn, where the logs of an epoch may be asked for their mark.
+    ghost wanted: { Self → ℕ → Option Newest → List (NodeId × Ask) };
+
+    /// Why such a node may be unable to go on.
+    ghost CanCrash: { Crash → Type 0 };
+
+    /// The node.
+    fn place(&self) -> NodeId
+        ensures { result ≡ node self.now };
+
+    /// Takes a turn, above the stamp that the asker has seen, and answers what is entered. A turn that is refused changes
+    /// nothing that others see.
+    fn act(&mut self, alloc: Global, at: Stamp, turn: Turn) -> Result<Entry, TurnFault>
+        requires works { works self.old ≡ true }
+        ensures node { node self.new ≡ node self.old }
+        ensures taken { IfOk result (λ entry. IsTaken (entries self.old) (entries self.new) at turn entry) }
+        ensures works { UnlessCrashed result (works self.new ≡ true) }
+        ensures refused { Refuses (refusal self.old at turn) result }
+        ensures left { IfRefused result (entries self.new ≡ entries self.old) }
+        ensures stands { IfRefused result (last_of self.new ≡ last_of self.old) }
+        ensures crashed { IfCrashed result CanCrash };
+
+    /// Where it stands, as others see it.
+    fn last(&mut self, alloc: Global) -> Result<Last, TurnFault>
+        requires works { works self.old ≡ true }
+        ensures node { node self.new ≡ node self.old }
+        ensures last { IfOk result (λ last. last ≡ last_of self.old) }
+        ensures entries { entries self.new ≡ entries self.old }
+        ensures stands { OnOk result (last_of self.new ≡ last_of self.old) }
+        ensures works { OnOk result (works self.new ≡ true) }
+        ensures crashed { IfCrashed result CanCrash }
+        ensures never_refused { IfRefused result ⊥ };
+
+    /// Whether each turn is answered with what the node then asks: of a proxy and of a recoverer, whose asks follow from
+    /// what they heard.
+    fn tells_wants(&self) -> bool;
+
+    /// What it asks in a turn, where the logs of an epoch may be asked for their mark.
+    fn wants(
+        &self,
+        alloc: Global,
+        turn: u32,
+        newest: Option<Newest>,
+    ) -> Result<Wants, TurnFault>
+        ensures asks { IfOk result (λ asks. asks ≡ wanted self.now turn newest) }
+        ensures crashed { IfCrashed result CanCrash }
+        ensures never_refused { IfRefused result ⊥ };
+}

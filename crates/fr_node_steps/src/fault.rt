@@ -1,0 +1,88 @@
+//! Why a turn is not taken.
+use fr_base::{Memory as NoMemory, NodeFault};
+use thiserror::Error;
+
+/// Why a node refuses a turn, which changes nothing. Of several reasons the first in the order of these variants is told.
+#[derive(Clone, Copy, Debug, PartialEq, Eq, Error)]
+pub enum Refusal {
+    /// A node of its kind takes no such turn.
+    #[error("NotTaken")]
+    NotTaken,
+    /// The ask is one of another kind of node.
+    #[error("OtherAsk")]
+    OtherAsk,
+    /// A recoverer that has not begun hears nothing.
+    #[error("NotBegun")]
+    NotBegun,
+    /// A recoverer begins once.
+    #[error("Begun")]
+    Begun,
+    /// A proxy has a batch under way.
+    #[error("TwoOpen")]
+    TwoOpen,
+    /// A proxy takes no more batches.
+    #[error("Over")]
+    Over,
+    /// There is no stamp above that of the line and those of the journal.
+    #[error("StampsSpent")]
+    StampsSpent,
+    /// A file has no room for what the turn writes.
+    #[error("Full")]
+    Full,
+}
+
+/// Why a node cannot go on. What it was to do is entered nowhere that anybody was told of.
+#[derive(Clone, Copy, Debug, PartialEq, Eq, Error)]
+pub enum Crash {
+    /// There is no memory.
+    #[error("out of memory")]
+    Memory,
+    /// A file failed.
+    #[error("a file failed")]
+    Device,
+    /// A file is none of such a node.
+    #[error("a file is none of such a node")]
+    Broken,
+    /// The store of a storage server failed.
+    #[error("a store failed")]
+    Store,
+}
+
+/// Why a turn is not taken.
+#[derive(Clone, Copy, Debug, PartialEq, Eq, Error)]
+pub enum TurnFault {
+    /// It is refused, and nothing is changed.
+    #[error("{0}")]
+    Refused(Refusal),
+    /// The node cannot go on.
+    #[error("{0}")]
+    Crashed(Crash),
+}
+
+impl From<NoMemory> for TurnFault {
+    ghost use Rattle.std.specs.Prelude.{◌≡◌};
+    ghost use Rattle.fr_node_steps.specs.Faults.{no_memory};
+
+    ghost from_gives = { λ _ fault. fault ≡ no_memory };
+
+    fn from(_: NoMemory) -> TurnFault {
+        TurnFault::Crashed(Crash::Memory)
+    }
+}
+
+impl From<NodeFault> for TurnFault {
+    ghost use Rattle.std.specs.Prelude.{◌≡◌};
+    ghost use Rattle.fr_node_steps.specs.Faults.{of_node};
+
+    ghost from_gives = { λ fault made. made ≡ of_node fault };
+
+    fn from(fault: NodeFault) -> TurnFault {
+        match fault {
+            NodeFault::Device => TurnFault::Crashed(Crash::Device),
+            NodeFault::Full => TurnFault::Refused(Refusal::Full),
+            NodeFault::Failed => TurnFault::Crashed(Crash::Device),
+            NodeFault::Memory => TurnFault::Crashed(Crash::Memory),
+            NodeFault::Broken => TurnFault::Crashed(Crash::Broken),
+        }
+    }
+}

@@ -1,0 +1,21 @@
+//! One turn of a node that a process serves: what it enters in its journal, and what it answers; cells, logs and
+//! sequencers, which answer asks.
+#![tactic(auto)]
+
+mod acting;
+mod answering;
+mod fault;
+mod passive;
+mod reply;
+mod stamps;
+mod turn;
+mod wants;
+
+pub use acting::Acting;
+pub use answering::Answering;
+pub use fault::{Crash, Refusal, TurnFault};
+pub use passive::Passive;
+pub use reply::{Order, Reply, answer};
+pub use stamps::stamp_above;
+pub use turn::{Kind, Newest, Turn};
+pub use wants::Wants;

@@ -1,0 +1,130 @@
+//! What a process is asked of its node, and what it answers.
+ghost use Rattle.std.specs.Prelude.{◌≡◌, true, None, IfOk, IfSome};
+ghost use Rattle.fr_node_steps.specs.declared.reply.Order.{Order};
+ghost use Rattle.fr_node_steps.specs.Answers.{IsAnswer, order_refusal};
+ghost use Rattle.fr_node_steps.specs.Turns.{IfCrashed, IfRefused, Refuses, UnlessCrashed};
+
+use crate::acting::Acting;
+use crate::fault::TurnFault;
+use crate::turn::{Kind, Newest, Turn};
+use crate::wants::Wants;
+use fr_ask::Last;
+use fr_audit_journal::Entry;
+use fr_base::{NodeId, Stamp};
+use std::alloc::Global;
+
+/// What a process is asked of its node.
+#[derive(Debug, Drop)]
+pub enum Order {
+    /// Which node it is, and where it stands.
+    Init,
+    /// Where it stands.
+    Last,
+    /// What it asks in a turn.
+    Wants {
+        turn: u32,
+        newest: Option<Newest>,
+    },
+    /// That it takes a turn, above a stamp.
+    Take {
+        at: Stamp,
+        turn: Turn,
+    },
+}
+
+/// What a process answers.
+#[derive(Debug, Drop)]
+pub enum Reply {
+    /// The node, and where it stands.
+    Init {
+        node: NodeId,
+        last: Last,
+    },
+    /// Where it stands.
+    Last {
+        last: Last,
+    },
+    /// What it asks.
+    Wants {
+        wants: Wants,
+    },
+    /// What is entered of a turn of a kind, where the node then stands, and what it asks, if it asks others.
+    Taken {
+        kind: Kind,
+        entry: Entry,
+        last: Last,
+        wants: Option<Wants>,
+    },
+}
+
+/// Does what is asked of a node, and answers it.
+pub fn answer<T: Acting>(alloc: Global, node: &mut T, order: Order) -> Result<Reply, TurnFault>
+    requires works { T.works node.old ≡ true }
+    ensures node { T.node node.new ≡ T.node node.old }
+    ensures answered { IfOk result (λ reply. IsAnswer
+        (record { node = T.node node.old; entries = T.entries node.old; last = T.last_of node.old; wanted = T.wanted node.old })
+        (record { node = T.node node.new; entries = T.entries node.new; last = T.last_of node.new; wanted = T.wanted node.new })
+        order reply) }
+    ensures works { UnlessCrashed result (T.works node.new ≡ true) }
+    ensures refused { Refuses (order_refusal (T.refusal node.old) order) result }
+    ensures left { IfRefused result (T.entries node.new ≡ T.entries node.old) }
+    ensures stands { IfRefused result (T.last_of node.new ≡ T.last_of node.old) }
+    ensures crashed { IfCrashed result T.CanCrash }
+{
+    match order {
+        Order::Init => {
+            let place = node.place();
+            let last = node.last(alloc)?;
+            Ok(Reply::Init { node: place, last })
+        }
+        Order::Last => {
+            let last = node.last(alloc)?;
+            Ok(Reply::Last { last })
+        }
+        Order::Wants { turn, newest } => {
+            let wants = node.wants(alloc, turn, newest)?;
+            Ok(Reply::Wants { wants })
+        }
+        Order::Take { at, turn } => take(alloc, node, at, turn),
+    }
+}
+
+/// Has a node take a turn.
+fn take<T: Acting>(alloc: Global, node: &mut T, at: Stamp, turn: Turn) -> Result<Reply, TurnFault>
+    requires works { T.works node.old ≡ true }
+    ensures node { T.node node.new ≡ T.node node.old }
+    ensures answered { IfOk result (λ reply. IsAnswer
+        (record { node = T.node node.old; entries = T.entries node.old; last = T.last_of node.old; wanted = T.wanted node.old })
+        (record { node = T.node node.new; entries = T.entries node.new; last = T.last_of node.new; wanted = T.wanted node.new })
+        (Order.Take at turn) reply) }
+    ensures works { UnlessCrashed result (T.works node.new ≡ true) }
+    ensures refused { Refuses (T.refusal node.old at turn) result }
+    ensures left { IfRefused result (T.entries node.new ≡ T.entries node.old) }
+    ensures stands { IfRefused result (T.last_of node.new ≡ T.last_of node.old) }
+    ensures crashed { IfCrashed result T.CanCrash }
+{
+    let kind = turn.kind();
+    let entry = node.act(alloc, at, turn)?;
+    let last = node.last(alloc)?;
+    let wants = wants_of(alloc, node)?;
+    Ok(Reply::Taken {
+        kind,
+        entry,
+        last,
+        wants,
+    })
+}
+
+/// What a node asks once it took a turn, where it says so with each.
+fn wants_of<T: Acting>(alloc: Global, node: &T) -> Result<Option<Wants>, TurnFault>
+    ensures asks { IfOk result (λ asks. IfSome asks (λ wants. wants ≡ T.wanted node.now 0 None)) }
+    ensures crashed { IfCrashed result T.CanCrash }
+    ensures never_refused { IfRefused result ⊥ }
+{
+    if node.tells_wants() {
+        let wants = node.wants(alloc, 0, None)?;
+        Ok(Some(wants))
+    } else {
+        Ok(None)
+    }
+}

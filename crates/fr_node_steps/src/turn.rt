@@ -1,0 +1,63 @@
+//! What a node is to do in one turn.
+ghost use Rattle.std.specs.Prelude.{◌≡◌};
+ghost use Rattle.fr_node_steps.specs.Kinds.{kind_of};
+
+use fr_ask::{Ask, Tell};
+use fr_base::{Epoch, NodeId, Step};
+use fr_mutation::Batch;
+
+/// What a node is to do in one turn.
+#[derive(Debug, Drop)]
+pub enum Turn {
+    /// A node asks it this.
+    Ask {
+        from: NodeId,
+        ask: Ask,
+    },
+    /// It hears what a node told it.
+    Hear {
+        from: NodeId,
+        tell: Tell,
+    },
+    /// It takes a batch, whose version is to be a step above the one before.
+    Submit {
+        step: Step,
+        batch: Batch,
+    },
+    /// It begins.
+    Begin,
+    /// It was started again over its files.
+    Back,
+}
+
+impl Turn {
+    /// Its kind.
+    pub fn kind(&self) -> Kind
+        ensures { result ≡ kind_of self.now }
+    {
+        match self {
+            Turn::Ask { .. } => Kind::Ask,
+            Turn::Hear { .. } => Kind::Hear,
+            Turn::Submit { .. } => Kind::Submit,
+            Turn::Begin => Kind::Begin,
+            Turn::Back => Kind::Back,
+        }
+    }
+}
+
+/// The kinds of turns.
+#[derive(Clone, Copy, Debug, PartialEq, Eq)]
+pub enum Kind {
+    Ask,
+    Hear,
+    Submit,
+    Begin,
+    Back,
+}
+
+/// The newest epoch whose logs a storage server may ask, and how many logs it has.
+#[derive(Clone, Copy, Debug, PartialEq, Eq)]
+pub struct Newest {
+    pub epoch: Epoch,
+    pub logs: u8,
+}
