@@ -1,9 +1,16 @@
 //! A node serves lines.
+ghost use Rattle.std.specs.Prelude.{◌≡◌, ◌<◌, true, Err, IfErr, IfOk, IfSome, OnOk};
+ghost use Rattle.fr_cli_json.specs.Calls.{no_calls};
+ghost use Rattle.fr_cli_node.specs.declared.fault.NodeEnd.{NodeEnd};
+ghost use Rattle.fr_cli_node.specs.Lines.{EndsBy, IfUndone, IsEnd, IsPutFault, UnlessEnded, crash_in};
+ghost use Rattle.fr_node_lines.specs.declared.fault.LineFault.{LineFault};
+ghost use Rattle.fr_node_steps.specs.Answers.{IsAnswer};
+
 use crate::fault::NodeEnd;
 use crate::lines::{Found, Lines};
-use fr_base::NodeId;
+use fr_base::{Memory, NodeId};
 use fr_cli_json::{CallCounts, CliFault, put_bytes};
-use fr_node_lines::{Envelope, Line, LineFault, read_line, write_error, write_reply};
+use fr_node_lines::{BadLine, Envelope, Line, LineFault, read_line, write_error, write_reply};
 use fr_node_steps::{Acting, Crash, Order, Reply, TurnFault, answer};
 use std::alloc::Global;
 use std::io::{Read, Write};
@@ -12,99 +19,156 @@ use std::io::{Read, Write};
 pub const MAX_LINE: usize = 268_435_456;
 
 /// Serves lines to the end of the input, each of at most so many bytes: reads one, answers it, and flushes the answer
-/// before it reads on. A node that cannot go on says so in its answer, and serves no more.
+/// before it reads on. A line that is not done is answered by why. A node that cannot go on says so in its answer, and
+/// serves no more.
 pub fn serve<T: Acting, R: Read, W: Write>(
     alloc: Global,
     most: usize,
     node: &mut T,
     reader: &mut R,
     writer: &mut W,
-) -> Result<(), NodeEnd> {
-    let mut lines = Lines::new(alloc);
+) -> Result<(), NodeEnd>
+    requires works { T.works node.old ≡ true }
+    ensures node { T.node node.new ≡ T.node node.old }
+    ensures works { OnOk result (T.works node.new ≡ true) }
+    ensures crashed { IfErr result (EndsBy T.CanCrash) }
+{
     let mut calls = CallCounts::new();
+    serve_counted(alloc, most, &mut calls, node, reader, writer)
+}
+
+/// As [`serve`], with the calls of the writer counted in `calls`, which has none yet: `Output` is answered only where a
+/// write or a flush failed.
+pub fn serve_counted<T: Acting, R: Read, W: Write>(
+    alloc: Global,
+    most: usize,
+    calls: &mut CallCounts,
+    node: &mut T,
+    reader: &mut R,
+    writer: &mut W,
+) -> Result<(), NodeEnd>
+    requires works { T.works node.old ≡ true }
+    requires fresh { calls.old ≡ no_calls }
+    ensures node { T.node node.new ≡ T.node node.old }
+    ensures works { OnOk result (T.works node.new ≡ true) }
+    ensures crashed { IfErr result (EndsBy T.CanCrash) }
+    ensures output { (result ≡ Err (NodeEnd.Command CliFault.Output)) → 0 < calls.new.failed_writes }
+    ensures done { OnOk result (calls.new.failed_writes ≡ 0) }
+{
+    let mut lines = Lines::new(alloc);
     for _line in 0..u64::MAX {
-        let answered = match lines.next(alloc, reader, most)? {
-            Found::End => return Ok(()),
-            Found::TooLong => refused(alloc, node.place(), LineFault::TooLong)?,
-            Found::Line(text) => answer_line(alloc, node, text)?,
+        let found = match lines.next(alloc, reader, most) {
+            Ok(found) => found,
+            Err(fault) => return Err(unread(fault)),
         };
-        put_bytes(&mut calls, writer, answered.text.as_slice())?;
-        calls.flush(writer)?;
-        if let Some(crash) = answered.crash {
+        let line = match found {
+            Found::End => return Ok(()),
+            Found::TooLong => Line::bad(BadLine::TooLong),
+            Found::Line(text) => read_line(alloc, node.place(), text.as_slice()),
+        };
+        let Line { envelope, order } = line;
+        let done = do_line(alloc, node, order);
+        let crash = crash_of(&done);
+        put_answer(alloc, calls, node.place(), &envelope, done, writer)?;
+        if let Some(crash) = crash {
             return Err(NodeEnd::Crashed(crash));
         }
     }
     Ok(())
 }
 
-/// The answer to a line, and why the node cannot go on, if it cannot.
-#[derive(Drop)]
-struct Answered {
-    text: Vec<u8>,
-    crash: Option<Crash>,
+/// Why a reader gives no line.
+fn unread(fault: CliFault) -> NodeEnd
+    ensures value { result ≡ NodeEnd.Command fault }
+{
+    NodeEnd::Command(fault)
 }
 
-/// The answer to a line of which nothing is known.
-fn refused(alloc: Global, place: NodeId, fault: LineFault) -> Result<Answered, NodeEnd> {
-    failed(alloc, place, &Envelope::unknown(), fault)
-}
-
-/// The answer to a line that is not done.
-fn failed(
-    alloc: Global,
-    place: NodeId,
-    envelope: &Envelope,
-    fault: LineFault,
-) -> Result<Answered, NodeEnd> {
-    match write_error(alloc, place, envelope, fault) {
-        Ok(text) => Ok(Answered {
-            text,
-            crash: fault.crash(),
-        }),
-        Err(_) => Err(NodeEnd::Command(CliFault::Memory)),
-    }
-}
-
-/// Has a node do what a line asks, and answers it. The text of the line is let go once it is read.
-fn answer_line<T: Acting>(
+/// Has a node do what a line asks. A bad line asks nothing.
+fn do_line<T: Acting>(
     alloc: Global,
     node: &mut T,
-    text: Vec<u8>,
-) -> Result<Answered, NodeEnd> {
-    let Line { envelope, order } = read_line(alloc, node.place(), text.as_slice());
-    drop(text);
+    order: Result<Order, BadLine>,
+) -> Result<Reply, LineFault>
+    requires works { T.works node.old ≡ true }
+    ensures node { T.node node.new ≡ T.node node.old }
+    ensures bad { IfErr order (λ bad. (result ≡ Err (LineFault.Bad bad)) × (node.new ≡ node.old)) }
+    ensures answered { IfOk order (λ asked. IfOk result (λ reply. IsAnswer
+        (record { node = T.node node.old; entries = T.entries node.old; last = T.last_of node.old; wanted = T.wanted node.old })
+        (record { node = T.node node.new; entries = T.entries node.new; last = T.last_of node.new; wanted = T.wanted node.new })
+        asked reply)) }
+    ensures works { UnlessEnded result (T.works node.new ≡ true) }
+    ensures left { IfUndone result (T.entries node.new ≡ T.entries node.old) }
+    ensures crashed { IfSome (crash_in result) (λ why. IsEnd T.CanCrash why) }
+{
     match order {
-        Ok(order) => answer_order(alloc, node, &envelope, order),
-        Err(fault) => failed(alloc, node.place(), &envelope, fault),
+        Ok(order) => match answer(alloc, node, order) {
+            Ok(reply) => Ok(reply),
+            Err(fault) => Err(LineFault::Turn(fault)),
+        },
+        Err(bad) => Err(LineFault::Bad(bad)),
     }
 }
 
-fn answer_order<T: Acting>(
-    alloc: Global,
-    node: &mut T,
-    envelope: &Envelope,
-    order: Order,
-) -> Result<Answered, NodeEnd> {
-    let answered = answer(alloc, node, order);
-    let place = node.place();
-    match answered {
-        Ok(reply) => replied(alloc, place, envelope, reply),
-        Err(fault) => failed(alloc, place, envelope, LineFault::Turn(fault)),
+/// Why a node cannot go on, where it cannot.
+fn crash_of(done: &Result<Reply, LineFault>) -> Option<Crash>
+    ensures { result ≡ crash_in done.now }
+{
+    match done {
+        Ok(_) => None,
+        Err(LineFault::Bad(BadLine::Memory)) => Some(Crash::Memory),
+        Err(LineFault::Bad(_)) => None,
+        Err(LineFault::Turn(TurnFault::Crashed(why))) => Some(*why),
+        Err(LineFault::Turn(TurnFault::Refused(_))) => None,
     }
 }
 
-/// The answer to a line that is done. Where there is no memory to write it, the node cannot go on.
-fn replied(
+/// The text of an answer: a line with its end.
+fn text_of(
     alloc: Global,
     place: NodeId,
     envelope: &Envelope,
-    reply: Reply,
-) -> Result<Answered, NodeEnd> {
-    match write_reply(alloc, place, envelope, &reply) {
-        Ok(text) => Ok(Answered { text, crash: None }),
-        Err(_) => {
-            drop(reply);
-            failed(alloc, place, envelope, LineFault::Turn(TurnFault::Crashed(Crash::Memory)))
-        }
+    done: Result<Reply, LineFault>,
+) -> Result<Vec<u8>, Memory> {
+    match done {
+        Ok(reply) => write_reply(alloc, place, envelope, &reply),
+        Err(fault) => write_error(alloc, place, envelope, fault),
+    }
+}
+
+/// Writes an answer, and flushes it. Where there is no memory for its text, the process ends.
+fn put_answer<W: Write>(
+    alloc: Global,
+    calls: &mut CallCounts,
+    place: NodeId,
+    envelope: &Envelope,
+    done: Result<Reply, LineFault>,
+    writer: &mut W,
+) -> Result<(), NodeEnd>
+    ensures fault { IfErr result (IsPutFault calls.new) }
+    ensures done { OnOk result (calls.new ≡ calls.old) }
+{
+    let Ok(text) = text_of(alloc, place, envelope, done) else {
+        return Err(NodeEnd::Crashed(Crash::Memory));
+    };
+    put_text(calls, writer, text.as_slice())
+}
+
+/// Writes a text, and flushes it.
+fn put_text<W: Write>(
+    calls: &mut CallCounts,
+    writer: &mut W,
+    text: &[u8],
+) -> Result<(), NodeEnd>
+    ensures fault { IfErr result (IsPutFault calls.new) }
+    ensures done { OnOk result (calls.new ≡ calls.old) }
+{
+    match put_bytes(calls, writer, text) {
+        Ok(()) => {}
+        Err(fault) => return Err(NodeEnd::Command(fault)),
+    }
+    match calls.flush(writer) {
+        Ok(()) => Ok(()),
+        Err(fault) => Err(NodeEnd::Command(fault)),
     }
 }

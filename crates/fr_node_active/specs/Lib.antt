@@ -2,3 +2,4 @@ pub mod Leads
 pub mod Told
 pub mod Steps
 pub mod Nodes
+pub mod Pulls

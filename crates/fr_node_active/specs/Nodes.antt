@@ -10,12 +10,14 @@ use Rattle.fr_proxy.specs.declared.fault.SubmitFault.{SubmitFault}
 use Rattle.fr_proxy.specs.declared.fault.SubmitFault.TheVariants as submit
 use Rattle.fr_proxy.specs.Proxy.{ProxyState, submit_fault}
 use Rattle.fr_state.specs.Generations.{LogGeneration}
-use Rattle.fr_storage.specs.Storage.{StorageState, ask_after, own_epoch}
+use Rattle.fr_storage.specs.Server.{Server}
 use Rattle.fr_node_steps.specs.Passive.{are_spent}
 use Rattle.fr_node_steps.specs.declared.turn.Turn.{Turn}
 use Rattle.fr_node_steps.specs.declared.turn.Turn.TheVariants as turn
 use Rattle.fr_node_steps.specs.declared.fault.Refusal.{Refusal}
 use Rattle.fr_node_steps.specs.declared.fault.Refusal.TheVariants as refusal
+use Rattle.fr_node_steps.specs.declared.fault.TurnFault.{TurnFault}
+use Rattle.fr_node_steps.specs.declared.fault.TurnFault.TheVariants as turn_fault
 use Rattle.fr_node_steps.specs.declared.fault.Crash.{Crash}
 use Rattle.fr_node_steps.specs.declared.fault.Crash.TheVariants as crash
 
@@ -25,6 +27,14 @@ pub record Active (S : Type 0) : Type 0 where
   pub place : NodeId
   pub first : S
   pub entries : List Entry
+
+-- a storage server too, and whether its store failed so that it cannot go on
+pub record ActiveStorage (S : Type 0) : Type 0 where
+  pub storage : Server S
+  pub place : NodeId
+  pub first : Server S
+  pub entries : List Entry
+  pub is_over : Bool
 
 -- the reason where the stamps are spent
 abbrev pub spent_refusal : List Entry → ℕ → Option Refusal
@@ -71,3 +81,7 @@ IsMemory why = why ≡ crash.Memory
 -- one with a store, which may fail too
 abbrev pub IsStoreCrash : Crash → Type 0
 IsStoreCrash why = (why ≡ crash.Memory) ⊎ (why ≡ crash.Store)
+
+abbrev pub IsStoreEnd : TurnFault → Type 0
+IsStoreEnd (turn_fault.Refused why) = ⊥
+IsStoreEnd (turn_fault.Crashed why) = IsStoreCrash why

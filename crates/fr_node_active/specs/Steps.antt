@@ -1,5 +1,6 @@
 -- What each act makes of a proxy, of a recoverer and of a storage server.
 use Rattle.std.specs.Prelude.{◌≡◌, Bool, true, false, Option, None, Some}
+use Rattle.fr_base.specs.Shape.{ShapeContent}
 use Rattle.fr_audit_journal.specs.declared.act.Act.{Act}
 use Rattle.fr_audit_journal.specs.declared.act.Act.TheVariants as act
 use Rattle.fr_proxy.specs.Proxy as proxy
@@ -21,12 +22,12 @@ pub record Recovering : Type 0 where
   pub recoverer : RecState
   pub has_begun : Bool
 
--- a recoverer begins once, to open a generation of its shape, and then hears tells
-abbrev pub RecStep : Recovering → Act → Recovering → Type 0
-RecStep r (act.Begun shape) q = (r.has_begun ≡ false) × ((shape ≡ r.recoverer.shape) × (q ≡ record r { has_begun = true }))
-RecStep r (act.Heard from tell taken outcome) q =
-    (r.has_begun ≡ true) × ((taken ≡ None) × ((outcome ≡ None) × (q ≡ record r { recoverer = rec.after_hear r.recoverer from tell })))
-RecStep r a q = ⊥
+-- a recoverer begins once, to open a generation of the shape that it was given, and then hears tells
+abbrev pub RecStep : Option ShapeContent → Recovering → Act → Recovering → Type 0
+RecStep given r (act.Begun shape) q = (r.has_begun ≡ false) × ((shape ≡ given) × (q ≡ record { recoverer = r.recoverer; has_begun = true }))
+RecStep given r (act.Heard from tell taken outcome) q =
+    (r.has_begun ≡ true) × ((taken ≡ None) × ((outcome ≡ None) × (q ≡ record { recoverer = rec.after_hear r.recoverer from tell; has_begun = true })))
+RecStep given r a q = ⊥
 
 -- a storage server hears a tell, whole or as far as it took it
 abbrev pub StorageStep : StorageState → Act → StorageState → Type 0

@@ -92,9 +92,9 @@ impl ProxyNode {
         };
         let answered = entry.copy()?;
         self.journal.reserve()?;
-        if self.proxy.submit(step, taken).is_err() {
+        let Ok(_asked) = self.proxy.submit(step, taken) else {
             unreachable!();
-        }
+        };
         self.journal.push_reserved(entry);
         Ok(answered)
     }

@@ -1,5 +1,5 @@
 //! What a storage server asks in a turn.
-ghost use Rattle.std.specs.Prelude.{◌≡◌, ◌<◌, ◌==◌, ◌+◌, ◌%◌, find, IfOk};
+ghost use Rattle.std.specs.Prelude.{◌≡◌, ◌<◌, ◌==◌, ◌%◌, ◌++◌, find, IfOk, OnOk};
 ghost use Rattle.fr_base.specs.declared.place.NodeId.{NodeId};
 ghost use Rattle.fr_node_active.specs.Pulls.{asks_of, holder, mark_asks, peek_asks};
 
@@ -32,13 +32,13 @@ fn holder_at(generation: Generation, tag: Tag, turn: u32) -> NodeId
 }
 
 /// The log of an epoch that is asked for its mark in a turn: the next one in each turn.
-fn log_at(newest: Newest, turn: u32) -> NodeId
-    requires some { 0 < newest.logs }
-    ensures { result ≡ NodeId.Log newest.epoch (turn % newest.logs) }
+fn log_at(epoch: Epoch, logs: u8, turn: u32) -> NodeId
+    requires some { 0 < logs }
+    ensures { result ≡ NodeId.Log epoch (turn % logs) }
 {
     NodeId::Log {
-        epoch: newest.epoch,
-        index: (turn % u32::from(newest.logs)) as u8,
+        epoch,
+        index: (turn % u32::from(logs)) as u8,
     }
 }
 
@@ -68,14 +68,11 @@ fn add_mark(
 ) -> Result<(), Memory>
     ensures { OnOk result (asks.new.items ≡ asks.old.items ++ mark_asks newest turn) }
 {
-    if let Some(newest) = newest {
-        if newest.logs > 0 {
-            let to = log_at(newest, turn);
-            let ask = LogAsk::MarkAsked {
-                epoch: newest.epoch,
-            };
+    if let Some(Newest { epoch, logs }) = newest {
+        if logs > 0 {
+            let to = log_at(epoch, logs, turn);
             asks.reserve(1)?;
-            asks.push_reserved((to, Ask::Log(ask)));
+            asks.push_reserved((to, Ask::Log(LogAsk::MarkAsked { epoch })));
         }
     }
     Ok(())

@@ -43,8 +43,8 @@ impl Model for RecovererNode {
       entries = r.journal.entries;
     } };
 
-    ghost invariant = { λ r. (r.shape ≡ r.recoverer.shape)
-        × LeadsTo RecStep (record { recoverer = r.first.value; has_begun = false }) r.journal.entries
+    ghost invariant = { λ r. (r.shape ≡ r.first.value.shape)
+        × LeadsTo (RecStep r.first.value.shape) (record { recoverer = r.first.value; has_begun = false }) r.journal.entries
         (record { recoverer = r.recoverer; has_begun = r.has_begun }) };
 }
 
@@ -54,6 +54,7 @@ impl RecovererNode {
         requires shape { shape ≡ recoverer.shape }
         ensures recoverer { result.state.recoverer ≡ recoverer }
         ensures has_begun { result.state.has_begun ≡ false }
+        ensures first { result.first.recoverer ≡ recoverer }
         ensures place { result.place ≡ NodeId.Recoverer recoverer.ballot }
         ensures entries { result.entries ≡ [] }
     {
@@ -72,7 +73,7 @@ impl RecovererNode {
     pub fn journal(&self) -> &Journal
         ensures place { result.now.node ≡ self.now.place }
         ensures entries { result.now.entries ≡ self.now.entries }
-        ensures leads { LeadsTo RecStep self.now.first result.now.entries self.now.state }
+        ensures leads { LeadsTo (RecStep self.now.first.recoverer.shape) self.now.first result.now.entries self.now.state }
     {
         &self.journal
     }

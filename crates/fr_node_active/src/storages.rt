@@ -1,23 +1,23 @@
 //! Storage servers, each with its journal.
-ghost use Rattle.std.specs.Prelude.{◌≡◌, [], false, Ok, None, IfOk, IfSome, OnOk};
+ghost use Rattle.std.specs.Prelude.{◌≡◌, [], false, Ok, None, IfErr, IfOk, IfSome, OnOk};
 ghost use Rattle.fr_base.specs.declared.place.NodeId.{NodeId};
 ghost use Rattle.fr_node_active.specs.Leads.{LeadsTo};
-ghost use Rattle.fr_node_active.specs.Nodes.{IsStoreCrash, storage_refusal};
+ghost use Rattle.fr_node_active.specs.Nodes.{IsStoreCrash, IsStoreEnd, storage_refusal};
 ghost use Rattle.fr_node_active.specs.Steps.{StorageStep};
 ghost use Rattle.fr_node_active.specs.Told.{IsTold};
 ghost use Rattle.fr_node_steps.specs.declared.turn.Turn.{Turn};
-ghost use Rattle.fr_node_steps.specs.Turns.{IfCrashed, IfRefused, IsTaken, Refuses, UnlessCrashed};
+ghost use Rattle.fr_node_steps.specs.Turns.{IfCrashed, IfRefused, IsTaken, Refuses};
+ghost use Rattle.fr_run_event.specs.Last as last;
 ghost use Rattle.fr_runtime_hears.specs.Taken.{IsPart};
 ghost use Rattle.fr_storage.specs.Server.{storage_of};
 ghost use Rattle.fr_storage.specs.Storage.{after_peeked, peeked_calls, peeked_fault};
 
 use crate::pulls::asks_at;
-use fr_ask::{Last, Tell};
+use fr_ask::{Last, Rows, Tell};
 use fr_audit_journal::{Act, Entry, Journal};
 use fr_base::{Epoch, NodeId, Stamp, Version};
 use fr_log::{LogTell, Peeked};
 use fr_node_steps::{Acting, Crash, Newest, Refusal, Turn, TurnFault, Wants, stamp_above};
-use fr_run_event::last_of_storage;
 use fr_runtime_hears::{take_marked, take_peeked};
 use fr_storage::{Storage, StorageFault};
 use fr_undo::{ShardStore, StoreFault};
@@ -32,30 +32,39 @@ pub struct StorageNode<S: ShardStore> {
     storage: Storage<S>,
     journal: Journal,
     first: Snapshot<Storage<S>>,
+    is_over: bool,
 }
 
 impl<S: ShardStore> Model for StorageNode<S> {
     ghost use Rattle.std.specs.Prelude.{◌≡◌, false};
-    ghost use Rattle.fr_storage.specs.Server.{Server, storage_of};
-    ghost use Rattle.fr_node_active.specs.Nodes.{Active};
+    ghost use Rattle.fr_storage.specs.Server.{storage_of};
+    ghost use Rattle.fr_node_active.specs.Nodes.{ActiveStorage};
     ghost use Rattle.fr_node_active.specs.Leads.{LeadsTo};
     ghost use Rattle.fr_node_active.specs.Steps.{StorageStep};
 
-    ghost Value = { Active (Server S) };
+    ghost Value = { ActiveStorage S };
 
-    ghost view = { λ s. record { state = s.storage; place = s.journal.node; first = s.first.value; entries = s.journal.entries } };
+    ghost view = { λ s. record {
+      storage = s.storage;
+      place = s.journal.node;
+      first = s.first.value;
+      entries = s.journal.entries;
+      is_over = s.is_over;
+    } };
 
-    ghost invariant = { λ s. s.storage.failed ≡ false
-        → LeadsTo StorageStep (storage_of S.state s.first.value) s.journal.entries (storage_of S.state s.storage) };
+    ghost invariant = { λ s. s.is_over ≡ false → (s.storage.failed ≡ false)
+        × LeadsTo StorageStep (storage_of S.state s.first.value) s.journal.entries (storage_of S.state s.storage) };
 }
 
 impl<S: ShardStore> StorageNode<S> {
     /// A storage server that heard nothing yet.
     pub fn new(alloc: Global, storage: Storage<S>) -> Self
-        ensures state { result.state ≡ storage }
+        requires works { storage.failed ≡ false }
+        ensures storage { result.storage ≡ storage }
         ensures first { result.first ≡ storage }
         ensures place { result.place ≡ NodeId.Storage storage.tag }
         ensures entries { result.entries ≡ [] }
+        ensures works { result.is_over ≡ false }
     {
         let id = NodeId::Storage { tag: storage.tag() };
         let first = Snapshot::of(&storage);
@@ -63,6 +72,7 @@ impl<S: ShardStore> StorageNode<S> {
             storage,
             journal: Journal::new(alloc, id),
             first,
+            is_over: false,
         }
     }
 
@@ -70,8 +80,8 @@ impl<S: ShardStore> StorageNode<S> {
     pub fn journal(&self) -> &Journal
         ensures place { result.now.node ≡ self.now.place }
         ensures entries { result.now.entries ≡ self.now.entries }
-        ensures leads { self.now.state.failed ≡ false
-            → LeadsTo StorageStep (storage_of S.state self.now.first) result.now.entries (storage_of S.state self.now.state) }
+        ensures leads { self.now.is_over ≡ false
+            → LeadsTo StorageStep (storage_of S.state self.now.first) result.now.entries (storage_of S.state self.now.storage) }
     {
         &self.journal
     }
@@ -85,10 +95,10 @@ impl<S: ShardStore> StorageNode<S> {
         from: NodeId,
         tell: Tell,
     ) -> Result<Entry, TurnFault>
-        requires works { self.old.state.failed ≡ false }
+        requires works { self.old.is_over ≡ false }
         ensures place { self.new.place ≡ self.old.place }
         ensures taken { IfOk result (λ entry. IsTaken self.old.entries self.new.entries at (Turn.Hear from tell) entry) }
-        ensures works { OnOk result (self.new.state.failed ≡ false) }
+        ensures works { OnOk result (self.new.is_over ≡ false) }
         ensures refused { Refuses (storage_refusal self.old.entries at (Turn.Hear from tell)) result }
         ensures left { IfRefused result (self.new ≡ self.old) }
         ensures crashed { IfCrashed result IsStoreCrash }
@@ -97,7 +107,13 @@ impl<S: ShardStore> StorageNode<S> {
             return Err(TurnFault::Refused(Refusal::StampsSpent));
         };
         self.journal.reserve()?;
-        let taken = tell_storage(alloc, &mut self.storage, &from, &tell)?;
+        let taken = match tell_storage(alloc, &mut self.storage, &from, &tell) {
+            Ok(taken) => taken,
+            Err(fault) => {
+                self.is_over = true;
+                return Err(fault);
+            }
+        };
         let entry = Entry {
             stamp,
             act: Act::Heard {
@@ -125,8 +141,7 @@ fn tell_storage<S: ShardStore>(
     ensures told { storage.old.failed ≡ false → IfOk result (λ taken. IsTold (storage_of S.state storage.old) from.now tell.now taken
         (storage_of S.state storage.new)) }
     ensures works { storage.old.failed ≡ false → OnOk result (storage.new.failed ≡ false) }
-    ensures crashed { IfCrashed result IsStoreCrash }
-    ensures never_refused { IfRefused result ⊥ }
+    ensures fault { IfErr result IsStoreEnd }
 {
     match (from, tell) {
         (NodeId::Log { epoch, .. }, Tell::Log(LogTell::Peeked(peeked))) => {
@@ -157,16 +172,44 @@ fn peeked_by<S: ShardStore>(
     take_peeked(alloc, storage, *epoch, peeked)
 }
 
+/// Where a storage server stands, as others see it.
+fn last_said<S: ShardStore>(alloc: Global, storage: &mut Storage<S>) -> Result<Last, TurnFault>
+    ensures last { IfOk result (λ told. told ≡ last.last_of_storage (storage_of S.state storage.old)) }
+    ensures stands { storage.old.failed ≡ false → OnOk result (storage_of S.state storage.new ≡ storage_of S.state storage.old) }
+    ensures works { storage.old.failed ≡ false → OnOk result (storage.new.failed ≡ false) }
+    ensures fault { IfErr result IsStoreEnd }
+{
+    let (epoch, version) = storage.position();
+    let floor = storage.floor();
+    match storage.dump(alloc) {
+        Ok(rows) => Ok(Last::Storage {
+            epoch,
+            version,
+            floor,
+            rows: Rows::from_vec(rows),
+        }),
+        Err(fault) => Err(end_of(fault)),
+    }
+}
+
+/// What a fault of a storage server is to its process.
+fn end_of(fault: StorageFault) -> TurnFault
+    ensures { IsStoreEnd result }
+{
+    match fault {
+        StorageFault::Store(StoreFault::Memory) => TurnFault::Crashed(Crash::Memory),
+        _ => TurnFault::Crashed(Crash::Store),
+    }
+}
+
 /// What a storage server answers, where it is no fault of its store.
 fn unless_fault<T>(answer: Result<T, StorageFault>) -> Result<T, TurnFault>
     ensures ok { IfOk result (λ value. answer ≡ Ok value) }
-    ensures crashed { IfCrashed result IsStoreCrash }
-    ensures never_refused { IfRefused result ⊥ }
+    ensures fault { IfErr result IsStoreEnd }
 {
     match answer {
         Ok(value) => Ok(value),
-        Err(StorageFault::Store(StoreFault::Memory)) => Err(TurnFault::Crashed(Crash::Memory)),
-        Err(_) => Err(TurnFault::Crashed(Crash::Store)),
+        Err(fault) => Err(end_of(fault)),
     }
 }
 
@@ -181,13 +224,13 @@ impl<S: ShardStore> Acting for StorageNode<S> {
 
     ghost entries = { λ s. s.entries };
 
-    ghost last_of = { λ s. last.last_of_storage (storage_of S.state s.state) };
+    ghost last_of = { λ s. last.last_of_storage (storage_of S.state s.storage) };
 
-    ghost works = { λ s. not s.state.failed };
+    ghost works = { λ s. not s.is_over };
 
     ghost refusal = { λ s at turn. storage_refusal s.entries at turn };
 
-    ghost wanted = { λ s turn newest. asks_of s.state turn newest };
+    ghost wanted = { λ s turn newest. asks_of s.storage turn newest };
 
     ghost CanCrash = { IsStoreCrash };
 
@@ -206,7 +249,13 @@ impl<S: ShardStore> Acting for StorageNode<S> {
     }
 
     fn last(&mut self, alloc: Global) -> Result<Last, TurnFault> {
-        unless_fault(last_of_storage(alloc, &mut self.storage))
+        match last_said(alloc, &mut self.storage) {
+            Ok(last) => Ok(last),
+            Err(fault) => {
+                self.is_over = true;
+                Err(fault)
+            }
+        }
     }
 
     fn tells_wants(&self) -> bool {

@@ -1,12 +1,52 @@
 //! Why a line is not done.
+use crate::names;
 use fr_base::Memory as NoMemory;
-use fr_forms::ScriptFault;
+use fr_forms::{ScriptFault, names as forms};
 use fr_node_steps::{Crash, Refusal, TurnFault};
-use std::alloc::{AllocError, AllocFailed};
+use std::alloc::AllocError;
 
-/// Why a line is not done.
+/// A member of a line.
 #[derive(Clone, Copy, Debug, PartialEq, Eq)]
-pub enum LineFault {
+pub enum Member {
+    Src,
+    Dest,
+    Body,
+    Type,
+    MsgId,
+    At,
+    From,
+    Ask,
+    Tell,
+    Step,
+    Batch,
+    Turn,
+    Newest,
+}
+
+impl Member {
+    /// Its name.
+    pub fn name(self) -> &'static str {
+        match self {
+            Member::Src => names::SRC,
+            Member::Dest => names::DEST,
+            Member::Body => names::BODY,
+            Member::Type => names::TYPE,
+            Member::MsgId => names::MSG_ID,
+            Member::At => names::AT,
+            Member::From => forms::FROM,
+            Member::Ask => forms::ASK,
+            Member::Tell => forms::TELL,
+            Member::Step => forms::STEP,
+            Member::Batch => forms::BATCH,
+            Member::Turn => names::TURN,
+            Member::Newest => names::NEWEST,
+        }
+    }
+}
+
+/// Why a line asks nothing of a node.
+#[derive(Clone, Copy, Debug, PartialEq, Eq)]
+pub enum BadLine {
     /// It is longer than a line may be.
     TooLong,
     /// It is no JSON.
@@ -18,7 +58,16 @@ pub enum LineFault {
     /// There is no such type.
     NoType,
     /// A member is missing, or is not in its form.
-    Member(&'static str),
+    Member(Member),
+    /// There is no memory.
+    Memory,
+}
+
+/// Why a line is not done.
+#[derive(Clone, Copy, Debug, PartialEq, Eq)]
+pub enum LineFault {
+    /// It asks nothing of the node.
+    Bad(BadLine),
     /// The node refuses it, or cannot go on.
     Turn(TurnFault),
 }
@@ -27,47 +76,56 @@ impl LineFault {
     /// Its code, by which a reader goes: those of Maelstrom.
     pub fn code(self) -> u64 {
         match self {
-            LineFault::NoType => 10,
-            LineFault::Turn(TurnFault::Refused(Refusal::NotTaken)) => 10,
-            LineFault::Turn(TurnFault::Refused(Refusal::OtherAsk)) => 12,
-            LineFault::Turn(TurnFault::Refused(_)) => 14,
-            LineFault::Turn(TurnFault::Crashed(_)) => 13,
-            LineFault::TooLong
-            | LineFault::NotJson
-            | LineFault::Members
-            | LineFault::OtherNode
-            | LineFault::Member(_) => 12,
+            LineFault::Bad(BadLine::Memory) => CRASH,
+            LineFault::Bad(BadLine::NoType) => NOT_SUPPORTED,
+            LineFault::Bad(_) => MALFORMED,
+            LineFault::Turn(TurnFault::Refused(Refusal::NotTaken)) => NOT_SUPPORTED,
+            LineFault::Turn(TurnFault::Refused(Refusal::OtherAsk)) => MALFORMED,
+            LineFault::Turn(TurnFault::Refused(_)) => ABORT,
+            LineFault::Turn(TurnFault::Crashed(_)) => CRASH,
         }
     }
 
     /// What it is, in words.
     pub fn text(self) -> &'static str {
         match self {
-            LineFault::TooLong => "the line is too long",
-            LineFault::NotJson => "no JSON",
-            LineFault::Members => "members",
-            LineFault::OtherNode => "dest",
-            LineFault::NoType => "type",
-            LineFault::Member(name) => name,
+            LineFault::Bad(bad) => bad_text(bad),
             LineFault::Turn(TurnFault::Refused(why)) => refusal_text(why),
             LineFault::Turn(TurnFault::Crashed(why)) => crash_text(why),
         }
     }
+}
 
-    /// Why the node cannot go on, where it cannot.
-    pub fn crash(self) -> Option<Crash> {
-        match self {
-            LineFault::Turn(TurnFault::Crashed(why)) => Some(why),
-            _ => None,
-        }
+/// The node does not take such a line.
+const NOT_SUPPORTED: u64 = 10;
+
+/// It is no line.
+const MALFORMED: u64 = 12;
+
+/// The node cannot go on.
+const CRASH: u64 = 13;
+
+/// The node refuses it.
+const ABORT: u64 = 14;
+
+/// What is wrong with a line.
+fn bad_text(bad: BadLine) -> &'static str {
+    match bad {
+        BadLine::TooLong => "the line is too long",
+        BadLine::NotJson => "no JSON",
+        BadLine::Members => "members",
+        BadLine::OtherNode => names::DEST,
+        BadLine::NoType => names::TYPE,
+        BadLine::Member(member) => member.name(),
+        BadLine::Memory => crash_text(Crash::Memory),
     }
 }
 
 /// The name of a refusal.
 fn refusal_text(why: Refusal) -> &'static str {
     match why {
-        Refusal::NotTaken => "NotTaken",
-        Refusal::OtherAsk => "ask",
+        Refusal::NotTaken => names::TYPE,
+        Refusal::OtherAsk => forms::ASK,
         Refusal::NotBegun => "NotBegun",
         Refusal::Begun => "Begun",
         Refusal::TwoOpen => "TwoOpen",
@@ -87,32 +145,23 @@ fn crash_text(why: Crash) -> &'static str {
     }
 }
 
-/// Want of memory.
-const NO_MEMORY: LineFault = LineFault::Turn(TurnFault::Crashed(Crash::Memory));
-
-impl From<NoMemory> for LineFault {
-    fn from(_: NoMemory) -> LineFault {
-        NO_MEMORY
+impl From<NoMemory> for BadLine {
+    fn from(_: NoMemory) -> BadLine {
+        BadLine::Memory
     }
 }
 
-impl From<AllocError> for LineFault {
-    fn from(_: AllocError) -> LineFault {
-        NO_MEMORY
+impl From<AllocError> for BadLine {
+    fn from(_: AllocError) -> BadLine {
+        BadLine::Memory
     }
 }
 
-impl<T: Drop> From<AllocFailed<T>> for LineFault {
-    fn from(_: AllocFailed<T>) -> LineFault {
-        NO_MEMORY
-    }
-}
-
-/// What is wrong with the member of a name.
-pub(crate) fn at<T>(name: &'static str, read: Result<T, ScriptFault>) -> Result<T, LineFault> {
+/// What is wrong with a member.
+pub(crate) fn at<T>(member: Member, read: Result<T, ScriptFault>) -> Result<T, BadLine> {
     match read {
         Ok(value) => Ok(value),
-        Err(ScriptFault::BadScript) => Err(LineFault::Member(name)),
-        Err(ScriptFault::Memory) => Err(NO_MEMORY),
+        Err(ScriptFault::BadScript) => Err(BadLine::Member(member)),
+        Err(ScriptFault::Memory) => Err(BadLine::Memory),
     }
 }

@@ -12,7 +12,7 @@ mod writing;
 
 pub use config::read_config;
 pub use envelope::Envelope;
-pub use fault::LineFault;
+pub use fault::{BadLine, LineFault, Member};
 pub use fr_forms::ScriptFault;
 pub use names::name_of;
 pub use reading::{Line, read_line};

@@ -1,9 +1,9 @@
 //! Lines read.
 use crate::envelope::{Envelope, text_of};
-use crate::fault::{LineFault, at};
+use crate::fault::{BadLine, Member, at};
 use crate::names::{self, name_of};
 use fr_ask::{Ask, Tell};
-use fr_base::{Memory, NodeId, Stamp};
+use fr_base::{NodeId, Stamp};
 use fr_forms::fields::Fields;
 use fr_forms::names as forms;
 use fr_forms::{ScriptFault, read_ask, read_batch, read_node, read_step, read_tell};
@@ -19,30 +19,32 @@ const MAX_LOGS: u8 = 16;
 #[derive(Debug, Drop)]
 pub struct Line {
     pub envelope: Envelope,
-    pub order: Result<Order, LineFault>,
+    pub order: Result<Order, BadLine>,
+}
+
+impl Line {
+    /// One that asks nothing, and does not say who sent it.
+    pub fn bad(bad: BadLine) -> Self {
+        Line {
+            envelope: Envelope::unknown(),
+            order: Err(bad),
+        }
+    }
 }
 
 /// Reads a line to a node. It has exactly its members, in any order; of two members of one name the last one counts.
 pub fn read_line(alloc: Global, node: NodeId, text: &[u8]) -> Line {
     let line = match Value::from_slice(alloc, text) {
         Ok(line) => line,
-        Err(error) if error.is_memory() => return nothing(LineFault::from(Memory)),
-        Err(_) => return nothing(LineFault::NotJson),
+        Err(error) if error.is_memory() => return Line::bad(BadLine::Memory),
+        Err(_) => return Line::bad(BadLine::NotJson),
     };
     let envelope = match Envelope::of(alloc, &line) {
         Ok(envelope) => envelope,
-        Err(error) => return nothing(LineFault::from(error)),
+        Err(_) => return Line::bad(BadLine::Memory),
     };
     let order = read_order(alloc, node, &envelope, line);
     Line { envelope, order }
-}
-
-/// A line of which nothing is known.
-fn nothing(fault: LineFault) -> Line {
-    Line {
-        envelope: Envelope::unknown(),
-        order: Err(fault),
-    }
 }
 
 /// What a line asks of a node.
@@ -51,21 +53,21 @@ fn read_order(
     node: NodeId,
     envelope: &Envelope,
     line: Value,
-) -> Result<Order, LineFault> {
+) -> Result<Order, BadLine> {
     let mut fields = fields_of(line, 3)?;
     if envelope.sender.is_none() {
-        return Err(LineFault::Member(names::SRC));
+        return Err(BadLine::Member(Member::Src));
     }
-    let dest = at(names::DEST, fields.take(names::DEST))?;
+    let dest = at(Member::Dest, fields.take(names::DEST))?;
     if dest.as_str() != Some(name_of(alloc, node)?.as_str()) {
-        return Err(LineFault::OtherNode);
+        return Err(BadLine::OtherNode);
     }
-    let body = at(names::BODY, fields.take(names::BODY))?;
+    let body = at(Member::Body, fields.take(names::BODY))?;
     if envelope.number.is_none() {
-        return Err(LineFault::Member(names::MSG_ID));
+        return Err(BadLine::Member(Member::MsgId));
     }
     let Some(kind) = type_of(alloc, &body)? else {
-        return Err(LineFault::Member(names::TYPE));
+        return Err(BadLine::Member(Member::Type));
     };
     read_kind(alloc, kind.as_str(), body)
 }
@@ -79,7 +81,7 @@ fn type_of(alloc: Global, body: &Value) -> Result<Option<String>, AllocError> {
 }
 
 /// Reads the body of a line of a type.
-fn read_kind(alloc: Global, kind: &str, body: Value) -> Result<Order, LineFault> {
+fn read_kind(alloc: Global, kind: &str, body: Value) -> Result<Order, BadLine> {
     match kind {
         names::INIT => read_init(body),
         forms::LAST => read_last(body),
@@ -89,30 +91,30 @@ fn read_kind(alloc: Global, kind: &str, body: Value) -> Result<Order, LineFault>
         names::SUBMIT => read_submitted(alloc, body),
         forms::BEGIN => read_bare(body, Turn::Begin),
         names::BACK => read_bare(body, Turn::Back),
-        _ => Err(LineFault::NoType),
+        _ => Err(BadLine::NoType),
     }
 }
 
 /// An object of so many members.
-fn fields_of(value: Value, count: usize) -> Result<Fields, LineFault> {
+fn fields_of(value: Value, count: usize) -> Result<Fields, BadLine> {
     match value.as_object() {
         Some(members) if members.len() == count => Ok(Fields::new(value, count)),
-        _ => Err(LineFault::Members),
+        _ => Err(BadLine::Members),
     }
 }
 
-fn read_init(body: Value) -> Result<Order, LineFault> {
+fn read_init(body: Value) -> Result<Order, BadLine> {
     let _fields = fields_of(body, 2)?;
     Ok(Order::Init)
 }
 
-fn read_last(body: Value) -> Result<Order, LineFault> {
+fn read_last(body: Value) -> Result<Order, BadLine> {
     let _fields = fields_of(body, 2)?;
     Ok(Order::Last)
 }
 
 /// What is asked in a turn. A line without the newest epoch asks none of its logs for their mark.
-fn read_wants(body: Value) -> Result<Order, LineFault> {
+fn read_wants(body: Value) -> Result<Order, BadLine> {
     if body.get(names::NEWEST).is_none() {
         let fields = fields_of(body, 3)?;
         let turn = read_turn(&fields)?;
@@ -120,74 +122,74 @@ fn read_wants(body: Value) -> Result<Order, LineFault> {
     }
     let mut fields = fields_of(body, 4)?;
     let turn = read_turn(&fields)?;
-    let newest = read_newest(at(names::NEWEST, fields.take(names::NEWEST))?)?;
+    let newest = read_newest(at(Member::Newest, fields.take(names::NEWEST))?)?;
     Ok(Order::Wants { turn, newest })
 }
 
 /// The number of a turn.
-fn read_turn(fields: &Fields) -> Result<u32, LineFault> {
-    match u32::try_from(at(names::TURN, fields.number(names::TURN))?) {
+fn read_turn(fields: &Fields) -> Result<u32, BadLine> {
+    match u32::try_from(at(Member::Turn, fields.number(names::TURN))?) {
         Ok(turn) => Ok(turn),
-        Err(_) => Err(LineFault::Member(names::TURN)),
+        Err(_) => Err(BadLine::Member(Member::Turn)),
     }
 }
 
 /// The newest epoch and how many logs it has, or null.
-fn read_newest(value: Value) -> Result<Option<Newest>, LineFault> {
+fn read_newest(value: Value) -> Result<Option<Newest>, BadLine> {
     if value.is_null() {
         return Ok(None);
     }
     let fields = Fields::new(value, 2);
-    let epoch = at(names::NEWEST, fields.epoch(forms::EPOCH))?;
-    let logs = at(names::NEWEST, fields.index(forms::LOGS, MAX_LOGS))?;
+    let epoch = at(Member::Newest, fields.epoch(forms::EPOCH))?;
+    let logs = at(Member::Newest, fields.index(forms::LOGS, MAX_LOGS))?;
     if logs == 0 {
-        return Err(LineFault::Member(names::NEWEST));
+        return Err(BadLine::Member(Member::Newest));
     }
     Ok(Some(Newest { epoch, logs }))
 }
 
 /// The greatest stamp that the sender has seen.
-fn read_stamp(fields: &Fields) -> Result<Stamp, LineFault> {
-    match Stamp::new(at(names::AT, fields.number(names::AT))?) {
+fn read_stamp(fields: &Fields) -> Result<Stamp, BadLine> {
+    match Stamp::new(at(Member::At, fields.number(names::AT))?) {
         Some(stamp) => Ok(stamp),
-        None => Err(LineFault::Member(names::AT)),
+        None => Err(BadLine::Member(Member::At)),
     }
 }
 
 /// A turn without content.
-fn read_bare(body: Value, turn: Turn) -> Result<Order, LineFault> {
+fn read_bare(body: Value, turn: Turn) -> Result<Order, BadLine> {
     let fields = fields_of(body, 3)?;
     let at = read_stamp(&fields)?;
     Ok(Order::Take { at, turn })
 }
 
-fn read_asked(alloc: Global, body: Value) -> Result<Order, LineFault> {
+fn read_asked(alloc: Global, body: Value) -> Result<Order, BadLine> {
     let mut fields = fields_of(body, 5)?;
     let stamp = read_stamp(&fields)?;
-    let from = at(forms::FROM, read_from(&mut fields))?;
-    let ask = at(forms::ASK, read_ask_in(alloc, &mut fields))?;
+    let from = at(Member::From, read_from(&mut fields))?;
+    let ask = at(Member::Ask, read_ask_in(alloc, &mut fields))?;
     Ok(Order::Take {
         at: stamp,
         turn: Turn::Ask { from, ask },
     })
 }
 
-fn read_heard(alloc: Global, body: Value) -> Result<Order, LineFault> {
+fn read_heard(alloc: Global, body: Value) -> Result<Order, BadLine> {
     let mut fields = fields_of(body, 5)?;
     let stamp = read_stamp(&fields)?;
-    let from = at(forms::FROM, read_from(&mut fields))?;
-    let tell = at(forms::TELL, read_tell_in(alloc, &mut fields))?;
+    let from = at(Member::From, read_from(&mut fields))?;
+    let tell = at(Member::Tell, read_tell_in(alloc, &mut fields))?;
     Ok(Order::Take {
         at: stamp,
         turn: Turn::Hear { from, tell },
     })
 }
 
-fn read_submitted(alloc: Global, body: Value) -> Result<Order, LineFault> {
+fn read_submitted(alloc: Global, body: Value) -> Result<Order, BadLine> {
     let mut fields = fields_of(body, 5)?;
     let stamp = read_stamp(&fields)?;
-    let step = at(forms::STEP, read_step(&fields))?;
-    let batch = at(forms::BATCH, read_batch_in(alloc, &mut fields))?;
+    let step = at(Member::Step, read_step(&fields))?;
+    let batch = at(Member::Batch, read_batch_in(alloc, &mut fields))?;
     Ok(Order::Take {
         at: stamp,
         turn: Turn::Submit { step, batch },

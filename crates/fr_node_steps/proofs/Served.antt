@@ -1,12 +1,13 @@
 -- What a node that answers asks did is one entry longer.
 use Rattle.std.proofs.Common.{refl, subst, sym, ap, ◌∙◌}
-use Rattle.std.specs.Prelude.{ℕ, Bool, false, ◌≡◌, ◌++◌, List, [], ◌∷◌, Option, Some}
+use Rattle.std.specs.Prelude.{ℕ, Bool, false, true, ◌≡◌, ◌||◌, ◌++◌, List, [], ◌∷◌, Option, Some, Result, Ok, Err, IfOk, OnOk, OnErr}
 use Rattle.fr_base.specs.declared.place.NodeId.{NodeId}
 use Rattle.fr_ask.specs.declared.ask.Ask.{Ask}
 use Rattle.fr_ask.specs.declared.tell.Tell.{Tell}
 use Rattle.fr_audit_journal.specs.declared.act.Act.TheVariants as act
 use Rattle.fr_audit_journal.specs.declared.act.Entry.{Entry}
-use Rattle.fr_runtime_housing.specs.Replays.{Steps, told_at, after_at, after_act, state_after, TellsAre, IsTold, gone_after, gone_at_end, IsThere}
+use Rattle.fr_runtime_housing.specs.Replays.{Steps, told_at, after_at, after_act, state_after, TellsAre, IsTold, ends_by_crash, gone_after, gone_at_end, IsThere}
+use Rattle.fr_node_steps.specs.declared.fault.TurnFault.{TurnFault}
 use Rattle.fr_node_steps.specs.Passive.{IsServed}
 
 state-append : {S A : Type 0} (m : Steps S A) (s : S) (es : List Entry) (e : Entry)
@@ -56,3 +57,32 @@ served-entered m place now first es longer s t stamp from a served ask tell h p 
     let x : longer ≡ es ++ record { stamp = stamp; act = act.Asked from (m.wrapped a) (m.told s a) } ∷ [] = e ∙ rw (w, k) refl in
     let y : t ≡ m.after s a = after ∙ ap (m.after s) c in
     rw (p, x, y) r
+
+-- a node that a crash does not end is started again
+served-crashed : {S A : Type 0} (m : Steps S A) (place : NodeId) (first : S) (es : List Entry) (s : S) (stamp : ℕ)
+    → IsServed m place first es s → ends_by_crash place ≡ false
+    → IsServed m place first (es ++ record { stamp = stamp; act = act.Crashed } ∷ []) s
+served-crashed m place first es s stamp h stays =
+    let e : Entry = record { stamp = stamp; act = act.Crashed } in
+    record {
+      tells = tells-append m first es e h.tells (record {});
+      there = there-append place false es e h.there h.stays;
+      stays = gone-append place false es e ∙ (ap (λ gone. gone || ends_by_crash place) h.stays ∙ stays);
+      state_is = h.state_is ∙ sym (state-append m first es e);
+    }
+
+-- so it is where its journal and what is entered are known by equations
+pub served-again : {S A : Type 0} (m : Steps S A) (place now : NodeId) (first : S) (es longer : List Entry) (s : S) (e : Entry)
+    → IsServed m place first es s → ends_by_crash place ≡ false → now ≡ place → longer ≡ es ++ e ∷ [] → e.act ≡ act.Crashed
+    → IsServed m now first longer s
+served-again m place now first es longer s e h stays p is crashed =
+    let k : e ≡ record { stamp = e.stamp; act = act.Crashed } = ap (λ a. record { stamp = e.stamp; act = a }) crashed in
+    rw (p, is, k) (served-crashed m place first es s e.stamp h stays)
+
+-- and whether it was, or was refused, is what is answered
+pub served-back : {S A : Type 0} (m : Steps S A) (place now : NodeId) (first : S) (es longer : List Entry) (s : S) (has : Bool) (r : Result Entry TurnFault)
+    → IsServed m place first es s → (has ≡ true → ends_by_crash place ≡ false) → now ≡ place
+    → IfOk r (λ e. longer ≡ es ++ e ∷ []) → IfOk r (λ e. e.act ≡ act.Crashed) → OnOk r (has ≡ true) → OnErr r (longer ≡ es)
+    → IsServed m now first longer s
+served-back m place now first es longer s has (Ok e) h stays p is crashed files left = served-again m place now first es longer s e h (stays files) p is crashed
+served-back m place now first es longer s has (Err f) h stays p is crashed files left = rw (p, left) h

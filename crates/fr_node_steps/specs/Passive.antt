@@ -14,12 +14,13 @@ use Rattle.fr_node_steps.specs.declared.fault.Refusal.TheVariants as refusal
 use Rattle.fr_node_steps.specs.declared.fault.Crash.{Crash}
 use Rattle.fr_node_steps.specs.declared.fault.Crash.TheVariants as crash
 
--- the node, its place, the state in which its process found it, and what it did since
+-- the node, its place, the state in which its process found it, what it did since, and whether it is over files that outlast the process
 pub record PassiveState (N S : Type 0) : Type 0 where
   pub node : N
   pub place : NodeId
   pub first : S
   pub entries : List Entry
+  pub has_files : Bool
 
 -- what it did leads from the first state to this one: each ask was told what the machine tells, and it is not gone
 pub record IsServed {S A : Type 0} (m : Steps S A) (place : NodeId) (first : S) (entries : List Entry) (state : S) : Type 0 where
@@ -37,10 +38,15 @@ abbrev pub ask_refusal : {A : Type 0} → Option A → Bool → Option Refusal
 ask_refusal None spent = Some refusal.OtherAsk
 ask_refusal (Some a) spent = if spent then Some refusal.StampsSpent else None
 
--- the reason why a turn is refused: a node that answers asks takes no other turn
-abbrev pub passive_refusal : {A : Type 0} → (Ask → Option A) → List Entry → ℕ → Turn → Option Refusal
-passive_refusal unwrapped entries at (turn.Ask from ask) = ask_refusal (unwrapped ask) (are_spent entries at)
-passive_refusal unwrapped entries at t = Some refusal.NotTaken
+-- the reason why a node is not started again: it has no files, or else the stamps are spent
+abbrev pub back_refusal : Bool → List Entry → ℕ → Option Refusal
+back_refusal has_files entries at = if has_files then (if are_spent entries at then Some refusal.StampsSpent else None) else Some refusal.NotTaken
+
+-- the reason why a turn is refused: a node that answers asks takes no other turn, but over files that it was started again
+abbrev pub passive_refusal : {A : Type 0} → (Ask → Option A) → Bool → List Entry → ℕ → Turn → Option Refusal
+passive_refusal unwrapped has_files entries at (turn.Ask from ask) = ask_refusal (unwrapped ask) (are_spent entries at)
+passive_refusal unwrapped has_files entries at turn.Back = back_refusal has_files entries at
+passive_refusal unwrapped has_files entries at t = Some refusal.NotTaken
 
 -- why a node cannot go on: for want of memory, or by a fault that it can meet
 abbrev pub IsCrash : (NodeFault → Type 0) → Crash → Type 0

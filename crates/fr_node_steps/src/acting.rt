@@ -75,12 +75,7 @@ pub trait Acting {
     fn tells_wants(&self) -> bool;
 
     /// What it asks in a turn, where the logs of an epoch may be asked for their mark.
-    fn wants(
-        &self,
-        alloc: Global,
-        turn: u32,
-        newest: Option<Newest>,
-    ) -> Result<Wants, TurnFault>
+    fn wants(&self, alloc: Global, turn: u32, newest: Option<Newest>) -> Result<Wants, TurnFault>
         ensures asks { IfOk result (λ asks. asks ≡ wanted self.now turn newest) }
         ensures crashed { IfCrashed result CanCrash }
         ensures never_refused { IfRefused result ⊥ };

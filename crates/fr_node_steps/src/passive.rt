@@ -1,10 +1,10 @@
 //! Nodes that answer asks, each with its journal.
-ghost use Rattle.std.specs.Prelude.{◌≡◌, ◌++◌, ◌∷◌, [], false, None, IfOk, OnOk};
+ghost use Rattle.std.specs.Prelude.{◌≡◌, ◌<◌, ◌++◌, ◌∷◌, [], false, true, IfOk, OnOk, OnErr};
 ghost use Rattle.fr_audit_journal.specs.declared.act.Act.{Act};
-ghost use Rattle.fr_audit_journal.specs.Journal.{IsAbove};
-ghost use Rattle.fr_runtime_housing.specs.Replays.{Replays, steps};
-ghost use Rattle.fr_node_steps.specs.Passive.{IsCrash};
-ghost use Rattle.fr_node_steps.specs.Turns.{IfCrashed, IfRefused, Refuses, UnlessCrashed};
+ghost use Rattle.fr_runtime_housing.specs.Replays.{Replays, ends_by_crash, steps};
+ghost use Rattle.fr_node_steps.specs.declared.fault.Crash.{Crash};
+ghost use Rattle.fr_node_steps.specs.Passive.{back_refusal};
+ghost use Rattle.fr_node_steps.specs.Turns.{IfCrashed, Refuses};
 
 use crate::acting::Acting;
 use crate::answering::Answering;
@@ -30,21 +30,24 @@ where
     node: N,
     journal: Journal,
     first: Snapshot<N::Plain>,
+    has_files: bool,
 }
 
 impl<N: Node> Model for Passive<N>
 where
     N::Plain: Answering,
 {
-    ghost use Rattle.fr_runtime_housing.specs.Replays.{steps};
+    ghost use Rattle.std.specs.Prelude.{◌≡◌, false, true};
+    ghost use Rattle.fr_runtime_housing.specs.Replays.{ends_by_crash, steps};
     ghost use Rattle.fr_node_steps.specs.Passive.{PassiveState, IsServed};
 
     ghost Value = { PassiveState N N.Plain };
 
-    ghost view = { λ p. record { node = p.node; place = p.journal.node; first = p.first.value; entries = p.journal.entries } };
+    ghost view = { λ p. record { node = p.node; place = p.journal.node; first = p.first.value; entries = p.journal.entries; has_files = p.has_files } };
 
     ghost invariant = { λ p. IsServed (steps N.Plain.wrapped N.Plain.unwrapped N.Plain.wrapped_tell N.Plain.told N.Plain.after)
-        p.journal.node p.first.value p.journal.entries (N.state p.node) };
+        p.journal.node p.first.value p.journal.entries (N.state p.node)
+        × (p.has_files ≡ true → ends_by_crash p.journal.node ≡ false) };
 }
 
 impl<N: Node> Passive<N>
@@ -52,18 +55,38 @@ where
     N::Plain: Answering,
     <N::Plain as Machine>::Ask: Drop,
 {
-    /// A node that did nothing yet.
+    /// A node that did nothing yet, and that ends with its process.
     pub fn new(alloc: Global, node: N, id: NodeId) -> Self
         ensures node { result.node ≡ node }
         ensures place { result.place ≡ id }
         ensures first { result.first ≡ N.state node }
         ensures entries { result.entries ≡ [] }
+        ensures has_files { result.has_files ≡ false }
     {
         let first = Snapshot::of(node.plain());
         Passive {
             node,
             journal: Journal::new(alloc, id),
             first,
+            has_files: false,
+        }
+    }
+
+    /// A node that did nothing yet in this process, over files that outlast it: a cell or a log.
+    pub fn over_files(alloc: Global, node: N, id: NodeId) -> Self
+        requires stays { ends_by_crash id ≡ false }
+        ensures node { result.node ≡ node }
+        ensures place { result.place ≡ id }
+        ensures first { result.first ≡ N.state node }
+        ensures entries { result.entries ≡ [] }
+        ensures has_files { result.has_files ≡ true }
+    {
+        let first = Snapshot::of(node.plain());
+        Passive {
+            node,
+            journal: Journal::new(alloc, id),
+            first,
+            has_files: true,
         }
     }
 
@@ -77,6 +100,34 @@ where
         let _rise = self.journal.entries();
         &self.journal
     }
+}
+
+/// Enters that a node crashed, and was started again over its files.
+fn started_again(journal: &mut Journal, at: Stamp, has_files: bool) -> Result<Entry, TurnFault>
+    ensures place { journal.new.node ≡ journal.old.node }
+    ensures entries { IfOk result (λ entry. journal.new.entries ≡ journal.old.entries ++ entry ∷ []) }
+    ensures entered { IfOk result (λ entry. entry.act ≡ Act.Crashed) }
+    ensures above { IfOk result (λ entry. at < entry.stamp) }
+    ensures files { OnOk result (has_files ≡ true) }
+    ensures refused { Refuses (back_refusal has_files journal.old.entries at) result }
+    ensures err { OnErr result (journal.new.entries ≡ journal.old.entries) }
+    ensures crashed { IfCrashed result (λ why. why ≡ Crash.Memory) }
+{
+    if !has_files {
+        return Err(TurnFault::Refused(Refusal::NotTaken));
+    }
+    let Some(stamp) = stamp_above(journal, at) else {
+        return Err(TurnFault::Refused(Refusal::StampsSpent));
+    };
+    journal.reserve()?;
+    journal.push_reserved(Entry {
+        stamp,
+        act: Act::Crashed,
+    });
+    Ok(Entry {
+        stamp,
+        act: Act::Crashed,
+    })
 }
 
 impl<N: Node> Acting for Passive<N>
@@ -95,7 +146,7 @@ where
 
     ghost works = { λ p. not (N.is_failed p.node) };
 
-    ghost refusal = { λ p at turn. passive_refusal N.Plain.unwrapped p.entries at turn };
+    ghost refusal = { λ p at turn. passive_refusal N.Plain.unwrapped p.has_files p.entries at turn };
 
     ghost wanted = { λ p turn newest. [] };
 
@@ -106,8 +157,12 @@ where
     }
 
     fn act(&mut self, alloc: Global, at: Stamp, turn: Turn) -> Result<Entry, TurnFault> {
-        let Turn::Ask { from, ask } = turn else {
-            return Err(TurnFault::Refused(Refusal::NotTaken));
+        let (from, ask) = match turn {
+            Turn::Ask { from, ask } => (from, ask),
+            Turn::Back => return started_again(&mut self.journal, at, self.has_files),
+            Turn::Hear { .. } => return Err(TurnFault::Refused(Refusal::NotTaken)),
+            Turn::Submit { .. } => return Err(TurnFault::Refused(Refusal::NotTaken)),
+            Turn::Begin => return Err(TurnFault::Refused(Refusal::NotTaken)),
         };
         let Some(own) = N::Plain::unwrap(ask) else {
             return Err(TurnFault::Refused(Refusal::OtherAsk));

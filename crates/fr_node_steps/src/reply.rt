@@ -21,15 +21,9 @@ pub enum Order {
     /// Where it stands.
     Last,
     /// What it asks in a turn.
-    Wants {
-        turn: u32,
-        newest: Option<Newest>,
-    },
+    Wants { turn: u32, newest: Option<Newest> },
     /// That it takes a turn, above a stamp.
-    Take {
-        at: Stamp,
-        turn: Turn,
-    },
+    Take { at: Stamp, turn: Turn },
 }
 
 /// What a process answers.

@@ -10,20 +10,11 @@ use fr_mutation::Batch;
 #[derive(Debug, Drop)]
 pub enum Turn {
     /// A node asks it this.
-    Ask {
-        from: NodeId,
-        ask: Ask,
-    },
+    Ask { from: NodeId, ask: Ask },
     /// It hears what a node told it.
-    Hear {
-        from: NodeId,
-        tell: Tell,
-    },
+    Hear { from: NodeId, tell: Tell },
     /// It takes a batch, whose version is to be a step above the one before.
-    Submit {
-        step: Step,
-        batch: Batch,
-    },
+    Submit { step: Step, batch: Batch },
     /// It begins.
     Begin,
     /// It was started again over its files.
