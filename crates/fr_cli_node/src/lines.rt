@@ -94,7 +94,11 @@ impl Lines {
                 None => part = part.with(rest, most)?,
             }
             if !self.fill(reader)? {
-                return Ok(if part.is_nothing() { Found::End } else { part.found() });
+                return Ok(if part.is_nothing() {
+                    Found::End
+                } else {
+                    part.found()
+                });
             }
         }
         Err(CliFault::Input)

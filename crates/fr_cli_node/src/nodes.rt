@@ -41,7 +41,14 @@ pub fn run_node<R: Read, W: Write>(
             index,
             shape,
             is_started,
-        } => serve_log(alloc, LogId { epoch, index }, shape, is_started, reader, writer),
+        } => serve_log(
+            alloc,
+            LogId { epoch, index },
+            shape,
+            is_started,
+            reader,
+            writer,
+        ),
         NodeWords::Sequencer { epoch, last } => serve_sequencer(alloc, epoch, last, reader, writer),
         NodeWords::Storage { tag, config } => {
             let config = config_in(host, alloc, config)?;
@@ -58,7 +65,13 @@ pub fn run_node<R: Read, W: Write>(
             let shape = shape_of(&config, shape);
             let map = config.map().copy()?;
             let proxy = Proxy::new(epoch, number, shape.m(), shape.k(), map, known);
-            serve(alloc, MAX_LINE, &mut ProxyNode::new(alloc, proxy), reader, writer)
+            serve(
+                alloc,
+                MAX_LINE,
+                &mut ProxyNode::new(alloc, proxy),
+                reader,
+                writer,
+            )
         }
         NodeWords::Recoverer {
             ballot,

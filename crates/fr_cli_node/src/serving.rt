@@ -155,11 +155,7 @@ fn put_answer<W: Write>(
 }
 
 /// Writes a text, and flushes it.
-fn put_text<W: Write>(
-    calls: &mut CallCounts,
-    writer: &mut W,
-    text: &[u8],
-) -> Result<(), NodeEnd>
+fn put_text<W: Write>(calls: &mut CallCounts, writer: &mut W, text: &[u8]) -> Result<(), NodeEnd>
     ensures fault { IfErr result (IsPutFault calls.new) }
     ensures done { OnOk result (calls.new ≡ calls.old) }
 {

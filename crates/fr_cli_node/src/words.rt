@@ -81,7 +81,14 @@ fn log_command<'a>(alloc: Global) -> Result<Command<'a>, Error> {
         .arg(number(alloc, "epoch", "The epoch of its generation").required(true))?
         .arg(few(alloc, "index", "Its number, 0 to 15", 0, 15).required(true))?
         .arg(few(alloc, "logs", "How many logs the generation has", 1, 16).required(true))?
-        .arg(few(alloc, "degree", "On how many of them each tag stands", 1, 16).required(true))?
+        .arg(few(
+            alloc,
+            "degree",
+            "On how many of them each tag stands",
+            1,
+            16,
+        )
+        .required(true))?
         .arg(start_word(alloc))?;
     Ok(log)
 }
@@ -90,7 +97,12 @@ fn sequencer_command<'a>(alloc: Global) -> Result<Command<'a>, Error> {
     let sequencer = Command::new(alloc, "sequencer")
         .about("The sequencer of a generation")
         .arg(number(alloc, "epoch", "The epoch of its generation").required(true))?
-        .arg(number(alloc, "last", "The version that it begins from, that of the mark").required(true))?;
+        .arg(number(
+            alloc,
+            "last",
+            "The version that it begins from, that of the mark",
+        )
+        .required(true))?;
     Ok(sequencer)
 }
 
@@ -107,9 +119,26 @@ fn proxy_command<'a>(alloc: Global) -> Result<Command<'a>, Error> {
         .about("A proxy of a generation")
         .arg(number(alloc, "epoch", "The epoch of its generation").required(true))?
         .arg(few(alloc, "number", "Its number, 0 to 15", 0, 15).required(true))?
-        .arg(number(alloc, "known", "The version before the first one of its generation").required(true))?
-        .arg(few(alloc, "logs", "How many logs the generation has, if not those of the config", 1, 16))?
-        .arg(few(alloc, "degree", "On how many of them each tag stands", 1, 16))?
+        .arg(number(
+            alloc,
+            "known",
+            "The version before the first one of its generation",
+        )
+        .required(true))?
+        .arg(few(
+            alloc,
+            "logs",
+            "How many logs the generation has, if not those of the config",
+            1,
+            16,
+        ))?
+        .arg(few(
+            alloc,
+            "degree",
+            "On how many of them each tag stands",
+            1,
+            16,
+        ))?
         .arg(config_word(alloc).required(true))?;
     Ok(proxy)
 }
@@ -118,8 +147,20 @@ fn recoverer_command<'a>(alloc: Global) -> Result<Command<'a>, Error> {
     let recoverer = Command::new(alloc, "recoverer")
         .about("The recoverer of a ballot")
         .arg(number(alloc, "ballot", "Its ballot").required(true))?
-        .arg(few(alloc, "logs", "How many logs the next generation is to have", 1, 16))?
-        .arg(few(alloc, "degree", "On how many of them each tag is to stand", 1, 16))?
+        .arg(few(
+            alloc,
+            "logs",
+            "How many logs the next generation is to have",
+            1,
+            16,
+        ))?
+        .arg(few(
+            alloc,
+            "degree",
+            "On how many of them each tag is to stand",
+            1,
+            16,
+        ))?
         .arg(config_word(alloc).required(true))?;
     Ok(recoverer)
 }
@@ -166,7 +207,8 @@ pub fn read_node_words(alloc: Global, matches: &ArgMatches<'_>) -> Result<NodeWo
     match read_kind(alloc, matches)? {
         Some(words) => Ok(words),
         None => {
-            let message = "a number is beyond its limits, or a word is there without the one that goes with it";
+            let message =
+                "a number is beyond its limits, or a word is there without the one that goes with it";
             let node = node_command(alloc)?;
             Err(bad_words(node, "fdbrec node", ErrorKind::ValueValidation, message)?)
         }
@@ -197,7 +239,10 @@ fn read_kind(alloc: Global, matches: &ArgMatches<'_>) -> Result<Option<NodeWords
 
 /// The shape that two words name, or that they name none; None where they are no shape.
 fn read_shape(matches: &ArgMatches<'_>) -> Option<Option<Shape>> {
-    match (matches.get_one::<u8>("logs"), matches.get_one::<u8>("degree")) {
+    match (
+        matches.get_one::<u8>("logs"),
+        matches.get_one::<u8>("degree"),
+    ) {
         (None, None) => Some(None),
         (Some(logs), Some(degree)) => match Shape::new(logs, degree) {
             Some(shape) => Some(Some(shape)),
@@ -268,7 +313,11 @@ fn read_storage(alloc: Global, matches: &ArgMatches<'_>) -> Result<Option<NodeWo
 fn read_proxy(alloc: Global, matches: &ArgMatches<'_>) -> Result<Option<NodeWords>, AllocError> {
     let config = read_config(alloc, matches)?;
     let number = matches.get_one::<u8>("number").unwrap_or(0);
-    match (read_epoch(matches), read_version(matches, "known"), read_shape(matches)) {
+    match (
+        read_epoch(matches),
+        read_version(matches, "known"),
+        read_shape(matches),
+    ) {
         (Some(epoch), Some(known), Some(shape)) => Ok(Some(NodeWords::Proxy {
             epoch,
             number,
@@ -280,7 +329,10 @@ fn read_proxy(alloc: Global, matches: &ArgMatches<'_>) -> Result<Option<NodeWord
     }
 }
 
-fn read_recoverer(alloc: Global, matches: &ArgMatches<'_>) -> Result<Option<NodeWords>, AllocError> {
+fn read_recoverer(
+    alloc: Global,
+    matches: &ArgMatches<'_>,
+) -> Result<Option<NodeWords>, AllocError> {
     let config = read_config(alloc, matches)?;
     let ballot = Ballot::new(matches.get_one::<u64>("ballot").unwrap_or(0));
     match (ballot, read_shape(matches)) {

@@ -1,2 +1,3 @@
+mod Asked
 mod Leads
 mod Told

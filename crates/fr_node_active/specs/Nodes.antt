@@ -1,15 +1,10 @@
 -- Nodes that ask others, each with its journal, as contracts see them.
-use Rattle.std.specs.Prelude.{ℕ, ◌≡◌, ◌⊎◌, ◌+◌, ◌%◌, ◌==◌, ◌++◌, nat_lt, Bool, true, false, not, List, [], ◌∷◌, Option, None, Some, find, if◌then◌else◌}
+use Rattle.std.specs.Prelude.{ℕ, ◌≡◌, ◌⊎◌, Bool, List, Option, None, Some, if◌then◌else◌}
 use Rattle.fr_base.specs.declared.place.NodeId.{NodeId}
-use Rattle.fr_base.specs.declared.place.NodeId.TheVariants as node
-use Rattle.fr_ask.specs.declared.ask.Ask.{Ask}
-use Rattle.fr_ask.specs.declared.ask.Ask.TheVariants as ask
-use Rattle.fr_log.specs.declared.ask.LogAsk.TheVariants as log
 use Rattle.fr_audit_journal.specs.declared.act.Entry.{Entry}
 use Rattle.fr_proxy.specs.declared.fault.SubmitFault.{SubmitFault}
 use Rattle.fr_proxy.specs.declared.fault.SubmitFault.TheVariants as submit
 use Rattle.fr_proxy.specs.Proxy.{ProxyState, submit_fault}
-use Rattle.fr_state.specs.Generations.{LogGeneration}
 use Rattle.fr_storage.specs.Server.{Server}
 use Rattle.fr_node_steps.specs.Passive.{are_spent}
 use Rattle.fr_node_steps.specs.declared.turn.Turn.{Turn}

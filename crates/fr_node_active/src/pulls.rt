@@ -61,11 +61,7 @@ fn add_peek(
 }
 
 /// What is asked for the mark of the newest epoch, if it is known and has logs.
-fn add_mark(
-    asks: &mut Vec<(NodeId, Ask)>,
-    newest: Option<Newest>,
-    turn: u32,
-) -> Result<(), Memory>
+fn add_mark(asks: &mut Vec<(NodeId, Ask)>, newest: Option<Newest>, turn: u32) -> Result<(), Memory>
     ensures { OnOk result (asks.new.items ≡ asks.old.items ++ mark_asks newest turn) }
 {
     if let Some(Newest { epoch, logs }) = newest {

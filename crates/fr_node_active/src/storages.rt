@@ -262,12 +262,7 @@ impl<S: ShardStore> Acting for StorageNode<S> {
         false
     }
 
-    fn wants(
-        &self,
-        alloc: Global,
-        turn: u32,
-        newest: Option<Newest>,
-    ) -> Result<Wants, TurnFault> {
+    fn wants(&self, alloc: Global, turn: u32, newest: Option<Newest>) -> Result<Wants, TurnFault> {
         Ok(Wants::from_vec(asks_at(alloc, &self.storage, turn, newest)?))
     }
 }

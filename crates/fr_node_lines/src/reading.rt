@@ -5,8 +5,9 @@ use crate::names::{self, name_of};
 use fr_ask::{Ask, Tell};
 use fr_base::{NodeId, Stamp};
 use fr_forms::fields::Fields;
-use fr_forms::names as forms;
-use fr_forms::{ScriptFault, read_ask, read_batch, read_node, read_step, read_tell};
+use fr_forms::{
+    ScriptFault, names as forms, read_ask, read_batch, read_node, read_step, read_tell,
+};
 use fr_mutation::Batch;
 use fr_node_steps::{Newest, Order, Turn};
 use serde_json::Value;
@@ -59,7 +60,7 @@ fn read_order(
         return Err(BadLine::Member(Member::Src));
     }
     let dest = at(Member::Dest, fields.take(names::DEST))?;
-    if dest.as_str() != Some(name_of(alloc, node)?.as_str()) {
+    if !is_text(&dest, name_of(alloc, node)?.as_str()) {
         return Err(BadLine::OtherNode);
     }
     let body = at(Member::Body, fields.take(names::BODY))?;
@@ -70,6 +71,14 @@ fn read_order(
         return Err(BadLine::Member(Member::Type));
     };
     read_kind(alloc, kind.as_str(), body)
+}
+
+/// Whether a value is this text.
+fn is_text(value: &Value, text: &str) -> bool {
+    match value.as_str() {
+        Some(found) => found == text,
+        None => false,
+    }
 }
 
 /// The type of a line, from its body.

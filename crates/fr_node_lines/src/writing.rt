@@ -7,9 +7,8 @@ use fr_ask::Last;
 use fr_audit_journal::Entry;
 use fr_base::{Memory, NodeId};
 use fr_forms::lists::write_all;
-use fr_forms::names as forms;
 use fr_forms::object::{Object, write_text};
-use fr_forms::{write_last, write_node};
+use fr_forms::{names as forms, write_last, write_node};
 use fr_node_steps::{Kind, Reply, Wants};
 use serde_json::Value;
 use std::alloc::Global;
@@ -86,11 +85,7 @@ fn type_of(kind: Kind) -> &'static str {
     }
 }
 
-fn with_wants(
-    alloc: Global,
-    body: Object,
-    wants: &Option<Wants>,
-) -> Result<Object, Memory> {
+fn with_wants(alloc: Global, body: Object, wants: &Option<Wants>) -> Result<Object, Memory> {
     match wants {
         Some(wants) => body.and(names::WANTS, write_all(alloc, wants.as_slice())),
         None => Ok(body),

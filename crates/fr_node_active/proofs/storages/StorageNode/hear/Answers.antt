@@ -9,13 +9,17 @@ use Rattle.fr_node_active.proofs.storages.StorageNode.hear.Goals as goal
 pub invariant_of-self-in_err-answered : goal.invariant_of-self-in_err-answered
 invariant_of-self-in_err-answered g c = λ over.
     let e : Entry = record { stamp = c.in-Some.stamp; act = act.Heard c.args.from c.args.tell c.in-Ok.taken None } in
-    let i = c.self.invariant over in
-    (c.in-Ok.ensures.works i.0, leads-entered StorageStep _ _ _ e _ _ i.1 (c.push_reserved.ensures.entries ∙ rw c.reserve.ensures.entries refl)
-    (refl, c.in-Ok.ensures.told i.0))
+    let i = c.self.invariant over in (
+      c.in-Ok.ensures.works i.0,
+      leads-entered StorageStep _ _ _ e _ _ i.1 (c.push_reserved.ensures.entries ∙ rw c.reserve.ensures.entries refl)
+          (refl, c.in-Ok.ensures.told i.0),
+    )
 
 pub invariant_of-self-2 : goal.invariant_of-self-2
 invariant_of-self-2 g c = λ over.
     let e : Entry = record { stamp = c.in-Some.stamp; act = act.Heard c.args.from c.args.tell c.in-Ok.taken None } in
-    let i = c.self.invariant over in
-    (c.in-Ok.ensures.works i.0, leads-entered StorageStep _ _ _ e _ _ i.1 (c.push_reserved.ensures.entries ∙ rw c.reserve.ensures.entries refl)
-    (refl, c.in-Ok.ensures.told i.0))
+    let i = c.self.invariant over in (
+      c.in-Ok.ensures.works i.0,
+      leads-entered StorageStep _ _ _ e _ _ i.1 (c.push_reserved.ensures.entries ∙ rw c.reserve.ensures.entries refl)
+          (refl, c.in-Ok.ensures.told i.0),
+    )
