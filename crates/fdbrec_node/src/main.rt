@@ -35,7 +35,7 @@ fn run_program<R: Read, W: Write>(
         Ok(node) => node,
         Err(error) => return show(alloc, error, writer),
     };
-    match run_node(rt, alloc, node, reader, writer) {
+    match run_node(rt, alloc, &node, reader, writer) {
         Ok(()) => Ending::Done(0),
         Err(NodeEnd::Command(fault)) => Ending::Fault(fault),
         Err(end) => Ending::Named(end.text(), end.status()),

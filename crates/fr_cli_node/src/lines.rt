@@ -1,5 +1,6 @@
 //! Lines of a reader.
-ghost use Rattle.std.specs.Prelude.{◌≤◌, length};
+ghost use Rattle.std.specs.Prelude.{◌≡◌, ◌≤◌, ◌⊎◌, length, IfErr, IfOk};
+ghost use Rattle.fr_cli_json.specs.declared.fault.CliFault.{CliFault};
 
 use fr_cli_json::CliFault;
 use std::alloc::Global;
@@ -28,7 +29,10 @@ struct Part {
 
 impl Part {
     /// With bytes more, where the line may have them.
-    fn with(self, bytes: &[u8], most: usize) -> Result<Self, CliFault> {
+    fn with(self, bytes: &[u8], most: usize) -> Result<Self, CliFault>
+        ensures fault { IfErr result (λ fault. fault ≡ CliFault.Memory) }
+        ensures few { IfOk result (λ part. length self.bytes.items ≤ most → length part.bytes.items ≤ most) }
+    {
         let mut part = self;
         let room = most.saturating_sub(part.bytes.len());
         if part.is_long || bytes.len() > room {
@@ -78,7 +82,9 @@ impl Lines {
         alloc: Global,
         reader: &mut R,
         most: usize,
-    ) -> Result<Found, CliFault> {
+    ) -> Result<Found, CliFault>
+        ensures fault { IfErr result (λ fault. (fault ≡ CliFault.Input) ⊎ (fault ≡ CliFault.Memory)) }
+    {
         let mut part = Part {
             bytes: Vec::new(alloc),
             is_long: false,
@@ -105,7 +111,9 @@ impl Lines {
     }
 
     /// Reads what comes next; false where there is no more.
-    fn fill<R: Read>(&mut self, reader: &mut R) -> Result<bool, CliFault> {
+    fn fill<R: Read>(&mut self, reader: &mut R) -> Result<bool, CliFault>
+        ensures fault { IfErr result (λ fault. (fault ≡ CliFault.Input) ⊎ (fault ≡ CliFault.Memory)) }
+    {
         let mut chunk = [0u8; READ_SIZE];
         for _turn in 0..u64::MAX {
             match reader.read(&mut chunk) {

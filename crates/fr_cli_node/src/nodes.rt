@@ -2,7 +2,7 @@
 use crate::fault::NodeEnd;
 use crate::serving::{MAX_LINE, serve};
 use crate::words::NodeWords;
-use fr_base::{Ballot, Bytes, Epoch, InMemory, LogId, NodeId, Shape, Tag, Version};
+use fr_base::{Ballot, Bytes, Epoch, InMemory, LogId, Memory, NodeId, Shape, Tag, Version};
 use fr_cli_json::CliFault;
 use fr_epoch::Recoverer;
 use fr_log::Log;
@@ -21,38 +21,24 @@ use std::io::{ErrorKind, Read, Write};
 pub fn run_node<R: Read, W: Write>(
     host: &HostRuntime,
     alloc: Global,
-    words: NodeWords,
+    words: &NodeWords,
     reader: &mut R,
     writer: &mut W,
 ) -> Result<(), NodeEnd> {
     match words {
-        NodeWords::Cell {
-            index,
-            config: Some(config),
-        } => {
-            let config = config_in(host, alloc, config)?;
-            serve_started_cell(alloc, index, &config, reader, writer)
-        }
-        NodeWords::Cell { index, .. } => {
-            serve_cell(alloc, index, Cell::new(alloc), reader, writer)
-        }
+        NodeWords::Cell { index, config } => cell(host, alloc, *index, config, reader, writer),
         NodeWords::Log {
             epoch,
             index,
             shape,
             is_started,
-        } => serve_log(
-            alloc,
-            LogId { epoch, index },
-            shape,
-            is_started,
-            reader,
-            writer,
-        ),
-        NodeWords::Sequencer { epoch, last } => serve_sequencer(alloc, epoch, last, reader, writer),
+        } => serve_log(alloc, *epoch, *index, shape, *is_started, reader, writer),
+        NodeWords::Sequencer { epoch, last } => {
+            serve_sequencer(alloc, *epoch, *last, reader, writer)
+        }
         NodeWords::Storage { tag, config } => {
-            let config = config_in(host, alloc, config)?;
-            serve_storage(alloc, tag, &config, reader, writer)
+            let config = config_in(host, alloc, config.as_str())?;
+            serve_storage(alloc, *tag, &config, reader, writer)
         }
         NodeWords::Proxy {
             epoch,
@@ -61,32 +47,24 @@ pub fn run_node<R: Read, W: Write>(
             shape,
             config,
         } => {
-            let config = config_in(host, alloc, config)?;
-            let shape = shape_of(&config, shape);
-            let map = config.map().copy()?;
-            let proxy = Proxy::new(epoch, number, shape.m(), shape.k(), map, known);
-            serve(
-                alloc,
-                MAX_LINE,
-                &mut ProxyNode::new(alloc, proxy),
-                reader,
-                writer,
-            )
+            let config = config_in(host, alloc, config.as_str())?;
+            let proxy = proxy_of(&config, *epoch, *number, *known, shape)?;
+            serve_proxy(alloc, proxy, reader, writer)
         }
         NodeWords::Recoverer {
             ballot,
             shape,
             config,
         } => {
-            let config = config_in(host, alloc, config)?;
-            serve_recoverer(alloc, ballot, shape, &config, reader, writer)
+            let config = config_in(host, alloc, config.as_str())?;
+            serve_recoverer(alloc, *ballot, shape, &config, reader, writer)
         }
     }
 }
 
 /// The config of a file.
-fn config_in(host: &HostRuntime, alloc: Global, name: String) -> Result<Config, NodeEnd> {
-    let text = match fs::read(host, name.as_str()) {
+fn config_in(host: &HostRuntime, alloc: Global, name: &str) -> Result<Config, NodeEnd> {
+    let text = match fs::read(host, name) {
         Ok(text) => text,
         Err(error) if error.kind() == ErrorKind::OutOfMemory => {
             return Err(NodeEnd::Command(CliFault::Memory));
@@ -101,13 +79,55 @@ fn config_in(host: &HostRuntime, alloc: Global, name: String) -> Result<Config, 
 }
 
 /// A shape, or that of the first generation.
-fn shape_of(config: &Config, shape: Option<Shape>) -> Shape {
+fn shape_of(config: &Config, shape: &Option<Shape>) -> Shape {
+    let _within = config.coordinators();
     match shape {
-        Some(shape) => shape,
+        Some(shape) => *shape,
         None => match Shape::new(config.logs(), config.degree()) {
             Some(shape) => shape,
             None => unreachable!(),
         },
+    }
+}
+
+/// A proxy of an epoch, of the shape of its generation, or of that of the first one.
+fn proxy_of(
+    config: &Config,
+    epoch: Epoch,
+    number: u8,
+    known: Version,
+    shape: &Option<Shape>,
+) -> Result<Proxy, Memory> {
+    let shape = shape_of(config, shape);
+    let map = config.map().copy()?;
+    Ok(Proxy::new(epoch, number, shape.m(), shape.k(), map, known))
+}
+
+fn serve_proxy<R: Read, W: Write>(
+    alloc: Global,
+    proxy: Proxy,
+    reader: &mut R,
+    writer: &mut W,
+) -> Result<(), NodeEnd> {
+    let mut proxy = ProxyNode::new(alloc, proxy);
+    serve(alloc, MAX_LINE, &mut proxy, reader, writer)
+}
+
+/// Serves a cell, as the world of a config starts with it where one is named, or fresh.
+fn cell<R: Read, W: Write>(
+    host: &HostRuntime,
+    alloc: Global,
+    index: u8,
+    config: &Option<String>,
+    reader: &mut R,
+    writer: &mut W,
+) -> Result<(), NodeEnd> {
+    match config {
+        Some(name) => {
+            let config = config_in(host, alloc, name.as_str())?;
+            serve_started_cell(alloc, index, &config, reader, writer)
+        }
+        None => serve_cell(alloc, index, Cell::new(alloc), reader, writer),
     }
 }
 
@@ -140,35 +160,52 @@ fn serve_cell<R: Read, W: Write>(
 /// Serves a log, as a world starts with it or fresh.
 fn serve_log<R: Read, W: Write>(
     alloc: Global,
-    id: LogId,
-    shape: Shape,
+    epoch: Epoch,
+    index: u8,
+    shape: &Shape,
     is_started: bool,
     reader: &mut R,
     writer: &mut W,
 ) -> Result<(), NodeEnd> {
     let log = if is_started {
-        started_log(alloc, id, shape)?
+        started_log(alloc, epoch, index, shape)?
     } else {
-        Log::new(alloc, id, shape.m(), shape.k())
+        fresh_log(alloc, epoch, index, shape)?
     };
-    let place = NodeId::Log {
-        epoch: id.epoch,
-        index: id.index,
-    };
+    let place = NodeId::Log { epoch, index };
     let mut log = Passive::new(alloc, InMemory::new(log), place);
     serve(alloc, MAX_LINE, &mut log, reader, writer)
 }
 
+/// A log that was never asked, of a generation of this shape.
+fn fresh_log(alloc: Global, epoch: Epoch, index: u8, shape: &Shape) -> Result<Log, NodeEnd> {
+    if index >= shape.m() {
+        return Err(NodeEnd::NotThere);
+    }
+    let _within = shape.k();
+    let id = LogId { epoch, index };
+    Ok(Log::new(alloc, id, shape.m(), shape.k()))
+}
+
 /// A log as a world starts with it, whose first generation has this shape.
-fn started_log(alloc: Global, id: LogId, shape: Shape) -> Result<Log, NodeEnd> {
-    if id.epoch != start::first_epoch() || id.index >= shape.m() {
+fn started_log(alloc: Global, epoch: Epoch, index: u8, shape: &Shape) -> Result<Log, NodeEnd> {
+    if epoch != start::first_epoch() {
         return Err(NodeEnd::NotThere);
     }
     let mut begins = Vec::with_capacity(alloc, 1)?;
     begins.push(Bytes::empty(alloc))?;
     match Config::new(1, shape.m(), shape.k(), begins, 1) {
-        Ok(config) => Ok(start::log(alloc, &config, id.index)?),
+        Ok(config) => first_log(alloc, &config, index),
         Err(_) => Err(NodeEnd::NotThere),
+    }
+}
+
+/// A log as the world of a config starts with it, where it has so many.
+fn first_log(alloc: Global, config: &Config, index: u8) -> Result<Log, NodeEnd> {
+    if index < config.logs() {
+        Ok(start::log(alloc, config, index)?)
+    } else {
+        Err(NodeEnd::NotThere)
     }
 }
 
@@ -201,13 +238,16 @@ fn serve_storage<R: Read, W: Write>(
 fn serve_recoverer<R: Read, W: Write>(
     alloc: Global,
     ballot: Ballot,
-    shape: Option<Shape>,
+    shape: &Option<Shape>,
     config: &Config,
     reader: &mut R,
     writer: &mut W,
 ) -> Result<(), NodeEnd> {
+    if ballot.epoch().is_none() {
+        return Err(NodeEnd::NotThere);
+    }
     let map = config.map().copy()?;
-    let recoverer = Recoverer::begin(alloc, ballot, config.coordinators(), map, shape);
-    let mut recoverer = RecovererNode::new(alloc, recoverer, shape);
+    let recoverer = Recoverer::begin(alloc, ballot, config.coordinators(), map, *shape);
+    let mut recoverer = RecovererNode::new(alloc, recoverer, *shape);
     serve(alloc, MAX_LINE, &mut recoverer, reader, writer)
 }
