@@ -46,6 +46,8 @@ abbrev pub EndsBy : (Crash → Type 0) → NodeEnd → Type 0
 EndsBy CanCrash (end.Command f) = ⊤
 EndsBy CanCrash end.NoConfig = ⊥
 EndsBy CanCrash end.NotThere = ⊥
+EndsBy CanCrash end.NoFile = ⊥
+EndsBy CanCrash end.Busy = ⊥
 EndsBy CanCrash (end.Crashed why) = IsEnd CanCrash why
 
 -- an answer is not written for want of memory, or where a call of the writer failed
@@ -53,4 +55,6 @@ abbrev pub IsPutFault : Counts → NodeEnd → Type 0
 IsPutFault calls (end.Command f) = (f ≡ cli.Output) × (0 < calls.failed_writes)
 IsPutFault calls end.NoConfig = ⊥
 IsPutFault calls end.NotThere = ⊥
+IsPutFault calls end.NoFile = ⊥
+IsPutFault calls end.Busy = ⊥
 IsPutFault calls (end.Crashed why) = why ≡ crash.Memory

@@ -1,14 +1,18 @@
 //! The nodes that words name.
+ghost use Rattle.std.specs.Prelude.{◌≡◌, false};
+ghost use Rattle.fr_runtime_housing.specs.Replays.{ends_by_crash};
+
 use crate::fault::NodeEnd;
+use crate::files::{cell_in, log_in};
 use crate::serving::{MAX_LINE, serve};
 use crate::words::NodeWords;
-use fr_base::{Ballot, Bytes, Epoch, InMemory, LogId, Memory, NodeId, Shape, Tag, Version};
+use fr_base::{Ballot, Bytes, Epoch, InMemory, LogId, Machine, Memory, Node, NodeId, Shape, Tag, Version};
 use fr_cli_json::CliFault;
 use fr_epoch::Recoverer;
 use fr_log::Log;
 use fr_node_active::{ProxyNode, RecovererNode, StorageNode};
 use fr_node_lines::{ScriptFault, read_config};
-use fr_node_steps::Passive;
+use fr_node_steps::{Answering, Passive};
 use fr_proxy::{Proxy, Sequencer};
 use fr_register::Cell;
 use fr_run_event::Config;
@@ -26,13 +30,38 @@ pub fn run_node<R: Read, W: Write>(
     writer: &mut W,
 ) -> Result<(), NodeEnd> {
     match words {
-        NodeWords::Cell { index, config } => cell(host, alloc, *index, config, reader, writer),
+        NodeWords::Cell {
+            index,
+            config,
+            folder: None,
+        } => cell(host, alloc, *index, config, reader, writer),
+        NodeWords::Cell {
+            index,
+            config,
+            folder: Some(folder),
+        } => {
+            let config = config_if(host, alloc, config)?;
+            let node = cell_in(host, alloc, folder.as_str(), *index, &config)?;
+            serve_kept(alloc, node, NodeId::Cell { index: *index }, reader, writer)
+        }
         NodeWords::Log {
             epoch,
             index,
             shape,
             is_started,
+            folder: None,
         } => serve_log(alloc, *epoch, *index, shape, *is_started, reader, writer),
+        NodeWords::Log {
+            epoch,
+            index,
+            shape,
+            is_started,
+            folder: Some(folder),
+        } => {
+            let (epoch, index) = (*epoch, *index);
+            let node = log_in(host, alloc, folder.as_str(), (epoch, index), shape, *is_started)?;
+            serve_kept(alloc, node, NodeId::Log { epoch, index }, reader, writer)
+        }
         NodeWords::Sequencer { epoch, last } => {
             serve_sequencer(alloc, *epoch, *last, reader, writer)
         }
@@ -207,6 +236,36 @@ fn first_log(alloc: Global, config: &Config, index: u8) -> Result<Log, NodeEnd> 
     } else {
         Err(NodeEnd::NotThere)
     }
+}
+
+/// The config of a file, where one is named.
+fn config_if(
+    host: &HostRuntime,
+    alloc: Global,
+    name: &Option<String>,
+) -> Result<Option<Config>, NodeEnd> {
+    match name {
+        Some(name) => Ok(Some(config_in(host, alloc, name.as_str())?)),
+        None => Ok(None),
+    }
+}
+
+/// Serves a node over its file.
+fn serve_kept<N: Node, R: Read, W: Write>(
+    alloc: Global,
+    node: N,
+    place: NodeId,
+    reader: &mut R,
+    writer: &mut W,
+) -> Result<(), NodeEnd>
+where
+    N::Plain: Answering,
+    <N::Plain as Machine>::Ask: Drop,
+    requires stays { ends_by_crash place ≡ false }
+    requires works { N.is_failed node ≡ false }
+{
+    let mut served = Passive::over_files(alloc, node, place);
+    serve(alloc, MAX_LINE, &mut served, reader, writer)
 }
 
 fn serve_sequencer<R: Read, W: Write>(

@@ -8,17 +8,20 @@ use std::alloc::{AllocError, Global};
 /// Which node the words name, and how it begins.
 #[derive(Debug, Drop, PartialEq, Eq)]
 pub enum NodeWords {
-    /// A coordinator's cell, as the world of a config starts with it, or a fresh one.
+    /// A coordinator's cell, as the world of a config starts with it, or a fresh one; over a file in a folder, or in
+    /// memory.
     Cell {
         index: u8,
         config: Option<String>,
+        folder: Option<String>,
     },
-    /// A log, which a world starts with, or a fresh one.
+    /// A log, which a world starts with, or a fresh one; over a file in a folder, or in memory.
     Log {
         epoch: Epoch,
         index: u8,
         shape: Shape,
         is_started: bool,
+        folder: Option<String>,
     },
     /// A sequencer, which gave this version last.
     Sequencer {
@@ -71,6 +74,7 @@ fn cell_command<'a>(alloc: Global) -> Result<Command<'a>, Error> {
         .about("A coordinator's cell")
         .arg(few(alloc, "index", "Its number, 0 to 8", 0, 8).required(true))?
         .arg(config_word(alloc).help("The file that holds the config of the world, with --start"))?
+        .arg(folder_word(alloc))?
         .arg(start_word(alloc))?;
     Ok(cell)
 }
@@ -89,6 +93,7 @@ fn log_command<'a>(alloc: Global) -> Result<Command<'a>, Error> {
             16,
         )
         .required(true))?
+        .arg(folder_word(alloc))?
         .arg(start_word(alloc))?;
     Ok(log)
 }
@@ -193,6 +198,22 @@ fn config_word<'a>(alloc: Global) -> Arg<'a> {
         .action(ArgAction::Set)
 }
 
+fn folder_word<'a>(alloc: Global) -> Arg<'a> {
+    Arg::new(alloc, "dir")
+        .long("dir")
+        .help("The folder of its file; else it is in memory")
+        .value_name("FOLDER")
+        .action(ArgAction::Set)
+}
+
+/// The name of the folder, where it is there.
+fn read_folder(alloc: Global, matches: &ArgMatches<'_>) -> Result<Option<String>, AllocError> {
+    match matches.get_str("dir") {
+        Some(name) => Ok(Some(String::from_str(alloc, name)?)),
+        None => Ok(None),
+    }
+}
+
 fn start_word<'a>(alloc: Global) -> Arg<'a> {
     Arg::new(alloc, "start")
         .long("start")
@@ -220,7 +241,7 @@ fn read_kind(alloc: Global, matches: &ArgMatches<'_>) -> Result<Option<NodeWords
         return read_cell(alloc, cell);
     }
     if let Some(log) = matches.subcommand_matches("log") {
-        return Ok(read_log(log));
+        return read_log(alloc, log);
     }
     if let Some(sequencer) = matches.subcommand_matches("sequencer") {
         return Ok(read_sequencer(sequencer));
@@ -255,31 +276,36 @@ fn read_shape(matches: &ArgMatches<'_>) -> Option<Option<Shape>> {
 /// A cell is as a world starts with it where both its config and `start` are there.
 fn read_cell(alloc: Global, matches: &ArgMatches<'_>) -> Result<Option<NodeWords>, AllocError> {
     let index = matches.get_one::<u8>("index").unwrap_or(0);
-    match (matches.get_str("config"), matches.get_flag("start")) {
-        (Some(name), true) => {
-            let config = Some(String::from_str(alloc, name)?);
-            Ok(Some(NodeWords::Cell { index, config }))
-        }
-        (None, false) => Ok(Some(NodeWords::Cell {
+    let folder = read_folder(alloc, matches)?;
+    let config = match matches.get_str("config") {
+        Some(name) => Some(String::from_str(alloc, name)?),
+        None => None,
+    };
+    if config.is_some() == matches.get_flag("start") {
+        Ok(Some(NodeWords::Cell {
             index,
-            config: None,
-        })),
-        _ => Ok(None),
+            config,
+            folder,
+        }))
+    } else {
+        Ok(None)
     }
 }
 
-fn read_log(matches: &ArgMatches<'_>) -> Option<NodeWords> {
+fn read_log(alloc: Global, matches: &ArgMatches<'_>) -> Result<Option<NodeWords>, AllocError> {
+    let folder = read_folder(alloc, matches)?;
     let index = matches.get_one::<u8>("index").unwrap_or(0);
-    let shape = read_shape(matches)??;
-    if index >= shape.m() {
-        return None;
+    let is_started = matches.get_flag("start");
+    match (read_epoch(matches), read_shape(matches)) {
+        (Some(epoch), Some(Some(shape))) if index < shape.m() => Ok(Some(NodeWords::Log {
+            epoch,
+            index,
+            shape,
+            is_started,
+            folder,
+        })),
+        _ => Ok(None),
     }
-    Some(NodeWords::Log {
-        epoch: read_epoch(matches)?,
-        index,
-        shape,
-        is_started: matches.get_flag("start"),
-    })
 }
 
 fn read_epoch(matches: &ArgMatches<'_>) -> Option<Epoch> {
