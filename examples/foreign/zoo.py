@@ -235,7 +235,7 @@ BUGS = {
         1,
         "tell differs at 83",
         '"peek" .. "records":[]',
-        "A log that answered `held` has the record at the next peek. (The `held` itself is right.)",
+        "A log that answered `held` has the record at the next peek.",
     ),
     "takes-a-push-after-its-lock": Bug(
         {"log": TakesAPushAfterItsLock},
