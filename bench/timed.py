@@ -1,0 +1,69 @@
+"""The program that bench/asks, bench/peek, bench/pops and bench/replay time. It is a crate that the gate leaves out, since
+it shows nothing that tests do not show: its files stand in bench/timing, each as NAME.rt.txt."""
+import os
+import shutil
+import subprocess
+import tempfile
+
+ROOT = os.path.dirname(os.path.dirname(os.path.realpath(__file__)))
+SOURCES = f"{ROOT}/bench/timing"
+LIBRARIES = "fr_base fr_mutation fr_undo fr_register fr_state fr_tags fr_log fr_ask fr_proxy fr_epoch fr_storage"
+LINE = f"timing: {LIBRARIES} fr_device fr_record_log fr_world anyhow"
+
+
+def below():
+    """The lines of crates.txt of all that the program stands on, by name."""
+    with open(f"{ROOT}/crates.txt", encoding="utf-8") as it:
+        lines = {line.partition(":")[0]: line for line in it.read().split("\n") if ":" in line}
+    found, todo = {}, LINE.split()[1:]
+    while todo:
+        name = todo.pop()
+        if name in lines and name not in found:
+            found[name] = lines[name]
+            todo += lines[name].split()[1:]
+    return found
+
+
+def copy(crate, room):
+    """Puts a crate's text as it stands now in the room, and what was proved of it here, unless the room has that."""
+    for part in ("src", "specs", "proofs"):
+        shutil.rmtree(f"{room}/crates/{crate}/{part}", ignore_errors=True)
+        if os.path.isdir(f"{ROOT}/crates/{crate}/{part}"):
+            shutil.copytree(f"{ROOT}/crates/{crate}/{part}", f"{room}/crates/{crate}/{part}")
+    proved = f"crates/{crate}/out/rlib"
+    if os.path.isdir(f"{ROOT}/{proved}") and not os.path.isdir(f"{room}/{proved}"):
+        shutil.copytree(f"{ROOT}/{proved}", f"{room}/{proved}")
+
+
+def folder_of(room):
+    return os.path.join(room, "crates", "timing")
+
+
+def room():
+    """The folder of the program, beside the temporary files, with all that it is built of."""
+    found = f"{tempfile.gettempdir()}/fdbrec_timing_{os.getuid()}"
+    os.makedirs(f"{found}/crates", mode=0o700, exist_ok=True)
+    if os.stat(found).st_uid != os.getuid():
+        raise SystemExit(f"{found} is somebody else's")
+    lines = below()
+    for crate in lines:
+        copy(crate, found)
+    sources = f"{folder_of(found)}/src"
+    shutil.rmtree(sources, ignore_errors=True)
+    for at, _, names in os.walk(SOURCES):
+        to = f"{sources}/{os.path.relpath(at, SOURCES)}"
+        os.makedirs(to, exist_ok=True)
+        for name in names:
+            shutil.copyfile(f"{at}/{name}", f"{to}/{name.removesuffix('.txt')}")
+    shutil.copyfile(f"{ROOT}/HANDLES", f"{found}/HANDLES")
+    with open(f"{found}/crates.txt", "w", encoding="utf-8") as it:
+        it.write("\n".join([*lines.values(), LINE]) + "\n")
+    return found
+
+
+def built():
+    """Builds the program, its proofs included, and returns where it is."""
+    crate = folder_of(room())
+    print(f"building {crate}, its proofs included", flush=True)
+    subprocess.run(["rt", "run"], cwd=crate, stdout=subprocess.DEVNULL, check=True)
+    return f"{crate}/out/timing"

@@ -1,0 +1,143 @@
+//! What `include/fdbrec.h` declares, name by name. docs/LIBRARY.md says what each call does, and what its caller owes;
+//! the crate `fdbrec` is these calls without `unsafe`.
+#![allow(non_camel_case_types)]
+
+/// A machine of the library. Only pointers to it are had; null is an empty one.
+#[repr(C)]
+pub struct fdbrec_part {
+    _none: [u8; 0],
+}
+
+pub const OK: u32 = 0;
+pub const MEMORY: u32 = 1;
+pub const EMPTY: u32 = 2;
+pub const SHORT: u32 = 3;
+pub const KIND: u32 = 4;
+pub const REFUSED: u32 = 5;
+pub const LIMIT: u32 = 6;
+pub const BAD_TEXT: u32 = 7;
+pub const UNTOLD: u32 = 8;
+pub const PART: u32 = 9;
+pub const TWO_VALUES: u32 = 10;
+pub const NONE: u32 = 11;
+
+extern "C" {
+    pub fn fdbrec_cell_new(of: *mut *mut fdbrec_part) -> u32;
+    pub fn fdbrec_log_new(of: *mut *mut fdbrec_part, epoch: u64, index: u8, m: u8, k: u8) -> u32;
+    pub fn fdbrec_sequencer_new(of: *mut *mut fdbrec_part, epoch: u64, last: u64) -> u32;
+    pub fn fdbrec_proxy_new(
+        of: *mut *mut fdbrec_part,
+        epoch: u64,
+        number: u8,
+        m: u8,
+        k: u8,
+        known: u64,
+        shards: *const u8,
+        shards_len: usize,
+    ) -> u32;
+    pub fn fdbrec_recoverer_new(
+        of: *mut *mut fdbrec_part,
+        ballot: u64,
+        coordinators: u8,
+        shards: *const u8,
+        shards_len: usize,
+        m: u8,
+        k: u8,
+    ) -> u32;
+    pub fn fdbrec_storage_new(of: *mut *mut fdbrec_part, tag: u8, state: *const u8, state_len: usize) -> u32;
+    pub fn fdbrec_store_new(of: *mut *mut fdbrec_part) -> u32;
+    pub fn fdbrec_ask(
+        of: *mut *mut fdbrec_part,
+        line: *const u8,
+        line_len: usize,
+        out: *mut u8,
+        out_len: usize,
+        len: *mut usize,
+    ) -> u32;
+    pub fn fdbrec_hear(
+        of: *mut *mut fdbrec_part,
+        line: *const u8,
+        line_len: usize,
+        out: *mut u8,
+        out_len: usize,
+        len: *mut usize,
+    ) -> u32;
+    pub fn fdbrec_submit(
+        of: *mut *mut fdbrec_part,
+        step: u64,
+        batch: *const u8,
+        batch_len: usize,
+        out: *mut u8,
+        out_len: usize,
+        len: *mut usize,
+    ) -> u32;
+    pub fn fdbrec_answer(of: *mut *mut fdbrec_part, out: *mut u8, out_len: usize, len: *mut usize) -> u32;
+    pub fn fdbrec_next(of: *mut *mut fdbrec_part, out: *mut u8, out_len: usize, len: *mut usize) -> u32;
+    pub fn fdbrec_last(of: *mut *mut fdbrec_part, out: *mut u8, out_len: usize, len: *mut usize) -> u32;
+    pub fn fdbrec_cell_read(
+        of: *mut *mut fdbrec_part,
+        ballot: u64,
+        number: *mut u64,
+        out: *mut u8,
+        out_len: usize,
+        len: *mut usize,
+    ) -> u32;
+    pub fn fdbrec_cell_answer(
+        of: *mut *mut fdbrec_part,
+        number: *mut u64,
+        out: *mut u8,
+        out_len: usize,
+        len: *mut usize,
+    ) -> u32;
+    pub fn fdbrec_cell_write(
+        of: *mut *mut fdbrec_part,
+        ballot: u64,
+        value: *const u8,
+        value_len: usize,
+        number: *mut u64,
+    ) -> u32;
+    pub fn fdbrec_log_push(
+        of: *mut *mut fdbrec_part,
+        epoch: u64,
+        prev: u64,
+        version: u64,
+        known: u64,
+        tag: u8,
+        batch: *const u8,
+        batch_len: usize,
+        held: *mut u64,
+    ) -> u32;
+    pub fn fdbrec_log_peek(
+        of: *mut *mut fdbrec_part,
+        epoch: u64,
+        tag: u8,
+        after: u64,
+        most: u8,
+        out: *mut u8,
+        out_len: usize,
+        len: *mut usize,
+        upto: *mut u64,
+        known: *mut u64,
+    ) -> u32;
+    pub fn fdbrec_log_answer(
+        of: *mut *mut fdbrec_part,
+        out: *mut u8,
+        out_len: usize,
+        len: *mut usize,
+        upto: *mut u64,
+        known: *mut u64,
+    ) -> u32;
+    pub fn fdbrec_store_apply(of: *mut *mut fdbrec_part, version: u64, batch: *const u8, batch_len: usize) -> u32;
+    pub fn fdbrec_store_undo(of: *mut *mut fdbrec_part, version: u64) -> u32;
+    pub fn fdbrec_store_forget(of: *mut *mut fdbrec_part, version: u64) -> u32;
+    pub fn fdbrec_store_get(
+        of: *mut *mut fdbrec_part,
+        key: *const u8,
+        key_len: usize,
+        out: *mut u8,
+        out_len: usize,
+        len: *mut usize,
+    ) -> u32;
+    pub fn fdbrec_audit(script: *const u8, script_len: usize, out: *mut u8, out_len: usize, len: *mut usize) -> u32;
+    pub fn fdbrec_free(of: *mut *mut fdbrec_part);
+}

@@ -1,0 +1,69 @@
+//! Calls whose answers are long, calls that are not done, and machines that go to another thread.
+use fdbrec::{
+    audit, Asked, Batch, Cell, Fault, Hears, Log, Machine, Mutation, Mutations, Promise, Proxy, Storage, Store,
+};
+use std::thread;
+
+const STATE: &str = r#"[{"epoch":257,"first":1,"k":1,"m":1,"seeded_to":0}]"#;
+
+/// A log of epoch 257 with its seed and its mark.
+fn begun() -> Log {
+    let mut log = Log::new(257, 0, 1, 1).unwrap();
+    log.ask(r#"{"log":{"seed":{"epoch":257,"first":1,"records":[],"seeded_to":0}}}"#).unwrap();
+    let mark = format!(r#"{{"bodies":[],"epoch":257,"known":0,"mark":{STATE},"prev":0,"version":1}}"#);
+    let held = log.ask(&format!(r#"{{"log":{{"push":{mark}}}}}"#)).unwrap();
+    assert_eq!(held, r#"{"log":{"held":{"version":1}}}"#);
+    log
+}
+
+#[test]
+fn long_answers_are_fetched() {
+    let long = vec![7; 4096];
+    let mut cell = Cell::new().unwrap();
+    cell.write(257, &long).unwrap();
+    assert_eq!(cell.read(513), Ok(Promise { written: 257, value: long.clone() }));
+    assert_eq!(cell.last().unwrap().len(), 4096 * 2 + r#"{"cell":{"promised":513,"value":"","written":257}}"#.len());
+    let mut store = Store::new().unwrap();
+    store.apply(1, &Batch::new().set(b"a", &long)).unwrap();
+    assert_eq!(store.get(b"a"), Ok(Some(long.clone())));
+    assert_eq!(store.get(b"b"), Ok(None));
+    let mut log = begun();
+    for version in 2..20 {
+        assert_eq!(log.push(257, version - 1, version, 1, 0, &Batch::new().set(b"a", &long)), Ok(version));
+    }
+    let peeked = log.peek(257, 0, 1, 100).unwrap();
+    assert_eq!((peeked.upto, peeked.known), (19, 1));
+    for (record, version) in peeked.records.zip(2..) {
+        assert_eq!(record.version, version);
+        let set = Mutation::Set { key: b"a", value: &long };
+        assert_eq!(Mutations::of(record.batch).collect::<Vec<_>>(), [set]);
+    }
+}
+
+#[test]
+fn what_is_not_done_says_why() {
+    assert_eq!(Log::new(255, 0, 1, 1).err(), Some(Fault::Limit));
+    assert_eq!(Storage::new(0, "[]").err(), Some(Fault::BadText));
+    let mut cell = Cell::new().unwrap();
+    cell.write(513, b"x").unwrap();
+    assert_eq!(cell.write(513, b"y"), Err(Fault::TwoValues));
+    assert_eq!(cell.read(257), Err(Fault::Refused));
+    assert_eq!(cell.answer().unwrap(), r#"{"cell":{"refused":{"promised":513}}}"#);
+    assert_eq!(cell.ask("{}"), Err(Fault::BadText));
+    assert_eq!(cell.ask(r#"{"log":{"lock":{"epoch":257}}}"#), Err(Fault::Kind));
+    let mut proxy = Proxy::new(257, 0, 1, 1, 0, r#"[""]"#).unwrap();
+    let too_many = (0..1001).fold(Batch::new(), |batch, _| batch.set(b"", b""));
+    assert_eq!(proxy.submit(1, &too_many).err(), Some(Fault::BadText));
+    proxy.submit(1, &Batch::new()).unwrap();
+    assert_eq!(proxy.submit(1, &Batch::new()).err(), Some(Fault::Refused));
+    assert_eq!(audit("no script"), Err(Fault::BadText));
+}
+
+#[test]
+fn machines_go_to_another_thread() {
+    let mut log = begun();
+    let mut log = thread::spawn(move || log.push(257, 1, 2, 1, 0, &Batch::new()).map(|_| log)).join().unwrap().unwrap();
+    assert_eq!(log.peek(257, 0, 1, 100).unwrap().upto, 2);
+    let mut proxy = Proxy::new(257, 0, 1, 1, 0, r#"[""]"#).unwrap();
+    assert_eq!(thread::spawn(move || proxy.next()).join().unwrap().unwrap(), "[]");
+}

@@ -1,0 +1,37 @@
+//! Bytes given to a caller.
+ghost use Rattle.std.specs.Prelude.{◌≡◌, ◌<◌, false, true, length, take};
+ghost use Rattle.fr_c.specs.Answers.{IsGiven, IsJson, IsShort};
+ghost use Rattle.fr_c.specs.Turns.{is_told, keeps, refuses};
+
+use crate::lines::write_said;
+use crate::status::{OK, SHORT, UNTOLD};
+use fr_part::Said;
+use std::alloc::Global;
+
+/// Copies bytes, if there is room for them, and says how many they are.
+pub fn give(bytes: &[u8], out: &mut [u8], len: &mut usize) -> bool
+    ensures given { result ≡ true → IsGiven bytes.now out.new len.new }
+    ensures short { result ≡ false → IsShort bytes.now out.new len.new }
+{
+    let size = bytes.len();
+    *len = size;
+    if size > out.len() {
+        return false;
+    }
+    out[..size].copy_from_slice(bytes);
+    true
+}
+
+/// Gives what a machine said in its last turn as a line of JSON.
+pub fn give_said(alloc: Global, said: &Said, out: &mut [u8], len: &mut usize) -> u32
+    ensures ok { result ≡ 0 → IsJson (take len.new out.new) }
+    ensures short { result ≡ 3 → length out.new < len.new }
+    ensures done { keeps result ≡ false }
+    ensures told { is_told result ≡ true }
+    ensures unrefused { refuses result ≡ false }
+{
+    match write_said(alloc, said) {
+        Ok(text) => if give(&text, out, len) { OK } else { SHORT },
+        Err(_) => UNTOLD,
+    }
+}

@@ -1,0 +1,89 @@
+//! A machine on the heap, as C holds it.
+ghost use Rattle.std.specs.Prelude.{◌≡◌};
+ghost use Rattle.std.specs.Coded.{coded_option};
+ghost use Rattle.std.specs.Option.{MatchOption};
+ghost use Rattle.std.specs.declared.option.Option.{Option};
+ghost use Rattle.std.specs.declared.option.Option.TheVariants.{None, Some};
+ghost use Rattle.fr_part.specs.declared.seat.Seat.{Seat};
+ghost use Rattle.fr_part.specs.contracts.seat.Seat.{the_row as seat_row};
+ghost use Rattle.fr_handle.specs.Held.{holds};
+
+use crate::lone::Lone;
+use fr_part::Seat;
+use std::alloc::Global;
+use std::marker::{Model, Send};
+
+/// Empty, or the only way to a machine. Null is an empty one.
+#[repr(C)]
+pub struct Handle {
+    at: *mut u8,
+    alloc: Global,
+    pub ghost value: { Option Seat } by { coded_option seat_row.coded },
+}
+
+impl Model for Handle {
+    ghost also_owns = { λ h. holds seat_row h.alloc h.at h.value };
+}
+
+impl Drop for Handle {
+    fn drop(self) {
+        drop(self.into_box());
+    }
+}
+
+impl Handle {
+    /// An empty handle.
+    pub fn none(alloc: Global) -> Handle
+        ensures { result.value ≡ None }
+    {
+        Handle {
+            at: std::ptr::null_mut(),
+            alloc,
+        }
+    }
+
+    /// The handle of a machine that is taken apart.
+    fn of_lone(lone: Lone<Seat, Global>) -> Handle
+        ensures { result.value ≡ Some lone.value }
+    {
+        let Lone { at, alloc } = lone;
+        Handle {
+            at: at as *mut u8,
+            alloc,
+        }
+    }
+
+    /// The machine of this handle, taken apart, if it is not empty.
+    fn into_lone(self) -> Option<Lone<Seat, Global>>
+        ensures { MatchOption result (self.value ≡ None) (λ lone. self.value ≡ Some lone.value) }
+    {
+        let Handle { at, alloc } = self;
+        if at.is_null() {
+            None
+        } else {
+            Some(Lone {
+                at: at as *mut Seat,
+                alloc,
+            })
+        }
+    }
+
+    /// The handle of this machine.
+    pub fn of(whole: Box<Seat, Global>) -> Handle
+        ensures { result.value ≡ Some whole.value }
+    {
+        Handle::of_lone(Lone::apart(whole))
+    }
+
+    /// The machine of this handle, if it is not empty.
+    pub fn into_box(self) -> Option<Box<Seat, Global>>
+        ensures { MatchOption result (self.value ≡ None) (λ whole. self.value ≡ Some whole.value) }
+    {
+        match self.into_lone() {
+            None => None,
+            Some(lone) => Some(lone.whole()),
+        }
+    }
+}
+
+unsafe impl Send for Handle {}

@@ -1,0 +1,6 @@
+pub mod Fault
+pub mod Hear
+pub mod Last
+pub mod Seat
+pub mod Store
+pub mod Turn

@@ -1,0 +1,73 @@
+//! Why a machine does not do as asked.
+ghost use Rattle.fr_part.specs.Fault.{of_submit, of_storage, of_store};
+ghost use Rattle.std.specs.Prelude.{◌≡◌};
+
+use fr_base::Memory as NoMemory;
+use fr_proxy::SubmitFault;
+use fr_storage::StorageFault;
+use fr_undo::StoreFault;
+use thiserror::Error;
+
+/// Why a machine does not do as asked. It is left as it was, but for `Part`.
+#[derive(Clone, Copy, Debug, PartialEq, Eq, Error)]
+pub enum PartFault {
+    /// Memory ran out.
+    #[error("out of memory")]
+    Memory,
+    /// Another kind of machine does that.
+    #[error("another kind of machine does that")]
+    Kind,
+    /// The machine refuses.
+    #[error("the machine refuses")]
+    Refused,
+    /// Memory ran out in a storage server that hears an answer. It took a front of the answer, or nothing of it.
+    #[error("out of memory amid an answer")]
+    Part,
+}
+
+impl From<NoMemory> for PartFault {
+    ghost use Rattle.std.specs.Prelude.{◌≡◌};
+    ghost use Rattle.fr_part.specs.declared.fault.PartFault.TheVariants.{Memory};
+
+    ghost from_gives = { λ _ fault. fault ≡ Memory };
+
+    fn from(_: NoMemory) -> PartFault {
+        PartFault::Memory
+    }
+}
+
+/// What the fault of a proxy is.
+pub(crate) fn of_submit(fault: SubmitFault) -> PartFault
+    ensures { result ≡ of_submit fault }
+{
+    match fault {
+        SubmitFault::TwoOpen => PartFault::Refused,
+        SubmitFault::Over => PartFault::Refused,
+        SubmitFault::Memory => PartFault::Memory,
+    }
+}
+
+/// What the fault of a storage server is.
+pub(crate) fn of_storage(fault: StorageFault) -> PartFault
+    ensures { result ≡ of_storage fault }
+{
+    match fault {
+        StorageFault::Older => PartFault::Refused,
+        StorageFault::Stranger => PartFault::Refused,
+        StorageFault::BelowFloor => PartFault::Refused,
+        StorageFault::NotMyGeneration => PartFault::Refused,
+        StorageFault::Hole => PartFault::Refused,
+        StorageFault::Store(_) => PartFault::Part,
+        StorageFault::BadState => PartFault::Part,
+    }
+}
+
+/// What the fault of a store in memory is.
+pub(crate) fn of_store(fault: StoreFault) -> PartFault
+    ensures { result ≡ of_store fault }
+{
+    match fault {
+        StoreFault::Memory => PartFault::Memory,
+        _ => PartFault::Refused,
+    }
+}

@@ -1,0 +1,232 @@
+//! Machines that hear tells: proxies, recoverers and storage servers.
+ghost use Rattle.std.specs.Prelude.{◌≡◌, ◌≢◌, ◌↔◌, ◌==◌, ◌∷◌, [], false, find, Some, None, Err, IfOk, IfErr, OnOk, OnErr};
+ghost use Rattle.std.specs.Option.{option_map};
+ghost use Rattle.fr_proxy.specs.Proxy as batches;
+ghost use Rattle.fr_epoch.specs.Asks as asked;
+ghost use Rattle.fr_epoch.specs.Hear as heard;
+ghost use Rattle.fr_storage.specs.Standing.{heard_of};
+ghost use Rattle.fr_part.specs.Hear.{after_told, asks_of, hears, pull_from, pull_of, standing, told_by, IsHeard, IsSubmitted, submit_fault, submits};
+ghost use Rattle.fr_part.specs.declared.fault.PartFault.TheVariants.{Kind, Part as PartOnly, Refused};
+
+use crate::asks::Asks;
+use crate::fault::{PartFault, of_storage, of_submit};
+use crate::part::Part;
+use crate::said::Heard;
+use fr_ask::{Ask, Tell};
+use fr_base::{Epoch, Memory, NodeId, Step, Tag};
+use fr_epoch::Recoverer;
+use fr_log::{LogAsk, LogTell};
+use fr_mutation::Batch;
+use fr_proxy::Proxy;
+use fr_state::Generation;
+use fr_storage::{Answer, Storage};
+use fr_undo::MapStore;
+use std::alloc::Global;
+
+impl Part {
+    /// Hears what a node tells. A proxy and a recoverer answer what they then ask, which was not asked before, and a
+    /// proxy what it says of its batch. Want of memory changes nothing but a storage server, which then has taken a
+    /// front of an answer, or nothing of it.
+    pub fn hear(&mut self, alloc: Global, from: NodeId, tell: Tell) -> Result<Heard, PartFault>
+        ensures heard { IfOk result (λ heard. IsHeard self.old from tell heard self.new) }
+        ensures err { IfErr result (λ fault. fault ≢ PartOnly → self.new ≡ self.old) }
+        ensures kind { result ≡ Err Kind ↔ hears self.old ≡ false }
+    {
+        match self {
+            Part::Cell(_) => Err(PartFault::Kind),
+            Part::Log(_) => Err(PartFault::Kind),
+            Part::Sequencer(_) => Err(PartFault::Kind),
+            Part::Proxy(proxy) => hear_proxy(alloc, proxy, from, &tell),
+            Part::Recoverer(recoverer) => hear_recoverer(alloc, recoverer, from, tell),
+            Part::Storage(storage) => hear_storage(alloc, storage, from, tell),
+            Part::Store(_) => Err(PartFault::Kind),
+        }
+    }
+
+    /// Takes a batch, whose version is to be this step above the one before: a proxy does, and asks for its number. What
+    /// is refused changes nothing.
+    pub fn submit(&mut self, alloc: Global, step: Step, batch: Batch) -> Result<Heard, PartFault>
+        ensures submitted { IfOk result (λ heard. IsSubmitted self.old step batch heard self.new) }
+        ensures err { OnErr result (self.new ≡ self.old) }
+        ensures kind { result ≡ Err Kind ↔ submits self.old ≡ false }
+        ensures refused { result ≡ Err Refused → submit_fault self.old ≢ None }
+    {
+        match self {
+            Part::Cell(_) => Err(PartFault::Kind),
+            Part::Log(_) => Err(PartFault::Kind),
+            Part::Sequencer(_) => Err(PartFault::Kind),
+            Part::Proxy(proxy) => submit_to(alloc, proxy, step, batch),
+            Part::Recoverer(_) => Err(PartFault::Kind),
+            Part::Storage(_) => Err(PartFault::Kind),
+            Part::Store(_) => Err(PartFault::Kind),
+        }
+    }
+
+    /// What it asks now: all asks of a proxy or of a recoverer whose tells are wanted, and a storage server's next one.
+    pub fn next(&self, alloc: Global) -> Result<Asks, PartFault>
+        ensures asks { IfOk result (λ asks. asks_of self.now ≡ Some asks) }
+        ensures kind { result ≡ Err Kind ↔ asks_of self.now ≡ None }
+    {
+        match self {
+            Part::Cell(_) => Err(PartFault::Kind),
+            Part::Log(_) => Err(PartFault::Kind),
+            Part::Sequencer(_) => Err(PartFault::Kind),
+            Part::Proxy(proxy) => match proxy.pending(alloc) {
+                Ok(asks) => Ok(Asks::from_vec(asks)),
+                Err(_) => Err(PartFault::Memory),
+            },
+            Part::Recoverer(recoverer) => match recoverer.pending(alloc) {
+                Ok(asks) => Ok(Asks::from_vec(asks)),
+                Err(_) => Err(PartFault::Memory),
+            },
+            Part::Storage(storage) => match pull_of(alloc, storage) {
+                Ok(asks) => Ok(Asks::from_vec(asks)),
+                Err(_) => Err(PartFault::Memory),
+            },
+            Part::Store(_) => Err(PartFault::Kind),
+        }
+    }
+}
+
+fn hear_proxy(
+    alloc: Global,
+    proxy: &mut Proxy,
+    from: NodeId,
+    tell: &Tell,
+) -> Result<Heard, PartFault>
+    ensures asks { IfOk result (λ heard. heard.asks ≡ batches.new_asks proxy.old from tell.now) }
+    ensures outcome { IfOk result (λ heard. heard.outcome ≡ Some (batches.outcome_of proxy.old from tell.now)) }
+    ensures state { OnOk result (proxy.new ≡ batches.after_hear proxy.old from tell.now) }
+    ensures err { OnErr result (proxy.new ≡ proxy.old) }
+    ensures kind { IfErr result (λ fault. fault ≢ Kind) }
+{
+    match proxy.hear(alloc, from, tell) {
+        Ok((outcome, asks)) => Ok(Heard {
+            asks: Asks::from_vec(asks),
+            outcome: Some(outcome),
+        }),
+        Err(_) => Err(PartFault::Memory),
+    }
+}
+
+fn hear_recoverer(
+    alloc: Global,
+    recoverer: &mut Recoverer,
+    from: NodeId,
+    tell: Tell,
+) -> Result<Heard, PartFault>
+    ensures asks { IfOk result (λ heard. heard.asks ≡ asked.new_asks recoverer.old from tell) }
+    ensures outcome { IfOk result (λ heard. heard.outcome ≡ None) }
+    ensures state { OnOk result (recoverer.new ≡ heard.after_hear recoverer.old from tell) }
+    ensures err { OnErr result (recoverer.new ≡ recoverer.old) }
+    ensures kind { IfErr result (λ fault. fault ≢ Kind) }
+{
+    match recoverer.hear(alloc, from, tell) {
+        Ok(asks) => Ok(Heard {
+            asks: Asks::from_vec(asks),
+            outcome: None,
+        }),
+        Err(_) => Err(PartFault::Memory),
+    }
+}
+
+/// What a log told a storage server, where it is something to it.
+fn told_by(from: NodeId, tell: Tell) -> Option<Answer>
+    ensures { option_map heard_of result ≡ told_by from tell }
+{
+    match from {
+        NodeId::Log { epoch, .. } => match tell {
+            Tell::Log(LogTell::Peeked(peeked)) => Some(Answer::Peeked(epoch, peeked)),
+            Tell::Log(LogTell::Marked { state }) => Some(Answer::Marked(state)),
+            _ => None,
+        },
+        _ => None,
+    }
+}
+
+fn hear_storage(
+    alloc: Global,
+    storage: &mut Storage<MapStore>,
+    from: NodeId,
+    tell: Tell,
+) -> Result<Heard, PartFault>
+    ensures asks { IfOk result (λ heard. heard.asks ≡ []) }
+    ensures outcome { IfOk result (λ heard. heard.outcome ≡ None) }
+    ensures state { OnOk result (standing storage.new ≡ after_told (standing storage.old) (told_by from tell)) }
+    ensures err { IfErr result (λ fault. fault ≢ PartOnly → storage.new ≡ storage.old) }
+    ensures kind { IfErr result (λ fault. fault ≢ Kind) }
+{
+    if let Some(answer) = told_by(from, tell) {
+        if let Err(fault) = storage.follow(alloc, answer) {
+            return Err(of_storage(fault));
+        }
+    }
+    Ok(Heard {
+        asks: Asks::none(alloc),
+        outcome: None,
+    })
+}
+
+fn submit_to(alloc: Global, proxy: &mut Proxy, step: Step, batch: Batch) -> Result<Heard, PartFault>
+    ensures asks { IfOk result (λ heard. heard.asks ≡ batches.number_ask proxy.old (batches.opened proxy.old step batch) ∷ []) }
+    ensures outcome { IfOk result (λ heard. heard.outcome ≡ None) }
+    ensures state { OnOk result (proxy.new ≡ batches.submitted proxy.old step batch) }
+    ensures err { OnErr result (proxy.new ≡ proxy.old) }
+    ensures kind { IfErr result (λ fault. fault ≢ Kind) }
+    ensures refused { result ≡ Err Refused → batches.submit_fault proxy.old ≢ None }
+{
+    let sequencer = NodeId::Sequencer {
+        epoch: proxy.epoch(),
+    };
+    let Ok(mut asks) = Vec::with_capacity(alloc, 1) else {
+        return Err(PartFault::Memory);
+    };
+    match proxy.submit(step, batch) {
+        Ok(ask) => {
+            asks.push_reserved((sequencer, ask));
+            Ok(Heard {
+                asks: Asks::from_vec(asks),
+                outcome: None,
+            })
+        }
+        Err(fault) => Err(of_submit(fault)),
+    }
+}
+
+/// What a storage server asks next: the first log of the next records' generation on which its tag stands, for them.
+fn pull_of(alloc: Global, storage: &Storage<MapStore>) -> Result<Vec<(NodeId, Ask)>, Memory>
+    ensures { IfOk result (λ asks. asks.items ≡ pull_of storage.now) }
+{
+    let tag = storage.tag();
+    let (epoch, ask) = storage.next_ask();
+    let source = of_epoch(storage.state().gens(), epoch);
+    pull_from(alloc, source, tag, ask)
+}
+
+/// What is asked for records of a tag: of a generation that is known.
+fn pull_from(
+    alloc: Global,
+    source: Option<Generation>,
+    tag: Tag,
+    ask: LogAsk,
+) -> Result<Vec<(NodeId, Ask)>, Memory>
+    ensures { IfOk result (λ asks. asks.items ≡ pull_from source tag ask) }
+{
+    let mut asks = Vec::new(alloc);
+    if let Some(source) = source {
+        let from = NodeId::Log {
+            epoch: source.epoch(),
+            index: tag.get() % source.m(),
+        };
+        asks.reserve(1)?;
+        asks.push_reserved((from, Ask::Log(ask)));
+    }
+    Ok(asks)
+}
+
+/// The generation of an epoch among these.
+fn of_epoch(gens: &[Generation], epoch: Epoch) -> Option<Generation>
+    ensures { result ≡ find (λ g. g.epoch == epoch) gens.now }
+{
+    gens.iter().copied().find(|g| g.epoch() == epoch)
+}

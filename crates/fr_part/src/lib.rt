@@ -1,0 +1,19 @@
+//! The machines of a cluster as one type, for who holds any of them in one place: a host, or a caller in another
+//! language.
+#![tactic(auto)]
+
+mod answering;
+mod asks;
+mod fault;
+mod hearing;
+mod part;
+mod said;
+mod seat;
+mod standing;
+mod stores;
+
+pub use asks::Asks;
+pub use fault::PartFault;
+pub use part::Part;
+pub use said::{Heard, Said};
+pub use seat::Seat;

@@ -1,0 +1,26 @@
+//! A machine of any kind.
+use fr_epoch::Recoverer;
+use fr_log::Log;
+use fr_proxy::{Proxy, Sequencer};
+use fr_register::Cell;
+use fr_storage::Storage;
+use fr_undo::MapStore;
+
+/// A machine of any kind.
+#[derive(Drop)]
+pub enum Part {
+    /// The cell of a coordinator.
+    Cell(Cell),
+    /// A log of a generation.
+    Log(Log),
+    /// The sequencer of an epoch.
+    Sequencer(Sequencer),
+    /// A proxy of a generation.
+    Proxy(Proxy),
+    /// A recoverer.
+    Recoverer(Recoverer),
+    /// The storage server of a shard, over a store in memory.
+    Storage(Storage<MapStore>),
+    /// A store in memory.
+    Store(MapStore),
+}

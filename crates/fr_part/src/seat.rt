@@ -1,0 +1,70 @@
+//! A machine with what it said in its last turn.
+ghost use Rattle.std.specs.Prelude.{◌≡◌, ◌≢◌, ◌↔◌, false, Some, None, Err, IfErr, OnOk, OnErr};
+ghost use Rattle.fr_part.specs.Hear.{hears, submits};
+ghost use Rattle.fr_part.specs.Seat.{seat_after, HearsIn, SubmitsIn};
+ghost use Rattle.fr_part.specs.Turn.{told_of};
+ghost use Rattle.fr_part.specs.declared.seat.Seat.{Seat};
+ghost use Rattle.fr_part.specs.declared.said.Said.TheVariants as said;
+ghost use Rattle.fr_part.specs.declared.fault.PartFault.TheVariants.{Kind, Part as PartOnly};
+
+use crate::fault::PartFault;
+use crate::part::Part;
+use crate::said::Said;
+use fr_ask::{Ask, Tell};
+use fr_base::{NodeId, Step};
+use fr_mutation::Batch;
+use std::alloc::Global;
+
+/// A machine with what it said in its last turn, which stays until the next: who could not take it may fetch it, and need
+/// not ask again.
+#[derive(Drop)]
+pub struct Seat {
+    pub part: Part,
+    pub said: Said,
+}
+
+impl Seat {
+    /// A machine that took no turn yet.
+    pub fn new(part: Part) -> Self
+        ensures part { result.part ≡ part }
+        ensures said { result.said ≡ said.Nothing }
+    {
+        Seat {
+            part,
+            said: Said::Nothing,
+        }
+    }
+
+    /// Answers an ask, and keeps the tell. Want of memory, and an ask of another kind, change nothing.
+    pub fn ask(&mut self, alloc: Global, ask: Ask) -> Result<(), PartFault>
+        ensures after { OnOk result (self.new ≡ seat_after self.old ask) }
+        ensures err { OnErr result (self.new ≡ self.old) }
+        ensures kind { result ≡ Err Kind ↔ told_of self.old.part ask ≡ None }
+    {
+        let tell = self.part.ask(alloc, ask)?;
+        self.said = Said::Told(tell);
+        Ok(())
+    }
+
+    /// Hears what a node tells, and keeps what it then asks, as [`Part::hear`] says it.
+    pub fn hear(&mut self, alloc: Global, from: NodeId, tell: Tell) -> Result<(), PartFault>
+        ensures heard { OnOk result (HearsIn self.old from tell self.new) }
+        ensures err { IfErr result (λ fault. fault ≢ PartOnly → self.new ≡ self.old) }
+        ensures kind { result ≡ Err Kind ↔ hears self.old.part ≡ false }
+    {
+        let heard = self.part.hear(alloc, from, tell)?;
+        self.said = Said::Heard(heard);
+        Ok(())
+    }
+
+    /// Takes a batch, and keeps what it then asks, as [`Part::submit`] says it.
+    pub fn submit(&mut self, alloc: Global, step: Step, batch: Batch) -> Result<(), PartFault>
+        ensures submitted { OnOk result (SubmitsIn self.old step batch self.new) }
+        ensures err { OnErr result (self.new ≡ self.old) }
+        ensures kind { result ≡ Err Kind ↔ submits self.old.part ≡ false }
+    {
+        let heard = self.part.submit(alloc, step, batch)?;
+        self.said = Said::Heard(heard);
+        Ok(())
+    }
+}
