@@ -36,6 +36,10 @@ class Member:
         """Whether it came to be: it said where it stands, and a recoverer that it begins."""
         return self.last is not None and (self.kind != "recoverer" or bool(self.entries))
 
+    def version(self):
+        """The version that a storage server had applied by its last answer."""
+        return self.last["storage"]["version"] if self.last else 0
+
     def journal(self):
         return {"entries": self.entries, "last": self.last, "node": self.name}
 
@@ -153,7 +157,7 @@ class Members:
         self.begin(it)
         body = {"type": "back", "at": self.stamp}
         if it.left and it.left[0]["type"] == "hear":
-            body["hearing"] = {"from": it.left[0]["from"], "tell": it.left[0]["tell"]}
+            body["hearing"] = {"from": it.left[0]["from"], "tell": it.left[0]["tell"], "version": it.version()}
         self.give(it, body)
         it.is_back = False
 

@@ -12,7 +12,7 @@ use Rattle.fr_node_lines.specs.declared.fault.LineFault.TheVariants as line
 use Rattle.fr_cli_node.specs.declared.fault.NodeEnd.{NodeEnd}
 use Rattle.fr_cli_node.specs.declared.fault.NodeEnd.TheVariants as end
 
--- why a node cannot go on, where it cannot: there is no memory, or it said so
+-- why a node cannot go on, if it cannot: there is no memory, or it said so
 abbrev pub crash_in_fault : LineFault → Option Crash
 crash_in_fault (line.Bad bad.Memory) = Some crash.Memory
 crash_in_fault (line.Bad b) = None
@@ -32,12 +32,12 @@ IfNone (Some why) P = ⊤
 abbrev pub UnlessEnded : Result Reply LineFault → Type 0 → Type 0
 UnlessEnded done P = IfNone (crash_in done) P
 
--- what is so where a line was not done, and the node can go on
+-- what is so if a line was not done, and the node can go on
 abbrev pub IfUndone : Result Reply LineFault → Type 0 → Type 0
 IfUndone (Ok reply) P = ⊤
 IfUndone (Err f) P = IfNone (crash_in_fault f) P
 
--- a process ends for want of memory, or by what its node can say
+-- a process ends out of memory, or by what its node can say
 abbrev pub IsEnd : (Crash → Type 0) → Crash → Type 0
 IsEnd CanCrash why = (why ≡ crash.Memory) ⊎ CanCrash why
 
@@ -46,11 +46,15 @@ abbrev pub EndsBy : (Crash → Type 0) → NodeEnd → Type 0
 EndsBy CanCrash (end.Command f) = ⊤
 EndsBy CanCrash end.NoConfig = ⊥
 EndsBy CanCrash end.NotThere = ⊥
+EndsBy CanCrash end.NoFile = ⊥
+EndsBy CanCrash end.Busy = ⊥
 EndsBy CanCrash (end.Crashed why) = IsEnd CanCrash why
 
--- an answer is not written for want of memory, or where a call of the writer failed
+-- an answer is not written out of memory, or if a call of the writer failed
 abbrev pub IsPutFault : Counts → NodeEnd → Type 0
 IsPutFault calls (end.Command f) = (f ≡ cli.Output) × (0 < calls.failed_writes)
 IsPutFault calls end.NoConfig = ⊥
 IsPutFault calls end.NotThere = ⊥
+IsPutFault calls end.NoFile = ⊥
+IsPutFault calls end.Busy = ⊥
 IsPutFault calls (end.Crashed why) = why ≡ crash.Memory

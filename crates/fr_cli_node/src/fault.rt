@@ -1,5 +1,5 @@
 //! Why a node's process ends early.
-use fr_base::Memory as NoMemory;
+use fr_base::{Memory as NoMemory, NodeFault};
 use fr_cli_json::CliFault;
 use fr_node_steps::Crash;
 use std::alloc::{AllocError, AllocFailed};
@@ -13,6 +13,10 @@ pub enum NodeEnd {
     NoConfig,
     /// The node is none of its config's world.
     NotThere,
+    /// Its file is not to be had.
+    NoFile,
+    /// Somebody else has its file.
+    Busy,
     /// The node cannot go on.
     Crashed(Crash),
 }
@@ -27,6 +31,9 @@ impl NodeEnd {
             NodeEnd::Command(CliFault::Output) => "output failed",
             NodeEnd::NoConfig => "no config: the file is missing, or holds none",
             NodeEnd::NotThere => "no such node: the config has fewer",
+            NodeEnd::NoFile =>
+                "no file: its folder is missing, or it is no plain file of ours, or a database's",
+            NodeEnd::Busy => "a file is in use",
             NodeEnd::Crashed(Crash::Memory) => "out of memory",
             NodeEnd::Crashed(Crash::Device) => "a file failed",
             NodeEnd::Crashed(Crash::Broken) => "a file is none of such a node",
@@ -38,7 +45,8 @@ impl NodeEnd {
     pub fn status(self) -> u8 {
         match self {
             NodeEnd::Command(fault) => fault.status(),
-            NodeEnd::NoConfig | NodeEnd::NotThere => 2,
+            NodeEnd::NoConfig | NodeEnd::NotThere | NodeEnd::NoFile => 2,
+            NodeEnd::Busy => 3,
             NodeEnd::Crashed(_) => 3,
         }
     }
@@ -65,5 +73,17 @@ impl<T: Drop> From<AllocFailed<T>> for NodeEnd {
 impl From<NoMemory> for NodeEnd {
     fn from(_: NoMemory) -> NodeEnd {
         NodeEnd::Command(CliFault::Memory)
+    }
+}
+
+impl From<NodeFault> for NodeEnd {
+    fn from(fault: NodeFault) -> NodeEnd {
+        match fault {
+            NodeFault::Memory => NodeEnd::Command(CliFault::Memory),
+            NodeFault::Broken => NodeEnd::Crashed(Crash::Broken),
+            NodeFault::Device | NodeFault::Full | NodeFault::Failed => {
+                NodeEnd::Crashed(Crash::Device)
+            }
+        }
     }
 }

@@ -3,6 +3,7 @@
 #![tactic(auto)]
 
 mod fault;
+mod files;
 mod lines;
 mod nodes;
 mod serving;

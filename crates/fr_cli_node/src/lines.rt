@@ -28,7 +28,7 @@ struct Part {
 }
 
 impl Part {
-    /// With bytes more, where the line may have them.
+    /// With bytes more, if the line may have them.
     fn with(self, bytes: &[u8], most: usize) -> Result<Self, CliFault>
         ensures fault { IfErr result (λ fault. fault ≡ CliFault.Memory) }
         ensures few { IfOk result (λ part. length self.bytes.items ≤ most → length part.bytes.items ≤ most) }
@@ -110,7 +110,7 @@ impl Lines {
         Err(CliFault::Input)
     }
 
-    /// Reads what comes next; false where there is no more.
+    /// Reads what comes next; false if there is no more.
     fn fill<R: Read>(&mut self, reader: &mut R) -> Result<bool, CliFault>
         ensures fault { IfErr result (λ fault. (fault ≡ CliFault.Input) ⊎ (fault ≡ CliFault.Memory)) }
     {

@@ -1,18 +1,28 @@
 //! The nodes that words name.
+ghost use Rattle.std.specs.Prelude.{◌≡◌, false};
+ghost use Rattle.fr_runtime_housing.specs.Replays.{ends_by_crash};
+
 use crate::fault::NodeEnd;
+use crate::files::{cell_device, cell_over, log_device, log_over, storage_over, store_files};
 use crate::serving::{MAX_LINE, serve};
 use crate::words::NodeWords;
-use fr_base::{Ballot, Bytes, Epoch, InMemory, LogId, Memory, NodeId, Shape, Tag, Version};
+use fr_base::{
+    Ballot, Bytes, Epoch, InMemory, LogId, Machine, Memory, Node, NodeId, Shape, Tag, Version,
+};
 use fr_cli_json::CliFault;
 use fr_epoch::Recoverer;
 use fr_log::Log;
 use fr_node_active::{ProxyNode, RecovererNode, StorageNode};
 use fr_node_lines::{ScriptFault, read_config};
-use fr_node_steps::Passive;
+use fr_node_steps::{Answering, Passive};
 use fr_proxy::{Proxy, Sequencer};
 use fr_register::Cell;
 use fr_run_event::Config;
+use fr_sql_rows::FaithfulDisk;
+use fr_storage::Storage;
+use fr_undo::ShardStore;
 use fr_world_nodes::start;
+use sqlite_disk::Files;
 use std::alloc::Global;
 use std::fs;
 use std::io::{ErrorKind, Read, Write};
@@ -26,19 +36,50 @@ pub fn run_node<R: Read, W: Write>(
     writer: &mut W,
 ) -> Result<(), NodeEnd> {
     match words {
-        NodeWords::Cell { index, config } => cell(host, alloc, *index, config, reader, writer),
+        NodeWords::Cell {
+            index,
+            config,
+            folder: None,
+        } => cell(host, alloc, *index, config, reader, writer),
+        NodeWords::Cell {
+            index,
+            config,
+            folder: Some(folder),
+        } => {
+            let folder = folder.as_str();
+            cell_in(host, alloc, folder, *index, config, reader, writer)
+        }
         NodeWords::Log {
             epoch,
             index,
             shape,
             is_started,
+            folder: None,
         } => serve_log(alloc, *epoch, *index, shape, *is_started, reader, writer),
+        NodeWords::Log {
+            epoch,
+            index,
+            shape,
+            is_started,
+            folder: Some(folder),
+        } => {
+            let id = LogId {
+                epoch: *epoch,
+                index: *index,
+            };
+            let folder = folder.as_str();
+            log_in(host, alloc, folder, id, shape, *is_started, reader, writer)
+        }
         NodeWords::Sequencer { epoch, last } => {
             serve_sequencer(alloc, *epoch, *last, reader, writer)
         }
-        NodeWords::Storage { tag, config } => {
+        NodeWords::Storage {
+            tag,
+            config,
+            folder,
+        } => {
             let config = config_in(host, alloc, config.as_str())?;
-            serve_storage(alloc, *tag, &config, reader, writer)
+            storage(host, alloc, *tag, &config, folder, reader, writer)
         }
         NodeWords::Proxy {
             epoch,
@@ -113,7 +154,7 @@ fn serve_proxy<R: Read, W: Write>(
     serve(alloc, MAX_LINE, &mut proxy, reader, writer)
 }
 
-/// Serves a cell, as the world of a config starts with it where one is named, or fresh.
+/// Serves a cell, as the world of a config starts with it if one is named, or fresh.
 fn cell<R: Read, W: Write>(
     host: &HostRuntime,
     alloc: Global,
@@ -200,13 +241,90 @@ fn started_log(alloc: Global, epoch: Epoch, index: u8, shape: &Shape) -> Result<
     }
 }
 
-/// A log as the world of a config starts with it, where it has so many.
+/// A log as the world of a config starts with it, if it has so many.
 fn first_log(alloc: Global, config: &Config, index: u8) -> Result<Log, NodeEnd> {
     if index < config.logs() {
         Ok(start::log(alloc, config, index)?)
     } else {
         Err(NodeEnd::NotThere)
     }
+}
+
+/// The config of a file, if one is named.
+fn config_if(
+    host: &HostRuntime,
+    alloc: Global,
+    name: &Option<String>,
+) -> Result<Option<Config>, NodeEnd> {
+    match name {
+        Some(name) => Ok(Some(config_in(host, alloc, name.as_str())?)),
+        None => Ok(None),
+    }
+}
+
+/// Serves a cell over its file in a folder, as the world of a config starts with it if one is named.
+fn cell_in<R: Read, W: Write>(
+    host: &HostRuntime,
+    alloc: Global,
+    folder: &str,
+    index: u8,
+    config: &Option<String>,
+    reader: &mut R,
+    writer: &mut W,
+) -> Result<(), NodeEnd> {
+    let config = config_if(host, alloc, config)?;
+    if !has_cell(&config, index) {
+        return Err(NodeEnd::NotThere);
+    }
+    let device = cell_device(host, alloc, folder, index)?;
+    let node = cell_over(alloc, device, &config)?;
+    serve_kept(alloc, node, NodeId::Cell { index }, reader, writer)
+}
+
+/// Whether a config, if there is one, has so many cells.
+fn has_cell(config: &Option<Config>, index: u8) -> bool {
+    match config {
+        Some(config) => index < config.coordinators(),
+        None => true,
+    }
+}
+
+/// Serves a log over its file in a folder, as a world starts with it or fresh.
+fn log_in<R: Read, W: Write>(
+    host: &HostRuntime,
+    alloc: Global,
+    folder: &str,
+    id: LogId,
+    shape: &Shape,
+    is_started: bool,
+    reader: &mut R,
+    writer: &mut W,
+) -> Result<(), NodeEnd> {
+    let LogId { epoch, index } = id;
+    if index >= shape.m() || is_started && epoch != start::first_epoch() {
+        return Err(NodeEnd::NotThere);
+    }
+    let device = log_device(host, alloc, folder, &id)?;
+    let node = log_over(alloc, device, id, shape, is_started)?;
+    serve_kept(alloc, node, NodeId::Log { epoch, index }, reader, writer)
+}
+
+/// Serves a node over its file.
+fn serve_kept<N: Node + Drop, R: Read, W: Write>(
+    alloc: Global,
+    node: N,
+    place: NodeId,
+    reader: &mut R,
+    writer: &mut W,
+) -> Result<(), NodeEnd>
+where
+    N::Plain: Answering,
+    <N::Plain as Machine>::Ask: Drop,
+    requires stays { ends_by_crash place ≡ false }
+    requires works { N.is_failed node ≡ false }
+{
+    let mut served = Passive::over_files(alloc, node, place);
+    serve(alloc, MAX_LINE, &mut served, reader, writer)
 }
 
 fn serve_sequencer<R: Read, W: Write>(
@@ -221,17 +339,55 @@ fn serve_sequencer<R: Read, W: Write>(
     serve(alloc, MAX_LINE, &mut sequencer, reader, writer)
 }
 
-fn serve_storage<R: Read, W: Write>(
+/// Serves the storage server of a tag, over files in a folder if one is named, else in memory.
+fn storage<R: Read, W: Write>(
+    host: &HostRuntime,
     alloc: Global,
     tag: Tag,
     config: &Config,
+    folder: &Option<String>,
     reader: &mut R,
     writer: &mut W,
 ) -> Result<(), NodeEnd> {
     if usize::from(tag.get()) >= config.map().begins().len() {
         return Err(NodeEnd::NotThere);
     }
-    let mut storage = StorageNode::new(alloc, start::storage(alloc, config, tag)?);
+    match folder {
+        Some(folder) => {
+            let files = store_files(host, alloc, folder.as_str(), tag)?;
+            storage_in(alloc, files, tag, config, reader, writer)
+        }
+        None => {
+            let storage = start::storage(alloc, config, tag)?;
+            serve_storage(alloc, storage, false, reader, writer)
+        }
+    }
+}
+
+/// Serves the storage server of a tag over its files.
+fn storage_in<D: FaithfulDisk + Drop, R: Read, W: Write>(
+    alloc: Global,
+    files: Files<D>,
+    tag: Tag,
+    config: &Config,
+    reader: &mut R,
+    writer: &mut W,
+) -> Result<(), NodeEnd> {
+    let storage = storage_over(alloc, files, tag, config)?;
+    serve_storage(alloc, storage, true, reader, writer)
+}
+
+/// Serves a storage server, over a store that outlasts the process if it has files.
+fn serve_storage<S: ShardStore + Drop, R: Read, W: Write>(
+    alloc: Global,
+    storage: Storage<S>,
+    has_files: bool,
+    reader: &mut R,
+    writer: &mut W,
+) -> Result<(), NodeEnd>
+    requires works { storage.failed ≡ false }
+{
+    let mut storage = StorageNode::new(alloc, storage, has_files);
     serve(alloc, MAX_LINE, &mut storage, reader, writer)
 }
 

@@ -37,7 +37,7 @@ pub fn serve<T: Acting, R: Read, W: Write>(
     serve_counted(alloc, most, &mut calls, node, reader, writer)
 }
 
-/// As [`serve`], with the calls of the writer counted in `calls`, which has none yet: `Output` is answered only where a
+/// As [`serve`], with the calls of the writer counted in `calls`, which has none yet: `Output` is answered only if a
 /// write or a flush failed.
 pub fn serve_counted<T: Acting, R: Read, W: Write>(
     alloc: Global,
@@ -110,7 +110,7 @@ fn do_line<T: Acting>(
     }
 }
 
-/// Why a node cannot go on, where it cannot.
+/// Why a node cannot go on, if it cannot.
 fn crash_of(done: &Result<Reply, LineFault>) -> Option<Crash>
     ensures { result ≡ crash_in done.now }
 {
@@ -136,7 +136,7 @@ fn text_of(
     }
 }
 
-/// Writes an answer, and flushes it. Where there is no memory for its text, the process ends.
+/// Writes an answer, and flushes it. If there is no memory for its text, the process ends.
 fn put_answer<W: Write>(
     alloc: Global,
     calls: &mut CallCounts,

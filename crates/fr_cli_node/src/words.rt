@@ -8,27 +8,31 @@ use std::alloc::{AllocError, Global};
 /// Which node the words name, and how it begins.
 #[derive(Debug, Drop, PartialEq, Eq)]
 pub enum NodeWords {
-    /// A coordinator's cell, as the world of a config starts with it, or a fresh one.
+    /// A coordinator's cell, as the world of a config starts with it, or a fresh one; over a file in a folder, or in
+    /// memory.
     Cell {
         index: u8,
         config: Option<String>,
+        folder: Option<String>,
     },
-    /// A log, which a world starts with, or a fresh one.
+    /// A log, which a world starts with, or a fresh one; over a file in a folder, or in memory.
     Log {
         epoch: Epoch,
         index: u8,
         shape: Shape,
         is_started: bool,
+        folder: Option<String>,
     },
     /// A sequencer, which gave this version last.
     Sequencer {
         epoch: Epoch,
         last: Version,
     },
-    /// A storage server, as a world starts with it.
+    /// A storage server, as a world starts with it; over a store in files in a folder, or in memory.
     Storage {
         tag: Tag,
         config: String,
+        folder: Option<String>,
     },
     /// A proxy of an epoch, of the shape of its generation, or of that of the first one.
     Proxy {
@@ -38,7 +42,7 @@ pub enum NodeWords {
         shape: Option<Shape>,
         config: String,
     },
-    /// A recoverer, with the shape of the generation that it is to open, where it is given one.
+    /// A recoverer, with the shape of the generation that it is to open, if one is given.
     Recoverer {
         ballot: Ballot,
         shape: Option<Shape>,
@@ -60,7 +64,7 @@ pub fn node_command<'a>(alloc: Global) -> Result<Command<'a>, Error> {
     with(node, recoverer_command(alloc))
 }
 
-/// A command with one that stands below it.
+/// A command with one that is below it.
 fn with<'a>(above: Command<'a>, below: Result<Command<'a>, Error>) -> Result<Command<'a>, Error> {
     let below = below?;
     Ok(above.subcommand(below)?)
@@ -71,6 +75,7 @@ fn cell_command<'a>(alloc: Global) -> Result<Command<'a>, Error> {
         .about("A coordinator's cell")
         .arg(few(alloc, "index", "Its number, 0 to 8", 0, 8).required(true))?
         .arg(config_word(alloc).help("The file that holds the config of the world, with --start"))?
+        .arg(folder_word(alloc))?
         .arg(start_word(alloc))?;
     Ok(cell)
 }
@@ -84,11 +89,12 @@ fn log_command<'a>(alloc: Global) -> Result<Command<'a>, Error> {
         .arg(few(
             alloc,
             "degree",
-            "On how many of them each tag stands",
+            "On how many of the logs each tag is",
             1,
             16,
         )
         .required(true))?
+        .arg(folder_word(alloc))?
         .arg(start_word(alloc))?;
     Ok(log)
 }
@@ -110,7 +116,8 @@ fn storage_command<'a>(alloc: Global) -> Result<Command<'a>, Error> {
     let storage = Command::new(alloc, "storage")
         .about("A storage server")
         .arg(few(alloc, "tag", "Its tag, 0 to 31", 0, 31).required(true))?
-        .arg(config_word(alloc).required(true))?;
+        .arg(config_word(alloc).required(true))?
+        .arg(folder_word(alloc))?;
     Ok(storage)
 }
 
@@ -135,7 +142,7 @@ fn proxy_command<'a>(alloc: Global) -> Result<Command<'a>, Error> {
         .arg(few(
             alloc,
             "degree",
-            "On how many of them each tag stands",
+            "On how many of the logs each tag is",
             1,
             16,
         ))?
@@ -157,7 +164,7 @@ fn recoverer_command<'a>(alloc: Global) -> Result<Command<'a>, Error> {
         .arg(few(
             alloc,
             "degree",
-            "On how many of them each tag is to stand",
+            "On how many of the logs each tag is to be",
             1,
             16,
         ))?
@@ -193,6 +200,22 @@ fn config_word<'a>(alloc: Global) -> Arg<'a> {
         .action(ArgAction::Set)
 }
 
+fn folder_word<'a>(alloc: Global) -> Arg<'a> {
+    Arg::new(alloc, "dir")
+        .long("dir")
+        .help("The folder of its file, which is there; without it the node is in memory")
+        .value_name("DIR")
+        .action(ArgAction::Set)
+}
+
+/// The name of the folder, if it is there.
+fn read_folder(alloc: Global, matches: &ArgMatches<'_>) -> Result<Option<String>, AllocError> {
+    match matches.get_str("dir") {
+        Some(name) => Ok(Some(String::from_str(alloc, name)?)),
+        None => Ok(None),
+    }
+}
+
 fn start_word<'a>(alloc: Global) -> Arg<'a> {
     Arg::new(alloc, "start")
         .long("start")
@@ -201,8 +224,8 @@ fn start_word<'a>(alloc: Global) -> Arg<'a> {
 }
 
 /// Reads which node the words of `node` name. What is left to be refused is a number that is none of its type, a degree
-/// above the number of logs, one of these two without the other, and a cell's start without its config or the other way
-/// round.
+/// above the number of logs, and one of these two without the other. So is a cell's start without its config, or its
+/// config without a start.
 pub fn read_node_words(alloc: Global, matches: &ArgMatches<'_>) -> Result<NodeWords, Error> {
     match read_kind(alloc, matches)? {
         Some(words) => Ok(words),
@@ -220,7 +243,7 @@ fn read_kind(alloc: Global, matches: &ArgMatches<'_>) -> Result<Option<NodeWords
         return read_cell(alloc, cell);
     }
     if let Some(log) = matches.subcommand_matches("log") {
-        return Ok(read_log(log));
+        return read_log(alloc, log);
     }
     if let Some(sequencer) = matches.subcommand_matches("sequencer") {
         return Ok(read_sequencer(sequencer));
@@ -237,7 +260,7 @@ fn read_kind(alloc: Global, matches: &ArgMatches<'_>) -> Result<Option<NodeWords
     }
 }
 
-/// The shape that two words name, or that they name none; None where they are no shape.
+/// The shape that two words name, or that they name none; None if they are no shape.
 fn read_shape(matches: &ArgMatches<'_>) -> Option<Option<Shape>> {
     match (
         matches.get_one::<u8>("logs"),
@@ -252,34 +275,39 @@ fn read_shape(matches: &ArgMatches<'_>) -> Option<Option<Shape>> {
     }
 }
 
-/// A cell is as a world starts with it where both its config and `start` are there.
+/// A cell is as a world starts with it if both its config and `start` are there.
 fn read_cell(alloc: Global, matches: &ArgMatches<'_>) -> Result<Option<NodeWords>, AllocError> {
     let index = matches.get_one::<u8>("index").unwrap_or(0);
-    match (matches.get_str("config"), matches.get_flag("start")) {
-        (Some(name), true) => {
-            let config = Some(String::from_str(alloc, name)?);
-            Ok(Some(NodeWords::Cell { index, config }))
-        }
-        (None, false) => Ok(Some(NodeWords::Cell {
+    let folder = read_folder(alloc, matches)?;
+    let config = match matches.get_str("config") {
+        Some(name) => Some(String::from_str(alloc, name)?),
+        None => None,
+    };
+    if config.is_some() == matches.get_flag("start") {
+        Ok(Some(NodeWords::Cell {
             index,
-            config: None,
-        })),
-        _ => Ok(None),
+            config,
+            folder,
+        }))
+    } else {
+        Ok(None)
     }
 }
 
-fn read_log(matches: &ArgMatches<'_>) -> Option<NodeWords> {
+fn read_log(alloc: Global, matches: &ArgMatches<'_>) -> Result<Option<NodeWords>, AllocError> {
+    let folder = read_folder(alloc, matches)?;
     let index = matches.get_one::<u8>("index").unwrap_or(0);
-    let shape = read_shape(matches)??;
-    if index >= shape.m() {
-        return None;
+    let is_started = matches.get_flag("start");
+    match (read_epoch(matches), read_shape(matches)) {
+        (Some(epoch), Some(Some(shape))) if index < shape.m() => Ok(Some(NodeWords::Log {
+            epoch,
+            index,
+            shape,
+            is_started,
+            folder,
+        })),
+        _ => Ok(None),
     }
-    Some(NodeWords::Log {
-        epoch: read_epoch(matches)?,
-        index,
-        shape,
-        is_started: matches.get_flag("start"),
-    })
 }
 
 fn read_epoch(matches: &ArgMatches<'_>) -> Option<Epoch> {
@@ -297,15 +325,20 @@ fn read_sequencer(matches: &ArgMatches<'_>) -> Option<NodeWords> {
     })
 }
 
-/// The name of a file, which is there where the words were taken.
+/// The name of a file, which is there if the words were taken.
 fn read_config(alloc: Global, matches: &ArgMatches<'_>) -> Result<String, AllocError> {
     String::from_str(alloc, matches.get_str("config").unwrap_or(""))
 }
 
 fn read_storage(alloc: Global, matches: &ArgMatches<'_>) -> Result<Option<NodeWords>, AllocError> {
     let config = read_config(alloc, matches)?;
+    let folder = read_folder(alloc, matches)?;
     match Tag::new(matches.get_one::<u8>("tag").unwrap_or(0)) {
-        Some(tag) => Ok(Some(NodeWords::Storage { tag, config })),
+        Some(tag) => Ok(Some(NodeWords::Storage {
+            tag,
+            config,
+            folder,
+        })),
         None => Ok(None),
     }
 }
@@ -347,7 +380,7 @@ fn read_recoverer(
     }
 }
 
-/// What stands below its help.
+/// What is below its help.
 const NODE_HELP: &str = "\
 Lines of JSON are read from standard input, one object a line, and each is answered by one line:
 
@@ -357,5 +390,5 @@ NAME of a node is as audit prints it, as 'cell 0' or 'log 257 0'. docs/NODES.md 
 each answers. A line that makes an entry of the node's journal has it in its answer; config and journals
 are then a script for audit.
 
-Statuses: 0 at the end of the input; 2 bad words, or no config; 3 the node cannot go on, for want of
-memory or since a file failed; 4 input or output failed.";
+Statuses: 0 at the end of the input; 2 bad words, no config, or no file; 3 the node cannot go on: it is
+out of memory, or its file failed, is in use or another's; 4 input or output failed.";

@@ -1,5 +1,5 @@
 -- Nodes that ask others, each with its journal, as contracts see them.
-use Rattle.std.specs.Prelude.{ℕ, ◌≡◌, ◌⊎◌, Bool, List, Option, None, Some, if◌then◌else◌}
+use Rattle.std.specs.Prelude.{ℕ, ◌≡◌, ◌⊎◌, ◌-◌, ◌^◌, nat_lt, Bool, true, false, List, [], ◌∷◌, Option, None, Some, if◌then◌else◌}
 use Rattle.fr_base.specs.declared.place.NodeId.{NodeId}
 use Rattle.fr_audit_journal.specs.declared.act.Entry.{Entry}
 use Rattle.fr_proxy.specs.declared.fault.SubmitFault.{SubmitFault}
@@ -23,15 +23,16 @@ pub record Active (S : Type 0) : Type 0 where
   pub first : S
   pub entries : List Entry
 
--- a storage server too, and whether its store failed so that it cannot go on
+-- a storage server too, whether its store outlasts the process, and whether it failed so that it cannot go on
 pub record ActiveStorage (S : Type 0) : Type 0 where
   pub storage : Server S
   pub place : NodeId
   pub first : Server S
   pub entries : List Entry
+  pub has_files : Bool
   pub is_over : Bool
 
--- the reason where the stamps are spent
+-- the reason if the stamps are spent
 abbrev pub spent_refusal : List Entry → ℕ → Option Refusal
 spent_refusal entries at = if are_spent entries at then Some refusal.StampsSpent else None
 
@@ -49,7 +50,6 @@ proxy_refusal p entries at (turn.Ask from a) = Some refusal.NotTaken
 proxy_refusal p entries at (turn.Hear from tell) = spent_refusal entries at
 proxy_refusal p entries at (turn.Submit step batch) = submit_refusal (submit_fault p) (spent_refusal entries at)
 proxy_refusal p entries at turn.Begin = Some refusal.NotTaken
-proxy_refusal p entries at turn.Back = Some refusal.NotTaken
 
 -- ---- recoverers
 
@@ -58,7 +58,6 @@ recoverer_refusal begun entries at (turn.Ask from a) = Some refusal.NotTaken
 recoverer_refusal begun entries at (turn.Hear from tell) = if begun then spent_refusal entries at else Some refusal.NotBegun
 recoverer_refusal begun entries at (turn.Submit step batch) = Some refusal.NotTaken
 recoverer_refusal begun entries at turn.Begin = if begun then Some refusal.Begun else spent_refusal entries at
-recoverer_refusal begun entries at turn.Back = Some refusal.NotTaken
 
 -- ---- storage servers
 
@@ -67,7 +66,16 @@ storage_refusal entries at (turn.Ask from a) = Some refusal.NotTaken
 storage_refusal entries at (turn.Hear from tell) = spent_refusal entries at
 storage_refusal entries at (turn.Submit step batch) = Some refusal.NotTaken
 storage_refusal entries at turn.Begin = Some refusal.NotTaken
-storage_refusal entries at turn.Back = Some refusal.NotTaken
+
+-- the reason if there is no stamp for each of two entries
+abbrev pub two_refusal : ℕ → Option Refusal
+two_refusal at = if nat_lt at (2 ^ 40 - 2) then None else Some refusal.StampsSpent
+
+-- the reason why a storage server is not started again: its store ends with the process, or it did something since, or else the stamps are spent
+abbrev pub storage_back_refusal : Bool → List Entry → ℕ → Option Refusal
+storage_back_refusal false entries at = Some refusal.NotTaken
+storage_back_refusal true [] at = two_refusal at
+storage_back_refusal true (e ∷ es) at = Some refusal.Begun
 
 -- a node in memory alone goes on for as long as there is memory
 abbrev pub IsMemory : Crash → Type 0

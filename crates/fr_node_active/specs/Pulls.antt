@@ -11,7 +11,7 @@ use Rattle.fr_storage.specs.Server.{Server}
 use Rattle.fr_storage.specs.Storage.{ask_after}
 use Rattle.fr_node_steps.specs.declared.turn.Newest.{Newest}
 
--- a log on which a tag stands, the next one in each turn
+-- a log that holds a tag, the next one in each turn
 abbrev pub holder : LogGeneration → ℕ → ℕ → NodeId
 holder g tag turn = node.Log g.epoch ((tag + turn % g.k) % g.m)
 

@@ -29,7 +29,8 @@ RecStep given r (act.Heard from tell taken outcome) q =
     (r.has_begun ≡ true) × ((taken ≡ None) × ((outcome ≡ None) × (q ≡ record { recoverer = rec.after_hear r.recoverer from tell; has_begun = true })))
 RecStep given r a q = ⊥
 
--- a storage server hears a tell, whole or as far as it took it
+-- a storage server hears a tell, whole or as far as it took it; a crash leaves it as it was
 abbrev pub StorageStep : StorageState → Act → StorageState → Type 0
 StorageStep s (act.Heard from tell taken outcome) n = (outcome ≡ None) × IsTold s from tell taken n
+StorageStep s act.Crashed n = n ≡ s
 StorageStep s a n = ⊥

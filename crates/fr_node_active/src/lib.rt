@@ -1,6 +1,7 @@
 //! Nodes that a process serves and that ask others: proxies, recoverers and storage servers, each with its journal.
 #![tactic(auto)]
 
+mod begun;
 mod proxies;
 mod pulls;
 mod recoverers;

@@ -11,7 +11,7 @@ use fr_ask::{Last, Tell};
 use fr_audit_journal::{Act, Entry, Journal};
 use fr_base::{NodeId, Stamp, Step};
 use fr_mutation::Batch;
-use fr_node_steps::{Acting, Newest, Refusal, Turn, TurnFault, Wants, stamp_above};
+use fr_node_steps::{Acting, Hearing, Newest, Refusal, Turn, TurnFault, Wants, stamp_above};
 use fr_proxy::{Proxy, SubmitFault};
 use fr_run_event::last_of_proxy;
 use std::alloc::Global;
@@ -134,7 +134,8 @@ impl ProxyNode {
 }
 
 impl Acting for ProxyNode {
-    ghost use Rattle.std.specs.Prelude.{true};
+    ghost use Rattle.fr_node_steps.specs.declared.fault.Refusal.TheVariants as refusal;
+    ghost use Rattle.std.specs.Prelude.{true, Some};
     ghost use Rattle.fr_proxy.specs.Proxy.{pending};
     ghost use Rattle.fr_run_event.specs.Last as last;
     ghost use Rattle.fr_node_active.specs.Nodes.{IsMemory, proxy_refusal};
@@ -148,6 +149,8 @@ impl Acting for ProxyNode {
     ghost works = { λ p. true };
 
     ghost refusal = { λ p at turn. proxy_refusal p.state p.entries at turn };
+
+    ghost back_refusal = { λ node at hearing. Some refusal.NotTaken };
 
     ghost wanted = { λ p turn newest. pending p.state };
 
@@ -163,8 +166,16 @@ impl Acting for ProxyNode {
             Turn::Hear { from, tell } => self.hear(alloc, at, from, tell),
             Turn::Ask { .. } => Err(TurnFault::Refused(Refusal::NotTaken)),
             Turn::Begin => Err(TurnFault::Refused(Refusal::NotTaken)),
-            Turn::Back => Err(TurnFault::Refused(Refusal::NotTaken)),
         }
+    }
+
+    fn back(
+        &mut self,
+        _alloc: Global,
+        _at: Stamp,
+        _hearing: Option<Hearing>,
+    ) -> Result<Vec<Entry>, TurnFault> {
+        Err(TurnFault::Refused(Refusal::NotTaken))
     }
 
     fn last(&mut self, _alloc: Global) -> Result<Last, TurnFault> {

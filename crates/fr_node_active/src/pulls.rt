@@ -19,8 +19,8 @@ fn of_epoch(gens: &[Generation], epoch: Epoch) -> Option<Generation>
     gens.iter().copied().find(|g| g.epoch() == epoch)
 }
 
-/// The log of a generation that is asked for a tag's records in a turn: one of those on which the tag stands, the next
-/// one in each turn.
+/// The log of a generation that is asked for a tag's records in a turn: one of those that hold the tag, the next one
+/// in each turn.
 fn holder_at(generation: Generation, tag: Tag, turn: u32) -> NodeId
     ensures { result ≡ holder generation tag turn }
 {
@@ -74,8 +74,8 @@ fn add_mark(asks: &mut Vec<(NodeId, Ask)>, newest: Option<Newest>, turn: u32) ->
     Ok(())
 }
 
-/// What a storage server asks in a turn: a holder of its tag for its records, a log of the newest epoch for its mark,
-/// and a holder of its own epoch to let go of what it has for good.
+/// What a storage server asks in a turn. It asks a holder of its tag for its records, a log of the newest epoch for
+/// its mark, and a holder of its own epoch to let go of what it has for good.
 pub(crate) fn asks_at<S: ShardStore>(
     alloc: Global,
     storage: &Storage<S>,

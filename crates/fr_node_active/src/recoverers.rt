@@ -11,14 +11,14 @@ use fr_ask::{Last, Tell};
 use fr_audit_journal::{Act, Entry, Journal};
 use fr_base::{NodeId, Shape, Stamp};
 use fr_epoch::Recoverer;
-use fr_node_steps::{Acting, Newest, Refusal, Turn, TurnFault, Wants, stamp_above};
+use fr_node_steps::{Acting, Hearing, Newest, Refusal, Turn, TurnFault, Wants, stamp_above};
 use fr_run_event::last_of_recoverer;
 use std::alloc::Global;
 use std::marker::Model;
 use std::snapshot::Snapshot;
 
-/// A recoverer, the shape of the generation that it is to open, where it was given one, and its journal. Contracts see the
-/// recoverer and whether it began, its place, the one that its process began with, and what it did since.
+/// A recoverer, the shape of the generation that it is to open, if it was given one, and its journal. Contracts see
+/// the recoverer and whether it began, its place, the one that its process began with, and what it did since.
 #[derive(Drop)]
 pub struct RecovererNode {
     recoverer: Recoverer,
@@ -142,7 +142,8 @@ impl RecovererNode {
 }
 
 impl Acting for RecovererNode {
-    ghost use Rattle.std.specs.Prelude.{true, [], if◌then◌else◌};
+    ghost use Rattle.fr_node_steps.specs.declared.fault.Refusal.TheVariants as refusal;
+    ghost use Rattle.std.specs.Prelude.{true, Some, [], if◌then◌else◌};
     ghost use Rattle.fr_epoch.specs.Asks.{pending};
     ghost use Rattle.fr_run_event.specs.Last as last;
     ghost use Rattle.fr_node_active.specs.Nodes.{IsMemory, recoverer_refusal};
@@ -156,6 +157,8 @@ impl Acting for RecovererNode {
     ghost works = { λ r. true };
 
     ghost refusal = { λ r at turn. recoverer_refusal r.state.has_begun r.entries at turn };
+
+    ghost back_refusal = { λ node at hearing. Some refusal.NotTaken };
 
     ghost wanted = { λ r turn newest. if r.state.has_begun then pending r.state.recoverer else [] };
 
@@ -171,8 +174,16 @@ impl Acting for RecovererNode {
             Turn::Hear { from, tell } => self.hear(alloc, at, from, tell),
             Turn::Ask { .. } => Err(TurnFault::Refused(Refusal::NotTaken)),
             Turn::Submit { .. } => Err(TurnFault::Refused(Refusal::NotTaken)),
-            Turn::Back => Err(TurnFault::Refused(Refusal::NotTaken)),
         }
+    }
+
+    fn back(
+        &mut self,
+        _alloc: Global,
+        _at: Stamp,
+        _hearing: Option<Hearing>,
+    ) -> Result<Vec<Entry>, TurnFault> {
+        Err(TurnFault::Refused(Refusal::NotTaken))
     }
 
     fn last(&mut self, alloc: Global) -> Result<Last, TurnFault> {

@@ -1,23 +1,29 @@
 //! Storage servers, each with its journal.
-ghost use Rattle.std.specs.Prelude.{◌≡◌, [], false, Ok, None, IfErr, IfOk, IfSome, OnOk};
+ghost use Rattle.std.specs.Prelude.{◌≡◌, ◌<◌, ◌++◌, ℕ, [], map, false, Ok, Some, None, IfErr, IfOk, IfSome, OnOk};
 ghost use Rattle.fr_base.specs.declared.place.NodeId.{NodeId};
-ghost use Rattle.fr_node_active.specs.Leads.{LeadsTo};
-ghost use Rattle.fr_node_active.specs.Nodes.{IsStoreCrash, IsStoreEnd, storage_refusal};
+ghost use Rattle.fr_node_active.specs.Begun.{acts_of, back_acts};
+ghost use Rattle.fr_node_active.specs.Leads.{EndsInCrash, LeadsOn};
+ghost use Rattle.fr_node_active.specs.Nodes.{IsStoreCrash, IsStoreEnd, storage_back_refusal, storage_refusal, two_refusal};
 ghost use Rattle.fr_node_active.specs.Steps.{StorageStep};
 ghost use Rattle.fr_node_active.specs.Told.{IsTold};
 ghost use Rattle.fr_node_steps.specs.declared.turn.Turn.{Turn};
-ghost use Rattle.fr_node_steps.specs.Turns.{IfCrashed, IfRefused, IsTaken, Refuses};
+ghost use Rattle.fr_node_steps.specs.declared.fault.Crash.{Crash};
+ghost use Rattle.fr_node_steps.specs.declared.fault.Refusal.{Refusal};
+ghost use Rattle.fr_node_steps.specs.Turns.{IfCrashed, IfRefused, IsBack, IsTaken, Refuses};
 ghost use Rattle.fr_run_event.specs.Last as last;
 ghost use Rattle.fr_runtime_hears.specs.Taken.{IsPart};
 ghost use Rattle.fr_storage.specs.Server.{storage_of};
 ghost use Rattle.fr_storage.specs.Storage.{after_peeked, peeked_calls, peeked_fault};
 
+use crate::begun::part_of;
 use crate::pulls::asks_at;
 use fr_ask::{Last, Rows, Tell};
 use fr_audit_journal::{Act, Entry, Journal};
-use fr_base::{Epoch, NodeId, Stamp, Version};
+use fr_base::{Epoch, Memory, NodeId, Stamp, Version};
 use fr_log::{LogTell, Peeked};
-use fr_node_steps::{Acting, Crash, Newest, Refusal, Turn, TurnFault, Wants, stamp_above};
+use fr_node_steps::{
+    Acting, Crash, Hearing, Newest, Refusal, Turn, TurnFault, Wants, crash_at, stamp_above,
+};
 use fr_runtime_hears::{take_marked, take_peeked};
 use fr_storage::{Storage, StorageFault};
 use fr_undo::{ShardStore, StoreFault};
@@ -32,6 +38,7 @@ pub struct StorageNode<S: ShardStore> {
     storage: Storage<S>,
     journal: Journal,
     first: Snapshot<Storage<S>>,
+    has_files: bool,
     is_over: bool,
 }
 
@@ -39,7 +46,7 @@ impl<S: ShardStore> Model for StorageNode<S> {
     ghost use Rattle.std.specs.Prelude.{◌≡◌, false};
     ghost use Rattle.fr_storage.specs.Server.{storage_of};
     ghost use Rattle.fr_node_active.specs.Nodes.{ActiveStorage};
-    ghost use Rattle.fr_node_active.specs.Leads.{LeadsTo};
+    ghost use Rattle.fr_node_active.specs.Leads.{LeadsOn};
     ghost use Rattle.fr_node_active.specs.Steps.{StorageStep};
 
     ghost Value = { ActiveStorage S };
@@ -49,21 +56,23 @@ impl<S: ShardStore> Model for StorageNode<S> {
       place = s.journal.node;
       first = s.first.value;
       entries = s.journal.entries;
+      has_files = s.has_files;
       is_over = s.is_over;
     } };
 
     ghost invariant = { λ s. s.is_over ≡ false → (s.storage.failed ≡ false)
-        × LeadsTo StorageStep (storage_of S.state s.first.value) s.journal.entries (storage_of S.state s.storage) };
+        × LeadsOn StorageStep (storage_of S.state s.first.value) s.journal.entries (storage_of S.state s.storage) };
 }
 
 impl<S: ShardStore> StorageNode<S> {
-    /// A storage server that heard nothing yet.
-    pub fn new(alloc: Global, storage: Storage<S>) -> Self
+    /// A storage server that heard nothing yet in this process, over a store that outlasts it if it has files.
+    pub fn new(alloc: Global, storage: Storage<S>, has_files: bool) -> Self
         requires works { storage.failed ≡ false }
         ensures storage { result.storage ≡ storage }
         ensures first { result.first ≡ storage }
         ensures place { result.place ≡ NodeId.Storage storage.tag }
         ensures entries { result.entries ≡ [] }
+        ensures has_files { result.has_files ≡ has_files }
         ensures works { result.is_over ≡ false }
     {
         let id = NodeId::Storage { tag: storage.tag() };
@@ -72,6 +81,7 @@ impl<S: ShardStore> StorageNode<S> {
             storage,
             journal: Journal::new(alloc, id),
             first,
+            has_files,
             is_over: false,
         }
     }
@@ -81,13 +91,13 @@ impl<S: ShardStore> StorageNode<S> {
         ensures place { result.now.node ≡ self.now.place }
         ensures entries { result.now.entries ≡ self.now.entries }
         ensures leads { self.now.is_over ≡ false
-            → LeadsTo StorageStep (storage_of S.state self.now.first) result.now.entries (storage_of S.state self.now.storage) }
+            → LeadsOn StorageStep (storage_of S.state self.now.first) result.now.entries (storage_of S.state self.now.storage) }
     {
         &self.journal
     }
 
-    /// Hears what a node told it, and enters as much of that as it took: all of it, or the part at whose version it broke
-    /// off, where a call of its store failed.
+    /// Hears what a node told it, and enters as much of that as it took: all of it, or the part at whose version it
+    /// broke off, if a call of its store failed.
     fn hear(
         &mut self,
         alloc: Global,
@@ -127,9 +137,100 @@ impl<S: ShardStore> StorageNode<S> {
         self.journal.push_reserved(entry);
         Ok(answered?)
     }
+
+    /// Enters that it was started again: what it took of the hear that was under way, if it took any, and that it
+    /// crashed. It did nothing else yet.
+    pub fn started_again(
+        &mut self,
+        alloc: Global,
+        at: Stamp,
+        hearing: Option<Hearing>,
+    ) -> Result<Vec<Entry>, TurnFault>
+        requires works { self.old.is_over ≡ false }
+        ensures place { self.new.place ≡ self.old.place }
+        ensures storage { self.new.storage ≡ self.old.storage }
+        ensures entries { IfOk result (λ answered. self.new.entries ≡ self.old.entries ++ answered.items) }
+        ensures back { IfOk result (λ answered. IsBack at hearing answered.items) }
+        ensures acts { IfOk result (λ answered. map (λ e. e.act) answered.items ≡ back_acts (storage_of S.state self.old.storage) hearing) }
+        ensures works { self.new.is_over ≡ false }
+        ensures refused { Refuses (storage_back_refusal self.old.has_files self.old.entries at) result }
+        ensures left { IfRefused result (self.new.entries ≡ self.old.entries) }
+        ensures crashed { IfCrashed result (λ why. why ≡ Crash.Memory) }
+    {
+        if !self.has_files {
+            return Err(TurnFault::Refused(Refusal::NotTaken));
+        }
+        if !self.journal.entries().is_empty() {
+            return Err(TurnFault::Refused(Refusal::Begun));
+        }
+        let Some(stamps) = two_stamps(at) else {
+            return Err(TurnFault::Refused(Refusal::StampsSpent));
+        };
+        let part = match &hearing {
+            Some(hearing) => part_of(&self.storage, hearing),
+            None => None,
+        };
+        let (journal, answered) = begun_again(alloc, self.journal.node(), stamps, hearing, part)?;
+        self.journal = journal;
+        Ok(answered)
+    }
 }
 
-/// Tells a storage server what a node told it: at which version the hear broke off, where a call of its store failed in
+/// The two stamps above one; none if there are not so many.
+fn two_stamps(at: Stamp) -> Option<(Stamp, Stamp)>
+    ensures later { IfSome result (λ two. (at < two.0) × (two.0 < two.1)) }
+    ensures there { IfSome result (λ two. two_refusal at ≡ None) }
+    ensures spent { result ≡ None → two_refusal at ≡ Some Refusal.StampsSpent }
+{
+    let first = Stamp::new(at.get() + 1)?;
+    let second = Stamp::new(first.get() + 1)?;
+    Some((first, second))
+}
+
+/// What a storage server enters that was started again, and the journal of a place with it alone: of the hear that was
+/// under way what it took, if it took any, and that it crashed.
+fn begun_again(
+    alloc: Global,
+    place: NodeId,
+    stamps: (Stamp, Stamp),
+    hearing: Option<Hearing>,
+    part: Option<Option<Version>>,
+) -> Result<(Journal, Vec<Entry>), Memory>
+    requires rise { stamps.0 < stamps.1 }
+    ensures place { IfOk result (λ begun. begun.0.node ≡ place) }
+    ensures entries { IfOk result (λ begun. begun.0.entries ≡ begun.1.items) }
+    ensures back { IfOk result (λ begun. (at : ℕ) → at < stamps.0 → IsBack at hearing begun.1.items) }
+    ensures acts { IfOk result (λ begun. map (λ e. e.act) begun.1.items ≡ acts_of hearing part) }
+    ensures ends { IfOk result (λ begun. EndsInCrash begun.1.items) }
+{
+    let (first, second) = stamps;
+    let mut journal = Journal::new(alloc, place);
+    let mut answered = Vec::with_capacity(alloc, 2)?;
+    let last = match (hearing, part) {
+        (Some(Hearing { from, tell, .. }), Some(taken)) => {
+            let entry = Entry {
+                stamp: first,
+                act: Act::Heard {
+                    from,
+                    tell,
+                    taken,
+                    outcome: None,
+                },
+            };
+            answered.push(entry.copy()?)?;
+            journal.reserve()?;
+            journal.push_reserved(entry);
+            second
+        }
+        _ => first,
+    };
+    answered.push(crash_at(last))?;
+    journal.reserve()?;
+    journal.push_reserved(crash_at(last));
+    Ok((journal, answered))
+}
+
+/// Tells a storage server what a node told it: at which version the hear broke off, if a call of its store failed in
 /// it and a part of it is missing. What it refuses changes nothing. A store that cannot be opened again is a fault.
 fn tell_storage<S: ShardStore>(
     alloc: Global,
@@ -172,7 +273,7 @@ fn peeked_by<S: ShardStore>(
     take_peeked(alloc, storage, *epoch, peeked)
 }
 
-/// Where a storage server stands, as others see it.
+/// A storage server's state, as others see it.
 fn last_said<S: ShardStore>(alloc: Global, storage: &mut Storage<S>) -> Result<Last, TurnFault>
     ensures last { IfOk result (λ told. told ≡ last.last_of_storage (storage_of S.state storage.old)) }
     ensures stands { storage.old.failed ≡ false → OnOk result (storage_of S.state storage.new ≡ storage_of S.state storage.old) }
@@ -202,7 +303,7 @@ fn end_of(fault: StorageFault) -> TurnFault
     }
 }
 
-/// What a storage server answers, where it is no fault of its store.
+/// What a storage server answers, if it is no fault of its store.
 fn unless_fault<T>(answer: Result<T, StorageFault>) -> Result<T, TurnFault>
     ensures ok { IfOk result (λ value. answer ≡ Ok value) }
     ensures fault { IfErr result IsStoreEnd }
@@ -217,7 +318,7 @@ impl<S: ShardStore> Acting for StorageNode<S> {
     ghost use Rattle.std.specs.Prelude.{not};
     ghost use Rattle.fr_run_event.specs.Last as last;
     ghost use Rattle.fr_storage.specs.Server.{storage_of};
-    ghost use Rattle.fr_node_active.specs.Nodes.{IsStoreCrash, storage_refusal};
+    ghost use Rattle.fr_node_active.specs.Nodes.{IsStoreCrash, storage_back_refusal, storage_refusal};
     ghost use Rattle.fr_node_active.specs.Pulls.{asks_of};
 
     ghost node = { λ s. s.place };
@@ -229,6 +330,8 @@ impl<S: ShardStore> Acting for StorageNode<S> {
     ghost works = { λ s. not s.is_over };
 
     ghost refusal = { λ s at turn. storage_refusal s.entries at turn };
+
+    ghost back_refusal = { λ s at hearing. storage_back_refusal s.has_files s.entries at };
 
     ghost wanted = { λ s turn newest. asks_of s.storage turn newest };
 
@@ -244,8 +347,16 @@ impl<S: ShardStore> Acting for StorageNode<S> {
             Turn::Ask { .. } => Err(TurnFault::Refused(Refusal::NotTaken)),
             Turn::Submit { .. } => Err(TurnFault::Refused(Refusal::NotTaken)),
             Turn::Begin => Err(TurnFault::Refused(Refusal::NotTaken)),
-            Turn::Back => Err(TurnFault::Refused(Refusal::NotTaken)),
         }
+    }
+
+    fn back(
+        &mut self,
+        alloc: Global,
+        at: Stamp,
+        hearing: Option<Hearing>,
+    ) -> Result<Vec<Entry>, TurnFault> {
+        self.started_again(alloc, at, hearing)
     }
 
     fn last(&mut self, alloc: Global) -> Result<Last, TurnFault> {

@@ -21,6 +21,7 @@ pub enum Member {
     Batch,
     Turn,
     Newest,
+    Hearing,
 }
 
 impl Member {
@@ -40,6 +41,7 @@ impl Member {
             Member::Batch => forms::BATCH,
             Member::Turn => names::TURN,
             Member::Newest => names::NEWEST,
+            Member::Hearing => names::HEARING,
         }
     }
 }

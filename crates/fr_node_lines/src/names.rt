@@ -20,6 +20,8 @@ pub(crate) const CODE: &str = "code";
 
 pub(crate) const ENTRY: &str = "entry";
 
+pub(crate) const HEARING: &str = "hearing";
+
 pub(crate) const NEWEST: &str = "newest";
 
 pub(crate) const TEXT: &str = "text";

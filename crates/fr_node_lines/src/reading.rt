@@ -9,7 +9,7 @@ use fr_forms::{
     ScriptFault, names as forms, read_ask, read_batch, read_node, read_step, read_tell,
 };
 use fr_mutation::Batch;
-use fr_node_steps::{Newest, Order, Turn};
+use fr_node_steps::{Hearing, Newest, Order, Turn};
 use serde_json::Value;
 use std::alloc::{AllocError, Global};
 
@@ -98,8 +98,8 @@ fn read_kind(alloc: Global, kind: &str, body: Value) -> Result<Order, BadLine> {
         forms::ASK => read_asked(alloc, body),
         names::HEAR => read_heard(alloc, body),
         names::SUBMIT => read_submitted(alloc, body),
-        forms::BEGIN => read_bare(body, Turn::Begin),
-        names::BACK => read_bare(body, Turn::Back),
+        forms::BEGIN => read_begin(body),
+        names::BACK => read_back(alloc, body),
         _ => Err(BadLine::NoType),
     }
 }
@@ -165,11 +165,43 @@ fn read_stamp(fields: &Fields) -> Result<Stamp, BadLine> {
     }
 }
 
-/// A turn without content.
-fn read_bare(body: Value, turn: Turn) -> Result<Order, BadLine> {
+fn read_begin(body: Value) -> Result<Order, BadLine> {
     let fields = fields_of(body, 3)?;
     let at = read_stamp(&fields)?;
-    Ok(Order::Take { at, turn })
+    Ok(Order::Take {
+        at,
+        turn: Turn::Begin,
+    })
+}
+
+/// A start after a kill. A line without a hear that was under way had none.
+fn read_back(alloc: Global, body: Value) -> Result<Order, BadLine> {
+    if body.get(names::HEARING).is_none() {
+        let fields = fields_of(body, 3)?;
+        let at = read_stamp(&fields)?;
+        return Ok(Order::Back { at, hearing: None });
+    }
+    let mut fields = fields_of(body, 4)?;
+    let stamp = read_stamp(&fields)?;
+    let hearing = at(Member::Hearing, fields.take(names::HEARING))?;
+    let hearing = at(Member::Hearing, read_hearing(alloc, hearing))?;
+    Ok(Order::Back {
+        at: stamp,
+        hearing: Some(hearing),
+    })
+}
+
+/// A hear that was under way: who told what, and the version of the node's last answer before it.
+fn read_hearing(alloc: Global, value: Value) -> Result<Hearing, ScriptFault> {
+    let mut fields = Fields::new(value, 3);
+    let from = read_from(&mut fields)?;
+    let tell = read_tell_in(alloc, &mut fields)?;
+    let version = fields.version(forms::VERSION)?;
+    Ok(Hearing {
+        from,
+        tell,
+        version,
+    })
 }
 
 fn read_asked(alloc: Global, body: Value) -> Result<Order, BadLine> {

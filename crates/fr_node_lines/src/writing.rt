@@ -39,6 +39,7 @@ pub fn write_reply(
             let body = write_taken(alloc, *kind, entry, last)?;
             with_wants(alloc, body, wants)?
         }
+        Reply::Back { entries, last } => write_back(alloc, entries.as_slice(), last)?,
     };
     write_line(alloc, node, envelope, body)
 }
@@ -60,18 +61,20 @@ fn of_type(alloc: Global, name: &str) -> Result<Object, Memory> {
     Object::new(alloc).and(names::TYPE, write_text(alloc, name))
 }
 
-/// What is entered of a turn, and where the node then stands. Started again, a node answers a list.
+/// What is entered of a turn, and the node's state then.
 fn write_taken(alloc: Global, kind: Kind, entry: &Entry, last: &Last) -> Result<Object, Memory> {
     let body = of_type(alloc, type_of(kind))?.and(forms::LAST, write_last(alloc, last))?;
-    let written = write_entry(alloc, entry)?;
-    match kind {
-        Kind::Back => {
-            let mut entries = Vec::with_capacity(alloc, 1)?;
-            entries.push(written)?;
-            body.with(forms::ENTRIES, Value::Array(entries))
-        }
-        _ => body.with(names::ENTRY, written),
+    body.and(names::ENTRY, write_entry(alloc, entry))
+}
+
+/// What is entered of a node that was started again, and its state.
+fn write_back(alloc: Global, entries: &[Entry], last: &Last) -> Result<Object, Memory> {
+    let body = of_type(alloc, names::BACK_OK)?.and(forms::LAST, write_last(alloc, last))?;
+    let mut written = Vec::with_capacity(alloc, entries.len())?;
+    for entry in entries {
+        written.push(write_entry(alloc, entry)?)?;
     }
+    body.with(forms::ENTRIES, Value::Array(written))
 }
 
 /// The type of the answer to a turn of a kind.
@@ -81,7 +84,6 @@ fn type_of(kind: Kind) -> &'static str {
         Kind::Hear => names::HEAR_OK,
         Kind::Submit => names::SUBMIT_OK,
         Kind::Begin => names::BEGIN_OK,
-        Kind::Back => names::BACK_OK,
     }
 }
 
@@ -92,7 +94,7 @@ fn with_wants(alloc: Global, body: Object, wants: &Option<Wants>) -> Result<Obje
     }
 }
 
-/// A line from a node with this body, to who sent the one that it answers.
+/// A line from a node with this body, to the sender of the one that it answers.
 fn write_line(
     alloc: Global,
     node: NodeId,

@@ -8,7 +8,7 @@ use Rattle.fr_audit_journal.specs.declared.act.Act.TheVariants as act
 use Rattle.fr_audit_journal.specs.declared.act.Entry.{Entry}
 use Rattle.fr_runtime_housing.specs.Replays.{Steps, told_at, after_at, after_act, state_after, TellsAre, IsTold, ends_by_crash, gone_after, gone_at_end, IsThere}
 use Rattle.fr_node_steps.specs.declared.fault.TurnFault.{TurnFault}
-use Rattle.fr_node_steps.specs.Passive.{IsServed}
+use Rattle.fr_node_steps.specs.Passive.{IsServed, IsOnlyCrash}
 
 state-append : {S A : Type 0} (m : Steps S A) (s : S) (es : List Entry) (e : Entry)
     → state_after m s (es ++ e ∷ []) ≡ after_act m (state_after m s es) e.act
@@ -79,10 +79,18 @@ served-again m place now first es longer s e h stays p is crashed =
     let k : e ≡ record { stamp = e.stamp; act = act.Crashed } = ap (λ a. record { stamp = e.stamp; act = a }) crashed in
     rw (p, is, k) (served-crashed m place first es s e.stamp h stays)
 
--- and whether it was, or was refused, is what is answered
-pub served-back : {S A : Type 0} (m : Steps S A) (place now : NodeId) (first : S) (es longer : List Entry) (s : S) (has : Bool) (r : Result Entry TurnFault)
-    → IsServed m place first es s → (has ≡ true → ends_by_crash place ≡ false) → now ≡ place
-    → IfOk r (λ e. longer ≡ es ++ e ∷ []) → IfOk r (λ e. e.act ≡ act.Crashed) → OnOk r (has ≡ true) → OnErr r (longer ≡ es)
+-- so it is if a crash alone is entered
+served-only : {S A : Type 0} (m : Steps S A) (place now : NodeId) (first : S) (es longer : List Entry) (s : S) (list : List Entry)
+    → IsServed m place first es s → ends_by_crash place ≡ false → now ≡ place → longer ≡ es ++ list → IsOnlyCrash list
     → IsServed m now first longer s
-served-back m place now first es longer s has (Ok e) h stays p is crashed files left = served-again m place now first es longer s e h (stays files) p is crashed
-served-back m place now first es longer s has (Err f) h stays p is crashed files left = rw (p, left) h
+served-only m place now first es longer s [] h stays p is only = absurd only
+served-only m place now first es longer s (e ∷ []) h stays p is only = served-again m place now first es longer s e h stays p is only
+served-only m place now first es longer s (e ∷ f ∷ list) h stays p is only = absurd only
+
+-- and whether it was, or was refused, is what is answered
+pub served-back : {S A V : Type 0} (items : V → List Entry) (m : Steps S A) (place now : NodeId) (first : S) (es longer : List Entry) (s : S) (has : Bool) (r : Result V TurnFault)
+    → IsServed m place first es s → (has ≡ true → ends_by_crash place ≡ false) → now ≡ place
+    → IfOk r (λ v. longer ≡ es ++ items v) → IfOk r (λ v. IsOnlyCrash (items v)) → OnOk r (has ≡ true) → OnErr r (longer ≡ es)
+    → IsServed m now first longer s
+served-back items m place now first es longer s has (Ok v) h stays p is crashed files left = served-only m place now first es longer s (items v) h (stays files) p is crashed
+served-back items m place now first es longer s has (Err f) h stays p is crashed files left = rw (p, left) h

@@ -1,36 +1,40 @@
 -- What is answered to what a process is asked of its node.
-use Rattle.std.specs.Prelude.{ℕ, ◌≡◌, List, Option, None, Some, IfSome}
+use Rattle.std.specs.Prelude.{ℕ, ◌≡◌, ◌++◌, List, Option, None, Some, IfSome}
 use Rattle.fr_base.specs.declared.place.NodeId.{NodeId}
 use Rattle.fr_ask.specs.declared.ask.Ask.{Ask}
 use Rattle.fr_ask.specs.declared.last.Last.{Last}
 use Rattle.fr_audit_journal.specs.declared.act.Entry.{Entry}
 use Rattle.fr_node_steps.specs.declared.turn.Turn.{Turn}
 use Rattle.fr_node_steps.specs.declared.turn.Newest.{Newest}
+use Rattle.fr_node_steps.specs.declared.turn.Hearing.{Hearing}
 use Rattle.fr_node_steps.specs.declared.fault.Refusal.{Refusal}
 use Rattle.fr_node_steps.specs.declared.reply.Order.{Order}
 use Rattle.fr_node_steps.specs.declared.reply.Order.TheVariants as order
 use Rattle.fr_node_steps.specs.declared.reply.Reply.{Reply}
 use Rattle.fr_node_steps.specs.declared.reply.Reply.TheVariants as reply
 use Rattle.fr_node_steps.specs.Kinds.{kind_of}
-use Rattle.fr_node_steps.specs.Turns.{IsTaken}
+use Rattle.fr_node_steps.specs.Turns.{IsBack, IsTaken}
 
--- a node as others see it: which one, what it did, where it stands, and what it asks in a turn
+-- a node as others see it: which one, what it did, its state, and what it asks in a turn
 pub record Seen : Type 0 where
   pub node : NodeId
   pub entries : List Entry
   pub last : Last
   pub wanted : ℕ → Option Newest → List (NodeId × Ask)
 
--- the answer is that of what was asked: of a turn the entry that the journal has more than before, and else nothing is entered
+-- the answer is that of what was asked: of a turn and of a start the entries that the journal has more than before, and else nothing is entered
 abbrev pub IsAnswer : Seen → Seen → Order → Reply → Type 0
 IsAnswer old new order.Init (reply.Init node last) = (node ≡ new.node) × ((last ≡ new.last) × (new.entries ≡ old.entries))
 IsAnswer old new order.Last (reply.Last last) = (last ≡ new.last) × (new.entries ≡ old.entries)
 IsAnswer old new (order.Wants turn newest) (reply.Wants asks) = (asks ≡ new.wanted turn newest) × (new.entries ≡ old.entries)
 IsAnswer old new (order.Take at turn) (reply.Taken kind entry last asks) =
     IsTaken old.entries new.entries at turn entry × ((kind ≡ kind_of turn) × ((last ≡ new.last) × IfSome asks (λ wants. wants ≡ new.wanted 0 None)))
+IsAnswer old new (order.Back at hearing) (reply.Back answered last) =
+    (new.entries ≡ old.entries ++ answered.items) × (IsBack at hearing answered.items × (last ≡ new.last))
 IsAnswer old new o r = ⊥
 
--- the reason why it is refused, where there is one: only a turn can be
-abbrev pub order_refusal : (ℕ → Turn → Option Refusal) → Order → Option Refusal
-order_refusal refusal (order.Take at turn) = refusal at turn
-order_refusal refusal o = None
+-- the reason why it is refused, if there is one: only a turn or a start can be
+abbrev pub order_refusal : (ℕ → Turn → Option Refusal) → (ℕ → Option Hearing → Option Refusal) → Order → Option Refusal
+order_refusal refusal back (order.Take at turn) = refusal at turn
+order_refusal refusal back (order.Back at hearing) = back at hearing
+order_refusal refusal back o = None

@@ -9,4 +9,3 @@ kind_of (turn.Ask from ask) = kind.Ask
 kind_of (turn.Hear from tell) = kind.Hear
 kind_of (turn.Submit step batch) = kind.Submit
 kind_of turn.Begin = kind.Begin
-kind_of turn.Back = kind.Back

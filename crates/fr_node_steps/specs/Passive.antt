@@ -1,14 +1,16 @@
 -- A node that answers asks, with its journal, as contracts see it.
-use Rattle.std.specs.Prelude.{ℕ, Bool, true, false, ◌≡◌, ◌⊎◌, ◌==◌, ◌+◌, ◌-◌, ◌^◌, max, List, Option, None, Some, if◌then◌else◌}
+use Rattle.std.specs.Prelude.{ℕ, Bool, true, false, ◌≡◌, ◌⊎◌, ◌==◌, ◌+◌, ◌-◌, ◌^◌, max, List, [], ◌∷◌, Option, None, Some, if◌then◌else◌}
 use Rattle.fr_base.specs.declared.node.NodeFault.{NodeFault}
 use Rattle.fr_base.specs.declared.node.NodeFault.TheVariants as node
 use Rattle.fr_base.specs.declared.place.NodeId.{NodeId}
 use Rattle.fr_ask.specs.declared.ask.Ask.{Ask}
 use Rattle.fr_audit_journal.specs.declared.act.Entry.{Entry}
+use Rattle.fr_audit_journal.specs.declared.act.Act.TheVariants as act
 use Rattle.fr_runtime_housing.specs.Housing.{last_number}
 use Rattle.fr_runtime_housing.specs.Replays.{Steps, TellsAre, IsThere, gone_at_end, state_after}
 use Rattle.fr_node_steps.specs.declared.turn.Turn.{Turn}
 use Rattle.fr_node_steps.specs.declared.turn.Turn.TheVariants as turn
+use Rattle.fr_node_steps.specs.declared.turn.Hearing.{Hearing}
 use Rattle.fr_node_steps.specs.declared.fault.Refusal.{Refusal}
 use Rattle.fr_node_steps.specs.declared.fault.Refusal.TheVariants as refusal
 use Rattle.fr_node_steps.specs.declared.fault.Crash.{Crash}
@@ -38,17 +40,23 @@ abbrev pub ask_refusal : {A : Type 0} → Option A → Bool → Option Refusal
 ask_refusal None spent = Some refusal.OtherAsk
 ask_refusal (Some a) spent = if spent then Some refusal.StampsSpent else None
 
--- the reason why a node is not started again: it has no files, or else the stamps are spent
-abbrev pub back_refusal : Bool → List Entry → ℕ → Option Refusal
-back_refusal has_files entries at = if has_files then (if are_spent entries at then Some refusal.StampsSpent else None) else Some refusal.NotTaken
+-- the reason why a node is not started again: it has no files, or it is said to have heard something, or else the stamps are spent
+abbrev pub back_refusal : Bool → List Entry → ℕ → Option Hearing → Option Refusal
+back_refusal false entries at hearing = Some refusal.NotTaken
+back_refusal true entries at (Some h) = Some refusal.NotTaken
+back_refusal true entries at None = if are_spent entries at then Some refusal.StampsSpent else None
 
--- the reason why a turn is refused: a node that answers asks takes no other turn, but over files that it was started again
-abbrev pub passive_refusal : {A : Type 0} → (Ask → Option A) → Bool → List Entry → ℕ → Turn → Option Refusal
-passive_refusal unwrapped has_files entries at (turn.Ask from ask) = ask_refusal (unwrapped ask) (are_spent entries at)
-passive_refusal unwrapped has_files entries at turn.Back = back_refusal has_files entries at
-passive_refusal unwrapped has_files entries at t = Some refusal.NotTaken
+-- the reason why a turn is refused: a node that answers asks takes no other turn
+abbrev pub passive_refusal : {A : Type 0} → (Ask → Option A) → List Entry → ℕ → Turn → Option Refusal
+passive_refusal unwrapped entries at (turn.Ask from ask) = ask_refusal (unwrapped ask) (are_spent entries at)
+passive_refusal unwrapped entries at t = Some refusal.NotTaken
 
--- why a node cannot go on: for want of memory, or by a fault that it can meet
+-- a crash, and nothing else
+abbrev pub IsOnlyCrash : List Entry → Type 0
+IsOnlyCrash (e ∷ []) = e.act ≡ act.Crashed
+IsOnlyCrash es = ⊥
+
+-- why a node cannot go on: out of memory, or by a fault that it can meet
 abbrev pub IsCrash : (NodeFault → Type 0) → Crash → Type 0
 IsCrash CanMeet crash.Memory = Unit {0}
 IsCrash CanMeet crash.Device = CanMeet node.Device

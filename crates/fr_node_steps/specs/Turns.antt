@@ -5,6 +5,7 @@ use Rattle.fr_audit_journal.specs.declared.act.Act.TheVariants as act
 use Rattle.fr_audit_journal.specs.declared.act.Entry.{Entry}
 use Rattle.fr_node_steps.specs.declared.turn.Turn.{Turn}
 use Rattle.fr_node_steps.specs.declared.turn.Turn.TheVariants as turn
+use Rattle.fr_node_steps.specs.declared.turn.Hearing.{Hearing}
 use Rattle.fr_node_steps.specs.declared.fault.Refusal.{Refusal}
 use Rattle.fr_node_steps.specs.declared.fault.Refusal.TheVariants as refusal
 use Rattle.fr_node_steps.specs.declared.fault.Crash.{Crash}
@@ -17,7 +18,6 @@ IsOf (turn.Ask from ask) (act.Asked sender asked tell) = (sender ≡ from) × (a
 IsOf (turn.Hear from tell) (act.Heard sender told taken outcome) = (sender ≡ from) × (told ≡ tell)
 IsOf (turn.Submit step batch) (act.Submitted d b) = (d ≡ step) × (b ≡ batch)
 IsOf turn.Begin (act.Begun shape) = ⊤
-IsOf turn.Back act.Crashed = ⊤
 IsOf t a = ⊥
 
 -- a turn enters one act, behind all others, above the stamp that came with it; that entry is answered
@@ -26,20 +26,31 @@ pub record IsTaken (old new : List Entry) (at : ℕ) (t : Turn) (entry : Entry) 
   pub above : at < entry.stamp
   pub act : IsOf t entry.act
 
--- a turn is refused by the reason that there is; where there is none, it is only where a file has no room
+-- the act is the hear that was under way, as far as it was taken
+abbrev pub IsOfHearing : Option Hearing → Act → Type 0
+IsOfHearing (Some h) (act.Heard sender told taken outcome) = (sender ≡ h.from) × ((told ≡ h.tell) × (outcome ≡ None))
+IsOfHearing h a = ⊥
+
+-- a node that was started again answers that it crashed, above the stamp that came with the line, and before it what it took of the hear that was under way, if it took any
+abbrev pub IsBack : ℕ → Option Hearing → List Entry → Type 0
+IsBack at hearing (crash ∷ []) = (at < crash.stamp) × (crash.act ≡ act.Crashed)
+IsBack at hearing (heard ∷ crash ∷ []) = (at < heard.stamp) × ((heard.stamp < crash.stamp) × (IsOfHearing hearing heard.act × (crash.act ≡ act.Crashed)))
+IsBack at hearing entries = ⊥
+
+-- a turn is refused by the reason that there is; if there is none, only if a file has no room
 abbrev pub Refuses : {A : Type 0} → Option Refusal → Result A TurnFault → Type 0
 Refuses (Some why) r = r ≡ Err (fault.Refused why)
 Refuses None (Ok a) = ⊤
 Refuses None (Err (fault.Refused why)) = why ≡ refusal.Full
 Refuses None (Err (fault.Crashed why)) = ⊤
 
--- what is so where a node can go on: where it answered, or refused
+-- what is so if a node can go on: if it answered, or refused
 abbrev pub UnlessCrashed : {A : Type 0} → Result A TurnFault → Type 0 → Type 0
 UnlessCrashed (Ok a) P = P
 UnlessCrashed (Err (fault.Refused why)) P = P
 UnlessCrashed (Err (fault.Crashed why)) P = ⊤
 
--- what is so where a node did not answer, and can go on
+-- what is so if a node did not answer, and can go on
 abbrev pub IfRefused : {A : Type 0} → Result A TurnFault → Type 0 → Type 0
 IfRefused (Ok a) P = ⊤
 IfRefused (Err (fault.Refused why)) P = P

@@ -1,9 +1,9 @@
 //! Nodes that a process serves.
-ghost use Rattle.std.specs.Prelude.{◌≡◌, true, IfOk, OnOk};
-ghost use Rattle.fr_node_steps.specs.Turns.{IfCrashed, IfRefused, IsTaken, Refuses, UnlessCrashed};
+ghost use Rattle.std.specs.Prelude.{◌≡◌, ◌++◌, true, IfOk, OnOk};
+ghost use Rattle.fr_node_steps.specs.Turns.{IfCrashed, IfRefused, IsBack, IsTaken, Refuses, UnlessCrashed};
 
 use crate::fault::TurnFault;
-use crate::turn::{Newest, Turn};
+use crate::turn::{Hearing, Newest, Turn};
 use crate::wants::Wants;
 use fr_ask::Last;
 use fr_audit_journal::Entry;
@@ -19,6 +19,7 @@ pub trait Acting {
     ghost use Rattle.fr_audit_journal.specs.declared.act.Entry.{Entry};
     ghost use Rattle.fr_node_steps.specs.declared.turn.Turn.{Turn};
     ghost use Rattle.fr_node_steps.specs.declared.turn.Newest.{Newest};
+    ghost use Rattle.fr_node_steps.specs.declared.turn.Hearing.{Hearing};
     ghost use Rattle.fr_node_steps.specs.declared.fault.Refusal.{Refusal};
     ghost use Rattle.fr_node_steps.specs.declared.fault.Crash.{Crash};
 
@@ -28,16 +29,19 @@ pub trait Acting {
     /// What it did, the oldest first.
     ghost entries: { Self → List Entry };
 
-    /// Where it stands, as others see it.
+    /// Its state, as others see it.
     ghost last_of: { Self → Last };
 
     /// Whether it works: no file or store of it has failed.
     ghost works: { Self → Bool };
 
-    /// The reason why a turn is refused, above a stamp, where there is one.
+    /// The reason why a turn is refused, above a stamp, if there is one.
     ghost refusal: { Self → ℕ → Turn → Option Refusal };
 
-    /// What it asks in a turn, where the logs of an epoch may be asked for their mark.
+    /// The reason why it is not started again, above a stamp, if there is one.
+    ghost back_refusal: { Self → ℕ → Option Hearing → Option Refusal };
+
+    /// What it asks in a turn, if the logs of an epoch may be asked for their mark.
     ghost wanted: { Self → ℕ → Option Newest → List (NodeId × Ask) };
 
     /// Why such a node may be unable to go on.
@@ -59,7 +63,26 @@ pub trait Acting {
         ensures stands { IfRefused result (last_of self.new ≡ last_of self.old) }
         ensures crashed { IfCrashed result CanCrash };
 
-    /// Where it stands, as others see it.
+    /// Takes in that it was started again over its files, above the stamp that the asker has seen, and which hear its
+    /// process had under way, if any. It answers what is entered: what it took of that hear, if it took any, and that
+    /// it crashed. Nothing else is changed.
+    fn back(
+        &mut self,
+        alloc: Global,
+        at: Stamp,
+        hearing: Option<Hearing>,
+    ) -> Result<Vec<Entry>, TurnFault>
+        requires works { works self.old ≡ true }
+        ensures node { node self.new ≡ node self.old }
+        ensures entries { IfOk result (λ answered. entries self.new ≡ entries self.old ++ answered.items) }
+        ensures back { IfOk result (λ answered. IsBack at hearing answered.items) }
+        ensures stands { UnlessCrashed result (last_of self.new ≡ last_of self.old) }
+        ensures works { UnlessCrashed result (works self.new ≡ true) }
+        ensures refused { Refuses (back_refusal self.old at hearing) result }
+        ensures left { IfRefused result (entries self.new ≡ entries self.old) }
+        ensures crashed { IfCrashed result CanCrash };
+
+    /// Its state, as others see it.
     fn last(&mut self, alloc: Global) -> Result<Last, TurnFault>
         requires works { works self.old ≡ true }
         ensures node { node self.new ≡ node self.old }
@@ -74,7 +97,7 @@ pub trait Acting {
     /// what they heard.
     fn tells_wants(&self) -> bool;
 
-    /// What it asks in a turn, where the logs of an epoch may be asked for their mark.
+    /// What it asks in a turn, if the logs of an epoch may be asked for their mark.
     fn wants(&self, alloc: Global, turn: u32, newest: Option<Newest>) -> Result<Wants, TurnFault>
         ensures asks { IfOk result (λ asks. asks ≡ wanted self.now turn newest) }
         ensures crashed { IfCrashed result CanCrash }

@@ -9,7 +9,7 @@ use fr_runtime_housing::Housable;
 
 /// A machine that knows its asks among all asks.
 pub trait Answering: Housable {
-    /// The ask of it that this is, where it is one. It takes no memory.
+    /// This ask as one of the machine's own; none if it is another kind's. It takes no memory.
     fn unwrap(ask: Ask) -> Option<Self::Ask>
         ensures value { result ≡ Self.unwrapped ask }
         ensures back { IfSome result (λ own. Self.wrapped own ≡ ask) };

@@ -3,18 +3,18 @@ ghost use Rattle.std.specs.Prelude.{◌≡◌, ◌<◌, ◌++◌, ◌∷◌, [],
 ghost use Rattle.fr_audit_journal.specs.declared.act.Act.{Act};
 ghost use Rattle.fr_runtime_housing.specs.Replays.{Replays, ends_by_crash, steps};
 ghost use Rattle.fr_node_steps.specs.declared.fault.Crash.{Crash};
-ghost use Rattle.fr_node_steps.specs.Passive.{back_refusal};
-ghost use Rattle.fr_node_steps.specs.Turns.{IfCrashed, Refuses};
+ghost use Rattle.fr_node_steps.specs.Passive.{back_refusal, IsOnlyCrash};
+ghost use Rattle.fr_node_steps.specs.Turns.{IfCrashed, IsBack, Refuses};
 
 use crate::acting::Acting;
 use crate::answering::Answering;
 use crate::fault::{Refusal, TurnFault};
 use crate::stamps::stamp_above;
-use crate::turn::{Newest, Turn};
+use crate::turn::{Hearing, Newest, Turn};
 use crate::wants::Wants;
 use fr_ask::{Last, Named};
 use fr_audit_journal::{Act, Entry, Journal};
-use fr_base::{Machine, Node, NodeId, Stamp};
+use fr_base::{Machine, Memory, Node, NodeId, Stamp};
 use fr_runtime_housing::Housable;
 use std::alloc::Global;
 use std::marker::Model;
@@ -103,31 +103,51 @@ where
 }
 
 /// Enters that a node crashed, and was started again over its files.
-fn started_again(journal: &mut Journal, at: Stamp, has_files: bool) -> Result<Entry, TurnFault>
+fn started_again(
+    alloc: Global,
+    journal: &mut Journal,
+    at: Stamp,
+    has_files: bool,
+    hearing: &Option<Hearing>,
+) -> Result<Vec<Entry>, TurnFault>
     ensures place { journal.new.node ≡ journal.old.node }
-    ensures entries { IfOk result (λ entry. journal.new.entries ≡ journal.old.entries ++ entry ∷ []) }
-    ensures entered { IfOk result (λ entry. entry.act ≡ Act.Crashed) }
-    ensures above { IfOk result (λ entry. at < entry.stamp) }
+    ensures entries { IfOk result (λ answered. journal.new.entries ≡ journal.old.entries ++ answered.items) }
+    ensures back { IfOk result (λ answered. IsBack at hearing.now answered.items) }
+    ensures only { IfOk result (λ answered. IsOnlyCrash answered.items) }
     ensures files { OnOk result (has_files ≡ true) }
-    ensures refused { Refuses (back_refusal has_files journal.old.entries at) result }
+    ensures refused { Refuses (back_refusal has_files journal.old.entries at hearing.now) result }
     ensures err { OnErr result (journal.new.entries ≡ journal.old.entries) }
     ensures crashed { IfCrashed result (λ why. why ≡ Crash.Memory) }
 {
-    if !has_files {
+    if !has_files || hearing.is_some() {
         return Err(TurnFault::Refused(Refusal::NotTaken));
     }
     let Some(stamp) = stamp_above(journal, at) else {
         return Err(TurnFault::Refused(Refusal::StampsSpent));
     };
+    let answered = only_crash(alloc, stamp)?;
     journal.reserve()?;
-    journal.push_reserved(Entry {
+    journal.push_reserved(crash_at(stamp));
+    Ok(answered)
+}
+
+/// A list of the entry of a crash.
+fn only_crash(alloc: Global, stamp: Stamp) -> Result<Vec<Entry>, Memory>
+    ensures { IfOk result (λ list. list.items ≡ record { stamp = stamp; act = Act.Crashed } ∷ []) }
+{
+    let mut list = Vec::new(alloc);
+    list.push(crash_at(stamp))?;
+    Ok(list)
+}
+
+/// The entry of a crash.
+pub fn crash_at(stamp: Stamp) -> Entry
+    ensures { result ≡ record { stamp = stamp; act = Act.Crashed } }
+{
+    Entry {
         stamp,
         act: Act::Crashed,
-    });
-    Ok(Entry {
-        stamp,
-        act: Act::Crashed,
-    })
+    }
 }
 
 impl<N: Node> Acting for Passive<N>
@@ -136,7 +156,7 @@ where
     <N::Plain as Machine>::Ask: Drop,
 {
     ghost use Rattle.std.specs.Prelude.{[], not};
-    ghost use Rattle.fr_node_steps.specs.Passive.{IsCrash, passive_refusal};
+    ghost use Rattle.fr_node_steps.specs.Passive.{IsCrash, back_refusal, passive_refusal};
 
     ghost node = { λ p. p.place };
 
@@ -146,7 +166,9 @@ where
 
     ghost works = { λ p. not (N.is_failed p.node) };
 
-    ghost refusal = { λ p at turn. passive_refusal N.Plain.unwrapped p.has_files p.entries at turn };
+    ghost refusal = { λ p at turn. passive_refusal N.Plain.unwrapped p.entries at turn };
+
+    ghost back_refusal = { λ p at hearing. back_refusal p.has_files p.entries at hearing };
 
     ghost wanted = { λ p turn newest. [] };
 
@@ -159,7 +181,6 @@ where
     fn act(&mut self, alloc: Global, at: Stamp, turn: Turn) -> Result<Entry, TurnFault> {
         let (from, ask) = match turn {
             Turn::Ask { from, ask } => (from, ask),
-            Turn::Back => return started_again(&mut self.journal, at, self.has_files),
             Turn::Hear { .. } => return Err(TurnFault::Refused(Refusal::NotTaken)),
             Turn::Submit { .. } => return Err(TurnFault::Refused(Refusal::NotTaken)),
             Turn::Begin => return Err(TurnFault::Refused(Refusal::NotTaken)),
@@ -184,6 +205,15 @@ where
         let answered = entry.copy();
         self.journal.push_reserved(entry);
         Ok(answered?)
+    }
+
+    fn back(
+        &mut self,
+        alloc: Global,
+        at: Stamp,
+        hearing: Option<Hearing>,
+    ) -> Result<Vec<Entry>, TurnFault> {
+        started_again(alloc, &mut self.journal, at, self.has_files, &hearing)
     }
 
     fn last(&mut self, alloc: Global) -> Result<Last, TurnFault> {

@@ -6,7 +6,7 @@ ghost use Rattle.fr_node_steps.specs.Turns.{IfCrashed, IfRefused, Refuses, Unles
 
 use crate::acting::Acting;
 use crate::fault::TurnFault;
-use crate::turn::{Kind, Newest, Turn};
+use crate::turn::{Hearing, Kind, Newest, Turn};
 use crate::wants::Wants;
 use fr_ask::Last;
 use fr_audit_journal::Entry;
@@ -16,25 +16,27 @@ use std::alloc::Global;
 /// What a process is asked of its node.
 #[derive(Debug, Drop)]
 pub enum Order {
-    /// Which node it is, and where it stands.
+    /// Which node it is, and its state.
     Init,
-    /// Where it stands.
+    /// Its state.
     Last,
     /// What it asks in a turn.
     Wants { turn: u32, newest: Option<Newest> },
     /// That it takes a turn, above a stamp.
     Take { at: Stamp, turn: Turn },
+    /// That it was started again over its files, above a stamp, and which hear was under way, if one was.
+    Back { at: Stamp, hearing: Option<Hearing> },
 }
 
 /// What a process answers.
 #[derive(Debug, Drop)]
 pub enum Reply {
-    /// The node, and where it stands.
+    /// The node, and its state.
     Init {
         node: NodeId,
         last: Last,
     },
-    /// Where it stands.
+    /// Its state.
     Last {
         last: Last,
     },
@@ -42,12 +44,17 @@ pub enum Reply {
     Wants {
         wants: Wants,
     },
-    /// What is entered of a turn of a kind, where the node then stands, and what it asks, if it asks others.
+    /// What is entered of a turn of a kind, the node's state then, and what it asks, if it asks others.
     Taken {
         kind: Kind,
         entry: Entry,
         last: Last,
         wants: Option<Wants>,
+    },
+    /// What is entered as it was started again, and its state.
+    Back {
+        entries: Vec<Entry>,
+        last: Last,
     },
 }
 
@@ -60,7 +67,7 @@ pub fn answer<T: Acting>(alloc: Global, node: &mut T, order: Order) -> Result<Re
         (record { node = T.node node.new; entries = T.entries node.new; last = T.last_of node.new; wanted = T.wanted node.new })
         order reply) }
     ensures works { UnlessCrashed result (T.works node.new ≡ true) }
-    ensures refused { Refuses (order_refusal (T.refusal node.old) order) result }
+    ensures refused { Refuses (order_refusal (T.refusal node.old) (T.back_refusal node.old) order) result }
     ensures left { IfRefused result (T.entries node.new ≡ T.entries node.old) }
     ensures stands { IfRefused result (T.last_of node.new ≡ T.last_of node.old) }
     ensures crashed { IfCrashed result T.CanCrash }
@@ -80,6 +87,7 @@ pub fn answer<T: Acting>(alloc: Global, node: &mut T, order: Order) -> Result<Re
             Ok(Reply::Wants { wants })
         }
         Order::Take { at, turn } => take(alloc, node, at, turn),
+        Order::Back { at, hearing } => take_back(alloc, node, at, hearing),
     }
 }
 
@@ -109,7 +117,31 @@ fn take<T: Acting>(alloc: Global, node: &mut T, at: Stamp, turn: Turn) -> Result
     })
 }
 
-/// What a node asks once it took a turn, where it says so with each.
+/// Has a node say that it was started again.
+fn take_back<T: Acting>(
+    alloc: Global,
+    node: &mut T,
+    at: Stamp,
+    hearing: Option<Hearing>,
+) -> Result<Reply, TurnFault>
+    requires works { T.works node.old ≡ true }
+    ensures node { T.node node.new ≡ T.node node.old }
+    ensures answered { IfOk result (λ reply. IsAnswer
+        (record { node = T.node node.old; entries = T.entries node.old; last = T.last_of node.old; wanted = T.wanted node.old })
+        (record { node = T.node node.new; entries = T.entries node.new; last = T.last_of node.new; wanted = T.wanted node.new })
+        (Order.Back at hearing) reply) }
+    ensures works { UnlessCrashed result (T.works node.new ≡ true) }
+    ensures refused { Refuses (T.back_refusal node.old at hearing) result }
+    ensures left { IfRefused result (T.entries node.new ≡ T.entries node.old) }
+    ensures stands { IfRefused result (T.last_of node.new ≡ T.last_of node.old) }
+    ensures crashed { IfCrashed result T.CanCrash }
+{
+    let entries = node.back(alloc, at, hearing)?;
+    let last = node.last(alloc)?;
+    Ok(Reply::Back { entries, last })
+}
+
+/// What a node asks once it took a turn, if it says so with each.
 fn wants_of<T: Acting>(alloc: Global, node: &T) -> Result<Option<Wants>, TurnFault>
     ensures asks { IfOk result (λ asks. IfSome asks (λ wants. wants ≡ T.wanted node.now 0 None)) }
     ensures crashed { IfCrashed result T.CanCrash }

@@ -3,7 +3,7 @@ ghost use Rattle.std.specs.Prelude.{◌≡◌};
 ghost use Rattle.fr_node_steps.specs.Kinds.{kind_of};
 
 use fr_ask::{Ask, Tell};
-use fr_base::{Epoch, NodeId, Step};
+use fr_base::{Epoch, NodeId, Step, Version};
 use fr_mutation::Batch;
 
 /// What a node is to do in one turn.
@@ -17,8 +17,6 @@ pub enum Turn {
     Submit { step: Step, batch: Batch },
     /// It begins.
     Begin,
-    /// It was started again over its files.
-    Back,
 }
 
 impl Turn {
@@ -31,7 +29,6 @@ impl Turn {
             Turn::Hear { .. } => Kind::Hear,
             Turn::Submit { .. } => Kind::Submit,
             Turn::Begin => Kind::Begin,
-            Turn::Back => Kind::Back,
         }
     }
 }
@@ -43,7 +40,6 @@ pub enum Kind {
     Hear,
     Submit,
     Begin,
-    Back,
 }
 
 /// The newest epoch whose logs a storage server may ask, and how many logs it has.
@@ -51,4 +47,13 @@ pub enum Kind {
 pub struct Newest {
     pub epoch: Epoch,
     pub logs: u8,
+}
+
+/// A hear that was under way when the process of a storage server ended: what it was told, and at which version it stood
+/// before.
+#[derive(Debug, Drop)]
+pub struct Hearing {
+    pub from: NodeId,
+    pub tell: Tell,
+    pub version: Version,
 }

@@ -1,18 +1,8 @@
--- A node that served an ask, and entered it, stands where its journal leads, and so does one that was started again.
+-- A node that served an ask, and entered it, is where its journal leads.
 use Rattle.std.proofs.Common.{ap, refl, ◌∙◌}
 use Rattle.fr_runtime_housing.specs.Replays.{ends_by_crash, steps}
-use Rattle.fr_node_steps.proofs.Served.{served-back, served-entered}
+use Rattle.fr_node_steps.proofs.Served.{served-entered}
 use Rattle.fr_node_steps.proofs.passive.PassiveActing.act.Goals as goal
-
-pub invariant_of-self : goal.invariant_of-self
-invariant_of-self g c =
-    let N = g.N.Plain.Named in
-    let M = g.N.Plain.Machine in
-    let m = steps N.wrapped N.unwrapped N.wrapped_tell M.told M.after in
-    let e = c.started_again.ensures in (
-      served-back m _ _ _ _ _ _ c.self.inside.has_files c.started_again.result c.self.invariant.0 c.self.invariant.1 e.place e.entries e.entered e.files e.err,
-      λ files. ap ends_by_crash e.place ∙ c.self.invariant.1 files,
-    )
 
 pub invariant_of-self-in_err-answered : goal.invariant_of-self-in_err-answered
 invariant_of-self-in_err-answered g c =
