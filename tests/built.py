@@ -52,6 +52,18 @@ def program(crate="fdbrec"):
     return os.path.abspath(path)
 
 
+def archive(crate):
+    """The same of a crate that is a static library."""
+    given = os.environ.get(f"BUILT_{crate.upper()}")
+    path = given or f"{TOP}/crates/{crate}/out/lib{crate}.a"
+    if not os.path.exists(path):
+        skip(f"{os.path.relpath(path, TOP)} is not built: ./build-library leaves it there")
+    source = None if given else newer(crate, path)
+    if source:
+        skip(f"{os.path.relpath(path, TOP)} is older than {source}: ./build-library builds it anew")
+    return os.path.abspath(path)
+
+
 def passes(words, **how):
     """Runs a script of the repository, whose lines go on as they are; the test fails where it does."""
     ran = subprocess.run(words, cwd=TOP, stdin=subprocess.DEVNULL, **how)

@@ -316,6 +316,115 @@ STORAGES = [
     fault({"type": "ask", "at": 30, "from": RECOVERER, "ask": PEEK}, 10),
 ]
 
+# ---- nodes over files, which are killed and started again: a script for each process, in the same folder
+
+
+def crashed(at, stamp, last):
+    """A node that was started again, with no hear under way."""
+    return {"type": "back", "at": at}, {"type": "back_ok", "entries": [entry(stamp, "crashed", {})], "last": last}
+
+
+def hearing(at, by, tell, version, last, *entries):
+    """A storage server that was started again, with a hear under way."""
+    given_line = {"type": "back", "at": at, "hearing": {"from": by, "tell": tell, "version": version}}
+    return given_line, {"type": "back_ok", "entries": list(entries), "last": last}
+
+
+def of_hear(stamp, by, tell, taken=None):
+    """What a server enters of a hear that was under way."""
+    return entry(stamp, "heard", {"from": by, "outcome": None, "taken": taken, "tell": tell})
+
+
+CELLS_AGAIN = [
+    [begins(CELL, cell(257, 257, ONE)), CELLS[1], CELLS[3]],
+    [
+        begins(CELL, cell(513, 513, TWO)),
+        crashed(31, 32, cell(513, 513, TWO)),
+        # (it was done, and is asked again, since its answer was lost)
+        asked(32, RECOVERER, write(513, TWO), 33, {"cell": {"written": {"ballot": 513}}}, cell(513, 513, TWO)),
+        asked(40, RECOVERER, read(770), 41, {"cell": {"promise": {"value": TWO, "written": 513}}}, cell(770, 513, TWO)),
+    ],
+    [begins(CELL, cell(770, 513, TWO)), crashed(41, 42, cell(770, 513, TWO)), crashed(2, 43, cell(770, 513, TWO))],
+]
+LOGS_AGAIN = [
+    LOGS[:7],
+    [begins(log(513, 0), log_last(14, 11)), crashed(11, 12, log_last(14, 11)), *LOGS[8:12]],
+    [begins(log(513, 0), log_last(14, 11, True)), crashed(16, 17, log_last(14, 11, True)), *LOGS[13:18]],
+    [begins(log(513, 0), log_last(14, 11, True, **LAST)), *LOGS[18:20], is_last(log_last(14, 11, True, **LAST))],
+]
+LOCKED = told("locked", durable=1, known=0)
+STARTED_AGAIN = [
+    [begins(log(257, 1), log_last(1, 0))],
+    [begins(log(257, 1), log_last(1, 0)), asked(5, RECOVERER, lock(257), 6, LOCKED, log_last(1, 0, True))],
+    [begins(log(257, 1), log_last(1, 0, True)), crashed(6, 7, log_last(1, 0, True))],
+]
+THREE, AFTER = stands(257, 3, 0, k61="02"), stands(513, 2, 0, k61="01")
+PULLED = peeked(0, 0, 3, (2, BATCH), (3, SET))
+STORAGES_AGAIN = [
+    STORAGES[:3],
+    [
+        begins(STORAGE, THREE),
+        # (none of the hear that was under way was taken, so it is given again)
+        hearing(6, log(513, 0), CUT, 3, THREE, entry(7, "crashed", {})),
+        heard(7, log(513, 0), CUT, 8, AFTER),
+    ],
+    [
+        begins(STORAGE, AFTER),
+        # (all of it was taken, and its answer was lost)
+        hearing(7, log(513, 0), CUT, 3, AFTER, of_hear(8, log(513, 0), CUT), entry(9, "crashed", {})),
+        heard(20, log(513, 1), peeked(2, 4, 5, (4, ADD)), 21, stands(513, 5, 4, k61="0200")),
+    ],
+    [begins(STORAGE, stands(513, 5, 4, k61="0200")), crashed(30, 31, stands(513, 5, 4, k61="0200"))],
+]
+# (hears that a kill broke off are made by hears of less: a foreign node knows that they did not begin)
+AT_CUT = peeked(0, 2, 3, (2, BATCH), (3, SET))
+MORE_OF_IT = peeked(0, 0, 5, (2, BATCH), (3, SET), (5, SET))
+PARTS_AGAIN = [
+    [begins(STORAGE, stands(257, 0, 0)), heard(5, log(257, 0), PULLED, 6, THREE)],
+    [
+        begins(STORAGE, THREE),
+        # (it is at version 3 of an answer through 5)
+        hearing(5, log(257, 0), MORE_OF_IT, 0, THREE, of_hear(6, log(257, 0), MORE_OF_IT, 3), entry(7, "crashed", {})),
+    ],
+    [
+        begins(STORAGE, THREE),
+        # (all is applied, and what is known is not let go of)
+        hearing(5, log(257, 0), AT_CUT, 0, THREE, of_hear(6, log(257, 0), AT_CUT, 3), entry(7, "crashed", {})),
+    ],
+    [
+        begins(STORAGE, THREE),
+        # (it stood there before, so nothing of it was taken)
+        hearing(5, log(257, 0), AT_CUT, 3, THREE, entry(6, "crashed", {})),
+        heard(6, log(513, 0), CUT, 7, AFTER),
+    ],
+    [
+        begins(STORAGE, AFTER),
+        # (undone to the cut, with the state of before: a server of the next epoch has that)
+        hearing(9, log(513, 0), CUT, 3, AFTER, of_hear(10, log(513, 0), CUT), entry(11, "crashed", {})),
+    ],
+    [
+        begins(STORAGE, AFTER),
+        # (a tell that changes nothing is given again; a start is said once, and first)
+        hearing(9, log(513, 0), told("popped", through=4), 2, AFTER, entry(10, "crashed", {})),
+        fault({"type": "back", "at": 10}, 14, "Begun"),
+    ],
+    [
+        begins(STORAGE, AFTER),
+        fault({"type": "back", "at": 9, "hearing": {"from": CELL, "tell": CUT}}, 12, "hearing"),
+        fault({"type": "back", "at": 9, "hearing": {"from": CELL, "tell": CUT, "version": -1}}, 12, "hearing"),
+        fault({"type": "back", "at": 9, "hearing": 7}, 12, "hearing"),
+        fault({"type": "back", "at": 2**40 - 2}, 14, "StampsSpent"),
+        crashed(2**40 - 3, 2**40 - 2, AFTER),
+    ],
+]
+AGAIN = {
+    "a cell": ("cell --index 0 --start", CONFIG, CELLS_AGAIN),
+    "a log": ("log --epoch 513 --index 0 --logs 4 --degree 2", None, LOGS_AGAIN),
+    "a log of the first epoch": ("log --epoch 257 --index 1 --logs 2 --degree 2 --start", None, STARTED_AGAIN),
+    "a storage server": ("storage --tag 0", CONFIG, STORAGES_AGAIN),
+}
+PARTS = {"parts of hears": ("storage --tag 0", CONFIG, PARTS_AGAIN)}
+
 SCRIPTS = {
     "a cell": ("cell --index 0 --start", CONFIG, CELLS),
     "a log": ("log --epoch 513 --index 0 --logs 4 --degree 2", None, LOGS),
@@ -335,4 +444,6 @@ NAMES = {
     "a recoverer": "recoverer 513",
     "a recoverer with a shape": "recoverer 513",
     "a storage server": "storage 0",
+    "a log of the first epoch": "log 257 1",
+    "parts of hears": "storage 0",
 }

@@ -68,14 +68,29 @@ def by_hand(checks, command, is_exact, kinds=ALL, files=(False, True)):
                 if is_filed and not more:
                     continue
                 words_of = with_config([*command, *words.split(), *more], config, room)
-                name = lines.NAMES[title]
-                given = [line(name, number, body) for number, (body, _) in enumerate(rows)]
-                found, end = answers(words_of, given)
-                checks.check(end == (0, b"") and len(found) == len(rows), title, "ended with", end, len(found))
-                for number, (it, (body, answer)) in enumerate(zip(found, rows)):
-                    wanted = {"body": answer | {"in_reply_to": number}, "dest": "router", "src": name}
-                    is_so = is_answer(it, wanted, is_exact)
-                    checks.check(is_so, title, text(body), "answers", it, "and not", text(wanted))
+                played(checks, title, words_of, rows, is_exact)
+
+
+def played(checks, title, words, rows, is_exact):
+    """Gives a process the lines of some rows, and compares its answers."""
+    name = lines.NAMES[title]
+    given = [line(name, number, body) for number, (body, _) in enumerate(rows)]
+    found, end = answers(words, given)
+    checks.check(end == (0, b"") and len(found) == len(rows), title, "ended with", end, len(found))
+    for number, (it, (body, answer)) in enumerate(zip(found, rows)):
+        wanted = {"body": answer | {"in_reply_to": number}, "dest": "router", "src": name}
+        is_so = is_answer(it, wanted, is_exact)
+        checks.check(is_so, title, text(body), "answers", it, "and not", text(wanted))
+
+
+def again(checks, command, is_exact, scripts):
+    """Scripts of nodes over files that are started again, each process over what the one before left."""
+    for title, (words, config, processes) in scripts.items():
+        with tempfile.TemporaryDirectory() as room:
+            os.mkdir(f"{room}/files")
+            words_of = with_config([*command, *words.split(), "--dir", f"{room}/files"], config, room)
+            for rows in processes:
+                played(checks, title, words_of, rows, is_exact)
 
 
 # ---- drawn

@@ -1,65 +1,21 @@
-//! A log is asked for the record of one tag that stands behind pushes of another tag.
-use crate::parts::{batch, begin, held, log_id, number, peek, push, tag, told};
-use anyhow::bail;
+//! A log is asked for the record of one tag that is behind pushes of another tag.
+use crate::parts::{batch, begin, held, log_id, peek, push, tag, told};
 use fr_base::Version;
-use fr_log::{Log, LogAsk, LogTell};
+use fr_log::{Log, LogAsk};
 use fr_tags::Body;
 use std::alloc::Global;
-use std::time::Instant;
 
-/// How often the peek is made whose time is told.
-const PEEKS: u64 = 1_000;
-
-/// With a number for its word, so many pushes of another tag stand before the record, and the time of a peek is told.
-pub(crate) fn run(rt: &HostRuntime, words: &[String]) -> anyhow::Result<()> {
-    let between = asked(words)?;
+pub(crate) fn run(rt: &HostRuntime) -> anyhow::Result<()> {
     let mut log = Log::new(rt.alloc(), log_id()?, 1, 1);
-    match between {
-        Some(between) => timed(rt, &mut log, between),
-        None => shown(rt, &mut log),
-    }
+    shown(rt, &mut log)
 }
 
-fn asked(words: &[String]) -> anyhow::Result<Option<u64>> {
-    match words {
-        [] => Ok(None),
-        [between] => Ok(Some(number(between)?)),
-        _ => bail!("log wants a number, or no words"),
-    }
-}
-
-/// What is told of a record that stands behind three pushes of another tag.
+/// What is told of a record that is behind three pushes of another tag.
 fn shown(rt: &HostRuntime, log: &mut Log) -> anyhow::Result<()> {
     fill(rt.alloc(), log, 3)?;
     let tell = told(rt.alloc(), log, record()?)?;
     println!(rt; "{tell:?}")?;
     Ok(())
-}
-
-fn timed(rt: &HostRuntime, log: &mut Log, between: u64) -> anyhow::Result<()> {
-    fill(rt.alloc(), log, between)?;
-    let start = Instant::now(rt)?;
-    let records = peeked(rt.alloc(), log)?;
-    let took = start.elapsed(rt)?.as_micros();
-    println!(rt; "{records} records behind {between} pushes each in {took} us")?;
-    Ok(())
-}
-
-/// How many records the peeks give.
-fn peeked(alloc: Global, log: &mut Log) -> anyhow::Result<usize> {
-    let mut records = 0usize;
-    for _ in 0..PEEKS {
-        records = records.saturating_add(given(&told(alloc, log, record()?)?)?);
-    }
-    Ok(records)
-}
-
-/// How many records a log gives.
-fn given(tell: &LogTell) -> anyhow::Result<usize> {
-    match tell {
-        LogTell::Peeked(found) => Ok(found.records().len()),
-        _ => bail!("nothing was given"),
-    }
 }
 
 /// Asks for one record above version 2.

@@ -1,4 +1,4 @@
-//! What several examples are made of: numbers, batches of one key, and the first epoch with its only log.
+//! What the examples are made of: numbers, batches of one key, and the first epoch with its only log.
 ghost use Rattle.std.specs.Prelude.{◌≡◌, IfOk};
 
 use anyhow::{Context, bail};
@@ -8,11 +8,6 @@ use fr_mutation::{Batch, Mutation};
 use fr_state::{CoordState, Generation};
 use fr_tags::Body;
 use std::alloc::Global;
-
-/// The number that a word is.
-pub(crate) fn number(word: &str) -> anyhow::Result<u64> {
-    Ok(word.parse::<u64>()?)
-}
 
 /// The first epoch.
 pub(crate) fn epoch() -> anyhow::Result<Epoch> {
@@ -34,7 +29,7 @@ pub(crate) fn batch(alloc: Global, key: &[u8], value: &[u8]) -> anyhow::Result<B
     Ok(Batch::new(vec![in alloc; Mutation::Set { key, value }]?)?)
 }
 
-/// The first generation: so many logs, on so many of which each tag stands, and the mark at version 1.
+/// The first generation: so many logs, on so many of which each tag is, and the mark at version 1.
 pub(crate) fn first(logs: u8, holders: u8) -> anyhow::Result<Generation> {
     Generation::new(epoch()?, logs, holders, version(1)?, Version::ZERO).context("no start")
 }

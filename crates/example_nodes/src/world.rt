@@ -1,29 +1,14 @@
 //! A small world: a proxy takes a batch and has it numbered, and a storage server asks a log for its records.
-mod many;
-
-use crate::parts::{batch, epoch, number, peek, tag};
-use anyhow::{Context, bail};
+use crate::parts::{batch, epoch, peek, tag};
+use anyhow::Context;
 use fr_ask::{Ask, SeqAsk};
 use fr_base::{Bytes, Epoch, NodeId, Step};
 use fr_world::{Answer, Config, Event, World};
 use std::alloc::Global;
 
-/// With a number for its word, so many exchanges are replayed, and their time is told.
-pub(crate) fn run(rt: &HostRuntime, words: &[String]) -> anyhow::Result<()> {
-    let rounds = asked(words)?;
+pub(crate) fn run(rt: &HostRuntime) -> anyhow::Result<()> {
     let mut world = World::start(rt.alloc(), config(rt.alloc())?)?;
-    match rounds {
-        Some(rounds) => many::run(rt, &mut world, rounds),
-        None => small(rt, &mut world),
-    }
-}
-
-fn asked(words: &[String]) -> anyhow::Result<Option<u64>> {
-    match words {
-        [] => Ok(None),
-        [rounds] => Ok(Some(number(rounds)?)),
-        _ => bail!("world wants a number, or no words"),
-    }
+    small(rt, &mut world)
 }
 
 /// Three coordinators, two logs that both hold the one shard that there is, and one proxy.

@@ -8,9 +8,9 @@ use fr_undo::StoreFault;
 use std::alloc::Global;
 use test_store_failing::FailsOnce;
 
-/// All in memory, with stores whose device fails in one call. A storage server makes no call of its store but those that
-/// write, until its turns are over, and the first of them sets the state with which it starts: so the device fails in
-/// the call of this number after that one, which is done or not.
+/// All in memory, with stores whose device fails in one call. A storage server makes no call of its store but those
+/// that write, until its turns are over, and the first of them sets the state with which it starts. So the device fails
+/// in the call of this number after that one, which is done or not.
 #[derive(Clone, Copy)]
 pub(crate) struct BreakingRack {
     pub(crate) call: u32,

@@ -182,7 +182,7 @@ fn answers<R: Wait>(
     asked(rt, alloc, directory, 3, NodeId::Log { epoch, index }, epoch)
 }
 
-/// An epoch, a log's number, and the stamp at which it answers such a caller, or none where it is not there.
+/// An epoch, a log's number, and the stamp at which it answers such a caller, or none if it is not there.
 type Answering = (u64, u8, Option<u64>);
 
 /// Logs of the start answer at once, one more than there are never, nor one of an epoch that may not come.

@@ -14,7 +14,7 @@ use std::sync::atomic::{AtomicU64, Ordering};
 use std::test::Fail;
 use test_cluster_scene::{DEFAULTS, Numbers, Question, alike, ballot, entries_of, holds_on};
 
-/// A cell in memory which, where it is frail, fails at each write of ballot 513, that leaves nothing.
+/// A cell in memory which, if it is frail, fails at each write of ballot 513, that leaves nothing.
 #[derive(Drop)]
 struct FrailCell<'a> {
     cell: InMemory<Cell>,

@@ -145,7 +145,7 @@ fn other_numbers_are_no_options(rt: HostRuntime) {
     }
 }
 
-/// A terminal that counts what is written on it, and in how much of that these words stand.
+/// A terminal that counts what is written on it, and in how much of that these words are.
 #[derive(Drop)]
 struct Counted {
     writes: AtomicU64,

@@ -30,7 +30,7 @@ struct RefusingRack {
 }
 
 impl RefusingRack {
-    /// Why a log is refused, where it is.
+    /// Why a log is refused, if it is.
     fn fault_of_log(&self, id: &LogId) -> Option<NodeFault> {
         match self.refused {
             Refused::Log(epoch, index, fault) => {

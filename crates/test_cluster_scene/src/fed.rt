@@ -1,4 +1,4 @@
-//! Storage servers that look for records only where there are some.
+//! Storage servers that look for records only if there are some.
 ghost use Rattle.std.specs.Prelude.{◌≡◌};
 
 use crate::flag::Flag;

@@ -17,8 +17,8 @@ pub const TWO: Numbers = Numbers {
     turns: 3000,
 };
 
-/// Through which version the last generation is seeded of a state that an entry hears, where that is of an epoch after
-/// the first.
+/// Through which version the last generation is seeded of a state that an entry hears, if that is of an epoch after the
+/// first.
 fn later_seeded_to(entry: &Entry) -> Option<u64> {
     match &entry.act {
         Act::Heard {

@@ -105,7 +105,7 @@ fn in_order<K: Rack + Sync + Drop, R: Threads + Wait + Sync>(
     holds_on(rt, alloc, ONE, &[], rack, &NoFaults, &committed)
 }
 
-/// What befalls the first push to log (257, 1), and how many of it the log has at least and at most.
+/// What happens to the first push to log (257, 1), and how many of it the log has at least and at most.
 fn lost<K: Rack + Sync + Drop, R: Threads + Wait + Sync>(
     rt: &R,
     alloc: Global,

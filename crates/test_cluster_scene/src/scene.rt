@@ -22,7 +22,7 @@ pub struct Numbers {
     pub turns: u32,
 }
 
-/// What the program runs where no number is given.
+/// What the program runs if no number is given.
 pub const DEFAULTS: Numbers = Numbers {
     coordinators: 3,
     logs: 4,
@@ -125,7 +125,7 @@ pub fn holds_on<K: Rack + Sync + Drop, F: Faults + Sync, Q: Question, R: Threads
     Ok(question.is_so(&report, works.as_slice()))
 }
 
-/// Runs a cluster with so many workloads; why its run has no report, where it has none.
+/// Runs a cluster with so many workloads; why its run has no report, if it has none.
 pub fn fault_of<K: Rack + Sync + Drop, F: Faults + Sync, R: Threads + Wait + Sync>(
     rt: &R,
     alloc: Global,
@@ -145,7 +145,7 @@ pub fn fault_of<K: Rack + Sync + Drop, F: Faults + Sync, R: Threads + Wait + Syn
     }
 }
 
-/// What the first workload was told, nothing where there is none.
+/// What the first workload was told, nothing if there is none.
 pub fn first_told(report: &Report) -> &[Outcome] {
     match report.told.first() {
         Some(told) => told.as_slice(),
@@ -163,7 +163,7 @@ pub fn journal_of(report: &Report, node: NodeId) -> Option<&Journal> {
     None
 }
 
-/// The entries of a node's journal, none where it has no journal.
+/// The entries of a node's journal, none if it has no journal.
 pub fn entries_of(report: &Report, node: NodeId) -> &[Entry] {
     match journal_of(report, node) {
         Some(journal) => journal.entries(),

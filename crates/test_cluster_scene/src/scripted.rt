@@ -80,7 +80,7 @@ impl Overtaken {
         }
     }
 
-    /// What befalls a push: a mark, and a batch to another log, come to their node.
+    /// What happens to a push: a mark, and a batch to another log, come to their node.
     fn verdict_of_push(&self, to: NodeId, push: &Push) -> Verdict {
         if is_log(&to, 1) && push.marked().is_none() {
             Verdict::DropAsk
@@ -89,7 +89,7 @@ impl Overtaken {
         }
     }
 
-    /// What befalls a lock: log (257, 1) alone is locked, once a storage server pulled.
+    /// What happens to a lock: log (257, 1) alone is locked, once a storage server pulled.
     fn verdict_of_lock(&self, to: NodeId) -> Verdict {
         if is_log(&to, 1) && self.has_pulled.wait() {
             Verdict::Pass

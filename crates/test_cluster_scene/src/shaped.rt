@@ -119,7 +119,7 @@ impl Stages {
         (as_wanted, self.otherwise.load(Ordering::SeqCst))
     }
 
-    /// A push to a node was answered: where it is a mark, that generation's recovery has come so far.
+    /// A push to a node was answered: if it is a mark, that generation's recovery has come so far.
     fn has_pushed(&self, to: &NodeId, push: &Push) {
         if push.marked().is_none() {
             return;

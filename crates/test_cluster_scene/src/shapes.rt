@@ -10,9 +10,9 @@ use std::sync::Wait;
 use std::test::Fail;
 use std::thread::Threads;
 
-/// A run: its start, its recoveries, what is told of each batch (committed at this version, or ended, where that is 0),
-/// how many logs are made, and of each storage server the epoch and the version at which it ends and the number of the
-/// last batch that it has.
+/// A run: its start, its recoveries, what is told of each batch (committed at this version, or ended, if that is 0),
+/// and how many logs are made. Of each storage server it has the epoch and the version at which it ends, and the number
+/// of the last batch that it has.
 #[derive(Clone, Copy)]
 pub struct Row {
     pub start: Numbers,
@@ -168,8 +168,8 @@ fn all_stand(report: &Report, wanted: &[(u64, u64, u8)]) -> Result<bool, Fail> {
 }
 
 /// Whether batches are committed in each generation of a cluster over the nodes of a rack, by a workload that goes over
-/// to the proxies of the later ones; the storage servers pull them from each; and each generation's logs are made with
-/// its own numbers, not before its recoverer begins.
+/// to the proxies of the later ones. The storage servers pull them from each. Each generation's logs are made with its
+/// own numbers, not before its recoverer begins.
 pub fn goes<K: Rack + Sync + Drop, R: Threads + Wait + Sync>(
     rt: &R,
     alloc: Global,

@@ -1,4 +1,4 @@
-//! Tests of what stands over files of the host, on disks in memory that stop at each call, or fail for a while.
+//! Tests of what is built over files of the host, on disks in memory that stop at each call, or fail for a while.
 #![tactic(auto)]
 
 #[cfg(test)]

@@ -95,7 +95,7 @@ fn is_over<D: Disk>(disk: &mut D) -> bool {
         && !disk.may_be_used()
 }
 
-/// A mirror of a disk that stops after so many calls: what was done stands below too, and no call is done after it.
+/// A mirror of a disk that stops after so many calls: what was done is below too, and no call is done after it.
 fn stops(rt: &impl Abort, alloc: Global, calls: u64) -> Option<usize> {
     let Some(mut mirror) = over(alloc, Fuse::new(MemoryDisk::new(alloc), calls)) else {
         return None;

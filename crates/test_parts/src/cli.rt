@@ -1,7 +1,6 @@
-//! Tests of commands that run with readers and writers that fail or are interrupted, and of the store that one is lent.
-mod counts;
-mod devices;
-mod end_devices;
+//! Commands over readers and writers that fail or are interrupted, and over a store that is lent.
 mod examples;
 mod faults;
 mod lent;
+mod runs;
+mod slow;

@@ -1,5 +1,5 @@
-//! Tests of what stands low in crates.txt and what no scenario can say: numbers at their limits, a node in memory, devices
-//! that fail when they are told to, readers and writers that fail, a store beside plain lists.
+//! Tests of what is low in crates.txt and no scenario can say: numbers at their limits, a node in memory, devices that
+//! fail when they are told to, readers and writers that fail, a store beside plain lists.
 #![tactic(auto)]
 
 #[cfg(test)]

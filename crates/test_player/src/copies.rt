@@ -1,4 +1,4 @@
-//! What nodes are asked and tell, and where they stood at last: some of a kind, copied and told apart.
+//! What nodes are asked and tell, and their last states: some of a kind, copied and told apart.
 use crate::subjects::Nodes;
 use fr_ask::{Ask, Last, Tell};
 use fr_base::Memory;

@@ -81,7 +81,7 @@ fn write_made(alloc: Global, cells: u8, ballot: u64) -> Result<Value, Wrong> {
     Ok(Object::of(alloc, &numbers)?.value())
 }
 
-/// How far the tally has come after an answer. Where there is no memory to say it, it is said once more, since the answer
+/// How far the tally has come after an answer. If there is no memory to say it, it is said once more, since the answer
 /// is not to be heard again.
 fn hear_read(alloc: Global, tally: &mut ReadTally, fields: &mut Fields) -> Result<Value, Wrong> {
     let cell = fields.index("cell", u8::MAX)?;

@@ -28,7 +28,7 @@ fn read_shape_in(fields: &mut Fields) -> Result<Option<Shape>, Wrong> {
     }
 }
 
-/// How many logs the next generation is to have, and on how many of them each tag is to stand.
+/// How many logs the next generation is to have, and on how many of them each tag is to be.
 fn read_shape(fields: &Fields) -> Result<Shape, Wrong> {
     let m = fields.index("logs", u8::MAX)?;
     Shape::new(m, fields.index("degree", u8::MAX)?).ok_or(NO_FORM)
@@ -85,7 +85,7 @@ fn write_phase(alloc: Global, phase: Result<Phase, Memory>) -> Result<Value, Wro
     write_last_state(alloc, Ok(Last::Recoverer { phase }))
 }
 
-/// The generation that a recoverer is going to open, as the state of this one alone; null where there is none.
+/// The generation that a recoverer is going to open, as the state of this one alone; null if there is none.
 fn generation(alloc: Global, recoverer: &Recoverer) -> Result<Value, Wrong> {
     match recoverer.generation() {
         Some(generation) => write_one(alloc, CoordState::new(alloc, generation)),

@@ -88,7 +88,7 @@ fn write_map(alloc: Global, map: Result<ShardMap, Memory>) -> Result<Value, Wron
     Ok(write_shards(alloc, map?.begins())?)
 }
 
-/// Where a shard begins and ends, with null for no end; null where there is no such shard.
+/// Where a shard begins and ends, with null for no end; null if there is no such shard.
 fn write_shard(alloc: Global, shard: Result<Option<Shard>, Memory>) -> Result<Value, Wrong> {
     match shard? {
         Some(shard) => Ok(write_range(alloc, &shard)?),
@@ -135,7 +135,7 @@ fn do_cover(alloc: Global, fields: &mut Fields) -> Result<Value, Wrong> {
     Ok(Value::from(covers(m, k, logs.as_slice())))
 }
 
-/// Null where these begins make a map, and why not where they do not.
+/// Null if these begins make a map, and why not if they do not.
 fn make(alloc: Global, given: Value) -> Result<Value, Wrong> {
     let begins = read_shards(alloc, given)?;
     match ShardMap::new(begins) {

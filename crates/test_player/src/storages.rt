@@ -80,7 +80,7 @@ impl<S: ShardStore + Drop> Plays<Storage<S>> for Nodes {
     }
 }
 
-/// A hear that broke off for want of memory left the server failed: it is opened again.
+/// A hear that ran out of memory left the server failed: it is opened again.
 fn reopen<S: ShardStore + Drop>(alloc: Global, storage: &mut Storage<S>) -> Result<Value, Wrong> {
     if storage.reopen(alloc).is_err() {
         return Err(Wrong::Unsaid);
@@ -191,7 +191,7 @@ fn break_off_at<S: ShardStore + Drop>(
     }
 }
 
-/// Null where what was heard was taken, and why not where it was not.
+/// Null if what was heard was taken, and why not if it was not.
 fn write_done(alloc: Global, done: Result<(), StorageFault>) -> Result<Value, Wrong> {
     match done {
         Ok(()) => Ok(Value::Null),
@@ -241,7 +241,7 @@ fn generations<S: ShardStore + Drop>(alloc: Global, storage: &Storage<S>) -> Res
     Ok(write_state(alloc, storage.state())?)
 }
 
-/// Where the server stands.
+/// The state of the server.
 fn position<S: ShardStore + Drop>(alloc: Global, storage: &Storage<S>) -> Result<Value, Wrong> {
     Ok(place_of(alloc, storage)?.value())
 }
@@ -256,7 +256,7 @@ fn place_of<S: ShardStore + Drop>(alloc: Global, storage: &Storage<S>) -> Result
     Object::of(alloc, &numbers)
 }
 
-/// Where the copy of a server stands, with its state.
+/// The copy of a server: its place and its state.
 pub(crate) fn write_standing(alloc: Global, storage: &Storage<MapStore>) -> Result<Value, Wrong> {
     let copy = storage.copy(alloc)?;
     Ok(standing_of(alloc, &copy)?)

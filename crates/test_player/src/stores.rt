@@ -146,7 +146,7 @@ fn below<S: ShardStore>(alloc: Global, store: &mut S, given: &Value) -> Result<V
     rows_of(alloc, store.range(alloc, &Shard { begin, end }))
 }
 
-/// Where a storage server stands that takes the store over, or why it does not. The store is then given back.
+/// The state of a storage server that takes the store over, or why it does not. The store is then given back.
 fn adopt(alloc: Global, store: &mut MapStore, given: &Value) -> Result<Value, Wrong> {
     let tag = tag_of(given)?;
     let copy = store.copy(alloc)?;
@@ -166,7 +166,7 @@ fn give_back(
     Ok(standing)
 }
 
-/// Null where the call was made, and why not where it was not.
+/// Null if the call was made, and why not if it was not.
 fn write_done(alloc: Global, done: Result<(), StoreFault>) -> Result<Value, Wrong> {
     match done {
         Ok(()) => Ok(Value::Null),
@@ -188,7 +188,7 @@ fn write_kept(alloc: Global, kept: Result<Bytes, StoreFault>) -> Result<Value, W
     }
 }
 
-/// Null where the key has no value.
+/// Null if the key has no value.
 fn write_found(alloc: Global, found: Result<Option<Bytes>, StoreFault>) -> Result<Value, Wrong> {
     match found {
         Ok(Some(value)) => Ok(hex_value(alloc, value.as_slice())?),

@@ -17,7 +17,7 @@ use test_rows::{Scene, Wrong, played};
 /// The player of nodes, and of what they are made of.
 pub(crate) struct Nodes;
 
-/// Plays a scenario of a node, or of what nodes are made of; false where it is about something else.
+/// Plays a scenario of a node, or of what nodes are made of; false if it is about something else.
 pub fn play(alloc: Global, scene: Scene, at: &mut usize) -> Result<bool, Wrong> {
     match scene.word() {
         "asks" => played(play_several::<Ask>(alloc, scene, at)),

@@ -73,7 +73,7 @@ impl Plays<Tail> for Nodes {
     }
 }
 
-/// Null where what a log told is taken or changes nothing, and why not where it is refused.
+/// Null if what a log told is taken or changes nothing, and why not if it is refused.
 fn hear(alloc: Global, tail: &mut Tail, fields: &mut Fields) -> Result<Value, Wrong> {
     let log = fields.index("log", u8::MAX)?;
     let peeked = read_peeked(read_tell(alloc, fields.take("tell")?))?;
@@ -86,7 +86,7 @@ fn hear(alloc: Global, tail: &mut Tail, fields: &mut Fields) -> Result<Value, Wr
     }
 }
 
-/// What was peeked, where that was told.
+/// What was peeked, if that was told.
 fn read_peeked(tell: Result<Tell, ScriptFault>) -> Result<Peeked, Wrong> {
     match tell? {
         Tell::Log(LogTell::Peeked(peeked)) => Ok(peeked),
@@ -99,7 +99,7 @@ fn reached(tail: &Tail, given: &Fields) -> Result<Value, Wrong> {
     Ok(Value::from(tail.reached(tag_of(given.all())?).get()))
 }
 
-/// What a new log is seeded with; null where the copy is not complete.
+/// What a new log is seeded with; null if the copy is not complete.
 fn seed(alloc: Global, tail: &Tail, fields: &Fields) -> Result<Value, Wrong> {
     let epoch = fields.epoch("epoch")?;
     let index = fields.index("index", u8::MAX)?;

@@ -46,7 +46,7 @@ fn reply(alloc: Global, tally: &mut EndTally, fields: &Fields) -> Result<Value, 
     }
 }
 
-/// The end after a reply that was heard. Where there is no memory for it, it is written once more, since the reply is not
+/// The end after a reply that was heard. If there is no memory for it, it is written once more, since the reply is not
 /// to be heard again.
 fn told_end(alloc: Global, tally: &EndTally) -> Result<Value, Wrong> {
     match write_end(alloc, tally.end()) {

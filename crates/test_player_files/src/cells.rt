@@ -82,7 +82,7 @@ fn read_asks(alloc: Global, given: Value) -> Result<Vec<CellAsk>, Wrong> {
     Ok(asks)
 }
 
-/// Where a node stands that was opened again, or why it was not.
+/// The state of a node that was opened again, or why it was not.
 pub(crate) fn write_reopened(
     alloc: Global,
     reopened: Result<Reopened, NodeFault>,

@@ -10,8 +10,8 @@ pub(crate) trait Spelled {
     fn is_one_or_none(&self, alloc: Global, bytes: &[u8]) -> Result<bool, Wrong>;
 }
 
-/// Null where bytes, of which each is changed to each value, are refused or read as they are; else what the first byte
-/// was changed to that is read otherwise, behind its place.
+/// Null if bytes, of which each is changed to each value, are refused or read as they are; else what the first byte was
+/// changed to that is read otherwise, behind its place.
 pub(crate) fn change_each<S: Spelled>(
     alloc: Global,
     spelled: &S,

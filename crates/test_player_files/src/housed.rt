@@ -43,7 +43,7 @@ impl Asked for Sequencer {
     }
 }
 
-/// Asks a node, before it has a journal, what stands in a list.
+/// Asks a node, before it has a journal, what is in a list.
 pub(crate) fn serve_before<N: Node + Drop>(
     alloc: Global,
     node: &mut N,

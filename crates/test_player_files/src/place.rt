@@ -1,4 +1,4 @@
-//! Devices in memory, and the files that stand on them.
+//! Devices in memory, and the files that are on them.
 use crate::counting::Counting;
 use crate::subjects::Files;
 use crate::sweeping::sweep;
@@ -14,7 +14,7 @@ use test_rows::{NO_FORM, Plays, Wrong, no_such_word, said, write_name};
 /// A device under a file: it can fail in a call, and its calls and syncs are counted.
 pub(crate) type Disk = Counting<FaultyDevice<MemoryDevice>>;
 
-/// What stands on a device, and how it is asked.
+/// What is on a device, and how it is asked.
 pub(crate) trait Kept: Drop {
     /// It, while it is open.
     type File: Drop;
@@ -38,7 +38,7 @@ pub(crate) trait Kept: Drop {
     ) -> Result<Value, Wrong>;
 }
 
-/// A device with what stands on it, which is open or not.
+/// A device with what is on it, which is open or not.
 #[derive(Drop)]
 pub(crate) struct Place<K: Kept> {
     kept: K,
@@ -79,7 +79,7 @@ impl<K: Kept> Place<K> {
         }
     }
 
-    /// Null where a file is open now, and why not where it is not.
+    /// Null if a file is open now, and why not if it is not.
     fn opened(
         &mut self,
         alloc: Global,
@@ -94,7 +94,7 @@ impl<K: Kept> Place<K> {
         }
     }
 
-    /// Gives the device back to what a file stood on.
+    /// Gives the device back to what a file was on.
     fn close(&mut self) -> Result<Value, Wrong> {
         let Some(file) = self.file.take() else {
             return Err(Wrong::Form("no file is open"));
@@ -107,7 +107,7 @@ impl<K: Kept> Place<K> {
         Ok(Value::Null)
     }
 
-    /// Null where a file stands on the device now that is made there, and why not where it does not.
+    /// Null if a file is on the device now that is made there, and why not if there is none.
     fn format(&mut self, alloc: Global, given: &mut Fields) -> Result<Value, Wrong> {
         let disk = self.take_disk(given)?;
         let made = self.kept.format(alloc, disk);
@@ -121,7 +121,7 @@ impl<K: Kept> Place<K> {
         said(self.opened(alloc, found))
     }
 
-    /// A byte stands now wherever something was written and not synced.
+    /// A byte is now wherever something was written and not synced.
     fn crash(&mut self, given: &Value) -> Result<Value, Wrong> {
         let byte = index_of(given, u8::MAX)?;
         self.device()?.crash(byte);
@@ -149,7 +149,7 @@ impl<K: Kept> Place<K> {
         }
     }
 
-    /// Null where bytes are such a file, and why not where they are none.
+    /// Null if bytes are such a file, and why not if they are none.
     fn read(&self, alloc: Global, given: &Value) -> Result<Value, Wrong> {
         let device = device_of(alloc, self.room, given)?;
         let disk = Counting::new(FaultyDevice::once(device, 0));
@@ -196,7 +196,7 @@ impl<K: Kept> Plays<Place<K>> for Files {
 /// In which call a device fails.
 #[derive(Clone, Copy)]
 pub(crate) enum Plan {
-    /// In this one alone, the first being 1; in none where it is 0.
+    /// In this one alone, the first being 1; in none if it is 0.
     Once(u64),
     /// In this one and all later ones.
     From(u64),
@@ -240,7 +240,7 @@ fn write_at(alloc: Global, device: &mut MemoryDevice, fields: &Fields) -> Result
     }
 }
 
-/// Null where a device did it, and why not where it did not.
+/// Null if a device did it, and why not if it did not.
 fn write_done(alloc: Global, done: Result<(), DeviceFault>) -> Result<Value, Wrong> {
     match done {
         Ok(()) => Ok(Value::Null),
@@ -260,10 +260,13 @@ pub(crate) fn write_node_fault(alloc: Global, fault: NodeFault) -> Result<Value,
     }
 }
 
-/// The room of a device, at most 65,535 bytes.
+/// The greatest room of a device: that of the nodes of a cluster over files.
+const MOST_ROOM: usize = 16_777_216;
+
+/// The room of a device, at most 16,777,216 bytes.
 pub(crate) fn read_room(fields: &Fields) -> Result<usize, Wrong> {
-    match u16::try_from(fields.number("room")?) {
-        Ok(room) => Ok(usize::from(room)),
-        Err(_) => Err(NO_FORM),
+    match usize::try_from(fields.number("room")?) {
+        Ok(room) if room <= MOST_ROOM => Ok(room),
+        _ => Err(NO_FORM),
     }
 }

@@ -87,7 +87,7 @@ fn append_group(alloc: Global, file: &mut Records<Disk>, given: Value) -> Result
     write_done(alloc, file.append_group(alloc, &group))
 }
 
-/// Adds records, alone or as a group, behind so many others, where they are not there yet. They are there whole or not at
+/// Adds records, alone or as a group, behind so many others, if they are not there yet. They are there whole or not at
 /// all.
 fn put(alloc: Global, file: &mut Records<Disk>, fields: &mut Fields) -> Result<Value, Wrong> {
     let at = usize::from(fields.index("at", u8::MAX)?);
@@ -126,7 +126,7 @@ fn read_group(alloc: Global, given: Value) -> Result<Vec<Vec<u8>>, Wrong>
     Ok(group)
 }
 
-/// Null where it was done, and why not where it was not.
+/// Null if it was done, and why not if it was not.
 fn write_done(alloc: Global, done: Result<(), RecordFault>) -> Result<Value, Wrong> {
     match done {
         Ok(()) => Ok(Value::Null),
@@ -134,7 +134,7 @@ fn write_done(alloc: Global, done: Result<(), RecordFault>) -> Result<Value, Wro
     }
 }
 
-/// Null where there are no more records.
+/// Null if there are no more records.
 fn write_found(alloc: Global, found: Result<Option<Bytes>, RecordFault>) -> Result<Value, Wrong> {
     match found {
         Ok(Some(record)) => Ok(hex_value(alloc, record.as_slice())?),

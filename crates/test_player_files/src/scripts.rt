@@ -28,7 +28,7 @@ pub(crate) fn play_apply(alloc: Global, scene: Scene, at: &mut usize) -> Result<
     scene.texts_by(&TEXTS).play_made(alloc, &Files, command, at)
 }
 
-/// The words of which a script follows as it stands.
+/// The words of which a script follows as it is.
 static TEXTS: [&str; 4] = ["run", "fronts", "changed", "without"];
 
 /// Plays rows with `end`.
@@ -86,7 +86,7 @@ fn run_both(alloc: Global, command: Command, script: &[u8]) -> Result<Value, Wro
     }
 }
 
-/// The same, before it is written. Where both ways differ, or a script that is none prints something, no row says so.
+/// The same, before it is written. If both ways differ, or a script that is none prints something, no row says so.
 fn ran_both(alloc: Global, command: Command, script: &[u8]) -> Result<Ran, Wrong> {
     let ran = run(alloc, command, script)?;
     if let Some(other) = twice(alloc, command, script)? {
@@ -134,7 +134,7 @@ fn twice(alloc: Global, command: Command, script: &[u8]) -> Result<Option<Vec<u8
     }
 }
 
-/// Lines, each of which ends; or as one text where the last one does not.
+/// Lines, each of which ends; or as one text if the last one does not.
 fn write_lines(alloc: Global, lines: &[u8]) -> Result<Value, Wrong> {
     let text = std::str::from_utf8(lines).or(Err(NO_FORM))?;
     let mut all = Vec::new(alloc);
@@ -154,7 +154,7 @@ fn write_fault(alloc: Global, fault: CliFault) -> Result<Value, Wrong> {
     Ok(Value::String(format!(in alloc; "{fault}")?))
 }
 
-/// Null where each front of a script is none, and else the length of the first one that is not so.
+/// Null if each front of a script is none, and else the length of the first one that is not so.
 fn run_fronts(alloc: Global, command: Command, script: &[u8]) -> Result<Value, Wrong> {
     for len in 0..script.len() {
         if ran_both(alloc, command, &script[..len])?.0 != Err(CliFault::BadScript) {

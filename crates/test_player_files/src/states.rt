@@ -44,7 +44,7 @@ impl Plays<CoordState> for Files {
     }
 }
 
-/// Null where the state is extended by the one generation that is given, and why not where it is not.
+/// Null if the state is extended by the one generation that is given, and why not if it is not.
 fn extend(alloc: Global, state: &mut CoordState, given: Value) -> Result<Value, Wrong> {
     let generation = read_state(alloc, given)?.last();
     match state.extend(generation) {

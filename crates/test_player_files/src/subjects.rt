@@ -12,7 +12,7 @@ use test_rows::{Scene, Wrong, played};
 /// The player of what is kept.
 pub(crate) struct Files;
 
-/// Plays a scenario of what is kept; false where it is about something else.
+/// Plays a scenario of what is kept; false if it is about something else.
 pub fn play(alloc: Global, scene: Scene, at: &mut usize) -> Result<bool, Wrong> {
     match scene.word() {
         "apply" => played(play_apply(alloc, scene, at)),

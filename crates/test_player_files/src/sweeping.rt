@@ -79,7 +79,7 @@ fn read_one(alloc: Global, item: Value) -> Result<Ask, Wrong> {
     })
 }
 
-/// The number of the last call that fails, where each call fails in turn.
+/// The number of the last call that fails, if each call fails in turn.
 fn calls_of<K: Kept>(
     alloc: Global,
     kept: &K,

@@ -13,7 +13,7 @@ use fr_tags::MAX_LOGS;
 use serde_json::Value;
 use std::alloc::Global;
 
-/// How many logs a generation has, and on how many of them each tag stands.
+/// How many logs a generation has, and on how many of them each tag is.
 pub fn read_sizes(fields: &Fields) -> Result<(u8, u8), Wrong>
     ensures some { IfOk result (λ sizes. 1 ≤ sizes.1) }
     ensures fits { IfOk result (λ sizes. sizes.1 ≤ sizes.0) }
@@ -49,7 +49,7 @@ pub fn write_name(alloc: Global, name: &str) -> Result<Value, Wrong> {
     Ok(write_text(alloc, name)?)
 }
 
-/// What is made of nothing, where the first row gives nothing.
+/// The subject of a first row that gives nothing.
 pub fn of_nothing<T: Drop>(alloc: Global, scene: Scene, made: T) -> Result<T, Wrong> {
     if scene.given(alloc)?.all().is_null() {
         Ok(made)
@@ -58,7 +58,7 @@ pub fn of_nothing<T: Drop>(alloc: Global, scene: Scene, made: T) -> Result<T, Wr
     }
 }
 
-/// That a scenario was about something known, once it was played.
+/// `true`, for a scenario that was played.
 pub fn played(done: Result<(), Wrong>) -> Result<bool, Wrong> {
     done?;
     Ok(true)

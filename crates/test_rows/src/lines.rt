@@ -29,7 +29,7 @@ pub(crate) fn line_of(text: &str) -> Line<'_> {
     }
 }
 
-/// A row, or what follows of one, where four blanks stand before.
+/// A row, or what follows of one, if four blanks are before it.
 fn row_of(text: &str) -> Line<'_> {
     if text.starts_with(' ') {
         Line::More(text.trim())
@@ -38,7 +38,7 @@ fn row_of(text: &str) -> Line<'_> {
     }
 }
 
-/// Prose, where no four blanks stand before.
+/// Prose, if no four blanks are before it.
 fn prose_of(text: &str) -> Line<'_> {
     if text.starts_with(' ') || text.starts_with('\t') {
         Line::Bad("a row begins with four blanks, and prose with none")

@@ -16,7 +16,7 @@ impl Names {
         }
     }
 
-    /// One name more, of a row `let NAME = TEXT`, in which earlier names can stand.
+    /// One name more, of a row `let NAME = TEXT`, in which earlier names can be.
     pub(crate) fn define(&mut self, alloc: Global, row: &str) -> Result<(), Wrong> {
         let Some(("let", definition)) = row.split_once(' ') else {
             return Err(Wrong::Form("only let NAME = TEXT stands before the first ## NAME"));
@@ -43,7 +43,7 @@ impl Names {
         !name.is_empty()
     }
 
-    /// A text in which what a name stands for stands in the place of `$NAME`.
+    /// A text in which what a name stands for is in the place of `$NAME`.
     pub(crate) fn expand(&self, alloc: Global, text: &str) -> Result<String, Wrong> {
         let mut expanded = String::new(alloc);
         for (place, piece) in text.split('$').enumerate() {

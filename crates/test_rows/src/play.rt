@@ -56,7 +56,7 @@ fn take_line(
     }
 }
 
-/// Ends what stands before the first scenario, or a scenario.
+/// Ends what is before the first scenario, or a scenario.
 fn end<P: Player>(
     alloc: Global,
     player: &P,
@@ -74,7 +74,7 @@ fn end<P: Player>(
     }
 }
 
-/// Takes up the names that stand before the first scenario.
+/// Takes up the names that are before the first scenario.
 fn define_all(
     alloc: Global,
     file: &str,

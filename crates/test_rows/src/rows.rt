@@ -20,7 +20,7 @@ pub(crate) struct Scenario {
     pub(crate) rows: Vec<Row>,
 }
 
-/// The parts of a row: its word, what stands behind it, and what stands behind the arrow.
+/// The parts of a row: its word, what is behind it, and what is behind the arrow.
 #[derive(Clone, Copy)]
 pub(crate) struct Parts<'t> {
     pub(crate) word: &'t str,
@@ -120,7 +120,7 @@ pub(crate) fn json_of(alloc: Global, text: &str) -> Result<Value, Wrong> {
     }
 }
 
-/// The same, and null where there is no text.
+/// The same, and null if there is no text.
 pub(crate) fn json_or_null(alloc: Global, text: &str) -> Result<Value, Wrong> {
     if text.is_empty() {
         Ok(Value::Null)

@@ -9,8 +9,8 @@ use std::alloc::Global;
 
 /// What plays the rows of scenarios about a `T`.
 pub trait Plays<T> {
-    /// What comes of a row, in its form: of its word, and of what is given with it, null where that is nothing. Where
-    /// it answers `Memory` nothing was done, where it answers `InPart` a part: it is asked once more.
+    /// What comes of a row, in its form: of its word, and of what is given with it, null if that is nothing. If it
+    /// answers `Memory` nothing was done, if it answers `InPart` a part: it is asked once more.
     fn play_row(
         &self,
         alloc: Global,
@@ -58,7 +58,7 @@ impl<'t> Scene<'t> {
         }
     }
 
-    /// The same, in which what rows of these words give is a text, and stands there as it is.
+    /// The same, in which what rows of these words give is a text, and is there as it is.
     pub fn texts_by(self, words: &'static [&'static str]) -> Self {
         Scene {
             text_words: words,
@@ -66,7 +66,7 @@ impl<'t> Scene<'t> {
         }
     }
 
-    /// The same, of which no row is played again where there was no memory: its subject counts what it is asked.
+    /// The same, of which no row is played again if there was no memory: its subject counts what it is asked.
     pub fn once(self) -> Self {
         Scene {
             is_once: true,
@@ -79,7 +79,7 @@ impl<'t> Scene<'t> {
         self.made.word
     }
 
-    /// What is given with it, null where that is nothing.
+    /// What is given with it, null if that is nothing.
     pub fn given(&self, alloc: Global) -> Result<Fields, Wrong> {
         Ok(Fields::new(json_or_null(alloc, self.made.given)?, 0))
     }
@@ -117,7 +117,7 @@ impl<'t> Scene<'t> {
         Ok(())
     }
 
-    /// Plays a row, and once more where there was no memory for it.
+    /// Plays a row, and once more if there was no memory for it.
     fn play_or_again<T, P: Plays<T>>(
         &self,
         alloc: Global,
@@ -142,7 +142,7 @@ pub fn no_such_word(words: &'static str) -> Result<Value, Wrong> {
     Err(Wrong::Form(words))
 }
 
-/// Plays a row. Where it answers `Memory` it may be played again.
+/// Plays a row. If it answers `Memory` it may be played again.
 fn play_row<T, P: Plays<T>>(
     alloc: Global,
     player: &P,
@@ -174,12 +174,12 @@ fn tell<T, P: Plays<T>>(
     }
 }
 
-/// A value as text, where there is one.
+/// A value as text, if there is one.
 fn text_of(alloc: Global, value: Result<Value, Wrong>) -> Result<Vec<u8>, Wrong> {
     Ok(value?.to_vec(alloc)?)
 }
 
-/// What a row of a word shows of a subject; none where there is no memory to tell it.
+/// What a row of a word shows of a subject; none if there is no memory to tell it.
 fn seen<T, P: Plays<T>>(alloc: Global, player: &P, subject: &mut T, word: &str) -> Option<Vec<u8>> {
     let told = player.play_row(alloc, subject, word, &mut Fields::new(Value::Null, 0));
     text_of(alloc, told).ok()

@@ -11,9 +11,9 @@ use std::alloc::{AllocError, AllocFailed, Global};
 pub enum Wrong {
     /// There is no memory, and nothing was done: the row may be played again.
     Memory,
-    /// There was no memory for a part of what the row does, which goes on there where it is played again.
+    /// There was no memory for a part of what the row does. Played again it goes on there.
     InPart,
-    /// There is no memory to say what was done, and played again the row would be told something else.
+    /// The row was done, and there was no memory to say so. Played again it would tell something else.
     Unsaid,
     /// The row is no row; what is wrong with it.
     Form(&'static str),
@@ -21,7 +21,7 @@ pub enum Wrong {
     Differs { told: Vec<u8>, wanted: Vec<u8> },
 }
 
-/// What is said of something that is not to be done again, as it is where there is memory to say it.
+/// What is said of something that is not to be done again, as it is if there is memory to say it.
 pub fn said<T: Drop>(value: Result<T, Wrong>) -> Result<T, Wrong> {
     match value {
         Err(Wrong::Memory) => Err(Wrong::Unsaid),
@@ -29,8 +29,8 @@ pub fn said<T: Drop>(value: Result<T, Wrong>) -> Result<T, Wrong> {
     }
 }
 
-/// What is told of something that was done, in its form. Where there is no memory for the form it is made once more,
-/// since the row is not to be played again.
+/// What is told of something that was done, in its form. If there is no memory for the form it is made once more, since
+/// the row is not to be played again.
 pub fn told<T: WriteItem>(alloc: Global, told: &T) -> Result<Value, Wrong> {
     match told.write(alloc) {
         Ok(value) => Ok(value),
@@ -61,7 +61,7 @@ impl From<Memory> for Wrong {
     }
 }
 
-/// Of a node that is made, opened or asked where the row says nothing of a fault.
+/// Of a node that is made, opened or asked if the row says nothing of a fault.
 impl From<NodeFault> for Wrong {
     fn from(fault: NodeFault) -> Wrong {
         match fault {

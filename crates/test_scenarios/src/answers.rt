@@ -8,7 +8,7 @@ use serde_json::Value;
 use std::alloc::Global;
 use test_rows::{Wrong, write_name};
 
-/// What an event answers: null where there is nothing to tell.
+/// What an event answers: null if there is nothing to tell.
 pub(crate) fn write_answer(alloc: Global, answer: &Answer) -> Result<Value, Wrong> {
     match answer {
         Answer::Done => Ok(Value::Null),

@@ -23,7 +23,7 @@ pub(crate) fn read_config(alloc: Global, fields: &mut Fields) -> Result<Config, 
     }
 }
 
-/// The event of a row; None where its word is none of an event.
+/// The event of a row; None if its word is none of an event.
 pub(crate) fn read_event(
     alloc: Global,
     world: &World,
@@ -123,7 +123,7 @@ fn read_hear(alloc: Global, world: &World, given: &mut Fields) -> Result<Event, 
     })
 }
 
-/// The version at which a hear breaks off, where it does: it is then one of four members, else there are three.
+/// The version at which a hear breaks off, if it does: it is then one of four members, else there are three.
 fn read_taken(given: &mut Fields) -> Result<Option<Version>, Wrong> {
     if given.of(4).value("taken").is_ok() {
         Ok(Some(given.version("taken")?))
@@ -147,7 +147,7 @@ fn read_told(
     }
 }
 
-/// A number; None where something else is given.
+/// A number; None if something else is given.
 fn number_of(given: &Value) -> Result<Option<usize>, Wrong> {
     match given.as_u64() {
         Some(number) => match usize::try_from(number) {

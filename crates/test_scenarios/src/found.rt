@@ -8,7 +8,7 @@ const NO_ASK: Wrong = Wrong::Form("the one node gave the other no ask of this nu
 
 const NO_TELL: Wrong = Wrong::Form("the one node told the other nothing of this number");
 
-/// Where among the asks of a turn of a node stands one to another, where there is one.
+/// Where an ask to another node is among the asks of a turn of a node, if there is one.
 fn place_in(turn: &Turn, from: &NodeId, to: &NodeId) -> Option<usize> {
     if !turn.node().is_same(*from) {
         return None;

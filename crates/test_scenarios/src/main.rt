@@ -1,10 +1,11 @@
 //! Plays the scenarios of the folder, each file `NAME.md` but README.md, and prints a line for each scenario. It ends
-//! with status 1 where one does not hold.
+//! with status 1 if one does not hold.
 #![tactic(auto)]
 
 mod answers;
 mod events;
 mod found;
+mod scripts;
 mod worlds;
 
 use std::alloc::Global;
@@ -17,7 +18,7 @@ struct Players;
 
 /// What a scenario can be about.
 const SUBJECTS: &str =
-    "a scenario begins with: apply, asks, batch, cell, cell_file, coordinated_state, end, end_tally, \
+    "a scenario begins with: apply, asks, audit_script, batch, cell, cell_file, coordinated_state, end, end_tally, \
      housed_cell, housed_log, housed_sequencer, lasts, log, log_file, proxy, read_tally, record_file, \
      recoverer, rows, sequencer, shard, shards, storage, failing_storage, store, failing_store, tail, \
      tells, world, write_tally";
@@ -27,6 +28,7 @@ impl Player for Players {
         if test_player::play(alloc, scene, at)?
             || test_player_files::play(alloc, scene, at)?
             || worlds::play(alloc, scene, at)?
+            || scripts::play(alloc, scene, at)?
         {
             Ok(())
         } else {

@@ -13,7 +13,7 @@ use test_rows::{Plays, Scene, Wrong, no_such_word, played, said, write_last_stat
 /// The player of worlds.
 struct Worlds;
 
-/// Plays a scenario of a world; false where it is about something else.
+/// Plays a scenario of a world; false if it is about something else.
 pub(crate) fn play(alloc: Global, scene: Scene, at: &mut usize) -> Result<bool, Wrong> {
     if scene.word() != "world" {
         return Ok(false);
@@ -75,7 +75,7 @@ fn happen(
     }
 }
 
-/// What comes of an event. Where memory is wanting the world stands as it was, and the event is tried again.
+/// What comes of an event. If memory runs out the world is as it was, and the event is tried again.
 fn take(alloc: Global, played: &mut Played, event: Event) -> Result<Value, Wrong> {
     let turns = played.world.turns().len();
     let given = match played.world.step(alloc, &event) {
@@ -105,7 +105,7 @@ fn write_copy(alloc: Global, answer: Result<Answer, Memory>) -> Result<Value, Wr
     write_answer(alloc, &answer?)
 }
 
-/// What others see of a node's last state; null where it is not there.
+/// What others see of a node's last state; null if it is not there.
 fn state(alloc: Global, world: &World, given: &mut Fields) -> Result<Value, Wrong> {
     let node = read_node(given.take_all())?;
     match world.last_of(alloc, node)? {

@@ -7,7 +7,7 @@ use std::alloc::Global;
 use std::process::Abort;
 use std::test::Fail;
 
-/// The bytes of a state of two generations of four logs, on two of which each tag stands: 257, from version 1 on, seeded
+/// The bytes of a state of two generations of four logs, on two of which each tag is: 257, from version 1 on, seeded
 /// through 0, and 513, from 10 on, seeded through 10.
 const BOTH: [u8; 54] = [
     1, 2, //
@@ -15,10 +15,10 @@ const BOTH: [u8; 54] = [
     0, 0, 0, 0, 0, 0, 2, 1, 4, 2, 0, 0, 0, 0, 0, 0, 0, 10, 0, 0, 0, 0, 0, 0, 0, 10,
 ];
 
-/// Where a storage server stands: epoch, version and floor.
+/// The state of a storage server: epoch, version and floor.
 type Place = (u64, u64, u64);
 
-/// The bytes that a store keeps, and where the server stands that takes it over at version 11, if one does.
+/// The bytes that a store keeps, and the state of the server that takes it over at version 11, if one does.
 static ROWS: [(&[u8], Option<Place>); 3] = [
     (&BOTH, Some((513, 11, 0))),
     (b"\0", None),
@@ -37,7 +37,7 @@ fn place<S: ShardStore>(storage: &Storage<S>) -> Place {
     (epoch.get(), version.get(), storage.floor().get())
 }
 
-/// Where the server stands that takes a store over which keeps these bytes at version 11, none where they are no state.
+/// The state of the server that takes a store over which keeps these bytes at version 11, none if they are no state.
 fn adopted<S: ShardStore + Drop>(
     alloc: Global,
     mut store: S,

@@ -81,7 +81,7 @@ fn has_range<S: ShardStore>(alloc: Global, store: &mut S) -> Result<bool, Fail> 
     Ok(holds(rows.as_slice(), &SETS[1..2]))
 }
 
-/// How long the value of `a` is, where it has one.
+/// How long the value of `a` is, if it has one.
 fn length_of_a<S: ShardStore>(alloc: Global, store: &mut S) -> Result<Option<usize>, Fail> {
     let key = bytes(alloc, b"a")?;
     match store.get(alloc, &key)? {
@@ -90,7 +90,7 @@ fn length_of_a<S: ShardStore>(alloc: Global, store: &mut S) -> Result<Option<usi
     }
 }
 
-/// Whether values and ranges are those that were set, and there are none where all is undone.
+/// Whether values and ranges are those that were set, and there are none if all is undone.
 fn reads<S: ShardStore>(alloc: Global, store: &mut S) -> Result<bool, Fail> {
     let is_there = has_range(alloc, store)? && length_of_a(alloc, store)? == Some(0);
     store.undo_to(alloc, at(0)?)?;
@@ -103,7 +103,7 @@ fn keeps<S: ShardStore>(alloc: Global, store: &mut S, wanted: &[u8]) -> Result<b
     Ok(kept.as_slice() == wanted)
 }
 
-/// Whether a store keeps no bytes at first, and then those that are set, also where it is opened again.
+/// Whether a store keeps no bytes at first, and then those that are set, also if it is opened again.
 fn keeps_state<S: ShardStore>(alloc: Global, store: &mut S) -> Result<bool, Fail> {
     let was_empty = keeps(alloc, store, b"".as_slice())?;
     store.set_state(alloc, bytes(alloc, b"state")?)?;

@@ -1,5 +1,5 @@
-//! A store whose files fail for a while, opened again in place once they work: it holds what stood before the call that
-//! met the fault, or what that call was to make.
+//! A store whose files fail for a while, opened again in place once they work: it holds what was there before the call
+//! that met the fault, or what that call was to make.
 use crate::gap::Gap;
 use crate::scene::{Answer, Call, Held, Shown, ask, kept};
 use fr_sql_files::SqlFileStore;
@@ -9,7 +9,7 @@ use sqlite_disk::Memory as MemoryDisk;
 use std::alloc::Global;
 use std::test::Fail;
 
-/// What stands before the call that may meet the fault.
+/// What is there before the call that may meet the fault.
 const BEFORE: Shown = Shown {
     applied: 8,
     floor: 0,
@@ -60,8 +60,8 @@ fn end_after(alloc: Global, passes: u64) -> Result<End, StoreFault> {
     }
 }
 
-/// Whether a store ends as it is to. Where a sync failed, the log may not be used again, and the store stays failed;
-/// else it is opened again.
+/// Whether a store ends as it is to. If a sync failed, the log may not be used again, and the store stays failed; else
+/// it is opened again.
 fn is_right(end: End) -> bool {
     match (end.answer, end.reopened) {
         (Ok(_), _) => end.shown == Ok(Some(AFTER)),

@@ -22,10 +22,10 @@ pub(crate) enum Call {
     Look,
 }
 
-/// What a call is answered: what the store shows, where that is asked for.
+/// What a call is answered: what the store shows, if that is asked for.
 pub(crate) type Answer = Result<Option<Shown>, StoreFault>;
 
-/// What the key `a` holds, where a store has no other one.
+/// What the key `a` holds, if a store has no other one.
 #[derive(Clone, Copy, PartialEq, Eq)]
 pub(crate) enum Held {
     Nothing,

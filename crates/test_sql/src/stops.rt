@@ -1,5 +1,5 @@
-//! A file that stops at some call, a crash, and what is then found: what stood before the call of the store that met
-//! the stop, or what it was to make.
+//! A file that stops at some call, a crash, and what is then found: what was there before the call of the store that
+//! met the stop, or what it was to make.
 use crate::scene::{Answer, Call, Held, Shown, ask, found, kept};
 use fr_sql_files::SqlFileStore;
 use fr_sql_rows::FaithfulDisk;
@@ -101,9 +101,9 @@ fn fused(alloc: Global, log: u64, db: u64) -> Result<Files<Fuse<MemoryDisk>>, St
     })
 }
 
-/// Whether a run ends as it is to: where no call met the stop, with what all of them make, and a further forget of what
-/// is forgotten changes nothing; where one did, with what stood before it or what it makes, and a further call is
-/// refused.
+/// Whether a run ends as it is to. If no call met the stop, it ends with what all of them make, and a further forget of
+/// what is forgotten changes nothing. If one did, it ends with what was there before it or what it makes, and a further
+/// call is refused.
 fn is_right(end: End) -> bool {
     if end.answered >= ROWS.len() {
         return end.further == Ok(None) && end.found == Ok(Some(shown_after(ROWS.len())));

@@ -1,4 +1,4 @@
-//! A store in memory whose device fails in one call, for tests of what stands on a store.
+//! A store in memory whose device fails in one call, for tests of what is built on a store.
 #![tactic(auto)]
 
 ghost use Rattle.std.specs.Prelude.{◌≡◌, ◌⊎◌, ◌↔◌, ◌||◌, false, Err, IfErr, IsTrue};
@@ -11,9 +11,8 @@ use fr_mutation::{Batch, Shard};
 use fr_undo::{MapStore, ShardStore, StoreFault};
 use std::alloc::Global;
 
-/// A store in memory whose device fails in one call that reads, writes or opens it again. It is then
-/// failed, and stands before that call or after it, as was chosen: a call that writes has done nothing, or
-/// all that it was to do.
+/// A store in memory whose device fails in one call that reads, writes or opens it again. It is then failed, and as it
+/// was before that call or is after it, as was chosen: a call that writes has done nothing, or all that it was to do.
 #[derive(Drop)]
 pub struct FailsOnce {
     store: MapStore,
@@ -24,8 +23,8 @@ pub struct FailsOnce {
 }
 
 impl FailsOnce {
-    /// An empty store whose device fails in the call after `calls` others that were not refused. A call
-    /// that writes is done then where `is_done` is true, and else it is not.
+    /// An empty store whose device fails in the call after `calls` others that were not refused. A call that writes is
+    /// done then if `is_done` is true, and else it is not.
     pub fn new(alloc: Global, calls: u32, is_done: bool) -> Self
         ensures empty { ⟦<FailsOnce as ShardStore>⟧.state result ≡ fresh }
         ensures works { ⟦<FailsOnce as ShardStore>⟧.is_failed result ≡ false }

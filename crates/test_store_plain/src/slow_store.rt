@@ -20,7 +20,7 @@ pub struct SlowStore {
     pub floor: u64,
 }
 
-/// The first `len` bytes of a value, with zeros where it has fewer.
+/// The first `len` bytes of a value, with zeros if it has fewer.
 fn fit(alloc: Global, value: &[u8], len: usize) -> Result<Vec<u8>, AllocError> {
     let mut fitted = Vec::new(alloc);
     for at in 0..len {
@@ -178,7 +178,7 @@ impl SlowStore {
         Ok(rows)
     }
 
-    /// Adds the row of a key where what it holds now differs from what it held.
+    /// Adds the row of a key if what it holds now differs from what it held.
     fn keep_row(
         &mut self,
         alloc: Global,

@@ -12,10 +12,10 @@ use test_cluster_scene::{
     entries_of, holds_on, ran_on,
 };
 
-/// One workload with few turns for each thread, where there are many runs.
+/// One workload with few turns for each thread, if there are many runs.
 pub(crate) const SHORT: Numbers = Numbers { turns: 300, ..ONE };
 
-/// How many hears of a server are in part, one at most; None where there are more, or where a batch is not committed.
+/// How many hears of a server are in part, one at most; None if there are more, or if a batch is not committed.
 fn broken_off(report: &Report, works: &[Orders], server: NodeId) -> Option<usize> {
     let committed = AreCommitted { many: 20 };
     let parts = parts(entries_of(report, server));
@@ -44,7 +44,7 @@ fn commits<R: Threads + Wait + Sync>(
 }
 
 /// Each store fails in one of its first calls while records are heard, and the run is one all the same. Each call of a
-/// hear changes the store, so where the call is not done the hear is entered in part. The server has ten batches to apply,
+/// hear changes the store, so if the call is not done the hear is entered in part. The server has ten batches to apply,
 /// and looks for each version until its log holds it: so it makes these calls before its turns are over.
 #[test]
 fn a_hear_of_records_that_breaks_off_is_entered_in_part(rt: HostRuntime) -> Result<(), Fail> {
@@ -80,7 +80,7 @@ fn ends_well<R: Threads + Wait + Sync>(
     holds_on(rt, alloc, IDLE, &[], rack, &NoFaults, &committed)
 }
 
-/// The store fails where it advances, or where its rows are read at the end, and is opened again.
+/// The store fails as it advances, or as its rows are read at the end, and is opened again.
 #[test]
 fn a_store_that_fails_at_the_end_is_opened_again(rt: HostRuntime) -> Result<(), Fail> {
     for calls in 1..4 {
@@ -108,7 +108,7 @@ fn rolls_back<R: Threads + Wait + Sync>(
     holds_on(rt, alloc, TWO, &ballots, rack, &Overtaken::new(), &rolled)
 }
 
-/// The store fails where it applies, undoes and sets the state of a later epoch, and at what comes then.
+/// The store fails as it applies, undoes and sets the state of a later epoch, and at what comes then.
 #[test]
 fn a_rollback_that_breaks_off_is_entered_in_part(rt: HostRuntime) -> Result<(), Fail> {
     for calls in 1..5 {

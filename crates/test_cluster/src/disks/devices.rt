@@ -74,7 +74,7 @@ fn rack_of(fails: Fails) -> FileRack<FrailDevices<MemoryDevices>> {
 /// The calls of the device in the append of a push, the first ones being those that make the file, its seed and its mark.
 static CALLS: [u64; 8] = [15, 16, 17, 18, 19, 20, 21, 22];
 
-/// Whether all batches are committed in order where the device fails once.
+/// Whether all batches are committed in order if the device fails once.
 fn commits<R: Threads + Wait + Sync>(rt: &R, alloc: Global, n: u64) -> Result<bool, Fail> {
     let committed = AreCommitted { many: 20 };
     let rack = rack_of(Fails::Once(n));
@@ -90,7 +90,7 @@ fn a_device_that_fails_once_holds_nothing_up(rt: HostRuntime) -> Result<(), Fail
     Ok(())
 }
 
-/// What comes of a run where the device fails for good.
+/// What comes of a run if the device fails for good.
 fn comes_of<R: Threads + Wait + Sync>(
     rt: &R,
     alloc: Global,

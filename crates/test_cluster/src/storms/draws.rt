@@ -42,7 +42,7 @@ fn draws(seed: u64, strength: u16) -> Draws
     }
 }
 
-/// What befalls the asks of seed 1 at half the strength, one after another.
+/// What happens to the asks of seed 1 at half the strength, one after another.
 static VERDICTS: [Verdict; 24] = [
     Verdict::Pass,
     Verdict::Pass,
@@ -70,7 +70,7 @@ static VERDICTS: [Verdict; 24] = [
     Verdict::DropAsk,
 ];
 
-/// What befalls the next ask.
+/// What happens to the next ask.
 fn next(storm: &Storm) -> Result<Verdict, Fail> {
     let epoch = Epoch::new(513).ok_or("an epoch")?;
     let ask = Ask::Cell(CellAsk::Read {
@@ -101,7 +101,7 @@ fn draws_go_on_past_the_greatest_number(rt: HostRuntime) {
     }
 }
 
-/// Nothing befalls the asks of a storm of strength 0, and something befalls each of one of 256.
+/// Nothing happens to the asks of a storm of strength 0, and something happens to each of one of 256.
 #[test]
 fn no_ask_is_faulty_at_0_and_each_is_at_256(rt: HostRuntime) -> Result<(), Fail> {
     let (calm, wild) = (Storm::new(draws(1, 0)), Storm::new(draws(1, 256)));
@@ -149,7 +149,7 @@ static CRASHES: [Crashed; 13] = [
     Crashed::Log(2),
 ];
 
-/// What crashes where each draw is a fault.
+/// What crashes if each draw is a fault.
 static ALL_CRASH: [Crashed; 16] = [
     Crashed::Log(0),
     Crashed::Log(5),

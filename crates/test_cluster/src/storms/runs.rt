@@ -47,7 +47,7 @@ fn a_storm_in_which_each_ask_is_faulty_is_a_run(rt: HostRuntime) -> Result<(), F
     Ok(())
 }
 
-/// Whether a text stands in another.
+/// Whether a text is in another.
 fn has(all: &[u8], text: &[u8]) -> bool {
     !text.is_empty() && all.windows(text.len()).any(|at| at == text)
 }

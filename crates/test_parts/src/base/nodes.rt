@@ -1,4 +1,4 @@
-//! A node without a device: what it tells, where it stands, and the machine that it gives back.
+//! A node without a device: what it tells, its state, and the machine that it gives back.
 use fr_base::{Ballot, InMemory, Node, Reopened};
 use fr_register::{Cell, CellAsk, CellTell};
 use std::alloc::Global;
@@ -20,8 +20,7 @@ fn told_by(tell: &CellTell) -> Said {
     }
 }
 
-/// What the node tells that is asked to promise a ballot, and then opened again: nothing was owed, so that it stands
-/// before.
+/// What the node tells that is asked to promise a ballot, and then opened again: nothing was owed, so it is as before.
 fn reads<N: Node<Plain = Cell>>(alloc: Global, node: &mut N, number: u64) -> Result<Said, Fail> {
     let ballot = Ballot::new(number).ok_or("a ballot")?;
     let tell = node.serve(alloc, CellAsk::Read { ballot })?;

@@ -58,7 +58,7 @@ fn versions_beside_a_version(rt: HostRuntime) {
     assert!(rt; Version::new(LAST_VERSION + 1).is_none());
 }
 
-/// The number of the step from a version to another one, where there is one.
+/// The number of the step from a version to another one, if there is one.
 fn step(from: u64, to: u64) -> Option<Option<u64>> {
     let from = Version::new(from)?;
     let to = Version::new(to)?;
@@ -131,7 +131,7 @@ fn stand(one: &NodeId, other: &NodeId) -> (Ordering, bool) {
     (one.order(*other), one.is_same(*other))
 }
 
-/// Each of these stands before all that follow it.
+/// Each of these is before all that follow it.
 static NODES: [Node; 12] = [
     Node::Cell(0),
     Node::Cell(9),
@@ -164,7 +164,7 @@ fn nodes_in_their_order(rt: HostRuntime) {
     }
 }
 
-/// Whether the earlier log stands before the later one, and each is itself alone.
+/// Whether the earlier log is before the later one, and each is itself alone.
 fn stand_apart(earlier: &LogId, later: &LogId) -> bool {
     earlier.order(*later) == Ordering::Less && later.is_same(*later) && !later.is_same(*earlier)
 }

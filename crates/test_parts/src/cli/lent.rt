@@ -4,7 +4,7 @@ use fr_cli_apply::run_apply_on;
 use fr_undo::{MapStore, ShardStore};
 use std::alloc::Global;
 
-/// Whether the script prints its lines on an empty store, which then stands at version 9 above floor 8.
+/// Whether the script prints its lines on an empty store, which is then at version 9 above floor 8.
 fn is_kept(alloc: Global) -> bool {
     let mut store = MapStore::new(alloc);
     let mut reader = FORGET.script.as_bytes();
