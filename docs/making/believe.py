@@ -152,6 +152,9 @@ TRUSTED = """
   when the file was read, at its open, is what the file holds; that nobody else writes it; and that a crash leaves of it
   what the model of `sqlite_disk` allows. That the contracts over such a file speak of the file is this premise, and no
   proof.
+- **Of the library for C** (fr_c): that callers keep what [LIBRARY.md](LIBRARY.md#what-the-caller-owes) says they owe;
+  the header, which `./check` compares with the exports; the bindings of Rust and Python; the kit's part in C, which
+  calls `malloc`.
 - **The words of std** that the definitions above use, which mean what their names say: see below.
 
 Nothing is proved of what threads do when: that a recovery or a pull ever comes to an end, that nothing waits for ever,

@@ -11,7 +11,7 @@ use std::alloc::Global;
 
 /// The second ballot, 512, reads between the reads of the first, 256, and its writes: the first loses to
 /// it, and the second, which could not see the first's value, has its own in a majority of the cells.
-/// The only error is want of memory.
+/// The only error is `Memory`.
 pub fn overtaken(
     alloc: Global,
     first_value: &CellValue,

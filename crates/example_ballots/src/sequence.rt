@@ -10,7 +10,7 @@ use fr_register::{Cell, CellValue};
 use std::alloc::Global;
 
 /// The second ballot, 512, comes after the first, 256, whose value is in a majority of the cells: it
-/// finds that value, and may then write over it. The only error is want of memory.
+/// finds that value, and may then write over it. The only error is `Memory`.
 pub fn in_turn(
     alloc: Global,
     first_value: &CellValue,

@@ -1,4 +1,4 @@
-//! The command `apply` of `fdbrec` on a store in memory, as a program of its own: it stands on few crates, and so it is
+//! The command `apply` of `fdbrec` on a store in memory, as a program of its own: it uses few crates, and so it is
 //! proved and built in a tenth of the time of the whole.
 #![tactic(auto)]
 

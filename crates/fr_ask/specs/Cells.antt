@@ -10,7 +10,7 @@ use Rattle.fr_register.specs.declared.ask.CellAsk.TheVariants.{Read, Write}
 use Rattle.fr_register.specs.declared.ask.CellTell.{CellTell}
 use Rattle.fr_register.specs.declared.ask.CellTell.TheVariants.{Promise, Written, Refused, TwoValues}
 
--- whether two asks of cells are of one kind, of one ballot and, where they write, of one value
+-- whether two asks of cells are of one kind, of one ballot and, if they write, of one value
 abbrev pub is_same_cell_ask : CellAsk → CellAsk → Bool
 is_same_cell_ask (Read b) (Read c) = b == c
 is_same_cell_ask (Write b x) (Write c y) = (b == c) && bytes_eq x y

@@ -15,7 +15,7 @@ use Rattle.fr_ask.specs.declared.tell.Tell.TheVariants as tell
 use Rattle.fr_ask.specs.declared.last.Last.{Last}
 use Rattle.fr_ask.specs.declared.last.Last.TheVariants as last
 
--- the ask of a cell, a log or a sequencer that an ask is, where it is one
+-- the ask of a cell, a log or a sequencer that an ask is, if it is one
 
 abbrev pub cell_ask_of : Ask → Option CellAsk
 cell_ask_of (ask.Cell a) = Some a
@@ -32,7 +32,7 @@ seq_ask_of (ask.Cell a) = None
 seq_ask_of (ask.Log a) = None
 seq_ask_of (ask.Seq a) = Some a
 
--- the tell of a cell, a log or a sequencer that a tell is, where it is one
+-- the tell of a cell, a log or a sequencer that a tell is, if it is one
 
 abbrev pub cell_tell_of : Tell → Option CellTell
 cell_tell_of (tell.Cell t) = Some t

@@ -6,7 +6,7 @@ use fr_base::{Ballot, Bytes, Epoch, Memory, Version};
 use fr_log::PoppedTags;
 use fr_register::CellValue;
 
-/// Where a node stood at last.
+/// The last state of a node.
 #[derive(Debug, Drop, PartialEq, Eq)]
 pub enum Last {
     /// The ballot that a cell promised, the ballot of its last write, and the value of that.

@@ -1,5 +1,5 @@
-//! What sequencers are asked and tell; every ask, every tell and every last state under one type each;
-//! and the machines whose asks, tells and states are among them.
+//! Asks, tells and last states of all nodes under one type each, the machines whose asks these are,
+//! and what sequencers are asked.
 #![tactic(auto)]
 
 mod ask;

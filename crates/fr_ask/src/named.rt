@@ -20,13 +20,13 @@ pub trait Named: Machine {
     /// An ask of it among all asks.
     ghost wrapped: { Self.Ask → Ask };
 
-    /// The ask of it that this is, where it is one.
+    /// This ask as one of the machine's own; none if it is another kind's.
     ghost unwrapped: { Ask → Option Self.Ask };
 
     /// A tell of it among all tells.
     ghost wrapped_tell: { Self.Tell → Tell };
 
-    /// The tell of it that this is, where it is one.
+    /// This tell as one of the machine's own; none if it is another kind's.
     ghost unwrapped_tell: { Tell → Option Self.Tell };
 
     /// Its state as others see it at last.

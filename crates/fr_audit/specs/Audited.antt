@@ -27,7 +27,7 @@ abbrev pub turn_if : Config → List Turn → Option Event → Option Turn
 turn_if c h None = None
 turn_if c h (Some event) = turn_in (turn_of c h event)
 
--- the turn that an entry is, where it is an event that can happen
+-- the turn that an entry is, if it is an event that can happen
 abbrev pub turn_at : Config → List Turn → Placed → Option Turn
 turn_at c h p = turn_if c h (event_of p.node p.entry.act)
 

@@ -29,7 +29,7 @@ abbrev pub lose_of : NodeId → Option Event
 lose_of (node.Log e i) = Some (Lose (record { epoch = e; index = i }))
 lose_of who = None
 
--- the event that an act of a node is; none where the node does not do such a thing
+-- the event that an act of a node is; none if the node does not do such a thing
 abbrev pub event_of : NodeId → Act → Option Event
 event_of who (Asked from ask tell) = Some (Deliver from who ask)
 event_of who (Heard from tell taken outcome) = Some (Hear who from tell taken)

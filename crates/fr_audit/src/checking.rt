@@ -13,8 +13,8 @@ use fr_world::{Config, World};
 use std::alloc::Global;
 use std::cmp::Ordering;
 
-/// The world that some journals are a run of, or the first fault. The entries of all journals are taken in the order
-/// of their stamps, and at one stamp of their nodes; each must be an event that can happen there, with the tell or the
+/// The world of the run that journals are, or the first fault. The entries of all journals are taken in the order of
+/// their stamps, and at one stamp of their nodes. Each must be an event that can happen there, with the tell or the
 /// outcome that the world gives, and no two may have one stamp and one node. After all, each journal must have been
 /// closed with the last state of its node. Journals without entries need not be among them. It costs the number of
 /// entries times its logarithm, and the events of a world.
@@ -145,7 +145,7 @@ fn is_closed(alloc: Global, world: &World, journal: &Journal) -> Result<bool, Me
     }
 }
 
-/// The first of two nodes, where there are two.
+/// The first of two nodes, if there are two.
 fn lesser(node: &NodeId, other: &Option<NodeId>) -> NodeId
     ensures { result ≡ rule.lesser node.now other.now }
 {

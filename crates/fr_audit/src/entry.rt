@@ -8,8 +8,8 @@ use fr_base::{LogId, Memory, NodeId};
 use fr_proxy::Outcome;
 use fr_run_event::{Answer, Event};
 
-/// The event that an act of a node is: each act has one place where this is said. None where the node does not do
-/// such a thing.
+/// The event that an act of a node is: each act has one place where this is said. None if the node does not do such a
+/// thing.
 pub fn event_of(node: NodeId, act: &Act) -> Result<Option<Event>, Memory>
     ensures { IfOk result (λ event. event ≡ entry.event_of node act.now) }
 {

@@ -3,8 +3,8 @@ use fr_base::NodeId;
 use thiserror::Error;
 
 /// Why journals are no run of a world. Entries are counted from 0, in the order of their stamps, and at one stamp of
-/// their nodes. The first entry with a fault is told, for the first of its faults in the order of these variants; where
-/// no entry has one, the first node whose journal does not end in its last state.
+/// their nodes. The first entry with a fault is told, for the first of its faults in the order of these variants. If
+/// no entry has one, it is the first node whose journal does not end in its last state.
 #[derive(Clone, Copy, Debug, PartialEq, Eq, Error)]
 pub enum AuditFault {
     /// This entry is no event that can happen there; or it has the stamp and the node of the entry before.

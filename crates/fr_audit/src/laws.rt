@@ -3,7 +3,7 @@ ghost use Rattle.fr_audit.specs.Law.{NotARunIsFirst, OkIsRun, RunIsOk, StateDiff
 
 use fr_audit_journal::laws::merge_law;
 
-/// An audit has no fault exactly where the journals are a run, with its turns; and a fault is the first one.
+/// An audit has no fault exactly if the journals are a run, with its turns; and a fault is the first one.
 pub fn audit_law()
     ensures run { OkIsRun }
     ensures ok { RunIsOk }

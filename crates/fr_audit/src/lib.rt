@@ -1,5 +1,5 @@
 //! Audits: whether journals are a run of a world. Which event an entry of a journal is, what it says of the world's
-//! answer, the first fault of some journals, and that there is none exactly where they are a run. Where an audit has no
+//! answer, the first fault of some journals, and that there is none exactly if they are a run. If an audit has no
 //! fault, what holds of every run holds of what the journals tell.
 #![tactic(auto)]
 

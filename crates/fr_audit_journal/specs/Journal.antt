@@ -4,7 +4,7 @@ use Rattle.fr_base.specs.declared.place.NodeId.{NodeId}
 use Rattle.fr_ask.specs.declared.last.Last.{Last}
 use Rattle.fr_audit_journal.specs.declared.act.Entry.{Entry}
 
--- what the node did, the oldest first, and where it stood at last, where that was said; and for how many entries more there is room
+-- what the node did, the oldest first, its last state, if that was said, and for how many entries more there is room
 pub record JournalState : Type 0 where
   pub node : NodeId
   pub entries : List Entry

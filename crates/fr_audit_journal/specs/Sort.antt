@@ -1,4 +1,4 @@
--- A list in order, where those of one place keep the order in which they are given.
+-- A list in order, in which those of one place keep the order in which they are given.
 use Rattle.std.specs.Prelude.{Bool, List, [], ◌∷◌, if◌then◌else◌}
 
 -- a value before the first that is not before it

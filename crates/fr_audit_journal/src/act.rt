@@ -28,12 +28,12 @@ pub enum Act {
         step: Step,
         batch: Batch,
     },
-    /// A recoverer began: `shape` is how many logs the generation that it writes has, and on how many of them each tag
-    /// stands. None is as many as the generation that it ends.
+    /// A recoverer began: `shape` is how many logs the generation that it writes has, and on how many of them each
+    /// tag is. None: as the generation that it ends.
     Begun {
         shape: Option<Shape>,
     },
-    /// The node crashed: a proxy, a sequencer or a recoverer is gone, another node stands as it was.
+    /// The node crashed: a proxy, a sequencer or a recoverer is gone; another node is as it was.
     Crashed,
     /// A log is lost, for good.
     Lost,

@@ -9,9 +9,8 @@ use fr_base::{Memory, NodeId, Stamp};
 use std::alloc::Global;
 use std::marker::Model;
 
-/// What a node did, entry by entry, and where it stood at last. The stamp of each entry is above those before it.
-/// Contracts see it as its node, its entries, its last state and, beside these, for how many entries more it has
-/// room.
+/// What a node did, entry by entry, and its last state. The stamp of each entry is above those before it. Contracts
+/// see it as its node, its entries, its last state and, beside these, for how many entries more it has room.
 #[derive(Debug, Drop)]
 pub struct Journal {
     node: NodeId,
@@ -59,7 +58,7 @@ impl Journal {
         self.entries.as_slice()
     }
 
-    /// Where the node stood at last, where the journal was closed.
+    /// The node's last state, if the journal was closed.
     pub fn last(&self) -> Option<&Last>
         ensures none { result ≡ None → self.now.last ≡ None }
         ensures some { IfSome result (λ last. self.now.last ≡ Some last.now) }
@@ -87,8 +86,8 @@ impl Journal {
         }
     }
 
-    /// Enters an act. It is refused where its stamp is not above those before it, or else where there is no memory;
-    /// a refusal changes nothing.
+    /// Enters an act. It is refused if its stamp is not above those before it, or else if there is no memory; a
+    /// refusal changes nothing.
     pub fn push(&mut self, entry: Entry) -> Result<(), JournalFault>
         ensures entries { OnOk result (self.new.entries ≡ self.old.entries ++ entry ∷ []) }
         ensures node { self.new.node ≡ self.old.node }
@@ -132,7 +131,7 @@ impl Journal {
         self.entries.push_reserved(entry);
     }
 
-    /// Says where the node stood at last. The latest call stands.
+    /// Says what the node's last state is. The latest call counts.
     pub fn close(&mut self, last: Last)
         ensures last { self.new.last ≡ Some last }
         ensures node { self.new.node ≡ self.old.node }

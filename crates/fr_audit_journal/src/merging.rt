@@ -26,7 +26,7 @@ pub fn merge<'a>(alloc: Global, journals: &'a [Journal]) -> Result<Vec<NodeEntry
     Ok(entries)
 }
 
-/// How two entries stand: by their stamps, and at one stamp by their nodes.
+/// The order of two entries: by their stamps, and at one stamp by their nodes.
 fn place_order(one: &NodeEntry, other: &NodeEntry) -> Ordering
     ensures { result ≡ place_cmp (placed_of one.now) (placed_of other.now) }
 {

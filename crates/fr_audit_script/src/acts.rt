@@ -65,7 +65,7 @@ fn read_submitted(alloc: Global, fields: &mut Fields) -> Result<Act, ScriptFault
     Ok(Act::Submitted { step, batch })
 }
 
-/// The shape with which a recoverer began: that of two members, or none where there is no member.
+/// The shape with which a recoverer began: that of two members, or none if there is no member.
 fn read_shape(fields: &mut Fields) -> Result<Option<Shape>, ScriptFault> {
     if fields.bare(()).is_ok() {
         return Ok(None);

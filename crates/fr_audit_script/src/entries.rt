@@ -1,4 +1,4 @@
-//! Entries, read from the tokens of a text, where the members of each object stand in the order of their names' bytes.
+//! Entries, read from the tokens of a text, if the members of each object are in the order of their names' bytes.
 ghost use Rattle.std.specs.Prelude.{OnOk};
 ghost use Rattle.fr_form_tokens.specs.Fits.{Fits, PassesMembers};
 

@@ -38,7 +38,7 @@ fn read_into(alloc: Global, fields: &mut Fields, journal: &mut Journal) -> Resul
     close(alloc, journal, fields.take(names::LAST)?)
 }
 
-/// Closes a journal with the last state that is read, where there is one.
+/// Closes a journal with the last state that is read, if there is one.
 fn close(alloc: Global, journal: &mut Journal, last: Value) -> Result<(), ScriptFault> {
     if let Some(last) = read_last(alloc, last)? {
         journal.close(last);

@@ -1,6 +1,6 @@
-//! The script of an audit, read from the tokens of its text, where the members of each object stand in the order of
-//! their names' bytes: its config, and each node and last state of a journal, as a tree of its own, and so each entry
-//! too where the members of one stand otherwise.
+//! The script of an audit, read from the tokens of its text. The members of each object are in the order of their
+//! names' bytes. Its config, and each node and last state of a journal, is read as a tree of its own. So is each entry
+//! too, if the members of one are in another order.
 ghost use Rattle.std.specs.Prelude.{◌≡◌, ◌<◌, length, Some, OnOk, IsUtf8};
 ghost use Rattle.serde_json.specs.Data.{Data};
 ghost use Rattle.serde_json.specs.Read.{read};
@@ -18,16 +18,16 @@ use fr_run_event::Config;
 use json::{Reader, Scratch};
 use std::alloc::Global;
 
-/// In which order the members of entries, and of all that these hold, stand.
+/// In which order the members of entries, and of all that these hold, are.
 #[derive(Clone, Copy, Debug, PartialEq, Eq)]
 pub(crate) enum Spelling {
-    /// In that of their names' bytes: entries are read from the tokens of the text.
+    /// In that of their names' bytes: each entry is read from the tokens of the text.
     AsWritten,
-    /// In any: each entry is read as a tree of its own.
+    /// In another order: each entry is read as a tree of its own.
     AnyOrder,
 }
 
-/// Reads the script that an input is, where it has the usual form.
+/// Reads the script that an input is, if it has the usual form.
 pub(crate) fn read_script(
     alloc: Global,
     input: &[u8],

@@ -33,7 +33,7 @@ pub fn read_script(alloc: Global, text: &[u8]) -> Result<(Config, Vec<Journal>),
     }
 }
 
-/// Reads the script that a text is, each entry as a tree, in which members stand in any order.
+/// Reads the script that a text is, each entry as a tree, in which members are in any order.
 fn read_trees(alloc: Global, text: &[u8]) -> Result<(Config, Vec<Journal>), ScriptFault>
     ensures utf8 { OnOk result (IsUtf8 text.now) }
     ensures json { OnOk result ((d : Data) × (read text.now ≡ Some d)) }

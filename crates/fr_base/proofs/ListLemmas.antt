@@ -1,4 +1,4 @@
--- What lists have, where they are longer by one, and numbers of a range.
+-- What lists have, if they are longer by one, and numbers of a range.
 use Rattle.std.proofs.Common.{◌≡◌, ℕ, zero, suc, ◌+◌, ◌<◌, Bool, true, false, nat_eq, ◌||◌, List, [], ◌∷◌, ◌++◌, length, map, reverse, slice_get, Some, inl, inr, ◌⊎◌, refl, sym, subst, arith}
 use Rattle.std.specs.Prelude.{filter}
 use Rattle.std.specs.List.{All, Contains, list_any, AllByRecursion, IsDistinct, range_with_len}

@@ -1,4 +1,5 @@
--- Bytes read as numbers, the first byte the greatest, compare as the bytes do; and where two byte strings begin alike, what follows decides.
+-- Bytes read as numbers, the first byte the greatest, compare as the bytes do; and if two byte strings begin alike,
+-- what follows decides.
 use Rattle.std.proofs.Common.{◌≡◌, ℕ, zero, suc, ◌+◌, ◌*◌, ◌<◌, ◌≤◌, min, arith, List, [], ◌∷◌, ◌++◌, length, take, drop, get_or, Fits, w8, refl, sym, ap, ◌∙◌}
 use Rattle.std.proofs.Math.Seq.{take-add, drop-cons}
 use Rattle.std.proofs.lemmas.List.{get_or-drop, length-drop, take-take}

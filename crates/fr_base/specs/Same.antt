@@ -1,4 +1,4 @@
--- Tests that answer yes exactly where their arguments are the same.
+-- Tests that answer yes exactly if their arguments are the same.
 use Rattle.std.specs.Prelude.{◌≡◌, Bool, true, false, List, [], ◌∷◌, refl}
 use Rattle.std.specs.Cmp.{IsEquivalence}
 use Rattle.std.specs.Cmp.Lexicographic.{pointwise}
@@ -7,7 +7,7 @@ use Rattle.std.proofs.lemmas.Bool.{and_parts}
 use Rattle.std.proofs.lemmas.Slice.Eq.{bytes_eq-Decides}
 use Rattle.fr_base.specs.Bytes.{bytes_eq}
 
--- a test answers yes exactly where its arguments are the same
+-- a test answers yes exactly if its arguments are the same
 pub record IsSameness {K : Type 0} (E : K → K → Bool) : Type 0 where
   pub itself : (x : K) → E x x ≡ true
   pub same : (x y : K) → E x y ≡ true → x ≡ y
@@ -26,7 +26,7 @@ IsSameness-equivalence {K} {E} h = record {
     back x y true false e d = let k = h.same x y e in let r = h.itself x in cc
     back x y false true e d = let k = h.same y x d in let r = h.itself x in cc
 
--- two lists are the same where their items are, one by one
+-- two lists are the same if their items are, one by one
 pub pointwise-IsSameness : {K : Type 0} {E : K → K → Bool} → IsSameness E → IsSameness (pointwise E)
 pointwise-IsSameness {K} {E} h = record { itself = itself; same = same }
   where

@@ -15,6 +15,6 @@ pub record IsShape (s : ShapeContent) : Type 0 where
 abbrev pub is_shape : ℕ → ℕ → Bool
 is_shape m k = nat_le 1 k && (nat_le k m && nat_le m 16)
 
--- the shape of these numbers, where they are those of one
+-- the shape of these numbers, if they are those of one
 abbrev pub shape_of : ℕ → ℕ → Option ShapeContent
 shape_of m k = if is_shape m k then Some (record { m = m; k = k }) else None

@@ -4,8 +4,8 @@ ghost use Rattle.std.specs.Prelude.{◌≡◌, ◌≢◌, ◌<◌, ◌≤◌, �
 use std::marker::Model;
 
 /// The number of an attempt at a recovery: `round * 256 + recoverer`, with a round of at least 1, so
-/// at least 256 and below 2^48. Beside these there is 0, which stands in a cell that was never asked
-/// and is no recoverer's. It is the ballot of disk Paxos (Gafni and Lamport, 2003).
+/// at least 256 and below 2^48. Beside these there is 0, the ballot of a cell that was never asked,
+/// which is no recoverer's. It is the ballot of disk Paxos (Gafni and Lamport, 2003).
 #[derive(Clone, Copy, Debug, PartialEq, Eq, PartialOrd, Ord)]
 pub struct Ballot {
     number: u64,
@@ -27,7 +27,7 @@ impl Ballot {
     /// The ballot of a cell that was never asked.
     pub const ZERO: Ballot = Ballot { number: 0 };
 
-    /// The ballot of this number, where it is 0, or at least 256 and below 2^48.
+    /// The ballot of this number, if it is 0, or at least 256 and below 2^48.
     pub fn new(number: u64) -> Option<Self>
         ensures within { IsSome result ↔ ((number ≡ 0) ⊎ ((256 ≤ number) × (number < 2 ^ 48))) }
         ensures value { IfSome result (λ b. b ≡ number) }
@@ -77,7 +77,7 @@ impl Model for Epoch {
 }
 
 impl Epoch {
-    /// The epoch of this number, where it is at least 256 and below 2^48.
+    /// The epoch of this number, if it is at least 256 and below 2^48.
     pub fn new(number: u64) -> Option<Self>
         ensures within { IsSome result ↔ ((256 ≤ number) × (number < 2 ^ 48)) }
         ensures value { IfSome result (λ e. e ≡ number) }
@@ -126,7 +126,7 @@ impl Model for Stamp {
 }
 
 impl Stamp {
-    /// The stamp of this number, where it is below 2^40.
+    /// The stamp of this number, if it is below 2^40.
     pub fn new(number: u64) -> Option<Self>
         ensures within { IsSome result ↔ (number < 2 ^ 40) }
         ensures value { IfSome result (λ s. s ≡ number) }

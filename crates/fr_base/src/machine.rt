@@ -5,8 +5,8 @@ ghost use Rattle.fr_base.specs.HighWater.{NoneFell};
 use crate::memory::Memory;
 use std::alloc::Global;
 
-/// A machine that answers each ask with a tell. What it answers and where it then stands are functions
-/// of where it stood and of the ask alone.
+/// A machine that answers each ask with a tell. Its answer and its next state are functions of its
+/// state and the ask alone.
 pub trait Machine {
     /// What a machine is asked.
     type Ask;
@@ -14,7 +14,7 @@ pub trait Machine {
     /// What it answers.
     type Tell;
 
-    /// The states that a machine can stand in.
+    /// The states that asks can lead a machine to.
     ghost IsReached: { Self → Type 0 };
 
     /// What an ask is told.
@@ -29,7 +29,7 @@ pub trait Machine {
     /// The asks that are answered without memory.
     ghost TakesNone: { Self → Self.Ask → Type 0 };
 
-    /// Answers an ask. Want of memory changes nothing.
+    /// Answers an ask. Out of memory changes nothing.
     fn step(&mut self, alloc: Global, ask: Self::Ask) -> Result<Self::Tell, Memory>
         ensures reached { IsReached self.new }
         ensures told { IfOk result (λ tell. tell ≡ told self.old ask) }

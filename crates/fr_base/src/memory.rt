@@ -1,10 +1,10 @@
-//! Want of memory.
+//! The fault of a call that found no memory.
 ghost use Rattle.std.specs.Prelude.{◌≡◌};
 
 use std::alloc::{AllocError, AllocFailed};
 use thiserror::Error;
 
-/// A call found no memory. It is answered only where a growth was refused.
+/// A call found no memory. It is answered only if a growth was refused.
 #[derive(Clone, Copy, Debug, PartialEq, Eq, Error)]
 #[error("out of memory")]
 pub struct Memory;

@@ -38,8 +38,8 @@ impl From<NoMemory> for NodeFault {
     }
 }
 
-/// Where a node stands that was opened again: before or after the asks that met the device's fault, and
-/// before where none did.
+/// What an opening found: the state before the asks that met the device's fault, or the one after them.
+/// `Before` if no ask met one.
 #[derive(Clone, Copy, Debug, PartialEq, Eq)]
 pub enum Reopened {
     /// They left nothing.
@@ -49,7 +49,7 @@ pub enum Reopened {
 }
 
 /// A node: it answers as its plain machine does, or with a fault. What it answered outlasts every crash.
-/// Where its device fails in an ask, the ask is taken or it is not, and `reopen` says which.
+/// If its device fails in an ask, the ask is taken or it is not, and `reopen` says which.
 pub trait Node {
     ghost use Rattle.std.specs.Prelude.{Option, Bool, ℕ};
     ghost use Rattle.fr_base.specs.declared.node.NodeFault.{NodeFault};
@@ -63,7 +63,7 @@ pub trait Node {
     /// Whether a device failed in a call, and the node was not opened again since.
     ghost is_failed: { Self → Bool };
 
-    /// The state to which the asks lead that met the device's fault, if some did since the node was last opened.
+    /// The state after the asks that met the device's fault; none if no ask did since the last opening.
     ghost owed: { Self → Option Self.Plain };
 
     /// How often the device answered that it failed; at 2^64 - 1 it stays.
@@ -72,8 +72,8 @@ pub trait Node {
     /// Whether the device has no room for what an ask writes.
     ghost LacksRoom: { Self → Self.Plain.Ask → Type 0 };
 
-    /// From the first node to the second the device made calls, and a crash at any moment of them, inside
-    /// a call too, leaves a node whose state has P.
+    /// On the way from the first node to the second, a crash at any moment, inside a call too, leaves a
+    /// node whose state has P.
     ghost Throughout: { (Self.Plain → Type 0) → Self → Self → Type 0 };
 
     /// Whether such a node can meet this fault in an ask.
@@ -99,7 +99,8 @@ pub trait Node {
             → Throughout (λ x. (x ≡ state self.old) ⊎ (x ≡ Self.Plain.after (state self.old) ask)) self.old self.new }
         ensures kept { OnOk result (Throughout (λ x. x ≡ state self.new) self.new self.new) };
 
-    /// Opens the node again, failed or not, and says where it then stands. A fault leaves the state.
+    /// Opens the node again, failed or not, and says what state it is then in. A fault leaves the
+    /// state.
     fn reopen(&mut self, alloc: Global) -> Result<Reopened, NodeFault>
         ensures before { (result ≡ Ok Reopened.Before) → state self.new ≡ state self.old }
         ensures after { (result ≡ Ok Reopened.After) → owed self.old ≡ Some (state self.new) }

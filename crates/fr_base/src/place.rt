@@ -25,7 +25,7 @@ impl Model for Tag {
 }
 
 impl Tag {
-    /// The tag of this number, where it is below 32.
+    /// The tag of this number, if it is below 32.
     pub fn new(number: u8) -> Option<Self>
         ensures within { IsSome result ↔ (number < 32) }
         ensures value { IfSome result (λ t. t ≡ number) }
@@ -54,7 +54,7 @@ pub struct LogId {
 }
 
 impl LogId {
-    /// How two logs stand: by their generations, and in a generation by their indexes.
+    /// The order of two logs: by their generations, and in a generation by their indexes.
     pub fn order(self, other: LogId) -> Ordering
         ensures { result ≡ log_cmp self other }
     {
@@ -69,7 +69,7 @@ impl LogId {
     }
 }
 
-/// A node of the system. Nodes stand in the order of the variants, and then of the fields.
+/// A node of the system. Nodes are ordered by the variants, and then by the fields.
 #[derive(Clone, Copy, Debug, PartialEq, Eq, PartialOrd, Ord)]
 pub enum NodeId {
     /// A coordinator, by its number.
@@ -87,8 +87,8 @@ pub enum NodeId {
 }
 
 impl NodeId {
-    /// How two nodes stand: cells, logs, sequencers, proxies, recoverers and storage servers, and nodes of a
-    /// kind by their fields.
+    /// The order of two nodes: cells, logs, sequencers, proxies, recoverers and storage servers, and nodes
+    /// of a kind by their fields.
     pub fn order(self, other: NodeId) -> Ordering
         ensures { result ≡ node_cmp self other }
     {

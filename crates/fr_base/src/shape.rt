@@ -1,11 +1,11 @@
-//! How many logs a generation has, and on how many of them each tag stands.
+//! How many logs a generation has, and on how many of them each tag is.
 ghost use Rattle.std.specs.Prelude.{◌≡◌, ◌≤◌};
 ghost use Rattle.fr_base.specs.Shape.{shape_of};
 
 use std::marker::Model;
 
-/// How many logs a generation has (`m`), and on how many of them each tag stands (`k`, the degree of replication):
-/// 1 <= k <= m <= 16. Tag t stands on the logs `(t + i) mod m` for i from 0 to k - 1.
+/// How many logs a generation has (`m`), and on how many of them each tag is (`k`, the degree of replication):
+/// 1 <= k <= m <= 16. Tag t is on the logs `(t + i) mod m` for i from 0 to k - 1.
 #[derive(Clone, Copy, Debug, PartialEq, Eq)]
 pub struct Shape {
     m: u8,
@@ -25,7 +25,7 @@ impl Model for Shape {
 }
 
 impl Shape {
-    /// The shape of so many logs and this degree, where 1 <= k <= m <= 16.
+    /// The shape of so many logs and this degree, if 1 <= k <= m <= 16.
     pub fn new(m: u8, k: u8) -> Option<Self>
         ensures value { result ≡ shape_of m k }
     {
@@ -45,7 +45,7 @@ impl Shape {
         self.m
     }
 
-    /// On how many of them each tag stands: 1 to all of them.
+    /// On how many of them each tag is: 1 to all of them.
     pub fn k(self) -> u8
         ensures value { result ≡ self.k }
         ensures some { 1 ≤ result }

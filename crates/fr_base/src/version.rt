@@ -25,7 +25,7 @@ impl Version {
     /// Version 0, below that of every commit.
     pub const ZERO: Version = Version { number: 0 };
 
-    /// The version of this number, where it is below 2^62.
+    /// The version of this number, if it is below 2^62.
     pub fn new(number: u64) -> Option<Self>
         ensures within { IsSome result ↔ (number < 2 ^ 62) }
         ensures value { IfSome result (λ v. v ≡ number) }
@@ -87,7 +87,7 @@ impl Model for Step {
 }
 
 impl Step {
-    /// The step of this number, where it is from 1 to 1,000,000.
+    /// The step of this number, if it is from 1 to 1,000,000.
     pub fn new(number: u64) -> Option<Self>
         ensures within { IsSome result ↔ ((1 ≤ number) × (number ≤ 1000000)) }
         ensures value { IfSome result (λ s. s ≡ number) }
@@ -99,7 +99,7 @@ impl Step {
         }
     }
 
-    /// The step from one version to another, where the second is 1 to 1,000,000 above the first.
+    /// The step from one version to another, if the second is 1 to 1,000,000 above the first.
     pub fn between(from: Version, to: Version) -> Option<Self>
         ensures within { IsSome result ↔ ((from < to) × (to ≤ from + 1000000)) }
         ensures value { IfSome result (λ s. from + s ≡ to) }

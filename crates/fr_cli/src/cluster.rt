@@ -8,7 +8,7 @@ use std::io::{Eprint, Write};
 use std::sync::Wait;
 use std::thread::Threads;
 
-/// Runs a cluster whose stores are of a kind, in the storm of its words. Where there is a terminal, it says there how far
+/// Runs a cluster whose stores are of a kind, in the storm of its words. If there is a terminal, it says there how far
 /// it has come.
 pub(crate) fn cluster_on<H: Threads + Wait + Sync, E: Eprint + Sync, W: Write>(
     kind: StoreKind,

@@ -1,9 +1,9 @@
-//! What stands below the help of each command.
+//! What is below the help of each command.
 
-/// What stands below the help of `end`.
+/// What is below the help of `end`.
 pub(crate) const END_HELP: &str = "\
-The script is read from standard input. It is an object of what the locked logs of a generation
-replied, in the order in which the replies came:
+The script is read from standard input. It has the replies of the locked logs of a generation,
+in the order in which they came:
 
   {\"replies\":[[I,DURABLE,KNOWN],..]}
 
@@ -12,8 +12,8 @@ version that it holds, KNOWN the greatest that it knows to be committed: numbers
 
 It prints a line for each reply:
 
-  none                  not known yet: only the replies of more than M - K logs have a log of each
-                        tag among them
+  none                  not known yet: the replies do not cover. They do once more than M - K logs
+                        replied: then a log of each tag did (a tag is a shard and its server)
   pev P rv R            the end of the epoch: all through P is known to be committed, and the
                         next epoch takes over all through R
   inconsistent          P would be above R: a log knows a version to be committed that
@@ -31,47 +31,53 @@ prints
   none
   pev 9 rv 10
 
-Statuses: 0 done, refused replies included; 2 bad script, or bad words, a K above M among them;
+docs/schema/validate end SCRIPT names the place at which a script is bad.
+
+Statuses: 0 done, refused replies included; 2 bad script, or bad words (also a K above M);
 3 out of memory; 4 input or output failed. A bad script prints no line.";
 
-/// What stands below the help of `simulate`.
+/// What is below the help of `simulate`.
 pub(crate) const SIMULATE_HELP: &str = "\
-The script is read from standard input. It says what a world starts from, and steps:
+The script is read from standard input. It has the config of a system (a world), and steps:
 
   {\"config\":{\"coordinators\":3,\"degree\":2,\"logs\":2,\"proxies\":1,\"shards\":[\"\"]},\"steps\":[..]}
 
-There are 1, 3, 5, 7 or 9 coordinators, 1 to 16 logs, each tag on degree of them, and 1 to 16 proxies.
-Of each shard its first key is given, in lower case hex; it has one storage server. The first epoch is
-257, its first version 1. A step is one of
+There are 1, 3, 5, 7 or 9 coordinators, 1 to 16 logs and 1 to 16 proxies. A tag is a shard and its
+storage server, numbered from 0; each tag is on `degree` of the logs, 1 to all. `shards` are the first
+keys of the shards, in lower case hex, rising, the first one empty. The first epoch is 257. Version 1 is
+its mark, so a first batch with step 1 has version 2. A step is one of
 
   {\"commit\":{\"epoch\":E,\"proxy\":P,\"step\":D,\"batch\":[..],\"logs\":[I,..]}}
-      a proxy takes a batch, has it numbered D above the last version, and pushes it to these logs;
-      mutations are those of apply
+      a proxy takes a batch, has it numbered D versions above the last one, and pushes it to these
+      logs; mutations are those of apply
   {\"push\":{\"epoch\":E,\"proxy\":P,\"logs\":[I,..]}}
-      it pushes the batch that it has open again
+      the proxy pushes its open batch once more, to these logs
   {\"pull\":{\"storage\":S,\"epoch\":E,\"log\":I}}
       a storage server applies what a log has for it
   {\"mark\":{\"storage\":S,\"epoch\":E,\"log\":I}}
-      it hears of the epoch, and takes back what did not survive
+      a storage server hears the mark of the epoch, and takes back what did not survive
   {\"pop\":{\"storage\":S,\"epoch\":E,\"log\":I}}
-      it has the log let go of what it has for good
+      a storage server has the log drop what the server has for good
   {\"recover\":{\"ballot\":B,\"read\":[C,..],\"lock\":[I,..],\"write\":[C,..],\"mark\":[I,..]}}
       the recoverer of a ballot begins or goes on: it reads these cells, locks these logs, copies
-      and seeds, writes to these cells, and gives these logs the mark
+      and seeds, writes to these cells, and gives these logs the mark. B is round * 256 + number: 257
+      is the start's, and 513 one of round 2. With two members more, \"logs\":M and \"degree\":K, the new
+      generation has this shape, and else that of the one before
   {\"lose\":{\"epoch\":E,\"log\":I}}
       a log is lost for good
 
-It prints a line for each step, and then where each storage server stands, with its rows:
+It prints a line for each step, and then the state of each storage server, with its rows:
 
   commit E P V OUTCOME      the batch has version V: committed, ended or waiting; so for push
   commit E P ended          the batch was given no version
-  pull S E V                the server stands at version V of epoch E; so for mark
-  pop S E V                 the log let go of the server's records through version V
+  pull S E V                the server is at version V of epoch E; so for mark
+  pop S E V                 the log dropped the server's records through version V
   recover B PHASE           reading, locking, copying, writing, chosen pev P rv R (through P all is
                             known to be committed, through R the epoch takes over) or lost WHY
   lose E I                  the log is lost
-  .. refused NAME           not done, and nothing changed
+  .. refused NAME           not done, and nothing changed; docs/FORMATS.md has the names
   storage S E V floor F rows N
+                            server S: its epoch, version, floor and number of rows
   KEY VALUE                 a row, - for no bytes
 
 For instance
@@ -92,13 +98,15 @@ prints
   storage 0 513 3 floor 0 rows 1
   61 01
 
+docs/schema/validate simulate SCRIPT names the place at which a script is bad.
+
 Statuses: 0 done, refused steps included; 2 bad script, or bad words; 3 out of memory; 4 input or
 output failed. A bad script prints no line.";
 
-/// What stands below the help of `audit`.
+/// What is below the help of `audit`.
 pub(crate) const AUDIT_HELP: &str = "\
-The script is read from standard input. It says what a world starts from, as a script of simulate does,
-and then what each node did, as that node tells it:
+The script is read from standard input. It has the config of a system, as a script of simulate does, and
+the journal of each node, which says what the node did, entry by entry:
 
   {\"config\":{..},\"journals\":[{\"node\":NODE,\"entries\":[{\"stamp\":N,\"act\":ACT},..],\"last\":LAST},..]}
 
@@ -108,20 +116,21 @@ of a journal rise, each below 2^40. An act is one of
 
   {\"asked\":{\"from\":NODE,\"ask\":ASK,\"tell\":TELL}}   it was asked this, and told that
   {\"heard\":{\"from\":NODE,\"tell\":TELL,\"taken\":V,\"outcome\":O}}
-      it heard this: V is null, or the version at which a storage server broke off; O what a proxy
-      says of its batch, of any other node null
+      it heard this: V is null, or the version at which a storage server stopped inside the hear;
+      O what a proxy says of its batch, of any other node null
   {\"submitted\":{\"step\":D,\"batch\":[..]}}            a proxy took a batch
   {\"begun\":{}}, {\"crashed\":{}}, {\"lost\":{}}         a recoverer began; it crashed; a log is lost
 
-LAST is where the node stood at last, or null. docs/FORMATS.md has all asks, tells and last states.
-The entries of all journals are taken by their stamps, those of one stamp by their nodes, and counted
-from 0. It prints one line:
+LAST is the node's state at the end, or null, which is a fault. docs/FORMATS.md has all asks, tells and
+last states, and docs/AUDITING.md says how to write the journals of another system. The entries of all
+journals are taken by their stamps, those of one stamp by their nodes, and counted from 0. It prints one
+line:
 
-  audit ok                the journals are a run: each entry can happen there, tells what the world
-                          tells, and each node ends as its journal says
+  audit ok                the journals are a run: each entry can happen there, tells what a node by the
+                          rules tells, and each node ends as its journal says
   not a run at N          entry N cannot happen there, or has the stamp and the node of the one before
-  tell differs at N       the world tells something else at entry N, or gives another outcome
-  state differs at NODE   the node stands elsewhere at last, its journal was not closed, or there is
+  tell differs at N       a node by the rules tells something else at entry N, or gives another outcome
+  state differs at NODE   the node ends in another state, its journal was not closed, or there is
                           no such node: cell I, log E I, sequencer E, proxy E P, recoverer B, storage T
 
 For instance
@@ -137,19 +146,22 @@ prints
 
   audit ok
 
+docs/schema/validate audit SCRIPT names the place at which a script is bad, and bench/entry N < SCRIPT
+prints entry N.
+
 Statuses: 0 a run; 1 a fault of the journals; 2 bad script, or bad words; 3 out of memory; 4 input
 or output failed. A bad script prints no line.";
 
-/// What stands below the help of `cluster`.
+/// What is below the help of `cluster`.
 pub(crate) const CLUSTER_HELP: &str = "\
 It runs coordinators, logs, a sequencer and proxies in memory, with a workload for each proxy, storage
-servers that pull, and recoverers. Each workload, storage server and recoverer has a thread, and takes
-turns in it:
+servers that pull, and recoverers. Each workload, storage server and recoverer has a thread. This is
+what each does in a turn:
 
   workload         hands out a batch, if none is open; its proxy then sends each ask whose tell it
                    waits for, once
   storage server   asks one log for its records, and one for the mark of the newest epoch; it has a
-                   log of its own epoch let go of what it has for good
+                   log of its own epoch drop what the server has for good
   recoverer        sends each ask whose tell it waits for, once
 
 Recovery I, counted from 1, begins at turn 100 I of its thread, if there are so many turns. One that
@@ -176,10 +188,10 @@ command audit, and one line is printed:
 or the line of a fault, as audit prints it. With --journal the script of that audit is printed in place
 of audit ok, on one line: fdbrec audit reads it, and bench/explore makes a page of it.
 
-By default 3 coordinators, 4 logs, each tag on 2 of them, 2 storage servers and 2 proxies run. Each
+By default 3 coordinators, 4 logs, each shard on 2 of them, 2 storage servers and 2 proxies run. Each
 workload has 20 batches, and one recovery begins. Which thread comes when, and so what the journals say,
 differs from run to run.
 
 Statuses: 0 a run; 1 a fault of the journals; 2 bad words; 3 out of memory, or a thread, a node or a
-store could not be made, or one failed; 4 output failed. It reads no input, and takes memory for each
-turn.";
+store could not be made, or one failed; 4 output failed. It reads no input, and keeps each turn in
+memory.";

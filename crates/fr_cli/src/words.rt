@@ -119,19 +119,20 @@ fn read_cluster(alloc: Global, matches: &ArgMatches<'_>) -> Result<Request, Erro
     )?)
 }
 
-/// The number of a word, below 256, or what it is where the word is not there.
+/// The number of a word, below 256, or what it is if the word is not there.
 fn byte(matches: &ArgMatches<'_>, name: &str, default: u8) -> u8 {
     matches.get_one::<u8>(name).unwrap_or(default)
 }
 
-/// The number of a word, or what it is where the word is not there.
+/// The number of a word, or what it is if the word is not there.
 fn number(matches: &ArgMatches<'_>, name: &str, default: u32) -> u32 {
     matches.get_one::<u32>(name).unwrap_or(default)
 }
 
 fn command<'a>(alloc: Global) -> Result<Command<'a>, Error> {
     let program = program_command(alloc).after_help(
-        "All commands but cluster and rows read a script from standard input: 'fdbrec apply --help' shows one.",
+        "All commands but cluster and rows read a script from standard input, as in: fdbrec apply < SCRIPT\n\
+         The --help of each of them has one. README.md and docs/ have the rest.",
     );
     let program = with(program, apply_command(alloc))?;
     let program = with(program, rows_command(alloc))?;
@@ -141,7 +142,7 @@ fn command<'a>(alloc: Global) -> Result<Command<'a>, Error> {
     with(program, cluster_command(alloc))
 }
 
-/// A command with one that stands below it.
+/// A command with one that is below it.
 fn with<'a>(above: Command<'a>, below: Result<Command<'a>, Error>) -> Result<Command<'a>, Error> {
     let below = below?;
     Ok(above.subcommand(below)?)
@@ -151,7 +152,7 @@ fn with<'a>(above: Command<'a>, below: Result<Command<'a>, Error>) -> Result<Com
 fn simulate_command<'a>(alloc: Global) -> Command<'a> {
     Command::new(alloc, "simulate")
         .about(
-            "Takes steps in a world of coordinators, logs, proxies, recoverers and storage servers",
+            "Steps a system of coordinators, logs, proxies, recoverers and storage servers by a script",
         )
         .after_help(SIMULATE_HELP)
 }
@@ -159,14 +160,14 @@ fn simulate_command<'a>(alloc: Global) -> Command<'a> {
 /// The command `audit`.
 fn audit_command<'a>(alloc: Global) -> Command<'a> {
     Command::new(alloc, "audit")
-        .about("Tells whether the journals of all nodes are a run")
+        .about("Tells whether the journals of nodes keep the rules, or the first fault")
         .after_help(AUDIT_HELP)
 }
 
 /// The command `end` with its words.
 fn end_command<'a>(alloc: Global) -> Result<Command<'a>, Error> {
     let command = Command::new(alloc, "end")
-        .about("Tells the end of an epoch, reply by reply of its locked logs")
+        .about("Tells through which version a recovery takes over, from the replies of locked logs")
         .after_help(END_HELP)
         .arg(of_shape(
             alloc,
@@ -177,7 +178,7 @@ fn end_command<'a>(alloc: Global) -> Result<Command<'a>, Error> {
         .arg(of_shape(
             alloc,
             "degree",
-            "On how many of them each tag stands, 1 to M",
+            "On how many of the logs each tag is, 1 to M",
             "K",
         ))?;
     Ok(command)
@@ -226,7 +227,7 @@ fn with_nodes<'a>(alloc: Global, cluster: Command<'a>) -> Result<Command<'a>, Er
         .arg(few(
             alloc,
             "degree",
-            "On how many of them each tag stands, 1 to all",
+            "On how many of the logs each shard is, 1 to all",
             "2",
             1,
             16,
@@ -290,16 +291,16 @@ fn with_storm<'a>(alloc: Global, cluster: Command<'a>) -> Result<Command<'a>, Er
 
 fn store_word<'a>(alloc: Global) -> Arg<'a> {
     of_kind(
-        Arg::new(alloc, "store").long("store").help(
-            "What nodes and stores keep what they have in: maps, or files and tables, in memory",
-        ),
+        Arg::new(alloc, "store")
+            .long("store")
+            .help("Plain memory, or record files and tables in memory"),
     )
 }
 
 fn storm_word<'a>(alloc: Global) -> Arg<'a> {
     Arg::new(alloc, "storm")
         .long("storm")
-        .help("How many of 256 asks are lost or repeated, 0 to 256, and so for crashes")
+        .help("How many of 256 asks are lost or repeated, and how often nodes crash, 0 to 256")
         .value_name("N")
         .value_parser(value_parser!(u16).range(0..=256))
         .default_value("0")
@@ -309,7 +310,7 @@ fn storm_word<'a>(alloc: Global) -> Arg<'a> {
 fn seed_word<'a>(alloc: Global) -> Arg<'a> {
     Arg::new(alloc, "seed")
         .long("seed")
-        .help("From what a storm is drawn, any number below 2^64")
+        .help("The number from which a storm is drawn, below 2^64")
         .value_name("S")
         .value_parser(value_parser!(u64))
         .default_value("1")
@@ -323,7 +324,7 @@ fn journal_word<'a>(alloc: Global) -> Arg<'a> {
         .action(ArgAction::SetTrue)
 }
 
-/// A word with a number from `least` to `most`, and what it is where it is not there.
+/// A word with a number from `least` to `most`, and what it is if it is not there.
 fn few<'a>(
     alloc: Global,
     name: &'a str,
@@ -341,7 +342,7 @@ fn few<'a>(
         .action(ArgAction::Set)
 }
 
-/// A word with a number from `least` to 1,000,000, and what it is where it is not there.
+/// A word with a number from `least` to 1,000,000, and what it is if it is not there.
 fn many<'a>(alloc: Global, name: &'a str, help: &'a str, default: &'a str, least: u32) -> Arg<'a> {
     Arg::new(alloc, name)
         .long(name)

@@ -35,7 +35,7 @@ outcome_of s (Undo to) = if nat_lt to s.floor then refused (codes "BelowFloor") 
 outcome_of s (Forget through) = if nat_lt s.applied through then refused (codes "AboveApplied") else done (forgotten s through)
 outcome_of s (Advance version) = if_after s version (advanced s version)
 
--- the name of a refusal, where there is one
+-- the name of a refusal, if there is one
 abbrev pub name_in : Outcome → Option (List ℕ)
 name_in (done new) = None
 name_in (refused name) = Some name
@@ -66,7 +66,7 @@ abbrev pub line_of : Outcome → List ℕ
 line_of (done new) = ok_line new
 line_of (refused name) = refused_line name
 
--- bytes in lower case hex, `-` where there are none
+-- bytes in lower case hex, `-` if there are none
 abbrev pub hex_text : List ℕ → List ℕ
 hex_text [] = codes "-"
 hex_text (b ∷ bs) = encode_lower (b ∷ bs)

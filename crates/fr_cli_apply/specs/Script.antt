@@ -30,6 +30,6 @@ operation_of d = option_and_then (λ m. operation_named m.0 m.1) (one_member d)
 abbrev pub script_from : Data → Option (List Operation)
 script_from d = option_and_then (each_of operation_of) (option_and_then as_array (only 1 (codes "ops") d))
 
--- the script that an input is, or None where it is none
+-- the script that an input is, or None if it is none
 abbrev pub script_of : List ℕ → Option (List Operation)
 script_of input = option_and_then script_from (data_of input)

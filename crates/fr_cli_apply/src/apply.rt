@@ -30,7 +30,7 @@ pub struct ApplyOptions {
 /// Runs the operations of a script on an empty store, and writes a line for each and then the rows.
 ///
 /// The status is 0. A script is read whole before its first line is written, so what is no script
-/// writes nothing. A store that fails ends the command as want of memory does.
+/// writes nothing. A store that fails ends the command as `Memory` does.
 pub fn run_apply<R: Read, W: Write>(
     alloc: Global,
     options: ApplyOptions,
@@ -61,9 +61,8 @@ pub fn run_apply_on<S: ShardStore, R: Read, W: Write>(
     apply_counted_on(alloc, store, &mut calls, reader, writer)
 }
 
-/// As [`run_apply`], with the calls of the reader and of the writer counted in `calls`, which has none
-/// yet: `Input` is answered only where a read failed or 2^30 of them found no end, `Output` only where
-/// a write or a flush failed.
+/// As [`run_apply`], with the calls of the reader and of the writer counted in `calls`, which has none yet. `Input` is
+/// answered only if a read failed or 2^30 of them found no end, `Output` only if a write or a flush failed.
 pub fn apply_counted<R: Read, W: Write>(
     alloc: Global,
     options: ApplyOptions,

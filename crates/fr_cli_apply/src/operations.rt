@@ -117,7 +117,7 @@ fn line_of<S: ShardStore>(
     }
 }
 
-/// Runs an operation, and gives the name of its refusal where it is refused.
+/// Runs an operation, and gives the name of its refusal if it is refused.
 fn run_operation<S: ShardStore>(
     alloc: Global,
     store: &mut S,

@@ -33,7 +33,7 @@ pub fn put_rows<W: Write>(
     Ok(())
 }
 
-/// Writes the lines of the rows of a tree, as they stand there.
+/// Writes the lines of the rows of a tree, as they are there.
 pub(crate) fn put_tree<W: Write>(
     alloc: Global,
     rows: &BTreeMap<Bytes, Bytes>,

@@ -24,8 +24,8 @@ pub enum Operation {
     Advance { version: Version },
 }
 
-/// Reads the script that an input is: from its tokens, where it has the usual form, and else from the
-/// tree of its JSON, which alone knows that it is none.
+/// Reads the script that an input is: from its tokens, if it has the usual form, and else from the tree of its JSON,
+/// which alone knows that it is none.
 pub(crate) fn read_script(alloc: Global, input: Vec<u8>) -> Result<Vec<Planned>, CliFault>
     ensures ok { IfOk result (λ script. plan_of input.items ≡ Some script.items) }
     ensures bad { result ≡ Err CliFault.BadScript → plan_of input.items ≡ None }

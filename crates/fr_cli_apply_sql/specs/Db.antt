@@ -22,11 +22,12 @@ Holds g files x = HoldStore g files x ⊎ ((g.seen files.db ≡ []) × (x ≡ fr
 abbrev pub Keeps : {D : Type 0} → Ghosts D → StoreState → Option (List ℕ) → Option (List ℕ) → Files D → Type 0
 Keeps g x left left_now files = (script : List Operation) × HasRead script_of left left_now (Some script) × ∥ HoldStore g files (left_by x script) ∥₁
 
--- where a store stands, and its rows by key
+-- the state of a store, and its rows by key
 abbrev pub show_lines : StoreState → List ℕ
 show_lines s = ok_line s ++ row_lines (map.entries s.contents)
 
--- what a fault is to the reader and the writer of a command: one of files came before or between their calls, as want of memory does
+-- what a fault is to the reader and the writer of a command: one of files came before or between their calls, as
+-- `Memory` does
 abbrev pub cli_of : DbFault → CliFault
 cli_of (db.Command fault) = fault
 cli_of (db.Files fault) = Memory

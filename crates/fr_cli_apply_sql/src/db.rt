@@ -32,7 +32,7 @@ fn fault_of(fault: StoreFault) -> DbFault
     }
 }
 
-/// Opens the store of files, or makes one where they hold none.
+/// Opens the store of files, or makes one if they hold none.
 fn opened<D: FaithfulDisk + Drop>(
     alloc: Global,
     files: Files<D>,
@@ -47,7 +47,7 @@ fn opened<D: FaithfulDisk + Drop>(
     }
 }
 
-/// Why a command ended by want of memory on a store, which answers so too where the store failed or has no room.
+/// Why a command ended by `Memory` on a store, which answers so too if the store failed or has no room.
 fn failure<D: FaithfulDisk + Drop>(store: SqlFileStore<D>) -> DbFault
     ensures { cli_of result ≡ CliFault.Memory }
 {
@@ -106,15 +106,15 @@ fn apply_and_shut<D: FaithfulDisk + Drop, R: Read, W: Write>(
     }
 }
 
-/// Runs the operations of a script on the store that files hold, or on an empty one where they hold none yet, and writes
-/// a line for each and then the rows, as [`fr_cli_apply::run_apply`] does. Each line is flushed once what it says stands
-/// in the files. The files are given back, which then hold what the operations left. `calls` counts as in
+/// Runs the operations of a script on the store that files hold, or on an empty one if they hold none yet, and writes a
+/// line for each and then the rows, as [`fr_cli_apply::run_apply`] does. Each line is flushed once what it says is in
+/// the files. The files are given back, which then hold what the operations left. `calls` counts as in
 /// [`crate::apply_sql_counted`].
 ///
 /// # Errors
 ///
 /// `NoStore`: the files hold something else. `Full`, `Failed`: they have no room, or failed. `Command`: a fault that a
-/// store in memory has too. The operations whose lines were written then stand, and maybe the next one.
+/// store in memory has too. The operations whose lines were written are then done, and maybe the next one.
 pub fn apply_on_files<D: FaithfulDisk + Drop, R: Read, W: Write>(
     alloc: Global,
     files: Files<D>,
@@ -134,7 +134,7 @@ pub fn apply_on_files<D: FaithfulDisk + Drop, R: Read, W: Write>(
     }
 }
 
-/// Writes where a store stands and its rows, and shuts it.
+/// Writes the state of a store and its rows, and shuts it.
 fn show_and_shut<D: FaithfulDisk + Drop, W: Write>(
     alloc: Global,
     store: SqlFileStore<D>,
@@ -152,8 +152,8 @@ fn show_and_shut<D: FaithfulDisk + Drop, W: Write>(
     }
 }
 
-/// Writes where the store of files stands and its rows. The files are given back, and
-/// hold the same. Files that hold no store yet get an empty one.
+/// Writes the state of the store of files and its rows. The files are given back, and hold the same. Files that hold no
+/// store yet get an empty one.
 ///
 /// # Errors
 ///

@@ -9,13 +9,13 @@ use std::alloc::AllocError;
 /// What is wrong with the files of a store.
 #[derive(Clone, Copy, Debug, PartialEq, Eq)]
 pub enum FileFault {
-    /// They hold no database, or that of something else.
+    /// They hold no database, or one with other tables.
     NoStore,
-    /// A rollback journal stands beside the database, which sqlite3 has to play back first.
+    /// A rollback journal is beside the database, which sqlite3 has to play back first.
     Journal,
-    /// A log stands there without its database.
+    /// A log is there without its database.
     LoneLog,
-    /// There is no such file, or it is no plain file of one name, or rights to it or to its folder are wanting.
+    /// There is no such file, or it is no plain file of one name, or it or its folder may not be read and written.
     Unopened,
     /// Somebody else has them.
     Busy,

@@ -87,7 +87,7 @@ fn look(rt: &HostRuntime, name: &str) -> Result<Place, DbFault> {
     }
 }
 
-/// The database of a name and its log, which are made where they are missing, and which nobody else has until they are
+/// The database of a name and its log, which are made if they are missing, and which nobody else has until they are
 /// dropped.
 fn host_files(rt: &HostRuntime, alloc: Global, name: &str) -> Result<Files<HostFile>, DbFault> {
     let Files { log, db } = match open(rt, name, Unknown) {
@@ -137,7 +137,7 @@ fn store_files(rt: &HostRuntime, alloc: Global, name: &str) -> Result<Files<Host
     }
 }
 
-/// Runs the operations of a script on the store in the file of a name, which is made where it is missing: see
+/// Runs the operations of a script on the store in the file of a name, which is made if it is missing: see
 /// [`apply_on_files`]. The status is 0.
 pub fn run_apply_db<R: Read, W: Write>(
     rt: &HostRuntime,

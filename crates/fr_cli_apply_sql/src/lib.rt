@@ -1,4 +1,4 @@
-//! The command `apply` of `fdbrec` on a store whose rows stand in the tables of a database, in memory or in files.
+//! The command `apply` of `fdbrec` on a store whose rows are in the tables of a database, in memory or in files.
 #![tactic(auto)]
 
 mod db;
@@ -27,7 +27,7 @@ use std::io::{Read, Write};
 /// as [`fr_cli_apply::run_apply`] writes on a map.
 ///
 /// The status is 0. A script is read whole before its first line is written, so what is no script writes nothing. A
-/// store that fails, or that cannot be made, ends the command as want of memory does.
+/// store that fails, or that cannot be made, ends the command as `Memory` does.
 pub fn run_apply_sql<R: Read, W: Write>(
     alloc: Global,
     reader: &mut R,
@@ -40,9 +40,8 @@ pub fn run_apply_sql<R: Read, W: Write>(
     apply_sql_counted(alloc, &mut calls, reader, writer)
 }
 
-/// As [`run_apply_sql`], with the calls of the reader and of the writer counted in `calls`, which has none yet:
-/// `Input` is answered only where a read failed or 2^30 of them found no end, `Output` only where a write or a flush
-/// failed.
+/// As [`run_apply_sql`], with the calls of the reader and of the writer counted in `calls`, which has none yet. `Input`
+/// is answered only if a read failed or 2^30 of them found no end, `Output` only if a write or a flush failed.
 pub fn apply_sql_counted<R: Read, W: Write>(
     alloc: Global,
     calls: &mut CallCounts,

@@ -1,4 +1,4 @@
-//! The files of a database that ends with the program: they stand in memory, and a sync has nothing to do.
+//! The files of a database that ends with the program: they are in memory, and a sync has nothing to do.
 ghost use Rattle.std.specs.Prelude.{◌≡◌, true, false, refl, is_ok, OnOk, length};
 ghost use Rattle.sqlite_disk.specs.Disk.{Holds, Torn, Cut, CountsFault};
 ghost use Rattle.sqlite_disk.specs.Refusal.{finds_no_room};

@@ -13,7 +13,7 @@ use fr_undo::ShardStore;
 use std::alloc::{AllocError, Global};
 use std::io::Write;
 
-/// The line of where a store stands.
+/// The line of a store's state.
 fn place<S: ShardStore>(alloc: Global, store: &S) -> Result<String, AllocError>
     ensures { IfOk result (λ line. string_bytes line ≡ ok_line (S.state store.now)) }
 {
@@ -41,7 +41,7 @@ fn put_contents<S: ShardStore, W: Write>(
     }
 }
 
-/// Writes where a store stands, as the line of an operation does, and then its rows.
+/// Writes the state of a store, as the line of an operation does, and then its rows.
 pub(crate) fn show_on<S: ShardStore, W: Write>(
     alloc: Global,
     store: &mut S,

@@ -15,7 +15,7 @@ node_text (Proxy e p) = codes "proxy " ++ (decimal e ++ (codes " " ++ decimal p)
 node_text (Recoverer b) = codes "recoverer " ++ decimal b
 node_text (Storage t) = codes "storage " ++ decimal t
 
--- a fault; want of memory prints no line
+-- a fault; `Memory` prints no line
 abbrev pub fault_line : AuditFault → List ℕ
 fault_line (NotARun at) = codes "not a run at " ++ (decimal at ++ codes "\n")
 fault_line (TellDiffers at) = codes "tell differs at " ++ (decimal at ++ codes "\n")
@@ -27,7 +27,7 @@ abbrev pub line_of : Result (List Turn) AuditFault → List ℕ
 line_of (Ok h) = codes "audit ok\n"
 line_of (Err fault) = fault_line fault
 
--- 0 where the journals are a run, and else 1
+-- 0 if the journals are a run, and else 1
 abbrev pub status_of : Result (List Turn) AuditFault → ℕ
 status_of (Ok h) = 0
 status_of (Err fault) = 1

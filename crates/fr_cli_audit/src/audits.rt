@@ -36,9 +36,8 @@ pub fn run_audit<R: Read, W: Write>(
     audit_counted(alloc, &mut calls, reader, writer)
 }
 
-/// As [`run_audit`], with the calls of the reader and of the writer counted in `calls`, which has none
-/// yet: `Input` is answered only where a read failed or 2^30 of them found no end, `Output` only where
-/// a write or a flush failed.
+/// As [`run_audit`], with the calls of the reader and of the writer counted in `calls`, which has none yet. `Input` is
+/// answered only if a read failed or 2^30 of them found no end, `Output` only if a write or a flush failed.
 pub fn audit_counted<R: Read, W: Write>(
     alloc: Global,
     calls: &mut CallCounts,
@@ -100,7 +99,7 @@ fn put_audit<W: Write>(
     }
 }
 
-/// The fault of some journals, where they are no run.
+/// The fault of some journals, if they are no run.
 fn fault_of(alloc: Global, config: Config, journals: &[Journal]) -> Option<AuditFault>
     ensures none { result ≡ None → IsOk (audited config journals.now) }
     ensures some { IfSome result (λ fault. fault ≢ AuditFault.Memory → audited config journals.now ≡ Err fault) }

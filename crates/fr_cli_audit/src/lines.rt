@@ -6,7 +6,7 @@ use fr_audit::AuditFault;
 use fr_base::NodeId;
 use std::alloc::{AllocError, Global};
 
-/// The line of a fault; nothing for want of memory.
+/// The line of a fault; nothing out of memory.
 pub fn fault_text(alloc: Global, fault: &AuditFault) -> Result<String, AllocError>
     ensures { IfOk result (λ text. string_bytes text ≡ lines.fault_line fault.now) }
 {

@@ -21,7 +21,7 @@ pub record IsScriptLine (text : List ℕ) : Type 0 where
   pub written : IsInOrder script value
   pub line : text ≡ script ++ codes "\n"
 
--- what is printed of a run: one line, or a script where the journals are asked for
+-- what is printed of a run: one line, or a script if the journals are asked for
 abbrev pub IsRunText : Bool → List ℕ → Type 0
 IsRunText false text = text ≡ codes "audit ok\n"
 IsRunText true text = IsScriptLine text
@@ -46,7 +46,7 @@ pub record IsFaultReport (begun : ℕ → ℕ → Bool) (w : ClusterWords) (stat
   pub status_is : status ≡ 1
   pub text_is : text ≡ fault_line fault
 
--- what a cluster of these words prints, and its status, where this says when recoverers begin
+-- what a cluster of these words prints, and its status, if this says when recoverers begin
 abbrev pub IsReport : (ℕ → ℕ → Bool) → ClusterWords → ℕ → List ℕ → Type 0
 IsReport begun w status text = IsRunReport begun w status text ⊎ IsFaultReport begun w status text
 

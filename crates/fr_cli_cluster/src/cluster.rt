@@ -20,13 +20,13 @@ use std::sync::Wait;
 use std::thread::Threads;
 
 /// Runs a cluster in memory, each workload, storage server and ballot in a thread of its own, and then audits the
-/// journals of all nodes. It writes `audit ok`, or the script of the audit, where they are a run, with status 0; else
-/// the line of the audit's fault, with status 1. Each node of the config has its journal among those of a run.
+/// journals of all nodes. It writes `audit ok`, or the script of the audit, if they are a run, with status 0; else the
+/// line of the audit's fault, with status 1. Each node of the config has its journal among those of a run.
 ///
-/// Asks are lost or repeated, and cells and logs crash, as the storm of the words draws it: at strength 0 nothing of it
+/// Asks are lost or repeated, and cells and logs crash, as the storm of the words draws it. At strength 0 nothing of it
 /// happens, and workloads hand out numbered batches, else drawn ones. The recoverer of ballot i, counted from 1, begins
-/// at turn 100 i of its thread. Want of memory, of a thread or of a node is `Memory`, and then nothing is written; a
-/// write that failed is `Output`, and nothing else is answered.
+/// at turn 100 i of its thread. If memory, a thread or a node is lacking the answer is `Memory`, and nothing is
+/// written; a write that failed is `Output`, and nothing else is answered.
 pub fn run_cluster<R: Threads + Wait + Sync, W: Write>(
     rt: &R,
     alloc: Global,
@@ -62,9 +62,9 @@ pub fn run_cluster_on<R: Threads + Wait + Sync, K: Rack + Sync + Drop, W: Write>
     cluster_counted(rt, alloc, options, rack, &storm, &mut calls, writer)
 }
 
-/// As [`run_cluster_on`], where asks are lost or repeated, nodes crash and recoverers begin as the faults say, with the
-/// calls of the writer counted in `calls`, which has none yet: `Output` is answered only where a write or a flush
-/// failed, and what is answered else is `Memory`. The faults are told when the run is over, before anything is written.
+/// As [`run_cluster_on`], but asks are lost or repeated, nodes crash and recoverers begin as the faults say. The calls
+/// of the writer are counted in `calls`, which has none yet. `Output` is answered only if a write or a flush failed;
+/// every other fault is `Memory`. The faults are told when the run is over, before anything is written.
 pub fn cluster_counted<
     R: Threads + Wait + Sync,
     K: Rack + Sync + Drop,
@@ -155,7 +155,7 @@ fn run_works<
     }
 }
 
-/// The fault that the audit of a run found. Want of a thread or of a node is want of memory to who runs a cluster.
+/// The fault that the audit of a run found. A thread or a node that could not be made is `Memory`.
 fn audit_fault(fault: RunFault) -> Result<AuditFault, Memory>
     ensures { IfOk result (λ found. (fault ≡ RunFault.Audit found) × (found ≢ AuditFault.Memory)) }
 {

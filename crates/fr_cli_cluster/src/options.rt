@@ -11,7 +11,7 @@ pub struct ClusterWords {
     pub coordinators: u8,
     /// How many logs a generation has, 1 to 16.
     pub logs: u8,
-    /// On how many of them each tag stands, 1 to all.
+    /// On how many of them each tag is, 1 to all.
     pub degree: u8,
     /// How many storage servers there are, each with a shard, 1 to 32.
     pub storages: u8,
@@ -27,11 +27,11 @@ pub struct ClusterWords {
     pub storm: u16,
     /// From what faults, and the batches of a storm, are drawn.
     pub seed: u64,
-    /// Whether the script of the audit is printed where it finds a run.
+    /// Whether the script of the audit is printed if it finds a run.
     pub journal: bool,
 }
 
-/// What is run where the words say nothing.
+/// What is run if the words say nothing.
 pub const DEFAULTS: ClusterWords = ClusterWords {
     coordinators: 3,
     logs: 4,
@@ -66,7 +66,7 @@ impl Model for ClusterOptions {
 }
 
 impl ClusterOptions {
-    /// The options that words are, where their numbers are those of a cluster.
+    /// The options that words are, if their numbers are those of a cluster.
     pub fn new(words: ClusterWords) -> Option<Self>
         ensures within { IsSome result ↔ IsWithin words }
         ensures value { IfSome result (λ o. o ≡ words) }

@@ -27,9 +27,9 @@ impl Watcher for Storm {
     fn end(&self) {}
 }
 
-/// The faults of another, and a line that is written over and over while threads run: the turns that the storage servers
-/// took, the greatest version that a proxy said to be committed, and the greatest epoch whose logs are asked. It says
-/// when the journals are audited, and ends before the report is written.
+/// The faults of another, and a line that is written over and over while threads run. It says the turns that the
+/// storage servers took, the greatest version that a proxy said to be committed, and the greatest epoch whose logs are
+/// asked. It says when the journals are audited, and ends before the report is written.
 #[derive(Drop)]
 pub struct Progress<'a, E, F> {
     to: &'a E,

@@ -1,5 +1,5 @@
-//! The command `cluster` of `fdbrec` over devices and databases in memory: cells and logs are record files, and the rows
-//! of storage servers stand in tables.
+//! The command `cluster` of `fdbrec` over devices and databases in memory: cells and logs are record files, and the
+//! rows of storage servers are in tables.
 #![tactic(auto)]
 
 ghost use Rattle.std.specs.Prelude.{◌≡◌, ◌+◌, ◌*◌, ◌/◌, ◌==◌, ℕ, List, Err, IfErr, IfOk, OnOk};
@@ -32,7 +32,7 @@ pub fn run_cluster_sql<R: Threads + Wait + Sync, W: Write>(
     run_cluster_on(rt, alloc, options, DiskRack::new(), writer)
 }
 
-/// The same, where asks are lost or repeated, nodes crash and recoverers begin as the faults say, with the calls of the
+/// The same, but asks are lost or repeated, nodes crash and recoverers begin as the faults say, with the calls of the
 /// writer counted, as [`fr_cli_cluster::cluster_counted`] does.
 pub fn cluster_sql_counted<R: Threads + Wait + Sync, F: Watcher + Sync, W: Write>(
     rt: &R,

@@ -27,6 +27,6 @@ abbrev pub lines_from : EndState → List Reply → List ℕ
 lines_from s [] = []
 lines_from s (reply ∷ replies) = line_of s reply ++ lines_from (with_reply s reply) replies
 
--- the lines of a script, of a generation of m logs on k of which each tag stands
+-- the lines of a script, of a generation of m logs on k of which each tag is
 abbrev pub lines_of : ℕ → ℕ → List Reply → List ℕ
 lines_of m k replies = lines_from (new_end m k) replies

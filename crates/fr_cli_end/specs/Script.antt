@@ -17,7 +17,7 @@ three_of (item a (item b no_items)) = None
 three_of (item a (item b (item c no_items))) = Some (a, b, c)
 three_of (item a (item b (item c (item d more)))) = None
 
--- the reply of a log, where its number and both of its versions are there
+-- the reply of a log, if its number and both of its versions are there
 abbrev pub reply_with : Option ℕ → Option ℕ → Option ℕ → Option Reply
 reply_with log durable known = option_and_then (λ l. option_and_then (λ d. option_map (λ k. record { log = l; durable = d; known = k }) known) durable) log
 
@@ -33,6 +33,6 @@ replies_in d = option_and_then (each_of reply_of) (as_array d)
 abbrev pub replies_from : Data → Option (List Reply)
 replies_from d = option_and_then replies_in (only 1 (codes "replies") d)
 
--- the script that an input is, or None where it is none
+-- the script that an input is, or None if it is none
 abbrev pub replies_of : List ℕ → Option (List Reply)
 replies_of input = option_and_then replies_from (data_of input)

@@ -30,9 +30,8 @@ pub fn run_end<R: Read, W: Write>(
     end_counted(alloc, options, &mut calls, reader, writer)
 }
 
-/// As [`run_end`], with the calls of the reader and of the writer counted in `calls`, which has none
-/// yet: `Input` is answered only where a read failed or 2^30 of them found no end, `Output` only where
-/// a write or a flush failed.
+/// As [`run_end`], with the calls of the reader and of the writer counted in `calls`, which has none yet. `Input` is
+/// answered only if a read failed or 2^30 of them found no end, `Output` only if a write or a flush failed.
 pub fn end_counted<R: Read, W: Write>(
     alloc: Global,
     options: EndOptions,

@@ -3,8 +3,8 @@ ghost use Rattle.std.specs.Prelude.{◌≡◌, ◌≤◌, ◌↔◌, IsSome, IfS
 
 use std::marker::Model;
 
-/// The generation that was locked: how many logs it has, at most 16, and on how many of them each tag
-/// stands, at least 1. Contracts see it as these two numbers.
+/// The generation that was locked: how many logs it has, at most 16, and on how many of them each tag is, at least 1.
+/// Contracts see it as these two numbers.
 #[derive(Clone, Copy, Debug, PartialEq, Eq)]
 pub struct EndOptions {
     logs: u8,
@@ -25,7 +25,7 @@ impl Model for EndOptions {
 }
 
 impl EndOptions {
-    /// The generation of these numbers, where `1 <= degree <= logs <= 16`.
+    /// The generation of these numbers, if `1 <= degree <= logs <= 16`.
     pub fn new(logs: u8, degree: u8) -> Option<Self>
         ensures within { IsSome result ↔ ((1 ≤ degree) × (degree ≤ logs) × (logs ≤ 16)) }
         ensures value { IfSome result (λ o. o ≡ record { logs = logs; degree = degree }) }
@@ -45,7 +45,7 @@ impl EndOptions {
         self.logs
     }
 
-    /// On how many of them each tag stands.
+    /// On how many of them each tag is.
     pub fn degree(self) -> u8
         ensures value { result ≡ self.degree }
         ensures some { 1 ≤ result }

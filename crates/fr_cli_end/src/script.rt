@@ -8,8 +8,8 @@ use fr_cli_json::tokens::Unread;
 use fr_epoch::Reply;
 use std::alloc::Global;
 
-/// Reads the script that an input is: from its tokens, where it has the usual form, and else from the
-/// tree of its JSON, which alone knows that it is none.
+/// Reads the script that an input is: from its tokens, if it has the usual form, and else from the tree of its JSON,
+/// which alone knows that it is none.
 pub(crate) fn read_script(alloc: Global, input: Vec<u8>) -> Result<Vec<Reply>, CliFault>
     ensures ok { IfOk result (λ replies. replies_of input.items ≡ Some replies.items) }
     ensures bad { result ≡ Err CliFault.BadScript → replies_of input.items ≡ None }

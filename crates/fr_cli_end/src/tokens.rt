@@ -10,7 +10,7 @@ use fr_epoch::Reply;
 use json::{Reader, Scratch};
 use std::alloc::Global;
 
-/// Reads the script that an input is, where it has the usual form.
+/// Reads the script that an input is, if it has the usual form.
 pub(crate) fn read_script(alloc: Global, input: &[u8]) -> Result<Vec<Reply>, Unread>
     ensures { IfOk result (λ replies. replies_of input.now ≡ Some replies.items) }
 {

@@ -30,7 +30,7 @@ pub record HasNotFailed (calls : Counts) : Type 0 where
 abbrev pub HasNoInput : Counts → Type 0
 HasNoInput calls = (0 < calls.failed_reads) ⊎ (1073741824 ≤ calls.reads)
 
--- `Input` and `Output` are answered only where a call failed, and what is Ok only where none did
+-- `Input` and `Output` are answered only if a call failed, and what is Ok only if none did
 pub record HasCause {A : Type 0} (calls : Counts) (result : Result A CliFault) : Type 0 where
   pub input : result ≡ Err Input → HasNoInput calls
   pub output : result ≡ Err Output → 0 < calls.failed_writes

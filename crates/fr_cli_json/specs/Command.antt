@@ -16,5 +16,5 @@ pub record Prints {S W : Type 0} (means : List ℕ → Option S) (lines_of : S �
   -- what was read is no script, and nothing was written
   pub bad : result ≡ Err BadScript → HasRead means left left_now None
   pub unwritten : (result ≡ Err BadScript) ⊎ (result ≡ Err Input) → new ≡ old
-  -- the output is at fault only where the input was a script
+  -- the output is at fault only if the input was a script
   pub output : result ≡ Err Output → (script : S) × HasRead means left left_now (Some script)

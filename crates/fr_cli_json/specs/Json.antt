@@ -9,7 +9,7 @@ use Rattle.serde_json.specs.Read.{read}
 use Rattle.serde_json.specs.Find.{get, as_number, as_u64, as_str, as_object}
 use Rattle.serde_json.specs.Events.{members_len}
 
--- the value that a text is, or None where it is no JSON
+-- the value that a text is, or None if it is no JSON
 abbrev pub data_of : List ℕ → Option Data
 data_of text = if is_utf8 text then read text else None
 
@@ -59,7 +59,7 @@ pair_of first second d =
     option_and_then (λ a. option_map (λ b. (a, b)) (option_and_then bytes_of (only 2 second d)))
     (option_and_then bytes_of (only 2 first d))
 
--- each item as f reads it, or None where f reads one of them as nothing
+-- each item as f reads it, or None if f reads one of them as nothing
 abbrev pub each_of : {A : Type 0} → (Data → Option A) → Items → Option (List A)
 each_of f no_items = Some []
 each_of f (item d ds) = option_and_then (λ a. option_map (λ rest. a ∷ rest) (each_of f ds)) (f d)

@@ -1,4 +1,4 @@
-//! Calls of a command's reader and writer, counted where they fail.
+//! Calls of a command's reader and writer, counted if they fail.
 ghost use Rattle.std.specs.Prelude.{◌≡◌, ◌≢◌, ◌+◌, ◌-◌, ◌^◌, ◌<◌, ◌≤◌, length, min, take, IfOk, IfErr, OnOk, OnErr};
 ghost use Rattle.std.specs.IoError.{error_kind};
 ghost use Rattle.std.specs.Io.{ReadsAtMost};
@@ -82,8 +82,8 @@ impl CallCounts {
         found
     }
 
-    /// Writes some of a text, in as many calls as are interrupted and one more. It fails by any other
-    /// error, where the writer takes nothing, and after 2^64 - 1 interruptions.
+    /// Writes some of a text, in as many calls as are interrupted and one more. It fails by any other error, if the
+    /// writer takes nothing, and after 2^64 - 1 interruptions.
     pub(crate) fn write<W: Write>(&mut self, writer: &mut W, text: &[u8]) -> Result<usize, CliFault>
         requires some { 0 < length text.now }
         ensures some { IfOk result (λ n. (0 < n) × (n ≤ length text.now)) }

@@ -23,7 +23,7 @@ const DIGITS: [u8; 256] = [
     255, 255, 255, 255,
 ];
 
-/// The bytes of a text of lower case digits, or none where it has another byte or an odd length.
+/// The bytes of a text of lower case digits, or none if it has another byte or an odd length.
 pub(crate) fn bytes_in(alloc: Global, text: &[u8]) -> Result<Option<Vec<u8>>, AllocError>
     ensures { IfOk result (λ bytes. option_map (λ v. v.items) bytes ≡ unhex text.now) }
 {

@@ -1,5 +1,5 @@
-//! Values read from the tokens of a JSON text, where they have their usual form. Each reader says what
-//! the tokens began with where it answers, and nothing where it does not.
+//! Values read from the tokens of a JSON text, if they have their usual form. A reader that answers says what the
+//! tokens began with; one that does not says nothing.
 ghost use Rattle.std.specs.Prelude.{◌≡◌, ◌≢◌, ◌<◌, ℕ, ◌∷◌, length, Some, None, IfOk, IfSome, OnOk};
 ghost use Rattle.json.specs.Token.{begin_object, begin_array, string as string_token, number as number_token};
 ghost use Rattle.json.specs.Json.{read_key};
@@ -17,7 +17,7 @@ use json::{Invalid, Reader, Token};
 pub use mutations::read_batch;
 use std::alloc::{AllocError, AllocFailed, Global};
 
-/// Why a script was not read straight.
+/// Why tokens gave no script.
 #[derive(Clone, Copy, Debug, PartialEq, Eq)]
 pub enum Unread {
     /// It has not the usual form: it may be no script, or one that names a member twice.
@@ -123,7 +123,7 @@ pub fn read_number(reader: &mut Reader<'_>) -> Result<u64, Unread>
     }
 }
 
-/// The number that a text of JSON's is, where it is written in digits alone and fits 64 bits.
+/// The number that a text of JSON's is, if it is written in digits alone and fits 64 bits.
 fn unsigned(digits: &[u8]) -> Option<u64>
     ensures { IfSome result (λ n. number_of digits.now ≡ Some (unsigned n)) }
 {

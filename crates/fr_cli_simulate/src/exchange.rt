@@ -6,7 +6,7 @@ use fr_run_event::{Answer, Event, NotEnabled};
 use fr_world::World;
 use std::alloc::Global;
 
-/// What came of an ask: the number of a batch, where one was told, and what the hear says of a proxy's batch.
+/// What came of an ask: the number of a batch, if one was told, and what the hear says of a proxy's batch.
 #[derive(Clone, Copy)]
 pub(crate) struct Exchange {
     pub(crate) number: Option<Version>,
@@ -52,7 +52,7 @@ pub(crate) fn deliver(
     }
 }
 
-/// Delivers an ask of a proxy or a recoverer, and has its sender hear at once what it is told. None where it does not come
+/// Delivers an ask of a proxy or a recoverer, and has its sender hear at once what it is told. None if it does not come
 /// there, since the node is lost, say: such an ask is passed over.
 pub(crate) fn ask_and_hear(
     alloc: Global,
@@ -91,7 +91,7 @@ fn hear(
     }
 }
 
-/// An ask that came nowhere, unless memory was wanting.
+/// An ask that came nowhere, unless memory ran out.
 fn passed_over(why: NotEnabled) -> Result<Option<Exchange>, Memory> {
     match why {
         NotEnabled::Memory => Err(Memory),

@@ -13,7 +13,7 @@ use std::io::Write;
 /// No tag is as great.
 const MAX_TAGS: u8 = 32;
 
-/// Writes where each storage server stands, and its rows by key.
+/// Writes the state of each storage server, and its rows by key.
 pub(crate) fn put_storages<W: Write>(
     alloc: Global,
     world: &World,
@@ -31,7 +31,7 @@ pub(crate) fn put_storages<W: Write>(
     Ok(())
 }
 
-/// Writes where the storage server of a tag stands, where there is one.
+/// Writes the state of the storage server of a tag, if there is one.
 fn put_storage<W: Write>(
     alloc: Global,
     world: &World,
@@ -80,7 +80,7 @@ fn put_last<W: Write>(
     }
 }
 
-/// Where a storage server stands, and how many rows it has.
+/// The state of a storage server, and how many rows it has.
 #[derive(Clone, Copy)]
 struct Head {
     tag: Tag,
@@ -90,7 +90,7 @@ struct Head {
     count: usize,
 }
 
-/// Writes where a storage server stands, and its rows.
+/// Writes the state of a storage server, and its rows.
 fn put_server<W: Write>(
     alloc: Global,
     head: Head,
@@ -105,7 +105,7 @@ fn put_server<W: Write>(
     put_rows(alloc, rows.into_vec(), calls, writer)
 }
 
-/// Writes where a storage server stands.
+/// Writes the state of a storage server.
 fn put_head<W: Write>(
     alloc: Global,
     head: Head,

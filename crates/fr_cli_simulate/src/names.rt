@@ -6,7 +6,7 @@ use fr_storage::StorageFault;
 /// Why a storage server did not get what it asked a log for.
 #[derive(Clone, Copy)]
 pub(crate) enum Refusal {
-    /// The ask cannot happen.
+    /// The event cannot happen.
     Event(NotEnabled),
     /// The log refused it.
     Log(LogRefusal),

@@ -41,7 +41,7 @@ impl Purpose {
     }
 }
 
-/// The asks that a recoverer has pending, where there are any for this.
+/// The asks that a recoverer has pending, if there are any for this.
 pub(crate) fn asks_of(
     alloc: Global,
     world: &World,
@@ -55,7 +55,7 @@ pub(crate) fn asks_of(
     }
 }
 
-/// The asks that a recoverer has pending; none where it is not there.
+/// The asks that a recoverer has pending; none if it is not there.
 pub(crate) fn pending_of(
     alloc: Global,
     world: &World,
@@ -67,7 +67,7 @@ pub(crate) fn pending_of(
     }
 }
 
-/// Whether a recoverer has asks for this pending, where it has any: each phase has those of its own, and what they are
+/// Whether a recoverer has asks for this pending, if it has any: each phase has those of its own, and what they are
 /// changes with what is told of them alone. It takes no memory, while a list of them may take much.
 pub(crate) fn is_wanted(world: &World, ballot: Ballot, purpose: Purpose) -> bool {
     match world.recoverer(ballot) {
@@ -96,7 +96,7 @@ pub(crate) fn take(
     }
 }
 
-/// Where the ask for this to the cell or the log of this number stands in a list.
+/// Where the ask for this to the cell or the log of this number is in a list.
 fn place_of(asks: &[(NodeId, Ask)], purpose: Purpose, index: u8) -> Option<usize>
     ensures { IfSome result (λ place. place < length asks.now) }
 {

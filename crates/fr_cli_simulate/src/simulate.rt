@@ -11,7 +11,7 @@ use std::alloc::Global;
 use std::io::{Read, Write};
 
 /// Takes the steps of a script, each a list of events, in a world of the script's config; writes a line for each step,
-/// and then where each storage server stands, with its rows.
+/// and then the state of each storage server, with its rows.
 ///
 /// The status is 0, for steps that are refused too. A script is read whole before its first line is written, so
 /// what is no script writes nothing.
@@ -28,9 +28,8 @@ pub fn run_simulate<R: Read, W: Write>(
     simulate_counted(alloc, &mut calls, reader, writer)
 }
 
-/// As [`run_simulate`], with the calls of the reader and of the writer counted in `calls`, which has none
-/// yet: `Input` is answered only where a read failed or 2^30 of them found no end, `Output` only where
-/// a write or a flush failed.
+/// As [`run_simulate`], with the calls of the reader and of the writer counted in `calls`, which has none yet. `Input`
+/// is answered only if a read failed or 2^30 of them found no end, `Output` only if a write or a flush failed.
 pub fn simulate_counted<R: Read, W: Write>(
     alloc: Global,
     calls: &mut CallCounts,

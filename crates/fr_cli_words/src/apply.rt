@@ -19,9 +19,9 @@ static STORES: [&str; 2] = ["map", "sql"];
 pub fn apply_command<'a>(alloc: Global) -> Result<Command<'a>, Error> {
     let store = Arg::new(alloc, "store")
         .long("store")
-        .help("What the store keeps its rows in");
+        .help("Where the rows are: a map, or tables of a database");
     let file = of_file(alloc).help(
-        "The file that keeps the rows, with --store sql; else they are in memory",
+        "With --store sql: the file of that database, which is made if it is missing",
     );
     let apply = Command::new(alloc, "apply")
         .about("Runs store operations on an empty store, or on that of a file")
@@ -37,7 +37,7 @@ pub fn rows_command<'a>(alloc: Global) -> Result<Command<'a>, Error> {
         .help("The file that keeps the rows")
         .required(true);
     let rows = Command::new(alloc, "rows")
-        .about("Shows the store of a file")
+        .about("Shows the store that a file of 'apply --store sql --db' holds")
         .after_help(ROWS_HELP)
         .arg(file)?;
     Ok(rows)
@@ -58,7 +58,7 @@ pub enum StoreWords {
     Memory(StoreKind),
     /// That of the file of this name.
     File(String),
-    /// A file for a store that is no database: bad words.
+    /// `--db` without `--store sql`: bad words.
     Mixed,
 }
 
@@ -75,12 +75,12 @@ pub fn read_store_words(alloc: Global, matches: &ArgMatches<'_>) -> Result<Store
     }
 }
 
-/// Reads the name of a file, which is there where the words were taken.
+/// Reads the name of a file, which is there if the words were taken.
 pub fn read_file(alloc: Global, matches: &ArgMatches<'_>) -> Result<String, AllocError> {
     String::from_str(alloc, matches.get_str("db").unwrap_or(""))
 }
 
-/// A word that takes a kind of store, and is a map where it is not there.
+/// A word that takes a kind of store; `map` if it is not given.
 pub fn of_kind<'a>(word: Arg<'a>) -> Arg<'a> {
     word.value_name("KIND")
         .value_parser(STORES.as_slice())
@@ -88,7 +88,7 @@ pub fn of_kind<'a>(word: Arg<'a>) -> Arg<'a> {
         .action(ArgAction::Set)
 }
 
-/// Reads the kind of store from the word `store` of a command: a map where none is named. Other names were refused.
+/// Reads the kind of store from the word `store` of a command: a map if none is named. Other names were refused.
 pub fn read_store(matches: &ArgMatches<'_>) -> StoreKind {
     match matches.get_str("store") {
         Some("sql") => StoreKind::Sql,
@@ -96,24 +96,24 @@ pub fn read_store(matches: &ArgMatches<'_>) -> StoreKind {
     }
 }
 
-/// What stands below its help.
+/// What is below its help.
 const APPLY_HELP: &str = "\
 The script is read from standard input. Keys, values and parameters are lower case hex, two
 digits a byte; versions are numbers below 2^62. It is an object {\"ops\":[..]} of operations:
 
   {\"apply\":{\"version\":V,\"batch\":[..]}}   applies mutations at version V
   {\"undo\":{\"to\":V}}                      undoes all versions above V
-  {\"forget\":{\"through\":V}}               forgets how to undo below V
-  {\"advance\":{\"version\":V}}              moves the version applied to V, and nothing else
+  {\"forget\":{\"through\":V}}               gives up the undo rows through V: no undo goes below V any more
+  {\"advance\":{\"version\":V}}              moves the version applied to V, without a batch
 
 A batch is a list of mutations:
 
   {\"set\":{\"key\":K,\"value\":X}}         the key takes the value
-  {\"clear\":{\"begin\":K,\"end\":K}}       the keys from begin up to, but without, end go
-  {\"add\":{\"key\":K,\"param\":X}}         the key takes the sum of its value and X; so for
-                                        and, or, xor, max and min
+  {\"clear\":{\"begin\":K,\"end\":K}}       the keys from begin up to end lose their values, end itself not
+  {\"add\":{\"key\":K,\"param\":X}}         the key takes the sum of its value and X, as little-endian
+                                        numbers; so for and, or, xor, max and min
   {\"compare_and_clear\":{\"key\":K,\"value\":X}}
-                                        the key goes where its value is X
+                                        the key loses its value if that is X
 
 It prints a line for each operation, and then the rows of the store:
 
@@ -122,13 +122,14 @@ It prints a line for each operation, and then the rows of the store:
   refused NAME          not done, and nothing changed: a batch by the first limit it breaks
                         (TooMany: 1,000 mutations, KeyTooLong: 10,000 bytes, ValueTooLong:
                         100,000 bytes, Inverted: a clear that ends before it begins); then
-                        NotAfter (a version not above the one applied), BelowFloor,
-                        AboveApplied
+                        NotAfter (a version not above the one applied), BelowFloor (an undo below the
+                        floor), AboveApplied (a forget above the version applied)
   KEY VALUE             a row, - for no bytes
 
 With --store sql the rows are kept in the tables of a database in memory. It prints the same. With
---db FILE too they are kept in that file, which is made where it is missing, and the operations go on
-from the store that it holds. A line is printed once what it says stands in the file.
+--db FILE too they are kept in that file, which is made if it is missing, and the operations go on
+from the store that it holds. A line is printed once what it says is synced to the file. So after a
+kill the file holds what was printed, and maybe one operation more.
 
 For instance
 
@@ -147,16 +148,20 @@ prints
   ok 5 floor 0 undo 1
   61 01
 
+docs/schema/validate apply SCRIPT names the place at which a script is bad.
+
 Statuses: 0 done, refused operations included; 2 bad script, or bad words, or the file holds no
-store; 3 out of memory, or the store is busy, full or failed; 4 input or output failed. A bad script
-prints no line.";
+store; 3 out of memory, or the store is in use by another process, has no room or failed; 4 input or
+output failed. A bad script prints no line.";
 
-/// What stands below the help of `rows`.
+/// What is below the help of `rows`.
 const ROWS_HELP: &str = "\
-It reads no input, and prints where the store of the file stands, and then its rows, as apply does:
+It reads no input. It prints the state of the store that the file holds, and then its rows, as apply
+does:
 
-  ok A floor F undo U   the version applied, the floor and the number of undo rows
+  ok A floor F undo U   the version applied, the floor (no undo goes below it) and the number of
+                        undo rows (values kept so that they can be put back)
   KEY VALUE             a row, - for no bytes
 
 Statuses: 0 done; 2 bad words, or the file is missing or holds no store; 3 out of memory, or the
-store is busy, full or failed; 4 output failed.";
+store is in use by another process, has no room or failed; 4 output failed.";

@@ -13,10 +13,10 @@ const VERSION: &str = "0.2.0 (rattle logic dac8208d650f15bf)";
 /// The status of bad words.
 pub const BAD_WORDS: u8 = 2;
 
-/// What is said to who names a script's file.
+/// What is said if a script's file is named.
 const FILE_TIP: &str = "  tip: a script is read from standard input, as in 'fdbrec apply < FILE'";
 
-/// How a program ends. What is to be said on standard error is left to who has one.
+/// How a program ends. The caller writes what belongs on standard error.
 #[derive(Debug, Drop)]
 pub enum Ending {
     /// The command was done, or help or the version was asked for and shown.
@@ -27,7 +27,7 @@ pub enum Ending {
     Named(&'static str, u8),
     /// The words choose no command.
     BadWords(Error),
-    /// They are bad words, since they have one, and it is no option: a script's file, it seems.
+    /// They are bad words: they have one that is no option, it seems a script's file.
     FileNamed(Error),
 }
 
@@ -43,7 +43,7 @@ impl Ending {
         }
     }
 
-    /// Says on standard error why the program ends, where it is not done, and gives its status.
+    /// Says on standard error why the program ends, if it is not done, and gives its status.
     pub fn say(&self, rt: &impl Eprint) -> ExitCode {
         let _ = match self {
             Ending::Done(_) => Ok(()),
@@ -64,7 +64,7 @@ pub fn program_command<'a>(alloc: Global) -> Command<'a> {
         .subcommand_required(true)
 }
 
-/// The program's own words, or the status where they cannot be had.
+/// The program's own words, or the status if they cannot be had.
 pub fn own_words(rt: &HostRuntime, alloc: Global) -> Result<Vec<String>, ExitCode> {
     match std::env::args(rt) {
         Ok(words) => match words.collect(alloc) {
@@ -81,8 +81,8 @@ pub fn own_words(rt: &HostRuntime, alloc: Global) -> Result<Vec<String>, ExitCod
     }
 }
 
-/// How the program ends where its words choose no command: it shows the help or the version that they ask for, or they
-/// are bad.
+/// How the program ends if its words choose no command: it shows the help or the version that they ask for, or they are
+/// bad.
 pub fn show<W: Write>(alloc: Global, error: Error, writer: &mut W) -> Ending {
     if error.kind() == ErrorKind::OutOfMemory {
         return Ending::Fault(CliFault::Memory);

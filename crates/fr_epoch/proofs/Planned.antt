@@ -26,7 +26,7 @@ use Rattle.fr_epoch.specs.Steps.{replied_in}
 use Rattle.fr_epoch.specs.declared.why.LostWhy.{LostWhy}
 use Rattle.fr_epoch.specs.declared.why.LostWhy.TheVariants as why
 
--- extending a state answers no want of memory
+-- extending a state never answers `Memory`
 never_memory : (s : CoordinatedState) (g : LogGeneration) → extended s g ≡ Err fault.Memory → ⊥
 never_memory s g e = go (is_ordered (s.gens ++ g ∷ [])) (nat_lt (length s.gens) 64) e
   where

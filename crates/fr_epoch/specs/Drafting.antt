@@ -62,7 +62,7 @@ plan_after ballot shape tags p end s = record {
   tail = new_tail tags p.last.m p.last.k (responders end) (pev_of end) (rv_of end);
 }
 
--- the plan of the state with that generation, or why there is none; extending answers no want of memory
+-- the plan of the state with that generation, or why there is none; extending never answers `Memory`
 abbrev pub drafted : ℕ → Option ShapeContent → ℕ → Parent → EndState → Result CoordinatedState StateFault → Result Plan LostWhy
 drafted ballot shape tags p end (Ok s) = Ok (plan_after ballot shape tags p end s)
 drafted ballot shape tags p end (Err fault.NotLater) = Err why.NotLater
@@ -103,7 +103,7 @@ abbrev pub draft_asks : ℕ → ℕ → ℕ → List ℕ → Result Plan LostWhy
 draft_asks ballot old tags seeded (Ok p) = copy_asks ballot old tags seeded p
 draft_asks ballot old tags seeded (Err why) = []
 
--- what is shown once a reply counts, where there are replies
+-- what is shown once a reply counts, if there are replies
 abbrev pub shown_of_end : RecState → Option EndState → ℕ → List PoppedTag → List PoppedTag
 shown_of_end r None i popped = r.shown
 shown_of_end r (Some end) i popped = shown_with r.shown end i popped

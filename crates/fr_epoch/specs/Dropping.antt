@@ -19,12 +19,12 @@ abbrev pub lesser : Option ℕ → ℕ → ℕ
 lesser None v = v
 lesser (Some least) v = min least v
 
--- the least of one from before and of what is shown of some tags, none where one is not shown
+-- the least of one from before and of what is shown of some tags, none if one is not shown
 abbrev pub least_with : List PoppedTag → Option ℕ → List ℕ → Option ℕ
 least_with shown least [] = least
 least_with shown least (tag ∷ tags) = option_and_then (λ v. least_with shown (Some (lesser least v)) tags) (shown_of shown tag)
 
--- the least over tags of what is shown of them, none where one is not shown
+-- the least over tags of what is shown of them, none if one is not shown
 abbrev pub least_shown : List PoppedTag → List ℕ → Option ℕ
 least_shown shown tags = least_with shown None tags
 

@@ -13,8 +13,8 @@ pub record StartsLow (s : CoordinatedState) (shown : List PoppedTag) (tags : Lis
   pub left : slice_get s.gens number ≡ Some first
   pub starts : first.first ≤ least + 1
 
--- what is left is the parent without some of the first generations, never all; where there are some, the one that is left first starts at
--- most one version above what every tag is shown popped through
+-- what is left is the parent without some of the first generations, never all; if there are some, the one that is left
+-- first starts at most one version above what every tag is shown popped through
 pub record IsLeftBy (s : CoordinatedState) (shown : List PoppedTag) (tags : List ℕ) : Type 0 where
   pub number : ℕ
   pub fewer : number < length s.gens

@@ -25,7 +25,7 @@ has_replied s log = list_any (λ r. r.log == log) s.replies
 abbrev pub counts : EndState → ℕ → Bool
 counts s log = nat_lt log s.m && not (has_replied s log)
 
--- a tally with one more reply, where that counts
+-- a tally with one more reply, if that counts
 abbrev pub with_reply : EndState → Reply → EndState
 with_reply s r = if counts s r.log then record s { replies = s.replies ++ r ∷ [] } else s
 
@@ -58,7 +58,7 @@ is_covered s = covers s.m s.k (responders s)
 abbrev pub greatest_known : List Reply → ℕ
 greatest_known replies = fold (λ v r. max v r.known) 0 replies
 
--- the least durable of the replies, 0 where there is none
+-- the least durable of the replies, 0 if there is none
 abbrev pub least_durable : List Reply → ℕ
 least_durable [] = 0
 least_durable (r ∷ replies) = fold (λ v q. min v q.durable) r.durable replies
@@ -70,7 +70,8 @@ pev_of s = greatest_known s.replies
 abbrev pub rv_of : EndState → ℕ
 rv_of s = least_durable s.replies
 
--- the end that the replies tell: none before they cover, and none where what one log knows to be committed another does not hold
+-- the end that the replies tell: none before they cover, and none if what one log knows to be committed another does
+-- not hold
 abbrev pub end_of : EndState → Result (Option EpochEnd) Inconsistent
 end_of s =
     if is_covered s

@@ -32,7 +32,7 @@ abbrev pub marks_one : RecState → Option Plan → ℕ → ℕ → ℕ → Bool
 marks_one r None e i version = false
 marks_one r (Some p) e i version = is_newly_marked r p e i version
 
--- the peeks that go on from an answer, where it brings its tag further and does not complete it
+-- the peeks that go on from an answer, if it brings its tag further and does not complete it
 abbrev pub going_asks : ℕ → TailState → ℕ → PeekedContent → List (NodeId × Ask)
 going_asks epoch s i peeked =
     if nat_lt (part_at s peeked.tag).reached (reached_with s i peeked peeked.tag) then peeks_from epoch s peeked.tag (reached_with s i peeked peeked.tag) else []

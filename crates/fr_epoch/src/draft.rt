@@ -129,7 +129,7 @@ fn drop_popped(state: &mut CoordState, shown: &[PoppedTag], tags: u8)
     }
 }
 
-/// The least over all tags of the greatest version shown popped of each; none where one is not shown.
+/// The least over all tags of the greatest version shown popped of each; none if one is not shown.
 fn least_shown(shown: &[PoppedTag], tags: u8) -> Option<Version>
     requires { tags ≤ MAX_SHARDS }
     ensures { result ≡ least_shown shown.now (range_with_len 0 tags) }
@@ -144,7 +144,7 @@ fn least_shown(shown: &[PoppedTag], tags: u8) -> Option<Version>
     least
 }
 
-/// The lesser of two versions, where there are two.
+/// The lesser of two versions, if there are two.
 fn lesser(least: Option<Version>, version: Version) -> Version
     ensures { result ≡ lesser least version }
 {
@@ -167,7 +167,7 @@ fn shown_of(shown: &[PoppedTag], tag: u8) -> Option<Version>
     greatest
 }
 
-/// The greater of two versions, where there are two.
+/// The greater of two versions, if there are two.
 fn greater(greatest: Option<Version>, version: Version) -> Version
     ensures { result ≡ greater greatest version }
 {
@@ -178,7 +178,7 @@ fn greater(greatest: Option<Version>, version: Version) -> Version
 }
 
 /// The generation of an epoch that starts after `pev` and is seeded through `rv`, of this shape, or
-/// where none is given of the last one's.
+/// if none is given of the last one's.
 fn generation_of(
     epoch: Epoch,
     shape: Option<Shape>,

@@ -12,7 +12,7 @@ use std::marker::Model;
 /// How many logs can reply at most.
 const PLACES: usize = 16;
 
-/// What stands where no reply is yet.
+/// The entry of a log without a reply.
 const NO_REPLY: Reply = Reply {
     log: 0,
     durable: Version::ZERO,
@@ -20,10 +20,10 @@ const NO_REPLY: Reply = Reply {
 };
 
 /// The replies of the locked logs of a generation, of which the first of each log counts. None of its
-/// calls takes memory. Once the replies cover, as more than `m - k` of the logs do, among them is a
-/// holder of each tag, and they tell the end of the epoch: `pev` is the greatest version that one of
-/// them knows to be committed, `rv` the least that all of them hold. Modelled on FoundationDB's
-/// recovery (Zhou et al., SIGMOD 2021, section 2.4). Contracts see it as the list of the replies.
+/// calls takes memory. The replies *cover* once more than `m - k` logs replied: then a holder of each
+/// tag did. They then tell the end of the epoch: `pev` is the greatest version that one of them knows
+/// to be committed, `rv` the least that all of them hold. Modelled on FoundationDB's recovery (Zhou
+/// et al., SIGMOD 2021, section 2.4). Contracts see it as the list of the replies.
 #[derive(Debug, Drop)]
 pub struct EndTally {
     m: u8,
@@ -45,7 +45,7 @@ impl Model for EndTally {
 }
 
 impl EndTally {
-    /// A tally without replies, of a generation of `m` logs on `k` of which each tag stands.
+    /// A tally without replies, of a generation of `m` logs on `k` of which each tag is.
     pub fn new(m: u8, k: u8) -> Self
         requires some { 1 ≤ k }
         requires fits { k ≤ m }
@@ -68,7 +68,7 @@ impl EndTally {
         self.m
     }
 
-    /// On how many of them each tag stands.
+    /// On how many of them each tag is.
     pub fn k(&self) -> u8
         ensures value { result ≡ self.now.k }
         ensures sound { IsEnd self.now }
@@ -210,7 +210,7 @@ fn greatest_known(replies: &[Reply]) -> Version
     greatest
 }
 
-/// The greatest version that all of the logs hold, 0 where there is none.
+/// The greatest version that all of the logs hold, 0 if there is none.
 fn least_durable(replies: &[Reply]) -> Version
     ensures { result ≡ least_durable replies.now }
 {

@@ -28,11 +28,11 @@ pub fn end_law()
     ensures covered { CoveredStays }
 {}
 
-/// What a recoverer writes, and when: it writes no state before each log of the new generation counts as
-/// seeded, and then one state, that of its parent with the new generation behind it, which has the shape
-/// that the recoverer was begun with, or else that of the parent's last one. It seeds from a complete copy
-/// alone, each log always with the same seed, and it pushes the mark, which is one push, only once its
-/// state is chosen.
+/// What a recoverer writes, and when. It writes no state before each log of the new generation counts as
+/// seeded, and then one state: its parent's, with the new generation behind it. That has the shape that
+/// the recoverer was begun with, or else that of the parent's last one. It seeds from a complete copy
+/// alone, each log always with the same seed. It pushes the mark, which is one push, only once its state
+/// is chosen.
 pub fn write_law()
     ensures made { HearKeepsMade }
     ensures seeded { HearKeepsSeeded }

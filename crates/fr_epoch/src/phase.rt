@@ -20,7 +20,7 @@ pub enum Phase {
     Lost { why: LostWhy },
 }
 
-/// A phase as a recoverer keeps it: what it tells of the chosen state stands in its plan.
+/// A phase as a recoverer keeps it: what it tells of the chosen state is in its plan.
 #[derive(Clone, Copy, Debug, PartialEq, Eq)]
 pub(crate) enum Stage {
     Reading,

@@ -19,16 +19,22 @@ use fr_tags::ShardMap;
 use std::alloc::Global;
 use std::marker::Model;
 
-/// One attempt to end an epoch and to open the next one, under a ballot that no other attempt has. It
-/// reads the coordinated state from the coordinators' cells, locks the logs of the state's last
-/// generation until their replies cover, copies what the next generation takes over, seeds that
-/// generation's logs with it, writes the state with the next generation behind it, and, once a majority
-/// of the cells holds that, pushes the mark to the new logs. Its asks may be sent again, and what it is
-/// told may come late, repeated or out of order. It is FoundationDB's recovery (Zhou et al., SIGMOD
-/// 2021, section 2.4) over a disk Paxos group of coordinators (Gafni and Lamport, 2003). The next
-/// generation has the shape that the recoverer is begun with, or else that of the one before: how many
-/// logs it has, and on how many of them each tag stands. The locks, and the copy, go by the shape of the
-/// one before, seeds and marks by that of the next.
+/// One attempt to end an epoch and to open the next one, under a ballot that no other attempt has. Its
+/// phases, in this order:
+///
+/// 1. it reads the coordinated state from the coordinators' cells;
+/// 2. it locks the logs of the state's last generation until their replies cover;
+/// 3. it copies what the next generation takes over, and seeds that generation's logs with it;
+/// 4. it writes the state with the next generation behind it;
+/// 5. once a majority of the cells holds that state, it pushes the mark to the new logs.
+///
+/// Its asks may be sent again, and what it is told may come late, repeated or out of order. It is
+/// FoundationDB's recovery (Zhou et al., SIGMOD 2021, section 2.4) over a disk Paxos group of
+/// coordinators (Gafni and Lamport, 2003).
+///
+/// The next generation has the shape that the recoverer is begun with, or else that of the one before:
+/// how many logs it has, and on how many of them each tag is. The locks, and the copy, go by the shape
+/// of the one before, seeds and marks by that of the next.
 #[derive(Debug, Drop)]
 pub struct Recoverer {
     standing: Standing,
@@ -49,9 +55,9 @@ impl Model for Recoverer {
 
 impl Recoverer {
     /// A recoverer that heard nothing, with a ballot other than 0, over this many coordinators' cells,
-    /// of keys that are cut into shards as the map says, to open a generation of this shape, or where
-    /// none is given one of the shape that the one before has. It takes no memory; its first asks are
-    /// those pending.
+    /// of keys that are cut into shards as the map says. It is to open a generation of this shape, or
+    /// if none is given one of the shape that the one before has. It takes no memory; its first asks
+    /// are those pending.
     pub fn begin(
         alloc: Global,
         ballot: Ballot,
@@ -87,10 +93,9 @@ impl Recoverer {
         }
     }
 
-    /// Hears what a node tells, and answers what it then asks, which is not asked before: all that a new
-    /// phase lacks, or the peeks that go on. A tell that is not wanted in its phase, or that a tally or
-    /// the copy refuses, changes nothing; one that gives up keeps all but its phase. Want of memory
-    /// changes nothing either.
+    /// Hears what a node tells, and answers the new asks: all that a new phase waits for, or the next
+    /// peeks. A tell that is not wanted in its phase, or that a tally or the copy refuses, changes
+    /// nothing; one that gives up keeps all but its phase. Out of memory nothing changes either.
     pub fn hear(
         &mut self,
         alloc: Global,
@@ -203,7 +208,7 @@ impl Standing {
         }
     }
 
-    /// How an equal recoverer stands.
+    /// An equal state of an equal recoverer.
     fn copy(&self, alloc: Global) -> Result<Self, Memory>
         ensures { IfOk result (λ copy. state_of copy ≡ state_of self.now) }
     {

@@ -1,4 +1,4 @@
-//! How a recoverer stands.
+//! The state of a recoverer.
 use crate::end_tally::EndTally;
 use crate::phase::Stage;
 use fr_base::{Epoch, Shape};
@@ -24,22 +24,31 @@ pub(crate) struct Draft {
     pub(crate) tail: Tail,
 }
 
-/// How a recoverer stands: its epoch, how the keys are cut into shards, the shape that the next generation
-/// is to have where one was given, how far it is, its tally of promises, what they told, the replies to
-/// its locks, what these showed popped, its plan, the new logs that are seeded, its tally of writes, and
-/// the new logs that hold the mark.
+/// The state of a recoverer.
 #[derive(Debug, Drop)]
 pub(crate) struct Standing {
+    /// Its epoch.
     pub(crate) epoch: Epoch,
+    /// How the keys are cut into shards.
     pub(crate) map: ShardMap,
+    /// The shape that the next generation is to have, if one was given.
     pub(crate) shape: Option<Shape>,
+    /// How far it is.
     pub(crate) stage: Stage,
+    /// Its tally of promises.
     pub(crate) reads: ReadTally,
+    /// What the promises told.
     pub(crate) parent: Option<Found>,
+    /// The replies to its locks.
     pub(crate) end: Option<EndTally>,
+    /// What these replies showed popped.
     pub(crate) shown: Vec<PoppedTag>,
+    /// Its plan.
     pub(crate) plan: Option<Draft>,
+    /// The new logs that are seeded.
     pub(crate) seeded: Vec<u8>,
+    /// Its tally of writes.
     pub(crate) writes: WriteTally,
+    /// The new logs that hold the mark.
     pub(crate) marked: Vec<u8>,
 }

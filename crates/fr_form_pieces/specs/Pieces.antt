@@ -1,4 +1,4 @@
--- What the tokens of a text begin with, where it does not matter which value it is.
+-- What the tokens of a text begin with, if it does not matter which value it is.
 use Rattle.std.specs.Prelude.{ℕ, List}
 use Rattle.json.specs.Token.{Token}
 use Rattle.serde_json.specs.Data.{Data}

@@ -78,7 +78,7 @@ fn read_members(
     Ok(found)
 }
 
-/// The number that a text of JSON's is, where it is written in digits alone and fits 64 bits.
+/// The number that a text of JSON's is, if it is written in digits alone and fits 64 bits.
 fn unsigned(digits: &[u8]) -> Option<u64>
     ensures { IfSome result (λ n. number_of digits.now ≡ Some (unsigned n)) }
 {

@@ -16,7 +16,7 @@ IsWithin depth first now =
     (n : ℕ) × (length now ≤ n) × (found : Members)
     × ((all : Members) (rest : List Token) → BeginsWithMembers depth n now found all rest → BeginsWithMembers depth (length first) first no_members all rest)
 
--- what stands before the later tokens are members of an object, whose values nest no deeper than the number
+-- what is before the later tokens are members of an object, whose values nest no deeper than the number
 abbrev pub PassesMembers : ℕ → List Token → List Token → Type 0
 PassesMembers height now later =
     ((depth : ℕ) → height ≤ depth → (first : List Token) → IsWithin depth first now → IsWithin depth first later) × (length later ≤ length now)

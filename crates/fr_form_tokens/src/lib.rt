@@ -1,5 +1,5 @@
-//! What stands in the entries of journals, read from the tokens of a text, where it is spelled as it is written: the
-//! members of each object in the order of their names' bytes. What is rare is read from a tree of its own.
+//! What the entries of journals hold, read from the tokens of a text, if it is spelled as it is written: the members of
+//! each object in the order of their names' bytes. What is rare is read from a tree of its own.
 #![tactic(auto)]
 
 mod asks;

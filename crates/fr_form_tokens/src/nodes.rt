@@ -72,7 +72,7 @@ fn proxy_of(epoch: u64, number: u64) -> Result<NodeId, Unread> {
     Ok(NodeId::Proxy { epoch, number })
 }
 
-/// Reads what a proxy said of its batch; nothing where null stands.
+/// Reads what a proxy said of its batch; nothing if it is null.
 pub fn read_outcome(reader: &mut Reader<'_>) -> Result<Option<Outcome>, Unread>
     ensures { OnOk result (Fits 2 reader.old reader.new) }
 {

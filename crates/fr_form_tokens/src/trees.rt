@@ -11,7 +11,7 @@ use json::Reader;
 use serde_json::Value;
 use std::alloc::Global;
 
-/// What was read of a tree, where that has its form: a tree without it is left to who reads the whole text as one.
+/// What was read of a tree, if that has its form: a tree without it is left to the reader of the whole text.
 pub fn of_tree<T: Drop>(read: Result<T, ScriptFault>) -> Result<T, Unread> {
     match read {
         Ok(value) => Ok(value),

@@ -86,22 +86,22 @@ impl Fields {
         }
     }
 
-    /// The value, whatever it is.
+    /// The whole value, whatever it is, lent.
     pub fn all(&self) -> &Value {
         &self.value
     }
 
-    /// Takes the value out, whatever it is.
+    /// Takes the whole value out, whatever it is.
     pub fn take_all(&mut self) -> Value {
         self.value.take()
     }
 
-    /// Takes the value under a name out.
+    /// Takes the member of a name out.
     pub fn take(&mut self, name: &str) -> Result<Value, ScriptFault> {
         take_member(&mut self.value, self.count, name).ok_or(ScriptFault::BadScript)
     }
 
-    /// The value under a name.
+    /// The member of a name, lent.
     pub fn value(&self, name: &str) -> Result<&Value, ScriptFault> {
         member_of(&self.value, self.count, name).ok_or(ScriptFault::BadScript)
     }

@@ -1,5 +1,5 @@
-//! The JSON forms of what stands in journals and scenarios: nodes, what they are asked and tell, where they stood at
-//! last, states and batches. They are read out of a tree of JSON, and made as one.
+//! The JSON forms of what journals and scenarios hold: nodes, what they are asked and tell, their last states,
+//! coordinated states and batches. They are read out of a tree of JSON, and made as one.
 #![tactic(auto)]
 
 mod asks;

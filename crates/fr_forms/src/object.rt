@@ -26,7 +26,7 @@ impl Object {
         Ok(Object { alloc, members })
     }
 
-    /// With one member more, where there was memory for its value.
+    /// With one member more, if there was memory for its value.
     pub fn and(self, name: &str, value: Result<Value, Memory>) -> Result<Self, Memory> {
         self.with(name, value?)
     }

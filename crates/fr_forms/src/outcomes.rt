@@ -8,7 +8,7 @@ use fr_proxy::Outcome;
 use serde_json::Value;
 use std::alloc::Global;
 
-/// Reads what a proxy said of its batch; nothing where null stands.
+/// Reads what a proxy said of its batch; nothing if it is null.
 pub fn read_outcome(value: Value) -> Result<Option<Outcome>, ScriptFault> {
     if value.is_null() {
         return Ok(None);
@@ -30,7 +30,7 @@ fn read_named(name: &str, content: &mut Fields) -> Result<Outcome, ScriptFault> 
     }
 }
 
-/// The form of what a proxy said of its batch; null where that is nothing.
+/// The form of what a proxy said of its batch; null if that is nothing.
 pub fn write_outcome(alloc: Global, outcome: &Option<Outcome>) -> Result<Value, Memory> {
     let Some(outcome) = outcome else {
         return Ok(Value::Null);

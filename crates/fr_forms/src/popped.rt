@@ -1,4 +1,4 @@
-//! How far the tags of a log are popped, which is left out where none is.
+//! How far the tags of a log are popped, which is left out if none is.
 use crate::fault::ScriptFault;
 use crate::fields::{Fields, items, tag_of, version_of};
 use crate::lists::{ReadItem, WriteItem, read_all, write_all, write_pair};
@@ -9,14 +9,14 @@ use fr_log::{PoppedTag, PoppedTags};
 use serde_json::Value;
 use std::alloc::Global;
 
-/// Whether an object, which is to have so many members, or one more where it says what is popped, says that.
+/// Whether an object, which is to have so many members, or one more if it says what is popped, says that.
 pub(crate) fn says_popped(fields: &mut Fields, without: u8) -> bool {
     let there = fields.all().get(names::POPPED).is_some();
     fields.of(usize::from(without) + usize::from(there));
     there
 }
 
-/// How far tags are popped, where the object says it: a list of pairs of a tag and a version, one at least, by rising
+/// How far tags are popped, if the object says it: a list of pairs of a tag and a version, one at least, by rising
 /// tags.
 pub(crate) fn read_popped(
     alloc: Global,
@@ -69,7 +69,7 @@ fn popped_tag(tag: &Value, version: &Value) -> Result<PoppedTag, ScriptFault> {
     Ok(PoppedTag { tag, version })
 }
 
-/// An object with how far tags are popped, where any is.
+/// An object with how far tags are popped, if any is.
 pub(crate) fn with_popped(
     alloc: Global,
     object: Object,

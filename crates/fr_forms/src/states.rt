@@ -9,7 +9,7 @@ use fr_state::{CoordState, DecodeFault, Generation, StateFault, decode, encode};
 use serde_json::Value;
 use std::alloc::Global;
 
-/// A state: the list of its generations, or, where some were dropped, an object of their number and that list.
+/// A state: the list of its generations, or, if some were dropped, an object of their number and that list.
 pub fn read_state(alloc: Global, value: Value) -> Result<CoordState, ScriptFault> {
     if value.as_object().is_none() {
         return read_generations(alloc, value);
@@ -78,7 +78,7 @@ fn read_generation(fields: &Fields) -> Result<Generation, ScriptFault> {
     Generation::new(epoch, m, k, first, seeded_to).ok_or(ScriptFault::BadScript)
 }
 
-/// The form of a coordinated state: the list of its generations, with how many were dropped before, where some were.
+/// The form of a coordinated state: the list of its generations, with how many were dropped before, if some were.
 pub fn write_state(alloc: Global, state: &CoordState) -> Result<Value, Memory> {
     if state.dropped() == 0 {
         return write_all(alloc, state.gens());

@@ -124,7 +124,7 @@ popped_is_known l tag version h e = (
   popped_is (λ t v. holds l t) l.popped tag version h.popped_held e,
 )
 
--- what is popped of a tag is known, also where nothing is
+-- what is popped of a tag is known, also if nothing is
 pub popped_low : (l : LogState) (tag : ℕ) → IsLog l → popped_at l.popped tag ≤ known_of l
 popped_low l tag h = go (popped_of l.popped tag) refl
   where

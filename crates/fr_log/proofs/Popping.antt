@@ -18,7 +18,7 @@ at_least a b le apart = elim (cases_lt a b) [
   | inr m ↦ absurd (apart (omega (arith, le, m)))
 ]
 
--- the entry that stands there is replaced, where it is of the tag
+-- the entry that stands there is replaced, if it is of the tag
 pub raised_set : (ps : List PoppedTag) (tag version : ℕ) (d : PoppedTag) → place_in ps tag < length ps → (get_or ps (place_in ps tag) d).tag ≡ tag
     → slice_set ps (place_in ps tag) (record { tag = tag; version = version }) ≡ raised ps tag version
 raised_set [] tag version d less same = absurd (omega (arith, less))

@@ -9,7 +9,7 @@ use Rattle.fr_mutation.specs.declared.mutation.Mutation.{Mutation}
 use Rattle.fr_log.specs.declared.records.SeedRecord.{SeedRecord}
 use Rattle.fr_log.specs.LogState.{seeded_record}
 
--- what is above a number, where all above it stands behind all that is not
+-- what is above a number, if all above it stands behind all that is not
 pub above_is_drop : {X : Type 0} (n : X → ℕ) (after i : ℕ) (xs : List X) → ((k : ℕ) (d : X) → k < i → n (get_or xs k d) ≤ after)
     → ((k : ℕ) (d : X) → i ≤ k → k < length xs → after < n (get_or xs k d)) → drop i xs ≡ filter (λ x. nat_lt after (n x)) xs
 above_is_drop n after zero [] low high = refl

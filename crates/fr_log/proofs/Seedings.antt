@@ -18,7 +18,7 @@ both : (a b c : Bool) → a ≡ true → b ≡ c → (a && b) ≡ c
 both true b c e h = h
 both false b c e h = absurd (cc e)
 
--- records rise with one more exactly where it stands behind the last
+-- records rise with one more exactly if it stands behind the last
 pub one_more_rises : (version tag : ℕ) (rs : List SeedRecord) (last next : SeedRecord) → slice_get rs (length rs - 1) ≡ Some last → is_rising_from version tag rs ≡ true → is_rising_from version tag (rs ++ next ∷ []) ≡ behind last next
 one_more_rises version tag [] last next is rising = absurd (cc is)
 one_more_rises version tag (r ∷ []) last next is rising =

@@ -222,9 +222,9 @@ past_all [] (suc t) le = refl
 past_all (s ∷ ss) zero le = absurd (omega (arith, le))
 past_all (s ∷ ss) (suc t) le = past_all ss t (omega (arith, le))
 
--- ---- the bodies that stand at a version
+-- ---- the bodies that are at a version
 
--- bodies by rising tags are those that stand at their version, where each shelf has the batch of its tag there
+-- bodies by rising tags are those that stand at their version, if each shelf has the batch of its tag there
 pub canonical : (v tag : ℕ) (ss : List (List Shelved)) (bs : List Body) → is_rising_from tag bs ≡ true → ((t : ℕ) → batch_at v (shelf_of ss t) ≡ batch_of (tag + t) bs) → bodies_from v tag ss ≡ bs
 unfolding bodies_from
 canonical v tag [] [] r h = refl

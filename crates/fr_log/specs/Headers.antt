@@ -28,17 +28,17 @@ headers_in (r ∷ rs) = r ++ headers_in rs
 abbrev pub AreRuns : List (List PushHeader) → Type 0
 AreRuns rs = AllByRecursion (λ r. 0 < length r) rs
 
--- the version of the first header, 0 where there is none
+-- the version of the first header, 0 if there is none
 abbrev pub begins : List PushHeader → ℕ
 begins [] = 0
 begins (h ∷ hs) = h.version
 
--- the mark of the first header, where it has one
+-- the mark of the first header, if it has one
 abbrev pub first_mark : List PushHeader → Option CoordinatedState
 first_mark [] = None
 first_mark (h ∷ hs) = h.mark
 
--- the version of the header at a place, where there is one
+-- the version of the header at a place, if there is one
 abbrev pub version_at : List PushHeader → ℕ → Option ℕ
 version_at [] place = None
 version_at (h ∷ hs) zero = Some h.version

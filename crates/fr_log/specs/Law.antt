@@ -87,7 +87,7 @@ AskLeavesLog = (l : LogState) (a : LogAsk) → IsLog l → IsLogAsk a → IsLog 
 abbrev pub AsksLeaveLog : Type 0
 AsksLeaveLog = (l : LogState) (asks : List LogAsk) → IsLog l → All IsLogAsk asks → IsLog (after_all l asks)
 
--- the version of the last header, or this one where there is none
+-- the version of the last header, or this one if there is none
 abbrev pub last_version : ℕ → List Header → ℕ
 last_version version hs = fold (λ v h. h.version) version hs
 

@@ -29,12 +29,12 @@ pub record LogState : Type 0 where
 abbrev pub fresh_log : ℕ → ℕ → ℕ → ℕ → LogState
 fresh_log epoch index m k = record { epoch = epoch; index = index; m = m; k = k; seed = None; pushes = []; stopped = false; popped = [] }
 
--- the version at which the epoch starts, 0 where the log has no seed yet
+-- the version at which the epoch starts, 0 if the log has no seed yet
 abbrev pub first_of : Option SeedContent → ℕ
 first_of None = 0
 first_of (Some s) = s.first
 
--- the last version that the epoch takes over, 0 where the log has no seed yet
+-- the last version that the epoch takes over, 0 if the log has no seed yet
 abbrev pub seeded_to_of : Option SeedContent → ℕ
 seeded_to_of None = 0
 seeded_to_of (Some s) = s.seeded_to

@@ -16,11 +16,11 @@ abbrev pub popped_of : List PoppedTag → ℕ → Option ℕ
 popped_of [] tag = None
 popped_of (p ∷ ps) tag = if p.tag == tag then Some p.version else popped_of ps tag
 
--- the same version, 0 where the tag was not popped
+-- the same version, 0 if the tag was not popped
 abbrev pub popped_at : List PoppedTag → ℕ → ℕ
 popped_at ps tag = unwrap_or (popped_of ps tag) 0
 
--- where the first entry stands that is not of a lesser tag
+-- the index of the first entry that is not of a lesser tag
 abbrev pub place_in : List PoppedTag → ℕ → ℕ
 place_in [] tag = 0
 place_in (p ∷ ps) tag = if nat_le tag p.tag then 0 else suc (place_in ps tag)
@@ -53,12 +53,12 @@ is_left ps r = nat_lt (popped_at ps r.tag) r.version
 abbrev pub left_seed : List PoppedTag → SeedContent → SeedContent
 left_seed ps s = record s { records = filter (is_left ps) s.records }
 
--- the first record, where there is one, is left
+-- the first record, if there is one, is left
 abbrev pub IsLeftAtFirst : List PoppedTag → List SeedRecord → Type 0
 IsLeftAtFirst ps [] = Unit {0}
 IsLeftAtFirst ps (r ∷ rs) = IsTrue (is_left ps r)
 
--- the first body of one version, where there is one, is left
+-- the first body of one version, if there is one, is left
 abbrev pub IsBodyLeftAtFirst : List PoppedTag → ℕ → List Body → Type 0
 IsBodyLeftAtFirst ps version [] = Unit {0}
 IsBodyLeftAtFirst ps version (b ∷ bs) = IsTrue (nat_lt (popped_at ps b.tag) version)

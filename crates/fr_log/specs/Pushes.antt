@@ -43,7 +43,7 @@ AreAbove version es = AllByRecursion (λ e. version < e.0) es
 abbrev pub above : ℕ → List Shelved → List Shelved
 above version es = filter (λ e. nat_lt version e.0) es
 
--- the shelf of a tag, of those of the tags 0, 1 and so on; it is empty where there are not so many
+-- the shelf of a tag, of those of the tags 0, 1 and so on; it is empty if there are not so many
 abbrev pub shelf_of : List (List Shelved) → ℕ → List Shelved
 shelf_of shelves tag = slice_index_or shelves tag []
 
@@ -52,7 +52,7 @@ abbrev pub with_body : ℕ → Option (List Mutation) → List Body → List Bod
 with_body tag None bodies = bodies
 with_body tag (Some batch) bodies = record { tag = tag; batch = batch } ∷ bodies
 
--- the bodies that stand at a version, where the shelves are those of this tag and the tags after it
+-- the bodies that are at a version, if the shelves are those of this tag and the tags after it
 unfoldable pub bodies_from : ℕ → ℕ → List (List Shelved) → List Body
 bodies_from version tag [] = []
 bodies_from version tag (s ∷ ss) = with_body tag (batch_at version s) (bodies_from version (tag + 1) ss)

@@ -11,8 +11,8 @@ use Rattle.fr_log.specs.Refusal.{seed_refusal, push_refusal, lock_refusal}
 use Rattle.fr_log.specs.Popped.{popped_of}
 use Rattle.fr_log.specs.Step.{lets_go}
 
--- whether an ask changes a log: a first seed, a push that is not held yet, a first lock and a Pop that comes further do, where they
--- are not refused
+-- whether an ask changes a log: a first seed, a push that is not held yet, a first lock and a Pop that comes further
+-- do, if they are not refused
 abbrev pub changes : LogState → LogAsk → Bool
 changes l (Seed s) = is_none (seed_refusal l s) && is_none l.seed
 changes l (Push p) = is_none (push_refusal l p) && not (is_push_held l p)

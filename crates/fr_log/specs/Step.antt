@@ -18,7 +18,7 @@ use Rattle.fr_log.specs.Refusal.{refusal_of, pop_refusal}
 abbrev pub records_above : LogState → ℕ → ℕ → List PeekedRecord
 records_above l tag after = filter (λ r. nat_lt after r.version) (records_of l tag)
 
--- the version of the last of the first `most` records where more remain, else the version through which all is held
+-- the version of the last of the first `most` records if more remain, else the version through which all is held
 abbrev pub upto_of : ℕ → List PeekedRecord → ℕ → ℕ
 upto_of most above durable = if nat_lt most (length above) then fold (λ version r. r.version) durable (take most above) else durable
 

@@ -133,7 +133,7 @@ lock_repeats : (l : LogState) (epoch : ℕ) → (o : Option LogRefusal) → refu
 lock_repeats l epoch (Some why) e = refused l (Lock epoch) why e
 lock_repeats l epoch None e = new_lock l epoch e
 
--- ---- the same where what a Pop covers is let go at once
+-- ---- the same if what a Pop covers is let go at once
 
 -- an ask leaves a log in which it is answered as before, and which it then leaves as it is
 pub record IsRepeatableAfter (l : LogState) (a : LogAsk) : Type 0 where

@@ -30,7 +30,7 @@ impl Model for Most {
 }
 
 impl Most {
-    /// This number, where it is from 1 to 100.
+    /// This number, if it is from 1 to 100.
     pub fn new(number: u8) -> Option<Self>
         ensures within { IsSome result ↔ ((1 ≤ number) × (number ≤ 100)) }
         ensures value { IfSome result (λ m. m ≡ number) }
@@ -160,19 +160,19 @@ pub enum LogRefusal {
     Unseeded,
     /// It was locked.
     Stopped,
-    /// The push does not follow the greatest version held, which is further on; or it is a mark
-    /// elsewhere than right after the seed.
+    /// The push is not held, and its `prev` is below the greatest version held; or it is a mark
+    /// that does not follow the seed at once.
     Stale,
     /// Pushes before this one are missing; the greatest version held.
     Gap { durable: Version },
     /// It does not hold the tag.
     NotMine,
-    /// Versions from below the epoch's first are asked for; that first version.
+    /// The peek begins below the epoch's first version, which is told.
     TooEarly { first: Version },
     /// It holds another seed.
     SeedDiffers,
     /// There is no mark before this push, or none to tell of.
     NoMark,
-    /// Records from a version on are asked for of which it let go; the version through which it did.
+    /// The peek begins below the version through which the tag is popped, which is told.
     Removed { through: Version },
 }

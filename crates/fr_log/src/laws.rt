@@ -13,9 +13,8 @@ pub fn same_law()
     ensures tells { IsSameness is_same_log_tell }
 {}
 
-/// The ways in which an ask changes a log: it stands, takes its first seed, holds one push more that
-/// follows the greatest version held, is stopped, or a tag of it is popped further. Where it is refused, it
-/// stands.
+/// An ask changes a log in one of five ways: not at all, its first seed, one push more that follows the
+/// greatest version held, a stop, a tag popped further. A refused ask changes nothing.
 pub fn change_law()
     ensures change { AskIsChange }
     ensures refused { RefusedChangesNothing }
@@ -41,14 +40,14 @@ pub fn chain_law()
 {}
 
 /// A log grows, whatever it is asked: a seed stays, the headers of the pushes held are a front of those
-/// held later, `durable` and `known` do not fall. Once it is stopped they stand still.
+/// held later, `durable` and `known` do not fall. Once it is stopped they do not change.
 pub fn growth_law()
     ensures ask { AskGrows }
     ensures asks { AsksGrow }
 {}
 
 /// A first seed sets `durable`, `known` and the records of each tag. A push that is newly held raises
-/// `durable` to its version and `known` to its own, if that is more, and its records stand behind the
+/// `durable` to its version and `known` to its own, if that is more, and its records come behind the
 /// others; nothing else raises them once the log has its seed.
 pub fn raise_law()
     ensures seed { FirstSeedSets }

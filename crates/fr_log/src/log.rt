@@ -24,11 +24,12 @@ pub use place::Place;
 use std::alloc::{AllocError, Global};
 use std::marker::Model;
 
-/// One log of a generation. It holds its seed and the pushes that followed it, which form one chain
-/// that begins with the mark; `durable` is the greatest version that it holds, `known` the greatest one
-/// that a push told to be committed. Once it is locked it takes no push. What the storage server of a tag has
-/// for good is popped: the log lets go of these records, and keeps the headers. It is the transaction log of
-/// FoundationDB (Zhou et al., SIGMOD 2021, sections 2.3 and 2.4), without spilling.
+/// One log of a generation. It holds its seed and the pushes that followed it, which form one chain that
+/// begins with the mark; `durable` is the greatest version that it holds. `known` is the greatest one that it
+/// knows to be committed: the version before its first one after its seed, and then the greatest that a push
+/// told. Once it is locked it takes no push. What the storage server of a tag has for good is popped: the log
+/// lets go of these records, and keeps the headers. It is the transaction log of FoundationDB (Zhou et al.,
+/// SIGMOD 2021, sections 2.3 and 2.4), without spilling.
 #[derive(Debug, Drop)]
 pub struct Log {
     id: LogId,
@@ -71,8 +72,8 @@ impl Model for Log {
 }
 
 impl Log {
-    /// A log that was never asked, of a generation of `m` logs on `k` of which each tag stands. It takes
-    /// no memory.
+    /// A log that was never asked, of a generation of `m` logs on `k` of which each tag is. It takes no
+    /// memory.
     pub fn new(alloc: Global, id: LogId, m: u8, k: u8) -> Self
         requires some { 1 ≤ k }
         requires fits { k ≤ m }
@@ -112,7 +113,7 @@ impl Log {
         self.shape.m()
     }
 
-    /// On how many logs each tag stands.
+    /// On how many logs each tag is.
     pub fn k(&self) -> u8
         ensures value { result ≡ self.now.k }
         ensures sound { IsLog self.now }

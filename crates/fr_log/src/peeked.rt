@@ -36,7 +36,7 @@ impl Model for Peeked {
 }
 
 impl Peeked {
-    /// The answer with these records, where their versions rise strictly, are above `after` and at most
+    /// The answer with these records, if their versions rise strictly, are above `after` and at most
     /// `upto`, and they are at most 100. It takes no memory.
     pub fn new(
         tag: Tag,

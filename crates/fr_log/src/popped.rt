@@ -106,8 +106,8 @@ impl Eq for PoppedTags {
     ghost laws = { IsSameness-equivalence are_same_popped-IsSameness };
 }
 
-/// Where the first entry stands that is not of a lesser tag: at the end where there is none. There are at most
-/// 32 tags.
+/// The index of the first entry that is not of a lesser tag: the end if there is none. There are at most 32
+/// tags.
 fn place_of(entries: &[PoppedTag], tag: Tag) -> usize
     ensures place { result ≡ place_in entries.now tag }
     ensures within { result ≤ length entries.now }
@@ -134,7 +134,7 @@ pub(crate) fn popped_of(popped: &[PoppedTag], tag: Tag) -> Option<Version>
     None
 }
 
-/// The same version, 0 where the tag was not popped.
+/// The same version, 0 if the tag was not popped.
 pub(crate) fn popped_at(popped: &[PoppedTag], tag: Tag) -> Version
     ensures { result ≡ popped_at popped.now tag }
 {

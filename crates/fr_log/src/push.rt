@@ -14,11 +14,11 @@ use fr_tags::Body;
 use std::alloc::{AllocError, Global};
 use std::marker::Model;
 
-/// One commit as a log takes it: its version and the version before it in the chain of commits, the
-/// greatest version that the sender knows to be committed, and a body for each of the log's tags that
-/// the commit changes, by rising tags. The first push of an epoch is its mark, the recovery
-/// transaction, which carries the coordinated state in place of bodies. Contracts see it as the record
-/// of its fields.
+/// One commit as a log takes it: its version and the version before it in the chain of commits, and
+/// the greatest version that the sender knows to be committed. It has a body for each of the log's
+/// tags that the commit changes, by rising tags. The first push of an epoch is its mark, the recovery
+/// transaction. It carries the coordinated state in place of bodies. Contracts see it as the record of
+/// its fields.
 #[derive(Debug, Drop)]
 pub struct Push {
     epoch: Epoch,
@@ -41,7 +41,7 @@ impl Model for Push {
 }
 
 impl Push {
-    /// The push of a commit, where prev < version <= prev + 1,000,000, known <= prev, and the tags of
+    /// The push of a commit, if prev < version <= prev + 1,000,000, known <= prev, and the tags of
     /// the bodies rise strictly. It takes no memory.
     pub fn new(
         epoch: Epoch,
@@ -84,7 +84,7 @@ impl Push {
         }
     }
 
-    /// The mark of an epoch, at the version after `prev`, where known <= prev and that version is below
+    /// The mark of an epoch, at the version after `prev`, if known <= prev and that version is below
     /// 2^62. It takes no memory.
     pub fn mark(
         alloc: Global,

@@ -25,8 +25,8 @@ use shelf::Shelf;
 use std::alloc::{AllocError, Global};
 use std::marker::Model;
 
-/// The pushes that a log holds, by rising versions. Their headers stand in one list, the oldest first, and
-/// their batches on shelves, one for each tag up to the greatest that was pushed, so that the records of a
+/// The pushes that a log holds, by rising versions. Their headers are in one list, the oldest first. Their
+/// batches are on shelves, one for each tag up to the greatest that was pushed, so that the records of a
 /// tag are found without a walk of what other tags were pushed. Contracts see the list of the pushes.
 #[derive(Debug, Drop)]
 pub(crate) struct Pushes {
@@ -64,7 +64,7 @@ impl Pushes {
         self.headers.len()
     }
 
-    /// The coordinated state of the first push, where that is a mark.
+    /// The coordinated state of the first push, if that is a mark.
     pub(crate) fn mark(&self) -> Option<&CoordState>
         ensures { option_copied result ≡ mark_among self.now }
     {
@@ -80,7 +80,7 @@ impl Pushes {
             && have_bodies(&self.shelves, push.version(), push.bodies(), popped)
     }
 
-    /// Holds one more push, above all others: it is moved in. Want of memory changes nothing.
+    /// Holds one more push, above all others: it is moved in. Out of memory changes nothing.
     pub(crate) fn hold(&mut self, alloc: Global, push: Push) -> Result<(), Memory>
         requires { ArePushedBelow push.version self.old }
         ensures after { OnOk result (self.new ≡ self.old ++ push ∷ []) }
@@ -150,7 +150,7 @@ impl Clone for Pushes {
     }
 }
 
-/// Whether bodies are those that stand at a version, whatever the two have of what is popped.
+/// Whether bodies are those held at a version, whatever the two have of what is popped.
 fn have_bodies(shelves: &[Shelf], version: Version, bodies: &[Body], popped: &[PoppedTag]) -> bool
     ensures { result ≡ pointwise is_same_body (left_bodies popped.now version bodies.now)
         (left_bodies popped.now version (bodies_from version 0 shelves.now)) }
@@ -174,7 +174,7 @@ fn have_bodies(shelves: &[Shelf], version: Version, bodies: &[Body], popped: &[P
     left.is_empty()
 }
 
-/// Through which version the tag of a number is popped, 0 where it is not.
+/// The version through which the tag of a number is popped, 0 if it is not.
 fn through(number: usize, popped: &[PoppedTag]) -> Version
     ensures { result ≡ popped_at popped.now number }
 {
@@ -201,7 +201,7 @@ fn from_left<'a>(bodies: &'a [Body], version: Version, popped: &[PoppedTag]) -> 
     rest
 }
 
-/// Puts bodies on the shelves of their tags. Where memory is wanted, some of them stand there.
+/// Puts bodies on the shelves of their tags. Out of memory, some of them are there.
 fn put_all(
     alloc: Global,
     shelves: &mut Vec<Shelf>,
@@ -244,7 +244,7 @@ fn grow(alloc: Global, shelves: &mut Vec<Shelf>, number: usize) -> Result<(), Me
     Ok(())
 }
 
-/// Takes out of each shelf what stands at a version or above it.
+/// Takes out of each shelf what is at a version or above it.
 fn cut_all(shelves: &mut Vec<Shelf>, version: Version)
     ensures { (t : ℕ) → shelf_of shelves.new.items t ≡ cut version (shelf_of shelves.old.items t) }
 {

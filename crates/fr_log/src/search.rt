@@ -68,7 +68,7 @@ fn gather_seeded(
     Ok(false)
 }
 
-/// The version through which given records are complete: that of the last one where more remain, else
+/// The version through which given records are complete: that of the last one if more remain, else
 /// the greatest version that is held.
 pub(crate) fn upto(given: &[PeekedRecord], more: bool, durable: Version) -> Version
     ensures { result ≡ (if more then fold (λ version r. r.version) durable given.now else durable) }

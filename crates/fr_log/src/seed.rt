@@ -35,7 +35,7 @@ impl Model for Seed {
 }
 
 impl Seed {
-    /// The seed of these records, where they are within its limits and in order. It takes no memory.
+    /// The seed of these records, if they are within its limits and in order. It takes no memory.
     pub fn new(
         epoch: Epoch,
         first: Version,
@@ -74,7 +74,7 @@ impl Seed {
         self.first
     }
 
-    /// The last version that the epoch takes over; `first - 1` where it takes over none.
+    /// The last version that the epoch takes over; `first - 1` if it takes over none.
     pub fn seeded_to(&self) -> Version
         ensures value { result ≡ self.now.seeded_to }
         ensures sound { IsSeed self.now }
@@ -97,8 +97,8 @@ impl Seed {
         self.records
     }
 
-    /// Takes one record more, where the seed is one with it behind the others: its version is from `first`
-    /// through `seeded_to`, and it stands behind the last record. Else it is false, and nothing changes.
+    /// Takes one record more, if the seed is one with it behind the others: its version is from `first`
+    /// through `seeded_to`, and it comes behind the last record. Else it is false, and nothing changes.
     pub(crate) fn add(&mut self, next: SeedRecord) -> Result<bool, Memory>
         ensures taken { IfOk result (λ taken. taken ≡ takes_record self.old next) }
         ensures after { IfOk result (λ _. self.new ≡ (if takes_record self.old next then with_record self.old next else self.old)) }
@@ -191,7 +191,7 @@ fn is_rising(records: &[SeedRecord]) -> bool
     true
 }
 
-/// Whether a record stands behind those that rise strictly by version and tag.
+/// Whether a record comes behind those that rise strictly by version and tag.
 fn may_follow(records: &[SeedRecord], next: &SeedRecord) -> bool
     requires { IsTrue (is_rising_from 0 0 records.now) }
     ensures { result ≡ is_rising_from 0 0 (records.now ++ next.now ∷ []) }

@@ -189,6 +189,6 @@ lacks answer (Err d) p q = absurd cc
 pub answers : {A : Type 0} (answer reading : Result A DecodeFault) (x : A) → answer ≡ Ok x → reading ≡ Ok x → SameRefusals answer reading
 answers answer reading x p q = λ fault other. ((λ e. cc), (λ e. cc))
 
--- a fault that reading meets is no want of memory
+-- a fault that reading meets is not `Memory`
 pub hides_none : {A : Type 0} (answer reading : Result A DecodeFault) (d : DecodeFault) → answer ≡ Err d → reading ≡ Err d → reading ≢ Err Memory → answer ≡ Err Memory → IsOk reading
 hides_none answer reading d p q none m = absurd (none cc)

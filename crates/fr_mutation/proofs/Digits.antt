@@ -52,7 +52,7 @@ low_bytes-more n t s =
     let q : (t + 256 * s) / 256 ≡ t / 256 + s = omega arith in
     λ i. r i ∷ low_bytes n (q i)
 
--- one more byte of a sum, where c is carried
+-- one more byte of a sum, if c is carried
 pub sum_more : (old param : List ℕ) (i c : ℕ) → i < length param
     → low_bytes (length param - i) (c + (number_of (fitted (length param - i) (drop i old)) + number_of (drop i param)))
     ≡ (c + get_or old i 0 + get_or param i 0) % 256

@@ -6,11 +6,11 @@ use Rattle.fr_mutation.specs.Values.{sum_of, and_of, or_of, xor_of, greater_of, 
 use Rattle.fr_mutation.specs.declared.atomic.AtomicOp.{AtomicOp}
 use Rattle.fr_mutation.specs.declared.atomic.AtomicOp.TheVariants as ops
 
--- the old value, and none where it is the parameter
+-- the old value, and none if it is the parameter
 abbrev pub unless_equal : Option (List ℕ) → List ℕ → Option (List ℕ)
 unless_equal old param = option_and_then (λ value. if bytes_eq value param then None else Some value) old
 
--- the value that a key has afterwards, of its old value and the parameter: none where it is cleared
+-- the value that a key has afterwards, of its old value and the parameter: none if it is cleared
 abbrev pub atomic_value : AtomicOp → Option (List ℕ) → List ℕ → Option (List ℕ)
 atomic_value ops.Add old param = Some (sum_of (unwrap_or old []) param)
 atomic_value ops.And old param = Some (option_map_or (λ value. and_of value param) old param)

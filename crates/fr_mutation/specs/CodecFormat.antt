@@ -32,7 +32,7 @@ abbrev pub is_compare_and_clear_kind : Kind → Bool
 is_compare_and_clear_kind (kinds.Atomic op) = is_compare_and_clear_op op
 is_compare_and_clear_kind kind = false
 
--- the format in which mutations are written: the second one exactly where one of them is a compare-and-clear
+-- the format in which mutations are written: the second one exactly if one of them is a compare-and-clear
 abbrev pub format_of : List Mutation → Format
 format_of mutations = if list_any is_compare_and_clear mutations then formats.Second else formats.First
 

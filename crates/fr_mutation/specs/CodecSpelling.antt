@@ -1,4 +1,5 @@
--- The bytes of a batch, its one spelling: format 1 where that does, else format 2. Numbers stand with their most significant byte first.
+-- The bytes of a batch, its one spelling: format 1 if that is enough, else format 2. Numbers come with their most
+-- significant byte first.
 use Rattle.std.specs.Prelude.{ℕ, List, ◌∷◌, ◌++◌, length}
 use Rattle.std.specs.List.{flat_map}
 use Rattle.std.specs.Int.{w16, w32, to_be_bytes}

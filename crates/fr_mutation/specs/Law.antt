@@ -29,7 +29,7 @@ ClipLaw = (m : Map) (mutations : List Mutation) (s : Shard) → after (part m s)
 abbrev pub ClipTouchesLaw : Type 0
 ClipTouchesLaw = (mutations : List Mutation) (s : Shard) (q : List ℕ) → touched (clipped mutations s) q ≡ (touched mutations q && in_shard s q)
 
--- a clip is empty exactly where the mutations act on no key of the shard
+-- a clip is empty exactly if the mutations act on no key of the shard
 abbrev pub ClipEmptyLaw : Type 0
 ClipEmptyLaw = (mutations : List Mutation) (s : Shard) → (clipped mutations s ≡ []) ↔ ((q : List ℕ) → in_shard s q ≡ true → touched mutations q ≡ false)
 
@@ -47,7 +47,7 @@ SumLaw = (old param : List ℕ) → (length (sum_of old param) ≡ length param)
 abbrev pub SpellingIsRead : Type 0
 SpellingIsRead = (mutations : List Mutation) (rest : List ℕ) → batch_fault mutations ≡ None → decoded (spelled mutations ++ rest) ≡ Ok (mutations, length (spelled mutations))
 
--- a batch is read, with so many bytes used, exactly where these bytes are its spelling
+-- a batch is read, with so many bytes used, exactly if these bytes are its spelling
 abbrev pub OneSpelling : Type 0
 OneSpelling =
     (bytes : List ℕ) (mutations : List Mutation) (used : ℕ) → All (λ byte. byte < 256) bytes → used ≤ length bytes →

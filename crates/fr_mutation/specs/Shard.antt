@@ -7,7 +7,7 @@ use Rattle.fr_base.specs.Bytes.{bytes_cmp}
 use Rattle.fr_base.specs.Map.{Map}
 use Rattle.fr_mutation.specs.declared.shard.Shard.{Shard}
 
--- begin <= key, and key < end where there is an end
+-- begin <= key, and key < end if there is an end
 abbrev pub in_shard : Shard → List ℕ → Bool
 in_shard s key = is_le (bytes_cmp s.begin key) && option_map_or (λ limit. is_lt (bytes_cmp key limit)) s.end true
 

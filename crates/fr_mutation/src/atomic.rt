@@ -12,19 +12,19 @@ use std::alloc::Global;
 /// the parameter first, cut at its end or extended there with zero bytes.
 #[derive(Clone, Copy, Debug, PartialEq, Eq)]
 pub enum AtomicOp {
-    /// The sum of the value, 0 where there is none, and the parameter; a carry past the last byte is lost.
+    /// The sum of the value, 0 if there is none, and the parameter; a carry past the last byte is lost.
     Add,
-    /// The bytewise and; the parameter where there is no value.
+    /// The bytewise and; the parameter if there is no value.
     And,
-    /// The bytewise or; of zeros where there is no value.
+    /// The bytewise or; of zeros if there is no value.
     Or,
-    /// The bytewise exclusive or; of zeros where there is no value.
+    /// The bytewise exclusive or; of zeros if there is no value.
     Xor,
-    /// The greater number; the parameter where there is no value.
+    /// The greater number; the parameter if there is no value.
     Max,
-    /// The smaller number; the parameter where there is no value.
+    /// The smaller number; the parameter if there is no value.
     Min,
-    /// No value where there is one that equals the parameter byte for byte; else nothing changes.
+    /// No value if there is one that equals the parameter byte for byte; else nothing changes.
     CompareAndClear,
 }
 
@@ -105,7 +105,7 @@ impl AtomicOp {
         AtomicOp::ALL.iter().copied().find(|op| op.byte() == byte)
     }
 
-    /// The value that a key has afterwards, of its old value and the parameter: none where it is cleared.
+    /// The value that a key has afterwards, of its old value and the parameter: none if it is cleared.
     pub(crate) fn value(
         self,
         alloc: Global,
@@ -132,7 +132,7 @@ impl AtomicOp {
     }
 }
 
-/// The old value, and none where it equals the parameter.
+/// The old value, and none if it equals the parameter.
 fn unless_equal(old: Option<&Bytes>, param: &Bytes) -> Result<Option<Bytes>, Memory>
     ensures { IfOk result (λ value. value ≡ unless_equal (option_copied old.entry) param.now) }
 {
@@ -148,7 +148,7 @@ fn unless_equal(old: Option<&Bytes>, param: &Bytes) -> Result<Option<Bytes>, Mem
     }
 }
 
-/// The bytes of a value, and none where there is no value.
+/// The bytes of a value, and none if there is no value.
 fn or_empty(value: Option<&Bytes>) -> &[u8]
     ensures { result.now ≡ unwrap_or (option_copied value.entry) [] }
 {

@@ -11,8 +11,8 @@ use std::marker::Model;
 /// The most mutations of a batch.
 pub const MAX_MUTATIONS: usize = 1_000;
 
-/// 0 to 1,000 mutations within their limits, which act from first to last: what one commit changes.
-/// Contracts see it as the list of them.
+/// A batch: what one commit changes. 0 to 1,000 mutations within their limits, which act from first
+/// to last. Contracts see it as the list of them.
 #[derive(Debug, Drop)]
 pub struct Batch {
     mutations: Vec<Mutation>,

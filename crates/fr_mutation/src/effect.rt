@@ -15,8 +15,8 @@ use fr_base::{Bytes, Memory};
 use std::alloc::Global;
 use std::collections::BTreeMap;
 
-/// Lets the mutations act on the rows, from first to last. Want of memory leaves the rows as some first
-/// mutations made them.
+/// Lets the mutations act on the rows, from first to last. Out of memory the rows are as some first
+/// mutations made them: copy the rows first if they are still needed then.
 pub fn apply(alloc: Global, rows: &mut BTreeMap<Bytes, Bytes>, batch: &Batch) -> Result<(), Memory>
     ensures ok { OnOk result (map_of rows.new ≡ after (map_of rows.old) batch.now) }
     ensures front { OnErr result (IsAfterFront (map_of rows.old) batch.now (map_of rows.new)) }
@@ -27,7 +27,7 @@ pub fn apply(alloc: Global, rows: &mut BTreeMap<Bytes, Bytes>, batch: &Batch) ->
     Ok(())
 }
 
-/// Lets one mutation act on the rows. Want of memory changes nothing.
+/// Lets one mutation act on the rows. Out of memory changes nothing.
 fn act(alloc: Global, rows: &mut BTreeMap<Bytes, Bytes>, mutation: &Mutation) -> Result<(), Memory>
     requires { mutation_fault mutation.now ≡ None }
     ensures ok { OnOk result ((q : List ℕ) → tree.get bytes_cmp rows.new q ≡ value_after mutation.now q (tree.get bytes_cmp rows.old q)) }
@@ -49,7 +49,7 @@ fn act(alloc: Global, rows: &mut BTreeMap<Bytes, Bytes>, mutation: &Mutation) ->
     Ok(())
 }
 
-/// Removes the rows whose keys are at least `begin` and below `end`; it walks these rows alone. Want of
+/// Removes the rows whose keys are at least `begin` and below `end`; it walks these rows alone. Out of
 /// memory changes nothing, as their keys are copied before the first of them goes.
 fn clear(
     alloc: Global,

@@ -7,7 +7,7 @@ use std::error::Error;
 use std::fmt;
 
 /// Why mutations make no batch, in the order in which it is tested: the number of mutations first,
-/// then one mutation after the other, and want of memory last.
+/// then one mutation after the other, and `Memory` last.
 #[derive(Clone, Copy, Debug, PartialEq, Eq)]
 pub enum BatchFault {
     /// A key, or an end of a clear, has more than 10,000 bytes.

@@ -1,4 +1,4 @@
-//! Laws of the definitions, in the words of who uses a map.
+//! Laws of the definitions, as a caller with a map wants them.
 ghost use Rattle.fr_mutation.specs.Law.{ValueAfterLaw, AfterAllLaw, ClipLaw, ClipTouchesLaw, ClipEmptyLaw, ClipTwiceLaw, SumLaw};
 
 /// The map after a batch has at each key the value that the mutations make, one after the other, of the
@@ -23,7 +23,7 @@ pub fn clip_touches_law()
     ensures { ClipTouchesLaw }
 {}
 
-/// A clip has no mutation exactly where the batch acts on no key of the shard.
+/// A clip has no mutation exactly if the batch acts on no key of the shard.
 pub fn clip_empty_law()
     ensures { ClipEmptyLaw }
 {}

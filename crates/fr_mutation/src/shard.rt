@@ -9,7 +9,7 @@ use crate::mutation::Mutation;
 use fr_base::{Bytes, Memory};
 use std::alloc::Global;
 
-/// The keys from `begin` up to, but not including, `end`, or all from `begin` on where there is no end.
+/// The keys from `begin` up to, but not including, `end`, or all from `begin` on if there is no end.
 /// Whoever makes one keeps each end within 10,000 bytes.
 #[derive(Clone, Debug, Drop)]
 pub struct Shard {

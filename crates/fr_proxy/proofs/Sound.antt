@@ -135,7 +135,7 @@ heeds p from t h (Cuts o e k) s = idle p p.known true s
 pub hear_keeps : (p : ProxyState) (from : NodeId) (t : Tell) → IsProxy p → IsProxy (after_hear p from t)
 hear_keeps p from t s = heeds p from t (heeded p from t) (hear_is_heard p from t) s
 
--- the same, where it is known what the tell is
+-- the same, if it is known what the tell is
 pub keeps : (p : ProxyState) (from : NodeId) (t : Tell) (h : Heeded) → heeded p from t ≡ h → IsProxy p → IsProxy (after_heeded p h)
 keeps p from t h e s = subst (λ x. IsProxy (after_heeded p x)) e (hear_keeps p from t s)
 

@@ -62,7 +62,7 @@ new_proxy epoch number m k begins known =
 abbrev pub is_over : ProxyState → Bool
 is_over p = p.over || nat_le (2 ^ 62) (p.requests + 1)
 
--- a proxy takes a batch where it has none under way and is not over
+-- a proxy takes a batch if it has none under way and is not over
 abbrev pub takes_batch : ProxyState → Bool
 takes_batch p = not (is_some p.under_way) && not (is_over p)
 
@@ -121,7 +121,7 @@ pending p = asks_of_open p p.under_way
 
 -- ---- a tell is heard
 
--- a number of the open request from which a push can be made, where the batch has none yet
+-- a number of the open request from which a push can be made, if the batch has none yet
 abbrev pub may_place : ProxyState → Open → ℕ → ℕ → ℕ → Bool
 may_place p o request prev version = ((request == o.request) && not (is_some o.place)) && (nat_le p.known prev && (nat_lt prev version && nat_le version (prev + 1000000)))
 

@@ -49,7 +49,7 @@ abbrev pub last_request : Option Number → ℕ
 last_request None = 0
 last_request (Some n) = n.request
 
--- the number that a request gets now, where it is a new one
+-- the number that a request gets now, if it is a new one
 abbrev pub new_number : SeqState → ℕ → ℕ → Number
 new_number s request step = record { request = request; prev = s.last; version = s.last + step }
 

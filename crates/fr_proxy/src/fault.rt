@@ -12,8 +12,8 @@ pub enum SubmitFault {
     /// It ended, or its requests are spent: it takes no more batches.
     #[error("the proxy takes no more batches")]
     Over,
-    /// There is no memory. A proxy never answers this, since `submit` takes none; who takes memory around
-    /// it can.
+    /// There is no memory. A proxy never answers this, since `submit` takes none; a caller that takes
+    /// memory around it can.
     #[error("out of memory")]
     Memory,
 }

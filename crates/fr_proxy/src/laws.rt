@@ -24,9 +24,9 @@ pub fn heard_law()
     ensures pushes { NewIsPush }
 {}
 
-/// What holds of a new proxy stays so: an open batch is that of the last request, each log that holds it
-/// counts once and is one of the generation, and no commit above the version before its own is known.
-/// So what is known to be committed never falls.
+/// What holds of a new proxy stays so. An open batch is that of the last request. Each log that holds it
+/// counts once and is one of the generation. No commit above the version before its own is known. So
+/// what is known to be committed never falls.
 pub fn kept_law()
     ensures new { NewIsProxy }
     ensures submit { SubmitKeeps }
@@ -41,10 +41,10 @@ pub fn stored_law()
     ensures others { OthersKeepTheirs }
 {}
 
-/// Over every list of tells since a batch was taken: committed is said exactly at the tell by which, since
-/// the batch has its number, each of the m logs has told that it holds the batch at its version, while not
-/// all had told so before, and where none of the tells before ended it. Any other Held changes nothing. What
-/// is known to be committed is the last version that was.
+/// Over every list of tells since a batch was taken. Committed is said exactly at the tell by which each of
+/// the m logs has told, since the batch has its number, that it holds the batch at its version. Not all had
+/// told so before, and no tell before ended the batch. Any other Held changes nothing. What is known to be
+/// committed is the last version that was.
 pub fn committed_law()
     ensures exactly { CommittedExactlyWhenHeldByAll }
     ensures others { OtherHeldCountsNothing }

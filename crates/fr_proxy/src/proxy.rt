@@ -18,11 +18,11 @@ use std::marker::Model;
 /// The last request that a proxy makes.
 const LAST_REQUEST: u64 = (1 << 62) - 1;
 
-/// A proxy of a generation of `m` logs, on `k` of which each tag stands. It takes one batch at a time:
-/// the sequencer numbers it, every log of the generation is pushed what it holds of it, and once all of
+/// A proxy of a generation of `m` logs, on `k` of which each tag is. It takes one batch at a time: the
+/// sequencer numbers it, every log of the generation is pushed what it holds of it, and once all of
 /// them hold it the batch is committed. It is the proxy of FoundationDB (Zhou et al., SIGMOD 2021,
-/// section 2.4.1), without read versions and conflicts; and here every log must answer, where
-/// FoundationDB waits for those of the replication policy.
+/// section 2.4.1), without read versions and conflicts. Here every log must answer, while FoundationDB
+/// waits for those of the replication policy.
 #[derive(Debug, Drop)]
 pub struct Proxy {
     epoch: Epoch,
@@ -92,7 +92,7 @@ impl Proxy {
         self.shape.m()
     }
 
-    /// On how many logs each tag stands.
+    /// On how many logs each tag is.
     pub fn k(&self) -> u8
         ensures { result ≡ self.now.k }
     {
@@ -130,8 +130,8 @@ impl Proxy {
     }
 
     /// Takes a batch, and asks the generation's sequencer for its number, at this step above the last
-    /// version. The batch is refused where one is under way, and then where the proxy ended or has made
-    /// all its requests, 1 to 2^62 - 1; the proxy is then as it was. It takes no memory.
+    /// version. The batch is refused if one is under way, and then if the proxy ended or has made all
+    /// its requests, 1 to 2^62 - 1; the proxy is then as it was. It takes no memory.
     pub fn submit(&mut self, step: Step, batch: Batch) -> Result<Ask, SubmitFault>
         ensures ask { IfOk result (λ ask. ask ≡ (number_ask self.old (opened self.old step batch)).1) }
         ensures state { OnOk result (self.new ≡ submitted self.old step batch) }
@@ -153,7 +153,7 @@ impl Proxy {
     }
 
     /// Why it does not take a batch now: one is under way, or else the proxy ended or has made all its requests. None
-    /// where it takes one.
+    /// if it takes one.
     pub fn submit_fault(&self) -> Option<SubmitFault>
         ensures { result ≡ submit_fault self.now }
     {

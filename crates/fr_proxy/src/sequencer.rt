@@ -14,7 +14,7 @@ use std::collections::BTreeMap;
 use std::marker::Model;
 
 /// The sequencer of an epoch. It gives each commit a version and the version before it, so that the
-/// commits of the epoch form one chain; a proxy that asks again for its last request is told its number
+/// commits of the epoch form one chain. A proxy that asks again for its last request is told its number
 /// again, so a lost tell costs no version. It is the sequencer of FoundationDB (Zhou et al., SIGMOD
 /// 2021, section 2.4.1), without read versions.
 #[derive(Debug, Drop, Clone)]
@@ -96,7 +96,7 @@ impl Sequencer {
         self.given.get(&proxy).copied()
     }
 
-    /// The number of a proxy's last request, as a tell, where this is that request again.
+    /// The number of a proxy's last request, as a tell, if this is that request again.
     fn told_again(&self, proxy: u8, request: u64) -> Option<SeqTell>
         ensures { result ≡ (if is_of request (get self.now.given proxy) then Some (told_before (get self.now.given proxy)) else None) }
     {
@@ -187,7 +187,7 @@ fn put(given: &mut BTreeMap<u8, Number>, proxy: u8, number: Number) -> Result<()
     }
 }
 
-/// A number as a tell, where it is of this request.
+/// A number as a tell, if it is of this request.
 fn again(number: Number, request: u64) -> Option<SeqTell>
     ensures { result ≡ (if number.request == request then Some (told number) else None) }
 {

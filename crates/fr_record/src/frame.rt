@@ -1,4 +1,4 @@
-//! Where a record lies, and its bytes in a file.
+//! Where a record is, and its bytes in a file.
 ghost use Rattle.std.specs.Prelude.{◌≡◌, ◌+◌, ◌-◌, ◌<◌, ◌≤◌, ◌^◌, min, [], ◌∷◌, ◌++◌, All, length, IfOk, OnOk};
 ghost use Rattle.std.specs.Vec.{vec_capacity};
 ghost use Rattle.fr_record.specs.File.{frames, behind};
@@ -7,7 +7,7 @@ ghost use Rattle.fr_record.specs.Group.{records_of, places_of};
 use fr_base::Memory;
 use std::alloc::Global;
 
-/// Where the bytes of a record lie.
+/// Where the bytes of a record are.
 #[derive(Clone, Copy, Debug, PartialEq, Eq)]
 pub(crate) struct Frame {
     pub(crate) at: usize,
@@ -39,7 +39,7 @@ fn push_frame(bytes: &mut Vec<u8>, payload: &[u8]) -> Result<(), Memory>
     Ok(())
 }
 
-/// How long the frames of a group are; the greatest `usize` where they are longer.
+/// How long the frames of a group are; the greatest `usize` if they are longer.
 pub(crate) fn framed_len(group: &[Vec<u8>]) -> usize
     ensures { result ≡ min (length (frames (records_of group.now))) (2 ^ 64 - 1) }
 {

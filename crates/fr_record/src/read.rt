@@ -79,7 +79,7 @@ fn close<D: Device>(device: &mut D, gate: usize) -> Result<(), RecordFault>
     Ok(())
 }
 
-/// Reads the file that a device holds, whatever a crash made of it, and closes its gate where that is torn.
+/// Reads the file that a device holds, whatever a crash made of it, and closes its gate if that is torn.
 pub(crate) fn read_file<D: Device>(
     alloc: Global,
     device: &mut D,

@@ -64,7 +64,7 @@ impl<D: Device> Records<D> {
         len < self.device.capacity() - self.end
     }
 
-    /// A record, the first being number 0, or none where there are no more.
+    /// A record, the first being number 0, or none if there are no more.
     pub fn get(&mut self, alloc: Global, i: usize) -> Result<Option<Bytes>, RecordFault>
         ensures value { IfOk result (λ found. found ≡ record_at self.old.records i) }
         ensures failed { (result ≡ Err RecordFault.Failed) ↔ IsTrue self.old.is_failed }
@@ -215,8 +215,8 @@ impl<D: Device> Records<D> {
         })
     }
 
-    /// The file that a device holds, whatever a crash made of it. A refusal drops the device; what the records outlast
-    /// is said there too, of a device to which calls led.
+    /// The file that a device holds, whatever a crash made of it. A refusal drops the device. The clause `gone` says
+    /// what a crash may then have left, of a device to which the calls led.
     pub fn open(alloc: Global, device: D) -> Result<Self, RecordFault>
         ensures records { IfOk result (λ file. StandsFor (D.disk device).content file.records) }
         ensures any_moment { IfOk result (λ file. IsOpening D.Led D.disk device file.device) }
@@ -243,7 +243,7 @@ impl<D: Device> Records<D> {
         }
     }
 
-    /// Opens the file again, failed or not: what the device holds then is what the file stands for. Where it is refused
+    /// Opens the file again, failed or not: what the device holds then is what the file stands for. If it is refused
     /// the records stay, and the file stays failed if it was.
     pub fn reopen(&mut self, alloc: Global) -> Result<(), RecordFault>
         ensures records { OnOk result (StandsFor (D.disk self.old.device).content self.new.records) }

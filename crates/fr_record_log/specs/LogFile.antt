@@ -15,13 +15,13 @@ use Rattle.fr_record_log.specs.Reading.{◌>>=◌, change_at}
 abbrev pub fresh_of : LogState → LogState
 fresh_of l = fresh_log l.epoch l.index l.m l.k
 
--- the log after what a record says, none where no such log does it: each ask of a file changed the log
+-- the log after what a record says, none if no such log does it: each ask of a file changed the log
 abbrev pub taken : LogState → Change → Option LogState
 taken l (Asked a) = if changes l a then Some (after_ask l a) else None
 taken l (Seeded r) = if takes_seeded l r then Some (with_seeded l r) else None
 taken l (Popped p) = if may_pop l p.tag p.version then Some (swept (with_popped l p.tag p.version)) else None
 
--- the log after a record, none where no ask of such a log writes it
+-- the log after a record, none if no ask of such a log writes it
 abbrev pub replay_log : LogState → List ℕ → Option LogState
 replay_log l bytes = change_at l bytes >>= taken l
 

@@ -21,7 +21,7 @@ use Rattle.fr_record_log.specs.declared.reading.Numbers.{Numbers}
 use Rattle.fr_record_log.specs.declared.change.Change.{Change}
 use Rattle.fr_record_log.specs.declared.change.Change.TheVariants.{Asked, Seeded, Popped}
 
--- one step of reading after another: where one finds nothing, nothing is found
+-- one step of reading after another: if one finds nothing, nothing is found
 infixl 10 ◌>>=◌
 abbrev pub ◌>>=◌ : {A B : Type 0} → Option A → (A → Option B) → Option B
 (Some x) >>= next = next x

@@ -57,6 +57,6 @@ spelled_ask l (Peek epoch tag after most) = []
 spelled_ask l (MarkAsked epoch) = []
 spelled_ask l (Pop epoch tag through) = spelled_popped tag (popped_to l tag through) ∷ []
 
--- the records of an ask: none where it changes nothing
+-- the records of an ask: none if it changes nothing
 abbrev pub written_log : LogState → LogAsk → List (List ℕ)
 written_log l a = if changes l a then spelled_ask l a else []

@@ -7,7 +7,8 @@ use fr_mutation::spelling_is_read;
 use fr_record_node::laws;
 use fr_state::spelling_law;
 
-/// The records of each ask lead a log where the ask does, which keeps nothing of what it lets go.
+/// The records of each ask lead a log to the state to which the ask does, which keeps nothing of
+/// what it lets go.
 pub(crate) fn file_ask_law()
     ensures { AskIsFileAsk }
 {
@@ -20,8 +21,8 @@ pub(crate) fn file_ask_law()
     letting_law();
 }
 
-/// The records of every list of asks lead a log where the asks do; and what the records of a file lead a log
-/// to that was never asked, some asks make of it.
+/// The records of every list of asks lead a log to the state to which the asks do; and what the records of a
+/// file make of a log that was never asked, some asks make of it.
 pub fn run_law()
     ensures read { RunIsRead }
     ensures run { ReadIsRun }

@@ -59,7 +59,7 @@ fn fresh(alloc: Global, id: LogId, m: u8, k: u8) -> FileLog
 }
 
 impl<D: Device> LogNode<D> {
-    /// A log that was never asked, of a generation of `m` logs on `k` of which each tag stands, over a
+    /// A log that was never asked, of a generation of `m` logs on `k` of which each tag is, over a
     /// device that it is the only one to use.
     pub fn format(alloc: Global, device: D, id: LogId, m: u8, k: u8) -> Result<Self, NodeFault>
         requires some { 1 ≤ k }
@@ -84,9 +84,9 @@ impl<D: Device> LogNode<D> {
         }
     }
 
-    /// The log whose file a device holds, whatever a crash made of it. `Broken` where the device holds no
-    /// record file, or one of records that no run of a log of this id, `m` and `k` writes. A refusal drops the device;
-    /// what its records outlast is said there too, of a device to which calls led.
+    /// The log whose file a device holds, whatever a crash made of it. `Broken` if the device holds no record file, or
+    /// one of records that no run of a log of this id, `m` and `k` writes. A refusal drops the device. The clause
+    /// `gone` says what a crash may then have left, of a device to which the calls led.
     pub fn open(alloc: Global, device: D, id: LogId, m: u8, k: u8) -> Result<Self, NodeFault>
         requires some { 1 ≤ k }
         requires fits { k ≤ m }
@@ -115,10 +115,10 @@ impl<D: Device> LogNode<D> {
         }
     }
 
-    /// Answers asks in order as the log does, with all their records in one group: two syncs, however many they
-    /// are. After a crash all of the group is there, or nothing; after a fault of the device `reopen` says which.
-    /// Where no ask changes anything, as in an empty list, no call of the device is made. The file has the bytes that it
-    /// would have had the asks been served apart. Memory holds the records of all asks at once, and a copy of each ask.
+    /// Answers asks in order as the log does, with all their records in one group: two syncs, however many they are.
+    /// After a crash all of the group is there, or nothing; after a fault of the device `reopen` says which. If no ask
+    /// changes anything, as in an empty list, no call of the device is made. The file has the bytes that it would have
+    /// had the asks been served apart. Memory holds the records of all asks at once, and a copy of each ask.
     pub fn serve_all(&mut self, alloc: Global, asks: Vec<LogAsk>) -> Result<Vec<LogTell>, NodeFault>
         ensures told { IfOk result (λ tells. tells.items ≡ told_all after_ask answer_of self.old.machine asks.items) }
         ensures after { OnOk result (self.new.machine ≡ after_all self.old.machine asks.items) }

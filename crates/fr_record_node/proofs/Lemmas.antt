@@ -138,7 +138,7 @@ pub on_err : {T E : Type 0} (r : Result T E) (P : Type 0) → P → OnErr r P
 on_err (Ok x) P p = tt
 on_err (Err e) P p = p
 
--- a node's file is no file of its format only where the file says so
+-- a node's file is no file of its format only if the file says so
 pub is_broken : (fault : RecordFault) → node_fault fault ≡ node.Broken → fault ≡ Broken
 is_broken Device e = absurd (cc e)
 is_broken Full e = absurd (cc e)

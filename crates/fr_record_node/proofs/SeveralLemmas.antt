@@ -92,7 +92,7 @@ module _ {M A : Type 0} (after : M → A → M) (first : M) (asks : List A) (i :
   pub asked_more : (IsAsk : A → Type 0) → All IsAsk (take i asks) → IsAsk ask → All IsAsk (take (i + 1) asks)
   asked_more IsAsk within is_ask = subst (λ l. All IsAsk l) (sym one_more) (All-append IsAsk (take i asks) (ask ∷ []) within (all_cons IsAsk ask [] is_ask (none_asked IsAsk)))
 
-  -- the asks that were taken where memory is wanting
+  -- the asks that were taken if memory runs out
   pub front_of : (n : M) → (n ≡ m) ⊎ (n ≡ after m ask) → (front : List A) × (n ≡ after_all after first front)
   front_of n (inl same) = (take i asks, same ∙ so_far)
   front_of n (inr more) = (take (i + 1) asks, after_more n more)

@@ -34,7 +34,7 @@ spells_cell r = nat_le 16 (length r) && is_sound (cell_at r)
 abbrev pub ballots_of : List ℕ → Option (ℕ × ℕ)
 ballots_of r = if spells_cell r then Some (number_at 0 r, number_at 8 r) else None
 
--- the cell after a record, none where the record spells no cell
+-- the cell after a record, none if the record spells no cell
 abbrev pub replay_cell : CellState → List ℕ → Option CellState
 replay_cell c r = if spells_cell r then Some (cell_at r) else None
 

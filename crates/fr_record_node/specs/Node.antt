@@ -19,7 +19,7 @@ pub record NodeState (D M : Type 0) : Type 0 where
   pub machine : M
   pub owed : Option M
 
--- the state to which what is asked leads, none where nothing is
+-- the state to which what is asked leads, none if nothing is
 abbrev pub owed_of : {M A : Type 0} → (M → A → M) → M → Option A → Option M
 owed_of after m None = None
 owed_of after m (Some ask) = Some (after m ask)
@@ -43,7 +43,7 @@ abbrev pub InFlight : List (List ℕ) → List (List ℕ) → List ℕ → Type 
 InFlight records [] file = IsAtRest records file
 InFlight records (r ∷ rs) file = AreShort (records ++ r ∷ rs) × IsLeft records (r ∷ rs) file
 
--- the records of what is asked, none where nothing is
+-- the records of what is asked, none if nothing is
 abbrev pub group_of : {A : Type 0} → (A → List (List ℕ)) → Option A → List (List ℕ)
 group_of written None = []
 group_of written (Some ask) = written ask

@@ -92,10 +92,10 @@ where
         }
     }
 
-    /// The node whose file a device holds, whatever a crash made of it. The machine that is handed over was
-    /// never asked; it takes the changes of the file. `Broken` where the device holds no record file, or
-    /// one of records that no asks of such a machine write. A refusal drops the device; what its records outlast is said
-    /// there too, of a device to which calls led.
+    /// The node whose file a device holds, whatever a crash made of it. The machine that is handed over was never
+    /// asked; it takes the changes of the file. `Broken` if the device holds no record file, or one of records that no
+    /// asks of such a machine write. A refusal drops the device. The clause `gone` says what a crash may then have
+    /// left, of a device to which the calls led.
     pub fn open(alloc: Global, device: D, machine: M) -> Result<Self, NodeFault>
         requires fresh { M.fresh machine ≡ machine }
         requires sound { M.IsSound machine }
@@ -133,8 +133,8 @@ where
     }
 
     /// Answers asks in order as the plain machine does, with all their records in one group: after a crash all of it
-    /// is there, or nothing. Where no ask changes anything, as in an empty list, no call of the device is made.
-    /// Memory holds the records of all asks at once, and a copy of each ask.
+    /// is there, or nothing. If no ask changes anything, as in an empty list, no call of the device is made. Memory
+    /// holds the records of all asks at once, and a copy of each ask.
     pub fn serve_all(&mut self, alloc: Global, asks: Vec<M::Ask>) -> Result<Vec<M::Tell>, NodeFault>
         ensures told { IfOk result (λ tells. tells.items ≡ told_all M.after M.told self.old.machine asks.items) }
         ensures after { OnOk result (self.new.machine ≡ after_all M.after self.old.machine asks.items) }

@@ -19,16 +19,16 @@ pub trait Recorded: Machine + Drop {
     ghost use Rattle.fr_record_node.specs.Several.{after_all};
     ghost use Rattle.fr_record_node.specs.Replay.{replayed};
 
-    /// What brings a machine back to where it was before some asks.
+    /// A checkpoint: what brings a machine back to its state before some asks.
     type Place: Drop;
 
     /// This machine as it was before it was asked anything.
     ghost fresh: { Self → Self };
 
-    /// The machine after a record, none where no ask of such a machine writes it.
+    /// The machine after a record, none if no ask of such a machine writes it.
     ghost replay: { Self → List ℕ → Option Self };
 
-    /// The records of an ask; none where the ask changes nothing.
+    /// The records of an ask; none if the ask changes nothing.
     ghost written: { Self → Self.Ask → List (List ℕ) };
 
     /// The machine after an ask, with what the ask lets go.
@@ -43,7 +43,7 @@ pub trait Recorded: Machine + Drop {
     /// An ask within its limits.
     ghost IsAsk: { Self.Ask → Type 0 };
 
-    /// The place leads back to this machine from where asks bring it.
+    /// From wherever asks bring the machine, the place leads back to this state.
     ghost IsPlaceOf: { Self → Self.Place → Type 0 };
 
     /// The records of an ask.
@@ -52,11 +52,11 @@ pub trait Recorded: Machine + Drop {
         ensures short { IfOk result (λ group. All (λ v. length v.items < 2 ^ 32) group.items) }
         ensures ask { IsAsk ask.now };
 
-    /// Where the machine stands.
+    /// A checkpoint of the machine's state.
     fn place(&self, alloc: Global) -> Result<Self::Place, Memory>
         ensures { IfOk result (λ place. IsPlaceOf self.now place) };
 
-    /// Answers an ask, and keeps what the ask lets go. Want of memory changes nothing.
+    /// Answers an ask, and keeps what the ask lets go. Out of memory changes nothing.
     fn keep(&mut self, alloc: Global, ask: Self::Ask) -> Result<Self::Tell, Memory>
         ensures told { IfOk result (λ tell. tell ≡ Self.told self.old ask) }
         ensures after { OnOk result (self.new ≡ kept self.old ask) }
@@ -83,19 +83,20 @@ pub trait Recorded: Machine + Drop {
         ensures err { OnErr result (self.new ≡ self.old) }
         ensures sound { IsSound self.new };
 
-    /// The records of an ask bring the machine where the ask does.
+    /// The records of an ask bring the machine to the state to which the ask brings it.
     ghost replays: { (s : Self) (a : Self.Ask) → IsSound s → IsAsk a → replayed replay (Some s) (written s a) ≡ Some (Self.after s a) };
 
     /// An ask leaves a machine within its limits, and lets go of what it may.
     ghost stays_sound: { (s : Self) (a : Self.Ask) → IsSound s → IsAsk a → IsSound (Self.after s a) };
 
-    /// An ask makes no other machine of it.
+    /// An ask does not change what the machine was made as (`fresh`).
     ghost same_fresh: { (s : Self) (a : Self.Ask) → fresh (Self.after s a) ≡ fresh s };
 
-    /// A record makes no other machine of it.
+    /// Nor does a record.
     ghost same_read: { (s n : Self) (change : List ℕ) → replay s change ≡ Some n → fresh n ≡ fresh s };
 
-    /// Asks that were kept, and what they let go let go at their end, lead where the asks do.
+    /// Asks that were kept, and what they let go let go at their end, lead to the same state as the
+    /// asks.
     ghost settles: { (s : Self) (asks : List Self.Ask) → IsSound s → All IsAsk asks → settled (after_all kept s asks) ≡ after_all Self.after s asks };
 
     /// What asks let go changes nothing of what the next one is told.

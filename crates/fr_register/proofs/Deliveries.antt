@@ -37,7 +37,7 @@ made_at n first making (t ∷ before) p a w = elim (Contains-cases t before _ w.
   | inr r ↦ IsMade-later n first making t before p.ballot p.value (made_at n first making before p a.1 (record { cell = w.cell; tell = w.tell; comes = r }))
 ]
 
--- the parent of a ballot that may write is of a lower ballot, where those of all that wrote are
+-- the parent of a ballot that may write is of a lower ballot, if those of all that wrote are
 below_from : (n : ℕ) (first : CellState) (making : ℕ → Making) (turns : List Turn) (b : ℕ) (x : List ℕ) → IsWithinPromise first → IsHistory first turns → IsMade n first making turns b x → ((q : Stamped) → IsWritten turns q → (parent_of n making q.ballot).ballot < q.ballot) → (parent_of n making b).ballot < b
 below_from n first making turns b x o h m lower =
     let r = read_by n first making turns b x m in

@@ -1,4 +1,4 @@
--- What a tally keeps with each tell that it hears, where those of its own ask were told to it.
+-- What a tally keeps with each tell that it hears, if those of its own ask were told to it.
 use Rattle.std.specs.Prelude.{◌≡◌, ℕ, ◌<◌, ◌≤◌, ◌⊎◌, nat_eq, List, length, All, Contains}
 use Rattle.std.specs.List.{IsDistinct}
 use Rattle.fr_register.specs.Poll.{Stamped, Poll, ReadState, WriteState}

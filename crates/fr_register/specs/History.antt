@@ -15,7 +15,7 @@ pub record Turn : Type 0 where
   pub ask : CellAsk
   pub tell : CellTell
 
--- the state of a cell after these turns, where each cell began in the state `first`
+-- the state of a cell after these turns, if each cell began in the state `first`
 abbrev pub cell_at : CellState → List Turn → ℕ → CellState
 cell_at first [] i = first
 cell_at first (t ∷ before) i =

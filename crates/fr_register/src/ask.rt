@@ -9,9 +9,9 @@ use fr_base::{Ballot, Memory};
 /// What a cell is asked: the two phases of disk Paxos (Gafni and Lamport, 2003).
 #[derive(Clone, Debug, Drop, PartialEq, Eq)]
 pub enum CellAsk {
-    /// To refuse every lower ballot from now on, and to tell what was written last.
+    /// A read: promise to refuse every lower ballot, and tell what was written last.
     Read { ballot: Ballot },
-    /// To hold this value under this ballot.
+    /// A write: hold this value under this ballot.
     Write { ballot: Ballot, value: CellValue },
 }
 

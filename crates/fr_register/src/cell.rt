@@ -42,7 +42,7 @@ impl Cell {
         }
     }
 
-    /// The cell that promised this ballot and wrote this value last, where it wrote no higher than it promised. It takes
+    /// The cell that promised this ballot and wrote this value last, if it wrote no higher than it promised. It takes
     /// no memory.
     pub fn restored(promised: Ballot, written: Ballot, value: CellValue) -> Option<Self>
         ensures within { IsSome result ↔ (written ≤ promised) }
@@ -67,14 +67,14 @@ impl Cell {
         self.promised
     }
 
-    /// The ballot of the last write, 0 where there was none.
+    /// The ballot of the last write, 0 if there was none.
     pub fn written(&self) -> Ballot
         ensures { result ≡ self.now.written }
     {
         self.written
     }
 
-    /// The value of the last write, no bytes where there was none.
+    /// The value of the last write, no bytes if there was none.
     pub fn value(&self) -> &CellValue
         ensures { result.now ≡ self.now.value }
     {

@@ -6,9 +6,9 @@ ghost use Rattle.fr_register.specs.Law.{NewReadIsFaithful, HearingKeepsRead, Tur
 ghost use Rattle.fr_register.specs.Law.{LaterInListDescends, ReadyInListDescends, StartInListIsLeast, OneInListIsChosen, EachListIsAHistory, ReadMajorityIsRead, WriteMajorityIsWritten, WrittenIsMade, OnlyWritersMatter};
 ghost use Rattle.fr_register.specs.Law.{LaterDescends, ReadyDescends, StartIsLeast, OneIsChosen, ListHasParents, MadeIsReady};
 
-/// Whatever is delivered to the cells in whatever order: each cell has the greatest pair that it took,
-/// and where it promised a ballot it takes no pair between the one that it told then and that ballot.
-/// Neither of its ballots falls, and while it has written under one ballot it has one value.
+/// Whatever is delivered to the cells, in whatever order: a cell has the greatest pair that it took.
+/// After a promise it takes no pair between the one that it told then and the promised ballot. Its
+/// ballots never fall, and while it has written under one ballot it has one value.
 pub fn cell_law()
     ensures holds { CellsHoldTheirLast }
     ensures keeps { PromisesAreKept }
@@ -38,9 +38,9 @@ pub fn tally_law()
     ensures write_hears { WriteHearsOnce }
 {}
 
-/// What a tally keeps with each tell that it hears, where those of its own ask were told to it: one that
-/// heard nothing is faithful, it stays so with each tell and each further turn, and with a majority it
-/// shows that a majority of the cells was read, or holds the pair.
+/// A tally is *faithful* if what it counts was told by the cells. One that heard nothing is. It stays so
+/// with each tell that it hears, if cells told those of its own ask, and with each further turn. With a
+/// majority it shows that a majority of the cells was read, or holds the pair.
 pub fn faithful_law()
     ensures new_read { NewReadIsFaithful }
     ensures read_hears { HearingKeepsRead }
@@ -68,7 +68,7 @@ pub fn register_law()
     ensures makings { OnlyWritersMatter }
 {}
 
-/// The same over what each ballot has read, whenever it was told: where the greatest pair of each
+/// The same over what each ballot has read, whenever it was told: if the greatest pair of each
 /// ballot's read majority is of a lower ballot, what is written after a choice descends from it.
 pub fn parent_law()
     ensures descends { LaterDescends }

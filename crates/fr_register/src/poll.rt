@@ -13,7 +13,7 @@ pub enum Progress {
     Waiting,
     /// More than half of the cells gave the answer that the tally waits for, and none refused before.
     Majority,
-    /// A cell refused before: it had promised this ballot, or, where it held another value, the tally's.
+    /// A cell refused before: it had promised this ballot or, if it held another value, the tally's.
     Lost { promised: Ballot },
 }
 

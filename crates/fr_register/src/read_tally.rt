@@ -40,8 +40,8 @@ impl ReadTally {
         }
     }
 
-    /// Hears a tell of the cell of this index. Only a promise that counts takes memory, and want of
-    /// memory changes nothing.
+    /// Hears a tell of the cell of this index. Only a promise that counts takes memory, and out of
+    /// memory nothing changes.
     pub fn hear(&mut self, index: u8, tell: CellTell) -> Result<Progress, Memory>
         ensures state { IfOk result (λ _. self.new ≡ hear_read self.old index tell) }
         ensures progress { IfOk result (λ progress. progress ≡ progress_of self.new.poll) }
@@ -68,7 +68,7 @@ impl ReadTally {
     }
 
     /// The promised pair of the greatest written ballot, of equal ones the one heard first; ballot 0 and
-    /// no bytes where no promise counted.
+    /// no bytes if no promise counted.
     pub fn greatest(&self) -> (Ballot, &CellValue)
         ensures ballot { result.0 ≡ self.now.greatest.ballot }
         ensures value { result.1.now ≡ self.now.greatest.value }

@@ -25,7 +25,7 @@ impl Model for CellValue {
 }
 
 impl CellValue {
-    /// The value of these bytes, where they are at most 4,096. It takes no memory.
+    /// The value of these bytes, if they are at most 4,096. It takes no memory.
     pub fn new(bytes: Vec<u8>) -> Option<Self>
         ensures within { IsSome result ↔ (length bytes.items ≤ 4096) }
         ensures value { IfSome result (λ v. v ≡ bytes.items) }

@@ -35,8 +35,8 @@ impl WriteTally {
         }
     }
 
-    /// Hears a tell of the cell of this index. Only a `Written` that counts takes memory, and want of
-    /// memory changes nothing.
+    /// Hears a tell of the cell of this index. Only a `Written` that counts takes memory, and out of
+    /// memory nothing changes.
     pub fn hear(&mut self, index: u8, tell: CellTell) -> Result<Progress, Memory>
         ensures state { IfOk result (λ _. self.new ≡ hear_write self.old index tell) }
         ensures progress { IfOk result (λ progress. progress ≡ progress_of self.new.poll) }

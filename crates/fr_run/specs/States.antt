@@ -28,7 +28,7 @@ abbrev pub line_in : Config → (ℕ → List LogGeneration) → Option RecState
 line_in c lines None = first_generation c ∷ []
 line_in c lines (Some r) = line_with c lines r.parent r.plan
 
--- the line of an epoch, where no more than so many epochs lie behind it
+-- the line of an epoch, if no more than so many epochs lie behind it
 abbrev pub line_from : Config → List Turn → ℕ → ℕ → List LogGeneration
 line_from c h zero e = first_generation c ∷ []
 line_from c h (suc n) e = if e == first_epoch then first_generation c ∷ [] else line_in c (line_from c h n) (rec_at c h e)

@@ -22,7 +22,7 @@ abbrev pub Sending : Type 0
 Sending = NodeId × Ask
 
 pub data Turn : Type 0 where
-  -- a recoverer begins, to open a generation of a shape, or where none is given one of the shape that the one before has
+  -- a recoverer begins, to open a generation of a shape, or if none is given one of the shape that the one before has
   Begun : (ballot : ℕ) (shape : Option ShapeContent) (asks : List Sending) → Turn
   -- an ask comes to a cell, a log or a sequencer, which tells
   CellTurn : (from : NodeId) (cell : ℕ) (ask : CellAsk) (tell : CellTell) → Turn

@@ -28,9 +28,9 @@ pub fn issued_law()
     lower_laws();
 }
 
-/// Each seeded log has exactly its tags' parts of what its epoch issues, through its durable version, and of these, once
-/// it let go of what it may, what is above the version that is popped of the tag; each
-/// answer to a peek is such a part; and so is what each recoverer copied.
+/// Each seeded log has exactly its tags' parts of what its epoch issues, through its durable version. Of these, once
+/// it let go of what it may, it has what is above the version that is popped of the tag. Each answer to a peek is
+/// such a part, and so is what each recoverer copied.
 pub fn contents_law()
     ensures logs { LogsHaveParts }
     ensures left { LogsHaveLeft }

@@ -1,4 +1,4 @@
-//! What logs and storage servers hold in every run: the parts of what their epochs issue.
+//! What an epoch issues in every run, and that its logs hold exactly their parts of it.
 #![tactic(auto)]
 
 pub mod laws;

@@ -12,11 +12,11 @@ use Rattle.fr_run.specs.Turn.{Turn}
 use Rattle.fr_run.specs.Nodes.{cell_at, rec_at, logs_at, log_at, is_there, is_open, seq_at, proxy_at, storage_at}
 use Rattle.fr_run_event.specs.Last.{last_of_proxy, last_of_recoverer, last_of_storage}
 
--- a proxy, where it is there
+-- a proxy, if it is there
 abbrev pub proxy_if_there : Config → List Turn → ℕ → ℕ → Option ProxyState
 proxy_if_there c h e p = if is_there c h (node.Proxy e p) then Some (proxy_at c h e p) else None
 
--- the last state of a node, where it is there
+-- the last state of a node, if it is there
 abbrev pub last_at : Config → List Turn → NodeId → Option Last
 last_at c h (node.Cell i) = if nat_lt i c.cells then Some (last_of_cell (cell_at c h i)) else None
 last_at c h (node.Log e i) = if nat_lt i (logs_at c h e) then Some (last_of_log (log_at c h e i)) else None

@@ -32,7 +32,7 @@ use Rattle.fr_run_event.specs.Tests.{is_gone, was_sent, was_told, storage_may_as
 
 -- ---- what may happen now
 
--- the turn, where the node is there and is not gone
+-- the turn, if the node is there and is not gone
 abbrev pub if_up : Config → List Turn → NodeId → Result Turn NotEnabled → Result Turn NotEnabled
 if_up c h who t = if not (is_there c h who) then Err not_enabled.NoSuchNode else if is_gone h who then Err not_enabled.Gone else t
 

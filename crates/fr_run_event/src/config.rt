@@ -11,8 +11,8 @@ use std::marker::Model;
 /// The most proxies of a generation.
 const MAX_PROXIES: u8 = 16;
 
-/// What a world starts from: how many coordinators it has, how many logs the first generation has and how many of
-/// them hold each tag, where the shards begin, and how many proxies a generation has.
+/// What a world starts from: its coordinators, the logs of the first generation and how many of them hold each tag,
+/// the begins of its shards, and the proxies of a generation.
 #[derive(Debug, Drop)]
 pub struct Config {
     coordinators: u8,
@@ -34,8 +34,9 @@ impl Model for Config {
 }
 
 impl Config {
-    /// The config of these numbers, or the first limit that they break: 1, 3, 5, 7 or 9 coordinators; 1 to 16 logs,
-    /// and each tag on 1 to all of them; begins that make a shard map; 1 to 16 proxies. It takes no memory.
+    /// The config of these numbers, or the first limit that they break. There are 1, 3, 5, 7 or 9 coordinators; there
+    /// are 1 to 16 logs, with each tag on 1 to all of them; the begins make a shard map; there are 1 to 16 proxies.
+    /// It takes no memory.
     pub fn new(
         coordinators: u8,
         logs: u8,
@@ -83,7 +84,7 @@ impl Config {
         self.logs
     }
 
-    /// On how many of its logs each tag stands.
+    /// On how many of its logs each tag is.
     pub fn degree(&self) -> u8
         ensures value { result ≡ self.now.k }
     {

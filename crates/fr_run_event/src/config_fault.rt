@@ -2,7 +2,7 @@
 use thiserror::Error;
 
 /// Why numbers make no config. Of several reasons the first in the order of these variants is told. In that order
-/// their numbers are 1 to 4; 5 is want of memory, which no config takes.
+/// their numbers are 1 to 4; 5 is `Memory`, which `Config::new` never answers.
 #[derive(Clone, Copy, Debug, PartialEq, Eq, Error)]
 pub enum ConfigFault {
     /// There are not 1, 3, 5, 7 or 9 coordinators.

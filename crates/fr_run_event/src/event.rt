@@ -9,8 +9,8 @@ use fr_mutation::Batch;
 /// What may happen in a world: one event is one turn of one node.
 #[derive(Debug, Drop)]
 pub enum Event {
-    /// The recoverer of a ballot begins, to open a generation of this shape, or where none is given one of the
-    /// shape that the one before has. No ballot is used twice.
+    /// The recoverer of a ballot begins, to open a generation of this shape, or if none is given one of the shape
+    /// that the one before has. No ballot is used twice.
     Begin {
         ballot: Ballot,
         shape: Option<Shape>,
@@ -37,7 +37,7 @@ pub enum Event {
         step: Step,
         batch: Batch,
     },
-    /// A node crashes: a proxy, a sequencer or a recoverer is gone, another node stands as it was.
+    /// A node crashes: a proxy, a sequencer or a recoverer is gone; another node is as it was.
     Crash {
         node: NodeId,
     },

@@ -1,7 +1,7 @@
-//! What the run of a system is told in: what it starts from, its events, and what others see of a node's last state. Of
-//! events: which may happen, the turn that each is, what it answers, and lists of events from the start; a list of
-//! events either is a run of all nodes, or is refused at the first event that cannot happen. (Cells, logs and sequencers
-//! say their last states themselves, as `Named`.)
+//! What the run of a system is told in: what it starts from, its events, and what others see of a node's last state.
+//! Of events: which may happen, the turn that each is, what it answers, and lists of events from the start. A list of
+//! events either is a run of all nodes, or is refused at the first event that cannot happen. (Cells, logs and
+//! sequencers say their last states themselves, as `Named`.)
 #![tactic(auto)]
 
 mod answer;

@@ -120,7 +120,7 @@ pub record HasApplied (c : Config) (h : List Turn) (tag : ℕ) (entry : Entry) :
   pub issued : Contains (issued c h (own_epoch (storage_at c h tag).state)) entry
   pub applied : entry.version ≤ applied_at c h tag
 
--- an entry stands in the committed list of every moment from now on
+-- an entry is in the committed list of every moment from now on
 abbrev pub Stands : Config → List Turn → Entry → Type 0
 Stands c h entry = (more : List Turn) → IsRun c (more ++ h) → (latest : ℕ) → IsLatest c (more ++ h) latest → Contains (committed c (more ++ h) latest) entry
 

@@ -1,5 +1,5 @@
--- That the main theorem says something: a run in which a storage server ran ahead of what survived and rolled back, while what was acknowledged stands; and one in
--- which an acknowledged commit survives two recoveries.
+-- That the main theorem says something: a run in which a storage server ran ahead of what survived and rolled back,
+-- while what was acknowledged stays; and one in which an acknowledged commit survives two recoveries.
 use Rattle.std.specs.Prelude.{◌≡◌, true, List, Contains}
 use Rattle.fr_base.specs.declared.place.NodeId.TheVariants as node
 use Rattle.fr_mutation.specs.declared.mutation.Mutation.{Mutation}
@@ -25,8 +25,9 @@ pub record RollbackHappens : Type 0 where
   pub batch : List Mutation
   pub acknowledged : IsAcknowledgedBatch config run 257 2 batch
 
--- the same run, with another recovery in place of the rollback: a batch was acknowledged at version 2 of epoch 257, a log was lost, the epochs 513 and 769 were opened one
--- after the other, the last one with three logs in place of two, and by it the batch stands in the committed list at its version
+-- the same run, with another recovery in place of the rollback: a batch was acknowledged at version 2 of epoch 257, a
+-- log was lost, the epochs 513 and 769 were opened one after the other, the last one with three logs in place of two,
+-- and by it the batch is in the committed list at its version
 pub record SurvivesTwoRecoveries : Type 0 where
   pub config : Config
   pub run : List Turn

@@ -28,15 +28,15 @@ abbrev pub PoppedIsSafe : Type 0
 PoppedIsSafe =
     (c : Config) (h : List Turn) → IsConfig c → IsRun c h → (e i : ℕ) → i < logs_at c h e → (x : PoppedTag) → Contains (log_at c h e i).popped x → IsPoppedBy c h e x
 
--- the first generation that an epoch's state leaves stands at the same place in the line of a storage server, which has all that those before it
--- numbered
+-- the first generation that an epoch's state leaves is at the same place in the line of a storage server, which has
+-- all that those before it numbered
 pub record IsVisibleSafe (c : Config) (h : List Turn) (e tag : ℕ) : Type 0 where
   pub first : LogGeneration
   pub left : slice_get (line_of c h e) (state_of c h e).dropped ≡ Some first
   pub own : slice_get (line_of c h (own_epoch (storage_at c h tag).state)) (state_of c h e).dropped ≡ Some first
   pub floor : first.first ≤ (storage_at c h tag).store.floor + 1
 
--- so it is for each tag where an epoch's state dropped any
+-- so it is for each tag if an epoch's state dropped any
 abbrev pub VisibleIsSafe : Type 0
 VisibleIsSafe =
     (c : Config) (h : List Turn) → IsConfig c → IsRun c h → (e : ℕ) (g : LogGeneration) → generation_at c h e ≡ Some g → 1 ≤ (state_of c h e).dropped

@@ -69,7 +69,8 @@ pub record IsRetrievable (c : Config) (h : List Turn) (e tag version : ℕ) : Ty
   pub left : popped_at (log_at c h source.epoch log).popped tag < version
   pub records : records_at version (records_of (swept (log_at c h source.epoch log)) tag) ≡ part_records c h e tag (version - 1) version
 
--- where fewer than k logs of each generation are lost, each version of the committed list that is above the floor of a tag's storage server can be retrieved for the tag
+-- if fewer than k logs of each generation are lost, each version of the committed list that is above the floor of a
+-- tag's storage server can be retrieved for the tag
 abbrev pub CommittedIsRetrievable : Type 0
 CommittedIsRetrievable =
     (c : Config) (h : List Turn) → IsConfig c → IsRun c h → (latest : ℕ) → IsLatest c h latest → AreFewLost c h latest → (tag : ℕ) → tag < length c.begins

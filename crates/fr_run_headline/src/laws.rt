@@ -81,7 +81,7 @@ pub fn agree_law()
 }
 
 /// At every moment each storage server keeps the state of a chosen epoch and follows that epoch, also one that ran
-/// ahead, that skipped epochs, or whose hear broke off: it has exactly its shard of the map that the epoch issued
+/// ahead, that skipped epochs, or whose hear broke off. It has exactly its shard of the map that the epoch issued
 /// through the version applied. No hear is refused as that of a stranger, nor below the floor.
 pub fn follow_law()
     ensures storages { StoragesFollow }
@@ -93,9 +93,9 @@ pub fn follow_law()
 }
 
 /// No log has let go, of a tag, of more than the tag's storage server has for good. Of the generations that an
-/// epoch's state still shows the first one stands in the line of each storage server, which has all that those before
-/// it numbered. So none is ever told that what it asks for is removed, nor ever marked by a state that dropped all of
-/// its generations; and no recoverer would be told so of what it copies.
+/// epoch's state still shows the first one is in the line of each storage server, which has all that those before it
+/// numbered. So no server is ever told that what it asks for is removed, nor handed a state that dropped all of its
+/// generations; and no recoverer would be told so of what it copies.
 pub fn let_go_law()
     ensures popped { PoppedIsSafe }
     ensures visible { VisibleIsSafe }
@@ -116,9 +116,9 @@ pub fn committed_law()
     lower_laws();
 }
 
-/// What a log knows, what was acknowledged and the floor of a storage server are not above the cut of their epoch in any
-/// state that goes on from it, nor is the floor above the recovery version of any later epoch or recoverer; logs hold
-/// pushes of chosen epochs alone; and no recoverer finds its replies at odds.
+/// What a log knows, what was acknowledged and the floor of a storage server are not above the cut of their epoch in
+/// any state that goes on from it. Nor is the floor above the recovery version of any later epoch or recoverer. Logs
+/// hold pushes of chosen epochs alone, and no recoverer finds its replies at odds.
 pub fn order_law()
     ensures known { KnownIsNeverCut }
     ensures acknowledged { AcknowledgedIsNeverCut }
@@ -139,11 +139,11 @@ pub fn acknowledged_law()
     lower_laws();
 }
 
-/// The main theorem. On every state of a store a batch applied and then undone is the identity; hence, over every list
-/// of commits, pulls, crashes, recoveries and losses of fewer than k logs of each generation, a storage server that has
-/// rolled back holds exactly its shard of the map given by the committed batches through its applied version, which is
-/// at most the recovery version, and no acknowledged commit is ever undone. Only that what is committed can be
-/// retrieved wants fewer than k logs to be lost; the rest holds whatever is lost.
+/// The main theorem. On every state of a store a batch applied and then undone is the identity. Hence the following,
+/// over every list of commits, pulls, crashes, recoveries and losses. A storage server that has rolled back holds
+/// exactly its shard of the map given by the committed batches through its applied version. That version is at most
+/// the recovery version. No acknowledged commit is ever undone. All of this holds whatever is lost. While fewer than
+/// k logs of each generation are lost, what is committed can also be retrieved.
 pub fn headline_law()
     ensures undo { InverseLaw }
     ensures headline { Headline }
@@ -171,8 +171,8 @@ pub fn safety_law()
 }
 
 /// The theorem says something: there is a run in which a batch is acknowledged, a storage server runs ahead of what
-/// survives, one of two logs is lost, and the storage server rolls back by one version. And there is a run in which an
-/// acknowledged batch survives two recoveries, the second one to another number of logs.
+/// survives, one of two logs is lost, and the storage server rolls back by one version. And there is a run in which
+/// an acknowledged batch survives two recoveries, the second one to another number of logs.
 pub fn example_law()
     ensures rollback { RollbackHappens }
     ensures survives { SurvivesTwoRecoveries }

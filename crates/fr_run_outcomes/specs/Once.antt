@@ -33,7 +33,7 @@ pub record IsEntryOf (h : List Turn) (e proxy request : ℕ) (x : Entry) : Type 
   pub of : IsNumberOf h e proxy request number
   pub is : entry_of h e number ≡ x
 
--- at two places of the committed list stands not the same request: at most one place has it, so at most one version
+-- two places of the committed list do not have the same request: at most one place has it, so at most one version
 abbrev pub CommittedAtMostOnce : Type 0
 CommittedAtMostOnce =
     (c : Config) (h : List Turn) → IsConfig c → IsRun c h → (latest : ℕ) → IsLatest c h latest → (e proxy request : ℕ) (i j : ℕ) (x y : Entry)
@@ -74,7 +74,7 @@ abbrev pub AcknowledgedIsAnswered : Type 0
 AcknowledgedIsAnswered =
     (c : Config) (h : List Turn) → IsRun c h → (e version : ℕ) → IsAcknowledged h e version → (proxy : ℕ) × (request : ℕ) × IsAnswered c h e proxy request version
 
--- a request stands at exactly one place of a list, at a version
+-- a request is at exactly one place of a list, at a version
 pub record StandsOnce (h : List Turn) (e proxy request version : ℕ) (list : List Entry) : Type 0 where
   pub place : ℕ
   pub entry : Entry
@@ -83,7 +83,8 @@ pub record StandsOnce (h : List Turn) (e proxy request version : ℕ) (list : Li
   pub version_is : entry.version ≡ version
   pub only : (i : ℕ) (x : Entry) → slice_get list i ≡ Some x → IsEntryOf h e proxy request x → i ≡ place
 
--- a request that was answered to be committed stands exactly once in the committed list, then and at each later moment, at the version that was answered
+-- a request that was answered to be committed is exactly once in the committed list, then and at each later moment,
+-- at the version that was answered
 abbrev pub AnsweredExactlyOnce : Type 0
 AnsweredExactlyOnce =
     (c : Config) (h more : List Turn) → IsConfig c → IsRun c (more ++ h) → (e proxy request version : ℕ) → IsAnswered c h e proxy request version

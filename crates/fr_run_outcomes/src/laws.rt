@@ -9,9 +9,9 @@ use fr_run_headline::laws::{headline_law, order_law};
 use fr_run_versions::laws::{proxies_law, seeded_law};
 use fr_state::extend_law;
 
-/// A batch that was submitted, which is a request of a proxy of an epoch, has at most one number, and stands at most once in
-/// the committed list, so at one version; what stands there was submitted. Where a proxy answered that it is committed, it
-/// stands there exactly once, at the version that was answered, then and at each later moment.
+/// A batch that was submitted (a request of a proxy) has at most one number, and is at most once in the committed
+/// list, so at one version. What is there was submitted. If a proxy answered that it is committed, it is there
+/// exactly once, at the version that was answered, then and at each later moment.
 pub fn once_law()
     ensures number { RequestHasOneNumber }
     ensures most { CommittedAtMostOnce }

@@ -38,7 +38,7 @@ use Rattle.fr_run_progress.proofs.Asked.{write_cells}
 
 -- ---- what extends a state
 
--- it answers no want of memory
+-- it never answers `Memory`
 pub never_memory : (s : CoordinatedState) (g : LogGeneration) → extended s g ≡ Err fault.Memory → ⊥
 never_memory s g = go (is_ordered (s.gens ++ g ∷ [])) (nat_lt (length s.gens) 64)
   where

@@ -1,4 +1,4 @@
--- Where a log holds its epoch's mark, storage servers come to hear it.
+-- If a log holds its epoch's mark, storage servers come to hear it.
 use Rattle.std.specs.Prelude.{◌≡◌, ◌<◌, ◌⊎◌, ℕ, List, length, Some}
 use Rattle.fr_base.specs.declared.place.NodeId.TheVariants as node
 use Rattle.fr_state.specs.Generations.{CoordinatedState}

@@ -14,7 +14,7 @@ use fr_run_outcomes::laws::lost_law;
 use fr_run_versions::laws::{seeded_law, told_law};
 use fr_tags::laws::cover_law;
 
-/// Each ask whose answer a recoverer still wants it has sent. So where the node that is asked and the recoverer are up,
+/// Each ask whose answer a recoverer still wants it has sent. So if the node that is asked and the recoverer are up,
 /// there are two turns with which the run goes on: the node is asked and tells, and the recoverer hears it.
 pub fn pending_law()
     ensures sent { PendingIsSent }
@@ -23,8 +23,9 @@ pub fn pending_law()
     node_laws();
 }
 
-/// The first phase comes to an end: from every moment of every run, a ballot that may begin, and above which no cell of
-/// some majority promised, finds its parent, which a cell of that majority had, in turns in which nothing is lost.
+/// The first phase comes to an end. From every moment of every run, a ballot that may begin, and above which no cell
+/// of some majority promised, finds its parent in turns in which nothing is lost. A cell of that majority had the
+/// parent.
 pub fn reading_law()
     ensures { ReadingEnds }
 {
@@ -32,8 +33,9 @@ pub fn reading_law()
     lost_law();
 }
 
-/// The second phase comes to an end: a recoverer that is up and locks the logs of a generation of which fewer than k
-/// are lost comes to know the end of the epoch, in turns in which nothing is lost, and has a plan or no room for one.
+/// The second phase comes to an end. A recoverer that is up and locks the logs of a generation, of which fewer than k
+/// are lost, comes to know the end of the epoch, in turns in which nothing is lost. It then has a plan or no room for
+/// one.
 pub fn locking_law()
     ensures { LockingEnds }
 {
@@ -43,8 +45,8 @@ pub fn locking_law()
     seeded_law();
 }
 
-/// The third phase comes to an end: a recoverer that is up and copies has copied all, in turns in which nothing is lost,
-/// if of each tag a log that replied to it and holds the tag is up.
+/// The third phase comes to an end. A recoverer that is up and copies has copied all, in turns in which nothing is
+/// lost, if of each tag a log that replied to it and holds the tag is up.
 pub fn copying_law()
     ensures { CopyingEnds }
 {
@@ -54,7 +56,8 @@ pub fn copying_law()
     let_go_law();
 }
 
-/// And then all logs of the new generation are seeded, in turns in which nothing is lost, if none of them is lost.
+/// The fourth phase comes to an end: all logs of the new generation are seeded, in turns in which nothing is lost, if
+/// none of them is lost.
 pub fn seeding_law()
     ensures { SeedingEnds }
 {
@@ -73,9 +76,9 @@ pub fn writing_law()
     cover_law();
 }
 
-/// A recovery has no dead end: from every moment of every run, a ballot that may begin is chosen in turns in which
-/// nothing is lost, or finds that there is no room, if no cell of some majority promised a greater one, and of the last
-/// generation of the greatest state that these cells have fewer than k logs are lost.
+/// A recovery has no dead end. Take any moment of any run, and a ballot that may begin. Let no cell of some majority
+/// have promised a greater one, and let fewer than k logs be lost of the last generation of the greatest state that
+/// these cells have. Then the ballot is chosen in turns in which nothing is lost, or finds that there is no room.
 pub fn recovery_law()
     ensures { NoDeadEnd }
 {
@@ -89,8 +92,8 @@ pub fn recovery_law()
     writing_law();
 }
 
-/// Where a log of an epoch is up and has its mark, each storage server comes to keep that epoch's state, in turns in which
-/// nothing is lost, unless it keeps the state of a greater epoch.
+/// If a log of an epoch is up and has its mark, each storage server comes to keep that epoch's state, in turns in
+/// which nothing is lost, unless it keeps the state of a greater epoch.
 pub fn hearing_law()
     ensures { MarkIsHeard }
 {

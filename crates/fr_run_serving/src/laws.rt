@@ -82,9 +82,9 @@ pub fn serving_law()
     agree_law();
 }
 
-/// Whatever is lost: of each committed version above the floor of a tag's storage server each of the k logs that hold the
-/// tag at the version's source has exactly the tag's part, lost or not. So such a version can be retrieved exactly where one
-/// of the k is up.
+/// Whatever is lost: of each committed version above the floor of a tag's storage server each of the k logs that hold
+/// the tag at the version's source has exactly the tag's part, lost or not. So such a version can be retrieved
+/// exactly if one of the k is up.
 pub fn loss_law()
     ensures holders { HoldersHaveCommitted }
     ensures exact { RetrievableIsExact }
@@ -93,9 +93,9 @@ pub fn loss_law()
     cover_law();
 }
 
-/// What a storage server has at a version from its floor through the version applied, once all that is above is undone, is
-/// its shard of the committed map at that version, if the version is committed and not above the cut of the server's own
-/// epoch. The floor is such a version. Each stays one, with the same contents, until the floor passes it.
+/// Take a committed version from a storage server's floor through the version applied, not above the cut of the
+/// server's own epoch. What the server has there, once all that is above is undone, is its shard of the committed map
+/// at that version. The floor is such a version. Each stays one, with the same contents, until the floor passes it.
 pub fn snapshot_law()
     ensures snapshot { SettledIsSnapshot }
     ensures floor { FloorIsSettled }

@@ -11,7 +11,7 @@ use Rattle.fr_proxy.specs.Sequencer.{told}
 use Rattle.fr_proxy.specs.declared.number.Number.{Number}
 use Rattle.fr_run.specs.Run.{IsRun}
 
--- the numbers of an open epoch are one chain from its mark on, and its sequencer stands at the last one
+-- the numbers of an open epoch are one chain from its mark on, and its sequencer is at the last one
 abbrev pub NumbersChain : Type 0
 NumbersChain =
     (c : Config) (h : List Turn) → IsRun c h → (e : ℕ) → is_open c h e ≡ true → IsNumbered (mark_version (generation_at c h e)) (seq_at c h e) (numbers h e)

@@ -38,7 +38,7 @@ pub record IsDroppedBy (c : Config) (h : List Turn) (p : Parent) (q : Plan) (tag
   pub left : slice_get q.state.gens 0 ≡ Some first
   pub starts : IsPoppedIn c h p.last.epoch tag (first.first - 1)
 
--- it does so for each tag where the plan drops any
+-- it does so for each tag if the plan drops any
 abbrev pub DropsArePopped : Type 0
 DropsArePopped =
     (c : Config) (h : List Turn) → IsConfig c → IsRun c h → (b : ℕ) (r : RecState) (p : Parent) (q : Plan) → rec_at c h b ≡ Some r → r.parent ≡ Some p → r.plan ≡ Some q

@@ -47,8 +47,9 @@ pub fn locks_law()
     node_laws();
 }
 
-/// What a log told at a lock to be popped is, and so is what a recoverer was shown. Where a plan drops generations, the
-/// first one that it leaves starts, for each tag, at most one version above what a log of the epoch that it ends has popped.
+/// What a log told at a lock to be popped is, and so is what a recoverer was shown. If a plan drops generations, the
+/// first one that it leaves starts, for each tag, at most one version above what a log of the epoch that it ends has
+/// popped.
 pub fn shown_law()
     ensures told { LockedIsPopped }
     ensures shown { ShownIsPopped }
@@ -123,8 +124,8 @@ pub fn seeded_law()
     node_laws();
 }
 
-/// The generations of an epoch's state are in order, each its own epoch's; the front of them through any one is
-/// the state of that one's epoch, and the logs of each but the last are seeded, whether or not it was chosen.
+/// The generations of an epoch's state are in order, each its own epoch's. The front of them through any one is the
+/// state of that one's epoch. The logs of each but the last are seeded, whether or not it was chosen.
 pub fn behind_law()
     ensures own { GenerationsAreOwn }
     ensures front { FrontIsState }
@@ -133,8 +134,9 @@ pub fn behind_law()
     node_laws();
 }
 
-/// What is below in an epoch is held in each generation behind which it stands, and is below in each later epoch
-/// that is chosen. So what was acknowledged in any epoch is taken over by each recovery of a greater ballot.
+/// A version is *below* in an epoch if each of its logs came to it, or it is below the epoch's first. Such a version
+/// is held in each generation that comes after the epoch's on a line, and is below in each later chosen epoch. So
+/// each recovery of a greater ballot takes over what was acknowledged in any epoch.
 pub fn below_law()
     ensures held { BelowIsHeldBehind }
     ensures stays { BelowStaysBelow }

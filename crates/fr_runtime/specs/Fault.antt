@@ -29,7 +29,7 @@ pub record HasFault {W : Type 0} (given : W → List Order) (heard : W → List 
   pub have_begun : AllBegin begun turns journals ballots
   pub found : IsFaultIn c journals fault
 
--- a fault of the audit, but want of memory, is one of the journals that the nodes handed back
+-- a fault of the audit, but `Memory`, is one of the journals that the nodes handed back
 abbrev pub IsExplained : {W : Type 0} → (W → List Order) → (W → List Outcome) → (ℕ → ℕ → Bool) → ℕ → Config → List W → List (ℕ × Option ShapeContent) → RunFault → Type 0
 IsExplained given heard begun turns c before ballots (Audit fault) = fault ≢ audit.Memory → HasFault given heard begun turns c before ballots fault
 IsExplained given heard begun turns c before ballots Memory = Unit {0}

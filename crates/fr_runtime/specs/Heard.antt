@@ -35,7 +35,7 @@ abbrev pub HasBegun : ℕ → Option ShapeContent → List JournalState → Type
 HasBegun ballot shape [] = ⊥
 HasBegun ballot shape (j ∷ js) = ((j.node ≡ Recoverer ballot) × StartsWithBegun shape j.entries) ⊎ HasBegun ballot shape js
 
--- a ballot that is to begin at one of the turns has done so, where it is one
+-- a ballot that is to begin at one of the turns has done so, if it is one
 abbrev pub Begins : (ℕ → ℕ → Bool) → ℕ → ℕ → Type 0 → Type 0
 Begins begun turns ballot Has = ballot ≢ 0 → (turn : ℕ) → 1 ≤ turn → turn ≤ turns → begun ballot turn ≡ true → Has
 

@@ -1,4 +1,4 @@
--- Why the threads of a cluster came to no journals, by the fault that stopped them: want of memory is told as that.
+-- Why the threads of a cluster came to no journals, by the fault that stopped them: `Memory` is told as that.
 use Rattle.fr_base.specs.declared.node.NodeFault.{NodeFault}
 use Rattle.fr_base.specs.declared.node.NodeFault.TheVariants as node
 use Rattle.fr_undo.specs.declared.fault.StoreFault.{StoreFault}

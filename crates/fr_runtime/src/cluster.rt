@@ -37,21 +37,26 @@ pub struct Report {
 pub struct Cluster;
 
 impl Cluster {
-    /// Runs a cluster of a config, with one workload for each proxy of a generation, and a recoverer for each ballot,
-    /// that begins when the faults say so, and opens a generation of the shape beside the ballot, or where none is given
-    /// one of the shape that the generation before has. Each workload, each storage server and each ballot has a thread,
-    /// and the crashes have one; each ends after so many turns. Then the journals of all nodes are audited: what is
-    /// answered is a run, in which everything holds that is proved of runs. Where it is refused, rack and workloads are
-    /// dropped.
+    /// Runs a cluster of a config, with one workload for each proxy of a generation, and a recoverer for each ballot.
+    /// A recoverer begins when the faults say so, and opens a generation of the shape beside the ballot, or if none
+    /// is given one of the shape that the generation before has. Each workload, each storage server and each ballot
+    /// has a thread, and the crashes have one; each ends after so many turns.
     ///
-    /// Each node that is there at the start has its journal among them, entries or none, and so has each other that took
-    /// a turn; no node has two. A node of the start without one is `StateDiffers`: so it is with a proxy whose workload
-    /// is wanting. A fault of the audit is one of the journals that the nodes handed back.
+    /// Then the journals of all nodes are audited. The clauses say of an answer:
     ///
-    /// By the journals, what a workload gave is what the proxies of its number took, in order, and at most one batch more;
-    /// and it was told of each in turn what such a proxy said: committed at a version, ended, or else that it is waiting.
-    /// Each ballot but 0 for which the faults let a recoverer begin at one of the turns has its recoverer's journal, which
-    /// starts with that it began, with the ballot's shape.
+    /// - `run`: the journals are a run, in which everything holds that is proved of runs.
+    /// - `config`: that is a run of this config.
+    /// - `handed`: each node that is there at the start has its journal among them, entries or none, and so has each
+    ///   other that took a turn; no node has two.
+    /// - `heard`: by the journals, what a workload gave is what the proxies of its number took, in order, and at most
+    ///   one batch more. It was told of each in turn what such a proxy said: committed at a version, ended, or else
+    ///   that it is waiting.
+    /// - `begun`: each ballot but 0 for which the faults let a recoverer begin at one of the turns has its recoverer's
+    ///   journal, which starts with that it began, with the ballot's shape.
+    ///
+    /// If it is refused, rack and workloads are dropped, and `fault` says why. A node of the start without a journal is
+    /// `StateDiffers`: so it is with a proxy whose workload is missing. A fault of the audit is one of the journals
+    /// that the nodes handed back.
     pub fn run<
         K: Rack + Sync + Drop,
         W: Workload + Send + Drop,

@@ -207,7 +207,7 @@ fn run_jobs<
     work_each(site.rt, site.alloc, jobs, &one)
 }
 
-/// What threads handed back, where none has a fault.
+/// What threads handed back, if none has a fault.
 fn without_fault<W: Drop>(
     alloc: Global,
     threads: Vec<Result<Done<W>, TurnFault>>,
@@ -225,7 +225,7 @@ fn without_fault<W: Drop>(
 }
 
 /// Runs a thread for each workload, each ballot and each storage server, and one for the crashes, to their ends. What
-/// they hand back stands in that order.
+/// they hand back is in that order.
 pub(crate) fn run_threads<
     K: Rack + Sync,
     S: ShardStore + Send + Drop,

@@ -1,5 +1,5 @@
 //! Where the nodes of a cluster come from that keeps all it has on devices and in tables: cells and logs are record
-//! files, and the stores of storage servers stand in databases.
+//! files, and the stores of storage servers are in databases.
 #![tactic(auto)]
 
 mod devices;

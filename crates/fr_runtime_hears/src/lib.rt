@@ -1,5 +1,5 @@
-//! What a storage server hears, over a store that may fail: where a hear breaks off, the server is opened again, and who
-//! told it learns how much of it was taken.
+//! What a storage server hears, over a store that may fail: if a hear breaks off, the server is opened again, and the
+//! caller learns how much of it was taken.
 #![tactic(auto)]
 
 mod taking;

@@ -1,4 +1,4 @@
-//! A storage server hears an answer of a log, and is opened again where a call of its store failed in it.
+//! A storage server hears an answer of a log, and is opened again if a call of its store failed in it.
 ghost use Rattle.std.specs.Prelude.{◌≡◌, ◌⊎◌, false, true, Ok, Err, None, max, min, IfOk, IfSome, OnOk, OnErr};
 ghost use Rattle.fr_log.specs.Peeked.{IsPeeked};
 ghost use Rattle.fr_state.specs.Same.{is_same_state};
@@ -13,10 +13,10 @@ use fr_storage::{Storage, StorageFault, follow_law, position_law};
 use fr_undo::{ShardStore, StoreFault};
 use std::alloc::Global;
 
-/// Tells a storage server what a log of an epoch has of its tag, as [`Storage::hear_peeked`] does. Where a call of its
-/// store fails in it, the server is opened again, and answered is at which version the hear broke off; None where
+/// Tells a storage server what a log of an epoch has of its tag, as [`Storage::hear_peeked`] does. If a call of its
+/// store fails in it, the server is opened again, and answered is at which version the hear broke off; None if
 /// nothing of it is missing. What the server refuses changes nothing, and breaks off nowhere. It is failed afterwards
-/// only where it could not be opened again.
+/// only if it could not be opened again.
 pub fn take_peeked<S: ShardStore>(
     alloc: Global,
     storage: &mut Storage<S>,
@@ -52,10 +52,10 @@ pub fn take_peeked<S: ShardStore>(
     }
 }
 
-/// Tells a storage server the coordinated state of a mark, as [`Storage::hear_marked`] does, and as [`take_peeked`] does
-/// if a call of its store fails in it. Nothing of the hear is missing if the server keeps the state. A refusal is one of
-/// opening the server again, which it needs from then on, or want of memory for a copy of the state, which leaves the
-/// server as it was; either way the server keeps its tag, its state and what its store may leave.
+/// Tells a storage server the coordinated state of a mark, as [`Storage::hear_marked`] does, and as [`take_peeked`]
+/// does if a call of its store fails in it. Nothing of the hear is missing if the server keeps the state. A refusal
+/// is one of opening the server again, which it needs from then on, or `Memory` for a copy of the state, which leaves
+/// the server as it was. Either way the server keeps its tag, its state and what its store may leave.
 pub fn take_marked<S: ShardStore>(
     alloc: Global,
     storage: &mut Storage<S>,

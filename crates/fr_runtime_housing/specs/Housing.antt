@@ -13,7 +13,8 @@ use Rattle.fr_runtime_housing.specs.declared.fault.CallFault.{CallFault}
 use Rattle.fr_runtime_housing.specs.declared.fault.CallFault.TheVariants as call
 use Rattle.fr_runtime_housing.specs.Replays.{Steps, state_after, TellsAre, IsThere, gone_at_end}
 
--- a node, its place, its state when it was housed, what it did since, its state, whether it stands failed, and the ask that met the fault
+-- a node, its place, its state when it was housed, what it did since, its state, whether it is failed, and the ask
+-- that met the fault
 pub record Housing (N S A : Type 0) : Type 0 where
   pub node : N
   pub place : NodeId
@@ -23,7 +24,7 @@ pub record Housing (N S A : Type 0) : Type 0 where
   pub is_failed : Bool
   pub kept : Option (Kept A)
 
--- the stamp of the last entry, 0 where there is none
+-- the stamp of the last entry, 0 if there is none
 abbrev pub number_or_zero : Option ℕ → ℕ
 number_or_zero None = 0
 number_or_zero (Some n) = n
@@ -35,7 +36,7 @@ last_number entries = number_or_zero (last_stamp entries)
 abbrev pub next_stamp : List Entry → ℕ → ℕ
 next_stamp entries stamp = max (last_number entries) stamp + 1
 
--- the stamp of the ask that met the fault, 0 where there is none
+-- the stamp of the ask that met the fault, 0 if there is none
 abbrev pub kept_stamp : {A : Type 0} → Option (Kept A) → ℕ
 kept_stamp None = 0
 kept_stamp (Some k) = k.stamp
@@ -48,11 +49,11 @@ greatest_stamp h stamp = max (max (last_number h.entries) stamp) (kept_stamp h.k
 abbrev pub is_gone : {N S A : Type 0} → Housing N S A → Bool
 is_gone h = gone_at_end h.place false h.entries
 
--- the state before the ask that met the fault; where none did, the node's
+-- the state before the ask that met the fault; if none did, the node's
 abbrev pub before : {N S A : Type 0} → Steps S A → Housing N S A → S
 before m h = state_after m h.first h.entries
 
--- the entry of the ask that met the fault, for where it was taken
+-- the entry of the ask that met the fault, if it was taken
 abbrev pub found_entry : {S A : Type 0} → Steps S A → S → Kept A → Entry
 found_entry m s k = record { stamp = k.stamp; act = act.Asked k.from (m.wrapped k.ask) (m.told s k.ask) }
 
@@ -66,7 +67,7 @@ abbrev pub is_found : {A : Type 0} → Option (Kept A) → Bool
 is_found None = false
 is_found (Some k) = k.found
 
--- what is kept once the node is found to stand before the ask, and after it
+-- what is kept once the node is found to be before the ask, and after it
 
 abbrev pub left_kept : {A : Type 0} → Option (Kept A) → Option (Kept A)
 left_kept None = None
@@ -76,7 +77,8 @@ abbrev pub found_kept : {A : Type 0} → Option (Kept A) → Option (Kept A)
 found_kept None = None
 found_kept (Some k) = Some (record k { found = true })
 
--- the entries once the fault is settled: with the ask that met it, where this was taken, or without it; an ask once found taken stays so
+-- the entries once the fault is settled: with the ask that met it, if this was taken, or without it; an ask once
+-- found taken stays so
 abbrev pub IsSettled : {N S A : Type 0} → Steps S A → Housing N S A → List Entry → Type 0
 IsSettled m h entries =
     ((is_found h.kept ≡ false) × (entries ≡ h.entries))
@@ -109,13 +111,15 @@ refusal_of h stamp = if is_gone h then Some call.Lost else (if greatest_stamp h 
 abbrev pub Works : {N S A : Type 0} → Housing N S A → Type 0
 Works h = (h.is_failed ≡ false) × (h.kept ≡ None)
 
--- what is kept after the device failed in a call: of an ask that came to the node, the ask, its sender and the stamp of its entry to be; where an earlier fault is not settled yet, what was kept of that one, found taken or not
+-- what is kept after the device failed in a call: of an ask that came to the node, the ask, its sender and the stamp
+-- of its entry to be; if an earlier fault is not settled yet, what was kept of that one, found taken or not
 abbrev pub Keeps : {N S A : Type 0} → Steps S A → Housing N S A → Housing N S A → ℕ → NodeId → A → Type 0
 Keeps m old new stamp from ask =
     (IsSettled m old new.entries × (new.kept ≡ Some (record { stamp = next_stamp new.entries stamp; from = from; ask = ask; found = false })))
     ⊎ ((Works old → ⊥) × (new.entries ≡ old.entries) × ((new.kept ≡ old.kept) ⊎ (new.kept ≡ found_kept old.kept)))
 
--- where the node stands beside what its journal says: there, or, where an ask met a fault, before it or, once that is found, after it; while it is not opened again it owes the state after that ask
+-- where the node is beside what its journal says: there, or, if an ask met a fault, before it or, once that is found,
+-- after it; while it is not opened again it owes the state after that ask
 abbrev pub StandsBy : {S A : Type 0} → Steps S A → S → S → Bool → Option S → Kept A → Bool → Type 0
 StandsBy m s state failed owed k false = (state ≡ s) × (failed ≡ true) × (owed ≡ Some (m.after state k.ask))
 StandsBy m s state failed owed k true = (state ≡ m.after s k.ask) × ((owed ≡ None) ⊎ ((owed ≡ Some (m.after state k.ask)) × (failed ≡ true)))
@@ -131,7 +135,7 @@ pub record IsHoused {N S A : Type 0} (m : Steps S A) (IsReached : S → Type 0) 
   pub reached : IsReached (before m h)
   pub stands : Stands m (before m h) h.entries h.state h.is_failed owed h.kept
 
--- a fault that such a node can meet, or want of memory
+-- a fault that such a node can meet, or `Memory`
 abbrev pub IsTrouble : (NodeFault → Type 0) → CallFault → Type 0
 IsTrouble CanMeet (call.Node fault) = (fault ≡ node.Memory) ⊎ CanMeet fault
 IsTrouble CanMeet call.StampsSpent = Unit {0}

@@ -9,7 +9,7 @@ use Rattle.fr_audit_journal.specs.declared.act.Act.TheVariants as act
 use Rattle.fr_audit_journal.specs.declared.act.Entry.{Entry}
 use Rattle.fr_audit_journal.specs.Journal.{Rise}
 
--- a machine: its asks among all asks, and what it tells and where it stands after one
+-- a machine: its asks among all asks, and what it tells and its state after one
 pub record Steps (S A : Type 0) : Type 0 where
   pub wrapped : A → Ask
   pub unwrapped : Ask → Option A
@@ -20,12 +20,12 @@ pub record Steps (S A : Type 0) : Type 0 where
 abbrev pub steps : {S A T : Type 0} → (A → Ask) → (Ask → Option A) → (T → Tell) → (S → A → T) → (S → A → S) → Steps S A
 steps wrapped unwrapped wrapped_tell told after = record { wrapped = wrapped; unwrapped = unwrapped; told = λ s a. wrapped_tell (told s a); after = after }
 
--- what an ask is told, where it is one of the machine's
+-- what an ask is told, if it is one of the machine's
 abbrev pub told_at : {S A : Type 0} → Steps S A → S → Option A → Option Tell
 told_at m s None = None
 told_at m s (Some a) = Some (m.told s a)
 
--- the state after an ask, where it is one of the machine's
+-- the state after an ask, if it is one of the machine's
 abbrev pub after_at : {S A : Type 0} → Steps S A → S → Option A → S
 after_at m s None = s
 after_at m s (Some a) = m.after s a
@@ -57,7 +57,7 @@ abbrev pub ends_by_crash : NodeId → Bool
 ends_by_crash (node.Sequencer e) = true
 ends_by_crash n = false
 
--- whether a node is gone after an act, where it was before or was not
+-- whether a node is gone after an act, if it was before or was not
 abbrev pub gone_after : NodeId → Bool → Act → Bool
 gone_after n gone act.Lost = true
 gone_after n gone act.Crashed = gone || ends_by_crash n

@@ -10,12 +10,12 @@ pub trait Housable: Named {
     fn copy_ask(ask: &Self::Ask) -> Result<Self::Ask, Memory>
         ensures { IfOk result (λ copy. copy ≡ ask.now) };
 
-    /// Every machine stands where asks can bring it.
+    /// Every machine is in a state to which asks can bring it.
     fn stands(&self)
         ensures { Self.IsReached self.now };
 }
 
-/// The laws of a machine of which a node with its journal rests.
+/// The laws of a machine on which a node with its journal rests.
 pub(crate) fn repeat_law<M: Machine>()
     ensures stays { (s : M) (a : M.Ask) → M.IsReached s → M.IsReached (M.after s a) }
     ensures told { (s : M) (a : M.Ask) → M.IsReached s → M.told (M.after s a) a ≡ M.told s a }

@@ -114,7 +114,7 @@ where
         &self.journal
     }
 
-    /// Why no call is taken, where that is so.
+    /// Why no call is taken, if that is so.
     fn refusal(&self, stamp: Stamp) -> Option<CallFault>
         ensures value { result ≡ refusal_of self.now stamp }
         ensures fits { result ≡ None → greatest_stamp self.now stamp + 1 < 2 ^ 40 }
@@ -134,7 +134,7 @@ where
         }
     }
 
-    /// The stamp of the last entry, 0 where there is none.
+    /// The stamp of the last entry, 0 if there is none.
     fn last(&self) -> u64
         ensures value { result ≡ last_number self.now.entries }
         ensures within { result < 2 ^ 40 }
@@ -157,11 +157,11 @@ where
         }
     }
 
-    /// Asks the node. A node that stands failed is opened again first, and the ask that met the fault is entered where
-    /// the node took it. The entry's stamp is one more than the greater of the caller's and the journal's last, and the
-    /// answer is that stamp and what the node told. A fault of the node enters nothing more; where its device failed in
-    /// the ask, this is kept with its sender and the stamp that its entry would have. Want of memory may be answered when
-    /// the ask was taken and entered.
+    /// Asks the node. A failed node is opened again first, and the ask that met the fault is entered if the node took
+    /// it. The entry's stamp is one more than the greater of the caller's and the journal's last, and the answer is
+    /// that stamp and what the node told. A fault of the node enters nothing more; if its device failed in the ask,
+    /// this is kept with its sender and the stamp that its entry would have. `Memory` may also be answered once the
+    /// ask was taken and entered.
     pub fn ask(
         &mut self,
         alloc: Global,
@@ -205,9 +205,9 @@ where
         }
     }
 
-    /// Crashes the node, which is opened again, failed or not; a sequencer is gone from then on. As before an ask, the
-    /// ask that met a fault is entered where the node took it, and then the crash, whose stamp is answered. Where the
-    /// node cannot be opened the fault is answered, and no crash is entered.
+    /// Crashes the node. A cell or a log is opened again, failed or not; a sequencer is gone from then on. As before
+    /// an ask, the ask that met a fault is entered if the node took it, and then the crash, whose stamp is answered.
+    /// If the node cannot be opened the fault is answered, and no crash is entered.
     pub fn crash(&mut self, alloc: Global, stamp: Stamp) -> Result<Stamp, CallFault>
         ensures place { self.new.place ≡ self.old.place }
         ensures first { self.new.first ≡ self.old.first }
@@ -234,8 +234,8 @@ where
         }
     }
 
-    /// The node is lost, for good. A node that stands failed is opened again first, as before an ask. The answer is the
-    /// stamp of the entry; a fault enters no loss.
+    /// The node is lost, for good. A failed node is opened again first, as before an ask. The answer is the stamp of
+    /// the entry; a fault enters no loss.
     pub fn lose(&mut self, alloc: Global, stamp: Stamp) -> Result<Stamp, CallFault>
         ensures place { self.new.place ≡ self.old.place }
         ensures first { self.new.first ≡ self.old.first }
@@ -262,9 +262,8 @@ where
         }
     }
 
-    /// The journal, closed with the state to which its entries lead. A node that stands failed is opened again, and the
-    /// ask that met the fault is entered where the node took it; where this fails, the fault is answered and the journal
-    /// is dropped.
+    /// The journal, closed with the state to which its entries lead. A failed node is opened again, and the ask that
+    /// met the fault is entered if the node took it. If this fails, the fault is answered and the journal is dropped.
     pub fn into_journal(self, alloc: Global) -> Result<Journal, NodeFault>
     where
         N: Drop,

@@ -52,7 +52,7 @@ where
     node.serve(alloc, ask)
 }
 
-/// The ask that met a fault, where it was found taken before.
+/// The ask that met a fault, if it was found taken before.
 pub(crate) fn left<A: Drop>(kept: Option<Kept<A>>) -> Option<Kept<A>>
     ensures { result ≡ left_kept kept }
 {

@@ -73,7 +73,7 @@ impl<J, D, W: Worker<J, D>> Promise<Option<D>> for Sworn<W, J> {
     ghost kept_by = { λ p r. IfSome r (λ done. W.Did p.worker.value p.job.value done) };
 }
 
-/// Starts a thread for a job. It begins once the gate is let go, where the gate then says so.
+/// Starts a thread for a job. It begins once the gate is let go, if the gate then says so.
 fn start<
     's,
     R: Threads + Wait + Sync + 's,
@@ -114,7 +114,7 @@ fn start<
     }
 }
 
-/// Starts a thread for each job, and lets them begin once all are there. Where one is refused, those that are there are
+/// Starts a thread for each job, and lets them begin once all are there. If one is refused, those that are there are
 /// called off.
 fn start_each<
     's,
@@ -197,7 +197,7 @@ fn work_in_threads<
 }
 
 /// Calls f at each job, each in a thread of its own, and gives what the calls give, in the order of the jobs. No job
-/// begins before there is a thread for each: where one cannot be made, no job is done, and `Thread` is answered.
+/// begins before there is a thread for each: if one cannot be made, no job is done, and `Thread` is answered.
 pub fn work_each<R: Threads + Wait + Sync, J: Send + Drop, D: Send + Drop, F: Fn(J) -> D + Sync>(
     rt: &R,
     alloc: Global,

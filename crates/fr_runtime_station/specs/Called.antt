@@ -29,14 +29,15 @@ use Rattle.fr_runtime_station.specs.declared.chosen.Chosen.{Chosen}
 use Rattle.fr_runtime_station.specs.declared.directory_fault.DirectoryFault.{DirectoryFault}
 use Rattle.fr_runtime_station.specs.declared.directory_fault.DirectoryFault.TheVariants as fault
 
--- what a node answers to an ask where it stands as `old`, and that it then stands as `new`: the ask is entered and told, or refused as its journal says, or a fault leaves the journal, but that want of memory may come once the ask is entered
+-- what a node that is `old` answers to an ask, and that it is `new` then: the ask is entered and told, or refused as
+-- its journal says, or a fault leaves the journal, but that `Memory` may come once the ask is entered
 pub record IsAsked {N S A : Type 0} (m : Steps S A) (old new : Housing N S A) (stamp : ℕ) (from : NodeId) (a : A) (result : Result (ℕ × Tell) CallFault) : Type 0 where
   pub entered : IfOk result (λ got. Asks m old new stamp from a (got.0, got.1))
   pub lost : (result ≡ Err call.Lost) ↔ (refusal_of old stamp ≡ Some call.Lost)
   pub spent : (result ≡ Err call.StampsSpent) ↔ (refusal_of old stamp ≡ Some call.StampsSpent)
   pub left : IfErr result (λ fault. Leaves m old new ⊎ ((fault ≡ call.Node node.Memory) × ((got : ℕ × Tell) × Asks m old new stamp from a got)))
 
--- a node that answers asks stood so when it was asked this
+-- a node that answers asks was so when it was asked this
 pub record WasAsked (N : Type 0) {S A : Type 0} (m : Steps S A) (stamp : ℕ) (from : NodeId) (a : A) (result : Result (ℕ × Tell) CallFault) : Type 0 where
   pub old : Housing N S A
   pub new : Housing N S A
@@ -50,7 +51,7 @@ pub record IsCrashed {N S A : Type 0} (m : Steps S A) (old new : Housing N S A) 
   pub spent : (result ≡ Err call.StampsSpent) ↔ (refusal_of old stamp ≡ Some call.StampsSpent)
   pub left : OnErr result (Leaves m old new)
 
--- a node that answers asks stood so when it crashed
+-- a node that answers asks was so when it crashed
 pub record HasCrashed (N : Type 0) {S A : Type 0} (m : Steps S A) (stamp : ℕ) (result : Result ℕ CallFault) : Type 0 where
   pub old : Housing N S A
   pub new : Housing N S A
@@ -92,7 +93,7 @@ IsCrash C L stamp (place.Log epoch index) result = WasCrashed L log_steps stamp 
 IsCrash C L stamp (place.Sequencer epoch) result = WasCrashed (InMemory SeqState) seq_steps stamp result
 IsCrash C L stamp node result = ⊥
 
--- why a directory answers nothing: what the node that was called says, where it was called
+-- why a directory answers nothing: what the node that was called says, if it was called
 abbrev pub IsUncalled : (Result (ℕ × Tell) CallFault → Type 0) → DirectoryFault → Type 0
 IsUncalled Call (fault.Call why) = Call (Err why)
 IsUncalled Call why = ⊤

@@ -27,8 +27,8 @@ use std::alloc::Global;
 use std::sync::Wait;
 
 /// The cells, logs and sequencers of a cluster, which its threads share, each in its place. Those of the first epoch
-/// are there from the start; of each later epoch that may come there is nothing but its number, until its recoverer
-/// puts its logs there, and then its sequencer, each with the stamp from which on they are there. To look for a node
+/// are there from the start. Of each later epoch that may come there is its number alone until its recoverer
+/// publishes its logs, and then its sequencer, each with the stamp from which on it is there. To look for a node
 /// takes no lock and walks the epochs, at most one for each ballot.
 #[derive(Drop)]
 pub struct Directory<C: Node<Plain = Cell>, L: Node<Plain = Log>> {
@@ -158,8 +158,8 @@ impl<C: Node<Plain = Cell> + Drop, L: Node<Plain = Log> + Drop> Directory<C, L> 
         newest
     }
 
-    /// The logs of an epoch that may come are there from this stamp on, in the order of their numbers. Where its logs came
-    /// before, those stay.
+    /// The logs of an epoch that may come are there from this stamp on, in the order of their numbers. If its logs
+    /// came before, those stay.
     pub fn publish_logs<R: Wait>(&self, rt: &R, epoch: Epoch, logs: Vec<Station<L>>, stamp: Stamp)
         requires named { map (λ log. log.place) logs.items ≡ logs_named epoch (length logs.items) }
     {
@@ -168,7 +168,7 @@ impl<C: Node<Plain = Cell> + Drop, L: Node<Plain = Log> + Drop> Directory<C, L> 
         }
     }
 
-    /// The state of a generation is chosen at this stamp: its sequencer is there from then on. Where the epoch's came
+    /// The state of a generation is chosen at this stamp: its sequencer is there from then on. If the epoch's came
     /// before, that one stays.
     pub fn publish_epoch<R: Wait>(
         &self,
@@ -183,10 +183,10 @@ impl<C: Node<Plain = Cell> + Drop, L: Node<Plain = Log> + Drop> Directory<C, L> 
         }
     }
 
-    /// Asks a node for one of this stamp, where the node is there and the ask is one of its kind. The answer's stamp is
-    /// above the caller's and above the one from which on the node is there, and what is told is what such a node tells of
-    /// the ask in some state. A fault says that the ask is of another kind, that the node is not there, or why the node
-    /// that was called refused: what is answered and what is left are those of one [`Station::call`].
+    /// Asks a node, for a caller at this stamp, if the node is there and the ask is one of its kind. The answer's
+    /// stamp is above the caller's and above the one from which on the node is there. What is told is what such a
+    /// node tells of the ask in some state. A fault says that the ask is of another kind, that the node is not there,
+    /// or why the node that was called refused. What is answered and what is left are those of one [`Station::call`].
     pub fn call<R: Wait>(
         &self,
         rt: &R,
@@ -283,8 +283,9 @@ impl<C: Node<Plain = Cell> + Drop, L: Node<Plain = Log> + Drop> Directory<C, L> 
         }
     }
 
-    /// Crashes a cell, a log or a sequencer that is there, and answers the stamp of that. Another node does not answer
-    /// asks, and is passed over; a fault says so, or that the node is not there, or why the crash was not entered.
+    /// Crashes a cell, a log or a sequencer that is there, and answers the stamp of that. Another node does not
+    /// answer asks, and is passed over. A fault says so, or that the node is not there, or why the crash was not
+    /// entered.
     pub fn crash<R: Wait>(
         &self,
         rt: &R,
@@ -364,8 +365,8 @@ impl<C: Node<Plain = Cell> + Drop, L: Node<Plain = Log> + Drop> Directory<C, L> 
         }
     }
 
-    /// The journals of the nodes, each closed with its node's state: the cells' first, then epoch by epoch the logs' and
-    /// the sequencer's. A node that stands failed is opened again for it. Journals of later epochs in which nothing was
+    /// The journals of the nodes, each closed with its node's state: the cells' first, then epoch by epoch the logs'
+    /// and the sequencer's. A failed node is opened again for it. Journals of later epochs in which nothing was
     /// entered are left out, so there are at least those of the start.
     pub fn into_journals(self, alloc: Global) -> Result<Vec<Journal>, NodeFault>
         ensures answers { IfOk result (λ journals. all_answer journals.items ≡ true) }

@@ -83,7 +83,7 @@ impl<L: Node<Plain = Log> + Drop> EpochNodes<L> {
         self.epoch
     }
 
-    /// The logs of the epoch are there from this stamp on. Where others came before, those stay, and these are dropped.
+    /// The logs of the epoch are there from this stamp on. If others came before, those stay, and these are dropped.
     pub(crate) fn put_logs<R: Wait>(
         &self,
         rt: &R,
@@ -103,7 +103,7 @@ impl<L: Node<Plain = Log> + Drop> EpochNodes<L> {
         );
     }
 
-    /// The state of the generation is chosen, and its sequencer is there. Where another came before, that one stays, and
+    /// The state of the generation is chosen, and its sequencer is there. If another came before, that one stays, and
     /// this one is dropped.
     pub(crate) fn open<R: Wait>(
         &self,
@@ -145,7 +145,7 @@ impl<L: Node<Plain = Log> + Drop> EpochNodes<L> {
         Some(opened.chosen)
     }
 
-    /// Puts the closed journals of those that came behind others, where something was entered.
+    /// Puts the closed journals of those that came behind others, if something was entered.
     pub(crate) fn close(self, alloc: Global, journals: &mut Vec<Journal>) -> Result<(), NodeFault>
         requires before { all_answer journals.old.items ≡ true }
         ensures answers { OnOk result (all_answer journals.new.items ≡ true) }

@@ -1,10 +1,10 @@
-//! What befalls asks and nodes while threads run, and when recoverers begin.
+//! What happens to asks and nodes while threads run, and when recoverers begin.
 ghost use Rattle.std.specs.Prelude.{◌≡◌};
 
 use fr_ask::Ask;
 use fr_base::{Ballot, NodeId, Tag};
 
-/// What befalls an ask on its way.
+/// What happens to an ask on its way.
 #[derive(Clone, Copy, Debug, PartialEq, Eq)]
 pub enum Verdict {
     /// It comes to its node, and what the node tells is heard.
@@ -17,7 +17,8 @@ pub enum Verdict {
     Twice,
 }
 
-/// What befalls asks and nodes, and when recoverers begin. It is asked by the thread whose turn it is, with no lock held.
+/// What happens to asks and nodes, and when recoverers begin. It is asked by the thread whose turn it is, with no
+/// lock held.
 pub trait Faults {
     ghost use Rattle.std.specs.Prelude.{ℕ, Bool, Option};
     ghost use Rattle.fr_ask.specs.declared.ask.Ask.{Ask};
@@ -27,13 +28,13 @@ pub trait Faults {
     /// Whether the recoverer of a ballot may begin at a turn.
     ghost begun: { Self → ℕ → ℕ → Bool };
 
-    /// What may befall an ask to a node.
+    /// What may happen to an ask to a node.
     ghost MayBefall: { Self → NodeId → Ask → Verdict → Type 0 } = { λ faults to ask verdict. Unit {0} };
 
     /// Which node may crash at a turn of the thread of crashes, and whether none may.
     ghost MayCrash: { Self → ℕ → Option NodeId → Type 0 } = { λ faults turn node. Unit {0} };
 
-    /// What befalls this ask to a node.
+    /// What happens to this ask to a node.
     fn verdict(&self, to: NodeId, ask: &Ask) -> Verdict
         ensures { MayBefall self.now to ask.now result };
 

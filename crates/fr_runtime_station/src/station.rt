@@ -40,9 +40,9 @@ where
         }
     }
 
-    /// Asks the node, as [`Housed::ask`] does, once the lock is free: what is answered and what is left are those of one
-    /// ask of such a node where it stood when the lock was taken. The stamp is above the caller's; a fault is one that the
-    /// node can meet, want of memory, or that it takes no call.
+    /// Asks the node, as [`Housed::ask`] does, once the lock is free. What is answered and what is left are those of
+    /// one ask of such a node, as it was when the lock was taken. The stamp is above the caller's; a fault is one
+    /// that the node can meet, `Memory`, or that it takes no call.
     pub fn call<R: Wait>(
         &self,
         rt: &R,
@@ -63,8 +63,8 @@ where
         self.lock.lock(rt).ask(alloc, stamp, from, ask)
     }
 
-    /// Crashes the node, as [`Housed::crash`] does, once the lock is free: what is answered and what is left are those of
-    /// one crash of such a node where it stood when the lock was taken. The stamp is above the caller's.
+    /// Crashes the node, as [`Housed::crash`] does, once the lock is free. What is answered and what is left are
+    /// those of one crash of such a node, as it was when the lock was taken. The stamp is above the caller's.
     pub fn crash<R: Wait>(&self, rt: &R, alloc: Global, stamp: Stamp) -> Result<Stamp, CallFault>
     where
         N: Drop,

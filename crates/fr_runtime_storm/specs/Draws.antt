@@ -1,4 +1,4 @@
--- What a seed draws, and what befalls an ask or a node by a word.
+-- What a seed draws, and what happens to an ask or a node by a word.
 use Rattle.std.specs.Prelude.{ℕ, ◌+◌, ◌/◌, ◌%◌, ◌^◌, ◌==◌, nat_lt, Option, None, Some, if◌then◌else◌}
 use Rattle.rand_core.specs.Pcg32Seed.{pcg32_seed}
 use Rattle.rand_pcg.specs.Lcg.{Lcg}
@@ -24,7 +24,7 @@ word_at seed call = word_of ((seed + call) % 2 ^ 64)
 abbrev pub fault_at : ℕ → Verdict
 fault_at number = if number == 0 then DropAsk else (if number == 1 then DropTell else Twice)
 
--- what befalls an ask: a fault where the word's last byte is below the storm's strength
+-- what happens to an ask: a fault if the word's last byte is below the storm's strength
 abbrev pub verdict_of : ℕ → ℕ → Verdict
 verdict_of strength word = if nat_lt (word % 256) strength then fault_at (word / 256 % 3) else Pass
 
@@ -32,7 +32,7 @@ verdict_of strength word = if nat_lt (word % 256) strength then fault_at (word /
 abbrev pub node_of : ℕ → ℕ → ℕ → NodeId
 node_of cells logs word = if word / 65536 % 2 == 0 then Cell (word / 256 % cells) else Log 257 (word / 256 % logs)
 
--- the node that crashes, where one does
+-- the node that crashes, if one does
 abbrev pub crash_of : ℕ → ℕ → ℕ → ℕ → Option NodeId
 crash_of strength cells logs word = if nat_lt (word % 256) strength then Some (node_of cells logs word) else None
 

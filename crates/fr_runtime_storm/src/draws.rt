@@ -1,4 +1,4 @@
-//! What a seed draws: a word for each call, and what befalls an ask or a node by it.
+//! What a seed draws: a word for each call, and what happens to an ask or a node by it.
 ghost use Rattle.std.specs.Prelude.{◌≡◌, ◌≤◌};
 ghost use Rattle.fr_runtime_storm.specs.Draws.{crash_of, node_of, verdict_of, word_at, word_of};
 
@@ -9,7 +9,7 @@ use rand_core::utils::NextWord;
 use rand_pcg::Pcg32;
 
 /// What a storm draws from: its seed, its strength, and which nodes there are to crash. The draws of each call are its
-/// own, so what befalls it depends on the seed and its number alone.
+/// own, so what happens to it depends on the seed and its number alone.
 #[derive(Clone, Copy, Debug, PartialEq, Eq)]
 pub struct Draws {
     /// The number from which all is drawn.
@@ -38,7 +38,7 @@ impl Draws {
         word_of(self.seed.wrapping_add(call))
     }
 
-    /// What befalls an ask, of which this call is made.
+    /// What happens to an ask, by the draw of this call.
     pub fn verdict(self, call: u64) -> Verdict
         ensures { result ≡ verdict_of self.strength (word_at self.seed call) }
     {
@@ -53,7 +53,7 @@ impl Draws {
         }
     }
 
-    /// The node that crashes, where this call is made whether one does.
+    /// The node that crashes by the draw of this call, if one does.
     pub fn crash(self, call: u64) -> Option<NodeId>
         requires cells { 1 ≤ self.coordinators }
         requires logs { 1 ≤ self.logs }

@@ -7,9 +7,9 @@ use fr_base::{Ballot, NodeId};
 use fr_runtime_station::{Faults, NoFaults, Verdict};
 use std::sync::atomic::{AtomicU64, Ordering};
 
-/// Faults drawn from a seed. The asks of all threads and the crashes are the calls of one count: which of them gets which
-/// draw depends on the order in which threads come to it, and what a draw is on the seed and the count alone.
-/// Recoverers begin as with [`NoFaults`].
+/// Faults drawn from a seed. The asks of all threads and the crashes are the calls of one count. Which of them gets
+/// which draw depends on the order in which threads come to it; what a draw is depends on the seed and the count
+/// alone. Recoverers begin as with [`NoFaults`].
 #[derive(Drop)]
 pub struct Storm {
     /// What it draws from.

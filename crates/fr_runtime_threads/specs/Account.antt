@@ -22,7 +22,7 @@ pub record Account : Type 0 where
 abbrev pub nothing : Account
 nothing = record { given = []; told = []; is_open = false }
 
--- what is said of a batch that is under way, where one is
+-- what is said of a batch that is under way, if one is
 abbrev pub waiting_if : Bool → List Outcome
 waiting_if true = Waiting ∷ []
 waiting_if false = []
@@ -75,7 +75,7 @@ abbrev pub all_outcomes : List JournalState → List Outcome
 all_outcomes [] = []
 all_outcomes (j ∷ js) = outcomes j.entries ++ all_outcomes js
 
--- the batch that no proxy took, where there is one, and what is said of it
+-- the batch that no proxy took, if there is one, and what is said of it
 
 abbrev pub left_over : Option Order → List Order
 left_over None = []

@@ -4,7 +4,7 @@ use Rattle.fr_base.specs.declared.node.NodeFault.TheVariants.{Device, Full, Fail
 use Rattle.fr_runtime_threads.specs.declared.fault.TurnFault.{TurnFault}
 use Rattle.fr_runtime_threads.specs.declared.fault.TurnFault.TheVariants as turn
 
--- want of memory is one of memory, and else a log could not be made
+-- `Memory` is `Memory`, and every other fault is a log that could not be made
 abbrev pub of_node : NodeFault → TurnFault
 of_node Device = turn.Log
 of_node Full = turn.Log

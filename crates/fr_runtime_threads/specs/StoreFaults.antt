@@ -4,7 +4,7 @@ use Rattle.fr_undo.specs.declared.fault.StoreFault.TheVariants.{Device, Full, Fa
 use Rattle.fr_runtime_threads.specs.declared.fault.TurnFault.{TurnFault}
 use Rattle.fr_runtime_threads.specs.declared.fault.TurnFault.TheVariants as turn
 
--- want of memory is one of memory, and else the store failed
+-- `Memory` is `Memory`, and every other fault is a store that failed
 abbrev pub of_store : StoreFault → TurnFault
 of_store Device = turn.Store
 of_store Full = turn.Store

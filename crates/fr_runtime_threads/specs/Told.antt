@@ -13,7 +13,7 @@ pub record BrokeOff (s : StorageState) (from : NodeId) (tell : Tell) (version : 
   pub applied : n.store.applied ≡ version
   pub left : IsStoreState s.store → n ≡ storage_hear (Some version) s from tell
 
--- where nothing of the hear is missing, the server is that of runs after the whole hear; else after the part of it
+-- if nothing of the hear is missing, the server is that of runs after the whole hear; else after the part of it
 pub record IsTold (s : StorageState) (from : NodeId) (tell : Tell) (taken : Option ℕ) (n : StorageState) : Type 0 where
   pub whole : taken ≡ None → n ≡ storage_hear None s from tell
   pub part : IfSome taken (λ version. BrokeOff s from tell version n)

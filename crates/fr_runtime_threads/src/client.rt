@@ -71,7 +71,7 @@ impl<W: Workload + Drop> Client<W> {
         })
     }
 
-    /// Takes the next batch from the workload, where none is kept; false where there is none.
+    /// Takes the next batch from the workload, if none is kept; false if there is none.
     fn fill(&mut self) -> Result<bool, Memory>
         ensures first { self.new.first ≡ self.old.first }
         ensures number { self.new.number ≡ self.old.number }
@@ -89,7 +89,7 @@ impl<W: Workload + Drop> Client<W> {
         }
     }
 
-    /// Goes over to the proxy of the newest epoch, where the present one is over and the epoch is later.
+    /// Goes over to the proxy of the newest epoch, if the present one is over and the epoch is later.
     fn move_on(&mut self, alloc: Global, config: &Config, newest: Chosen) -> Result<(), Memory>
         requires shut { self.old.door.under_way ≡ UnderWay.Nothing }
         ensures first { self.new.first ≡ self.old.first }
@@ -107,7 +107,7 @@ impl<W: Workload + Drop> Client<W> {
         Ok(())
     }
 
-    /// Hands the next batch to a proxy; false where there is none. One that no proxy takes is kept.
+    /// Hands the next batch to a proxy; false if there is none. One that no proxy takes is kept.
     fn hand_out(&mut self, alloc: Global, config: &Config, newest: Chosen) -> Result<bool, Memory>
         requires shut { self.old.door.under_way ≡ UnderWay.Nothing }
         ensures first { self.new.first ≡ self.old.first }
@@ -123,7 +123,7 @@ impl<W: Workload + Drop> Client<W> {
         Ok(true)
     }
 
-    /// Tells the workload what the proxy said, where it said something of its batch.
+    /// Tells the workload what the proxy said, if it said something of its batch.
     fn settle(&mut self) -> Result<(), Memory>
         ensures first { self.new.first ≡ self.old.first }
         ensures number { self.new.number ≡ self.old.number }
@@ -145,7 +145,7 @@ impl<W: Workload + Drop> Client<W> {
         }
     }
 
-    /// One turn: a batch is handed out where none is open, and each pending ask is sent once. False where there is no
+    /// One turn: a batch is handed out if none is open, and each pending ask is sent once. False if there is no
     /// further batch. A turn at which the proxy says nothing of a batch lets other threads go first.
     fn turn<K: Rack, F: Faults, R: Wait>(
         &mut self,
@@ -211,7 +211,7 @@ fn is_left(kept: &Option<Order>) -> bool
     }
 }
 
-/// Tells a workload that a batch is waiting, where one is.
+/// Tells a workload that a batch is waiting, if one is.
 fn tell_waiting<W: Workload + Drop>(
     work: W,
     told: Vec<Outcome>,
@@ -231,9 +231,8 @@ fn tell_waiting<W: Workload + Drop>(
     Ok((work, told))
 }
 
-/// The turns of a workload, at the proxies of its number. Of what the proxies took and said the workload misses nothing:
-/// what it gave are the batches that they took, in order, and then the one that none took, if there is one; and it is
-/// told of each in turn what the proxy said, Waiting where that was nothing.
+/// Takes the turns of a workload, at the proxies of its number. It gave exactly the batches that the proxies took, in
+/// order, and at most one more. It is told of each in turn what the proxy said, `Waiting` if that was nothing.
 pub fn serve<K: Rack, F: Faults, R: Wait, W: Workload + Drop>(
     site: &Site<'_, K, F, R>,
     first: Generation,

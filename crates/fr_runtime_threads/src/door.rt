@@ -112,7 +112,7 @@ impl Door {
         self.proxy.pending(alloc)
     }
 
-    /// Hands a batch to the proxy, where nothing is under way and the proxy takes it.
+    /// Hands a batch to the proxy, if nothing is under way and the proxy takes it.
     pub(crate) fn submit(&mut self, kept: &mut Option<Order>) -> Result<(), Memory>
         requires shut { self.old.under_way ≡ UnderWay.Nothing }
         ensures place { self.new.notes.journal.node ≡ self.old.notes.journal.node }
@@ -162,7 +162,7 @@ impl Door {
         self.under_way = UnderWay::Nothing;
     }
 
-    /// The journal, closed with where the proxy stands.
+    /// The journal, closed with the proxy's state.
     pub(crate) fn close(self) -> Journal
         ensures place { result.node ≡ self.notes.journal.node }
         ensures entries { result.entries ≡ self.notes.journal.entries }

@@ -66,7 +66,7 @@ impl Notes {
         self.seen = self.seen.max(stamp);
     }
 
-    /// The stamp of the next entry, for which there is room from then on. None where the stamps are spent.
+    /// The stamp of the next entry, for which there is room from then on. None if the stamps are spent.
     pub(crate) fn next(&mut self) -> Result<Option<Stamp>, Memory>
         ensures place { self.new.journal.node ≡ self.old.journal.node }
         ensures entries { self.new.journal.entries ≡ self.old.journal.entries }
@@ -97,7 +97,7 @@ impl Notes {
         self.seen = stamp;
     }
 
-    /// The journal, closed with where the node stands.
+    /// The journal, closed with this last state.
     pub(crate) fn close(self, last: Last) -> Journal
         ensures place { result.node ≡ self.journal.node }
         ensures entries { result.entries ≡ self.journal.entries }

@@ -3,7 +3,7 @@ use fr_base::Step;
 use fr_mutation::Batch;
 use fr_proxy::Outcome;
 
-/// A batch, and how far above the version before it is to stand.
+/// A batch, and how far above the version before it is to be.
 #[derive(Debug, Drop)]
 pub struct Order {
     pub step: Step,

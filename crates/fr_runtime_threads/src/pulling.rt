@@ -75,7 +75,7 @@ impl<S: ShardStore> Hearer for Puller<S> {
 
 impl<S: ShardStore> Puller<S> {
     /// Tells the storage server what a node told it, and enters as much of that as it took: all of it, or the part at
-    /// whose version it broke off, where a call of its store failed.
+    /// whose version it broke off, if a call of its store failed.
     fn take_in(
         &mut self,
         alloc: Global,
@@ -108,7 +108,7 @@ impl<S: ShardStore> Puller<S> {
     }
 }
 
-/// Tells a storage server what a node told it: at which version the hear broke off, where a call of its store failed in
+/// Tells a storage server what a node told it: at which version the hear broke off, if a call of its store failed in
 /// it and a part of it is missing. What it refuses changes nothing. A store that cannot be opened again is a fault.
 fn tell_storage<S: ShardStore>(
     alloc: Global,
@@ -150,7 +150,7 @@ fn peeked_by<S: ShardStore>(
     take_peeked(alloc, storage, *epoch, peeked)
 }
 
-/// What a storage server answers, where it is not a fault of its store.
+/// What a storage server answers, if it is not a fault of its store.
 fn unless_fault<T>(answer: Result<T, StorageFault>) -> Result<T, TurnFault>
     ensures { IfOk result (λ value. answer ≡ Ok value) }
 {
@@ -177,8 +177,8 @@ fn of_epoch(gens: &[Generation], epoch: Epoch) -> Option<Generation>
     gens.iter().copied().find(|g| g.epoch() == epoch)
 }
 
-/// The log of a generation that is asked for a tag's records at a turn: one of those on which the tag stands, the next
-/// one at each turn.
+/// The log of a generation that is asked for a tag's records at a turn: one of those that hold the tag, the next one
+/// at each turn.
 fn holder_at(generation: Generation, tag: Tag, turn: u32) -> NodeId
     ensures { result ≡ NodeId.Log generation.epoch ((tag + turn % generation.k) % generation.m) }
 {

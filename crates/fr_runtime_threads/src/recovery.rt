@@ -23,7 +23,7 @@ use std::alloc::Global;
 use std::sync::Wait;
 use std::thread::yield_now;
 
-/// A recoverer, the shape of the generation that it is to open, where it was given one, and its journal.
+/// A recoverer, the shape of the generation that it is to open, if it was given one, and its journal.
 #[derive(Drop)]
 struct Recovery {
     recoverer: Recoverer,
@@ -257,7 +257,7 @@ fn recovered<K: Rack, F: Faults, R: Wait>(
 }
 
 /// The turns of a ballot, and the journal of its recoverer, if that began. The recoverer opens a generation of this
-/// shape, or where none is given one of the shape that the one before has.
+/// shape, or if none is given one of the shape that the one before has.
 pub fn recover<K: Rack, F: Faults, R: Wait>(
     site: &Site<'_, K, F, R>,
     ballot: Ballot,

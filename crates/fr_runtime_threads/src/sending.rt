@@ -1,4 +1,4 @@
-//! Asks on their way, and what befalls them.
+//! Asks on their way, and what happens to them.
 ghost use Rattle.std.specs.Prelude.{◌≡◌, OnOk};
 ghost use Rattle.fr_runtime_threads.specs.Hears.{HasHeard};
 
@@ -20,33 +20,33 @@ pub(crate) trait Hearer {
     ghost use Rattle.fr_proxy.specs.declared.outcome.Outcome.{Outcome};
     ghost use Rattle.fr_runtime_threads.specs.declared.order.Order.{Order};
 
-    /// The node.
+    /// The node that asks.
     ghost node: { Self → NodeId };
 
-    /// The shape of the generation that it is to open, for a recoverer that was given one.
+    /// The shape of the generation that the node is to open, if it is a recoverer that was given one.
     ghost shape: { Self → Option ShapeContent };
 
-    /// The batches that it took.
+    /// The batches that the node took, if it is a proxy.
     ghost given: { Self → List Order };
 
-    /// What the workload was told of them.
+    /// What the node's workload was told of its batches.
     ghost told: { Self → List Outcome };
 
-    /// What is entered in its journal.
+    /// What is entered in the node's journal.
     ghost entries: { Self → List Entry };
 
-    /// The greatest stamp that its thread has seen.
+    /// The greatest stamp that the node's thread has seen.
     ghost seen: { Self → ℕ };
 
-    /// The node.
+    /// The node that asks.
     fn place(&self) -> NodeId
         ensures { result ≡ node self.now };
 
-    /// The greatest stamp that its thread has seen.
+    /// The greatest stamp that the node's thread has seen.
     fn now(&self) -> Stamp
         ensures { result ≡ seen self.now };
 
-    /// Hears what a node told at this stamp, and enters that, where there is a stamp above it.
+    /// Hears what a node told at this stamp, and enters that, if there is a stamp above it.
     fn hear(&mut self, alloc: Global, at: Stamp, from: NodeId, tell: Tell) -> Result<(), TurnFault>
         ensures node { node self.new ≡ node self.old }
         ensures shape { shape self.new ≡ shape self.old }

@@ -18,7 +18,7 @@ pub trait Workload {
     /// What it was told of them, the oldest first.
     ghost heard: { Self → List Outcome };
 
-    /// The next batch, and how far above the version before it is to stand; None where there is none. Want of memory
+    /// The next batch, and how far above the version before it is to be; None if there is none. Out of memory it
     /// gives none.
     fn next(&mut self) -> Result<Option<(Step, Batch)>, Memory>
         ensures none { (result ≡ Ok None) → given self.new ≡ given self.old }
@@ -26,7 +26,7 @@ pub trait Workload {
         ensures heard { heard self.new ≡ heard self.old }
         ensures err { OnErr result (given self.new ≡ given self.old) };
 
-    /// Is told what became of the first batch of which it was told nothing. Want of memory tells it nothing.
+    /// Is told what became of the first batch of which it was told nothing. Out of memory it is told nothing.
     fn told(&mut self, outcome: Outcome) -> Result<(), Memory>
         ensures heard { OnOk result (heard self.new ≡ heard self.old ++ outcome ∷ []) }
         ensures given { given self.new ≡ given self.old }

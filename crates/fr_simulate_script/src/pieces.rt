@@ -1,4 +1,4 @@
-//! The script of `simulate`, read from the tokens of its text, where its config stands before its steps: the config, and
+//! The script of `simulate`, read from the tokens of its text, if its config comes before its steps: the config, and
 //! each step, as a tree of its own.
 ghost use Rattle.std.specs.Prelude.{◌≡◌, ◌<◌, length, Some, OnOk};
 ghost use Rattle.serde_json.specs.Data.{Data};
@@ -14,7 +14,7 @@ use fr_form_pieces::read_tree;
 use json::{Reader, Scratch};
 use std::alloc::Global;
 
-/// Reads the script that an input is, where it has the usual form.
+/// Reads the script that an input is, if it has the usual form.
 pub(crate) fn read_script(alloc: Global, input: &[u8]) -> Result<Script, Unread>
     ensures { OnOk result ((d : Data) × (data_of input.now ≡ Some d)) }
 {
@@ -58,7 +58,7 @@ fn read_steps(alloc: Global, reader: &mut Reader<'_>) -> Result<Vec<Act>, Unread
     Ok(acts)
 }
 
-/// What was read of a tree, where that has its form: a tree without it is left to who reads the whole script as one.
+/// What was read of a tree, if that has its form: a tree without it is left to the reader of the whole script.
 fn usual<T: Drop>(read: Result<T, CliFault>) -> Result<T, Unread> {
     match read {
         Ok(value) => Ok(value),

@@ -64,9 +64,9 @@ pub struct Pull {
     pub log: LogId,
 }
 
-/// A recoverer, by its ballot, with the shape of the generation that it is to open, where it begins now and one is
-/// given; and the cells that it reads, the logs that it locks, the cells that it writes to, and the logs that get its
-/// mark.
+/// A recoverer, by its ballot, with the shape of the generation that it is to open, if it begins now and one is given.
+/// Behind that are the cells that it reads, the logs that it locks, the cells that it writes to, and the logs that get
+/// its mark.
 #[derive(Drop)]
 pub struct Recover {
     pub ballot: Ballot,
@@ -77,7 +77,7 @@ pub struct Recover {
     pub mark: Vec<u8>,
 }
 
-/// Reads the script that an input is: piece by piece, where it has the usual form, and else from the tree of its JSON,
+/// Reads the script that an input is: piece by piece, if it has the usual form, and else from the tree of its JSON,
 /// which alone knows that it is none.
 pub fn read_script(alloc: Global, input: Vec<u8>) -> Result<Script, CliFault>
     ensures json { OnOk result ((d : Data) × (data_of input.items ≡ Some d)) }

@@ -1,4 +1,5 @@
-//! The calls that read, and those that write, as one transaction each.
+//! The calls that read, and those that write, as one transaction each. A call that writes is told how many undo rows
+//! there are, and answers how many there are then, so that no call reads the whole table for that number.
 ghost use Rattle.std.specs.Prelude.{◌≡◌, ◌<◌, IfOk, IfErr};
 ghost use Rattle.std.specs.FinMap as map;
 ghost use Rattle.sqlite.specs.Held.{state};

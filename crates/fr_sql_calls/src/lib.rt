@@ -1,6 +1,6 @@
-//! The calls of a store in SQL, over its connection and what it keeps beside its tables: each one that writes plans what
-//! it is to make of the tables, over what it reads of them, and makes it in one transaction. A trouble that a statement
-//! was refused for is counted, and without a statement that was refused there is none.
+//! The calls of a store in SQL, over its connection and what it keeps beside its tables. Each one that writes plans
+//! what it is to make of the tables, over what it reads of them, and makes it in one transaction. A trouble is counted;
+//! without a refused statement there is none.
 #![tactic(auto)]
 
 mod calls;

@@ -19,7 +19,7 @@ module _ {S K : Type 0} where
   is_failed (link.Open store) = store.failed
   is_failed (link.Shut it) = true
 
-  -- a fault is answered only where the store in SQL was told so, and by a shut one as that it failed
+  -- a fault is answered only if the store in SQL was told so, and by a shut one as that it failed
   abbrev pub IsLinkTold : Link S K → Link S K → StoreFault → Type 0
   IsLinkTold (link.Open old) (link.Open new) fault = tables.IsTold old new fault
   IsLinkTold (link.Open old) (link.Shut it) fault = ⊥
@@ -62,7 +62,8 @@ module _ {S K : Type 0} (g : Ghosts S) (KeptLeaves : K → StoreState → Type 0
     pub still : IfErr result (λ e. LeavesNoMore Before (ShutLeaves e.1))
     pub trouble : IfErr result (λ e. IsTrouble MeetsAll e.0)
 
-  -- what becomes of what is kept, where a crash could leave these states: a store over a new connection, or what is kept still
+  -- what becomes of what is kept, if a crash could leave these states: a store over a new connection, or what is kept
+  -- still
   pub record IsConnected (Before : StoreState → Type 0) (result : Result (Seen S) (StoreFault × Shut S K)) : Type 0 where
     pub found : IfOk result (λ store. Before (tables.state_of g store))
     pub works : IfOk result (λ store. store.failed ≡ false)

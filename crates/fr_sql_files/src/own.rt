@@ -83,7 +83,7 @@ pub(crate) fn size_of<D: Disk>(store: &FileStore<D>) -> Result<Option<PageSize>,
     Ok(None)
 }
 
-/// Files that are to be opened with the trees of a store. Want of memory gives them back.
+/// Files that are to be opened with the trees of a store. `Memory` gives them back.
 pub(crate) fn unopened<D: Disk>(
     alloc: Global,
     files: Files<D>,

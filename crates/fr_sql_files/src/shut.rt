@@ -9,7 +9,7 @@ use fr_sql_store::SqlStore;
 use fr_undo::StoreFault;
 use std::alloc::Global;
 
-/// What is kept of a store whose connection is shut: its tables where they could not be taken apart or given a
+/// What is kept of a store whose connection is shut: its tables if they could not be taken apart or given a
 /// connection, else what is kept of them.
 #[derive(Drop)]
 pub(crate) enum Shut<S, K> {

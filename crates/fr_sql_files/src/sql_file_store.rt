@@ -18,8 +18,8 @@ use std::alloc::Global;
 /// transaction.
 ///
 /// A fault may shut the connection. `reopen` then takes it apart, opens its files again and finds the state before the
-/// call that met the fault, or the one that it was to make. It answers `Device`, and may be asked again, while the files
-/// fail; it answers so for good where a sync failed, or where the tables were made by other texts than a store's own.
+/// call that met the fault, or the one that it was to make. It answers `Device`, and may be asked again, while the
+/// files fail; it answers so for good if a sync failed, or if another program made the tables by other statements.
 /// [`SqlFileStore::into_files`] gives the files back then too.
 pub type SqlFileStore<D> = TableStore<FileStore<D>>;
 

@@ -25,7 +25,7 @@ pub(crate) enum Link<S: Backing + Drop, K> {
     Shut(Shut<S, K>),
 }
 
-/// A store in tables that stand in files, whatever these are: see [`crate::SqlFileStore`].
+/// A store in tables that are in files, whatever these are: see [`crate::SqlFileStore`].
 pub struct TableStore<S: FileTables> {
     pub(crate) link: Link<S, S::Kept>,
 }
@@ -110,7 +110,7 @@ fn opened_again<S: FileTables>(
     }
 }
 
-/// What a store answers that is opened again, whose connection works after all or was not found failed; none where its
+/// The answer of a store that is opened again, if its connection works after all or was not found failed; none if its
 /// tables are to be opened again.
 fn asked<S: FileTables>(
     link: &mut Link<S, S::Kept>,

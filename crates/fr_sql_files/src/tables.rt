@@ -14,15 +14,15 @@ use sqlite::FileStore;
 use sqlite_store::OpenError;
 use std::alloc::Global;
 
-/// Tables of a store that stand in files.
+/// Tables of a store that are in files.
 pub trait FileTables: Backing + Drop {
     /// What is kept of tables of which nothing is open.
     type Kept: Drop;
 
-    /// A crash may leave the tables of these states of what is kept.
+    /// The states of tables that a crash may leave of what is kept.
     ghost KeptLeaves: { Self.Kept → StoreState → Type 0 };
 
-    /// What is kept of tables, where their files list them by a store's own texts. What refuses gives the tables back.
+    /// What is kept of tables, if their files list them by a store's own texts. What refuses gives the tables back.
     fn apart(self) -> Result<Self::Kept, (StoreFault, Self)>
         ensures leaves { IfOk result (λ kept. LeavesNoMore (StoreLeaves Self.Store self) (KeptLeaves kept)) }
         ensures still { IfErr result (λ e. LeavesNoMore (StoreLeaves Self.Store self) (StoreLeaves Self.Store e.1)) }

@@ -16,7 +16,7 @@ use Rattle.fr_sql_open.specs.Found.{ObeysStore, ShowsVersions, versions_of, vers
 use Rattle.fr_sql_open.proofs.ShapeLemmas.{are_kv, are_undo, is_meta}
 use Rattle.fr_sql_open.proofs.ShownLemmas.{one_there, between_all, shown_count}
 
--- a place that has a row is between, where all rows are
+-- a place that has a row is between, if all rows are
 within_all : (floor applied : ℕ) (rows : List Row) (p : Place) → AllByRecursion (IsBetween floor applied 1) rows → IsSome (before_in rows p) → (floor < p.0) × (p.0 ≤ applied)
 within_all floor applied [] p all some = absurd (let e = some in cc)
 within_all floor applied (r ∷ rows) p all some = go (is_at_place p r) refl (within_all floor applied rows p all.1)

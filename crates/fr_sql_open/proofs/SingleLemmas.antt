@@ -15,7 +15,7 @@ none_of p (x ∷ xs) h = go (p x) refl (none_of p xs)
     go true e more = absurd (let clash = rw e at h in cc)
     go false e more = (e, more (rw e at h))
 
--- each key once, where keys of rows are apart from those of later rows
+-- each key once, if keys of rows are apart from those of later rows
 module _ {K : Type 0} (key : Row → K) (same : K → K → Bool) (exact : (a b : K) → same a b ≡ true → a ≡ b) (comm : (a b : K) → same a b ≡ same b a) where
   none_at : (r : Row) (q : K) → same (key r) q ≡ true → (rows : List Row) → AllByRecursion (λ y. same (key r) (key y) ≡ false) rows → filter (λ y. same (key y) q) rows ≡ []
   none_at r q is [] all = refl
@@ -31,7 +31,7 @@ module _ {K : Type 0} (key : Row → K) (same : K → K → Bool) (exact : (a b 
       go true is more = rw is (rw (none_at r q is rows apart.0) (omega arith))
       go false is more = rw is more
 
--- of rows in the order of their rowids, none has the key of a later one, where none clashes with another
+-- of rows in the order of their rowids, none has the key of a later one, if none clashes with another
 module _ (P : Row → Type 0) (clash same : Row → Row → Bool) (step : (x y : Row) → P x → P y → value_cmp (rowid x) (rowid y) ≡ Less → clash x y ≡ false → same x y ≡ false) where
   heads : (r : Row) (rows ys : List Row) → P r → AllByRecursion (λ y. value_cmp (rowid r) (rowid y) ≡ Less) ys → AllByRecursion P ys
       → AllByRecursion (λ y. AllByRecursion (λ x. clash x y ≡ false) (r ∷ rows)) ys → AllByRecursion (λ y. same r y ≡ false) ys

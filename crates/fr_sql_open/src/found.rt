@@ -36,7 +36,7 @@ fn version_of(number: i64) -> Option<Version>
     }
 }
 
-/// The version applied and the floor in a row that shows them, where they are versions in this order.
+/// The version applied and the floor in a row that shows them, if they are versions in this order.
 fn versions_in(row: &Row) -> Result<Option<(Version, Version)>, Error>
     ensures { IfOk result (λ found. IfSome found (λ pair. ShowsVersions pair.0 pair.1 row.now)) }
 {
@@ -72,7 +72,7 @@ fn show_meta<S: Backing>(conn: &mut Connection<S>) -> Result<Vec<Row>, Error>
     conn.query_all("SELECT applied, floor FROM meta", &[])
 }
 
-/// The version applied and the floor, where the table of what the store has of itself has one row, with versions.
+/// The version applied and the floor, if the table of what the store has of itself has one row, with versions.
 fn versions<S: Backing>(conn: &mut Connection<S>) -> Result<Option<(Version, Version)>, Error>
     requires rest { IsAtRest (state S.Store conn.old) }
     requires obeys { ObeysStore (state S.Store conn.old).now }
@@ -87,7 +87,7 @@ fn versions<S: Backing>(conn: &mut Connection<S>) -> Result<Option<(Version, Ver
     }
 }
 
-/// The version that a row shows, where it is one.
+/// The version that a row shows, if it is one.
 fn version_in(row: &Row) -> Result<Option<Version>, Error>
     ensures { IfOk result (λ found. IfSome found (λ version. column row.now 0 ≡ Int (pos version))) }
 {
@@ -105,7 +105,8 @@ fn is_between(row: &Row, applied: Version, floor: Version) -> Result<bool, Error
     }
 }
 
-/// How many rows there are, where each does.
+/// How many rows there are, if each shows a version above the floor and at most at the version
+/// applied.
 fn count_between(rows: &[Row], applied: Version, floor: Version) -> Result<Option<usize>, Error>
     ensures count { IfOk result (λ found. IfSome found (λ count. count ≡ length rows.now)) }
     ensures between { IfOk result (λ found. IfSome found (λ _. AllByRecursion (IsBetween floor applied 0) rows.now)) }
@@ -129,7 +130,7 @@ fn show_undo<S: Backing>(conn: &mut Connection<S>) -> Result<Vec<Row>, Error>
     conn.query_all("SELECT ver FROM undo", &[])
 }
 
-/// How many undo rows there are, where each is above the floor and at most at the version applied.
+/// How many undo rows there are, if each is above the floor and at most at the version applied.
 fn undo_rows<S: Backing>(
     conn: &mut Connection<S>,
     applied: Version,
@@ -145,7 +146,7 @@ fn undo_rows<S: Backing>(
     count_between(rows.as_slice(), applied, floor)
 }
 
-/// What a store has of itself, where the tables are those of a store.
+/// What a store has of itself, if the tables are those of a store.
 fn read<S: Backing>(conn: &mut Connection<S>) -> Result<Option<Found>, Error>
     requires rest { IsAtRest (state S.Store conn.old) }
     requires obeys { ObeysStore (state S.Store conn.old).now }

@@ -22,7 +22,8 @@ FoundLaw {D} {E} g h =
     (it : FileStore D g) (files : Files E) → IsKept it → (state it).may_leave (image_of h files)
     → ∥ ((x : StoreState) × StoreLeaves over_files it x × HoldStore h files x) ∥₁
 
--- where a crash leaves the store as it is, as it does of each that works and of which no call is under way, they hold what it shows
+-- if a crash leaves the store as it is, as it does of each that works and of which no call is under way, they hold what
+-- it shows
 abbrev pub RestartLaw : {D E : Type 0} → Ghosts D → Ghosts E → Type 0
 RestartLaw {D} {E} g h =
     (store : Seen (FileStore D g)) (files : Files E) → IsKept store.conn.store

@@ -5,15 +5,15 @@ ghost use Rattle.fr_sql_restart.specs.Restart.{FoundLaw, RestartLaw};
 
 use sqlite_disk::Disk;
 
-/// Where files hold what a crash may leave of a store's own, each store that is opened over them
-/// (`fr_sql_files::SqlFileStore::open_or_create`) has a state that a crash might leave of it: the one before the call
-/// that the crash broke off, or the one that it was to make.
+/// If files hold what a crash may leave of a store's own, each store that is opened over them
+/// (`fr_sql_files::SqlFileStore::open_or_create`) has a state that a crash might leave of it. It is the one before
+/// the call that the crash broke off, or the one that it was to make.
 pub fn found_law<D: Disk, E: Disk>()
     ensures { FoundLaw D.Disk E.Disk }
 {}
 
-/// Where a store works, and the files hold what a crash may leave of its own, they hold what it shows: each change that was
-/// acknowledged is found.
+/// If a store works, and the files hold what a crash may leave of its own, they hold what it shows: each change that
+/// was acknowledged is found.
 pub fn restart_law<D: Disk, E: Disk>()
     ensures { RestartLaw D.Disk E.Disk }
 {}

@@ -45,7 +45,7 @@ no_permutation : {X : Type 0} (ys : List X) → IsPermutation [] ys → ys ≡ [
 no_permutation [] h = refl
 no_permutation (y ∷ ys) h = absurd (let e = length_permutation [] (y ∷ ys) h in cc)
 
--- the answer of a query with no order, where at most one way to fill its slots passes
+-- the answer of a query with no order, if at most one way to fill its slots passes
 pub plain_answer : (tree : ℕ) (filter project : List Term) (db : Trees) (params : Row) (rows : List Row) (m : List Env) → matches_as Null db filter (inner tree end) (params ∷ []) ≡ m → length m ≤ 1
     → IsSureAnswer (plain_query tree filter project) db params rows → rows ≡ map (eval_all project) m
 plain_answer tree filter project db params rows m e few h = go m e few

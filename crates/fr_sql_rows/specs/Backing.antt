@@ -19,7 +19,7 @@ both_true true true p q = refl
 both_true true false p q = q
 both_true false b p q = p
 
--- files give back what was written to them, where their disk does
+-- files give back what was written to them, if their disk does
 pub files_are_clean : {D : Type 0} {g : Ghosts D} → ((d : D) → IsTrue (g.is_clean d)) → (s : FileStore D g) → IsClean (view s)
 unfolding doubt state
 files_are_clean faithful s = ap doubt (both_true _ _ (faithful _) (faithful _))

@@ -1,4 +1,4 @@
-//! What the tables stand on.
+//! Where the tables are kept.
 ghost use Rattle.std.specs.Prelude.{◌≡◌, IsTrue};
 ghost use Rattle.sqlite_trees.specs.View.{IsClean};
 

@@ -157,7 +157,7 @@ pub fn change<'x, S: Backing>(
     )
 }
 
-/// Gives a key a value, where `held` says whether it has one.
+/// Gives a key a value; `held` says whether it has one.
 pub fn set<'x, S: Backing>(
     tx: &mut Transaction<'_, S>,
     key: &'x Bytes,

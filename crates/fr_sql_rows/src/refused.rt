@@ -1,5 +1,6 @@
-//! What the statements were answered that were refused. Only sqlite makes a [`Refused`]: each call of it by this crate
-//! stands here, and nothing else can make one, but want of memory. So a body above that answers a trouble was told so.
+//! The errors of refused statements. Only sqlite makes a [`Refused`]: each call of it by this crate is here. Besides,
+//! only out of memory, too many rows and a version out of range make one. So a body above that answers a trouble was
+//! told so.
 ghost use Rattle.std.specs.Prelude.{◌≡◌, ◌≢◌, ◌↔◌, ◌⊎◌, ◌<◌, ◌≤◌, ◌+◌, ◌^◌, ℕ, pos, false, [], codes, length, IsTrue, Err, IfOk, IfErr, OnOk};
 ghost use Rattle.sqlite.specs.Values.{bound};
 ghost use Rattle.sqlite.specs.Order.{Row as SqlRow, column};
@@ -71,7 +72,7 @@ impl Model for Trouble {
 }
 
 impl Refused {
-    /// The trouble that this makes of a call whose connection still works.
+    /// The trouble of a call whose connection still works.
     pub fn trouble(self) -> Trouble
         ensures { result ≡ fault_in self }
     {
@@ -80,8 +81,7 @@ impl Refused {
         }
     }
 
-    /// The trouble that this makes of a call whose connection was refused an answer when it was asked whether it still
-    /// works: the device's.
+    /// The trouble of a call whose connection did not answer whether it works: `Device`.
     pub fn shut(self, asked: Shut) -> Trouble
         ensures { result ≡ StoreFault.Device }
     {
@@ -92,7 +92,7 @@ impl Refused {
 }
 
 impl Shut {
-    /// The trouble that this makes of a call that asked nothing else.
+    /// The trouble of a call that asked nothing else.
     pub fn trouble(self) -> Trouble
         ensures { result ≡ fault_in self }
     {
@@ -241,7 +241,7 @@ pub(crate) fn run<S: Backing>(
     told(tx.execute(sql, params))
 }
 
-/// Commits a transaction. It fails where an earlier failure has already ended it.
+/// Commits a transaction. It fails if an earlier failure has already ended it.
 pub fn commit<S: Backing>(tx: Transaction<'_, S>) -> Result<(), Refused>
     ensures ok { HasCleanDisk (state S.Store tx.exit.0.now) → OnOk result (IsTrue (state S.Store tx.entry.conn.now).in_transaction
         × Shows (state S.Store tx.entry.conn.now) (state S.Store tx.exit.0.now)

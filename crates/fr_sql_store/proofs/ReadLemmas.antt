@@ -1,4 +1,4 @@
--- What a call that reads makes of a store, where it told whether it met the device.
+-- What a call that reads makes of a store, if it told whether it met the device.
 use Rattle.std.proofs.Common.{◌≡◌, Bool, false, Result, sym, subst}
 use Rattle.sqlite.specs.Held.{Held, state}
 use Rattle.sqlite_trees.specs.declared.store.Store.{Ghosts}

@@ -55,7 +55,7 @@ seen_code {S} store =
 abbrev pub has_failed : {S : Type 0} → Seen S → Bool
 has_failed s = s.failed
 
--- a fault of the device, or of size or room, is answered only where a statement was refused so
+-- a fault of the device, or of size or room, is answered only if a statement was refused so
 abbrev pub IsTold : {S : Type 0} → Seen S → Seen S → StoreFault → Type 0
 IsTold old new = told.IsTold old.told new.told
 

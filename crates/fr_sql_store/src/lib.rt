@@ -1,4 +1,4 @@
-//! A store of a shard in SQL, under the contract of every store: what it keeps stands in three tables, each
+//! A store of a shard in SQL, under the contract of every store. What it keeps is in three tables, each
 //! call that writes is one transaction, and a crash leaves what was there before a call or what it made.
 #![tactic(auto)]
 

@@ -24,7 +24,7 @@ use sqlite::{Connection, MemStore};
 use std::alloc::Global;
 use std::marker::Model;
 
-/// A store whose keys, undo rows, versions and state bytes stand in the tables of a database: in memory, or in files
+/// A store whose keys, undo rows, versions and state bytes are in the tables of a database: in memory, or in files
 /// below a `SqlFileStore`. Each call that writes is one transaction.
 pub struct SqlStore<S: Backing> {
     conn: Connection<S>,

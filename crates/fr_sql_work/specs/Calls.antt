@@ -19,7 +19,7 @@ pub record Looks {T : Type 0} (old new : State) (result : Result T StoreFault) :
   pub survives : CommitsNothing old new
   pub trouble : IfErr result (IsTrouble MeetsAll)
 
--- where the connection is open it was, and is as it was; nothing is committed
+-- if the connection is open it was, and is as it was; nothing is committed
 pub record Steps (old new : State) : Type 0 where
   pub was_open : IsTrue new.is_open → IsTrue old.is_open
   pub keeps : IsAtRest old → KeepsIfOpen old new

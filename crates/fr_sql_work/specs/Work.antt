@@ -66,7 +66,7 @@ pub record Does (work : Work) (old new : Database) : Type 0 where
   pub rows : (p : Place) → before_in (new.trees 2) p ≡ row_after work.changes work.rows p (before_in (old.trees 2) p)
   pub meta : (a f : ℕ) (bytes : List ℕ) → old.trees 4 ≡ meta_row a f bytes ∷ [] → new.trees 4 ≡ meta_after work.meta a f bytes ∷ []
 
--- no undo row is at a version where the work is to add some
+-- no undo row is at a version if the work is to add some
 abbrev pub HasRoom : RowWork → Database → Type 0
 HasRoom Keep db = Unit {0}
 HasRoom (Note version) db = (q : List ℕ) → before_in (db.trees 2) (version, q) ≡ None

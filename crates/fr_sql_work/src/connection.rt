@@ -1,4 +1,6 @@
 //! What a store in SQL asks of its connection: to read its tables, and to make them what they are to become.
+//! Each statement is one of fr_sql_rows. If one is refused, the connection is asked whether it still works, so a
+//! fault other than `Device` leaves it open.
 ghost use Rattle.std.specs.Prelude.{◌≡◌, ◌≢◌, OnOk, OnErr, IfOk, IfErr, IsTrue, None, cond, nat_le};
 ghost use Rattle.std.specs.FinMap as map;
 ghost use Rattle.sqlite.specs.Held.{state};
@@ -34,8 +36,8 @@ pub fn probe<S: Backing>(conn: &mut Connection<S>) -> Result<(), Trouble>
     }
 }
 
-/// The trouble of a call whose statement was refused: the device's where the connection, once it was asked whether it
-/// still works, does not.
+/// The trouble of a call whose statement was refused. It is `Device` if the connection, when it is then asked whether
+/// it still works, does not.
 fn settle<S: Backing>(conn: &mut Connection<S>, refused: Refused) -> Trouble
     ensures trouble { IsTrouble MeetsAll result }
     ensures told { result ≢ StoreFault.Device → result ≡ fault_in refused }

@@ -59,7 +59,7 @@ pub length-generations_at : (n : ℕ) (bytes : List ℕ) → length (generations
 length-generations_at zero bytes = refl
 length-generations_at (suc n) bytes = ap suc (length-generations_at n (drop 26 bytes))
 
--- the first one's number, where there is one
+-- the first one's number, if there is one
 pub first_epoch_at : (n : ℕ) (bytes : List ℕ) → 1 ≤ n → first_epoch_of (generations_at n bytes) ≡ number_at w64 0 bytes
 unfolding generation_at
 first_epoch_at zero bytes h = absurd (omega arith)

@@ -40,7 +40,7 @@ last_of [] = None
 last_of (g ∷ []) = Some g
 last_of (g ∷ next ∷ gens) = last_of (next ∷ gens)
 
--- the epoch of the first of some generations, 0 where there is none
+-- the epoch of the first of some generations, 0 if there is none
 abbrev pub first_epoch_of : List LogGeneration → ℕ
 first_epoch_of [] = 0
 first_epoch_of (g ∷ gens) = g.epoch

@@ -11,7 +11,7 @@ use Rattle.fr_state.specs.Spelling.{spelling, length_spelled}
 
 -- ---- order
 
--- a list is ordered exactly where of any two of its generations the later one follows the earlier
+-- a list is ordered exactly if of any two of its generations the later one follows the earlier
 abbrev pub OrderIsOfPairs : Type 0
 OrderIsOfPairs = (gens : List LogGeneration) → AreOrdered gens ↔ AllPairs Follows gens
 
@@ -52,7 +52,7 @@ SourceIsExact =
     (gens : List LogGeneration) (version : ℕ) (g : LogGeneration)
     → AreOrdered gens → All IsGeneration gens → (source_of gens version ≡ Some g) ↔ IsSource gens version g
 
--- there is none exactly where each generation starts above it
+-- there is none exactly if each generation starts above it
 abbrev pub SourceIsNone : Type 0
 SourceIsNone = (gens : List LogGeneration) (version : ℕ) → (source_of gens version ≡ None) ↔ All (λ g. version < g.first) gens
 
@@ -62,7 +62,7 @@ OwnerIsExact =
     (gens : List LogGeneration) (version : ℕ) (g : LogGeneration)
     → AreOrdered gens → (owner_of gens version ≡ Some g) ↔ IsOwner gens version g
 
--- there is none exactly where each generation was seeded with it, or further
+-- there is none exactly if each generation was seeded with it, or further
 abbrev pub OwnerIsNone : Type 0
 OwnerIsNone = (gens : List LogGeneration) (version : ℕ) → (owner_of gens version ≡ None) ↔ All (λ g. version ≤ g.seeded_to) gens
 
@@ -152,18 +152,18 @@ ExtensionIsState =
     → IsCoordinatedState s → IsGeneration g → extended s g ≡ Ok t
     → IsCoordinatedState t × (t ≡ record s { gens = s.gens ++ g ∷ [] }) × (last_of t.gens ≡ Some g)
 
--- a generation that follows the last one is appended where there is room
+-- a generation that follows the last one is appended if there is room
 abbrev pub FollowerExtends : Type 0
 FollowerExtends =
     (s : CoordinatedState) (last g : LogGeneration)
     → IsCoordinatedState s → last_of s.gens ≡ Some last → Follows last g → length s.gens < 64
     → extended s g ≡ Ok (record s { gens = s.gens ++ g ∷ [] })
 
--- it is not later exactly where the longer list would not be ordered
+-- it is not later exactly if the longer list would not be ordered
 abbrev pub NotLaterIsExact : Type 0
 NotLaterIsExact = (s : CoordinatedState) (g : LogGeneration) → (extended s g ≡ Err NotLater) ↔ (¬ AreOrdered (s.gens ++ g ∷ []))
 
--- there are too many exactly where it would be ordered and there is no room
+-- there are too many exactly if it would be ordered and there is no room
 abbrev pub TooManyIsExact : Type 0
 TooManyIsExact =
     (s : CoordinatedState) (g : LogGeneration)
@@ -225,7 +225,7 @@ abbrev pub DropHasSource : Type 0
 DropHasSource =
     (gens : List LogGeneration) (n version : ℕ) (g : LogGeneration) → source_of (drop n gens) version ≡ Some g → source_of gens version ≡ Some g
 
--- and where one that is left starts at or below the version, the source is among them
+-- and if one that is left starts at or below the version, the source is among them
 abbrev pub DropKeepsSource : Type 0
 DropKeepsSource =
     (gens : List LogGeneration) (n version : ℕ) (g : LogGeneration)
@@ -235,7 +235,7 @@ DropKeepsSource =
 abbrev pub GoesOnIsExact : Type 0
 GoesOnIsExact = (own s : CoordinatedState) → IsTrue (goes_on own s) ↔ GoesOn own s
 
--- a state with one generation more goes on from the one before, also where generations were dropped first
+-- a state with one generation more goes on from the one before, also if generations were dropped first
 abbrev pub ExtensionGoesOn : Type 0
 ExtensionGoesOn =
     (s : CoordinatedState) (n : ℕ) (g : LogGeneration)
@@ -257,7 +257,7 @@ ReadIsSpelled =
     (bytes : List ℕ) (s : CoordinatedState)
     → AreBytes bytes → reading bytes ≡ Ok s → IsCoordinatedState s × (bytes ≡ spelling s)
 
--- a spelling has 2 bytes, or 10 where generations were dropped, and 26 for each generation that is left, so it fits a cell
+-- a spelling has 2 bytes, or 10 if generations were dropped, and 26 for each generation that is left, so it fits a cell
 abbrev pub SpellingFits : Type 0
 SpellingFits = (s : CoordinatedState) → IsCoordinatedState s → (length (spelling s) ≡ length_spelled s) × (length (spelling s) ≤ 4096)
 

@@ -26,6 +26,6 @@ extended s g =
 abbrev pub without_first : CoordinatedState → ℕ → CoordinatedState
 without_first s n = record { dropped = s.dropped + n; gens = drop n s.gens }
 
--- the state without the generations before that of an epoch; none where the epoch is not there
+-- the state without the generations before that of an epoch; none if the epoch is not there
 abbrev pub dropped_before : CoordinatedState → ℕ → Option CoordinatedState
 dropped_before s epoch = option_map (without_first s) (position (λ g. g.epoch == epoch) s.gens)

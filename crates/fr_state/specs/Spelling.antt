@@ -1,4 +1,4 @@
--- The bytes of a state: format 1 where no generation was dropped, else format 2.
+-- The bytes of a state: format 1 if no generation was dropped, else format 2.
 use Rattle.std.specs.Prelude.{List, [], ◌∷◌, ◌++◌, ℕ, ◌+◌, ◌*◌, ◌==◌, length, if◌then◌else◌}
 use Rattle.std.specs.List.{flat_map}
 use Rattle.std.specs.Int.{w64, to_be_bytes}
@@ -8,7 +8,7 @@ use Rattle.fr_state.specs.Generations.{LogGeneration, CoordinatedState}
 unfoldable pub row : LogGeneration → List ℕ
 row g = to_be_bytes w64 g.epoch ++ g.m ∷ g.k ∷ [] ++ to_be_bytes w64 g.first ++ to_be_bytes w64 g.seeded_to
 
--- the format: 1 where no generation was dropped, else 2 and how many were (8)
+-- the format: 1 if no generation was dropped, else 2 and how many were (8)
 abbrev pub spelled_start : ℕ → List ℕ
 spelled_start dropped = if dropped == 0 then 1 ∷ [] else 2 ∷ to_be_bytes w64 dropped
 

@@ -5,7 +5,7 @@ ghost use Rattle.fr_state.specs.Order.{may_follow};
 use fr_base::{Epoch, Version};
 use std::marker::Model;
 
-/// One generation of logs. It has `m` logs, of which each tag stands on `k`, with 1 <= k <= m <= 16. It
+/// One generation of logs. It has `m` logs, of which each tag is on `k`, with 1 <= k <= m <= 16. It
 /// starts at version `first`; its logs were seeded with the versions from there through `seeded_to`, and
 /// 1 <= first <= seeded_to + 1. Contracts see it as the record of these numbers.
 #[derive(Clone, Copy, Debug, PartialEq, Eq)]
@@ -30,7 +30,7 @@ impl Model for Generation {
 }
 
 impl Generation {
-    /// The generation of these numbers, where they are within its limits.
+    /// The generation of these numbers, if they are within its limits.
     pub fn new(epoch: Epoch, m: u8, k: u8, first: Version, seeded_to: Version) -> Option<Self>
         ensures within { IsSome result ↔ ((1 ≤ k) × (k ≤ m) × (m ≤ 16) × (1 ≤ first) × (first ≤ seeded_to + 1)) }
         ensures value { IfSome result (λ g. g ≡ record { epoch = epoch; m = m; k = k; first = first; seeded_to = seeded_to }) }
@@ -64,7 +64,7 @@ impl Generation {
         self.m
     }
 
-    /// On how many of its logs each tag stands.
+    /// On how many of its logs each tag is.
     pub fn k(self) -> u8
         ensures { result ≡ self.k }
     {
@@ -78,14 +78,14 @@ impl Generation {
         self.first
     }
 
-    /// The last version that its logs were seeded with: `first - 1` where there was none.
+    /// The last version that its logs were seeded with: `first - 1` if there was none.
     pub fn seeded_to(self) -> Version
         ensures { result ≡ self.seeded_to }
     {
         self.seeded_to
     }
 
-    /// Whether a generation may stand right after this one.
+    /// Whether a generation may come right after this one.
     pub(crate) fn may_precede(self, next: Generation) -> bool
         ensures { result ≡ may_follow self next }
     {

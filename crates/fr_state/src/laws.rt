@@ -93,8 +93,8 @@ pub fn equal_law()
     ensures { SameIsEqual }
 {}
 
-/// Each state has one spelling, which fits a cell and is read as it, and no spelling goes on where
-/// another ends.
+/// Each state has one spelling, which fits a cell and is read as it, and no spelling goes on after
+/// the end of another.
 pub fn spelling_law()
     ensures again { SpelledIsRead }
     ensures one { ReadIsSpelled }

@@ -1,4 +1,4 @@
-//! Which generation stands after an epoch, and which one has a version. A state has at most 64
+//! Which generation comes after an epoch, and which one has a version. A state has at most 64
 //! generations, so each look-up is a scan.
 ghost use Rattle.std.specs.Prelude.{◌≡◌, ◌<◌, ◌==◌, length, position, IfSome};
 ghost use Rattle.fr_state.specs.LookUp.{next_of, source_of};
@@ -14,7 +14,7 @@ pub(crate) fn next_of(gens: &[Generation], epoch: Epoch) -> Option<Generation>
     gens.get(at + 1).copied()
 }
 
-/// Where the generation of an epoch stands.
+/// The index of the generation of an epoch.
 pub(crate) fn place_of(gens: &[Generation], epoch: Epoch) -> Option<usize>
     ensures place { result ≡ position (λ g. g.epoch == epoch) gens.now }
     ensures within { IfSome result (λ at. at < length gens.now) }

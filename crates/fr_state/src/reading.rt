@@ -15,12 +15,15 @@ use crate::state::{CoordState, MOST_GENERATIONS};
 use fr_base::{Epoch, Memory, Version};
 use std::alloc::Global;
 
-/// The state that the bytes spell, all of them. The first fault is answered: Short where the format is
-/// missing, BadForm where it is not known; in format 2 Short where the number of generations that were
-/// dropped is missing, BadForm where it is 0; Short where the number of generations is missing, BadForm where
-/// it is wrong; Short where bytes of the generations are missing; BadForm where a generation is not within
-/// its limits, the list is not in order or as many were dropped as the first epoch says, or more; Trailing
-/// where bytes follow; Memory last.
+/// The state that the bytes spell, all of them. The first fault of these is answered:
+///
+/// 1. the format: `Short` if it is missing, `BadForm` if it is unknown;
+/// 2. in format 2 the number of dropped generations: `Short` if it is missing, `BadForm` if it is 0;
+/// 3. the number of generations: `Short` if it is missing, `BadForm` if it is wrong;
+/// 4. the generations: `Short` if bytes of them are missing;
+/// 5. their limits and order, and that fewer were dropped than the first epoch says: else `BadForm`;
+/// 6. bytes behind them: `Trailing`;
+/// 7. `Memory`.
 pub fn decode(alloc: Global, bytes: &[u8]) -> Result<CoordState, DecodeFault>
     ensures ok { IfOk result (λ s. reading bytes.now ≡ Ok s) }
     ensures refused { IfErr result (λ fault. fault ≢ DecodeFault.Memory → reading bytes.now ≡ Err fault) }
@@ -126,7 +129,7 @@ fn is_list(count: usize, bytes: &[u8]) -> bool
     true
 }
 
-/// Whether a generation may stand after the last one, if there is one.
+/// Whether a generation may come after the last one, if there is one.
 fn may_come(last: Option<Generation>, next: Generation) -> bool
     ensures { MatchOption last (IsTrue result) (λ last. result ≡ may_follow last next) }
 {
@@ -154,7 +157,7 @@ fn generations(alloc: Global, count: usize, bytes: &[u8]) -> Result<Vec<Generati
     Ok(gens)
 }
 
-/// The generation that the first row spells, where it is within its limits.
+/// The generation that the first row spells, if it is within its limits.
 #[tactic(auto, unfolding(crate::specs::Reading::generation_at, crate::specs::Reading::is_within))]
 fn generation(bytes: &[u8]) -> Option<Generation>
     requires { 26 ≤ length bytes.now }

@@ -17,8 +17,8 @@ pub(crate) const SHORTENED: u8 = 2;
 pub(crate) const ROW: usize = 26;
 
 /// The bytes of a state: the format, the number of generations (1 byte), and for each generation 26 bytes:
-/// epoch (8), m (1), k (1), first (8), seeded_to (8). The format is 01 where no generation was dropped, else
-/// 02 and how many were (8). Numbers are big-endian. They fit a cell, whose value has at most 4,096 bytes.
+/// epoch (8), m (1), k (1), first (8), seeded_to (8). The format is 01 if no generation was dropped, else 02
+/// and how many were (8). Numbers are big-endian. They fit a cell, whose value has at most 4,096 bytes.
 pub fn encode(alloc: Global, state: &CoordState) -> Result<Vec<u8>, Memory>
     ensures spelled { IfOk result (λ bytes. bytes.items ≡ spelling state.now) }
     ensures size { IfOk result (λ bytes. length bytes.items ≡ length_spelled state.now) }

@@ -55,8 +55,8 @@ impl CoordState {
         CoordState { dropped, gens }
     }
 
-    /// How many generations were dropped, from the first one of all on: fewer than the epoch of the first one
-    /// that is left says.
+    /// How many of the oldest generations were dropped. It is below the number of the epoch of the oldest one
+    /// left.
     pub fn dropped(&self) -> u64
         ensures value { result ≡ self.now.dropped }
         ensures sound { IsCoordinatedState self.now }
@@ -100,7 +100,7 @@ impl CoordState {
         Ok(())
     }
 
-    /// Drops the generations before that of an epoch. It is false, and nothing changes, where the epoch is not
+    /// Drops the generations before that of an epoch. It is false, and nothing changes, if the epoch is not
     /// there. It takes no memory.
     pub fn drop_before(&mut self, epoch: Epoch) -> bool
         ensures there { result ≡ is_some (dropped_before self.old epoch) }
@@ -159,9 +159,9 @@ impl CoordState {
         source_for(&self.gens, version)
     }
 
-    /// Whether this state goes on from another one, as it does where it was made of that one by
-    /// `drop_before` and `extend`: it dropped no fewer generations, one of the other's is left at least, and it
-    /// begins with those that are left. It takes no memory.
+    /// Whether this state *goes on* from another, as `drop_before` and `extend` make states. It dropped no
+    /// fewer generations, at least one of the other's is left, and it begins with those that are. It takes no
+    /// memory.
     pub fn begins_with(&self, own: &CoordState) -> bool
         ensures value { result ≡ goes_on own.now self.now }
         ensures exact { IsTrue result ↔ GoesOn own.now self.now }

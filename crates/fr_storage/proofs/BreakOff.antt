@@ -66,7 +66,7 @@ module _ {S : Type 0} (state_of : S → StoreState) (s n : Server S) (view : s �
         stop : Stop (state_of s.store) (end_of s.state.gens epoch) peeked is v
         stop = stops_there (state_of s.store) (end_of s.state.gens epoch) peeked is v (stops true there)
 
-    -- above the version applied it breaks off exactly where it stops
+    -- above the version applied it breaks off exactly if it stops
     pub off_at : (v == s.applied) ≡ false → stops_at s.applied end peeked v ≡ is_some (broken_at (state_of n.store) (peeked_calls (storage_of state_of n) epoch peeked) v)
     off_at other = go (stops_at s.applied end peeked v) refl
       where

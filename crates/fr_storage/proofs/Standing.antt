@@ -116,14 +116,14 @@ module _ {S : Type 0} (state_of : S → StoreState) (is_failed : S → Bool) (Ma
           let own : x ≡ s.state = spelled_one laws x s.state state is.state (sym spelled ∙ ap (λ (t : StoreState). t.bytes) store ∙ is.bytes fine) in
           subst (Stands pieces Chosen) (λ i. record { tag = s.tag; state = sym own i; store = sym store i }) (standing.works fine)
 
-  -- a server that failed stands, where each store that it may find is one that could be found before
+  -- a server that failed stands, if each store that it may find is one that could be found before
   pub failed_stands : (old new : Server S) → FindsStanding MayLeave pieces Chosen old → new.tag ≡ old.tag → new.failed ≡ true → LeavesNoMore (MayLeave old.store) (MayLeave new.store) → IsStanding state_of MayLeave pieces Chosen new
   failed_stands old new found tag failed leaves = record {
     works = λ f. absurd (not_both new.failed failed f);
     found = λ f x left may is bytes. subst (λ (t : ℕ). Stands pieces Chosen (record { tag = t; state = x; store = left })) (sym tag) (found x left (leaves left may) is bytes);
   }
 
-  -- a server that works stands, where its store is one that could be found before
+  -- a server that works stands, if its store is one that could be found before
   pub opened_stands : (old new : Server S) → FindsStanding MayLeave pieces Chosen old → new.tag ≡ old.tag → new.failed ≡ false → MayLeave old.store (state_of new.store) → IsCoordinatedState new.state → (state_of new.store).bytes ≡ spelling new.state
       → IsStanding state_of MayLeave pieces Chosen new
   opened_stands old new found tag works may state spelled = record {

@@ -75,7 +75,7 @@ module _ (a : ℕ) (end : Option ℕ) where
           (under_target end r.version upto within (leb-true r.version upto parts.0), rest)
       go false is rest = rest
 
-  -- among the new ones a version is found that is found among all, where it is new
+  -- among the new ones a version is found that is found among all, if it is new
   has_new : (v : ℕ) (rs : List PeekedRecord) → a < v → is_within end v ≡ true → has_version v (records_between a end rs) ≡ has_version v rs
   has_new v [] lt within = refl
   has_new v (r ∷ rs) lt within = go (nat_lt a r.version && is_within end r.version) refl (has_new v rs lt within)

@@ -21,7 +21,7 @@ calls_through s version records =
     let new = records_between s.applied (Some version) records in
     map apply_of new ++ advance_calls (reached s.applied new) version
 
--- a storage whose calls broke off at a version, where they can, and which was opened again
+-- a storage whose calls broke off at a version, if they can, and which was opened again
 abbrev pub after_broken : StorageState → List Call → ℕ → StorageState
 after_broken s calls version = record s { store = unwrap_or (broken_at s.store calls version) s.store }
 

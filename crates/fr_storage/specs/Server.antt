@@ -77,7 +77,7 @@ met_store (Err Hole) = false
 met_store (Err (Store fault)) = true
 met_store (Err BadState) = false
 
--- why an answer refuses what was heard, where it does so for another reason than the store
+-- why an answer refuses what was heard, if it does so for another reason than the store
 abbrev pub refusal_of : {T : Type 0} → Result T StorageFault → Option StorageFault
 refusal_of (Ok x) = None
 refusal_of (Err Older) = Some Older

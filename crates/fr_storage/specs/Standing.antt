@@ -31,7 +31,8 @@ is_untimely Hole = true
 is_untimely (Store fault) = false
 is_untimely BadState = false
 
--- answers lead from one server to another: each is heard whole, or broken off and opened again, and where it is refused it is untimely
+-- answers lead from one server to another: each is heard whole, or broken off and opened again, and if it is refused it
+-- is untimely
 abbrev pub LeadTo : StorageState → List Answer → StorageState → Type 0
 LeadTo s [] n = n ≡ s
 LeadTo s (answer ∷ answers) n = (mid : StorageState) × IsAfter s (heard_of answer) mid × IfSome (fault_of s (heard_of answer)) (λ fault. IsTrue (is_untimely fault)) × LeadTo mid answers n
@@ -58,19 +59,20 @@ pub record AreTrueTo {S : Type 0} (state_of : S → StoreState) (MayLeave : S �
   pub works : s.failed ≡ false → AreTrueAhead pieces Chosen (storage_of state_of s) heards
   pub found : IsTrue s.failed → (n : StorageState) → IsFound MayLeave s n → AreTrueAhead pieces Chosen n (drop 1 heards)
 
--- a server that stands is left standing by what it hears, where that is true to it, and is refused neither as a stranger nor below its floor
+-- a server that stands is left standing by what it hears, if that is true to it, and is refused neither as a stranger
+-- nor below its floor
 abbrev pub StaysStanding : {S : Type 0} → (S → StoreState) → (S → StoreState → Type 0) → List Heard → Server S → Server S → Option StorageFault → Type 0
 StaysStanding state_of MayLeave heards old new refusal =
     (pieces : Pieces) (is_chosen : CoordinatedState → Bool) → let Chosen = IsChosenBy is_chosen in
     ArePieces pieces → AreOneChain pieces Chosen → AreTrueTo state_of MayLeave pieces Chosen heards old → IsStanding state_of MayLeave pieces Chosen old
     → IsStanding state_of MayLeave pieces Chosen new × (refusal ≢ Some Stranger) × (refusal ≢ Some BelowFloor)
 
--- a server that begins in a state stands, where that state is chosen
+-- a server that begins in a state stands, if that state is chosen
 abbrev pub BeginsStanding : {S : Type 0} → (S → StoreState) → (S → StoreState → Type 0) → CoordinatedState → Server S → Type 0
 BeginsStanding state_of MayLeave x s =
     (pieces : Pieces) (is_chosen : CoordinatedState → Bool) → let Chosen = IsChosenBy is_chosen in
     ArePieces pieces → AreOneChain pieces Chosen → Chosen x → IsStanding state_of MayLeave pieces Chosen s
 
--- a server over what an earlier one left stands where that one did
+-- a server over what an earlier one left stands if that one did
 abbrev pub StandsAgain : {S : Type 0} → (S → StoreState) → (S → StoreState → Type 0) → StorageState → Server S → Type 0
 StandsAgain state_of MayLeave left s = (pieces : Pieces) (is_chosen : CoordinatedState → Bool) → Stands pieces (IsChosenBy is_chosen) left → IsStanding state_of MayLeave pieces (IsChosenBy is_chosen) s

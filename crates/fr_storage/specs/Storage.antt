@@ -163,7 +163,7 @@ broken_at s calls version = find (is_broken_at s version) (reverse (stages s cal
 
 -- ---- what is asked next
 
--- the generation that has the next version: its source, or the first generation where there is none
+-- the generation that has the next version: its source, or the first generation if there is none
 abbrev pub next_source : Option LogGeneration → List LogGeneration → ℕ
 next_source (Some g) gens = g.epoch
 next_source None [] = 0

@@ -24,7 +24,7 @@ pub enum StorageFault {
     /// Records between the version applied and these are missing.
     #[error("records are missing before these")]
     Hole,
-    /// The store refused a call, or memory was wanting. The server answers `Store(Failed)` until it is
+    /// The store refused a call, or memory ran out. The server answers `Store(Failed)` until it is
     /// opened again.
     #[error("{0}")]
     Store(StoreFault),

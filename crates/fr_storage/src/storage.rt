@@ -23,11 +23,11 @@ use std::marker::Model;
 /// How many records a storage server asks a log for at most.
 const MOST: u8 = 100;
 
-/// The storage server of one tag: it pulls the commits of its shard from the logs of the generations, applies
-/// them before it is known that they survive, and takes back exactly what did not when it hears of a later
-/// generation. Beside its store it keeps the coordinated state of its epoch, the version applied and the
-/// floor. It is the storage server of FoundationDB (Zhou et al., SIGMOD 2021, sections 2.3 to 2.5), with undo
-/// rows in its store in place of a window of versions in memory.
+/// The storage server of one tag: it pulls the commits of its shard from the logs of the generations, and
+/// applies them before it is known that they survive. When it hears of a later generation it takes back
+/// exactly what did not. Beside its store it keeps the coordinated state of its epoch, the version applied
+/// and the floor. It is the storage server of FoundationDB (Zhou et al., SIGMOD 2021, sections 2.3 to 2.5),
+/// with undo rows in its store in place of a window of versions in memory.
 ///
 /// A call of the store that is refused leaves the server failed: it keeps what it kept before, and each call
 /// but [`reopen`](Storage::reopen) is answered `Store(Failed)`.
@@ -73,7 +73,7 @@ impl<S: ShardStore> Storage<S> {
         &self.state
     }
 
-    /// Where it stands: its epoch and the version applied last. While it is failed, where it stood before.
+    /// Its position: its epoch and the version applied last. While it is failed, the position before that.
     pub fn position(&self) -> (Epoch, Version)
         ensures epoch { result.0 ≡ own_epoch self.now.state }
         ensures version { result.1 ≡ self.now.applied }
@@ -99,7 +99,7 @@ impl<S: ShardStore> Storage<S> {
     }
 
     /// What it asks next, and the epoch of whose logs it asks it: a peek of its tag after the version applied,
-    /// of the source of the version after that, or of the first generation where there is no source.
+    /// of the source of the version after that, or of the first generation if there is no source.
     pub fn next_ask(&self) -> (Epoch, LogAsk)
         ensures { result ≡ ask_after self.now.state.gens self.now.tag self.now.applied }
     {

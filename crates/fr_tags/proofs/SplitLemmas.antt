@@ -23,7 +23,7 @@ first_met : (o : Option Mutation) (rest : List Mutation) (met : Bool) → nat_lt
 first_met None rest met e = e
 first_met (Some kept) rest met e = lt-ltb 0 (length (kept ∷ rest)) (omega arith)
 
--- a clip is filled exactly where some mutation meets the shard
+-- a clip is filled exactly if some mutation meets the shard
 pub filled_where_met : (mutations : List Mutation) (s : Shard) → nat_lt 0 (length (clipped mutations s)) ≡ list_any (λ mutation. meets mutation s) mutations
 filled_where_met [] s = refl
 filled_where_met (mutation ∷ mutations) s =

@@ -7,7 +7,7 @@ use Rattle.fr_base.specs.Same.{IsSameness}
 use Rattle.fr_mutation.specs.Equal.{is_same_batch, is_same_batch-IsSameness}
 use Rattle.fr_tags.specs.declared.body.Body.{Body}
 
--- the batch of a tag among bodies, where the tag has one
+-- the batch of a tag among bodies, if the tag has one
 abbrev pub batch_of : ℕ → List Body → Option (List Mutation)
 batch_of tag [] = None
 batch_of tag (b ∷ bs) = if b.tag == tag then Some b.batch else batch_of tag bs

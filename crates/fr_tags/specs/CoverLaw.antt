@@ -13,7 +13,7 @@ pub record AreDistinctLogs (m n : ℕ) (logs : List ℕ) : Type 0 where
 abbrev pub EachTagHasHolders : Type 0
 EachTagHasHolders = (t m k : ℕ) → k ≤ m → AreDistinctLogs m k (holders t m k)
 
--- a log holds a tag exactly where it is one of its holders
+-- a log holds a tag exactly if it is one of its holders
 abbrev pub HeldByHolders : Type 0
 HeldByHolders = (t m k log : ℕ) → IsTrue (is_held t m k log) ↔ Contains (holders t m k) log
 
@@ -22,13 +22,13 @@ abbrev pub CoveringMeetsEachTag : Type 0
 CoveringMeetsEachTag =
     (t m k : ℕ) (logs : List ℕ) → k ≤ m → IsTrue (covers m k logs) → (log : ℕ) × (log < m) × Contains logs log × IsTrue (is_held t m k log)
 
--- Where m - k logs or fewer have replied, all holders of a tag may be missing: for every tag, and for every number up to
+-- If m - k logs or fewer have replied, all holders of a tag may be missing: for every tag, and for every number up to
 -- m - k, there are so many distinct logs of which none holds the tag.
 abbrev pub FewerMayMissEachTag : Type 0
 FewerMayMissEachTag =
     (t m k n : ℕ) → n + k ≤ m → (logs : List ℕ) × AreDistinctLogs m n logs × All (λ log. is_held t m k log ≡ false) logs
 
--- of a tag's holders one is left where fewer than k of the m logs are lost
+-- of a tag's holders one is left if fewer than k of the m logs are lost
 abbrev pub HolderIsLeft : Type 0
 HolderIsLeft =
     (t m k : ℕ) (lost : List ℕ) → k ≤ m → log_count m lost < k → (log : ℕ) × (log < m) × IsTrue (is_held t m k log) × ¬ Contains lost log

@@ -32,7 +32,7 @@ shard_fault begins =
 abbrev pub shard_at : List (List ℕ) → ℕ → Shard
 shard_at begins t = record { begin = slice_index_or begins t []; end = slice_get begins (t + 1) }
 
--- the shard of tag t, where the map has that many
+-- the shard of tag t, if the map has that many
 abbrev pub shard_of : List (List ℕ) → ℕ → Option Shard
 shard_of begins t = if nat_lt t (length begins) then Some (shard_at begins t) else None
 

@@ -3,7 +3,7 @@ use fr_base::Memory as NoMemory;
 use thiserror::Error;
 
 /// Why begins make no shard map. They are tested in the order `Empty`, `TooMany`, `BeginTooLong`,
-/// `Uncovered`, `NotSorted`, and want of memory last.
+/// `Uncovered`, `NotSorted`, and `Memory` last.
 #[derive(Clone, Copy, Debug, PartialEq, Eq, Error)]
 pub enum ShardFault {
     /// A begin is not above the one before it.

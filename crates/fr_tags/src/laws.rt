@@ -5,7 +5,7 @@ ghost use Rattle.fr_tags.specs.SplitLaw.{EachLogHasItsBodies, EachLogIsServed, H
 
 use fr_mutation::{after_law, clip_law};
 
-/// Of the `m` logs of a generation each tag stands on `k`, so a set of more than `m - k` meets the
+/// Of the `m` logs of a generation each tag is on `k`, so a set of more than `m - k` meets the
 /// holders of every tag, and no smaller number suffices.
 pub fn cover_law()
     ensures holders { EachTagHasHolders }
@@ -25,16 +25,17 @@ pub fn shard_law()
     ensures rising { TagsRise }
 {}
 
-/// A split gives each of the `m` logs, of each tag that it holds, the batch clipped to the tag's shard:
-/// bodies as a push takes them, by strictly rising tags, and as a log of the generation takes a push.
+/// A split gives each of the `m` logs, of each tag that it holds, the batch clipped to the tag's shard.
+/// These are bodies as a push takes them, by strictly rising tags, and as a log of the generation takes
+/// a push.
 pub fn split_law()
     ensures served { EachLogIsServed }
     ensures bodies { EachLogHasItsBodies }
     ensures clips { HeldTagsHaveTheirClips }
 {}
 
-/// Who lets the clips of all batches to a shard act holds the shard's part of what the batches make,
-/// whether or not the clips that are empty act too.
+/// Applying the clips of all batches to a shard gives the shard's part of what the batches make,
+/// with or without the empty clips.
 pub fn shard_fold_law()
     ensures part { ClipsMakeThePart }
     ensures empty { ClipsMakeThePartFromNothing }

@@ -64,7 +64,7 @@ impl ShardMap {
         Ok(self.clone()?)
     }
 
-    /// The shard of a tag, where the map has that many. A tag that the map lacks takes no memory.
+    /// The shard of a tag, if the map has that many. A tag that the map lacks takes no memory.
     pub fn shard_of(&self, alloc: Global, tag: Tag) -> Result<Option<Shard>, Memory>
         ensures shard { IfOk result (λ shard. shard ≡ shard_of self.now tag) }
         ensures fits { IfOk result (λ shard. ForSome shard EndsFit) }

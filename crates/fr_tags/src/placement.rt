@@ -33,9 +33,8 @@ pub fn is_held(tag: Tag, m: u8, k: u8, log: u8) -> bool
     (0..k).any(|i| (tag.get() + i) % m == log)
 }
 
-/// Whether more than `m - k` of the `m` logs of a generation are among these; an index that stands
-/// there more than once, or is not below `m`, does not count again. A set of logs that covers has a
-/// holder of each tag.
+/// Whether more than `m - k` of the `m` logs of a generation are among these; an index counts once,
+/// and only if it is below `m`. A set of logs that covers has a holder of each tag.
 pub fn covers(m: u8, k: u8, logs: &[u8]) -> bool
     requires some { 1 ≤ k }
     requires fits { k ≤ m }

@@ -37,7 +37,7 @@ abbrev pub IsLeastOf : TailState → List ℕ → ℕ → Option (ℕ × ℕ) �
 IsLeastOf s taken n None = (u : ℕ) → u < n → length (part_at s u).records ≤ taken_of taken u
 IsLeastOf s taken n (Some (version, t)) = IsLeast s taken n version t
 
--- the least of those so far and one more, which stands behind where the versions are equal
+-- the least of those so far and one more, which comes behind if the versions are equal
 abbrev pub lesser_of : Option (ℕ × ℕ) → ℕ → ℕ → Option (ℕ × ℕ)
 lesser_of None version t = Some (version, t)
 lesser_of (Some (old, u)) version t = if nat_lt version old then Some (version, t) else Some (old, u)

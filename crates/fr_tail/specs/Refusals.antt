@@ -13,7 +13,7 @@ pub record TakesRoom (s : TailState) (log tag : ℕ) (peeked : PeekedContent) : 
   pub rises : peeked.after < peeked.upto
   pub some : 1 ≤ length (filter (λ r. nat_le r.version s.rv) peeked.records)
 
--- an answer is refused for this fault; want of memory is told only where it brings a record
+-- an answer is refused for this fault; `Memory` is told only if it brings a record
 abbrev pub IsRefusal : TailState → ℕ → ℕ → PeekedContent → TailFault → Type 0
 IsRefusal s log tag peeked NotResponder = heard s log tag peeked ≡ Err NotResponder
 IsRefusal s log tag peeked Hole = heard s log tag peeked ≡ Err Hole

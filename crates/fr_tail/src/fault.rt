@@ -11,7 +11,7 @@ pub enum TailFault {
     /// The answer begins above what is copied of the tag.
     #[error("Hole")]
     Hole,
-    /// The answer begins where the copy of the tag ends, and brings it no further.
+    /// The answer begins at the end of the copy of the tag, and brings it no further.
     #[error("ShortOfEnd")]
     ShortOfEnd,
     /// There is no memory.

@@ -3,7 +3,7 @@ ghost use Rattle.fr_tail.specs.Copied.{CompleteIsCopied, HearCopies, NewIsCopied
 ghost use Rattle.fr_tail.specs.Law.{CompleteStays, HearKeepsEnds};
 ghost use Rattle.fr_tail.specs.Refusals.{HoleIsAbove, NotResponderIsFirst, ShortIsEmpty};
 
-/// A copy keeps its ends, and stands still once it is complete.
+/// A copy keeps its ends, and does not change once it is complete.
 pub fn tail_law()
     ensures ends { HearKeepsEnds }
     ensures complete { CompleteStays }

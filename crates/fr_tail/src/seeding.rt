@@ -10,7 +10,7 @@ use fr_tags::{MAX_LOGS, MAX_SHARDS, is_held};
 use std::alloc::Global;
 
 impl Tail {
-    /// The seed of a log of the new generation, which has `m` logs on `k` of which each tag stands: the
+    /// The seed of a log of the new generation, which has `m` logs on `k` of which each tag is: the
     /// records of the log's tags above `pev` through `rv`, by version and then by tag. The tags are
     /// merged; each record costs one copy and a look at each tag.
     pub fn seeds_for(&self, alloc: Global, id: LogId, m: u8, k: u8) -> Result<Seed, Memory>

@@ -39,7 +39,7 @@ impl Model for Tail {
 
 impl Tail {
     /// A copy that heard nothing, of this many tags, from the logs of these numbers of a generation of
-    /// `m` logs on `k` of which each tag stands, of what is above `pev` through `rv`.
+    /// `m` logs on `k` of which each tag is, of what is above `pev` through `rv`.
     pub fn new(
         alloc: Global,
         tags: u8,
@@ -75,7 +75,7 @@ impl Tail {
 
     /// Hears what the log of this number answered to a peek of a tag. The records of an answer that goes
     /// on from what is copied are moved in, those above `rv` left out. An answer that begins below what
-    /// is copied changes nothing, whatever it brings; nor does any once the tag is complete.
+    /// is copied changes nothing, nor does any once the tag is complete.
     pub fn hear(&mut self, index: u8, tag: Tag, peeked: Peeked) -> Result<(), TailFault>
         ensures ok { IfOk result (λ _. heard self.old index tag peeked ≡ Ok self.new) }
         ensures refused { IfErr result (IsRefusal self.old index tag peeked) }
@@ -159,7 +159,7 @@ impl Tail {
         self.shape.m()
     }
 
-    /// On how many of these logs each tag stands.
+    /// On how many of these logs each tag is.
     pub fn k(&self) -> u8
         ensures value { result ≡ self.now.k }
         ensures sound { IsTail self.now }

@@ -25,7 +25,7 @@ abbrev pub row_of : ℕ → Map → List Commit → Place → Option (Option (Li
 row_of f m [] p = None
 row_of f m (commit ∷ commits) p = option_or (cond (nat_lt f commit.0) (row_at m commit.0 commit.1 p) None) (row_of f (after m commit.1) commits p)
 
--- those of a commit alone, where they are kept
+-- those of a commit alone, if they are kept
 get-kept : (m : Map) (commit : Commit) (b : Bool) (p : Place) → get {R = place_cmp} (cond b (rows m commit.0 commit.1) empty) p ≡ cond b (row_at m commit.0 commit.1 p) None
 get-kept m commit true p = get-rows m commit.0 commit.1 p
 get-kept m commit false p = get-empty place_cmp p

@@ -88,7 +88,7 @@ none_above (e ∷ es) key h =
     ap (λ b. cond b (Some e.1) (lookup (is_at (bytes_cmp key)) es)) (is_same-comm key e.0 ∙ ap is_eq h.0)
     ∙ none_above es key h.1
 
--- what is planned where keys stand in a list, and where they stand in a tree
+-- what is planned if keys are in a list, and if they are in a tree
 pub in_list : (plan : Plan) (q : List ℕ) → planned plan q ≡ option_or (lookup (is_at (bytes_cmp q)) plan.rising.items) (tree.get bytes_cmp plan.tree q)
 in_list plan q = lookup-append (is_at (bytes_cmp q)) plan.rising.items plan.tree.entries
 

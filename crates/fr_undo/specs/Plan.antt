@@ -39,12 +39,12 @@ abbrev pub change_by : Option (List ℕ) → Option (Option (List ℕ)) → Opti
 change_by held None = None
 change_by held (Some after) = Some (record { before = held; after = after })
 
--- what a key held, by what is planned of it, where it is to hold something else
+-- what a key held, by what is planned of it, if it is to hold something else
 abbrev pub row_planned : Option (List ℕ) → Option (Option (List ℕ)) → Option (Option (List ℕ))
 row_planned held None = None
 row_planned held (Some after) = before_if_changed held after
 
--- what is made of a value, or of none, where there is something that acts on it
+-- what is made of a value, or of none, if there is something that acts on it
 abbrev pub acted : {X : Type 0} → (X → Option (List ℕ) → Option (List ℕ)) → Option X → Option (List ℕ) → Option (List ℕ)
 acted act None old = old
 acted act (Some x) old = act x old
@@ -75,7 +75,7 @@ finished Stays now = now
 finished (Took before) now = now
 finished Leaves now = None
 
--- what a key held at first, where it holds something else at the end
+-- what a key held at first, if it holds something else at the end
 abbrev pub row_left : Fate → Option (List ℕ) → Option (Option (List ℕ))
 row_left Stays now = None
 row_left (Took before) now = Some before

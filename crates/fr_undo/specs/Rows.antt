@@ -38,7 +38,7 @@ rows_beyond rows f = filter (λ (row : Place × Option (List ℕ)). nat_lt f row
 abbrev pub AreThrough : RowList → ℕ → Type 0
 AreThrough rows t = (version : ℕ) (key : List ℕ) → IsSome (row_in rows (version, key)) → version ≤ t
 
--- rows with one before them, where there is one
+-- rows with one before them, if there is one
 abbrev pub with_row : Place → Option (Option (List ℕ)) → RowList → RowList
 with_row place None rows = rows
 with_row place (Some before) rows = (place, before) ∷ rows

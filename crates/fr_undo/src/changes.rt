@@ -45,7 +45,7 @@ pub(crate) fn changes_by(
 
 /// What a batch makes of each key on which it acts and that has, or is given, a value. Of the contents it
 /// looks up the keys that the batch names, and walks the ranges that it clears, merged, once; so a tree of
-/// these alone gives the same.
+/// only these keys may be given in its place.
 ///
 /// # Errors
 ///

@@ -21,7 +21,7 @@ use fr_mutation::Batch;
 use std::alloc::Global;
 use std::collections::{BTreeMap, VecDeque};
 
-/// Adds a row, where there is one, to rows that have room for it.
+/// Adds a row, if there is one, to rows that have room for it.
 fn put_row(rows: &mut VecDeque<Row>, place: (Version, Bytes), before: Option<Option<Bytes>>)
     requires { length rows.old.items < deque_capacity rows.old }
     ensures rows { rows.new.items ≡ rows.old.items ++ with_row place before [] }
@@ -52,7 +52,7 @@ fn settle(
     }
 }
 
-/// Applies a batch at a version above all rows: all of it, or nothing where memory is wanting.
+/// Applies a batch at a version above all rows: all of it, or nothing if memory runs out.
 pub(crate) fn extend(
     alloc: Global,
     contents: &mut BTreeMap<Bytes, Bytes>,

@@ -25,8 +25,8 @@ use std::mem::replace;
 /// Keys with what each is to hold: a value, or none.
 pub(crate) type Entries = Vec<(Bytes, Option<Bytes>)>;
 
-/// What each key is to hold: a value, or none. Keys that come in order stand in a list, which takes no
-/// search; with the first that does not, all move to a tree.
+/// What each key is to hold: a value, or none. Keys that come in order are kept in a list, which takes
+/// no search; with the first that does not, all move to a tree.
 #[derive(Drop)]
 pub(crate) struct Plan {
     rising: Entries,
@@ -45,7 +45,7 @@ impl Plan {
         }
     }
 
-    /// How a key compares to all of the plan, where they came in order, and else `Less`.
+    /// How a key compares to all of the plan, if they came in order, and else `Less`.
     fn order(&self, key: &Bytes) -> Ordering
         requires { IsPlan self.now }
         ensures next { (result ≡ Greater) → IsNext self.now key.now }

@@ -18,7 +18,7 @@ use std::collections::{BTreeMap, VecDeque};
 /// A place, which is a version and a key, and what the key held before that version.
 pub(crate) type Row = ((Version, Bytes), Option<Bytes>);
 
-/// How many rows, in the order of their places, are through a version. They stand before all others.
+/// How many rows, in the order of their places, are through a version. They come before all others.
 pub(crate) fn count_through(rows: &VecDeque<Row>, version: Version) -> usize
     requires { IsInOrder rows.now.items }
     ensures bound { result ≤ length rows.now.items }
@@ -28,7 +28,7 @@ pub(crate) fn count_through(rows: &VecDeque<Row>, version: Version) -> usize
     rows.partition_point(|row| row.0.0 <= version)
 }
 
-/// Gives room back where three quarters of it stand empty.
+/// Gives room back if three quarters of it are empty.
 fn give_back(rows: &mut VecDeque<Row>)
     ensures { rows.new.items ≡ rows.old.items }
 {
@@ -80,8 +80,8 @@ fn next(version: Version, later: Version) -> Version
 }
 
 /// What an undo to `version` makes of each key that has rows above it: each takes what its row of least
-/// version held. Of the contents it looks up these keys, and of the undo rows, by version and then by key,
-/// it walks those above; so trees of these alone give the same.
+/// version held. It looks up these keys in the contents, and walks the undo rows above `version`, by
+/// version and then by key. Trees with nothing else give the same.
 ///
 /// # Errors
 ///

@@ -20,8 +20,7 @@ pub(crate) enum Fate {
     Stays,
     /// It took its value, and held this before.
     Took(Option<Bytes>),
-    /// It is to lose its value. That wants no memory, and is left until all others took theirs, since to put
-    /// a key back would want some.
+    /// It is to lose its value. It is removed last: that takes no memory, and putting a key back would.
     Leaves,
 }
 
@@ -54,8 +53,8 @@ fn give_one(
     }
 }
 
-/// Gives the keys of a plan their values, and notes what became of each. Want of memory leaves a front of
-/// them with theirs.
+/// Gives the keys of a plan their values, and notes what became of each. Out of memory a front of
+/// them has theirs.
 fn give_all(
     contents: &mut BTreeMap<Bytes, Bytes>,
     plan: Entries,
@@ -110,9 +109,9 @@ fn take_back(contents: &mut BTreeMap<Bytes, Bytes>, fates: Vec<(Bytes, Fate)>)
     }
 }
 
-/// Carries a plan out as far as it can want memory, all of that or nothing: keys have the values that they
-/// are to hold, and those that are to hold none still have theirs. Each key is looked up once, and no value
-/// is copied.
+/// Carries a plan out as far as it can run out of memory, all of that or nothing: keys have the values that they
+/// are to hold, and those that are to hold none still have theirs. Each key is looked up once, and no value is
+/// copied.
 pub(crate) fn give_values(
     alloc: Global,
     contents: &mut BTreeMap<Bytes, Bytes>,
@@ -135,7 +134,7 @@ pub(crate) fn give_values(
     }
 }
 
-/// Takes a key's value away, if it is to lose it. Answers what the key held at first, where it holds
+/// Takes a key's value away, if it is to lose it. Answers what the key held at first, if it holds
 /// something else now.
 pub(crate) fn finish(
     contents: &mut BTreeMap<Bytes, Bytes>,

@@ -1,4 +1,4 @@
--- Where a list of events is left for want of memory.
+-- How far a list of events came when memory ran out.
 use Rattle.std.specs.Prelude.{◌≡◌, ◌⊎◌, ℕ, List, take, slice_get, Some, Ok, IsOk}
 use Rattle.fr_run.specs.Config.{Config}
 use Rattle.fr_run.specs.Turn.{Turn}
@@ -13,6 +13,6 @@ pub record CanHappenAt (c : Config) (events : List Event) (number : ℕ) : Type 
   pub there : slice_get events number ≡ Some event
   pub turn : IsOk (turn_of c turns event)
 
--- the start, which may want memory too, or an event that can happen
+-- the start, which may run out of memory too, or an event that can happen
 abbrev pub IsAtStartOrCanHappen : Config → List Event → ℕ → Type 0
 IsAtStartOrCanHappen c events number = (number ≡ 0) ⊎ CanHappenAt c events number

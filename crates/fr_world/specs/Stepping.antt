@@ -1,4 +1,4 @@
--- What stands in the way of an event.
+-- Why an event cannot happen.
 use Rattle.std.specs.Prelude.{◌≡◌, ◌≢◌, not, Option, None, Some, Result, Ok, Err, if◌then◌else◌, IfOk, IfErr, IsOk, unwrap_or}
 use Rattle.fr_base.specs.declared.place.NodeId.{NodeId}
 use Rattle.fr_run.specs.Turn.{Turn}
@@ -19,11 +19,11 @@ why_not_up w who = if not (is_there w.config w.turns who) then Some not_enabled.
 abbrev pub Steps : WorldState → WorldState → Event → Result Answer NotEnabled → Type 0
 Steps old new event result = IfOk result (λ answer. stepped old event ≡ Ok (new, answer))
 
--- a refusal is the one for which there is no turn; want of memory is answered only where there is one, since memory is tested last
+-- a refusal is the one for which there is no turn; `Memory` is answered only if there is one, as it is tested last
 abbrev pub RefusesTurn : {A : Type 0} → Result Turn NotEnabled → Result A NotEnabled → Type 0
 RefusesTurn turn result = IfErr result (λ why. (why ≢ not_enabled.Memory → turn ≡ Err why) × (why ≡ not_enabled.Memory → IsOk turn))
 
--- a refusal of an event is that of its definition; want of memory is answered only for an event that can happen
+-- a refusal of an event is that of its definition; `Memory` is answered only for an event that can happen
 abbrev pub Refuses : WorldState → Event → Result Answer NotEnabled → Type 0
 Refuses old event result = RefusesTurn (next_turn old event) result
 

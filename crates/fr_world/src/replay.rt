@@ -12,9 +12,9 @@ use std::alloc::Global;
 
 impl World {
     /// The world that a list of events makes from the start; or the number of the first event that cannot happen,
-    /// from 0 on, and why. Every list of events either is a run or is refused so. Want of memory is answered with the
-    /// number of an event that can happen after those before it, or with 0 where the start wants some. In each world
-    /// that it answers the main theorem holds, and all else that [`World::is_safe`] says.
+    /// from 0 on, and why. Every list of events either is a run or is refused so. `Memory` comes with the number of
+    /// an event that can happen after those before it, or with 0 if the start ran out of it. In each world that it
+    /// answers the main theorem holds, and all else that [`World::is_safe`] says.
     pub fn replay(
         alloc: Global,
         config: Config,

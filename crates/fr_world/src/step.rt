@@ -30,8 +30,8 @@ pub(crate) fn step(alloc: Global, nodes: &mut Nodes, event: &Event) -> Result<An
     answer
 }
 
-/// As [`step`], with no copy of a storage server: where the event cannot happen or memory is wanting the nodes
-/// are given up.
+/// As [`step`], with no copy of a storage server: if the event cannot happen or memory runs out the nodes are given
+/// up.
 pub(crate) fn step_owned(
     alloc: Global,
     nodes: &mut Nodes,

@@ -63,13 +63,10 @@ impl World {
         })
     }
 
-    /// Makes the turn that an event is: it answers what the turn gave, and adds it to what happened. An event that
-    /// cannot happen is refused, for the first of the reasons in the order of `NotEnabled`, and changes nothing; nor
-    /// does want of memory, which is answered only for an event that can happen. In the world that it leaves, a
-    /// storage server that has just rolled back holds exactly its shard of the map given by the committed batches
-    /// through its applied version, which is at most the recovery version, and no acknowledged commit is ever undone.
-    /// All else that is promised of it is what [`World::is_safe`] says; and its committed list begins with that of
-    /// the world before.
+    /// Makes the turn that an event is, adds it to what happened, and answers what it gave. An event that cannot
+    /// happen is refused, for the first reason in the order of `NotEnabled`, and changes nothing. Out of memory it
+    /// changes nothing either; that is answered only for an event that can happen. [`World::is_safe`] says what is
+    /// promised of the world that it leaves, whose committed list begins with that of the world before.
     pub fn step(&mut self, alloc: Global, event: &Event) -> Result<Answer, NotEnabled>
         ensures turn { Steps self.old self.new event.now result }
         ensures refused { Refuses self.old event.now result }
@@ -83,9 +80,9 @@ impl World {
         step(alloc, &mut self.nodes, event)
     }
 
-    /// As [`World::step`], of a world that is given up where the event cannot happen or memory is wanting: so no hear of a
-    /// storage server needs a copy of it, and an event costs what it touches. What [`World::is_safe`] says holds of the
-    /// world that it answers, as of every other.
+    /// As [`World::step`], of a world that is given up if the event cannot happen or memory runs out. So no hear of a
+    /// storage server needs a copy of it, and an event costs what it touches. What [`World::is_safe`] says holds of
+    /// the world that it answers, as of every other.
     pub fn step_owned(self, alloc: Global, event: &Event) -> Result<(World, Answer), NotEnabled>
         ensures turn { IfOk result (λ next. stepped self event.now ≡ Ok (next.0, next.1)) }
         ensures refused { RefusesTurn (next_turn self event.now) result }
@@ -95,10 +92,11 @@ impl World {
         Ok((World { nodes }, answer))
     }
 
-    /// Says what is promised of every world, and does nothing: the order of versions, that every storage server follows,
-    /// also one that ran ahead, skipped epochs or broke off a hear, that one which has just rolled back holds exactly
-    /// its shard of what is committed, that no acknowledged commit is ever undone, and that what is committed can be
-    /// retrieved while fewer than k logs of each generation are lost.
+    /// Says what is promised of every world, and does nothing. Versions are in order. Every storage server follows,
+    /// also one that ran ahead, skipped epochs or broke off a hear. One that has just rolled back holds exactly its
+    /// shard of the map given by the committed batches through its applied version, which is at most the recovery
+    /// version. No acknowledged commit is ever undone. What is committed can be retrieved while fewer than k logs of
+    /// each generation are lost.
     pub fn is_safe(&self)
         ensures { IsSafe self.now.config self.now.turns }
     {
@@ -140,7 +138,7 @@ impl World {
         self.nodes.was_told(by, to, tell)
     }
 
-    /// The storage server of a tag; None where there is no such shard.
+    /// The storage server of a tag; None if there is no such shard.
     pub fn storage(&self, tag: Tag) -> Option<&Storage<MapStore>>
         ensures there { is_some result ≡ nat_lt tag (length self.now.config.begins) }
         ensures server { IfSome result (λ s. server_of s.now ≡ nodes.storage_at self.now.config self.now.turns tag) }
@@ -149,21 +147,21 @@ impl World {
         self.nodes.storage(tag)
     }
 
-    /// The recoverer of a ballot, from its begin on, also where it is gone.
+    /// The recoverer of a ballot, from its begin on, also if it is gone.
     pub fn recoverer(&self, ballot: Ballot) -> Option<&Recoverer>
         ensures { option_map (λ r. r.now) result ≡ nodes.rec_at self.now.config self.now.turns ballot }
     {
         self.nodes.recoverer(ballot)
     }
 
-    /// A proxy as it stands, also where it is gone: an equal one. None where it is not there.
+    /// A proxy as it is now, also if it is gone: an equal one. None if it is not there.
     pub fn proxy(&self, epoch: Epoch, number: u8) -> Result<Option<Proxy>, Memory>
         ensures { IfOk result (λ proxy. proxy ≡ proxy_if_there self.now.config self.now.turns epoch number) }
     {
         self.nodes.proxy(epoch, number)
     }
 
-    /// What others see of a node's last state: of one that is gone, the last that it had. None where it is not there.
+    /// What others see of a node's last state: of one that is gone, the last that it had. None if it is not there.
     /// The rows of a storage server are copied.
     pub fn last_of(&self, alloc: Global, node: NodeId) -> Result<Option<Last>, Memory>
         ensures { IfOk result (λ last. last ≡ last_at self.now.config self.now.turns node) }

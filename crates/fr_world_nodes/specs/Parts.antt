@@ -19,7 +19,7 @@ use Rattle.fr_run.specs.Nodes.{cell_at, rec_at, log_at, logs_at, new_log, seq_at
 use Rattle.fr_run.specs.Run.{IsRun}
 use Rattle.fr_run_event.specs.ConfigLimits.{IsWithin}
 
--- logs and proxies stand under their epoch and their number there
+-- logs and proxies are under their epoch and their number there
 abbrev pub pair_cmp : ℕ × ℕ → ℕ × ℕ → Ordering
 pair_cmp p q = ordering_then (nat_cmp p.0 q.0) (nat_cmp p.1 q.1)
 

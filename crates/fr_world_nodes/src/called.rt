@@ -1,4 +1,4 @@
-//! The turns of proxies, of which the parts are at hand.
+//! Makes the turns of proxies.
 ghost use Rattle.std.specs.Prelude.{◌≡◌, ◌<◌, ◌∷◌, [], IfOk};
 ghost use Rattle.std.specs.Vec.{vec_len, vec_capacity};
 ghost use Rattle.fr_base.specs.declared.place.NodeId.TheVariants as node;
@@ -12,14 +12,14 @@ use fr_proxy::Outcome;
 use fr_world_turns::Turn;
 use std::alloc::Global;
 
-/// A node, to be named twice.
+/// An equal node, to be named twice.
 pub fn again(node: &NodeId) -> NodeId
     ensures { result ≡ node.now }
 {
     *node
 }
 
-/// The turn of a proxy that heard a tell.
+/// The turn in which a proxy heard a tell.
 pub fn heard(
     epoch: Epoch,
     proxy: u8,
@@ -40,7 +40,7 @@ pub fn heard(
     }
 }
 
-/// Room for one ask.
+/// A list with room for one ask.
 pub fn room(alloc: Global) -> Result<Vec<(NodeId, Ask)>, Memory>
     ensures empty { IfOk result (λ asks. asks.items ≡ []) }
     ensures room { IfOk result (λ asks. vec_len asks < vec_capacity asks) }
@@ -50,7 +50,7 @@ pub fn room(alloc: Global) -> Result<Vec<(NodeId, Ask)>, Memory>
     Ok(asks)
 }
 
-/// The turn of a proxy that took a batch, and asks its sequencer.
+/// The turn in which a proxy took a batch and asked its sequencer.
 pub fn taken(
     epoch: Epoch,
     proxy: u8,

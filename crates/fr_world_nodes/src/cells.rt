@@ -8,7 +8,7 @@ use fr_base::{Machine, Memory};
 use fr_register::{Cell, CellAsk, CellTell};
 use std::alloc::Global;
 
-/// Asks a cell. Want of memory changes nothing.
+/// Asks a cell. Out of memory it changes nothing.
 pub fn ask_cell(
     alloc: Global,
     cells: &mut Vec<Cell>,

@@ -1,5 +1,5 @@
-//! The nodes of a world as it keeps them, by their names: what each ask and each tell makes of them, what they start
-//! as, and what it is that they are those of what happened. A world is made of them in the crate above.
+//! The nodes of a world as it keeps them, by their names. Here is what each ask and each tell makes of them, what
+//! they start as, and what it means that they are those of what happened. A world is made of them in the crate above.
 #![tactic(auto)]
 
 pub mod called;

@@ -12,7 +12,7 @@ use fr_log::{Log, LogAsk, LogTell};
 use std::alloc::Global;
 use std::collections::BTreeMap;
 
-/// Keeps a log that was made now, where none is kept at its place. Want of memory changes nothing.
+/// Keeps a log that was made now, at a place where none is kept. Out of memory it changes nothing.
 pub fn keep_log(
     logs: &mut BTreeMap<(Epoch, u8), Log>,
     id: (Epoch, u8),
@@ -29,7 +29,7 @@ pub fn keep_log(
     }
 }
 
-/// Asks a log that was made: it lets nothing go, which no tell shows. Want of memory changes nothing.
+/// Asks a log that was made: it lets nothing go, which no tell shows. Out of memory it changes nothing.
 pub fn ask_log(
     alloc: Global,
     logs: &mut BTreeMap<(Epoch, u8), Log>,
@@ -51,7 +51,7 @@ pub fn ask_log(
     }
 }
 
-/// Asks a log. Want of memory changes nothing.
+/// Asks a log. Out of memory it changes nothing.
 fn ask(alloc: Global, log: &mut Log, ask: LogAsk) -> Result<Told<LogTell>, Memory>
     ensures kept { IfOk result (λ told. told.kept ≡ answer_of log.old ask) }
     ensures handed { IfOk result (λ told. told.handed ≡ answer_of log.old ask) }

@@ -13,7 +13,7 @@ use fr_proxy::Proxy;
 use fr_tags::ShardMap;
 use std::alloc::Global;
 
-/// How many logs the generation of a recoverer has by now.
+/// How many logs the generation of a recoverer has by now: none before all is copied.
 pub fn logs_in(recoverer: &Recoverer) -> u8
     ensures { result ≡ nodes.logs_in recoverer.now.plan }
 {

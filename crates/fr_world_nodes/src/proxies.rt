@@ -14,7 +14,7 @@ use fr_run_event::NotEnabled;
 use std::alloc::Global;
 use std::collections::BTreeMap;
 
-/// Keeps a proxy that was made now, where none is kept at its place. Want of memory changes nothing.
+/// Keeps a proxy that was made now, at a place where none is kept. Out of memory it changes nothing.
 pub fn keep_proxy(
     proxies: &mut BTreeMap<(Epoch, u8), Proxy>,
     id: (Epoch, u8),
@@ -65,7 +65,7 @@ fn give(proxy: &mut Proxy, step: Step, batch: Batch) -> Ask
     }
 }
 
-/// Tells a proxy that was made. Want of memory changes nothing.
+/// Tells a proxy that was made. Out of memory it changes nothing.
 pub fn tell_proxy(
     alloc: Global,
     proxies: &mut BTreeMap<(Epoch, u8), Proxy>,

@@ -12,7 +12,7 @@ use fr_epoch::Recoverer;
 use std::alloc::Global;
 use std::collections::BTreeMap;
 
-/// Keeps a recoverer that begins, where none is kept under its ballot. Want of memory changes nothing.
+/// Keeps a recoverer that begins, under a ballot that has none. Out of memory it changes nothing.
 pub fn keep_recoverer(
     recoverers: &mut BTreeMap<Ballot, Recoverer>,
     ballot: Ballot,
@@ -30,7 +30,7 @@ pub fn keep_recoverer(
     }
 }
 
-/// Tells a recoverer that began. Want of memory changes nothing.
+/// Tells a recoverer that began. Out of memory it changes nothing.
 pub fn tell_recoverer(
     alloc: Global,
     recoverers: &mut BTreeMap<Ballot, Recoverer>,

@@ -10,8 +10,8 @@ use fr_proxy::Sequencer;
 use std::alloc::Global;
 use std::collections::BTreeMap;
 
-/// Asks the sequencer of an epoch, which begins after this version where it is asked for the first time. Want of
-/// memory changes nothing.
+/// Asks the sequencer of an epoch, which begins after this version if it is asked for the first time. Out of memory
+/// it changes nothing.
 pub fn ask_sequencer(
     alloc: Global,
     sequencers: &mut BTreeMap<Epoch, Sequencer>,

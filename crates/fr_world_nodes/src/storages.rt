@@ -27,7 +27,7 @@ pub struct Heard {
     pub fault: Option<StorageFault>,
 }
 
-/// What a tell makes of a server, which itself stands: only what a log tells reaches it.
+/// A copy of the server after a tell, which changes it only if a log told it. The server itself is unchanged.
 pub fn tell_server(
     alloc: Global,
     server: &Storage<MapStore>,
@@ -44,7 +44,7 @@ pub fn tell_server(
     Ok(Heard { server, fault })
 }
 
-/// As [`tell_server`], with no copy of the server: want of memory may leave it failed, with a part of what it heard.
+/// As [`tell_server`], with no copy of the server: out of memory it may be left failed, with a part of what it heard.
 pub fn tell_in_place(
     alloc: Global,
     server: &mut Storage<MapStore>,
@@ -62,8 +62,8 @@ pub fn tell_in_place(
     }
 }
 
-/// Tells a server what a log of an epoch told it, and answers why it refuses that. Want of memory may leave it
-/// failed.
+/// Tells a server what a log of an epoch told it, and answers why it refuses that. Out of memory the server may be
+/// left failed.
 fn hear(
     alloc: Global,
     server: &mut Storage<MapStore>,
@@ -85,7 +85,7 @@ fn hear(
     }
 }
 
-/// Why a hear was refused, where memory was not wanting.
+/// Why a hear was refused, unless it ran out of memory.
 fn refusal(heard: Result<(), StorageFault>) -> Result<Option<StorageFault>, Memory>
     ensures refusal { IfOk result (λ fault. fault ≡ refusal_of heard) }
     ensures ok { OnOk result (met_store heard ≡ false) }
@@ -120,7 +120,8 @@ fn breaks_in(server: &Storage<MapStore>, epoch: Epoch, tell: &LogTell, version: 
     }
 }
 
-/// What a tell makes of a server where the hear breaks off at a version at which it can; the server itself stands.
+/// A copy of the server after a tell, where the hear breaks off at a version at which it can. The server itself is
+/// unchanged.
 pub fn break_server(
     alloc: Global,
     server: &Storage<MapStore>,
@@ -138,7 +139,8 @@ pub fn break_server(
     Ok(server)
 }
 
-/// As [`break_server`], with no copy of the server: want of memory may leave it failed, with a part of what it heard.
+/// As [`break_server`], with no copy of the server: out of memory it may be left failed, with a part of what it
+/// heard.
 pub fn break_in_place(
     alloc: Global,
     server: &mut Storage<MapStore>,
@@ -158,8 +160,8 @@ pub fn break_in_place(
     }
 }
 
-/// Tells a server what a node told it, and breaks off at a version; answers whether it can. Want of memory may
-/// leave it failed.
+/// Tells a server what a node told it, and breaks off at a version; answers whether it can. Out of memory the server
+/// may be left failed.
 fn break_from(
     alloc: Global,
     server: &mut Storage<MapStore>,
@@ -180,8 +182,8 @@ fn break_from(
     }
 }
 
-/// Tells a server what a log of an epoch told it, and breaks off at a version; answers whether it can. Want of
-/// memory may leave it failed.
+/// Tells a server what a log of an epoch told it, and breaks off at a version; answers whether it can. Out of memory
+/// the server may be left failed.
 fn break_off(
     alloc: Global,
     server: &mut Storage<MapStore>,
@@ -201,7 +203,7 @@ fn break_off(
     }
 }
 
-/// Whether a hear broke off at a version, where memory was not wanting: one that is refused does not.
+/// Whether a hear broke off at a version, unless it ran out of memory: one that is refused does not.
 fn broken(heard: Result<bool, StorageFault>) -> Result<bool, Memory>
     ensures ok { OnOk result (met_store heard ≡ false) }
     ensures found { IfOk result (λ found. found ≡ (not (is_some (refusal_of heard)) && is_ok_true heard)) }
@@ -225,8 +227,8 @@ pub fn last_of_copy(alloc: Global, server: &Storage<MapStore>) -> Result<Last, M
     }
 }
 
-/// Whether an ask is one that storage servers may give at any time: for a mark, for records of the own tag, and to let go
-/// of these through the floor, of a generation that the server has.
+/// Whether an ask is one that storage servers may give at any time: for a mark, for records of the own tag, or to let
+/// go of these through the floor. The last is of a generation that the server has.
 pub fn storage_may_ask(
     config: &Config,
     servers: &[Storage<MapStore>],

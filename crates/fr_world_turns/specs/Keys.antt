@@ -28,11 +28,11 @@ use Rattle.fr_world_turns.specs.Places.{Key}
 abbrev pub joined : ℕ → ℕ → ℕ → ℕ
 joined first factor second = ((first * factor) % 2 ^ 64 + second) % 2 ^ 64
 
--- a node of a kind, of an epoch or a ballot where it has one, and its place there
+-- a node of a kind, of an epoch or a ballot if it has one, and its place there
 abbrev pub node_of : ℕ → ℕ → ℕ → ℕ
 node_of kind epoch place = joined (joined epoch 256 place) 8 kind
 
--- a node as a number: no two have one, where epochs and ballots are below 2^53
+-- a node as a number: no two have one, if epochs and ballots are below 2^53
 abbrev pub node_number : NodeId → ℕ
 node_number (node.Cell i) = node_of 0 0 i
 node_number (node.Log e i) = node_of 1 e i
@@ -52,7 +52,7 @@ spread word n = joined word 11400714819323198485 n
 abbrev pub word_number : WordRow → ℕ
 word_number w = spread (spread (spread (spread w.0 w.1) w.2) w.3) w.4
 
--- what differs most often stands first, so that two keys are mostly told apart by their first numbers
+-- what differs most often comes first, so that two keys are mostly told apart by their first numbers
 abbrev pub key_of : NodeId → NodeId → WordRow → Key
 key_of from to w = (word_number w, node_number to, node_number from)
 

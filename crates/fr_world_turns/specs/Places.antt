@@ -8,7 +8,7 @@ use Rattle.std.specs.BTreeMap.{BTreeMap}
 use Rattle.fr_world_turns.specs.declared.places.Found.{Found}
 use Rattle.fr_world_turns.specs.declared.places.Found.TheVariants.{One, Several}
 
--- a key is three numbers, and keys stand in the order of them
+-- a key is three numbers, and keys are in the order of them
 abbrev pub Key : Type 0
 Key = ℕ × ℕ × ℕ
 
@@ -43,7 +43,7 @@ Grows m n = (k : Key) (f : ℕ → Bool) → list_any f (under m k) ≡ true →
 abbrev pub IsAmong : ℕ → List ℕ → Type 0
 IsAmong place places = (f : ℕ → Bool) → f place ≡ true → list_any f places ≡ true
 
--- a place stands under a key
+-- a place is under a key
 abbrev pub IsUnder : Places → Key → ℕ → Type 0
 IsUnder m k place = (f : ℕ → Bool) → f place ≡ true → list_any f (under m k) ≡ true
 

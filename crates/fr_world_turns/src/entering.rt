@@ -14,7 +14,7 @@ use fr_ask::Ask;
 use fr_base::{Memory, NodeId};
 use std::alloc::Global;
 
-/// Enters the turns that are not entered yet, oldest first. Where there is no memory, those before are entered.
+/// Enters the turns that are not entered yet, oldest first. If there is no memory, those before are entered.
 pub(crate) fn enter_rest(
     alloc: Global,
     turns: &[Turn],
@@ -98,7 +98,7 @@ fn enter_asks(
     Ok(())
 }
 
-/// Enters a turn under the key of an ask that it gave, where no turn stands there that gave it.
+/// Enters a turn under the key of an ask that it gave, if no turn is there that gave it.
 fn enter_ask(
     alloc: Global,
     turns: &[Turn],
@@ -119,7 +119,7 @@ fn enter_ask(
     add(alloc, places, &key, place)
 }
 
-/// Enters a turn under the key of what was told in it, where no turn stands there in which it was told.
+/// Enters a turn under the key of what was told in it, if no turn is there in which it was told.
 fn enter_tell(
     alloc: Global,
     turns: &[Turn],

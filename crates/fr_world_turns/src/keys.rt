@@ -1,5 +1,5 @@
 //! Keys of what happened: what one node asked or told another, and the two nodes, each as one number. Equal ones have
-//! one key; different ones may, so what stands under a key is looked at.
+//! one key; different ones may, so what is under a key is looked at.
 ghost use Rattle.std.specs.Prelude.{◌≡◌};
 ghost use Rattle.fr_world_turns.specs.Keys as keys;
 ghost use Rattle.fr_world_turns.specs.Turns.{turn_of};
@@ -67,7 +67,7 @@ fn word_number(word: WordRow) -> u64
     joined(four, SPREAD, word.4)
 }
 
-/// A node as a number. No two have one, where epochs and ballots are below 2^53.
+/// A node as a number. No two have one, if epochs and ballots are below 2^53.
 fn node_number(node: &NodeId) -> u64
     ensures { result ≡ keys.node_number node.now }
 {
@@ -81,7 +81,7 @@ fn node_number(node: &NodeId) -> u64
     }
 }
 
-/// A node of a kind, of an epoch or a ballot where it has one, and its place there.
+/// A node of a kind, of an epoch or a ballot if it has one, and its place there.
 fn node_of(kind: u64, epoch: u64, place: u8) -> u64
     ensures { result ≡ keys.node_of kind epoch place }
 {

@@ -32,7 +32,7 @@ pub(crate) fn under<'a>(places: &'a Places, key: &Key) -> &'a [usize]
     }
 }
 
-/// Enters a place under a key. What was under each key stays there, also where there is no memory.
+/// Enters a place under a key. What was under each key stays there, also if there is no memory.
 pub(crate) fn add(alloc: Global, places: &mut Places, key: &Key, place: usize) -> Result<(), Memory>
     ensures grows { Grows places.old places.new }
     ensures there { OnOk result (IsUnder places.new key.now place) }
@@ -54,7 +54,7 @@ fn add_first(places: &mut Places, key: &Key, place: usize) -> Result<(), Memory>
 }
 
 impl Found {
-    /// Adds a place. Those that are there stay, also where there is no memory.
+    /// Adds a place. Those that are there stay, also if there is no memory.
     fn add(&mut self, alloc: Global, place: usize) -> Result<(), Memory>
         ensures keeps { Keeps (found_at self.old) (found_at self.new) }
         ensures there { OnOk result (IsAmong place (found_at self.new)) }

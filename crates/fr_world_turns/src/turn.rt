@@ -18,7 +18,7 @@ use fr_storage::StorageFault;
 /// One turn of one node, with what it gave.
 #[derive(Debug, Drop)]
 pub enum Turn {
-    /// A recoverer began, to open a generation of this shape, or where none is given one of the shape that the one
+    /// A recoverer began, to open a generation of this shape, or if none is given one of the shape that the one
     /// before has.
     Begun {
         ballot: Ballot,
@@ -82,7 +82,7 @@ pub enum Turn {
     Gone {
         node: NodeId,
     },
-    /// Another node crashed, and stands as it was.
+    /// Another node crashed, and is as it was.
     Crashed {
         node: NodeId,
     },
@@ -127,7 +127,7 @@ impl Turn {
         }
     }
 
-    /// Whether it took a node away.
+    /// Whether it takes a node away for good.
     pub fn takes_away(&self, node: NodeId) -> bool
         ensures { result ≡ tests.goes node (turn_of self.now) }
     {
@@ -194,8 +194,8 @@ impl Turn {
         })
     }
 
-    /// Whether its node told in it what a node told in another turn, where the two turns are of one node and both
-    /// tells went to one.
+    /// Whether its node told in it what a node told in another turn, if the two turns are of one node and both tells
+    /// went to one.
     pub(crate) fn retells(&self, other: &Turn) -> bool
         ensures { result ≡ retells (turn_of self.now) (turn_of other.now) }
     {

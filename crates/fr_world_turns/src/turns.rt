@@ -51,7 +51,7 @@ impl Turns {
         }
     }
 
-    /// Makes room for one turn more. Want of memory changes no turn.
+    /// Makes room for one turn more. Out of memory it changes no turn.
     pub fn reserve(&mut self) -> Result<(), Memory>
         ensures turns { self.new.turns ≡ self.old.turns }
         ensures room { OnOk result (1 ≤ self.new.room) }
@@ -68,7 +68,7 @@ impl Turns {
         self.turns.push_reserved(turn);
     }
 
-    /// Enters the turns that were added, so that none of them has to be looked at to find another. Want of memory
+    /// Enters the turns that were added, so that none of them has to be looked at to find another. Out of memory it
     /// leaves those entered for which there was memory.
     pub fn catch_up(&mut self, alloc: Global) -> Result<(), Memory>
         ensures { self.new ≡ self.old }

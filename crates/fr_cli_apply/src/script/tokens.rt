@@ -13,7 +13,7 @@ use fr_cli_json::tokens::{
 use json::{Reader, Scratch};
 use std::alloc::Global;
 
-/// Reads the script that an input is, where it has the usual form.
+/// Reads the script that an input is, if it has the usual form.
 pub(crate) fn read_script(alloc: Global, input: &[u8]) -> Result<Vec<Planned>, Unread>
     ensures { IfOk result (λ script. plan_of input.now ≡ Some script.items) }
 {

@@ -114,7 +114,7 @@ fn number_and_push(
     }
 }
 
-/// Asks for the number of the batch that a proxy just took, and has the proxy hear it; none where no number is given.
+/// Asks for the number of the batch that a proxy just took, and has the proxy hear it; none if no number is given.
 fn number(alloc: Global, world: &mut World, by: &NodeId) -> Result<Option<Version>, Memory> {
     let Some((to, ask)) = number_ask(world) else {
         return Ok(None);
@@ -122,7 +122,7 @@ fn number(alloc: Global, world: &mut World, by: &NodeId) -> Result<Option<Versio
     number_in(ask_and_hear(alloc, world, by, &to, Ask::Seq(ask)))
 }
 
-/// The number that was told, where the ask for one came to its sequencer.
+/// The number that was told, if the ask for one came to its sequencer.
 fn number_in(done: Result<Option<Exchange>, Memory>) -> Result<Option<Version>, Memory> {
     match done {
         Ok(Some(done)) => Ok(done.number),
@@ -139,7 +139,7 @@ fn number_ask(world: &World) -> Option<(NodeId, SeqAsk)> {
     }
 }
 
-/// Pushes a batch to the listed logs, where its number was heard in the last turn, which then gave the pushes.
+/// Pushes a batch to the listed logs, if its number was heard in the last turn, which then gave the pushes.
 fn push_new(alloc: Global, world: &mut World, by: &NodeId, logs: &[u8]) -> Result<Said, Memory> {
     let mut asks = last_asks(alloc, world)?;
     push_to(alloc, world, by, &mut asks, logs)

@@ -81,7 +81,7 @@ fn peek_tag(
     Ok(is_new)
 }
 
-/// Makes the peek of a tag to a log, where it is pending; answers whether it brought something new: then this peek is no
+/// Makes the peek of a tag to a log, if it is pending; answers whether it brought something new: then this peek is no
 /// longer pending.
 fn peek_log(
     alloc: Global,
@@ -124,7 +124,7 @@ fn has_come(done: Result<Option<Exchange>, Memory>) -> Result<bool, Memory> {
     }
 }
 
-/// The peeks that a recoverer has pending, where it is to copy something.
+/// The peeks that a recoverer has pending, if it is to copy something.
 fn peeks_of(alloc: Global, world: &World, ballot: Ballot) -> Result<Vec<(NodeId, Ask)>, Memory> {
     if is_copying(world, ballot) {
         pending_of(alloc, world, ballot)
@@ -144,7 +144,7 @@ fn is_copying(world: &World, ballot: Ballot) -> bool {
     }
 }
 
-/// The peek of a tag to a log, where it is among these asks.
+/// The peek of a tag to a log, if it is among these asks.
 fn peek_in(asks: &[(NodeId, Ask)], wanted: Tag, log: u8) -> Option<Peek> {
     for asked in asks {
         if let Some(peek) = peek_of(asked) {
@@ -156,7 +156,7 @@ fn peek_in(asks: &[(NodeId, Ask)], wanted: Tag, log: u8) -> Option<Peek> {
     None
 }
 
-/// An ask as a peek, where it is one.
+/// An ask as a peek, if it is one.
 fn peek_of(asked: &(NodeId, Ask)) -> Option<Peek> {
     match asked {
         (

@@ -34,7 +34,7 @@ pub(crate) fn line_of(alloc: Global, world: &mut World, push: &Push) -> Result<S
     line_after(alloc, push.epoch.get(), push.proxy, said)
 }
 
-/// The line of a batch of which this was said at its version; of none where none is open.
+/// The line of a batch of which this was said at its version; of none if none is open.
 fn line_after(
     alloc: Global,
     epoch: u64,
@@ -51,7 +51,7 @@ fn line_after(
     }
 }
 
-/// Pushes the open batch of a proxy, and gives its version; none where the proxy has none open, is not there or is gone.
+/// Pushes the open batch of a proxy, and gives its version; none if the proxy has none open, is not there or is gone.
 fn push_open(
     alloc: Global,
     world: &mut World,
@@ -69,7 +69,7 @@ fn push_open(
     Ok(Some((version, said)))
 }
 
-/// The asks that a proxy has pending; none where it is not there or is gone.
+/// The asks that a proxy has pending; none if it is not there or is gone.
 fn pending_of(
     alloc: Global,
     world: &World,
@@ -95,8 +95,9 @@ fn version_in(asks: &[(NodeId, Ask)]) -> Option<Version> {
     None
 }
 
-/// Delivers those of a proxy's pushes that go to these logs, and has the proxy hear each tell, up to one by which the batch
-/// is committed or ended: until then the pushes to the other logs stay as they are, and from then on none is pending.
+/// Delivers those of a proxy's pushes that go to these logs, and has the proxy hear each tell, up to one by which the
+/// batch is committed or ended. Until then the pushes to the other logs stay as they are, and from then on none is
+/// pending.
 pub(crate) fn push_to(
     alloc: Global,
     world: &mut World,
@@ -113,7 +114,7 @@ pub(crate) fn push_to(
     Ok(Said::Waiting)
 }
 
-/// Delivers the push to a log, where it is among the asks.
+/// Delivers the push to a log, if it is among the asks.
 fn push_one(
     alloc: Global,
     world: &mut World,
@@ -127,7 +128,7 @@ fn push_one(
     }
 }
 
-/// What the proxy said at a push, where that came to its log.
+/// What the proxy said at a push, if that came to its log.
 fn said_in(done: Result<Option<Exchange>, Memory>) -> Result<Said, Memory> {
     match done {
         Ok(Some(done)) => Ok(said_by(&done.outcome)),

@@ -10,9 +10,9 @@ use fr_simulate_script::Recover;
 use fr_world::World;
 use std::alloc::Global;
 
-/// Has the recoverer of a ballot begin, where the ballot is new, with the shape that is given, and then asks for it what
-/// its phases lack: the listed cells and logs, all that is to be copied, and all new logs to be seeded. A recoverer that
-/// began before keeps the shape that it began with.
+/// Has the recoverer of a ballot begin, if the ballot is new, with the shape that is given. Then it asks for it what
+/// its phases lack: the listed cells and logs, all that is to be copied, and all new logs to be seeded. A recoverer
+/// that began before keeps the shape that it began with.
 pub(crate) fn line_of(
     alloc: Global,
     world: &mut World,
@@ -102,7 +102,7 @@ fn ask_these(
     Ok(())
 }
 
-/// Makes the ask for this to the cell or the log of this number, where it is among these.
+/// Makes the ask for this to the cell or the log of this number, if it is among these.
 fn ask_one(
     alloc: Global,
     world: &mut World,

@@ -1,5 +1,5 @@
-//! The steps `pull`, `mark` and `pop`: a storage server asks a log for something, and hears in place what it is told: where
-//! memory is wanting the world is given up, so that no hear needs a copy of the server.
+//! The steps `pull`, `mark` and `pop`: a storage server asks a log for something, and hears in place what it is told.
+//! If memory runs out the world is given up, so no hear needs a copy of the server.
 ghost use Rattle.std.specs.Prelude.{◌≡◌, None, IfOk, IsOk};
 ghost use Rattle.fr_base.specs.declared.place.NodeId.TheVariants as node;
 ghost use Rattle.fr_run_event.specs.Step.{turn_of};
@@ -137,7 +137,7 @@ fn popped_line(alloc: Global, pop: &Pull, through: Version) -> Result<String, Me
     Ok(format!(in alloc; "pop {tag} {epoch} {through}\n")?)
 }
 
-/// The line of where the storage server stands.
+/// The line of the storage server's state.
 fn stands_line(alloc: Global, world: &World, wish: Wish, pull: &Pull) -> Result<String, Memory> {
     match world.storage(pull.storage) {
         Some(storage) => {
@@ -212,7 +212,7 @@ fn ask_in_place(
     }
 }
 
-/// What a log tells a storage server that asks it, where the server can hear that.
+/// What a log tells a storage server that asks it, if the server can hear that.
 fn tell_for(
     alloc: Global,
     world: &mut World,
@@ -230,7 +230,7 @@ fn tell_for(
     }
 }
 
-/// Why a storage server does not hear what another node told it; none where it does.
+/// Why a storage server does not hear what another node told it; none if it does.
 fn why_unheard(world: &World, tag: Tag, from: &NodeId, tell: &Tell) -> Option<NotEnabled>
     ensures { result ≡ None → IsOk (turn_of world.now.config world.now.turns (event.Hear (node.Storage tag) from.now tell.now None)) }
 {
@@ -245,7 +245,7 @@ fn why_unheard(world: &World, tag: Tag, from: &NodeId, tell: &Tell) -> Option<No
     }
 }
 
-/// Has a storage server hear in place what it can hear, for which memory alone may be wanting.
+/// Has a storage server hear in place what it can hear. The only fault is to run out of memory.
 fn hear_in_place(
     alloc: Global,
     world: World,
@@ -268,7 +268,7 @@ fn hear_in_place(
     }
 }
 
-/// Want of memory, where that alone can be why.
+/// `Memory`, if that alone can be why.
 fn memory_in(why: NotEnabled) -> Memory
     requires { why ≡ not_enabled.Memory }
 {

@@ -23,7 +23,7 @@ use fr_tail::{Tail, TailFault};
 use std::alloc::Global;
 
 impl Standing {
-    /// Hears what a log of the parent's last generation gave of a tag. Where the answer completes the
+    /// Hears what a log of the parent's last generation gave of a tag. If the answer completes the
     /// copy, a copy of that hears it first: the seeds are made from it before anything is changed.
     pub(super) fn hear_peeked(
         &mut self,
@@ -139,7 +139,7 @@ impl Standing {
     }
 }
 
-/// A copy hears what the log of this number answered; want of memory leaves it as it was.
+/// A copy hears what the log of this number answered; `Memory` leaves it as it was.
 fn take(tail: &mut Tail, index: u8, peeked: Peeked) -> Result<(), Memory>
     ensures ok { OnOk result (tail.new ≡ after_peeked tail.old index peeked.tag peeked) }
     ensures err { OnErr result (tail.new ≡ tail.old) }

@@ -69,7 +69,7 @@ impl Standing {
         Ok(asks)
     }
 
-    /// What is shown popped, with what a reply shows, where that is the first of its log.
+    /// What is shown popped, with what a reply shows, if that is the first of its log.
     fn shown_with(&self, index: u8, popped: &PoppedTags) -> Result<Vec<PoppedTag>, Memory>
         ensures { IfOk result (λ shown. shown.items ≡ shown_in (state_of self.now) index popped.now) }
     {
@@ -162,7 +162,7 @@ fn replied(end: &EndTally, index: u8, durable: Version, known: Version) -> EndTa
     end
 }
 
-/// What a recoverer asks once it has its plan: none where it is lost.
+/// What a recoverer asks once it has its plan: none if it is lost.
 fn draft_asks(
     alloc: Global,
     epoch: Epoch,

@@ -1,4 +1,4 @@
-//! Where a log stands, and how it goes back there.
+//! Checkpoints of a log, and how it goes back to one.
 ghost use Rattle.std.specs.Prelude.{◌≡◌, IfOk};
 ghost use Rattle.fr_log.specs.LogState.{LogState};
 ghost use Rattle.fr_log.specs.Chain.{IsLog};
@@ -9,8 +9,8 @@ use crate::popped::PoppedTags;
 use fr_base::{Memory, Version};
 use std::marker::Model;
 
-/// Where a log stands: a few numbers, by which it goes back there once it has come further, while it let
-/// nothing go. Contracts see it as the record of them.
+/// A checkpoint of a log: a few numbers, by which it goes back there, as long as it let nothing go.
+/// Contracts see it as the record of them.
 #[derive(Debug, Drop)]
 pub struct Place {
     pushes: usize,
@@ -30,7 +30,7 @@ impl Model for Place {
 }
 
 impl Log {
-    /// Where it stands.
+    /// A checkpoint of its state.
     pub fn place(&self) -> Result<Place, Memory>
         ensures value { IfOk result (λ place. place ≡ place_of self.now) }
         ensures sound { IsLog self.now }
@@ -45,8 +45,8 @@ impl Log {
         })
     }
 
-    /// Goes back to where it stood before some asks that were kept: those pushes go that it did not hold then.
-    /// A log whose records could not be appended goes back so. It takes no memory.
+    /// Goes back to its state before some asks that were kept: those pushes go that it did not hold then. A
+    /// log whose records could not be appended goes back so. It takes no memory.
     pub fn go_back(&mut self, place: Place)
         requires { (l : LogState) × IsLog l × (place ≡ place_of l) × Extends l self.old }
         ensures { (l : LogState) → place ≡ place_of l → Extends l self.old → self.new ≡ l }

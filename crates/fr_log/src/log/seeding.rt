@@ -12,7 +12,7 @@ use fr_base::{Memory, Tag, Version};
 
 impl Log {
     /// Whether an ask would change it: a first seed, a push that it does not hold yet, a first lock, and a Pop
-    /// that comes further do, where they are not refused. It takes no memory.
+    /// that comes further do, if they are not refused. It takes no memory.
     pub fn is_changed_by(&self, ask: &LogAsk) -> bool
         ensures { result ≡ changes self.now ask.now }
     {
@@ -25,9 +25,10 @@ impl Log {
         }
     }
 
-    /// Takes one record more into its seed, as where a log is read back record by record. It is false, and
-    /// nothing changes, where no such seed is one: without a seed, after the first push, a lock or a Pop, with a
-    /// tag of another log, a version outside of the seed's, or a record that does not stand behind the last.
+    /// Takes one record more into its seed, as when a log is read back record by record. It is false, and
+    /// nothing changes, if no seed has this record next. That is so without a seed; after the first push, a
+    /// lock or a Pop; with a tag of another log; with a version outside of the seed's; and if the record does
+    /// not come behind the last.
     pub fn take_seeded(&mut self, next: SeedRecord) -> Result<bool, Memory>
         ensures taken { IfOk result (λ taken. taken ≡ takes_seeded self.old next) }
         ensures after { IfOk result (λ _. self.new ≡ next_seeded self.old next) }
@@ -42,9 +43,9 @@ impl Log {
         }
     }
 
-    /// Pops a tag through a version, as where a log is read back record by record, and lets nothing go. It is false,
-    /// and nothing changes, where no Pop brought it there: without a seed, with a tag of another log, a version that
-    /// is not known to be committed, or one that is not further than the tag was popped.
+    /// Pops a tag through a version, as when a log is read back record by record, and lets nothing go. It is false,
+    /// and nothing changes, if no Pop brought it there. That is so without a seed, with a tag of another log, with
+    /// a version that is not known to be committed, and with one that is not further than the tag was popped.
     pub fn take_popped(&mut self, next: PoppedTag) -> Result<bool, Memory>
         ensures taken { IfOk result (λ taken. taken ≡ may_pop self.old next.tag next.version) }
         ensures after { IfOk result (λ taken. self.new ≡ (if taken then with_popped self.old next.tag next.version else self.old)) }
@@ -67,7 +68,7 @@ impl Log {
             && is_further(popped_of(self.popped.as_slice(), tag), version)
     }
 
-    /// Whether nothing stands in the way of one more record of a tag in its seed, if it has one.
+    /// Whether nothing keeps it from taking one more record of a tag into its seed, if it has one.
     fn is_seeding(&self, tag: Tag) -> bool
         ensures { result ≡ (not self.now.stopped && (is_unpopped self.now.popped && (is_empty self.now.pushes && holds self.now tag))) }
     {

@@ -46,7 +46,7 @@ impl Log {
         }
     }
 
-    /// Takes a push that is not refused. It is held already exactly where it is not above `durable`.
+    /// Takes a push that is not refused. It is held already exactly if it is not above `durable`.
     fn take_granted(&mut self, alloc: Global, push: Push) -> Result<LogTell, Memory>
         requires { push_refusal self.old push ≡ None }
         ensures told { IfOk result (λ tell. tell ≡ LogTell.Held push.version) }
@@ -137,7 +137,7 @@ impl Log {
         later(popped_at(self.popped.as_slice(), tag), known)
     }
 
-    /// Whether an ask lets something go: a Pop that comes further does, where it is not refused. It takes no memory.
+    /// Whether an ask lets something go: a Pop that comes further does, if it is not refused. It takes no memory.
     pub(super) fn lets_go(&self, ask: &LogAsk) -> bool
         ensures { result ≡ lets_go self.now ask.now }
     {
@@ -155,7 +155,7 @@ impl Log {
         }
     }
 
-    /// Answers an ask, and lets nothing go. Want of memory changes nothing.
+    /// Answers an ask, and lets nothing go. Out of memory changes nothing.
     pub fn keep(&mut self, alloc: Global, ask: LogAsk) -> Result<LogTell, Memory>
         ensures told { IfOk result (λ tell. tell ≡ answer_of self.old ask) }
         ensures after { IfOk result (λ _. self.new ≡ next_of self.old ask) }

@@ -51,7 +51,7 @@ impl Headers {
         self.len
     }
 
-    /// The coordinated state of the first one, where that is a mark.
+    /// The coordinated state of the first one, if that is a mark.
     pub(crate) fn mark(&self) -> Option<&CoordState>
         ensures { option_copied result ≡ first_mark self.now }
     {
@@ -75,7 +75,7 @@ impl Headers {
         self.runs[after - 1].heads(push)
     }
 
-    /// Adds a header above all others. Want of memory changes nothing.
+    /// Adds a header above all others. Out of memory changes nothing.
     pub(crate) fn push(&mut self, header: PushHeader) -> Result<(), Memory>
         requires { RiseFrom 0 (self.old ++ header ∷ []) }
         ensures after { OnOk result (self.new ≡ self.old ++ header ∷ []) }
@@ -129,7 +129,7 @@ fn one_more(len: usize, version: Version) -> usize
     }
 }
 
-/// Adds a header to the last run, where it follows that evenly.
+/// Adds a header to the last run, if it follows that evenly.
 fn add_to_last(runs: &mut Vec<Run>, header: &PushHeader) -> bool
     requires { AreRuns runs.old.items }
     ensures yes { IsTrue result → headers_in runs.new.items ≡ headers_in runs.old.items ++ header.now ∷ [] }

@@ -60,7 +60,7 @@ impl Run {
         self.first.version
     }
 
-    /// The coordinated state of the first one, where that is a mark.
+    /// The coordinated state of the first one, if that is a mark.
     pub(crate) fn mark(&self) -> Option<&CoordState>
         ensures { option_copied result ≡ first_mark self.now }
     {
@@ -97,7 +97,7 @@ impl Run {
         }
     }
 
-    /// Takes one more header, where that follows evenly; the second one says what the step is.
+    /// Takes one more header, if that follows evenly; the second one says what the step is.
     pub(crate) fn add(&mut self, header: &PushHeader) -> bool
         ensures yes { IsTrue result → self.new ≡ self.old ++ header.now ∷ [] }
         ensures no { result ≡ false → self.new ≡ self.old }
@@ -163,7 +163,7 @@ fn is_numbered(header: &PushHeader, epoch: Epoch, prev: u64, known: u64) -> bool
         && header.mark.is_none()
 }
 
-/// How far a header is above the one before it, 1 where that is no step.
+/// How far a header is above the one before it, 1 if that is no step.
 fn step_to(header: &PushHeader) -> u64
     ensures some { 1 ≤ result }
     ensures within { result ≤ 1000000 }

@@ -54,7 +54,7 @@ impl Shelf {
         Ok(())
     }
 
-    /// Takes out what stands at a version or above it: the cost is that of what goes. It takes no memory.
+    /// Takes out what is at a version or above it: the cost is that of what goes. It takes no memory.
     pub(crate) fn cut_from(&mut self, version: Version)
         ensures { self.new ≡ cut version self.old }
     {
@@ -63,7 +63,7 @@ impl Shelf {
         }
     }
 
-    /// Takes out what stands at a version or below it: the cost is that of what goes. It takes no memory.
+    /// Takes out what is at a version or below it: the cost is that of what goes. It takes no memory.
     pub(crate) fn cut_through(&mut self, version: Version)
         ensures { self.new ≡ above version self.old }
     {
@@ -72,7 +72,7 @@ impl Shelf {
         }
     }
 
-    /// Whether something stands at a version or below it.
+    /// Whether something is at a version or below it.
     fn starts_by(&self, version: Version) -> bool
         ensures yes { IsTrue result → (e : Shelved) (es : List Shelved) → self.now ≡ e ∷ es → e.0 ≤ version }
         ensures some { IsTrue result → 0 < length self.now }
@@ -84,7 +84,7 @@ impl Shelf {
         }
     }
 
-    /// Whether something stands at a version or above it.
+    /// Whether something is at a version or above it.
     fn reaches(&self, version: Version) -> bool
         ensures yes { IsTrue result → (es : List Shelved) (e : Shelved) → self.now ≡ es ++ e ∷ [] → version ≤ e.0 }
         ensures some { IsTrue result → 0 < length self.now }

@@ -6,7 +6,7 @@ pub fn spelling_is_read()
     ensures { SpellingIsRead }
 {}
 
-/// A batch is read, with so many bytes used, exactly where these bytes are its spelling: there is no
+/// A batch is read, with so many bytes used, exactly if these bytes are its spelling: there is no
 /// second one. What is read is within the limits.
 pub fn one_spelling()
     ensures { OneSpelling }

@@ -163,7 +163,7 @@ fn skip_checked(format: Format, count: usize, bytes: &[u8]) -> Result<&[u8], Dec
     Ok(rest)
 }
 
-/// Copies so many mutations, which are known to stand in front.
+/// Copies so many mutations, which are known to come first.
 fn copy_mutations(
     alloc: Global,
     format: Format,
@@ -207,13 +207,13 @@ fn header_at(bytes: &[u8]) -> Result<(Format, usize, &[u8]), DecodeFault>
 
 /// Reads a batch from the front of the bytes, and says how many of them it took; what follows is left.
 /// It answers the first fault from the left, and after those that its mutations are in format 2 without
-/// need. The bytes are looked through before any is copied, so want of memory is answered only where
-/// there is no other fault.
+/// need. The bytes are looked through before any is copied, so `Memory` is answered only if there is no
+/// other fault.
 pub fn decode(alloc: Global, bytes: &[u8]) -> Result<(Batch, usize), DecodeFault>
     ensures ok { IfOk result (λ found. decoded bytes.now ≡ Ok found) }
     ensures spelled { IfOk result (λ found. (found.1 ≤ length bytes.now) × (take found.1 bytes.now ≡ spelled found.0)) }
 
-    // The first fault from the left is answered, and no fault hides behind want of memory.
+    // The first fault from the left is answered, and no fault hides behind `Memory`.
     ensures refused { (fault : DecodeFault) → fault ≢ DecodeFault.Memory → ((result ≡ Err fault) ↔ (decoded bytes.now ≡ Err fault)) }
     ensures memory { result ≡ Err DecodeFault.Memory → IsOk (decoded bytes.now) }
 {

@@ -21,10 +21,10 @@ impl Proxy {
     /// Hears what a node tells; answers what is then to be said of the batch under way, and the new asks
     /// in order. The number of the batch brings the pushes of it to all logs of the generation. It is
     /// committed at the tell by which the last of them is known to hold it. It ended, and with it the
-    /// proxy, where a log of the generation is stopped or the sequencer has no version left. Anything
-    /// else changes nothing: a repeat, a tell of another version, generation or request, a number from
-    /// which no push can be made. All but the batch's number is heard without memory, and want of it
-    /// changes nothing.
+    /// proxy, if a log of the generation is stopped or the sequencer has no version left. Anything else
+    /// changes nothing: a repeat, a tell of another version, generation or request, a number from which
+    /// no push can be made. Only the tell with the batch's number takes memory; if there is none,
+    /// nothing changes.
     pub fn hear(
         &mut self,
         alloc: Global,

@@ -39,7 +39,7 @@ pub(super) fn reopen_idle<D: Device>(
 }
 
 /// Opens a file again in which the records of asks may be in flight. The machine takes the asks first, since
-/// that can want memory, and goes back where the file is found without them.
+/// that can run out of memory, and goes back if the file is found without them.
 pub(super) fn reopen_held<M: Recorded, D: Device>(
     file: &mut Records<D>,
     machine: &mut M,

@@ -22,7 +22,7 @@ pub(super) struct Taken<T> {
     group: Vec<Vec<u8>>,
 }
 
-/// Takes an ask more. Where memory is wanting the machine has taken it, or it has not.
+/// Takes an ask more. If memory runs out the machine has taken it, or it has not.
 fn take_one<M: Recorded>(
     machine: &mut M,
     alloc: Global,
@@ -48,7 +48,7 @@ where
     Ok(())
 }
 
-/// Takes asks one after another. Where memory is wanting the machine has taken a front of them.
+/// Takes asks one after another. If memory runs out the machine has taken a front of them.
 pub(super) fn take_all<M: Recorded>(
     machine: &mut M,
     alloc: Global,
@@ -75,7 +75,7 @@ where
     Ok(taken)
 }
 
-/// Adds records to a file, all of them or none. Where there are none, no call of the device is made.
+/// Adds records to a file, all of them or none. If there are none, no call of the device is made.
 fn put_group<D: Device>(
     file: &mut Records<D>,
     alloc: Global,
@@ -104,7 +104,7 @@ fn put_group<D: Device>(
     }
 }
 
-/// Takes asks one after another, and puts their records into a file as one group. Where a fault is met the
+/// Takes asks one after another, and puts their records into a file as one group. If a fault is met the
 /// machine goes back.
 pub(super) fn put_all<M: Recorded, D: Device>(
     file: &mut Records<D>,

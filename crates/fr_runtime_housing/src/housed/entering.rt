@@ -84,7 +84,7 @@ where
         }
     }
 
-    /// Enters that the node crashed and stood up again.
+    /// Enters that the node crashed.
     pub(super) fn enter_crashed(&mut self, stamp: Stamp) -> Result<(), NodeFault>
         requires works { Works self.old }
         requires there { is_gone self.old ≡ false }

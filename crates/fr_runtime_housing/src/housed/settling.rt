@@ -1,4 +1,4 @@
-//! A node that met a fault is opened again, and the ask that met it is entered where it was taken.
+//! A node that met a fault is opened again, and the ask that met it is entered if it was taken.
 ghost use Rattle.std.specs.Prelude.{◌≡◌, ◌≢◌, ◌⊎◌, ◌+◌, ◌-◌, ◌^◌, min, false, Err, None, OnOk, OnErr, IfErr, IfSome};
 ghost use Rattle.fr_base.specs.declared.node.NodeFault.{NodeFault};
 ghost use Rattle.fr_runtime_housing.specs.Replays.{steps};
@@ -94,7 +94,7 @@ where
         }
     }
 
-    /// Opens a node that stands failed again, and enters the ask that met the fault where it was taken.
+    /// Opens a failed node again, and enters the ask that met the fault if it was taken.
     pub(super) fn settle(&mut self, alloc: Global) -> Result<(), NodeFault>
         requires there { is_gone self.old ≡ false }
         ensures place { self.new.place ≡ self.old.place }
@@ -127,7 +127,7 @@ where
         }
     }
 
-    /// Opens the node again, and enters the ask that met a fault where it was taken.
+    /// Opens the node again, and enters the ask that met a fault if it was taken.
     pub(super) fn settle_crashed(&mut self, alloc: Global) -> Result<(), NodeFault>
         requires there { is_gone self.old ≡ false }
         ensures place { self.new.place ≡ self.old.place }

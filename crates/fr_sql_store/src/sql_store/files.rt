@@ -55,7 +55,7 @@ fn begun<S: Backing + Drop>(alloc: Global, conn: Connection<S>) -> Result<SqlSto
     SqlStore::laid(alloc, conn)
 }
 
-/// The store whose tables a connection finds committed once it is opened again, where they are those of a store.
+/// The store whose tables a connection finds committed once it is opened again, if they are those of a store.
 fn read<S: Backing + Drop>(alloc: Global, conn: Connection<S>) -> Result<SqlStore<S>, StoreFault>
     ensures state { IfOk result (λ store. state_of S.Store store ≡ state_in (state S.Store conn).committed.trees) }
     ensures works { IfOk result (λ store. store.failed ≡ false) }
@@ -78,7 +78,7 @@ fn worked<S: Backing + Drop>(store: SqlStore<S>) -> Result<Connection<S>, StoreF
     Ok(store.into_conn())
 }
 
-/// The fault of a close, where the connection worked until then.
+/// The fault of a close, if the connection worked until then.
 fn close_fault(error: Error) -> StoreFault
     ensures { IsTrouble MeetsAll result }
 {

@@ -14,7 +14,7 @@ use std::alloc::Global;
 impl<S: ShardStore> Storage<S> {
     /// Hears an answer, as [`hear_marked`](Storage::hear_marked) or [`hear_peeked`](Storage::hear_peeked) does. A
     /// server that stands ([`storage_law`](crate::storage_law)) is left standing by each answer that is true to it,
-    /// and does not refuse it as of a stranger or below its floor.
+    /// and does not refuse it as `Stranger` or `BelowFloor`.
     pub fn hear(&mut self, alloc: Global, answer: Answer) -> Result<(), StorageFault>
         ensures ok { OnOk result (storage_of S.state self.new ≡ after_hear (storage_of S.state self.old) (heard_of answer)) }
         ensures failed { (result ≡ Err (StorageFault.Store StoreFault.Failed)) ↔ IsTrue self.old.failed }
@@ -38,13 +38,12 @@ impl<S: ShardStore> Storage<S> {
         }
     }
 
-    /// Hears an answer, and where a call of the store is refused opens the server again: it then stands after
-    /// some of the calls of the hear, in order. A server that is failed before hears nothing, and is opened
-    /// again. It is failed afterwards only where it could not be opened again; the fault is then that of the
-    /// opening.
+    /// Hears an answer, and if a call of the store is refused opens the server again: it is then as after some of
+    /// the calls of the hear, in order. A server that is failed before hears nothing, and is opened again. It is
+    /// failed afterwards only if it could not be opened again; the fault is then that of the opening.
     ///
     /// A server that stands ([`storage_law`](crate::storage_law)) is left standing by each answer that is true to
-    /// it, whatever its store refuses, and does not refuse it as of a stranger or below its floor.
+    /// it, whatever its store refuses, and does not refuse it as `Stranger` or `BelowFloor`.
     pub fn follow(&mut self, alloc: Global, answer: Answer) -> Result<(), StorageFault>
         ensures ok { OnOk result (storage_of S.state self.new ≡ after_hear (storage_of S.state self.old) (heard_of answer)) }
         ensures refused { self.old.failed ≡ false → refusal_of result ≡ fault_of (storage_of S.state self.old) (heard_of answer) }
@@ -69,14 +68,14 @@ impl<S: ShardStore> Storage<S> {
         heard
     }
 
-    /// Hears answers from first to last, each as [`follow`](Storage::follow) does, and gives the fault of the
-    /// last one that broke off, if one did. Answers that came late or too early (`Older`, `NotMyGeneration`,
-    /// `Hole`) are passed over. It stops at one that is refused as of a stranger or below the floor, and where
-    /// the server cannot be opened again.
+    /// Hears answers from first to last, each as [`follow`](Storage::follow) does, and gives the fault of the last
+    /// one that broke off, if one did. Answers that came late or too early (`Older`, `NotMyGeneration`, `Hole`) are
+    /// passed over. It stops at one that is refused as `Stranger` or `BelowFloor`, and if the server cannot be
+    /// opened again.
     ///
     /// A server that stands is left standing by every list of answers, in any order, with repeats, of which each is
-    /// true to the server that hears it, whatever its store refuses, and refuses none of them as of a stranger or
-    /// below its floor.
+    /// true to the server that hears it. That is so whatever its store refuses, and it refuses none of them as
+    /// `Stranger` or `BelowFloor`.
     pub fn follow_all(
         &mut self,
         alloc: Global,

@@ -16,10 +16,10 @@ use fr_undo::{ShardStore, StoreFault};
 use std::alloc::Global;
 
 impl<S: ShardStore> Storage<S> {
-    /// Hears the coordinated state of a mark, as a log tells it. Where a later state goes on from the own one,
-    /// which is to say that it begins with the own generations that it did not drop, the server undoes what is
-    /// above the cut of its own epoch, keeps the state, and stands at the state's epoch from then on. The own
-    /// state changes nothing. No other call takes back what was applied, but
+    /// Hears the coordinated state of a mark, as a log tells it. A later state *goes on* from the server's own
+    /// if it did not drop all of the server's generations, and begins with those that it did not drop. At such
+    /// a state the server undoes what is above the cut of its own epoch, and keeps the state. It is then at
+    /// the state's epoch. Its own state changes nothing. No other call takes back what was applied, but
     /// [`break_off_marked`](Storage::break_off_marked), which is this one in part.
     pub fn hear_marked(&mut self, alloc: Global, state: CoordState) -> Result<(), StorageFault>
         ensures ok { OnOk result (storage_of S.state self.new ≡ after_marked (storage_of S.state self.old) state) }

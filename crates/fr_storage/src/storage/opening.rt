@@ -21,7 +21,7 @@ use std::alloc::Global;
 
 impl<S: ShardStore + Drop> Storage<S> {
     /// A storage server that begins in a coordinated state, over a store that is fresh: it sets the store's
-    /// state bytes. It stands at the state's epoch and the store's version.
+    /// state bytes. It is at the state's epoch and the store's version.
     pub fn start(alloc: Global, store: S, tag: Tag, state: CoordState) -> Result<Self, StorageFault>
         ensures ok { IfOk result (λ s. storage_of S.state s ≡ record { tag = tag; state = state; store = with_bytes (S.state store) (spelling state) }) }
         ensures position { IfOk result (λ s. s.applied ≡ (S.state store).applied) }
@@ -50,8 +50,8 @@ impl<S: ShardStore + Drop> Storage<S> {
         })
     }
 
-    /// The storage server of a store that an earlier one left: it stands at the epoch of the state that the
-    /// store's bytes spell, and at the store's version. `BadState` where they spell none.
+    /// The storage server of a store that an earlier one left: it is at the epoch of the state that the
+    /// store's bytes spell, and at the store's version. `BadState` if they spell none.
     pub fn adopt(alloc: Global, store: S, tag: Tag) -> Result<Self, StorageFault>
         ensures tag { IfOk result (λ s. s.tag ≡ tag) }
         ensures state { IfOk result (λ s. reading (S.state store).bytes ≡ Ok s.state) }
@@ -79,9 +79,9 @@ impl<S: ShardStore + Drop> Storage<S> {
 }
 
 impl<S: ShardStore> Storage<S> {
-    /// Opens the store again, failed or not, and reads position, floor and state from it. The server then
-    /// stands where a crash might have left its store: after a hear that broke off, after some of the calls of
-    /// that hear, in order. A refusal leaves it failed, with what it kept before. A server that stands is left
+    /// Opens the store again, failed or not, and reads position, floor and state from it. The server is then
+    /// as a crash might have left its store: after a hear that broke off, after some of the calls of that
+    /// hear, in order. A refusal leaves it failed, with what it kept before. A server that stands is left
     /// standing, opened or not.
     pub fn reopen(&mut self, alloc: Global) -> Result<(), StorageFault>
         ensures found { OnOk result (S.MayLeave self.old.store (S.state self.new.store)) }

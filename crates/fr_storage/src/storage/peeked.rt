@@ -18,10 +18,10 @@ use std::alloc::Global;
 
 impl<S: ShardStore> Storage<S> {
     /// Hears what a log of an epoch gives of the server's tag. The epoch must be the source of the version
-    /// after the one applied. The records above that one are applied, up to the end of their generation; the
-    /// version applied becomes the smaller of what the answer is complete through and that end, where this is
-    /// above it; then the undo rows through the smaller of the version told to be known and the one applied
-    /// are forgotten, where this is above the floor.
+    /// after the one applied. The records above that one are applied, up to the end of their generation. The
+    /// version applied becomes the smaller of what the answer is complete through and that end, if this is
+    /// above it. Then the undo rows through the smaller of the version told to be known and the one applied
+    /// are forgotten, if this is above the floor.
     pub fn hear_peeked(
         &mut self,
         alloc: Global,
@@ -117,8 +117,8 @@ impl Reach {
     }
 }
 
-/// Makes the calls of a store at an answer that is not refused: it applies what is new, advances to where the
-/// answer or the generation ends, and forgets the undo rows of what is known to be committed.
+/// Makes the calls of a store at an answer that is not refused. It applies what is new, advances to the end
+/// of the answer or of the generation, and forgets the undo rows of what is known to be committed.
 fn pull<S: ShardStore>(
     alloc: Global,
     store: &mut S,
@@ -167,7 +167,7 @@ fn apply_new<S: ShardStore>(
     Ok(())
 }
 
-/// Advances a store to a version, where that is above the one applied.
+/// Advances a store to a version, if that is above the one applied.
 fn advance_to<S: ShardStore>(store: &mut S, target: Version) -> Result<(), StoreFault>
     requires whole { IsWhole S.state S.is_failed S.MayLeave store.old }
     ensures ok { OnOk result (S.state store.new ≡ after_calls (S.state store.old) (advance_calls (S.state store.old).applied target)) }
@@ -183,7 +183,7 @@ fn advance_to<S: ShardStore>(store: &mut S, target: Version) -> Result<(), Store
 }
 
 /// Forgets the undo rows of a store through the smaller of a version that is known to be committed and the one
-/// applied, where that is above the floor.
+/// applied, if that is above the floor.
 fn forget_known<S: ShardStore>(
     alloc: Global,
     store: &mut S,

@@ -25,7 +25,7 @@ fn is_used(nodes: &Nodes, ballot: Ballot) -> bool
     nodes.recoverers.get(&ballot).is_some() || number == start::FIRST || number == 0
 }
 
-/// The recoverer of a ballot begins, where the ballot is not used.
+/// The recoverer of a ballot begins, if the ballot is not used.
 pub(crate) fn begun(
     alloc: Global,
     nodes: &mut Nodes,

@@ -24,7 +24,7 @@ use fr_world_kept::Nodes;
 use fr_world_nodes::storages::storage_may_ask;
 use std::alloc::Global;
 
-/// An ask comes to a cell, a log or a sequencer, where it was sent, or is one that storage servers may give.
+/// An ask comes to a cell, a log or a sequencer, if it was sent, or is one that storage servers may give.
 pub(crate) fn delivered(
     alloc: Global,
     nodes: &mut Nodes,
@@ -63,7 +63,7 @@ pub(crate) fn delivered(
     }
 }
 
-/// An ask comes to a cell that is up, where it was sent.
+/// An ask comes to a cell that is up, if it was sent.
 fn to_cell(
     alloc: Global,
     nodes: &mut Nodes,
@@ -93,7 +93,7 @@ fn to_cell(
     Ok(Answer::Told(Tell::Cell(told)))
 }
 
-/// An ask comes to a log that is up, where it was sent or may be given at any time.
+/// An ask comes to a log that is up, if it was sent or may be given at any time.
 fn to_log(
     alloc: Global,
     nodes: &mut Nodes,
@@ -124,7 +124,7 @@ fn to_log(
     Ok(Answer::Told(Tell::Log(told)))
 }
 
-/// An ask comes to a sequencer that is up, where it was sent.
+/// An ask comes to a sequencer that is up, if it was sent.
 fn to_sequencer(
     alloc: Global,
     nodes: &mut Nodes,

@@ -10,7 +10,7 @@ use fr_run_event::laws::step_law;
 use fr_run_event::{Answer, NotEnabled};
 use fr_world_kept::Nodes;
 
-/// A node crashes: a sequencer, a proxy or a recoverer is gone, another node stands as it was.
+/// A node crashes: a sequencer, a proxy or a recoverer is gone; another node is as it was.
 pub(crate) fn crashed(nodes: &mut Nodes, node: NodeId) -> Result<Answer, NotEnabled>
     requires kept { IsKept nodes.old }
     ensures turn { Steps (state_of nodes.old) (state_of nodes.new) (event.Crash node) result }

@@ -15,7 +15,7 @@ use fr_world_kept::Nodes;
 use fr_world_nodes::proxies::not_taken;
 use std::alloc::Global;
 
-/// A proxy is given a batch, where it takes one now.
+/// A proxy is given a batch, if it takes one now.
 pub(crate) fn submitted(
     alloc: Global,
     nodes: &mut Nodes,

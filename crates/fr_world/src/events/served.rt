@@ -71,7 +71,7 @@ fn hear_whole(
     }
 }
 
-/// A hear of a tell that came to a storage server breaks off at a version, where it can.
+/// A hear of a tell that came to a storage server breaks off at a version, if it can.
 fn hear_in_part(
     alloc: Global,
     nodes: &mut Nodes,
@@ -98,7 +98,7 @@ fn hear_in_part(
     Ok(Answer::Done)
 }
 
-/// As [`heard_by_storage`], with no copy of the server: where memory is wanting the nodes are given up.
+/// As [`heard_by_storage`], with no copy of the server: out of memory the nodes are given up.
 pub(crate) fn heard_in_place(
     alloc: Global,
     nodes: &mut Nodes,

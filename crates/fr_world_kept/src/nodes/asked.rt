@@ -1,4 +1,4 @@
-//! Cells, logs and sequencers are asked.
+//! Cells, logs and sequencers are asked. Room for the turn is made before, so once a node answered nothing can fail.
 ghost use Rattle.std.specs.Prelude.{◌≡◌, ◌<◌, IfOk, IsSome, OnErr, OnOk, Some};
 ghost use Rattle.std.specs.BTreeMap as tree;
 ghost use Rattle.fr_register.specs.Cell as cell;
@@ -96,7 +96,7 @@ impl Nodes {
         Ok(told.handed)
     }
 
-    /// Makes a log, where it was never asked. What a world is by its turns stays.
+    /// Makes a log, if it was never asked. What a world is by its turns stays.
     fn make_log(&mut self, alloc: Global, id: LogId) -> Result<(), Memory>
         requires kept { IsKept self.old }
         requires there { id.index < nodes.logs_at (state_of self.old).config (state_of self.old).turns id.epoch }

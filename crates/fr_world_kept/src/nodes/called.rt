@@ -105,7 +105,7 @@ impl Nodes {
         Ok(())
     }
 
-    /// Keeps a proxy of an open epoch from now on. Want of memory changes nothing.
+    /// Keeps a proxy of an open epoch from now on. Out of memory it changes nothing.
     fn keep_proxy_of(&mut self, epoch: Epoch, proxy: u8) -> Result<(), Memory>
         requires kept { IsKept self.old }
         requires open { nodes.is_open (state_of self.old).config (state_of self.old).turns epoch ≡ true }

@@ -24,7 +24,7 @@ impl Nodes {
         Ok(())
     }
 
-    /// Another node crashes, and stands as it was.
+    /// Another node crashes, and is as it was.
     pub fn crash(&mut self, node: NodeId) -> Result<(), Memory>
         requires kept { IsKept self.old }
         requires turn { IsTurn (state_of self.old).config (state_of self.old).turns (history.Crashed node) }

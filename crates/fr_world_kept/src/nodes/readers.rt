@@ -39,7 +39,7 @@ impl Nodes {
         self.recoverers.get(&ballot)
     }
 
-    /// A proxy as it stands.
+    /// A proxy as it is now.
     pub fn proxy(&self, epoch: Epoch, number: u8) -> Result<Option<Proxy>, Memory>
         requires { IsKept self.now }
         ensures { IfOk result (λ proxy. proxy ≡ proxy_if_there (state_of self.now).config (state_of self.now).turns epoch number) }
@@ -50,7 +50,7 @@ impl Nodes {
         Ok(Some(self.proxy_there(epoch, number)?))
     }
 
-    /// A proxy that is there, as it stands.
+    /// A proxy that is there, as it is now.
     fn proxy_there(&self, epoch: Epoch, number: u8) -> Result<Proxy, Memory>
         requires kept { IsKept self.now }
         requires open { nodes.is_open (state_of self.now).config (state_of self.now).turns epoch ≡ true }

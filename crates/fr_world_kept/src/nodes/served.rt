@@ -54,7 +54,7 @@ impl Nodes {
         Ok(fault)
     }
 
-    /// As [`Nodes::tell_storage`], with no copy of the server: where memory is wanting the nodes are given up.
+    /// As [`Nodes::tell_storage`], with no copy of the server: out of memory the nodes are given up.
     pub fn tell_storage_in_place(
         &mut self,
         alloc: Global,
@@ -131,7 +131,7 @@ impl Nodes {
         Ok(())
     }
 
-    /// As [`Nodes::break_storage`], with no copy of the server: where memory is wanting the nodes are given up.
+    /// As [`Nodes::break_storage`], with no copy of the server: out of memory the nodes are given up.
     pub fn break_storage_in_place(
         &mut self,
         alloc: Global,

@@ -1,4 +1,4 @@
-//! A store in two files that is opened, or made where they hold no table yet.
+//! A store in two files that is opened, or made if they hold no table yet.
 ghost use Rattle.std.specs.Prelude.{◌≡◌, [], false, IfOk, IfErr};
 ghost use Rattle.sqlite.specs.Effect.{IsDatabase};
 ghost use Rattle.sqlite.specs.Held.{state};
@@ -71,7 +71,7 @@ fn refusal<S: Backing + Drop>(fault: StoreFault, conn: Connection<S>) -> OpenFau
     }
 }
 
-/// The store whose tables a connection has, where they are those of one.
+/// The store whose tables a connection has, if they are those of one.
 fn recognized<S: Backing + Drop>(
     alloc: Global,
     conn: Connection<S>,
@@ -90,7 +90,7 @@ fn recognized<S: Backing + Drop>(
     }
 }
 
-/// An empty store where a connection has no table, with nothing applied, and else the store that it has.
+/// An empty store if a connection has no table, with nothing applied, and else the store that it has.
 fn recognized_or_made<S: Backing + Drop>(
     alloc: Global,
     conn: Connection<S>,

@@ -16,10 +16,10 @@ use std::alloc::Global;
 
 impl<S: ShardStore> Storage<S> {
     /// Hears the coordinated state of a mark, as [`hear_marked`](Storage::hear_marked) does, but breaks off at
-    /// a version: the server then stands as it would if it had crashed before the state was kept, and had been
-    /// opened again. A hear breaks off at the version applied, and at the cut of the own epoch where that is
-    /// below it. True where it breaks off at this one; else nothing changes, and no call of the store is made.
-    /// It is refused as the whole hear is, and a call of the store that is refused leaves the server failed.
+    /// a version: the server is then as after a crash before the state was kept, and an opening. A hear breaks
+    /// off at the version applied, and at the cut of its own epoch if that is below it. True if it breaks off
+    /// at this one; else nothing changes, and no call of the store is made. It is refused as the whole hear
+    /// is, and a call of the store that is refused leaves the server failed.
     pub fn break_off_marked(
         &mut self,
         alloc: Global,
@@ -77,9 +77,9 @@ impl<S: ShardStore> Storage<S> {
         }
     }
 
-    /// Whether [`break_off_marked`](Storage::break_off_marked) breaks off at a version: the server is not failed, the
-    /// state is not refused, and the version is the one applied or, where the state is another than the own, the cut of
-    /// the own epoch below it. It takes no memory, and makes no call of the store.
+    /// Whether [`break_off_marked`](Storage::break_off_marked) breaks off at a version. It does if the server is not
+    /// failed, the state is not refused, and the version is the one applied or, if the state is another than its own,
+    /// the cut of its own epoch below it. It takes no memory, and makes no call of the store.
     pub fn can_break_off_marked(&self, state: &CoordState, version: Version) -> bool
         ensures { result ≡ (not self.now.failed && breaks_off (storage_of S.state self.now)
             (marked_fault (storage_of S.state self.now) state.now)

@@ -17,11 +17,11 @@ use std::alloc::Global;
 
 impl<S: ShardStore> Storage<S> {
     /// Hears what a log of an epoch gives of the server's tag, as [`hear_peeked`](Storage::hear_peeked) does,
-    /// but breaks off at a version: the server then stands as it would if it had crashed once that version was
-    /// applied, before undo rows are forgotten, and had been opened again. A hear breaks off at the version
-    /// applied, at the version of each new record, and at the end of the answer or of its generation. True
-    /// where it breaks off at this one; else nothing changes, and no call of the store is made. It is refused as
-    /// the whole hear is, and a call of the store that is refused leaves the server failed.
+    /// but breaks off at a version. The server is then as after a crash once that version was applied, before
+    /// undo rows are forgotten, and an opening. A hear breaks off at the version applied, at the version of each
+    /// new record, and at the end of the answer or of its generation. True if it breaks off at this one; else
+    /// nothing changes, and no call of the store is made. It is refused as the whole hear is, and a call of the
+    /// store that is refused leaves the server failed.
     pub fn break_off_peeked(
         &mut self,
         alloc: Global,
@@ -128,7 +128,7 @@ fn has_version(version: Version, records: &[PeekedRecord]) -> bool
 }
 
 /// Makes the calls of a store at an answer through a version: it applies what is new through it, and advances
-/// to it where it is above the last record.
+/// to it if it is above the last record.
 fn pull_through<S: ShardStore>(
     alloc: Global,
     store: &mut S,
