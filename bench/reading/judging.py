@@ -1,9 +1,22 @@
 """Whether journals are a run, by this reading of the rules: what `fdbrec audit` says of them, worked out anew."""
 
+import json
+
 from . import rules
 from .events import Events, Refused
 
 KINDS = ("cell", "log", "sequencer", "proxy", "recoverer", "storage")
+# why an entry cannot happen, as it is said
+CAUSES = {
+    "Repeated": "it has the stamp and the node of the entry before it",
+    "NotItsAct": "a node of this kind does no such thing",
+    "NoSuchNode": "there is no such node",
+    "Gone": "the node is gone",
+    "NeverSent": "this was never sent",
+    "BallotUsed": "the ballot is used",
+    "TwoOpen": "a batch is under way",
+    "Over": "the proxy takes no more batches",
+}
 
 
 def place(name):
@@ -18,21 +31,26 @@ def spoken(name):
     return " ".join([kind, *(str(it[each]) for each in sorted(it))])
 
 
+def form(value):
+    """A value as a script has it, in ASCII."""
+    return json.dumps(value, sort_keys=True, separators=(",", ":"))
+
+
 def entries_of(script):
     """All entries in their order: stamp, node, act."""
     found = [(it["stamp"], each["node"], it["act"]) for each in script["journals"] for it in each["entries"]]
     return sorted(found, key=lambda it: (it[0], place(it[1])))
 
 
-def is_told_so(events, name, act):
-    """Makes an act; whether what is told or said of it is as the journal has it. Refused where it cannot happen."""
+def answer_of(events, name, act):
+    """Makes an act: what is told then, or said of it. Refused where it cannot happen."""
     ((kind, it),) = act.items()
     ((of, numbers),) = name.items()
     if kind == "asked":
-        return events.deliver(it["from"], name, it["ask"]) == it["tell"]
+        return events.deliver(it["from"], name, it["ask"])
     if kind == "heard":
         outcome = events.hear(name, it["from"], it["tell"], it["taken"])
-        return (outcome if of == "proxy" else None) == it["outcome"]
+        return outcome if of == "proxy" else None
     if kind == "submitted" and of == "proxy":
         events.submit(numbers["epoch"], numbers["number"], it["step"], it["batch"])
     elif kind == "begun" and of == "recoverer":
@@ -43,28 +61,70 @@ def is_told_so(events, name, act):
         events.lose(**numbers)
     else:
         raise Refused("NotItsAct")
-    return True
+    return None
+
+
+def entered_answer(act):
+    """The same as the journal has it, and what it is the answer to."""
+    ((kind, it),) = act.items()
+    if kind == "asked":
+        return it["tell"], f"asked {form(it['ask'])} by {spoken(it['from'])}: it told"
+    if kind == "heard":
+        return it["outcome"], f"told {form(it['tell'])} by {spoken(it['from'])}: its outcome was"
+    return None, ""
+
+
+def differing(one, other):
+    """Two states of one node where they differ: of two lists what is alike at neither end."""
+    ((kind, ours),), ((of, theirs),) = one.items(), other.items()
+    if kind != of:
+        return one, other
+    names = [it for it in {**ours, **theirs} if it not in ours or it not in theirs or ours[it] != theirs[it]]
+    ours, theirs = ({it: each[it] for it in names if it in each} for each in (ours, theirs))
+    for name in names:
+        mine, yours = ours.get(name), theirs.get(name)
+        if isinstance(mine, list) and isinstance(yours, list):
+            front = next((at for at, (a, b) in enumerate(zip(mine, yours)) if a != b), min(len(mine), len(yours)))
+            mine, yours = mine[front:], yours[front:]
+            while mine and yours and mine[-1] == yours[-1]:
+                mine, yours = mine[:-1], yours[:-1]
+            ours[name], theirs[name] = mine, yours
+    return ours, theirs
+
+
+def judged(script):
+    """The line of the first fault, and what it is by the rules; `audit ok` and None of a run."""
+    events, before = Events(script["config"]), None
+    for at, (stamp, name, act) in enumerate(entries_of(script)):
+        here = f"entry {at}, {spoken(name)} at stamp {stamp}"
+        try:
+            if before == (stamp, name):
+                raise Refused("Repeated")
+            before = stamp, name
+            by_rules = answer_of(events, name, act)
+        except (Refused, rules.Fault, KeyError, IndexError, ValueError, TypeError) as why:
+            cause = CAUSES.get(str(why), f"({type(why).__name__}: {why})")
+            return f"not a run at {at}", f"{here} cannot happen, {cause}: {form(act)}"
+        entered, asked = entered_answer(act)
+        if by_rules != entered:
+            return f"tell differs at {at}", f"{here}, {asked} {form(entered)}; by the rules {form(by_rules)}"
+    for each in sorted(script["journals"], key=lambda it: place(it["node"])):
+        name = each["node"]
+        ((kind, _),) = name.items()
+        line = f"state differs at {spoken(name)}"
+        try:
+            last = {kind: events.last(name)}
+        except (KeyError, IndexError):
+            return line, f"{spoken(name)}: there is no such node"
+        if each["last"] is None:
+            return line, f"{spoken(name)}: its journal was not closed; by the rules {form(last)}"
+        if each["last"] != last:
+            closed, by_rules = (form(it) for it in differing(each["last"], last))
+            where = "where they differ its journal was closed with"
+            return line, f"{spoken(name)}: {where} {closed}; by the rules {by_rules}"
+    return "audit ok", None
 
 
 def verdict(script):
     """The line of the first fault, or `audit ok`."""
-    events, before = Events(script["config"]), None
-    for at, (stamp, name, act) in enumerate(entries_of(script)):
-        try:
-            if before == (stamp, name):
-                return f"not a run at {at}"
-            before = stamp, name
-            if not is_told_so(events, name, act):
-                return f"tell differs at {at}"
-        except (Refused, rules.Fault, KeyError, IndexError, ValueError, TypeError):
-            return f"not a run at {at}"
-    for each in sorted(script["journals"], key=lambda it: place(it["node"])):
-        name = each["node"]
-        ((kind, _),) = name.items()
-        try:
-            is_so = each["last"] == {kind: events.last(name)}
-        except (KeyError, IndexError):
-            is_so = False
-        if not is_so:
-            return f"state differs at {spoken(name)}"
-    return "audit ok"
+    return judged(script)[0]

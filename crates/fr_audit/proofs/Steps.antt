@@ -10,7 +10,7 @@ use Rattle.fr_run.specs.Turn.{Turn}
 use Rattle.fr_audit_journal.specs.Journal.{JournalState}
 use Rattle.fr_audit_journal.specs.Merge.{Placed}
 use Rattle.fr_audit.specs.Audited.{after_entries, first_unlike, is_closed, is_repeated, lesser, then_on}
-use Rattle.fr_audit.specs.declared.fault.AuditFault.{AuditFault}
+use Rattle.fr_audit.specs.declared.finding.Finding.{Finding}
 use Rattle.fr_audit.specs.Checking.{after_this, before_at}
 
 -- the entry before one that is not the first
@@ -43,9 +43,9 @@ module _ {X : Type 0} (f : X → Placed) (c : Config) (h : List Turn) (es : List
       ≡ after_entries c later (before_at (map f es) (n + 1)) (n + 1) (map f (drop (n + 1) es))
   one_entered later k = opened ∙ ap (λ r. then_on r (λ g. after_entries c g (before_at (map f es) (n + 1)) (n + 1) (map f (drop (n + 1) es)))) k
 
-  -- the fault of an entry is that of all
-  pub one_refused : (fault : AuditFault) → after_this c h b n (f e) ≡ Err fault → after_entries c h (before_at (map f es) n) n (map f (drop n es)) ≡ Err fault
-  one_refused fault k = opened ∙ ap (λ r. then_on r (λ g. after_entries c g (before_at (map f es) (n + 1)) (n + 1) (map f (drop (n + 1) es)))) k
+  -- what is found at an entry is what is found of all
+  pub one_refused : (finding : Finding) → after_this c h b n (f e) ≡ Err finding → after_entries c h (before_at (map f es) n) n (map f (drop n es)) ≡ Err finding
+  one_refused finding k = opened ∙ ap (λ r. then_on r (λ g. after_entries c g (before_at (map f es) (n + 1)) (n + 1) (map f (drop (n + 1) es)))) k
 
 -- one journal more, from the last on
 pub one_journal : (c : Config) (h : List Turn) (js : List JournalState) (k m : ℕ) (j : JournalState) → k < length js → m ≡ k + 1 → j ≡ get_or js k j →

@@ -1,4 +1,4 @@
--- What an audit of journals answers: the turns of their run, or the first fault.
+-- What an audit of journals answers: the turns of their run, or the first fault, and what the rules say there.
 use Rattle.std.specs.Prelude.{ℕ, ◌+◌, Bool, false, List, [], ◌∷◌, Option, None, Some, Result, Ok, Err, if◌then◌else◌}
 use Rattle.std.specs.Ordering.{is_eq, is_lt}
 use Rattle.fr_base.specs.Node.{node_cmp}
@@ -15,20 +15,24 @@ use Rattle.fr_audit_journal.specs.Journal.{JournalState}
 use Rattle.fr_audit_journal.specs.Merge.{Placed, merged, place_cmp}
 use Rattle.fr_audit.specs.Entry.{event_of, says}
 use Rattle.fr_audit.specs.declared.fault.AuditFault.{AuditFault}
-use Rattle.fr_audit.specs.declared.fault.AuditFault.TheVariants.{NotARun, TellDiffers, StateDiffers}
+use Rattle.fr_audit.specs.declared.fault.AuditFault.TheVariants as fault
+use Rattle.fr_audit.specs.declared.finding.Cause.{Cause}
+use Rattle.fr_audit.specs.declared.finding.Cause.TheVariants as cause
+use Rattle.fr_audit.specs.declared.finding.Finding.{Finding}
+use Rattle.fr_audit.specs.declared.finding.Finding.TheVariants.{NotARun, TellDiffers, StateDiffers, Memory}
 
 -- ---- one entry
 
-abbrev pub turn_in : Result Turn NotEnabled → Option Turn
-turn_in (Ok t) = Some t
-turn_in (Err why) = None
+abbrev pub turn_in : Result Turn NotEnabled → Result Turn Cause
+turn_in (Ok t) = Ok t
+turn_in (Err why) = Err (cause.NotEnabled why)
 
-abbrev pub turn_if : Config → List Turn → Option Event → Option Turn
-turn_if c h None = None
+abbrev pub turn_if : Config → List Turn → Option Event → Result Turn Cause
+turn_if c h None = Err cause.NoSuchAct
 turn_if c h (Some event) = turn_in (turn_of c h event)
 
--- the turn that an entry is, if it is an event that can happen
-abbrev pub turn_at : Config → List Turn → Placed → Option Turn
+-- the turn that an entry is, if it is an event that can happen; or why it cannot
+abbrev pub turn_at : Config → List Turn → Placed → Result Turn Cause
 turn_at c h p = turn_if c h (event_of p.node p.entry.act)
 
 -- whether two entries have one stamp and one node
@@ -40,21 +44,21 @@ abbrev pub is_repeated : Option Placed → Placed → Bool
 is_repeated None p = false
 is_repeated (Some q) p = is_same_place q p
 
-abbrev pub with_turn : List Turn → ℕ → Placed → Option Turn → Result (List Turn) AuditFault
-with_turn h at p None = Err (NotARun at)
-with_turn h at p (Some t) = if says p.entry.act (answer_of t) then Ok (t ∷ h) else Err (TellDiffers at)
+abbrev pub with_turn : List Turn → ℕ → Placed → Result Turn Cause → Result (List Turn) Finding
+with_turn h at p (Err why) = Err (NotARun at why)
+with_turn h at p (Ok t) = if says p.entry.act (answer_of t) then Ok (t ∷ h) else Err (TellDiffers at (answer_of t))
 
--- the turns after an entry, which has this number and follows that entry; or its fault
-abbrev pub after_entry : Config → List Turn → Option Placed → ℕ → Placed → Result (List Turn) AuditFault
-after_entry c h before at p = if is_repeated before p then Err (NotARun at) else with_turn h at p (turn_at c h p)
+-- the turns after an entry, which has this number and follows that entry; or what is found there
+abbrev pub after_entry : Config → List Turn → Option Placed → ℕ → Placed → Result (List Turn) Finding
+after_entry c h before at p = if is_repeated before p then Err (NotARun at cause.Repeated) else with_turn h at p (turn_at c h p)
 
 -- ---- all entries
 
-abbrev pub then_on : Result (List Turn) AuditFault → (List Turn → Result (List Turn) AuditFault) → Result (List Turn) AuditFault
+abbrev pub then_on : Result (List Turn) Finding → (List Turn → Result (List Turn) Finding) → Result (List Turn) Finding
 then_on (Ok h) go = go h
-then_on (Err fault) go = Err fault
+then_on (Err finding) go = Err finding
 
-abbrev pub after_entries : Config → List Turn → Option Placed → ℕ → List Placed → Result (List Turn) AuditFault
+abbrev pub after_entries : Config → List Turn → Option Placed → ℕ → List Placed → Result (List Turn) Finding
 after_entries c h before at [] = Ok h
 after_entries c h before at (p ∷ ps) = then_on (after_entry c h before at p) (λ later. after_entries c later (Some p) (at + 1) ps)
 
@@ -77,11 +81,26 @@ abbrev pub first_unlike : Config → List Turn → List JournalState → Option 
 first_unlike c h [] = None
 first_unlike c h (j ∷ js) = if is_closed c h j then first_unlike c h js else Some (lesser j.node (first_unlike c h js))
 
-abbrev pub with_lasts : List Turn → Option NodeId → Result (List Turn) AuditFault
-with_lasts h None = Ok h
-with_lasts h (Some who) = Err (StateDiffers who)
+abbrev pub with_lasts : Config → List Turn → Option NodeId → Result (List Turn) Finding
+with_lasts c h None = Ok h
+with_lasts c h (Some who) = Err (StateDiffers who (last_at c h who))
 
 -- ---- the whole
 
+-- the turns of the run, or the first fault with what the rules say there
+abbrev pub found : Config → List JournalState → Result (List Turn) Finding
+found c js = then_on (after_entries c [] None 0 (merged js)) (λ h. with_lasts c h (first_unlike c h js))
+
+-- the fault alone
+abbrev pub fault_of : Finding → AuditFault
+fault_of (NotARun at why) = fault.NotARun at
+fault_of (TellDiffers at answer) = fault.TellDiffers at
+fault_of (StateDiffers who last) = fault.StateDiffers who
+fault_of Memory = fault.Memory
+
+abbrev pub without_rules : Result (List Turn) Finding → Result (List Turn) AuditFault
+without_rules (Ok h) = Ok h
+without_rules (Err finding) = Err (fault_of finding)
+
 abbrev pub audited : Config → List JournalState → Result (List Turn) AuditFault
-audited c js = then_on (after_entries c [] None 0 (merged js)) (λ h. with_lasts h (first_unlike c h js))
+audited c js = without_rules (found c js)

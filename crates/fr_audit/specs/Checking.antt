@@ -5,8 +5,9 @@ use Rattle.fr_run.specs.Config.{Config}
 use Rattle.fr_run.specs.Turn.{Turn}
 use Rattle.fr_audit_journal.specs.Merge.{Placed}
 use Rattle.fr_audit.specs.Audited.{turn_at, with_turn}
-use Rattle.fr_audit.specs.declared.fault.AuditFault.{AuditFault}
-use Rattle.fr_audit.specs.declared.fault.AuditFault.TheVariants.{NotARun}
+use Rattle.fr_audit.specs.declared.finding.Cause.TheVariants.{Repeated}
+use Rattle.fr_audit.specs.declared.finding.Finding.{Finding}
+use Rattle.fr_audit.specs.declared.finding.Finding.TheVariants.{NotARun}
 
 -- the entry before that of a number
 abbrev pub before_at : List Placed → ℕ → Option Placed
@@ -14,5 +15,5 @@ before_at ps zero = None
 before_at ps (suc n) = slice_get ps n
 
 -- the turns after an entry that has, or has not, the place of the one before
-abbrev pub after_this : Config → List Turn → Bool → ℕ → Placed → Result (List Turn) AuditFault
-after_this c h repeated at p = if repeated then Err (NotARun at) else with_turn h at p (turn_at c h p)
+abbrev pub after_this : Config → List Turn → Bool → ℕ → Placed → Result (List Turn) Finding
+after_this c h repeated at p = if repeated then Err (NotARun at Repeated) else with_turn h at p (turn_at c h p)

@@ -3,9 +3,11 @@ ghost use Rattle.std.specs.Prelude.{◌≡◌, ◌≢◌, ◌<◌, None, length,
 ghost use Rattle.fr_audit.specs.Audited as rule;
 ghost use Rattle.fr_audit.specs.Checking.{after_this, before_at};
 ghost use Rattle.fr_audit_journal.specs.Placed.{placed_of};
+ghost use Rattle.fr_run_event.specs.At.{last_at};
 
 use crate::entry::{event_of, says};
 use crate::fault::AuditFault;
+use crate::finding::{Cause, Finding};
 use fr_audit_journal::{Journal, NodeEntry, merge};
 use fr_base::{Memory, NodeId};
 use fr_run_event::NotEnabled;
@@ -23,33 +25,46 @@ pub fn audit(alloc: Global, config: Config, journals: &[Journal]) -> Result<Worl
     ensures turns { IfOk result (λ world. rule.audited config journals.now ≡ Ok world.turns) }
     ensures fault { IfErr result (λ fault. fault ≢ AuditFault.Memory → rule.audited config journals.now ≡ Err fault) }
 {
+    match examine(alloc, config, journals) {
+        Ok(world) => Ok(world),
+        Err(finding) => Err(finding.fault()),
+    }
+}
+
+/// As [`audit`], and a fault comes with what the rules say there: why an entry cannot happen, what the world tells at
+/// it, or the state in which it leaves the node.
+pub fn examine(alloc: Global, config: Config, journals: &[Journal]) -> Result<World, Finding>
+    ensures config { IfOk result (λ world. world.config ≡ config) }
+    ensures turns { IfOk result (λ world. rule.found config journals.now ≡ Ok world.turns) }
+    ensures finding { IfErr result (λ finding. finding ≢ Finding.Memory → rule.found config journals.now ≡ Err finding) }
+{
     let Ok(entries) = merge(alloc, journals) else {
-        return Err(AuditFault::Memory);
+        return Err(Finding::Memory);
     };
     let Ok(world) = World::start(alloc, config) else {
-        return Err(AuditFault::Memory);
+        return Err(Finding::Memory);
     };
     let world = enter_all(alloc, world, entries.as_slice())?;
     match first_unlike(alloc, &world, journals) {
         Ok(None) => Ok(world),
-        Ok(Some(node)) => Err(AuditFault::StateDiffers { node }),
-        Err(_) => Err(AuditFault::Memory),
+        Ok(Some(node)) => Err(unlike(alloc, &world, node)),
+        Err(_) => Err(Finding::Memory),
     }
 }
 
 /// Makes the events that entries are, one after another.
-fn enter_all(alloc: Global, world: World, entries: &[NodeEntry]) -> Result<World, AuditFault>
+fn enter_all(alloc: Global, world: World, entries: &[NodeEntry]) -> Result<World, Finding>
     ensures config { IfOk result (λ after. after.config ≡ world.config) }
     ensures turns { IfOk result (λ after. rule.after_entries world.config world.turns None 0 (map placed_of entries.now) ≡ Ok after.turns) }
-    ensures fault { IfErr result (λ fault. fault ≢ AuditFault.Memory
-        → rule.after_entries world.config world.turns None 0 (map placed_of entries.now) ≡ Err fault) }
+    ensures finding { IfErr result (λ finding. finding ≢ Finding.Memory
+        → rule.after_entries world.config world.turns None 0 (map placed_of entries.now) ≡ Err finding) }
 {
     let mut world = world;
     for (number, entry) in entries.iter().enumerate() {
         let repeated = is_repeated(entries, number, entry);
         match enter(alloc, world, repeated, number, entry) {
             Ok(next) => world = next,
-            Err(fault) => return Err(fault),
+            Err(finding) => return Err(finding),
         }
     }
     Ok(world)
@@ -79,38 +94,45 @@ fn is_same_place(one: &NodeEntry, other: &NodeEntry) -> bool
     order == Ordering::Equal
 }
 
-/// Makes the event that an entry is, or says its fault; the world is given up then.
+/// Makes the event that an entry is, or says what is found there; the world is given up then.
 fn enter(
     alloc: Global,
     world: World,
     repeated: bool,
     number: usize,
     entry: &NodeEntry,
-) -> Result<World, AuditFault>
+) -> Result<World, Finding>
     ensures config { IfOk result (λ after. after.config ≡ world.config) }
     ensures turns { IfOk result (λ after. after_this world.config world.turns repeated number (placed_of entry.now) ≡ Ok after.turns) }
-    ensures fault { IfErr result (λ fault. fault ≢ AuditFault.Memory
-        → after_this world.config world.turns repeated number (placed_of entry.now) ≡ Err fault) }
+    ensures finding { IfErr result (λ finding. finding ≢ Finding.Memory
+        → after_this world.config world.turns repeated number (placed_of entry.now) ≡ Err finding) }
 {
     if repeated {
-        return Err(AuditFault::NotARun { at: number });
+        return Err(no_run(number, Cause::Repeated));
     }
     let event = match event_of(entry.node, &entry.entry.act) {
         Ok(Some(event)) => event,
-        Ok(None) => return Err(AuditFault::NotARun { at: number }),
-        Err(_) => return Err(AuditFault::Memory),
+        Ok(None) => return Err(no_run(number, Cause::NoSuchAct)),
+        Err(_) => return Err(Finding::Memory),
     };
     match world.step_owned(alloc, &event) {
         Ok((after, answer)) => {
             if says(&entry.entry.act, &answer) {
                 Ok(after)
             } else {
-                Err(AuditFault::TellDiffers { at: number })
+                Err(Finding::TellDiffers { at: number, answer })
             }
         }
-        Err(NotEnabled::Memory) => Err(AuditFault::Memory),
-        Err(_) => Err(AuditFault::NotARun { at: number }),
+        Err(NotEnabled::Memory) => Err(Finding::Memory),
+        Err(why) => Err(no_run(number, Cause::NotEnabled(why))),
     }
+}
+
+/// That an entry cannot happen, for a cause.
+fn no_run(at: usize, cause: Cause) -> Finding
+    ensures { result ≡ Finding.NotARun at cause }
+{
+    Finding::NotARun { at, cause }
 }
 
 /// The first node whose journal was not closed with its last state.
@@ -132,6 +154,16 @@ fn first_unlike(
         }
     }
     Ok(first)
+}
+
+/// That a node's journal was not closed with its last state, which is this one.
+fn unlike(alloc: Global, world: &World, node: NodeId) -> Finding
+    ensures { result ≢ Finding.Memory → result ≡ Finding.StateDiffers node (last_at world.now.config world.now.turns node) }
+{
+    match world.last_of(alloc, node) {
+        Ok(last) => Finding::StateDiffers { node, last },
+        Err(_) => Finding::Memory,
+    }
 }
 
 /// Whether a journal was closed with the last state of its node.

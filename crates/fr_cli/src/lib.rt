@@ -11,7 +11,7 @@ mod words;
 
 pub use fr_cli_apply::{ApplyOptions, run_apply, run_apply_on};
 pub use fr_cli_apply_sql::{DbFault, FileFault, run_apply_db, run_apply_sql, run_rows_db};
-pub use fr_cli_audit::run_audit;
+pub use fr_cli_audit::{Judged, run_audit, run_audit_explained};
 pub use fr_cli_cluster::{ClusterOptions, ClusterWords, DEFAULTS, run_cluster};
 pub use fr_cli_cluster_sql::run_cluster_sql;
 pub use fr_cli_end::{EndOptions, run_end};

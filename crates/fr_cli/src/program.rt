@@ -3,7 +3,7 @@ use crate::apply::apply_to;
 use crate::cluster::cluster_on;
 use crate::words::{Request, read_words};
 use fr_cli_apply_sql::{DbFault, run_apply_db, run_rows_db};
-use fr_cli_audit::run_audit;
+use fr_cli_audit::{Judged, run_audit_explained};
 use fr_cli_end::run_end;
 use fr_cli_json::CliFault;
 use fr_cli_simulate::run_simulate;
@@ -36,7 +36,7 @@ pub fn run_program<H: Threads + Wait + Sync, E: Eprint + Sync, R: Read, W: Write
         Request::Apply(kind) => ending(apply_to(kind, alloc, reader, writer)),
         Request::End(options) => ending(run_end(alloc, options, reader, writer)),
         Request::Simulate => ending(run_simulate(alloc, reader, writer)),
-        Request::Audit => ending(run_audit(alloc, reader, writer)),
+        Request::Audit => audit_ending(host, run_audit_explained(alloc, reader, writer)),
         Request::Cluster(kind, options) => {
             cluster_ending(cluster_on(kind, rt, terminal, alloc, options, writer))
         }
@@ -47,6 +47,19 @@ pub fn run_program<H: Threads + Wait + Sync, E: Eprint + Sync, R: Read, W: Write
 fn ending(answer: Result<u8, CliFault>) -> Ending {
     match answer {
         Ok(status) => Ending::Done(status),
+        Err(fault) => Ending::Fault(fault),
+    }
+}
+
+/// How an audit ends. What a fault is stands on standard error; that it cannot be written there changes nothing.
+fn audit_ending(host: &HostRuntime, answer: Result<Judged, CliFault>) -> Ending {
+    match answer {
+        Ok(judged) => {
+            if let Some(why) = &judged.why {
+                let _ = eprintln!(host; "fdbrec: {why}");
+            }
+            Ending::Done(judged.status)
+        }
         Err(fault) => Ending::Fault(fault),
     }
 }

@@ -4,17 +4,27 @@ ghost use Rattle.std.specs.Io.KnownBytes.{Appends};
 ghost use Rattle.fr_cli_json.specs.Calls.{no_calls, HasNoInput, HasNotFailed, IsWriteFault};
 ghost use Rattle.fr_run.specs.Config as history;
 ghost use Rattle.fr_audit_journal.specs.Journal.{JournalState};
-ghost use Rattle.fr_audit.specs.Audited.{audited};
+ghost use Rattle.fr_audit.specs.Audited.{audited, found};
 ghost use Rattle.fr_cli_audit.specs.Lines.{line_of, status_of};
 
+use crate::explained::finding_text;
 use crate::lines::fault_text;
-use fr_audit::{AuditFault, audit};
+use fr_audit::{Finding, examine};
 use fr_audit_journal::Journal;
 use fr_audit_script::{ScriptFault, read_script};
 use fr_cli_json::{CallCounts, CliFault, put, read_input};
 use fr_run_event::Config;
 use std::alloc::Global;
 use std::io::{Read, Write};
+
+/// How an audit ended.
+#[derive(Debug, Drop)]
+pub struct Judged {
+    /// 0 for a run, 1 for a fault.
+    pub status: u8,
+    /// What the fault is, as a text of one line; None for a run, or if there was no memory for it.
+    pub why: Option<String>,
+}
 
 /// Audits the journals of a script, and writes one line: that they are a run of the script's config, or the first
 /// fault.
@@ -32,33 +42,52 @@ pub fn run_audit<R: Read, W: Write>(
     ensures unwritten { (result ≡ Err CliFault.BadScript) ⊎ (result ≡ Err CliFault.Input)
         → writer.new ≡ writer.old }
 {
+    let judged = run_audit_explained(alloc, reader, writer)?;
+    Ok(judged.status)
+}
+
+/// As [`run_audit`], and says what a fault is: the entry or the node, what its journal says and what the rules say
+/// there. Of a run nothing is said.
+pub fn run_audit_explained<R: Read, W: Write>(
+    alloc: Global,
+    reader: &mut R,
+    writer: &mut W,
+) -> Result<Judged, CliFault>
+    ensures line { IfOk result (λ judged. (c : history.Config) × (js : List JournalState)
+        × (judged.status ≡ status_of (audited c js))
+        × Appends (W.contents writer.old) (W.contents writer.new) (line_of (audited c js))) }
+    ensures unwritten { (result ≡ Err CliFault.BadScript) ⊎ (result ≡ Err CliFault.Input)
+        → writer.new ≡ writer.old }
+    ensures unsaid { IfOk result (λ judged. judged.status ≡ 0 → judged.why ≡ None) }
+{
     let mut calls = CallCounts::new();
     audit_counted(alloc, &mut calls, reader, writer)
 }
 
-/// As [`run_audit`], with the calls of the reader and of the writer counted in `calls`, which has none yet. `Input` is
-/// answered only if a read failed or 2^30 of them found no end, `Output` only if a write or a flush failed.
+/// As [`run_audit_explained`], with the calls of the reader and of the writer counted in `calls`, which has none yet.
+/// `Input` is answered only if a read failed or 2^30 of them found no end, `Output` only if a write or a flush failed.
 pub fn audit_counted<R: Read, W: Write>(
     alloc: Global,
     calls: &mut CallCounts,
     reader: &mut R,
     writer: &mut W,
-) -> Result<u8, CliFault>
+) -> Result<Judged, CliFault>
     requires fresh { calls.old ≡ no_calls }
-    ensures line { IfOk result (λ status. (c : history.Config) × (js : List JournalState)
-        × (status ≡ status_of (audited c js))
+    ensures line { IfOk result (λ judged. (c : history.Config) × (js : List JournalState)
+        × (judged.status ≡ status_of (audited c js))
         × Appends (W.contents writer.old) (W.contents writer.new) (line_of (audited c js))) }
     ensures unwritten { (result ≡ Err CliFault.BadScript) ⊎ (result ≡ Err CliFault.Input)
         → writer.new ≡ writer.old }
+    ensures unsaid { IfOk result (λ judged. judged.status ≡ 0 → judged.why ≡ None) }
     ensures no_input { result ≡ Err CliFault.Input → HasNoInput calls.new }
     ensures no_output { result ≡ Err CliFault.Output → 0 < calls.new.failed_writes }
     ensures done { OnOk result (HasNotFailed calls.new) }
 {
     let input = read_input(alloc, calls, reader)?;
     let (config, journals) = journals_in(alloc, input)?;
-    let status = put_audit(alloc, config, journals.as_slice(), calls, writer)?;
+    let judged = put_audit(alloc, config, journals.as_slice(), calls, writer)?;
     calls.flush(writer)?;
-    Ok(status)
+    Ok(judged)
 }
 
 /// The config and the journals of a script. The input is let go once they are made.
@@ -72,43 +101,48 @@ fn journals_in(alloc: Global, input: Vec<u8>) -> Result<(Config, Vec<Journal>), 
     }
 }
 
-/// Audits journals, and writes the line; gives the status.
+/// Audits journals, and writes the line; gives the status, and what a fault is.
 fn put_audit<W: Write>(
     alloc: Global,
     config: Config,
     journals: &[Journal],
     calls: &mut CallCounts,
     writer: &mut W,
-) -> Result<u8, CliFault>
-    ensures status { IfOk result (λ status. status ≡ status_of (audited config journals.now)) }
+) -> Result<Judged, CliFault>
+    ensures status { IfOk result (λ judged. judged.status ≡ status_of (audited config journals.now)) }
     ensures line { OnOk result (Appends (W.contents writer.old) (W.contents writer.new) (line_of (audited config journals.now))) }
+    ensures unsaid { IfOk result (λ judged. judged.status ≡ 0 → judged.why ≡ None) }
     ensures fault { IfErr result (λ e. IsWriteFault calls.new e) }
     ensures done { OnOk result (calls.new ≡ calls.old) }
 {
-    match fault_of(alloc, config, journals) {
+    match finding_of(alloc, config, journals) {
         None => {
             put(calls, writer, "audit ok\n")?;
-            Ok(0)
+            Ok(Judged {
+                status: 0,
+                why: None,
+            })
         }
-        Some(AuditFault::Memory) => Err(CliFault::Memory),
-        Some(fault) => {
-            let text = fault_text(alloc, &fault)?;
+        Some(Finding::Memory) => Err(CliFault::Memory),
+        Some(finding) => {
+            let text = fault_text(alloc, &finding.fault())?;
             put(calls, writer, text.as_str())?;
-            Ok(1)
+            let why = finding_text(alloc, journals, &finding).ok();
+            Ok(Judged { status: 1, why })
         }
     }
 }
 
-/// The fault of some journals, if they are no run.
-fn fault_of(alloc: Global, config: Config, journals: &[Journal]) -> Option<AuditFault>
+/// What is found of some journals, if they are no run.
+fn finding_of(alloc: Global, config: Config, journals: &[Journal]) -> Option<Finding>
     ensures none { result ≡ None → IsOk (audited config journals.now) }
-    ensures some { IfSome result (λ fault. fault ≢ AuditFault.Memory → audited config journals.now ≡ Err fault) }
+    ensures some { IfSome result (λ finding. finding ≢ Finding.Memory → found config journals.now ≡ Err finding) }
 {
-    match audit(alloc, config, journals) {
+    match examine(alloc, config, journals) {
         Ok(world) => {
             drop(world);
             None
         }
-        Err(fault) => Some(fault),
+        Err(finding) => Some(finding),
     }
 }

@@ -1,8 +1,12 @@
-//! The command `audit` of `fdbrec` as a function over a reader and a writer: whether journals are a run.
+//! The command `audit` of `fdbrec` as a function over a reader and a writer: whether journals are a run, and what a
+//! fault is.
 #![tactic(auto)]
 
 mod audits;
+mod differing;
+mod explained;
 mod lines;
 
-pub use audits::{audit_counted, run_audit};
+pub use audits::{Judged, audit_counted, run_audit, run_audit_explained};
+pub use explained::finding_text;
 pub use lines::fault_text;

@@ -22,7 +22,7 @@ pub fn fault_text(alloc: Global, fault: &AuditFault) -> Result<String, AllocErro
 }
 
 /// A node: its kind, and its numbers.
-fn node_text(alloc: Global, node: NodeId) -> Result<String, AllocError>
+pub(crate) fn node_text(alloc: Global, node: NodeId) -> Result<String, AllocError>
     ensures { IfOk result (λ text. string_bytes text ≡ lines.node_text node) }
 {
     match node {

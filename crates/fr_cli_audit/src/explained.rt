@@ -1,0 +1,158 @@
+//! What a fault of an audit is: the line that says it.
+use crate::differing::differing;
+use crate::lines::node_text;
+use fr_ask::Last;
+use fr_audit::{Cause, Finding, entry_at};
+use fr_audit_journal::{Act, Journal, NodeEntry};
+use fr_audit_script::write_act;
+use fr_base::{Memory, NodeId};
+use fr_forms::{write_ask, write_last, write_outcome, write_tell};
+use fr_run_event::Answer;
+use serde_json::Value;
+use std::alloc::{AllocError, Global};
+
+/// What is found of these journals, as a text of one line: the entry or the node, what its journal says, and what the
+/// rules say there. Asks, tells and states have the forms of scripts. It is of printable ASCII; a character beside that
+/// is escaped as JSON escapes it.
+pub fn finding_text(
+    alloc: Global,
+    journals: &[Journal],
+    finding: &Finding,
+) -> Result<String, Memory> {
+    let text = match finding {
+        Finding::NotARun { at, cause } => no_run_text(alloc, journals, *at, *cause)?,
+        Finding::TellDiffers { at, answer } => told_text(alloc, journals, *at, answer)?,
+        Finding::StateDiffers { node, last } => state_text(alloc, journals, *node, last)?,
+        Finding::Memory => return Err(Memory),
+    };
+    Ok(printable(alloc, text.as_str())?)
+}
+
+/// The entry that cannot happen, why, and its act.
+fn no_run_text(
+    alloc: Global,
+    journals: &[Journal],
+    at: usize,
+    cause: Cause,
+) -> Result<String, Memory> {
+    let Some(placed) = entry_at(alloc, journals, at)? else {
+        return Ok(format!(in alloc; "there is no entry {at}")?);
+    };
+    let place = place_text(alloc, at, &placed)?;
+    let act = write_act(alloc, &placed.entry.act)?;
+    Ok(format!(in alloc; "{place} cannot happen, {cause}: {act}")?)
+}
+
+/// The entry whose tell or outcome is another one by the rules, and both.
+fn told_text(
+    alloc: Global,
+    journals: &[Journal],
+    at: usize,
+    answer: &Answer,
+) -> Result<String, Memory> {
+    let Some(placed) = entry_at(alloc, journals, at)? else {
+        return Ok(format!(in alloc; "there is no entry {at}")?);
+    };
+    let place = place_text(alloc, at, &placed)?;
+    let said = said_text(alloc, &placed.entry.act)?;
+    let answer = write_answer(alloc, answer)?;
+    Ok(format!(in alloc; "{place}, {said}; by the rules {answer}")?)
+}
+
+/// An entry: its number, its node and its stamp.
+fn place_text(alloc: Global, at: usize, placed: &NodeEntry<'_>) -> Result<String, AllocError> {
+    let node = node_text(alloc, placed.node)?;
+    let stamp = placed.entry.stamp.get();
+    format!(in alloc; "entry {at}, {node} at stamp {stamp}")
+}
+
+/// What an act says that the world answers, behind what that is the answer to. Other acts say nothing of it.
+fn said_text(alloc: Global, act: &Act) -> Result<String, Memory> {
+    match act {
+        Act::Asked { from, ask, tell } => {
+            let from = node_text(alloc, *from)?;
+            let ask = write_ask(alloc, ask)?;
+            let tell = write_tell(alloc, tell)?;
+            Ok(format!(in alloc; "asked {ask} by {from}: it told {tell}")?)
+        }
+        Act::Heard {
+            from,
+            tell,
+            outcome,
+            ..
+        } => {
+            let from = node_text(alloc, *from)?;
+            let tell = write_tell(alloc, tell)?;
+            let outcome = write_outcome(alloc, outcome)?;
+            Ok(format!(in alloc; "told {tell} by {from}: its outcome was {outcome}")?)
+        }
+        _ => Ok(String::new(alloc)),
+    }
+}
+
+/// The form of what the world answers: a tell, or an outcome, which is null if there is none.
+fn write_answer(alloc: Global, answer: &Answer) -> Result<Value, Memory> {
+    match answer {
+        Answer::Told(tell) => write_tell(alloc, tell),
+        Answer::Heard(outcome) => write_outcome(alloc, &Some(*outcome)),
+        Answer::Refused(_) => Ok(Value::Null),
+        Answer::Done => Ok(Value::Null),
+    }
+}
+
+/// The node that ends in another state than its journal says, and both states where they differ.
+fn state_text(
+    alloc: Global,
+    journals: &[Journal],
+    node: NodeId,
+    last: &Option<Last>,
+) -> Result<String, Memory> {
+    let name = node_text(alloc, node)?;
+    let Some(last) = last else {
+        return Ok(format!(in alloc; "{name}: there is no such node")?);
+    };
+    let Some(closed) = closed_otherwise(journals, node, last) else {
+        let last = write_last(alloc, last)?;
+        return Ok(format!(in alloc; "{name}: its journal was not closed; by the rules {last}")?);
+    };
+    let (closed, last) = differing(alloc, closed, last)?;
+    Ok(format!(in alloc;
+        "{name}: where they differ its journal was closed with {closed}; by the rules {last}"
+    )?)
+}
+
+/// The state, other than this one, with which a journal of a node was closed.
+fn closed_otherwise<'a>(journals: &'a [Journal], node: NodeId, last: &Last) -> Option<&'a Last> {
+    for journal in journals {
+        if let Some(closed) = journal.last() {
+            if journal.node().is_same(node) && closed != last {
+                return Some(closed);
+            }
+        }
+    }
+    None
+}
+
+/// A text of which only printable characters of ASCII are left as they are.
+fn printable(alloc: Global, text: &str) -> Result<String, AllocError> {
+    let mut plain = String::new(alloc);
+    for letter in text.chars() {
+        if matches!(letter, ' '..='~') {
+            plain.push(letter)?;
+        } else {
+            escape(&mut plain, letter as u32)?;
+        }
+    }
+    Ok(plain)
+}
+
+/// Puts a character to a text as JSON escapes it: by its number, or by two that stand for it.
+fn escape(text: &mut String, number: u32) -> Result<(), AllocError> {
+    if number < 0x1_0000 {
+        return write!(text, "\\u{number:04x}");
+    }
+    let rest = number - 0x1_0000;
+    let high = 0xd800 + rest / 0x400;
+    let low = 0xdc00 + rest % 0x400;
+    write!(text, "\\u{high:04x}\\u{low:04x}")
+}
