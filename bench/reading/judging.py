@@ -64,14 +64,25 @@ def answer_of(events, name, act):
     return None
 
 
-def entered_answer(act):
-    """The same as the journal has it, and what it is the answer to."""
+def spoken_act(act):
+    """What a node did, without what is told or said of it."""
     ((kind, it),) = act.items()
     if kind == "asked":
-        return it["tell"], f"asked {form(it['ask'])} by {spoken(it['from'])}: it told"
+        return f"asked {form(it['ask'])} by {spoken(it['from'])}"
     if kind == "heard":
-        return it["outcome"], f"told {form(it['tell'])} by {spoken(it['from'])}: its outcome was"
-    return None, ""
+        taken = f", broken off at version {it['taken']}" if it["taken"] is not None else ""
+        return f"told {form(it['tell'])} by {spoken(it['from'])}{taken}"
+    if kind == "submitted":
+        return f"submitted {form(it['batch'])} with step {it['step']}"
+    return f"{kind} with logs {it['logs']} and degree {it['degree']}" if it else kind
+
+
+def entered_answer(act):
+    """What the journal has told or said of it, and how that is named."""
+    ((kind, it),) = act.items()
+    if kind == "asked":
+        return it["tell"], "it told"
+    return it.get("outcome"), "its outcome was"
 
 
 def differing(one, other):
@@ -104,10 +115,11 @@ def judged(script):
             by_rules = answer_of(events, name, act)
         except (Refused, rules.Fault, KeyError, IndexError, ValueError, TypeError) as why:
             cause = CAUSES.get(str(why), f"({type(why).__name__}: {why})")
-            return f"not a run at {at}", f"{here} cannot happen, {cause}: {form(act)}"
-        entered, asked = entered_answer(act)
+            return f"not a run at {at}", f"{here} cannot happen, {cause}: {spoken_act(act)}"
+        entered, named = entered_answer(act)
         if by_rules != entered:
-            return f"tell differs at {at}", f"{here}, {asked} {form(entered)}; by the rules {form(by_rules)}"
+            said = f"{named} {form(entered)}; by the rules {form(by_rules)}"
+            return f"tell differs at {at}", f"{here}, {spoken_act(act)}: {said}"
     for each in sorted(script["journals"], key=lambda it: place(it["node"])):
         name = each["node"]
         ((kind, _),) = name.items()

@@ -160,10 +160,10 @@ fn first_unlike(
 fn unlike(alloc: Global, world: &World, node: NodeId) -> Finding
     ensures { result ≢ Finding.Memory → result ≡ Finding.StateDiffers node (last_at world.now.config world.now.turns node) }
 {
-    match world.last_of(alloc, node) {
-        Ok(last) => Finding::StateDiffers { node, last },
-        Err(_) => Finding::Memory,
-    }
+    let Ok(last) = world.last_of(alloc, node) else {
+        return Finding::Memory;
+    };
+    Finding::StateDiffers { node, last }
 }
 
 /// Whether a journal was closed with the last state of its node.

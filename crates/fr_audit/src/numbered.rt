@@ -20,7 +20,8 @@ pub fn entry_at<'a>(
 {
     let entries = merge(alloc, journals)?;
     if at < entries.len() {
-        Ok(Some(entries[at]))
+        let NodeEntry { node, entry } = &entries[at];
+        Ok(Some(NodeEntry { node: *node, entry }))
     } else {
         Ok(None)
     }

@@ -85,8 +85,7 @@ pub(crate) fn read_taken(value: &Value) -> Result<Option<Version>, ScriptFault> 
     Ok(Some(version_of(value)?))
 }
 
-/// The form of what a node did.
-pub fn write_act(alloc: Global, act: &Act) -> Result<Value, Memory> {
+pub(crate) fn write_act(alloc: Global, act: &Act) -> Result<Value, Memory> {
     match act {
         Act::Asked { from, ask, tell } => write_asked(alloc, from, ask, tell),
         Act::Heard {

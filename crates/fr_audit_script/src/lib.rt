@@ -8,6 +8,5 @@ mod pieces;
 mod script;
 mod setting;
 
-pub use acts::write_act;
 pub use fr_forms::ScriptFault;
 pub use script::{read_script, write_script};

@@ -133,6 +133,9 @@ line:
   state differs at NODE   the node ends in another state, its journal was not closed, or there is
                           no such node: cell I, log E I, sequencer E, proxy E P, recoverer B, storage T
 
+Of a fault standard error has one line more: the entry or the node, what its journal says there, and
+what the rules say.
+
 For instance
 
   {\"config\":{\"coordinators\":1,\"degree\":1,\"logs\":1,\"proxies\":1,\"shards\":[\"\"]},\"journals\":[

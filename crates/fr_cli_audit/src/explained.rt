@@ -4,9 +4,8 @@ use crate::lines::node_text;
 use fr_ask::Last;
 use fr_audit::{Cause, Finding, entry_at};
 use fr_audit_journal::{Act, Journal, NodeEntry};
-use fr_audit_script::write_act;
-use fr_base::{Memory, NodeId};
-use fr_forms::{write_ask, write_last, write_outcome, write_tell};
+use fr_base::{Memory, NodeId, Shape, Version};
+use fr_forms::{write_ask, write_batch, write_last, write_outcome, write_tell};
 use fr_run_event::Answer;
 use serde_json::Value;
 use std::alloc::{AllocError, Global};
@@ -39,7 +38,7 @@ fn no_run_text(
         return Ok(format!(in alloc; "there is no entry {at}")?);
     };
     let place = place_text(alloc, at, &placed)?;
-    let act = write_act(alloc, &placed.entry.act)?;
+    let act = act_text(alloc, &placed.entry.act)?;
     Ok(format!(in alloc; "{place} cannot happen, {cause}: {act}")?)
 }
 
@@ -54,9 +53,10 @@ fn told_text(
         return Ok(format!(in alloc; "there is no entry {at}")?);
     };
     let place = place_text(alloc, at, &placed)?;
+    let act = act_text(alloc, &placed.entry.act)?;
     let said = said_text(alloc, &placed.entry.act)?;
     let answer = write_answer(alloc, answer)?;
-    Ok(format!(in alloc; "{place}, {said}; by the rules {answer}")?)
+    Ok(format!(in alloc; "{place}, {act}: {said}; by the rules {answer}")?)
 }
 
 /// An entry: its number, its node and its stamp.
@@ -66,25 +66,70 @@ fn place_text(alloc: Global, at: usize, placed: &NodeEntry<'_>) -> Result<String
     format!(in alloc; "entry {at}, {node} at stamp {stamp}")
 }
 
-/// What an act says that the world answers, behind what that is the answer to. Other acts say nothing of it.
-fn said_text(alloc: Global, act: &Act) -> Result<String, Memory> {
-    match act {
-        Act::Asked { from, ask, tell } => {
+/// What a node did, without what the world answers.
+fn act_text(alloc: Global, act: &Act) -> Result<String, Memory> {
+    let text = match act {
+        Act::Asked { from, ask, .. } => {
             let from = node_text(alloc, *from)?;
             let ask = write_ask(alloc, ask)?;
-            let tell = write_tell(alloc, tell)?;
-            Ok(format!(in alloc; "asked {ask} by {from}: it told {tell}")?)
+            format!(in alloc; "asked {ask} by {from}")?
         }
         Act::Heard {
             from,
             tell,
-            outcome,
+            taken,
             ..
         } => {
             let from = node_text(alloc, *from)?;
             let tell = write_tell(alloc, tell)?;
+            let taken = taken_text(alloc, taken)?;
+            format!(in alloc; "told {tell} by {from}{taken}")?
+        }
+        Act::Submitted { step, batch } => {
+            let step = step.get();
+            let batch = write_batch(alloc, batch)?;
+            format!(in alloc; "submitted {batch} with step {step}")?
+        }
+        Act::Begun { shape } => begun_text(alloc, shape)?,
+        Act::Crashed => String::from_str(alloc, "crashed")?,
+        Act::Lost => String::from_str(alloc, "lost")?,
+    };
+    Ok(text)
+}
+
+/// Where a hear broke off, if it did.
+fn taken_text(alloc: Global, taken: &Option<Version>) -> Result<String, AllocError> {
+    match taken {
+        Some(version) => {
+            let version = version.get();
+            format!(in alloc; ", broken off at version {version}")
+        }
+        None => Ok(String::new(alloc)),
+    }
+}
+
+/// That a recoverer began, and with which shape.
+fn begun_text(alloc: Global, shape: &Option<Shape>) -> Result<String, AllocError> {
+    match shape {
+        Some(shape) => {
+            let logs = shape.m();
+            let degree = shape.k();
+            format!(in alloc; "begun with logs {logs} and degree {degree}")
+        }
+        None => String::from_str(alloc, "begun"),
+    }
+}
+
+/// What an act says that the world answers. Acts that are no answer say nothing of it.
+fn said_text(alloc: Global, act: &Act) -> Result<String, Memory> {
+    match act {
+        Act::Asked { tell, .. } => {
+            let tell = write_tell(alloc, tell)?;
+            Ok(format!(in alloc; "it told {tell}")?)
+        }
+        Act::Heard { outcome, .. } => {
             let outcome = write_outcome(alloc, outcome)?;
-            Ok(format!(in alloc; "told {tell} by {from}: its outcome was {outcome}")?)
+            Ok(format!(in alloc; "its outcome was {outcome}")?)
         }
         _ => Ok(String::new(alloc)),
     }
