@@ -47,7 +47,7 @@ pub fn examine(alloc: Global, config: Config, journals: &[Journal]) -> Result<Wo
     let world = enter_all(alloc, world, entries.as_slice())?;
     match first_unlike(alloc, &world, journals) {
         Ok(None) => Ok(world),
-        Ok(Some(node)) => Err(unlike(alloc, &world, node)),
+        Ok(Some(node)) => Err(unlike(alloc, &world, &node)),
         Err(_) => Err(Finding::Memory),
     }
 }
@@ -157,13 +157,13 @@ fn first_unlike(
 }
 
 /// That a node's journal was not closed with its last state, which is this one.
-fn unlike(alloc: Global, world: &World, node: NodeId) -> Finding
-    ensures { result ≢ Finding.Memory → result ≡ Finding.StateDiffers node (last_at world.now.config world.now.turns node) }
+fn unlike(alloc: Global, world: &World, node: &NodeId) -> Finding
+    ensures { result ≢ Finding.Memory → result ≡ Finding.StateDiffers node.now (last_at world.now.config world.now.turns node.now) }
 {
-    let Ok(last) = world.last_of(alloc, node) else {
+    let Ok(last) = world.last_of(alloc, *node) else {
         return Finding::Memory;
     };
-    Finding::StateDiffers { node, last }
+    Finding::StateDiffers { node: *node, last }
 }
 
 /// Whether a journal was closed with the last state of its node.
