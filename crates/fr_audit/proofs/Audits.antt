@@ -6,7 +6,6 @@ use Rattle.fr_run.specs.Config.{Config}
 use Rattle.fr_run.specs.Turn.{Turn}
 use Rattle.fr_run_event.specs.At.{last_at}
 use Rattle.fr_run_event.specs.Step.{answer_of}
-use Rattle.fr_ask.specs.declared.last.Last.{Last}
 use Rattle.fr_audit_journal.specs.Journal.{JournalState}
 use Rattle.fr_audit_journal.specs.Law.{MergedIsSorted}
 use Rattle.fr_audit_journal.specs.Merge.{merged}
@@ -16,11 +15,8 @@ use Rattle.fr_audit.specs.Audited.{after_entries, fault_of, first_unlike, found,
 use Rattle.fr_audit.specs.Entry.{says}
 use Rattle.fr_audit.specs.Law.{FaultIsFound, IsFirstUnlike, IsFound, IsCause, IsNoRunAt, IsReached, IsToldElse, NotARunIsFirst, OkIsRun, RunIsOk, StateDiffersIsFirst, TellDiffersIsFirst, last_of}
 use Rattle.fr_audit.specs.Run.{AreApart, IsRunOf}
-use Rattle.fr_audit.specs.declared.fault.AuditFault.{AuditFault}
-use Rattle.fr_audit.specs.declared.finding.Cause.{Cause}
 use Rattle.fr_audit.specs.declared.finding.Finding.{Finding}
 use Rattle.fr_audit.specs.declared.finding.Finding.TheVariants.{NotARun, TellDiffers, StateDiffers}
-use Rattle.fr_run_event.specs.declared.answer.Answer.{Answer}
 use Rattle.fr_audit.proofs.Entries.{AreEntered, Faulty, IsFirstFault, all_entered, enter_all, faulty, first_fault}
 use Rattle.fr_audit.proofs.Lasts.{all_closed, is_first, none_unlike}
 use Rattle.fr_audit.proofs.Places.{are_apart, are_unrepeated}

@@ -1,5 +1,5 @@
 -- An entry that an audit comes to, and the one before it.
-use Rattle.std.specs.Prelude.{ℕ, zero, suc, Bool, List, Option, None, Some, Result, Err, if◌then◌else◌}
+use Rattle.std.specs.Prelude.{ℕ, zero, suc, Bool, List, Option, None, Result, Err, if◌then◌else◌}
 use Rattle.std.specs.List.{slice_get}
 use Rattle.fr_run.specs.Config.{Config}
 use Rattle.fr_run.specs.Turn.{Turn}
