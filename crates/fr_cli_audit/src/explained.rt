@@ -34,8 +34,10 @@ fn no_run_text(
     at: usize,
     cause: Cause,
 ) -> Result<String, Memory> {
-    let Some(placed) = entry_at(alloc, journals, at)? else {
-        return Ok(format!(in alloc; "there is no entry {at}")?);
+    let placed = match entry_at(alloc, journals, at) {
+        Ok(Some(placed)) => placed,
+        Ok(None) => return Ok(format!(in alloc; "there is no entry {at}")?),
+        Err(fault) => return Err(fault),
     };
     let place = place_text(alloc, at, &placed)?;
     let act = act_text(alloc, &placed.entry.act)?;
@@ -49,8 +51,10 @@ fn told_text(
     at: usize,
     answer: &Answer,
 ) -> Result<String, Memory> {
-    let Some(placed) = entry_at(alloc, journals, at)? else {
-        return Ok(format!(in alloc; "there is no entry {at}")?);
+    let placed = match entry_at(alloc, journals, at) {
+        Ok(Some(placed)) => placed,
+        Ok(None) => return Ok(format!(in alloc; "there is no entry {at}")?),
+        Err(fault) => return Err(fault),
     };
     let place = place_text(alloc, at, &placed)?;
     let act = act_text(alloc, &placed.entry.act)?;
@@ -156,7 +160,7 @@ fn state_text(
     let Some(last) = last else {
         return Ok(format!(in alloc; "{name}: there is no such node")?);
     };
-    let Some(closed) = closed_otherwise(journals, node, last) else {
+    let Some(closed) = closed_otherwise(journals, &node, last) else {
         let last = write_last(alloc, last)?;
         return Ok(format!(in alloc; "{name}: its journal was not closed; by the rules {last}")?);
     };
@@ -167,10 +171,11 @@ fn state_text(
 }
 
 /// The state, other than this one, with which a journal of a node was closed.
-fn closed_otherwise<'a>(journals: &'a [Journal], node: NodeId, last: &Last) -> Option<&'a Last> {
+fn closed_otherwise<'a>(journals: &'a [Journal], node: &NodeId, last: &Last) -> Option<&'a Last> {
     for journal in journals {
         if let Some(closed) = journal.last() {
-            if journal.node().is_same(node) && closed != last {
+            let is_of_node = journal.node().is_same(*node);
+            if is_of_node && closed != last {
                 return Some(closed);
             }
         }
