@@ -1,8 +1,11 @@
 """What several tests of tests/ need: built programs, and the end of a test that lacks one."""
 
+import fcntl
 import os
+import shutil
 import subprocess
 import sys
+import time
 
 sys.dont_write_bytecode = True
 TOP = os.path.dirname(os.path.dirname(os.path.realpath(__file__)))
@@ -14,24 +17,28 @@ def skip(why):
     sys.exit(77)
 
 
-def below(crate):
-    """A crate and all that it stands on, by crates.txt."""
+def uses():
+    """What each crate of crates.txt uses: libraries of the repository and of the kit."""
     with open(f"{TOP}/crates.txt", encoding="utf-8") as it:
         lines = [line.split("#")[0].partition(":") for line in it]
-    uses = {name.split()[0]: rest.split() for name, _, rest in lines if name.split()}
-    found, todo = set(), [crate]
+    return {name.split()[0]: rest.split() for name, _, rest in lines if name.split()}
+
+
+def below(crate):
+    """A crate and all that it stands on, by crates.txt."""
+    known, found, todo = uses(), set(), [crate]
     while todo:
         each = todo.pop()
-        if each in uses and each not in found:
+        if each in known and each not in found:
             found.add(each)
-            todo += uses[each]
+            todo += known[each]
     return sorted(found)
 
 
-def newer(crate, program):
-    """A source that is newer than a program, or None."""
-    built = os.stat(program).st_mtime
-    for each in below(crate):
+def newer(crates, made):
+    """A source of these crates that is newer than what was made of them, or None."""
+    built = os.stat(made).st_mtime
+    for each in crates:
         for folder, _, names in os.walk(f"{TOP}/crates/{each}/src"):
             for name in sorted(names):
                 if os.stat(f"{folder}/{name}").st_mtime > built:
@@ -46,22 +53,60 @@ def program(crate="fdbrec"):
     path = given or f"{TOP}/crates/{crate}/out/{crate}"
     if not os.access(path, os.X_OK):
         skip(f"{os.path.relpath(path, TOP)} is not built: rt ci leaves it there")
-    source = None if given else newer(crate, path)
+    source = None if given else newer(below(crate), path)
     if source:
         skip(f"{os.path.relpath(path, TOP)} is older than {source}: rt ci builds it anew")
     return os.path.abspath(path)
 
 
 def archive(crate):
-    """The same of a crate that is a static library."""
+    """The same of a crate that is a static library, as ./build-library leaves it. Of such a crate `rt ci` leaves only
+    the libraries below it; over these it is made here. A second test waits until that is done."""
     given = os.environ.get(f"BUILT_{crate.upper()}")
-    path = given or f"{TOP}/crates/{crate}/out/lib{crate}.a"
-    if not os.path.exists(path):
-        skip(f"{os.path.relpath(path, TOP)} is not built: ./build-library leaves it there")
-    source = None if given else newer(crate, path)
-    if source:
-        skip(f"{os.path.relpath(path, TOP)} is older than {source}: ./build-library builds it anew")
-    return os.path.abspath(path)
+    if given:
+        return os.path.abspath(given)
+    path = f"{TOP}/crates/{crate}/out/lib{crate}.a"
+    os.makedirs(os.path.dirname(path), exist_ok=True)
+    with open(f"{os.path.dirname(path)}/lock-archive", "w", encoding="utf-8") as lock:
+        fcntl.flock(lock, fcntl.LOCK_EX)
+        if not os.path.exists(path) or newer(below(crate), path):
+            make_archive(crate, path)
+    return path
+
+
+def rlib(crate):
+    """The folder of a crate's library."""
+    return f"{TOP}/crates/{crate}/out/rlib/{crate}.rlib"
+
+
+def make_archive(crate, path):
+    """Proves and compiles a static library over the libraries below it, as `rt ci` leaves them. If one is not there, or
+    is older than its source, the test is skipped: to prove them all takes hours."""
+    libraries = [it for it in below(crate) if it != crate]
+    lacking = [it for it in libraries if not os.path.isdir(rlib(it)) or newer([it], rlib(it))]
+    if lacking:
+        lost = os.path.relpath(rlib(lacking[0]), TOP)
+        skip(f"{os.path.relpath(path, TOP)} is not built (./build-library), nor is {lost} below it (rt ci)")
+    if shutil.which("rt") is None:
+        skip(f"{os.path.relpath(path, TOP)} is not built, and the command rt is not on the PATH")
+    told = subprocess.run(["rt", "doc"], stdout=subprocess.PIPE, check=True, text=True)
+    kit = os.path.dirname(told.stdout.strip())
+    words = [f"{kit}/bin/rattle", "build", "--crate-name", crate, "src/lib.rt", "--crate-type", "staticlib"]
+    for it in ["std", *uses()[crate]]:
+        words += ["--extern", f"{it}={rlib(it) if it in libraries else f'{kit}/rlibs/{it}.rlib'}"]
+    for folder in [f"{kit}/rlibs", *(os.path.dirname(rlib(it)) for it in libraries)]:
+        words += ["-L", f"dependency={folder}"]
+    words += ["--antt-project", f"{kit}/rattle/logic/antt-project.json", "--logic-built", f"{kit}/logic_built"]
+    words += ["--links", f"{crate}=", "--jobs", str(min(2, len(os.sched_getaffinity(0))))]
+    words += ["--toolchain", f"{kit}/toolchain", "--backend", "llvm", "-o", f"{path}.new"]
+    began = time.monotonic()
+    ran = subprocess.run(words, cwd=f"{TOP}/crates/{crate}", stdout=subprocess.PIPE, stderr=subprocess.STDOUT)
+    if ran.returncode != 0:
+        print(ran.stdout.decode(errors="replace")[-3000:])
+        print(f"{os.path.relpath(path, TOP)}: rattle build ended with status {ran.returncode}")
+        sys.exit(1)
+    os.replace(f"{path}.new", path)
+    print(f"{os.path.relpath(path, TOP)} was proved and compiled in {time.monotonic() - began:.0f} s", flush=True)
 
 
 def passes(words, **how):

@@ -5,7 +5,7 @@ import re
 from making.sources import TOP, files_of, read
 
 EXPORTS = "crates/fr_c/src"
-STATUSES = "crates/fr_c/src/status.rt"
+STATUSES = "crates/fr_seat/src/status.rt"
 HEADER = "include/fdbrec.h"
 RUST = "bindings/rust/fdbrec-sys/src/lib.rs"
 PYTHON = "bindings/python/fdbrec.py"

@@ -13,7 +13,11 @@ FAMILIES = (
         "journals, their scripts, and whether they are a run",
         r"fr_audit.*|fr_forms|fr_form_.*|fr_simulate_script",
     ),
-    ("Library for C", "machines as one type, and behind handles: what C, Rust and Python call", r"fr_(part|handle|c)"),
+    (
+        "Library for C",
+        "machines as one type, and behind handles: what C, Rust and Python call",
+        r"fr_(part|handle|seat|c)",
+    ),
     ("Nodes as processes", "a turn of one node, and the lines by which it is served", r"fr_node_.*"),
     ("Worlds", "all nodes in one exact run, an event at a time", r"fr_world.*"),
     ("Runs", "lists of turns of all nodes, and the laws of every run: the main theorem", r"fr_run.*"),

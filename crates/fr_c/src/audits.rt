@@ -4,19 +4,21 @@ ghost use Rattle.fr_run.specs.Config as history;
 ghost use Rattle.fr_audit_journal.specs.Journal.{JournalState};
 ghost use Rattle.fr_audit.specs.Audited.{audited};
 ghost use Rattle.fr_cli_audit.specs.Lines.{line_of, status_of};
-ghost use Rattle.fr_c.specs.Answers.{IsGiven};
+ghost use Rattle.fr_seat.specs.Answers.{IsGiven};
 
-use crate::giving::give;
-use crate::status::{BAD_TEXT, MEMORY, OK, REFUSED, SHORT};
 use fr_cli_audit::run_audit;
 use fr_cli_json::CliFault;
+use fr_seat::giving::give;
+use fr_seat::status::{BAD_TEXT, MEMORY, OK, REFUSED, SHORT};
 use std::alloc::Global;
 
 /// Tells whether a script's journals are a run, by the line of the command `audit`.
 #[unsafe(no_mangle)]
 pub extern "C" fn fdbrec_audit(alloc: Global, script: &[u8], out: &mut [u8], len: &mut usize) -> u32
-    ensures ok { result ≡ 0 → (c : history.Config) × (js : List JournalState) × (status_of (audited c js) ≡ 0) × IsGiven (line_of (audited c js)) out.new len.new }
-    ensures refused { result ≡ 5 → (c : history.Config) × (js : List JournalState) × (status_of (audited c js) ≡ 1) × IsGiven (line_of (audited c js)) out.new len.new }
+    ensures ok { result ≡ 0 → (c : history.Config) × (js : List JournalState)
+        × (status_of (audited c js) ≡ 0) × IsGiven (line_of (audited c js)) out.new len.new }
+    ensures refused { result ≡ 5 → (c : history.Config) × (js : List JournalState)
+        × (status_of (audited c js) ≡ 1) × IsGiven (line_of (audited c js)) out.new len.new }
 {
     let mut script = script;
     let mut line = Vec::new(alloc);

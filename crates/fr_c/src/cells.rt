@@ -1,19 +1,15 @@
 //! Cells, in bytes.
-ghost use Rattle.std.specs.Prelude.{◌≡◌, false};
+ghost use Rattle.std.specs.Prelude.{◌≡◌};
 ghost use Rattle.fr_register.specs.declared.ask.CellAsk.TheVariants as cell_ask;
 ghost use Rattle.fr_ask.specs.declared.ask.Ask.TheVariants as ask;
 ghost use Rattle.fr_part.specs.Seat.{seat_after};
-ghost use Rattle.fr_c.specs.Answers.{IsCellRefused, IsPromised, IsPromisedShort, IsTwoValues, IsWritten};
-ghost use Rattle.fr_c.specs.Turns.{Over, IsTurn, keeps};
+ghost use Rattle.fr_seat.specs.Answers.{IsCellRefused, IsPromised, IsPromisedShort, IsTwoValues, IsWritten};
+ghost use Rattle.fr_seat.specs.Turns.{IsTurn, Over};
 
-use crate::status::{EMPTY, KIND, LIMIT, MEMORY, OK, REFUSED, SHORT, TWO_VALUES, UNTOLD};
-use fr_ask::{Ask, Tell};
-use fr_base::Ballot;
 use fr_handle::Handle;
-use fr_part::{PartFault, Said, Seat};
-use fr_register::{CellAsk, CellTell, CellValue};
+use fr_seat::cells::{give_read, read_cell, write_cell};
+use fr_seat::status::EMPTY;
 use std::alloc::Global;
-use std::mem;
 
 /// Reads a cell at a ballot.
 #[unsafe(no_mangle)]
@@ -25,40 +21,21 @@ pub extern "C" fn fdbrec_cell_read(
     out: &mut [u8],
     len: &mut usize,
 ) -> u32
-    ensures turn { Over of.old.value of.new.value result (λ old new. IsTurn result old new (new ≡ seat_after old (ask.Cell (cell_ask.Read ballot)))) }
-    ensures ok { Over of.old.value of.new.value result (λ old new. result ≡ 0 → IsPromised new.said number.new out.new len.new) }
-    ensures short { Over of.old.value of.new.value result (λ old new. result ≡ 3 → IsPromisedShort new.said number.new out.new len.new) }
-    ensures refused { Over of.old.value of.new.value result (λ old new. result ≡ 5 → IsCellRefused new.said number.new) }
+    ensures turn { Over of.old.value of.new.value result
+        (λ old new. IsTurn result old new (new ≡ seat_after old (ask.Cell (cell_ask.Read ballot)))) }
+    ensures ok { Over of.old.value of.new.value result
+        (λ old new. result ≡ 0 → IsPromised new.said number.new out.new len.new) }
+    ensures short { Over of.old.value of.new.value result
+        (λ old new. result ≡ 3 → IsPromisedShort new.said number.new out.new len.new) }
+    ensures refused { Over of.old.value of.new.value result
+        (λ old new. result ≡ 5 → IsCellRefused new.said number.new) }
 {
-    let Some(mut seat) = mem::replace(of, Handle::none(alloc)).into_box() else {
+    let Some(mut seat) = of.take(alloc) else {
         return EMPTY;
     };
-    let status = read_seat(alloc, &mut seat, ballot, number, out, len);
-    *of = Handle::of(seat);
+    let status = read_cell(alloc, &mut seat, ballot, number, out, len);
+    of.put(seat);
     status
-}
-
-fn read_seat(
-    alloc: Global,
-    seat: &mut Seat,
-    ballot: u64,
-    number: &mut u64,
-    out: &mut [u8],
-    len: &mut usize,
-) -> u32
-    ensures turn { IsTurn result seat.old seat.new (seat.new ≡ seat_after seat.old (ask.Cell (cell_ask.Read ballot))) }
-    ensures ok { result ≡ 0 → IsPromised seat.new.said number.new out.new len.new }
-    ensures short { result ≡ 3 → IsPromisedShort seat.new.said number.new out.new len.new }
-    ensures refused { result ≡ 5 → IsCellRefused seat.new.said number.new }
-{
-    let Some(ballot) = Ballot::new(ballot) else {
-        return LIMIT;
-    };
-    match seat.ask(alloc, Ask::Cell(CellAsk::Read { ballot })) {
-        Ok(()) => read_into(&seat.said, number, out, len),
-        Err(PartFault::Memory) => MEMORY,
-        Err(_) => KIND,
-    }
 }
 
 /// Gives the answer of the last read again.
@@ -71,42 +48,19 @@ pub extern "C" fn fdbrec_cell_answer(
     len: &mut usize,
 ) -> u32
     ensures same { of.new.value ≡ of.old.value }
-    ensures ok { Over of.old.value of.new.value result (λ old new. result ≡ 0 → IsPromised new.said number.new out.new len.new) }
-    ensures short { Over of.old.value of.new.value result (λ old new. result ≡ 3 → IsPromisedShort new.said number.new out.new len.new) }
-    ensures refused { Over of.old.value of.new.value result (λ old new. result ≡ 5 → IsCellRefused new.said number.new) }
+    ensures ok { Over of.old.value of.new.value result
+        (λ old new. result ≡ 0 → IsPromised new.said number.new out.new len.new) }
+    ensures short { Over of.old.value of.new.value result
+        (λ old new. result ≡ 3 → IsPromisedShort new.said number.new out.new len.new) }
+    ensures refused { Over of.old.value of.new.value result
+        (λ old new. result ≡ 5 → IsCellRefused new.said number.new) }
 {
-    let Some(seat) = mem::replace(of, Handle::none(alloc)).into_box() else {
+    let Some(seat) = of.take(alloc) else {
         return EMPTY;
     };
-    let status = read_into(&seat.said, number, out, len);
-    *of = Handle::of(seat);
+    let status = give_read(&seat.said, number, out, len);
+    of.put(seat);
     status
-}
-
-/// Copies the answer of a read, if it fits.
-fn read_into(said: &Said, number: &mut u64, out: &mut [u8], len: &mut usize) -> u32
-    ensures ok { result ≡ 0 → IsPromised said.now number.new out.new len.new }
-    ensures short { result ≡ 3 → IsPromisedShort said.now number.new out.new len.new }
-    ensures refused { result ≡ 5 → IsCellRefused said.now number.new }
-    ensures done { keeps result ≡ false }
-{
-    match said {
-        Said::Told(Tell::Cell(CellTell::Promise { written, value })) => {
-            let bytes = value.as_slice();
-            *number = written.get();
-            *len = bytes.len();
-            if bytes.len() > out.len() {
-                return SHORT;
-            }
-            out[..bytes.len()].copy_from_slice(bytes);
-            OK
-        }
-        Said::Told(Tell::Cell(CellTell::Refused { promised })) => {
-            *number = promised.get();
-            REFUSED
-        }
-        _ => UNTOLD,
-    }
 }
 
 /// Writes a value into a cell under a ballot.
@@ -118,58 +72,17 @@ pub extern "C" fn fdbrec_cell_write(
     value: &[u8],
     number: &mut u64,
 ) -> u32
-    ensures turn { Over of.old.value of.new.value result (λ old new. IsTurn result old new (new ≡ seat_after old (ask.Cell (cell_ask.Write ballot value.now)))) }
+    ensures turn { Over of.old.value of.new.value result
+        (λ old new. IsTurn result old new (new ≡ seat_after old (ask.Cell (cell_ask.Write ballot value.now)))) }
     ensures ok { Over of.old.value of.new.value result (λ old new. result ≡ 0 → IsWritten new.said number.new) }
-    ensures refused { Over of.old.value of.new.value result (λ old new. result ≡ 5 → IsCellRefused new.said number.new) }
+    ensures refused { Over of.old.value of.new.value result
+        (λ old new. result ≡ 5 → IsCellRefused new.said number.new) }
     ensures two_values { Over of.old.value of.new.value result (λ old new. result ≡ 10 → IsTwoValues new.said) }
 {
-    let Some(mut seat) = mem::replace(of, Handle::none(alloc)).into_box() else {
+    let Some(mut seat) = of.take(alloc) else {
         return EMPTY;
     };
-    let status = write_seat(alloc, &mut seat, ballot, value, number);
-    *of = Handle::of(seat);
+    let status = write_cell(alloc, &mut seat, ballot, value, number);
+    of.put(seat);
     status
-}
-
-fn write_seat(alloc: Global, seat: &mut Seat, ballot: u64, value: &[u8], number: &mut u64) -> u32
-    ensures turn { IsTurn result seat.old seat.new (seat.new ≡ seat_after seat.old (ask.Cell (cell_ask.Write ballot value.now))) }
-    ensures ok { result ≡ 0 → IsWritten seat.new.said number.new }
-    ensures refused { result ≡ 5 → IsCellRefused seat.new.said number.new }
-    ensures two_values { result ≡ 10 → IsTwoValues seat.new.said }
-{
-    let Some(ballot) = Ballot::new(ballot) else {
-        return LIMIT;
-    };
-    let Ok(bytes) = value.to_vec(alloc) else {
-        return MEMORY;
-    };
-    let Some(value) = CellValue::new(bytes) else {
-        return LIMIT;
-    };
-    match seat.ask(alloc, Ask::Cell(CellAsk::Write { ballot, value })) {
-        Ok(()) => written_into(&seat.said, number),
-        Err(PartFault::Memory) => MEMORY,
-        Err(_) => KIND,
-    }
-}
-
-/// Gives the ballot of an answer to a write.
-fn written_into(said: &Said, number: &mut u64) -> u32
-    ensures ok { result ≡ 0 → IsWritten said.now number.new }
-    ensures refused { result ≡ 5 → IsCellRefused said.now number.new }
-    ensures two_values { result ≡ 10 → IsTwoValues said.now }
-    ensures done { keeps result ≡ false }
-{
-    match said {
-        Said::Told(Tell::Cell(CellTell::Written { ballot })) => {
-            *number = ballot.get();
-            OK
-        }
-        Said::Told(Tell::Cell(CellTell::Refused { promised })) => {
-            *number = promised.get();
-            REFUSED
-        }
-        Said::Told(Tell::Cell(CellTell::TwoValues)) => TWO_VALUES,
-        _ => UNTOLD,
-    }
 }

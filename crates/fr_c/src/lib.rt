@@ -4,13 +4,8 @@
 
 mod audits;
 mod cells;
-mod giving;
-mod lines;
 mod logs;
-mod makers;
 mod making;
-mod reading;
-mod status;
 mod stores;
 mod turns;
 

@@ -1,24 +1,15 @@
 //! Logs, in bytes.
-ghost use Rattle.std.specs.Prelude.{◌≡◌, ◌++◌, false, IfOk, IfSome, OnOk};
+ghost use Rattle.std.specs.Prelude.{◌≡◌};
 ghost use Rattle.fr_log.specs.declared.ask.LogAsk.TheVariants as log_ask;
 ghost use Rattle.fr_ask.specs.declared.ask.Ask.TheVariants as ask;
 ghost use Rattle.fr_part.specs.Seat.{seat_after};
-ghost use Rattle.fr_c.specs.Answers.{IfBatch, IsHeld, IsPeekedShort, IsPeekedWhole, push_of, spelled_record, spelled_records};
-ghost use Rattle.fr_c.specs.Turns.{IsTurn, Over, keeps};
+ghost use Rattle.fr_seat.specs.Answers.{IfBatch, IsHeld, IsPeekedShort, IsPeekedWhole, push_of};
+ghost use Rattle.fr_seat.specs.Turns.{IsTurn, Over};
 
-use crate::giving::give;
-use crate::reading::read_batch;
-use crate::status::{BAD_TEXT, EMPTY, KIND, LIMIT, MEMORY, OK, REFUSED, SHORT, UNTOLD};
-use fr_ask::{Ask, Tell};
-use fr_base::{Epoch, Memory, Tag, Version};
-use fr_forms::ScriptFault;
 use fr_handle::Handle;
-use fr_log::{LogAsk, LogTell, Most, PeekedRecord, Push};
-use fr_mutation::{Batch, encode};
-use fr_part::{PartFault, Said, Seat};
-use fr_tags::Body;
+use fr_seat::logs::{give_peeked, peek_tag, push_body};
+use fr_seat::status::EMPTY;
 use std::alloc::Global;
-use std::mem;
 
 /// Pushes one body to a log: a tag, and its batch.
 #[unsafe(no_mangle)]
@@ -34,96 +25,18 @@ pub extern "C" fn fdbrec_log_push(
     held: &mut u64,
 ) -> u32
     ensures turn { Over of.old.value of.new.value result (λ old new. IsTurn result old new
-        (IfBatch batch.now (λ ms. new ≡ seat_after old (ask.Log (log_ask.Push (push_of epoch prev version known tag ms)))))) }
+        (IfBatch batch.now (λ ms.
+        new ≡ seat_after old (ask.Log (log_ask.Push (push_of epoch prev version known tag ms)))))) }
     ensures ok { Over of.old.value of.new.value result (λ old new. result ≡ 0 → IsHeld new.said held.new) }
 {
-    let Some(mut seat) = mem::replace(of, Handle::none(alloc)).into_box() else {
+    let Some(mut seat) = of.take(alloc) else {
         return EMPTY;
     };
     let status = push_body(
         alloc, &mut seat, epoch, prev, version, known, tag, batch, held,
     );
-    *of = Handle::of(seat);
+    of.put(seat);
     status
-}
-
-fn push_body(
-    alloc: Global,
-    seat: &mut Seat,
-    epoch: u64,
-    prev: u64,
-    version: u64,
-    known: u64,
-    tag: u8,
-    batch: &[u8],
-    held: &mut u64,
-) -> u32
-    ensures turn { IsTurn result seat.old seat.new
-        (IfBatch batch.now (λ ms. seat.new ≡ seat_after seat.old (ask.Log (log_ask.Push (push_of epoch prev version known tag ms))))) }
-    ensures ok { result ≡ 0 → IsHeld seat.new.said held.new }
-{
-    let batch = match read_batch(alloc, batch) {
-        Ok(batch) => batch,
-        Err(ScriptFault::BadScript) => return BAD_TEXT,
-        Err(ScriptFault::Memory) => return MEMORY,
-    };
-    let Ok(push) = one_body(alloc, epoch, prev, version, known, tag, batch) else {
-        return MEMORY;
-    };
-    let Some(push) = push else {
-        return LIMIT;
-    };
-    match seat.ask(alloc, Ask::Log(LogAsk::Push(push))) {
-        Ok(()) => held_into(&seat.said, held),
-        Err(PartFault::Memory) => MEMORY,
-        Err(_) => KIND,
-    }
-}
-
-/// The push of one body, where its numbers are within their limits.
-fn one_body(
-    alloc: Global,
-    epoch: u64,
-    prev: u64,
-    version: u64,
-    known: u64,
-    tag: u8,
-    batch: Batch,
-) -> Result<Option<Push>, Memory>
-    ensures { IfOk result (λ push. IfSome push (λ p. p ≡ push_of epoch prev version known tag batch)) }
-{
-    let Some(epoch) = Epoch::new(epoch) else {
-        return Ok(None);
-    };
-    let Some(prev) = Version::new(prev) else {
-        return Ok(None);
-    };
-    let Some(version) = Version::new(version) else {
-        return Ok(None);
-    };
-    let Some(known) = Version::new(known) else {
-        return Ok(None);
-    };
-    let Some(tag) = Tag::new(tag) else {
-        return Ok(None);
-    };
-    let mut bodies = Vec::with_capacity(alloc, 1)?;
-    bodies.push(Body { tag, batch })?;
-    Ok(Push::new(epoch, prev, version, known, bodies))
-}
-
-/// Gives the version of an answer to a push.
-fn held_into(said: &Said, held: &mut u64) -> u32
-    ensures ok { result ≡ 0 → IsHeld said.now held.new }
-    ensures done { keeps result ≡ false }
-{
-    match said {
-        Said::Told(Tell::Log(LogTell::Held { version })) => {
-            *held = version.get();
-            OK
-        }
-        _ => REFUSED,
-    }
 }
 
 /// Peeks a log for the records of a tag above a version.
@@ -140,59 +53,21 @@ pub extern "C" fn fdbrec_log_peek(
     upto: &mut u64,
     known: &mut u64,
 ) -> u32
-    ensures turn { Over of.old.value of.new.value result (λ old new. IsTurn result old new (new ≡ seat_after old (ask.Log (log_ask.Peek epoch tag after most)))) }
-    ensures ok { Over of.old.value of.new.value result (λ old new. result ≡ 0 → IsPeekedWhole new.said out.new len.new upto.new known.new) }
-    ensures short { Over of.old.value of.new.value result (λ old new. result ≡ 3 → IsPeekedShort new.said out.new len.new upto.new known.new) }
+    ensures turn { Over of.old.value of.new.value result
+        (λ old new. IsTurn result old new (new ≡ seat_after old (ask.Log (log_ask.Peek epoch tag after most)))) }
+    ensures ok { Over of.old.value of.new.value result
+        (λ old new. result ≡ 0 → IsPeekedWhole new.said out.new len.new upto.new known.new) }
+    ensures short { Over of.old.value of.new.value result
+        (λ old new. result ≡ 3 → IsPeekedShort new.said out.new len.new upto.new known.new) }
 {
-    let Some(mut seat) = mem::replace(of, Handle::none(alloc)).into_box() else {
+    let Some(mut seat) = of.take(alloc) else {
         return EMPTY;
     };
     let status = peek_tag(
         alloc, &mut seat, epoch, tag, after, most, out, len, upto, known,
     );
-    *of = Handle::of(seat);
+    of.put(seat);
     status
-}
-
-fn peek_tag(
-    alloc: Global,
-    seat: &mut Seat,
-    epoch: u64,
-    tag: u8,
-    after: u64,
-    most: u8,
-    out: &mut [u8],
-    len: &mut usize,
-    upto: &mut u64,
-    known: &mut u64,
-) -> u32
-    ensures turn { IsTurn result seat.old seat.new (seat.new ≡ seat_after seat.old (ask.Log (log_ask.Peek epoch tag after most))) }
-    ensures ok { result ≡ 0 → IsPeekedWhole seat.new.said out.new len.new upto.new known.new }
-    ensures short { result ≡ 3 → IsPeekedShort seat.new.said out.new len.new upto.new known.new }
-{
-    let Some(epoch) = Epoch::new(epoch) else {
-        return LIMIT;
-    };
-    let Some(tag) = Tag::new(tag) else {
-        return LIMIT;
-    };
-    let Some(after) = Version::new(after) else {
-        return LIMIT;
-    };
-    let Some(most) = Most::new(most) else {
-        return LIMIT;
-    };
-    let ask = LogAsk::Peek {
-        epoch,
-        tag,
-        after,
-        most,
-    };
-    match seat.ask(alloc, Ask::Log(ask)) {
-        Ok(()) => peeked_into(alloc, &seat.said, out, len, upto, known),
-        Err(PartFault::Memory) => MEMORY,
-        Err(_) => KIND,
-    }
 }
 
 /// Gives the answer of the last peek again.
@@ -206,61 +81,15 @@ pub extern "C" fn fdbrec_log_answer(
     known: &mut u64,
 ) -> u32
     ensures same { of.new.value ≡ of.old.value }
-    ensures ok { Over of.old.value of.new.value result (λ old new. result ≡ 0 → IsPeekedWhole new.said out.new len.new upto.new known.new) }
-    ensures short { Over of.old.value of.new.value result (λ old new. result ≡ 3 → IsPeekedShort new.said out.new len.new upto.new known.new) }
+    ensures ok { Over of.old.value of.new.value result
+        (λ old new. result ≡ 0 → IsPeekedWhole new.said out.new len.new upto.new known.new) }
+    ensures short { Over of.old.value of.new.value result
+        (λ old new. result ≡ 3 → IsPeekedShort new.said out.new len.new upto.new known.new) }
 {
-    let Some(seat) = mem::replace(of, Handle::none(alloc)).into_box() else {
+    let Some(seat) = of.take(alloc) else {
         return EMPTY;
     };
-    let status = peeked_into(alloc, &seat.said, out, len, upto, known);
-    *of = Handle::of(seat);
+    let status = give_peeked(alloc, &seat.said, out, len, upto, known);
+    of.put(seat);
     status
-}
-
-/// Gives the answer of a peek, if it fits.
-fn peeked_into(
-    alloc: Global,
-    said: &Said,
-    out: &mut [u8],
-    len: &mut usize,
-    upto: &mut u64,
-    known: &mut u64,
-) -> u32
-    ensures ok { result ≡ 0 → IsPeekedWhole said.now out.new len.new upto.new known.new }
-    ensures short { result ≡ 3 → IsPeekedShort said.now out.new len.new upto.new known.new }
-    ensures done { keeps result ≡ false }
-{
-    match said {
-        Said::Told(Tell::Log(LogTell::Peeked(peeked))) => {
-            *upto = peeked.upto().get();
-            *known = peeked.known().get();
-            match write_records(alloc, peeked.records()) {
-                Ok(bytes) => if give(&bytes, out, len) { OK } else { SHORT },
-                Err(_) => UNTOLD,
-            }
-        }
-        Said::Told(Tell::Log(LogTell::Refused { .. })) => REFUSED,
-        _ => UNTOLD,
-    }
-}
-
-/// The bytes of records, one after the other.
-fn write_records(alloc: Global, records: &[PeekedRecord]) -> Result<Vec<u8>, Memory>
-    ensures { IfOk result (λ bytes. bytes.items ≡ spelled_records records.now) }
-{
-    let mut bytes = Vec::new(alloc);
-    for one in records {
-        put_record(alloc, &mut bytes, one)?;
-    }
-    Ok(bytes)
-}
-
-/// Appends the bytes of a record.
-#[tactic(auto, unfolding(crate::specs::Answers::spelled_record))]
-fn put_record(alloc: Global, bytes: &mut Vec<u8>, one: &PeekedRecord) -> Result<(), Memory>
-    ensures { OnOk result (bytes.new.items ≡ bytes.old.items ++ spelled_record one.now) }
-{
-    bytes.extend_from_slice(&one.version.get().to_be_bytes())?;
-    bytes.extend_from_slice(&encode(alloc, &one.batch)?)?;
-    Ok(())
 }

@@ -5,26 +5,25 @@ ghost use Rattle.fr_log.specs.LogState.{fresh_log};
 ghost use Rattle.fr_proxy.specs.Sequencer.{new_sequencer};
 ghost use Rattle.fr_undo.specs.State.{fresh};
 ghost use Rattle.fr_part.specs.declared.part.Part.TheVariants as part;
-ghost use Rattle.fr_c.specs.Turns.{IsMade, keeps};
+ghost use Rattle.fr_seat.specs.Made.{IsMadeAs, IsProxyMade, IsRecovererMade, IsStorageMade};
+ghost use Rattle.fr_seat.specs.Turns.{IsMade, keeps};
 
-use crate::status::{LIMIT, MEMORY, OK};
-use fr_base::{Epoch, LogId, Shape, Version};
 use fr_handle::Handle;
-use fr_log::Log;
 use fr_part::{Part, Seat};
-use fr_proxy::Sequencer;
 use fr_register::Cell;
+use fr_seat::making::{make_log, make_proxy, make_recoverer, make_sequencer, make_storage};
+use fr_seat::status::{MEMORY, OK};
 use fr_undo::MapStore;
 use std::alloc::Global;
 
 /// Puts a machine into a handle.
-pub fn put(alloc: Global, of: &mut Handle, part: Part) -> u32
+fn put(alloc: Global, of: &mut Handle, part: Part) -> u32
     ensures made { IsMade result of.old.value of.new.value part }
     ensures status { keeps result ≡ false → result ≡ 0 }
 {
     match Box::new(alloc, Seat::new(part)) {
         Ok(seat) => {
-            *of = Handle::of(seat);
+            of.put(seat);
             OK
         }
         Err(_) => MEMORY,
@@ -51,17 +50,10 @@ pub extern "C" fn fdbrec_log_new(
 ) -> u32
     ensures made { IsMade result of.old.value of.new.value (part.Log (fresh_log epoch index m k)) }
 {
-    let Some(epoch) = Epoch::new(epoch) else {
-        return LIMIT;
-    };
-    if Shape::new(m, k).is_none() || index >= m {
-        return LIMIT;
+    match make_log(alloc, epoch, index, m, k) {
+        Ok(part) => put(alloc, of, part),
+        Err(status) => status,
     }
-    put(
-        alloc,
-        of,
-        Part::Log(Log::new(alloc, LogId { epoch, index }, m, k)),
-    )
 }
 
 /// A sequencer that gave nothing yet.
@@ -69,17 +61,61 @@ pub extern "C" fn fdbrec_log_new(
 pub extern "C" fn fdbrec_sequencer_new(alloc: Global, of: &mut Handle, epoch: u64, last: u64) -> u32
     ensures made { IsMade result of.old.value of.new.value (part.Sequencer (new_sequencer epoch last)) }
 {
-    let Some(epoch) = Epoch::new(epoch) else {
-        return LIMIT;
-    };
-    let Some(last) = Version::new(last) else {
-        return LIMIT;
-    };
-    put(
-        alloc,
-        of,
-        Part::Sequencer(Sequencer::new(alloc, epoch, last)),
-    )
+    match make_sequencer(alloc, epoch, last) {
+        Ok(part) => put(alloc, of, part),
+        Err(status) => status,
+    }
+}
+
+/// A proxy that took nothing yet.
+#[unsafe(no_mangle)]
+pub extern "C" fn fdbrec_proxy_new(
+    alloc: Global,
+    of: &mut Handle,
+    epoch: u64,
+    number: u8,
+    m: u8,
+    k: u8,
+    known: u64,
+    shards: &[u8],
+) -> u32
+    ensures made { IsMadeAs result of.old.value of.new.value (IsProxyMade epoch number m k known) }
+{
+    match make_proxy(alloc, epoch, number, m, k, known, shards) {
+        Ok(part) => put(alloc, of, part),
+        Err(status) => status,
+    }
+}
+
+/// A recoverer that heard nothing, for a generation of `m` logs on `k` of which each tag is, or of the parent's shape if
+/// both are 0.
+#[unsafe(no_mangle)]
+pub extern "C" fn fdbrec_recoverer_new(
+    alloc: Global,
+    of: &mut Handle,
+    ballot: u64,
+    coordinators: u8,
+    shards: &[u8],
+    m: u8,
+    k: u8,
+) -> u32
+    ensures made { IsMadeAs result of.old.value of.new.value (IsRecovererMade ballot coordinators m k) }
+{
+    match make_recoverer(alloc, ballot, coordinators, shards, m, k) {
+        Ok(part) => put(alloc, of, part),
+        Err(status) => status,
+    }
+}
+
+/// A storage server that begins in a state, over a store in which nothing was applied.
+#[unsafe(no_mangle)]
+pub extern "C" fn fdbrec_storage_new(alloc: Global, of: &mut Handle, tag: u8, state: &[u8]) -> u32
+    ensures made { IsMadeAs result of.old.value of.new.value (IsStorageMade tag) }
+{
+    match make_storage(alloc, tag, state) {
+        Ok(part) => put(alloc, of, part),
+        Err(status) => status,
+    }
 }
 
 /// A store in which nothing was applied.

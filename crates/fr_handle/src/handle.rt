@@ -12,6 +12,7 @@ use crate::lone::Lone;
 use fr_part::Seat;
 use std::alloc::Global;
 use std::marker::{Model, Send};
+use std::mem;
 
 /// Empty, or the only way to a machine. Null is an empty one.
 #[repr(C)]
@@ -83,6 +84,21 @@ impl Handle {
             None => None,
             Some(lone) => Some(lone.whole()),
         }
+    }
+
+    /// Takes the machine out of this handle, which is then empty, if it was not so before.
+    pub fn take(&mut self, alloc: Global) -> Option<Box<Seat, Global>>
+        ensures taken { MatchOption result (self.old.value ≡ None) (λ whole. self.old.value ≡ Some whole.value) }
+        ensures empty { self.new.value ≡ None }
+    {
+        mem::replace(self, Handle::none(alloc)).into_box()
+    }
+
+    /// Puts a machine into this handle. One that it had before is freed.
+    pub fn put(&mut self, whole: Box<Seat, Global>)
+        ensures { self.new.value ≡ Some whole.value }
+    {
+        *self = Handle::of(whole);
     }
 }
 

@@ -62,10 +62,12 @@ IfRefused cell_tell.TwoValues P = ⊥
 
 -- the answer of a cell that was read
 abbrev pub IsPromised : Said → ℕ → List ℕ → ℕ → Type 0
-IsPromised s number out len = IfCellTold s (λ t. IfPromise t (λ written value. (number ≡ written) × IsGiven value out len))
+IsPromised s number out len =
+    IfCellTold s (λ t. IfPromise t (λ written value. (number ≡ written) × IsGiven value out len))
 
 abbrev pub IsPromisedShort : Said → ℕ → List ℕ → ℕ → Type 0
-IsPromisedShort s number out len = IfCellTold s (λ t. IfPromise t (λ written value. (number ≡ written) × IsShort value out len))
+IsPromisedShort s number out len =
+    IfCellTold s (λ t. IfPromise t (λ written value. (number ≡ written) × IsShort value out len))
 
 abbrev pub IsCellRefused : Said → ℕ → Type 0
 IsCellRefused s number = IfCellTold s (λ t. IfRefused t (λ promised. number ≡ promised))
@@ -129,4 +131,11 @@ IfBatch bytes P = IfDecoded (decoded bytes) (length bytes) P
 -- a push of one body
 abbrev pub push_of : ℕ → ℕ → ℕ → ℕ → ℕ → List Mutation → PushContent
 push_of epoch prev version known tag batch =
-    record { epoch = epoch; prev = prev; version = version; known = known; bodies = record { tag = tag; batch = batch } ∷ []; mark = None }
+    record {
+      epoch = epoch;
+      prev = prev;
+      version = version;
+      known = known;
+      bodies = record { tag = tag; batch = batch } ∷ [];
+      mark = None;
+    }

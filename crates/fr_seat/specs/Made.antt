@@ -11,17 +11,20 @@ use Rattle.fr_part.specs.Hear.{StandsAt}
 use Rattle.fr_part.specs.declared.part.Part.{Part}
 use Rattle.fr_part.specs.declared.part.Part.TheVariants as part
 use Rattle.fr_part.specs.declared.seat.Seat.{Seat}
-use Rattle.fr_c.specs.Turns.{keeps}
+use Rattle.fr_seat.specs.Turns.{keeps}
 
 -- such a machine is there, or all is as it was
 abbrev pub IsMadeAs : ℕ → Option Seat → Option Seat → (Part → Type 0) → Type 0
 IsMadeAs status old new Is = (status ≡ 0 → IfSome new (λ s. Is s.part)) × (keeps status ≡ true → new ≡ old)
 
 abbrev pub IsProxyMade : ℕ → ℕ → ℕ → ℕ → ℕ → Part → Type 0
-IsProxyMade epoch number m k known p = (begins : List (List ℕ)) × (p ≡ part.Proxy (new_proxy epoch number m k begins known))
+IsProxyMade epoch number m k known p =
+    (begins : List (List ℕ)) × (p ≡ part.Proxy (new_proxy epoch number m k begins known))
 
 abbrev pub IsRecovererMade : ℕ → ℕ → ℕ → ℕ → Part → Type 0
-IsRecovererMade ballot coordinators m k p = (begins : List (List ℕ)) × (p ≡ part.Recoverer (new_recoverer ballot coordinators begins (shape_of m k)))
+IsRecovererMade ballot coordinators m k p =
+    (begins : List (List ℕ)) × (p ≡ part.Recoverer (new_recoverer ballot coordinators begins (shape_of m k)))
 
 abbrev pub IsStorageMade : ℕ → Part → Type 0
-IsStorageMade tag p = (x : CoordinatedState) × StandsAt p (record { tag = tag; state = x; store = with_bytes fresh (spelling x) })
+IsStorageMade tag p =
+    (x : CoordinatedState) × StandsAt p (record { tag = tag; state = x; store = with_bytes fresh (spelling x) })

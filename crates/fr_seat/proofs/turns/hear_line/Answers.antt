@@ -1,4 +1,4 @@
-use Rattle.fr_c.proofs.turns.hear_line.Goals as goal
+use Rattle.fr_seat.proofs.turns.hear_line.Goals as goal
 
 -- the node and the tell that were read
 pub returns-in-Ok-hear-clause-done : goal.returns-in-Ok-hear-clause-done

@@ -1,7 +1,7 @@
 //! Lines of JSON: what machines are asked and tell, in the forms of journals. Whatever reads or writes a form does it
 //! here.
 ghost use Rattle.std.specs.Prelude.{◌≡◌, IfOk};
-ghost use Rattle.fr_c.specs.Answers.{IsJson};
+ghost use Rattle.fr_seat.specs.Answers.{IsJson};
 
 use fr_ask::{Ask, Last, Tell};
 use fr_base::{Bytes, Memory, NodeId};

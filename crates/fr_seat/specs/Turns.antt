@@ -42,7 +42,8 @@ AnyHear old new = (from : NodeId) × (t : Tell) × HearsIn old from t new
 
 -- a call that makes a machine: it is there and took no turn yet, or all is as it was
 abbrev pub IsMade : ℕ → Option Seat → Option Seat → Part → Type 0
-IsMade status old new p = (status ≡ 0 → new ≡ Some (record { part = p; said = said.Nothing })) × (keeps status ≡ true → new ≡ old)
+IsMade status old new p =
+    (status ≡ 0 → new ≡ Some (record { part = p; said = said.Nothing })) × (keeps status ≡ true → new ≡ old)
 
 -- there is a value, and it is so
 abbrev pub IfFound : Option (List ℕ) → (List ℕ → Type 0) → Type 0

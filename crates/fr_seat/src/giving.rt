@@ -1,11 +1,11 @@
 //! Bytes given to a caller.
-ghost use Rattle.std.specs.Prelude.{◌≡◌, ◌<◌, false, true, length, take};
-ghost use Rattle.fr_c.specs.Answers.{IsGiven, IsJson, IsShort};
-ghost use Rattle.fr_c.specs.Turns.{is_told, keeps, refuses};
+ghost use Rattle.std.specs.Prelude.{◌≡◌, ◌<◌, false, true, length, take, IfOk};
+ghost use Rattle.fr_seat.specs.Answers.{IsGiven, IsJson, IsShort};
+ghost use Rattle.fr_seat.specs.Turns.{is_told, keeps, refuses};
 
 use crate::lines::write_said;
-use crate::status::{OK, SHORT, UNTOLD};
-use fr_part::Said;
+use crate::status::{KIND, MEMORY, OK, SHORT, UNTOLD};
+use fr_part::{PartFault, Said};
 use std::alloc::Global;
 
 /// Copies bytes, if there is room for them, and says how many they are.
@@ -33,5 +33,18 @@ pub fn give_said(alloc: Global, said: &Said, out: &mut [u8], len: &mut usize) ->
     match write_said(alloc, said) {
         Ok(text) => if give(&text, out, len) { OK } else { SHORT },
         Err(_) => UNTOLD,
+    }
+}
+
+/// Gives a line of JSON that a machine has, or tells why it has none.
+pub fn give_line(line: Result<Vec<u8>, PartFault>, out: &mut [u8], len: &mut usize) -> u32
+    requires json { IfOk line (λ text. IsJson text.items) }
+    ensures ok { result ≡ 0 → IsJson (take len.new out.new) }
+    ensures short { result ≡ 3 → length out.new < len.new }
+{
+    match line {
+        Ok(text) => if give(&text, out, len) { OK } else { SHORT },
+        Err(PartFault::Memory) => MEMORY,
+        Err(_) => KIND,
     }
 }

@@ -1,0 +1,106 @@
+//! Turns of machines, in lines of JSON.
+ghost use Rattle.std.specs.Prelude.{◌≡◌, ◌<◌, true, length, take, IfOk};
+ghost use Rattle.fr_part.specs.Seat.{SubmitsIn};
+ghost use Rattle.fr_seat.specs.Answers.{IfBatch, IsJson};
+ghost use Rattle.fr_seat.specs.Turns.{AnyAsk, AnyHear, IsTurn, is_told, refuses};
+
+use crate::giving::give_said;
+use crate::lines::{read_ask, read_heard, write_asks, write_standing};
+use crate::reading::read_batch;
+use crate::status::{BAD_TEXT, KIND, LIMIT, MEMORY, PART, REFUSED};
+use fr_base::Step;
+use fr_forms::ScriptFault;
+use fr_part::{Part, PartFault, Seat};
+use std::alloc::Global;
+
+/// Asks a machine what a line says, and gives the line of what it tells.
+pub fn ask_line(alloc: Global, seat: &mut Seat, line: &[u8], out: &mut [u8], len: &mut usize) -> u32
+    ensures turn { IsTurn result seat.old seat.new (AnyAsk seat.old seat.new) }
+    ensures ok { result ≡ 0 → IsJson (take len.new out.new) }
+    ensures short { result ≡ 3 → length out.new < len.new }
+{
+    let ask = match read_ask(alloc, line) {
+        Ok(ask) => ask,
+        Err(ScriptFault::BadScript) => return BAD_TEXT,
+        Err(ScriptFault::Memory) => return MEMORY,
+    };
+    match seat.ask(alloc, ask) {
+        Ok(()) => give_said(alloc, &seat.said, out, len),
+        Err(PartFault::Memory) => MEMORY,
+        Err(_) => KIND,
+    }
+}
+
+/// Has a machine hear what a line says, a node and what it tells, and gives the line of what it then asks.
+pub fn hear_line(
+    alloc: Global,
+    seat: &mut Seat,
+    line: &[u8],
+    out: &mut [u8],
+    len: &mut usize,
+) -> u32
+    ensures kept { refuses result ≡ true → seat.new ≡ seat.old }
+    ensures done { is_told result ≡ true → AnyHear seat.old seat.new }
+    ensures ok { result ≡ 0 → IsJson (take len.new out.new) }
+    ensures short { result ≡ 3 → length out.new < len.new }
+{
+    let (from, tell) = match read_heard(alloc, line) {
+        Ok(heard) => heard,
+        Err(ScriptFault::BadScript) => return BAD_TEXT,
+        Err(ScriptFault::Memory) => return MEMORY,
+    };
+    match seat.hear(alloc, from, tell) {
+        Ok(()) => give_said(alloc, &seat.said, out, len),
+        Err(PartFault::Memory) => MEMORY,
+        Err(PartFault::Kind) => KIND,
+        Err(PartFault::Refused) => REFUSED,
+        Err(PartFault::Part) => PART,
+    }
+}
+
+/// Has a proxy take a batch, whose version is to be so much above the one before, and gives the line of what it then
+/// asks.
+pub fn submit_to(
+    alloc: Global,
+    seat: &mut Seat,
+    step: u64,
+    batch: &[u8],
+    out: &mut [u8],
+    len: &mut usize,
+) -> u32
+    ensures kept { refuses result ≡ true → seat.new ≡ seat.old }
+    ensures done { is_told result ≡ true → IfBatch batch.now (λ ms. SubmitsIn seat.old step ms seat.new) }
+    ensures ok { result ≡ 0 → IsJson (take len.new out.new) }
+    ensures short { result ≡ 3 → length out.new < len.new }
+{
+    let Some(step) = Step::new(step) else {
+        return LIMIT;
+    };
+    let batch = match read_batch(alloc, batch) {
+        Ok(batch) => batch,
+        Err(ScriptFault::BadScript) => return BAD_TEXT,
+        Err(ScriptFault::Memory) => return MEMORY,
+    };
+    match seat.submit(alloc, step, batch) {
+        Ok(()) => give_said(alloc, &seat.said, out, len),
+        Err(PartFault::Memory) => MEMORY,
+        Err(PartFault::Kind) => KIND,
+        Err(_) => REFUSED,
+    }
+}
+
+/// The line of what a machine asks now.
+pub fn next_line(alloc: Global, part: &Part) -> Result<Vec<u8>, PartFault>
+    ensures { IfOk result (λ line. IsJson line.items) }
+{
+    let asks = part.next(alloc)?;
+    Ok(write_asks(alloc, &asks)?)
+}
+
+/// The line of where a machine stands.
+pub fn last_line(alloc: Global, part: &Part) -> Result<Vec<u8>, PartFault>
+    ensures { IfOk result (λ line. IsJson line.items) }
+{
+    let last = part.last(alloc)?;
+    Ok(write_standing(alloc, &last)?)
+}
