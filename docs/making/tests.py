@@ -13,8 +13,13 @@ SCENARIOS_HEAD = wrapped(
     "What a machine is asked and what it tells, played by the program test_scenarios "
     "([README](../crates/test_scenarios/data/README.md)). A row is one thing asked."
 )
-CRATES_HEAD = wrapped("The tests of each crate, by modules, each with its name as a sentence.")
-PROGRAMS_HEAD = "What `./test` runs behind `rt ci`, over the built program, in the words with which each begins."
+CRATES_HEAD = wrapped(
+    "How many tests each crate has, and in which modules. `docs/tables --tests CRATE..` prints their names, which read "
+    "as sentences."
+)
+PROGRAMS_HEAD = wrapped(
+    "What `./test` runs behind `rt ci`, over the built program, in the first words of each. The rest stands at its head."
+)
 
 
 def scenarios():
@@ -33,16 +38,30 @@ def scenarios():
     return said + [f"| in all | | {sums[0]:,} | {sums[1]:,} |"]
 
 
-def crates_table(crates):
+def tests_of(crate):
     """Each module of a crate that has tests, with their names."""
-    said, count = ["| Crate | Module | Tests |", "|---|---|---|"], 0
+    for file in files_of(f"crates/{crate}/src", ".rt"):
+        names = re.findall(r"^#\[test\]\n(?:#.*\n)*(?:pub )?fn (\w+)", read(file), re.M)
+        if names:
+            yield file.removeprefix(f"crates/{crate}/src/").removesuffix(".rt"), names
+
+
+def crates_table(crates):
+    """The modules of each crate that has tests, and how many these are."""
+    said, count = ["| Crate | Modules | Tests |", "|---|---|---:|"], 0
     for crate in crates.names:
-        for file in files_of(f"crates/{crate}/src", ".rt"):
-            names = re.findall(r"^#\[test\]\n(?:#.*\n)*(?:pub )?fn (\w+)", read(file), re.M)
-            module = file.removeprefix(f"crates/{crate}/src/").removesuffix(".rt")
-            said += [f"| {crate} | {module} | {'; '.join(it.replace('_', ' ') for it in names)} |"] * bool(names)
-            count += len(names)
+        if found := list(tests_of(crate)):
+            tests = sum(len(names) for _, names in found)
+            said.append(f"| {crate} | {', '.join(module for module, _ in found)} | {tests} |")
+            count += tests
     return said + [f"| in all | | {count} |"]
+
+
+def tests(crates, named):
+    """The names of the tests of some crates, or of all: lines of `docs/tables --tests`."""
+    for crate in named or crates.names:
+        for module, names in tests_of(crate):
+            yield from (f"{crate}/src/{module}.rt: {it.replace('_', ' ')}" for it in names)
 
 
 def said_of(text):
@@ -59,7 +78,8 @@ def programs_table():
     for name in sorted(os.listdir(f"{TOP}/tests")):
         if "." not in name and name != "run" and os.path.isfile(f"{TOP}/tests/{name}"):
             words = re.sub(rf"^tests/{name}(?: \[[^\]]*\])?: ", "", said_of(read(f"tests/{name}")))
-            said.append(f"| `{name}` | {words[:1].upper()}{words[1:]} |".replace("|  |", "| |"))
+            first = re.split(r"(?:: |(?<=[^.])\. )", words, maxsplit=1)[0].rstrip(".")
+            said.append(f"| `{name}` | {first[:1].upper()}{first[1:]} |".replace("|  |", "| |"))
     return said
 
 
