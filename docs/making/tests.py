@@ -23,17 +23,22 @@ PROGRAMS_HEAD = wrapped(
 
 
 def scenarios():
-    """Each file of scenarios with its title, how many scenarios it has and how many rows."""
-    counts = {}
+    """The files of scenarios by what they are about, each with how many scenarios it has; and how many rows."""
+    counts, groups = {}, {}
     for line in read(f"{SCENARIOS}/stdout").split("\n"):
         if found := re.fullmatch(r"(\S+): .*: (\d+) rows?", line):
             count = counts.setdefault(found[1], [0, 0])
             count[0] += 1
             count[1] += int(found[2])
-    said = ["| File | What it is about | Scenarios | Rows |", "|---|---|---:|---:|"]
     for file, (count, rows) in counts.items():
         title = read(f"{SCENARIOS}/data/{file}").split("\n")[0].removeprefix("# ")
-        said.append(f"| [{file[:-3]}](../{SCENARIOS}/data/{file}) | {title} | {count} | {rows:,} |")
+        about, _, part = title.partition(": ")
+        group = groups.setdefault(about, [[], 0, 0])
+        group[0].append(f"[{part or file[:-3]}](../{SCENARIOS}/data/{file}) {count}")
+        group[1] += count
+        group[2] += rows
+    said = ["| About | Files, each with its scenarios | Scenarios | Rows |", "|---|---|---:|---:|"]
+    said += [f"| {about} | {'; '.join(it)} | {count} | {rows:,} |" for about, (it, count, rows) in groups.items()]
     sums = [sum(it[at] for it in counts.values()) for at in (0, 1)]
     return said + [f"| in all | | {sums[0]:,} | {sums[1]:,} |"]
 
