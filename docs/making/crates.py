@@ -10,8 +10,9 @@ PAGE = "docs/CRATES.md"
 COLUMNS = "Crate, What it is, Stands on, Code, Definitions, Proofs, Tests, A first check, A change, Minutes"
 SIZES = f"| {COLUMNS.replace(', ', ' | ')} |"
 HEAD = (
-    "`docs/tables` makes this page of the sources. What a crate is, is the first sentence of its source. It stands on "
-    "the crates named, and on those on which these stand. Code, definitions and proofs are in lines.",
+    "`docs/tables` makes this page of the sources. What a crate is, is the first sentence of its source, if it is "
+    "long without what follows its colon. It stands on the crates named, and on those on which these stand. Code, "
+    "definitions and proofs are in lines.",
     "*Minutes* are of one processor, beside other work, in the runs that [GATE.md](GATE.md) names: a library's proof; "
     "of a crate of tests also their build and their run; of a program both compilers. A crate without minutes was in "
     "none of these runs. A *first check* of a crate proves all that it stands on too; a *change* in it has all crates "
@@ -33,9 +34,19 @@ def rows_of(text):
     return rows
 
 
+# a sentence of more words ends at its colon, if so many stand before it
+LONG, LEAST = 24, 4
+
+
 def sentence(text):
     """The first sentence of a comment, as a cell of a table."""
     return re.split(r"(?<=[^.])\. ", text, maxsplit=1)[0].rstrip(".")
+
+
+def short(text):
+    """A sentence, without what stands behind its colon if it is long."""
+    front = text.partition(": ")[0]
+    return front if len(text.split()) > LONG and len(front.split()) >= LEAST else text
 
 
 def head_of(crate):
@@ -81,7 +92,7 @@ class Row:
 
     def line(self):
         numbers = [f"{n:,}" if n else "" for n in self.counts]
-        cells = [self.name, sentence(head_of(self.name)), ", ".join(self.stands_on), *numbers, self.first, self.change]
+        cells = [self.name, short(sentence(head_of(self.name))), ", ".join(self.stands_on), *numbers, self.first, self.change]
         return row([*cells, f"{self.took:.1f}" if self.took else ""])
 
 

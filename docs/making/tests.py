@@ -18,7 +18,8 @@ CRATES_HEAD = wrapped(
     "as sentences."
 )
 PROGRAMS_HEAD = wrapped(
-    "What `./test` runs behind `rt ci`, over the built program, in the first words of each. The rest stands at its head."
+    "What `./test` runs behind `rt ci`, over the built program, in the first words of each. The rest stands at its "
+    "head."
 )
 
 
