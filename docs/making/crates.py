@@ -92,8 +92,8 @@ class Row:
 
     def line(self):
         numbers = [f"{n:,}" if n else "" for n in self.counts]
-        cells = [self.name, short(sentence(head_of(self.name))), ", ".join(self.stands_on), *numbers, self.first, self.change]
-        return row([*cells, f"{self.took:.1f}" if self.took else ""])
+        said = [self.name, short(sentence(head_of(self.name))), ", ".join(self.stands_on)]
+        return row([*said, *numbers, self.first, self.change, f"{self.took:.1f}" if self.took else ""])
 
 
 def row(cells):
