@@ -88,7 +88,8 @@ class Row:
         # (in tenths, as whole numbers: so no order of adding shows)
         first = sum(round(10 * took[low]) for low in below[name])
         change = sum(round(10 * took[high]) for high in crates.names if name in below[high])
-        self.first, self.change = f"{first / 10:.0f}", f"{change / 10:.0f}"
+        # (a half is rounded up, as ./fdbrec does)
+        self.first, self.change = str((first + 5) // 10), str((change + 5) // 10)
 
     def line(self):
         numbers = [f"{n:,}" if n else "" for n in self.counts]
