@@ -11,7 +11,7 @@ HEAD = wrapped(
 )
 SCENARIOS_HEAD = wrapped(
     "What a machine is asked and what it tells, played by the program test_scenarios "
-    "([README](../crates/test_scenarios/data/README.md)). A row is one thing asked."
+    "([README](../crates/test_scenarios/data/README.md)). A row is one thing asked. The title of a file says more."
 )
 CRATES_HEAD = wrapped(
     "How many tests each crate has, and in which modules. `docs/tables --tests CRATE..` prints their names, which read "
@@ -24,7 +24,7 @@ PROGRAMS_HEAD = wrapped(
 
 
 def scenarios():
-    """The files of scenarios by what they are about, each with how many scenarios it has; and how many rows."""
+    """The files of scenarios by what they are about, with how many scenarios and rows they have."""
     counts, groups = {}, {}
     for line in read(f"{SCENARIOS}/stdout").split("\n"):
         if found := re.fullmatch(r"(\S+): .*: (\d+) rows?", line):
@@ -33,13 +33,13 @@ def scenarios():
             count[1] += int(found[2])
     for file, (count, rows) in counts.items():
         title = read(f"{SCENARIOS}/data/{file}").split("\n")[0].removeprefix("# ")
-        about, _, part = title.partition(": ")
+        about = re.split(r": |, from seeds", title)[0]
         group = groups.setdefault(about, [[], 0, 0])
-        group[0].append(f"[{part or file[:-3]}](../{SCENARIOS}/data/{file}) {count}")
+        group[0].append(f"[{file[:-3]}](../{SCENARIOS}/data/{file})")
         group[1] += count
         group[2] += rows
-    said = ["| About | Files, each with its scenarios | Scenarios | Rows |", "|---|---|---:|---:|"]
-    said += [f"| {about} | {'; '.join(it)} | {count} | {rows:,} |" for about, (it, count, rows) in groups.items()]
+    said = ["| About | Files | Scenarios | Rows |", "|---|---|---:|---:|"]
+    said += [f"| {about} | {', '.join(it)} | {count} | {rows:,} |" for about, (it, count, rows) in groups.items()]
     sums = [sum(it[at] for it in counts.values()) for at in (0, 1)]
     return said + [f"| in all | | {sums[0]:,} | {sums[1]:,} |"]
 
