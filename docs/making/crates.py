@@ -104,8 +104,8 @@ def row(cells):
 def table(rows):
     """The crates by families, of each the lowest first."""
     said = [SIZES, "|---|---|---|" + "---:|" * 7]
-    for name, words, _ in reversed(FAMILIES):
-        said.append(row([f"**{name}**", words] + [""] * 8))
+    for name, _, _ in reversed(FAMILIES):
+        said.append(row([f"**{name}**"] + [""] * 9))
         said += [it.line() for it in rows if family_of(it.name) == name]
     return said
 
