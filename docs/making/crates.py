@@ -35,7 +35,7 @@ def rows_of(text):
 
 
 # a sentence of more words ends at its colon, if so many stand before it
-LONG, LEAST = 24, 4
+LONG, LEAST = 20, 4
 
 
 def sentence(text):
