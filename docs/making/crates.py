@@ -1,6 +1,7 @@
 """docs/CRATES.md: each crate, what it is and stands on, its size and its minutes."""
 import os
 import re
+import sys
 
 from making.definitions import Module
 from making.layers import FAMILIES, family_of
@@ -75,7 +76,10 @@ def minutes(crates, log):
     """What each crate took: as a log has it, or else as the page has it."""
     if log:
         return {it: log.minutes(it) for it in crates.names}
-    rows = rows_of(read(PAGE))
+    page = read(PAGE)
+    if re.search("^(?:<<<<<<<|>>>>>>>)", page, re.M):
+        sys.exit(f"{PAGE}: a merge is under way there, and the minutes would be lost: take one side first")
+    rows = rows_of(page)
     return {it: float(rows[it][9]) if it in rows and rows[it][9] else 0 for it in crates.names}
 
 
