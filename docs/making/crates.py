@@ -14,10 +14,9 @@ HEAD = (
     "`docs/tables` makes this page of the sources. What a crate is, is the first sentence of its source, if it is "
     "long without what follows its colon. It stands on the crates named, and on those on which these stand. Code, "
     "definitions and proofs are in lines.",
-    "*Minutes* are of one processor, beside other work, in the runs that [GATE.md](GATE.md) names: a library's proof; "
-    "of a crate of tests also their build and their run; of a program both compilers. A crate without minutes was in "
-    "none of these runs. A *first check* of a crate proves all that it stands on too; a *change* in it has all crates "
-    "above proved again.",
+    "*Minutes* are of one processor, in the runs that [GATE.md](GATE.md) names: a library's proof; of tests also their "
+    "build and their run; of a program both compilers. A crate without minutes was in none of these runs. A *first "
+    "check* of a crate proves all that it stands on too; a *change* in it has all crates above proved again.",
     "[ARCHITECTURE.md](ARCHITECTURE.md) says what the families are for. `docs/tables --modules CRATE..` prints what "
     "each module of definitions states, `docs/tables --tests CRATE..` the names of the tests.",
 )
@@ -36,7 +35,7 @@ def rows_of(text):
 
 
 # a sentence of more words ends at its colon, if so many stand before it
-LONG, LEAST = 20, 4
+LONG, LEAST = 12, 4
 
 
 def sentence(text):

@@ -16,10 +16,7 @@ SCENARIOS_HEAD = wrapped(
 CRATES_HEAD = wrapped(
     "How many tests each crate has. `docs/tables --tests CRATE..` prints their names, which read as sentences."
 )
-PROGRAMS_HEAD = wrapped(
-    "What `./test` runs behind `rt ci`, over the built program, in the first words of each. The rest stands at its "
-    "head."
-)
+PROGRAMS_HEAD = "`./test` runs these behind `rt ci`, over the built program. Each says at its head what it is:"
 
 
 def scenarios():
@@ -69,28 +66,15 @@ def tests(crates, named):
             yield from (f"{crate}/src/{module}.rt: {it.replace('_', ' ')}" for it in names)
 
 
-def said_of(text):
-    """The comment with which a program begins."""
-    if found := re.match(r'#!.*python3\n"""(.*?)"""', text, re.S):
-        return " ".join(found[1].split())
-    lines = text.split("\n")[1:]
-    end = next(at for at, it in enumerate(lines) if not it.startswith("#"))
-    return " ".join(it.removeprefix("#").strip() for it in lines[:end])
-
-
-def programs_table():
-    said = ["| Program | What it is |", "|---|---|"]
-    for name in sorted(os.listdir(f"{TOP}/tests")):
-        if "." not in name and name != "run" and os.path.isfile(f"{TOP}/tests/{name}"):
-            words = re.sub(rf"^tests/{name}(?: \[[^\]]*\])?: ", "", said_of(read(f"tests/{name}")))
-            first = re.split(r"(?:: |(?<=[^.])\. )", words, maxsplit=1)[0].rstrip(".")
-            said.append(f"| `{name}` | {first[:1].upper()}{first[1:]} |".replace("|  |", "| |"))
-    return said
+def programs():
+    """The names of the programs of tests/."""
+    names = sorted(it for it in os.listdir(f"{TOP}/tests") if "." not in it and os.path.isfile(f"{TOP}/tests/{it}"))
+    return wrapped(", ".join(f"[{it}](../tests/{it})" for it in names if it != "run") + ".").split("\n")
 
 
 def tests_page(crates):
     said = ["# Tests", "", *HEAD.split("\n"), ""]
     said += ["## Scenarios", "", *SCENARIOS_HEAD.split("\n"), "", *scenarios(), ""]
     said += ["## Crates of tests", "", *CRATES_HEAD.split("\n"), "", *crates_table(crates), ""]
-    said += ["## The built program", "", *PROGRAMS_HEAD.split("\n"), "", *programs_table(), ""]
+    said += ["## The built program", "", PROGRAMS_HEAD, "", *programs(), ""]
     return "\n".join(said)
