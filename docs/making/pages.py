@@ -88,7 +88,7 @@ def gate(crates, log):
 
 
 # pages in which a number before `<!-- first check of CRATE -->` or `<!-- change in CRATE -->` is that of docs/CRATES.md
-MINUTED = ("README.md", "docs/START.md")
+MINUTED = ("README.md", "docs/START.md", "docs/NODES.md", "docs/LIBRARY.md")
 MINUTE = re.compile(r"\d+(?=<!-- (first check of|change in) (\w+) -->)")
 
 

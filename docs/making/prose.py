@@ -33,9 +33,20 @@ class Row:
         return f"{self.page:40}{self.budget:6}" + "".join(f"{it:8}" for it in self.most)
 
 
+WHOLE = re.compile(r"^in all +(\d+)$", re.M)
+
+
+def is_row(line):
+    return line.strip() and not line.startswith("#") and not WHOLE.match(line)
+
+
 def rows():
-    lines = read(BUDGETS).split("\n")
-    return [Row(it) for it in lines if it.strip() and not it.startswith("#")]
+    return [Row(it) for it in read(BUDGETS).split("\n") if is_row(it)]
+
+
+def whole():
+    """How many words all pages of the table have, and may have."""
+    return sum(measured(it.page)[0] for it in rows()), int(WHOLE.search(read(BUDGETS))[1])
 
 
 def blocks(text):
@@ -102,6 +113,8 @@ def prose_faults(pages):
                     faults.append(f"{row.page}: {now:,} {kind}, where {BUDGETS} allows {most:,}")
                     faults += [f"{row.page}:{at}: {' '.join(it.split()[:9])} .." for at, it in long if kind == KINDS[1]]
                     faults += [f"{row.page}:{at}: {it}: {say}" for at, it, say in listed if kind == KINDS[2]]
+    if not faults and (all_of := whole())[0] > all_of[1]:
+        faults.append(f"{BUDGETS}: all pages have {all_of[0]:,} words, where it allows {all_of[1]:,}")
     return faults
 
 
@@ -119,6 +132,9 @@ def prose_notes(is_full):
     named = ("words, over budget", over), (f"sentences over {LONG} words", long_of), ("listed words", listed_of)
     notes = [f"{name}: {', '.join(pages)}" for name, pages in named if pages]
     notes += [f"what {BUDGETS} allows of {', '.join(less)} can go down: ./check --lower"] * bool(less)
+    if is_full:
+        count, most = whole()
+        notes.append(f"{count:,} words in all, of {most:,}")
     return notes + (places if is_full else [])
 
 
@@ -131,7 +147,7 @@ def lower():
     """Writes the table with lower numbers, where pages are below; it never writes a higher one."""
     lines, text = [], read(BUDGETS)
     for line in text.split("\n"):
-        if line.strip() and not line.startswith("#"):
+        if is_row(line):
             row = Row(line)
             now = allowed(row, *measured(row.page))
             row.most = [min(it, most) for it, most in zip(now, row.most)]

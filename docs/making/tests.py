@@ -11,61 +11,70 @@ HEAD = wrapped(
 )
 SCENARIOS_HEAD = wrapped(
     "What a machine is asked and what it tells, played by the program test_scenarios "
-    "([README](../crates/test_scenarios/data/README.md)). A row is one thing asked."
+    "([README](../crates/test_scenarios/data/README.md)). A row is one thing asked. The title of a file says more."
 )
-CRATES_HEAD = wrapped("The tests of each crate, by modules, each with its name as a sentence.")
-PROGRAMS_HEAD = "What `./test` runs behind `rt ci`, over the built program, in the words with which each begins."
+CRATES_HEAD = wrapped(
+    "How many tests each crate has. `docs/tables --tests CRATE..` prints their names, which read as sentences."
+)
+PROGRAMS_HEAD = "`./test` runs these behind `rt ci`, over the built program. Each says at its head what it is:"
 
 
 def scenarios():
-    """Each file of scenarios with its title, how many scenarios it has and how many rows."""
-    counts = {}
+    """The files of scenarios by what they are about, with how many scenarios and rows they have."""
+    counts, groups = {}, {}
     for line in read(f"{SCENARIOS}/stdout").split("\n"):
         if found := re.fullmatch(r"(\S+): .*: (\d+) rows?", line):
             count = counts.setdefault(found[1], [0, 0])
             count[0] += 1
             count[1] += int(found[2])
-    said = ["| File | What it is about | Scenarios | Rows |", "|---|---|---:|---:|"]
     for file, (count, rows) in counts.items():
         title = read(f"{SCENARIOS}/data/{file}").split("\n")[0].removeprefix("# ")
-        said.append(f"| [{file[:-3]}](../{SCENARIOS}/data/{file}) | {title} | {count} | {rows:,} |")
+        about = re.split(r": |, from seeds", title)[0]
+        group = groups.setdefault(about, [[], 0, 0])
+        group[0].append(f"[{file[:-3]}](../{SCENARIOS}/data/{file})")
+        group[1] += count
+        group[2] += rows
+    said = ["| About | Files | Scenarios | Rows |", "|---|---|---:|---:|"]
+    said += [f"| {about} | {', '.join(it)} | {count} | {rows:,} |" for about, (it, count, rows) in groups.items()]
     sums = [sum(it[at] for it in counts.values()) for at in (0, 1)]
     return said + [f"| in all | | {sums[0]:,} | {sums[1]:,} |"]
 
 
-def crates_table(crates):
+def tests_of(crate):
     """Each module of a crate that has tests, with their names."""
-    said, count = ["| Crate | Module | Tests |", "|---|---|---|"], 0
+    for file in files_of(f"crates/{crate}/src", ".rt"):
+        names = re.findall(r"^#\[test\]\n(?:#.*\n)*(?:pub )?fn (\w+)", read(file), re.M)
+        if names:
+            yield file.removeprefix(f"crates/{crate}/src/").removesuffix(".rt"), names
+
+
+def crates_table(crates):
+    """How many tests each crate has, in how many modules."""
+    said, count = ["| Crate | Modules | Tests |", "|---|---:|---:|"], 0
     for crate in crates.names:
-        for file in files_of(f"crates/{crate}/src", ".rt"):
-            names = re.findall(r"^#\[test\]\n(?:#.*\n)*(?:pub )?fn (\w+)", read(file), re.M)
-            module = file.removeprefix(f"crates/{crate}/src/").removesuffix(".rt")
-            said += [f"| {crate} | {module} | {'; '.join(it.replace('_', ' ') for it in names)} |"] * bool(names)
-            count += len(names)
+        if found := list(tests_of(crate)):
+            tests = sum(len(names) for _, names in found)
+            said.append(f"| {crate} | {len(found)} | {tests} |")
+            count += tests
     return said + [f"| in all | | {count} |"]
 
 
-def said_of(text):
-    """The comment with which a program begins."""
-    if found := re.match(r'#!.*python3\n"""(.*?)"""', text, re.S):
-        return " ".join(found[1].split())
-    lines = text.split("\n")[1:]
-    end = next(at for at, it in enumerate(lines) if not it.startswith("#"))
-    return " ".join(it.removeprefix("#").strip() for it in lines[:end])
+def tests(crates, named):
+    """The names of the tests of some crates, or of all: lines of `docs/tables --tests`."""
+    for crate in named or crates.names:
+        for module, names in tests_of(crate):
+            yield from (f"{crate}/src/{module}.rt: {it.replace('_', ' ')}" for it in names)
 
 
-def programs_table():
-    said = ["| Program | What it is |", "|---|---|"]
-    for name in sorted(os.listdir(f"{TOP}/tests")):
-        if "." not in name and name != "run" and os.path.isfile(f"{TOP}/tests/{name}"):
-            words = re.sub(rf"^tests/{name}(?: \[[^\]]*\])?: ", "", said_of(read(f"tests/{name}")))
-            said.append(f"| `{name}` | {words[:1].upper()}{words[1:]} |".replace("|  |", "| |"))
-    return said
+def programs():
+    """The names of the programs of tests/."""
+    names = sorted(it for it in os.listdir(f"{TOP}/tests") if "." not in it and os.path.isfile(f"{TOP}/tests/{it}"))
+    return wrapped(", ".join(f"[{it}](../tests/{it})" for it in names if it != "run") + ".").split("\n")
 
 
 def tests_page(crates):
     said = ["# Tests", "", *HEAD.split("\n"), ""]
     said += ["## Scenarios", "", *SCENARIOS_HEAD.split("\n"), "", *scenarios(), ""]
     said += ["## Crates of tests", "", *CRATES_HEAD.split("\n"), "", *crates_table(crates), ""]
-    said += ["## The built program", "", *PROGRAMS_HEAD.split("\n"), "", *programs_table(), ""]
+    said += ["## The built program", "", PROGRAMS_HEAD, "", *programs(), ""]
     return "\n".join(said)

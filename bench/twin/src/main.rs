@@ -1,5 +1,9 @@
 //! `twin apply|end|simulate|audit < script` and `twin cluster`: what these commands of `fdbrec` do, as plain Rust
 //! without proofs, written from the rules in docs/.
+//!
+//! A text is read straight into typed operations; only one that this refuses is read again as a tree. Keys and values are
+//! decoded once and then moved, one look-up serves a write, and a clear takes a range out by one walk. Undo rows are in a
+//! double-ended queue by version.
 
 mod audit;
 mod batch;
