@@ -11,7 +11,7 @@ FAMILIES = (
     (
         "Audits",
         "journals, their scripts, and whether they are a run",
-        r"fr_audit.*|fr_forms|fr_form_.*|fr_simulate_script",
+        r"fr_audit.*|fr_forms|fr_simulate_script",
     ),
     ("Library for C", "machines as one type, and behind handles: what C, Rust and Python call", r"fr_(part|handle|c)"),
     ("Nodes as processes", "a turn of one node, and the lines by which it is served", r"fr_node_.*"),

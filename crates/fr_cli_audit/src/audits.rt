@@ -10,7 +10,7 @@ ghost use Rattle.fr_cli_audit.specs.Lines.{line_of, status_of};
 use crate::lines::fault_text;
 use fr_audit::{AuditFault, audit};
 use fr_audit_journal::Journal;
-use fr_audit_script::{ScriptFault, read_script};
+use fr_audit_script::read_script;
 use fr_cli_json::{CallCounts, CliFault, put, read_input};
 use fr_run_event::Config;
 use std::alloc::Global;
@@ -33,14 +33,16 @@ pub fn run_audit<R: Read, W: Write>(
         → writer.new ≡ writer.old }
 {
     let mut calls = CallCounts::new();
-    audit_counted(alloc, &mut calls, reader, writer)
+    audit_counted(alloc, &mut calls, &mut String::new(alloc), reader, writer)
 }
 
-/// As [`run_audit`], with the calls of the reader and of the writer counted in `calls`, which has none yet. `Input` is
-/// answered only if a read failed or 2^30 of them found no end, `Output` only if a write or a flush failed.
+/// As [`run_audit`], with the calls of the reader and of the writer counted in `calls`, which has none
+/// yet: `Input` is answered only where a read failed or 2^30 of them found no end, `Output` only where
+/// a write or a flush failed. Of a bad script `place` says where it is bad.
 pub fn audit_counted<R: Read, W: Write>(
     alloc: Global,
     calls: &mut CallCounts,
+    place: &mut String,
     reader: &mut R,
     writer: &mut W,
 ) -> Result<u8, CliFault>
@@ -55,21 +57,21 @@ pub fn audit_counted<R: Read, W: Write>(
     ensures done { OnOk result (HasNotFailed calls.new) }
 {
     let input = read_input(alloc, calls, reader)?;
-    let (config, journals) = journals_in(alloc, input)?;
+    let (config, journals) = journals_in(alloc, input, place)?;
     let status = put_audit(alloc, config, journals.as_slice(), calls, writer)?;
     calls.flush(writer)?;
     Ok(status)
 }
 
 /// The config and the journals of a script. The input is let go once they are made.
-fn journals_in(alloc: Global, input: Vec<u8>) -> Result<(Config, Vec<Journal>), CliFault>
+fn journals_in(
+    alloc: Global,
+    input: Vec<u8>,
+    place: &mut String,
+) -> Result<(Config, Vec<Journal>), CliFault>
     ensures fault { IfErr result (λ e. (e ≡ CliFault.BadScript) ⊎ (e ≡ CliFault.Memory)) }
 {
-    match read_script(alloc, input.as_slice()) {
-        Ok(script) => Ok(script),
-        Err(ScriptFault::BadScript) => Err(CliFault::BadScript),
-        Err(ScriptFault::Memory) => Err(CliFault::Memory),
-    }
+    read_script(alloc, input.as_slice(), place)
 }
 
 /// Audits journals, and writes the line; gives the status.
@@ -99,7 +101,7 @@ fn put_audit<W: Write>(
     }
 }
 
-/// The fault of some journals, if they are no run.
+/// The fault of some journals, where they are no run.
 fn fault_of(alloc: Global, config: Config, journals: &[Journal]) -> Option<AuditFault>
     ensures none { result ≡ None → IsOk (audited config journals.now) }
     ensures some { IfSome result (λ fault. fault ≢ AuditFault.Memory → audited config journals.now ≡ Err fault) }

@@ -1,51 +1,88 @@
 //! The steps of a script.
-ghost use Rattle.std.specs.Prelude.{◌≡◌, ◌⊎◌, IfErr};
-
-use crate::fields::{Fields, LAST_CELL, LAST_LOG};
-use crate::script::{Act, Commit, Pull, Push, Recover};
-use fr_base::{Ballot, Shape, Step, Tag};
-use fr_cli_json::CliFault;
-use fr_cli_json::tree::{into_one_member, member_of, read_batch, take_member};
-use serde_json::Value;
+use fr_base::{Ballot, Epoch, LogId, Shape, Step, Tag};
+use fr_cli_json::Mutations;
+use fr_cli_json::tokens::Unread;
+use fr_forms::{Formed, Row, kind};
 use std::alloc::Global;
 
-/// The greatest tag.
-const LAST_TAG: u8 = 31;
+/// A step of a script.
+#[derive(Drop)]
+pub enum Act {
+    /// A proxy takes a batch.
+    Commit(Commit),
+    /// A proxy pushes its open batch again.
+    Push(Push),
+    /// A storage server pulls from a log.
+    Pull(Pull),
+    /// A storage server asks a log for the mark.
+    Mark(Pull),
+    /// A storage server has a log let go of what it has for good.
+    Pop(Pull),
+    /// A recoverer begins, or goes on.
+    Recover(Recover),
+    /// A log is lost.
+    Lose(LogId),
+}
 
-/// How many members a step `recover` has.
-const RECOVER: usize = 5;
+/// A batch for a proxy, how far its version is to be above the one before, and the logs that get its push.
+#[derive(Drop)]
+pub struct Commit {
+    pub epoch: Epoch,
+    pub proxy: u8,
+    pub step: Step,
+    pub batch: Mutations,
+    pub logs: Vec<u8>,
+}
 
-/// How many it has with a shape, which is two of them.
-const RECOVER_SHAPED: usize = RECOVER + 2;
+/// A proxy, and the logs that get its push.
+#[derive(Drop)]
+pub struct Push {
+    pub epoch: Epoch,
+    pub proxy: u8,
+    pub logs: Vec<u8>,
+}
 
-/// Reads a step: an object of one member, which names it.
-pub(crate) fn read_step(alloc: Global, value: Value) -> Result<Act, CliFault>
-    ensures fault { IfErr result (λ e. (e ≡ CliFault.BadScript) ⊎ (e ≡ CliFault.Memory)) }
-{
-    let (name, fields) = into_one_member(value).ok_or(CliFault::BadScript)?;
-    match name.as_str() {
-        "commit" => Ok(Act::Commit(read_commit(alloc, fields)?)),
-        "push" => Ok(Act::Push(read_push(alloc, &fields)?)),
-        "pull" => Ok(Act::Pull(read_pull(&fields)?)),
-        "mark" => Ok(Act::Mark(read_pull(&fields)?)),
-        "pop" => Ok(Act::Pop(read_pull(&fields)?)),
-        "recover" => Ok(Act::Recover(read_recover(alloc, &fields)?)),
-        "lose" => Ok(Act::Lose(Fields::new(&fields, 2).log()?)),
-        _ => Err(CliFault::BadScript),
+/// A storage server, and the log that it asks.
+#[derive(Drop)]
+pub struct Pull {
+    pub storage: Tag,
+    pub log: LogId,
+}
+
+/// A recoverer, by its ballot, with the shape of the generation that it is to open, where it begins now and one is
+/// given; and the cells that it reads, the logs that it locks, the cells that it writes to, and the logs that get its
+/// mark.
+#[derive(Drop)]
+pub struct Recover {
+    pub ballot: Ballot,
+    pub shape: Option<Shape>,
+    pub read: Vec<u8>,
+    pub lock: Vec<u8>,
+    pub write: Vec<u8>,
+    pub mark: Vec<u8>,
+}
+
+pub(crate) fn act_of(alloc: Global, row: Row<'_>) -> Result<Act, Unread> {
+    let (name, fields) = row.named();
+    match name {
+        "commit" => Ok(Act::Commit(commit_of(alloc, fields)?)),
+        "push" => Ok(Act::Push(push_of(alloc, fields)?)),
+        "pull" => Ok(Act::Pull(pull_of(alloc, fields)?)),
+        "mark" => Ok(Act::Mark(pull_of(alloc, fields)?)),
+        "pop" => Ok(Act::Pop(pull_of(alloc, fields)?)),
+        "recover" => Ok(Act::Recover(recover_of(alloc, fields)?)),
+        _ => Ok(Act::Lose(LogId::from_row(alloc, fields)?)),
     }
 }
 
-/// Reads a commit. Its batch may be beyond the limits of batches.
-fn read_commit(alloc: Global, mut value: Value) -> Result<Commit, CliFault>
-    ensures fault { IfErr result (λ e. (e ≡ CliFault.BadScript) ⊎ (e ≡ CliFault.Memory)) }
-{
-    let batch = take_member(&mut value, 5, "batch").ok_or(CliFault::BadScript)?;
-    let fields = Fields::new(&value, 5);
-    let epoch = fields.epoch()?;
-    let proxy = fields.proxy()?;
-    let step = Step::new(fields.number("step")?).ok_or(CliFault::BadScript)?;
-    let logs = fields.indexes(alloc, "logs", LAST_LOG)?;
-    let batch = read_batch(alloc, batch)?;
+/// A commit. Its batch may be beyond the limits of batches.
+fn commit_of(alloc: Global, row: Row<'_>) -> Result<Commit, Unread> {
+    let mut parts = row.parts();
+    let batch = Mutations::from_vec(parts.take(alloc)?);
+    let epoch = parts.take(alloc)?;
+    let logs = parts.take(alloc)?;
+    let proxy = parts.take(alloc)?;
+    let step = parts.take(alloc)?;
     Ok(Commit {
         epoch,
         proxy,
@@ -55,57 +92,29 @@ fn read_commit(alloc: Global, mut value: Value) -> Result<Commit, CliFault>
     })
 }
 
-fn read_push(alloc: Global, value: &Value) -> Result<Push, CliFault>
-    ensures fault { IfErr result (λ e. (e ≡ CliFault.BadScript) ⊎ (e ≡ CliFault.Memory)) }
-{
-    let fields = Fields::new(value, 3);
-    Ok(Push {
-        epoch: fields.epoch()?,
-        proxy: fields.proxy()?,
-        logs: fields.indexes(alloc, "logs", LAST_LOG)?,
-    })
+fn push_of(alloc: Global, row: Row<'_>) -> Result<Push, Unread> {
+    kind!(PushStep read alloc row)
 }
 
-/// Reads a storage server, and the log that it asks.
-fn read_pull(value: &Value) -> Result<Pull, CliFault>
-    ensures fault { IfErr result (λ e. (e ≡ CliFault.BadScript) ⊎ (e ≡ CliFault.Memory)) }
-{
-    let fields = Fields::new(value, 3);
-    let storage = Tag::new(fields.index("storage", LAST_TAG)?).ok_or(CliFault::BadScript)?;
-    Ok(Pull {
-        storage,
-        log: fields.log()?,
-    })
+fn pull_of(alloc: Global, row: Row<'_>) -> Result<Pull, Unread> {
+    let log = LogId::from_row(alloc, row)?;
+    let storage = Tag::from_row(alloc, row.part(2))?;
+    Ok(Pull { storage, log })
 }
 
-/// Reads a step of a recoverer, with the members `logs` and `degree` or with neither.
-fn read_recover(alloc: Global, value: &Value) -> Result<Recover, CliFault>
-    ensures fault { IfErr result (λ e. (e ≡ CliFault.BadScript) ⊎ (e ≡ CliFault.Memory)) }
-{
-    if member_of(value, RECOVER_SHAPED, "logs").is_none() {
-        return read_members(alloc, Fields::new(value, RECOVER), None);
-    }
-    let fields = Fields::new(value, RECOVER_SHAPED);
-    let logs = fields.index("logs", u8::MAX)?;
-    let degree = fields.index("degree", u8::MAX)?;
-    let shape = Shape::new(logs, degree).ok_or(CliFault::BadScript)?;
-    read_members(alloc, fields, Some(shape))
-}
-
-/// Reads the other members of a step of a recoverer.
-fn read_members(
-    alloc: Global,
-    fields: Fields<'_>,
-    shape: Option<Shape>,
-) -> Result<Recover, CliFault>
-    ensures fault { IfErr result (λ e. (e ≡ CliFault.BadScript) ⊎ (e ≡ CliFault.Memory)) }
-{
+fn recover_of(alloc: Global, row: Row<'_>) -> Result<Recover, Unread> {
+    let (logs, degree) = (row.part(3), row.part(1));
+    let shape = if logs.is_none() && degree.is_none() {
+        None
+    } else {
+        Some(Shape::new(logs.byte(), degree.byte()).ok_or(Unread::Unusual)?)
+    };
     Ok(Recover {
-        ballot: Ballot::new(fields.number("ballot")?).ok_or(CliFault::BadScript)?,
+        ballot: Ballot::from_row(alloc, row.part(0))?,
         shape,
-        read: fields.indexes(alloc, "read", LAST_CELL)?,
-        lock: fields.indexes(alloc, "lock", LAST_LOG)?,
-        write: fields.indexes(alloc, "write", LAST_CELL)?,
-        mark: fields.indexes(alloc, "mark", LAST_LOG)?,
+        read: Vec::from_row(alloc, row.part(5))?,
+        lock: Vec::from_row(alloc, row.part(2))?,
+        write: Vec::from_row(alloc, row.part(6))?,
+        mark: Vec::from_row(alloc, row.part(4))?,
     })
 }

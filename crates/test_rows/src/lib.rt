@@ -2,15 +2,20 @@
 //! a player makes of the first one.
 #![tactic(auto)]
 
+mod fault;
+pub mod fields;
 mod forms;
+pub mod json;
 mod lines;
 mod names;
+pub mod object;
 mod play;
 mod report;
 mod rows;
 mod subject;
 mod wrong;
 
+pub use fault::ScriptFault;
 pub use forms::{of_nothing, played, read_sizes, write_last_state, write_name, write_state_of};
 pub use play::{Player, play_file};
 pub use report::Report;

@@ -2,12 +2,12 @@
 use crate::answers::{write_answer, write_why};
 use crate::events::{read_config, read_event, was_sent, was_told};
 use fr_base::Memory;
-use fr_forms::fields::Fields;
-use fr_forms::object::Object;
-use fr_forms::read_node;
 use fr_world::{Answer, Event, NotEnabled, World};
 use serde_json::Value;
 use std::alloc::Global;
+use test_rows::fields::Fields;
+use test_rows::json::read_node;
+use test_rows::object::Object;
 use test_rows::{Plays, Scene, Wrong, no_such_word, played, said, write_last_state};
 
 /// The player of worlds.
@@ -107,7 +107,7 @@ fn write_copy(alloc: Global, answer: Result<Answer, Memory>) -> Result<Value, Wr
 
 /// What others see of a node's last state; null if it is not there.
 fn state(alloc: Global, world: &World, given: &mut Fields) -> Result<Value, Wrong> {
-    let node = read_node(given.take_all())?;
+    let node = read_node(alloc, given.take_all())?;
     match world.last_of(alloc, node)? {
         Some(last) => write_last_state(alloc, Ok(last)),
         None => Ok(Value::Null),
@@ -115,11 +115,11 @@ fn state(alloc: Global, world: &World, given: &mut Fields) -> Result<Value, Wron
 }
 
 fn there(world: &World, given: &mut Fields) -> Result<Value, Wrong> {
-    Ok(Value::from(world.is_there(read_node(given.take_all())?)))
+    Ok(Value::from(world.is_there(read_node(alloc, given.take_all())?)))
 }
 
 fn gone(world: &World, given: &mut Fields) -> Result<Value, Wrong> {
-    Ok(Value::from(world.is_gone(read_node(given.take_all())?)))
+    Ok(Value::from(world.is_gone(read_node(alloc, given.take_all())?)))
 }
 
 /// How many turns the world has that begins anew with all events up to the first one that cannot happen, and the number
