@@ -16,7 +16,8 @@ fn act_of(alloc: Global, row: Row<'_>) -> Result<Act, Unread> {
     kind!(Act read alloc row)
 }
 
-pub(crate) fn write_entry(alloc: Global, entry: &Entry) -> Result<Value, Memory> {
+/// The form of an entry.
+pub fn write_entry(alloc: Global, entry: &Entry) -> Result<Value, Memory> {
     Object::new(alloc)
         .put("act", write_act(alloc, &entry.act))?
         .with("stamp", &entry.stamp)?

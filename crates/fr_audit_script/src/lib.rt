@@ -5,4 +5,6 @@ mod acts;
 mod journals;
 mod script;
 
+pub use acts::write_entry;
+pub use fr_forms::ScriptFault;
 pub use script::{read_script, write_script};

@@ -1,5 +1,5 @@
 //! The script of an audit.
-ghost use Rattle.std.specs.Prelude.{◌≡◌, ◌⊎◌, Some, IfOk, IfErr, OnOk, IsUtf8};
+ghost use Rattle.std.specs.Prelude.{◌≡◌, Some, IfOk, OnOk, IsUtf8};
 ghost use Rattle.json.specs.Lex.{tokens};
 ghost use Rattle.json.specs.Print.{print};
 ghost use Rattle.serde_json.specs.Data.{Data};
@@ -10,9 +10,8 @@ use crate::acts::entry_of;
 use crate::journals::{journal_of, write_journal};
 use fr_audit_journal::{Entry, Journal};
 use fr_base::Memory;
-use fr_cli_json::CliFault;
 use fr_cli_json::tokens::Unread;
-use fr_forms::{Object, Part, Row, Sink, read_text, table, write_all};
+use fr_forms::{Object, Part, Row, ScriptFault, Sink, read_text, table, write_all};
 use fr_run_event::Config;
 use fr_simulate_script::config_of;
 use serde_json::Value;
@@ -55,10 +54,9 @@ pub fn read_script(
     alloc: Global,
     text: &[u8],
     place: &mut String,
-) -> Result<(Config, Vec<Journal>), CliFault>
+) -> Result<(Config, Vec<Journal>), ScriptFault>
     ensures utf8 { OnOk result (IsUtf8 text.now) }
     ensures json { OnOk result ((d : Data) × (read text.now ≡ Some d)) }
-    ensures fault { IfErr result (λ e. (e ≡ CliFault.BadScript) ⊎ (e ≡ CliFault.Memory)) }
 {
     let mut found = Found {
         config: None,
@@ -68,7 +66,7 @@ pub fn read_script(
     read_text(alloc, text, &table::AUDIT, &mut found, place)?;
     match found.config {
         Some(config) => Ok((config, found.journals)),
-        None => Err(CliFault::BadScript),
+        None => Err(ScriptFault::BadScript),
     }
 }
 

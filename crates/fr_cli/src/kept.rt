@@ -1,7 +1,6 @@
 //! Where a script of `apply` or of `end` is bad: what is read is kept, and read again by the table of forms.
 use fr_cli_json::CliFault;
-use fr_cli_json::tokens::Unread;
-use fr_forms::{Form, Part, Row, Sink, read_text};
+use fr_forms::{Form, Nobody, read_text};
 use std::alloc::Global;
 use std::io;
 use std::io::Read;
@@ -48,18 +47,6 @@ impl<R: Read> Read for Kept<'_, R> {
             self.is_whole = self.is_whole && has_room && self.bytes.extend_from_slice(more).is_ok();
         }
         Ok(count)
-    }
-}
-
-/// Nobody takes the parts.
-#[derive(Drop)]
-struct Nobody;
-
-impl Sink for Nobody {
-    fn begin(&mut self, _part: Part) {}
-
-    fn take(&mut self, _alloc: Global, _part: Part, _row: Row<'_>) -> Result<(), Unread> {
-        Ok(())
     }
 }
 

@@ -14,7 +14,7 @@ use std::io::{Eprint, Read, Write};
 use std::sync::Wait;
 use std::thread::Threads;
 
-/// Does what the words ask for, the first of which is the program's name. Where there is a terminal, a cluster that runs
+/// Does what the words ask for, the first of which is the program's name. If there is a terminal, a cluster that runs
 /// says there how far it has come. Files are those of `host`. Of a bad script `place` says where it is bad.
 pub fn run_program<H: Threads + Wait + Sync, E: Eprint + Sync, R: Read, W: Write>(
     rt: &H,

@@ -10,7 +10,7 @@ ghost use Rattle.fr_cli_audit.specs.Lines.{line_of, status_of};
 use crate::lines::fault_text;
 use fr_audit::{AuditFault, audit};
 use fr_audit_journal::Journal;
-use fr_audit_script::read_script;
+use fr_audit_script::{ScriptFault, read_script};
 use fr_cli_json::{CallCounts, CliFault, put, read_input};
 use fr_run_event::Config;
 use std::alloc::Global;
@@ -36,9 +36,9 @@ pub fn run_audit<R: Read, W: Write>(
     audit_counted(alloc, &mut calls, &mut String::new(alloc), reader, writer)
 }
 
-/// As [`run_audit`], with the calls of the reader and of the writer counted in `calls`, which has none
-/// yet: `Input` is answered only where a read failed or 2^30 of them found no end, `Output` only where
-/// a write or a flush failed. Of a bad script `place` says where it is bad.
+/// As [`run_audit`], with the calls of the reader and of the writer counted in `calls`, which has none yet. `Input` is
+/// answered only if a read failed or 2^30 of them found no end, `Output` only if a write or a flush failed. Of a bad
+/// script `place` says where it is bad.
 pub fn audit_counted<R: Read, W: Write>(
     alloc: Global,
     calls: &mut CallCounts,
@@ -71,7 +71,11 @@ fn journals_in(
 ) -> Result<(Config, Vec<Journal>), CliFault>
     ensures fault { IfErr result (λ e. (e ≡ CliFault.BadScript) ⊎ (e ≡ CliFault.Memory)) }
 {
-    read_script(alloc, input.as_slice(), place)
+    match read_script(alloc, input.as_slice(), place) {
+        Ok(script) => Ok(script),
+        Err(ScriptFault::BadScript) => Err(CliFault::BadScript),
+        Err(ScriptFault::Memory) => Err(CliFault::Memory),
+    }
 }
 
 /// Audits journals, and writes the line; gives the status.

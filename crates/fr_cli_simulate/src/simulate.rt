@@ -28,9 +28,9 @@ pub fn run_simulate<R: Read, W: Write>(
     simulate_counted(alloc, &mut calls, &mut String::new(alloc), reader, writer)
 }
 
-/// As [`run_simulate`], with the calls of the reader and of the writer counted in `calls`, which has none
-/// yet: `Input` is answered only where a read failed or 2^30 of them found no end, `Output` only where
-/// a write or a flush failed. Of a bad script `place` says where it is bad.
+/// As [`run_simulate`], with the calls of the reader and of the writer counted in `calls`, which has none yet. `Input` is
+/// answered only if a read failed or 2^30 of them found no end, `Output` only if a write or a flush failed. Of a bad
+/// script `place` says where it is bad.
 pub fn simulate_counted<R: Read, W: Write>(
     alloc: Global,
     calls: &mut CallCounts,

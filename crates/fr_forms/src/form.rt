@@ -20,8 +20,8 @@ pub enum Form {
     Any,
     /// A number from the first to the second, in digits alone.
     Number(u64, u64),
-    /// The number 0, or one of a form.
-    OrZero(&'static Form),
+    /// The number 0, or one from the first to the second.
+    OrZero(u64, u64),
     /// `true` or `false`.
     Flag,
     /// A text.
@@ -47,10 +47,11 @@ pub enum Form {
 }
 
 impl Form {
-    /// What is read of a value of this form.
-    pub(crate) fn within(&'static self) -> &'static Form {
+    /// What a value is that is neither null nor left out.
+    #[inline(always)]
+    pub(crate) fn filled(&'static self) -> &'static Form {
         match self {
-            Form::Handed(_, form) => form,
+            Form::OrNull(form) | Form::Optional(form) | Form::Handed(_, form) => form,
             _ => self,
         }
     }

@@ -15,25 +15,27 @@ macro_rules! one_of {
     (read $alloc:ident $row:ident; $type:ident; $($name:literal $variant:ident
         $({ $($part:ident: $form:expr),* })? $(($whole:ident: $whole_form:expr))? $([$only:ident: $only_form:expr])?;)+
     ) => {{
-        let (name, content) = $row.named();
-        match name {
-            $($name => {
-                $({
+        let (which, content) = $row.named();
+        let mut variant = 0usize;
+        $(
+            if which == variant {
+                $(
                     let mut _parts = content.parts();
                     $(let $part = _parts.take($alloc)?;)*
-                    Ok($type::$variant { $($part),* })
-                })?
-                $({
+                    return Ok($type::$variant { $($part),* });
+                )?
+                $(
                     let $whole = $crate::Formed::from_row($alloc, content)?;
-                    Ok($type::$variant($whole))
-                })?
-                $({
+                    return Ok($type::$variant($whole));
+                )?
+                $(
                     let $only = $crate::Formed::from_row($alloc, content)?;
-                    Ok($type::$variant { $only })
-                })?
-            })+
-            _ => Err(Unread::Unusual),
-        }
+                    return Ok($type::$variant { $only });
+                )?
+            }
+            variant = variant.wrapping_add(1);
+        )+
+        Err(Unread::Unusual)
     }};
     (write $value:ident $alloc:ident; $type:ident; $($name:literal $variant:ident
         $({ $($part:ident: $form:expr),* })? $(($whole:ident: $whole_form:expr))? $([$only:ident: $only_form:expr])?;)+

@@ -2,6 +2,7 @@
 //! the steps between types and what is read and written, which go by it too.
 #![tactic(auto)]
 
+mod fault;
 mod form;
 mod kinds;
 mod mistake;
@@ -13,7 +14,8 @@ mod tape;
 mod types;
 mod values;
 
+pub use fault::ScriptFault;
 pub use form::{Form, Part};
-pub use object::{Object, hex_value, write_all};
-pub use reading::{Sink, read_one, read_text};
+pub use object::{Object, text_value, write_all};
+pub use reading::{Nobody, Sink, read_one, read_text};
 pub use row::{Formed, Parts, Row};

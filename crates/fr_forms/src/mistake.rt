@@ -26,6 +26,16 @@ pub(crate) struct Mistake {
     pub(crate) wanted: Wanted,
 }
 
+impl Mistake {
+    /// That of a text which is no JSON.
+    pub(crate) fn no_json() -> Self {
+        Mistake {
+            end: 0,
+            wanted: Wanted::Json,
+        }
+    }
+}
+
 /// The most bytes of a token that are shown.
 const SHOWN: usize = 40;
 
@@ -210,15 +220,13 @@ fn put_wanted(alloc: Global, said: &mut String, wanted: Wanted) -> Result<(), Al
 
 /// What a value of a form is.
 fn put_form(alloc: Global, said: &mut String, form: &'static Form) -> Result<(), AllocError> {
-    let (before, form) = match form {
-        Form::OrNull(form) => ("null or ", *form),
-        Form::OrZero(form) => ("0 or ", *form),
-        Form::Optional(form) | Form::Handed(_, form) => ("", *form),
-        _ => ("", form),
-    };
-    said.push_str(before)?;
-    match form {
-        Form::Number(least, most) => {
+    said.push_str(match form {
+        Form::OrNull(_) => "null or ",
+        Form::OrZero(_, _) => "0 or ",
+        _ => "",
+    })?;
+    match form.filled() {
+        Form::Number(least, most) | Form::OrZero(least, most) => {
             let text = format!(in alloc; "a number from {least} to {most} in digits alone")?;
             said.push_str(text.as_str())
         }

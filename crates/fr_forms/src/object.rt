@@ -59,7 +59,12 @@ pub fn write_all<T: Formed>(alloc: Global, all: &[T]) -> Result<Value, Memory> {
     Ok(Value::Array(items))
 }
 
+/// A text.
+pub fn text_value(alloc: Global, text: &str) -> Result<Value, Memory> {
+    Ok(Value::try_from_str(alloc, text)?)
+}
+
 /// Bytes as a text of lower case hex.
-pub fn hex_value(alloc: Global, bytes: &[u8]) -> Result<Value, Memory> {
+pub(crate) fn hex_value(alloc: Global, bytes: &[u8]) -> Result<Value, Memory> {
     Ok(Value::String(hex::encode(alloc, bytes)?))
 }

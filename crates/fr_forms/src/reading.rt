@@ -1,16 +1,16 @@
 //! The reader of all forms.
-ghost use Rattle.std.specs.Prelude.{◌≡◌, ◌⊎◌, ◌<◌, length, Some, IfSome, IfErr, OnOk, IsTrue, IsUtf8};
+ghost use Rattle.std.specs.Prelude.{◌≡◌, ◌<◌, length, Some, IfSome, OnOk, IsTrue, IsUtf8};
 ghost use Rattle.serde_json.specs.Data.{unsigned, Data, Num, Items, Members, no_members};
 ghost use Rattle.serde_json.specs.Read.{number_of, read};
 ghost use Rattle.fr_cli_json.specs.Tokens.{BeginsWithItems, BeginsWithMembers};
 ghost use Rattle.fr_forms.specs.Pieces.{HasValue};
 
+use crate::fault::ScriptFault;
 use crate::form::{Form, Part};
 use crate::mistake::{Mistake, Wanted, explain};
 use crate::row::{Formed, Row};
 use crate::tape::{Slot, Tape};
 use fast_float::Numeral;
-use fr_cli_json::CliFault;
 use fr_cli_json::tokens::Unread;
 use json::{Reader, Scratch, Token};
 use std::alloc::Global;
@@ -25,6 +25,18 @@ pub trait Sink {
 
     /// Takes the whole, of which the parts were taken.
     fn end(&mut self, _alloc: Global, _whole: Row<'_>) -> Result<(), Unread> {
+        Ok(())
+    }
+}
+
+/// Nobody takes the parts.
+#[derive(Drop)]
+pub struct Nobody;
+
+impl Sink for Nobody {
+    fn begin(&mut self, _part: Part) {}
+
+    fn take(&mut self, _alloc: Global, _part: Part, _row: Row<'_>) -> Result<(), Unread> {
         Ok(())
     }
 }
@@ -48,18 +60,23 @@ impl<T: Formed> Sink for One<T> {
     }
 }
 
-/// Reads a text that is one value of a form. Of a bad one `place` says where it is bad, as of a script.
+/// Reads a text that is one value of a form.
 pub fn read_one<T: Formed>(
     alloc: Global,
     text: &[u8],
     form: &'static Form,
-    place: &mut String,
-) -> Result<T, CliFault>
-    ensures fault { IfErr result (λ e. (e ≡ CliFault.BadScript) ⊎ (e ≡ CliFault.Memory)) }
+) -> Result<T, ScriptFault>
+    ensures json { OnOk result ((d : Data) × (read text.now ≡ Some d)) }
 {
+    let Ok(text) = simdutf8::compat::from_utf8(text) else {
+        return Err(ScriptFault::BadScript);
+    };
     let mut one = One { value: None };
-    read_text(alloc, text, form, &mut one, place)?;
-    one.value.ok_or(CliFault::BadScript)
+    match read_whole(alloc, text, form, &mut one, &mut Mistake::no_json()) {
+        Ok(()) => one.value.ok_or(ScriptFault::BadScript),
+        Err(Unread::Memory) => Err(ScriptFault::Memory),
+        Err(Unread::Unusual) => Err(ScriptFault::BadScript),
+    }
 }
 
 /// Reads a text that is to be of a form, and hands out its parts. Of a bad script `place` says where it is bad and what
@@ -70,26 +87,22 @@ pub fn read_text<S: Sink>(
     form: &'static Form,
     sink: &mut S,
     place: &mut String,
-) -> Result<(), CliFault>
+) -> Result<(), ScriptFault>
     ensures utf8 { OnOk result (IsUtf8 input.now) }
     ensures json { OnOk result ((d : Data) × (read input.now ≡ Some d)) }
-    ensures fault { IfErr result (λ e. (e ≡ CliFault.BadScript) ⊎ (e ≡ CliFault.Memory)) }
 {
     let Ok(text) = simdutf8::compat::from_utf8(input) else {
-        return Err(CliFault::BadScript);
+        return Err(ScriptFault::BadScript);
     };
-    let mut mistake = Mistake {
-        end: 0,
-        wanted: Wanted::Json,
-    };
+    let mut mistake = Mistake::no_json();
     match read_whole(alloc, text, form, sink, &mut mistake) {
         Ok(()) => Ok(()),
-        Err(Unread::Memory) => Err(CliFault::Memory),
+        Err(Unread::Memory) => Err(ScriptFault::Memory),
         Err(Unread::Unusual) => {
             if let Ok(said) = explain(alloc, text, mistake) {
                 *place = said;
             }
-            Err(CliFault::BadScript)
+            Err(ScriptFault::BadScript)
         }
     }
 }
@@ -169,12 +182,12 @@ fn read_value<'a, S: Sink>(
     let end = reader.offset();
     match token {
         Token::String(text) => {
-            let slot = tape.single(form, Slot::Text(text), end)?;
+            let slot = tape.text(form, text, end)?;
             Ok(slot)
         }
         Token::Number(digits) => match unsigned(digits.as_bytes()) {
             Some(number) => {
-                let slot = tape.single(form, Slot::Number(number), end)?;
+                let slot = tape.number(form, number, end)?;
                 Ok(slot)
             }
             None => {
@@ -231,7 +244,7 @@ fn read_items<'a, S: Sink>(
     'items: while !reader.take_end_array() {
         let item = tape.item(&mut open);
         let first = tape.parts.len();
-        let slot = read_value(alloc, tape, reader, sink, item.within(), depth)?;
+        let slot = read_value(alloc, tape, reader, sink, item, depth)?;
         let slot = hand(alloc, tape, sink, item, slot, (first, reader.offset()))?;
         tape.add(&mut open, slot)?;
     }
@@ -256,16 +269,17 @@ fn read_members<'a, S: Sink>(
     'members: while let Some(name) = reader.next_key()? {
         let (member, at) = tape.member(&mut open, name, reader.offset())?;
         let first = tape.parts.len();
-        let slot = read_value(alloc, tape, reader, sink, member.within(), depth)?;
+        let slot = read_value(alloc, tape, reader, sink, member, depth)?;
         let slot = hand(alloc, tape, sink, member, slot, (first, reader.offset()))?;
-        tape.put(at, slot);
+        tape.put(&mut open, at, slot);
     }
     let slot = tape.end(open, reader.offset())?;
     Ok(slot)
 }
 
-/// Hands a value out, if its form is to be: its parts stand on the tape from the first number on, and it ends at the
+/// Hands a value out, if its form is to be: its parts are on the tape from the first number on, and it ends at the
 /// second.
+#[inline(always)]
 fn hand<'a, S: Sink>(
     alloc: Global,
     tape: &mut Tape<'a>,
@@ -274,13 +288,23 @@ fn hand<'a, S: Sink>(
     slot: Slot<'a>,
     place: (usize, usize),
 ) -> Result<Slot<'a>, Unread> {
-    let Form::Handed(part, _) = form else {
-        return Ok(slot);
-    };
-    if let Slot::Wrong(_) = slot {
-        return Ok(slot);
+    match (form, slot) {
+        (Form::Handed(_, _), Slot::Wrong(_)) => Ok(slot),
+        (Form::Handed(part, _), _) => give(alloc, tape, sink, *part, slot, place),
+        _ => Ok(slot),
     }
-    let taken = sink.take(alloc, *part, Row::new(tape.parts.as_slice(), slot));
+}
+
+/// Gives a part to who takes it.
+fn give<'a, S: Sink>(
+    alloc: Global,
+    tape: &mut Tape<'a>,
+    sink: &mut S,
+    part: Part,
+    slot: Slot<'a>,
+    place: (usize, usize),
+) -> Result<Slot<'a>, Unread> {
+    let taken = sink.take(alloc, part, Row::new(tape.parts.as_slice(), slot));
     tape.parts.truncate(place.0);
     match taken {
         Ok(()) => Ok(Slot::Null),
@@ -289,7 +313,7 @@ fn hand<'a, S: Sink>(
     }
 }
 
-/// The number that a text of JSON's is, where it is written in digits alone and fits 64 bits.
+/// The number that a text of JSON's is, if it is written in digits alone and fits 64 bits.
 fn unsigned(digits: &[u8]) -> Option<u64>
     ensures { IfSome result (λ n. number_of digits.now ≡ Some (unsigned n)) }
 {

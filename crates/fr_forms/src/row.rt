@@ -1,4 +1,5 @@
 //! What was read of a value, as it is taken apart.
+use crate::form::Form;
 use crate::tape::Slot;
 use fr_base::Memory;
 use fr_cli_json::tokens::Unread;
@@ -79,14 +80,26 @@ impl<'t> Row<'t> {
         Row::new(self.tape, slot.unwrap_or(Slot::Absent))
     }
 
-    /// The name of the member of an object that has one, and the value of it.
-    pub fn named(self) -> (&'static str, Row<'t>) {
+    /// Which member of its form an object of one member has, and the value of it.
+    pub fn named(self) -> (usize, Row<'t>) {
         match self.slot {
-            Slot::Named(name, at) => {
+            Slot::Named(which, at) => {
                 let slot = self.tape.get(at).copied();
-                (name, Row::new(self.tape, slot.unwrap_or(Slot::Absent)))
+                (which, Row::new(self.tape, slot.unwrap_or(Slot::Absent)))
             }
-            _ => ("", Row::new(self.tape, Slot::Absent)),
+            _ => (usize::MAX, Row::new(self.tape, Slot::Absent)),
+        }
+    }
+
+    /// The same by its name in the form.
+    pub fn named_in(self, form: &Form) -> (&'static str, Row<'t>) {
+        let (which, content) = self.named();
+        match form {
+            Form::OneOf(members) => match members.get(which) {
+                Some((name, _)) => (*name, content),
+                None => ("", content),
+            },
+            _ => ("", content),
         }
     }
 
@@ -110,6 +123,14 @@ impl<'t> Row<'t> {
     /// Whether it is true.
     pub fn flag(self) -> bool {
         matches!(self.slot, Slot::Flag(true))
+    }
+
+    /// The text that it is.
+    pub(crate) fn text(self) -> &'t str {
+        match self.slot {
+            Slot::Text(text) => text,
+            _ => "",
+        }
     }
 
     /// The bytes of a text, or those that it says in hex.

@@ -122,17 +122,17 @@ macro_rules! kind {
 }
 
 // ---- numbers and bytes
-const VERSION: Form = Number(0, (1 << 62) - 1);
+pub const VERSION: Form = Number(0, (1 << 62) - 1);
 
-const EPOCH: Form = Number(256, (1 << 48) - 1);
+pub const EPOCH: Form = Number(256, (1 << 48) - 1);
 
-const BALLOT: Form = OrZero(&EPOCH);
+const BALLOT: Form = OrZero(256, (1 << 48) - 1);
 
 const REQUEST: Form = Number(1, (1 << 62) - 1);
 
-const STEP: Form = Number(1, 1_000_000);
+pub const STEP: Form = Number(1, 1_000_000);
 
-const STAMP: Form = Number(0, (1 << 40) - 1);
+pub const STAMP: Form = Number(0, (1 << 40) - 1);
 
 const MOST: Form = Number(1, 100);
 
@@ -191,7 +191,7 @@ const ACT: Form = kind!(Act form);
 
 const OUTCOME: Form = kind!(Outcome form);
 
-const LAST: Form = kind!(Last form);
+pub const LAST: Form = kind!(Last form);
 
 // ---- what types have, and parts of them that stand by other names
 const PUSH: Form = Object(&[
@@ -215,7 +215,7 @@ const KEY_VALUE: Form = Object(&[("key", HEX), ("value", HEX)]);
 
 const OPERAND: Form = Object(&[("key", HEX), ("param", HEX)]);
 
-pub const BATCH: Form = List(&OneOf(&[
+pub const MUTATION: Form = OneOf(&[
     ("set", KEY_VALUE),
     ("clear", Object(&[("begin", HEX), ("end", HEX)])),
     ("add", OPERAND),
@@ -225,7 +225,9 @@ pub const BATCH: Form = List(&OneOf(&[
     ("max", OPERAND),
     ("min", OPERAND),
     ("compare_and_clear", KEY_VALUE),
-]));
+]);
+
+pub const BATCH: Form = List(&MUTATION);
 
 // ---- steps of `simulate`
 const CELLS: Form = List(&CELL);
@@ -244,7 +246,7 @@ const COMMIT: Form = Object(&[
     ("step", STEP),
 ]);
 
-const SIMULATE_STEP: Form = OneOf(&[
+pub const SIMULATE_STEP: Form = OneOf(&[
     ("commit", COMMIT),
     ("push", kind!(PushStep form)),
     ("pull", PULL),
@@ -267,7 +269,7 @@ const RECOVER: Form = Object(&[
 // ---- scripts
 pub const SHARDS: Form = List(&HEX);
 
-const CONFIG: Form = Object(&[
+pub const CONFIG: Form = Object(&[
     ("coordinators", BYTE),
     ("degree", BYTE),
     ("logs", BYTE),
@@ -298,6 +300,9 @@ pub static SIMULATE: Form = Object(&[
     ("config", Handed(Part::Config, &CONFIG)),
     ("steps", List(&Handed(Part::Step, &SIMULATE_STEP))),
 ]);
+
+/// A node, and what it tells.
+pub static HEARD: Form = Object(&[("from", NODE), ("tell", TELL)]);
 
 pub static AUDIT: Form = Object(&[
     ("config", Handed(Part::Config, &CONFIG)),

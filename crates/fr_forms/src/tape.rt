@@ -21,17 +21,18 @@ pub(crate) enum Slot<'a> {
     Hex(&'a str),
     /// The parts of an object or of an array: the first of them, and how many there are.
     Parts(usize, usize),
-    /// An object of one member: its name, and where its value stands.
-    Named(&'static str, usize),
+    /// An object of one member: which one of its form, and where its value is.
+    Named(usize, usize),
     /// A value that is not in its form: which mistake it is.
     Wrong(usize),
 }
 
-/// The parts of values, of those that were read and of those under way, and where they are not in their form.
+/// The parts of values: first of those of a fixed number, and apart from them of lists under way. Beside them is where
+/// values are not in their form.
 #[derive(Drop)]
 pub(crate) struct Tape<'a> {
     pub(crate) parts: Vec<Slot<'a>>,
-    under_way: Vec<Slot<'a>>,
+    items: Vec<Slot<'a>>,
     pub(crate) mistakes: Vec<Mistake>,
 }
 
@@ -39,12 +40,16 @@ pub(crate) struct Tape<'a> {
 #[derive(Clone, Copy)]
 pub(crate) struct Open {
     form: &'static Form,
-    /// Where its parts begin among those under way.
+    /// Where its parts begin, or its items.
     base: usize,
+    /// How many parts it has, if their number is fixed.
+    count: usize,
     /// The member that is likely next, or how many items were begun.
     next: usize,
-    /// The one member of an object that has one.
-    name: &'static str,
+    /// Which member it is, if it is an object of one.
+    which: usize,
+    /// How many of its parts are not read yet, if their number is fixed.
+    left: usize,
     /// The first mistake that no later member makes good.
     wrong: Option<usize>,
 }
@@ -63,7 +68,7 @@ impl<'a> Tape<'a> {
     pub(crate) fn new(alloc: Global) -> Self {
         Tape {
             parts: Vec::new(alloc),
-            under_way: Vec::new(alloc),
+            items: Vec::new(alloc),
             mistakes: Vec::new(alloc),
         }
     }
@@ -75,17 +80,47 @@ impl<'a> Tape<'a> {
         Ok(slot)
     }
 
-    /// A value without parts that ends there, in its form or not.
+    /// A number that ends there, in its form or not.
+    #[inline(always)]
+    pub(crate) fn number(
+        &mut self,
+        form: &'static Form,
+        number: u64,
+        end: usize,
+    ) -> Result<Slot<'a>, Unread> {
+        if is_within(form.filled(), number) {
+            return Ok(Slot::Number(number));
+        }
+        self.wrong(end, Wanted::Value(form))
+    }
+
+    /// A text that ends there, in its form or not.
+    pub(crate) fn text(
+        &mut self,
+        form: &'static Form,
+        text: &'a str,
+        end: usize,
+    ) -> Result<Slot<'a>, Unread> {
+        match form.filled() {
+            Form::Hex(most) if is_hex(text.as_bytes(), *most) => Ok(Slot::Hex(text)),
+            Form::Text => Ok(Slot::Text(text)),
+            Form::Any => Ok(Slot::Null),
+            _ => self.wrong(end, Wanted::Value(form)),
+        }
+    }
+
+    /// Null, true or false, or a number that is not one in digits alone. It ends there, in its form or not.
     pub(crate) fn single(
         &mut self,
         form: &'static Form,
         slot: Slot<'a>,
         end: usize,
     ) -> Result<Slot<'a>, Unread> {
-        match slot {
-            _ if !fits(form, slot) => self.wrong(end, Wanted::Value(form)),
-            Slot::Text(text) if matches!(filled(form), Form::Hex(_)) => Ok(Slot::Hex(text)),
-            _ => Ok(slot),
+        match (form, slot) {
+            (Form::OrNull(_), Slot::Null) | (Form::Flag, Slot::Flag(_)) | (Form::Any, _) => {
+                Ok(slot)
+            }
+            _ => self.wrong(end, Wanted::Value(form)),
         }
     }
 
@@ -96,44 +131,40 @@ impl<'a> Tape<'a> {
         is_object: bool,
         end: usize,
     ) -> Result<Open, Unread> {
-        let within = match filled(form) {
+        let within = match form.filled() {
             Form::Either(array, object) => if is_object { object } else { array },
             other => other,
         };
-        let mut open = Open {
-            form: within,
-            base: self.under_way.len(),
-            next: 0,
-            name: "",
-            wrong: None,
+        let (base, left) = match within {
+            Form::Object(members) if is_object => (self.parts.len(), members.len()),
+            Form::OneOf(_) if is_object => (self.parts.len(), 1),
+            Form::Tuple(forms) if !is_object => (self.parts.len(), forms.len()),
+            Form::List(_) if !is_object => (self.items.len(), 0),
+            _ => return self.none(form, end),
         };
-        let count = match within {
-            Form::Object(members) if is_object => members.len(),
-            Form::OneOf(_) if is_object => 1,
-            Form::List(_) | Form::Tuple(_) if !is_object => 0,
-            _ => {
-                open.form = &ANY;
-                self.spoil(&mut open, end, Wanted::Value(form))?;
-                0
-            }
-        };
-        for _part in 0..count {
-            self.under_way.push(Slot::Absent)?;
+        if left > 0 {
+            self.parts.resize(base + left, Slot::Absent)?;
+        }
+        Ok(open_at(within, base, left))
+    }
+
+    /// Begins an object or an array where none is wanted, or that counts for nothing.
+    fn none(&mut self, form: &'static Form, end: usize) -> Result<Open, Unread> {
+        let mut open = open_at(&ANY, 0, 0);
+        if !matches!(form, Form::Any) {
+            self.spoil(&mut open, end, Wanted::Value(form))?;
         }
         Ok(open)
     }
 
-    /// What is under way is not in its form, whatever follows; what counts for nothing has none.
+    /// What is under way is not in its form, whatever follows.
     fn spoil(&mut self, open: &mut Open, end: usize, wanted: Wanted) -> Result<(), Unread> {
-        if let Wanted::Value(Form::Any) = wanted {
-            return Ok(());
-        }
         let slot = self.wrong(end, wanted)?;
         note(&mut open.wrong, slot);
         Ok(())
     }
 
-    /// The form of the member of a name, and its place: none where there is no such member.
+    /// The form of the member of a name, and its place: none if there is no such member.
     pub(crate) fn member(
         &mut self,
         open: &mut Open,
@@ -144,13 +175,13 @@ impl<'a> Tape<'a> {
             Form::Object(members) => {
                 if let Some((index, member)) = found(members, open.next, name) {
                     open.next = index.wrapping_add(1);
-                    return Ok((&member.1, Some(open.base.wrapping_add(index))));
+                    return Ok((member, Some(open.base.wrapping_add(index))));
                 }
             }
-            Form::OneOf(members) => if let Some((_, member)) = found(members, 0, name) {
-                if open.name.is_empty() || open.name == name {
-                    open.name = member.0;
-                    return Ok((&member.1, Some(open.base)));
+            Form::OneOf(members) => if let Some((index, member)) = found(members, 0, name) {
+                if open.left > 0 || open.which == index {
+                    open.which = index;
+                    return Ok((member, Some(open.base)));
                 }
             },
             _ => return Ok((&ANY, None)),
@@ -161,8 +192,11 @@ impl<'a> Tape<'a> {
     }
 
     /// Puts the value of a member into its place: of two of one name the last one stays.
-    pub(crate) fn put(&mut self, at: Option<usize>, slot: Slot<'a>) {
-        if let Some(place) = at.and_then(|at| self.under_way.get_mut(at)) {
+    pub(crate) fn put(&mut self, open: &mut Open, at: Option<usize>, slot: Slot<'a>) {
+        if let Some(place) = at.and_then(|at| self.parts.get_mut(at)) {
+            if let Slot::Absent = *place {
+                open.left = open.left.wrapping_sub(1);
+            }
             *place = slot;
         }
     }
@@ -178,13 +212,18 @@ impl<'a> Tape<'a> {
         }
     }
 
-    /// Adds an item behind the others.
+    /// Adds an item behind the others. Of those that are handed out none is kept.
     pub(crate) fn add(&mut self, open: &mut Open, slot: Slot<'a>) -> Result<(), Unread> {
-        match slot {
-            Slot::Wrong(_) => note(&mut open.wrong, slot),
-            Slot::Null => {}
-            _ if matches!(open.form, Form::Any) => {}
-            _ => self.under_way.push(slot)?,
+        match (open.form, slot) {
+            (Form::List(Form::Handed(_, _)), Slot::Null) => {}
+            (Form::List(_), _) => self.items.push(slot)?,
+            (Form::Tuple(_), _) => {
+                let at = open.base.wrapping_add(open.next).wrapping_sub(1);
+                if open.left > 0 {
+                    self.put(open, Some(at), slot);
+                }
+            }
+            _ => {}
         }
         Ok(())
     }
@@ -195,71 +234,86 @@ impl<'a> Tape<'a> {
         if let Some(wanted) = self.lacks(&open) {
             self.spoil(&mut open, end, wanted)?;
         }
-        let parts = self.under_way.get(open.base..).unwrap_or(&[]);
-        for part in parts {
-            note(&mut open.wrong, *part);
+        if !self.mistakes.is_empty() {
+            for part in self.read(&open) {
+                note(&mut open.wrong, *part);
+            }
         }
-        let first = self.parts.len();
-        if open.wrong.is_none() {
-            self.parts.extend_from_slice(parts)?;
+        if let Form::List(_) = open.form {
+            self.keep(&mut open)?;
         }
-        let count = parts.len();
-        self.under_way.truncate(open.base);
         match (open.wrong, open.form) {
             (Some(mistake), _) => Ok(Slot::Wrong(mistake)),
-            (None, Form::OneOf(_)) => Ok(Slot::Named(open.name, first)),
+            (None, Form::OneOf(_)) => Ok(Slot::Named(open.which, open.base)),
             (None, Form::Any) => Ok(Slot::Null),
-            (None, _) => Ok(Slot::Parts(first, count)),
+            (None, _) => Ok(Slot::Parts(open.base, open.count)),
         }
+    }
+
+    /// Puts the items of a list behind all parts.
+    fn keep(&mut self, open: &mut Open) -> Result<(), Unread> {
+        let first = self.parts.len();
+        let items = self.items.get(open.base..).unwrap_or(&[]);
+        open.count = items.len();
+        self.parts.extend_from_slice(items)?;
+        self.items.truncate(open.base);
+        open.base = first;
+        Ok(())
+    }
+
+    /// What was read so far of an object or an array.
+    fn read(&self, open: &Open) -> &[Slot<'a>] {
+        let read = match open.form {
+            Form::List(_) => self.items.get(open.base..),
+            _ => self.parts.get(open.base..open.base.wrapping_add(open.count)),
+        };
+        read.unwrap_or(&[])
     }
 
     /// What an object or an array under way still lacks, or has too much.
     fn lacks(&self, open: &Open) -> Option<Wanted> {
         match open.form {
-            Form::Object(members) => {
-                let mut parts = self.under_way.get(open.base..).unwrap_or(&[]);
-                for (name, form) in *members {
-                    let [part, rest @ ..] = parts else {
-                        return None;
-                    };
-                    if let (Slot::Absent, false) = (part, matches!(form, Form::Optional(_))) {
-                        return Some(Wanted::Missing(*name));
-                    }
-                    parts = rest;
-                }
-                None
-            }
-            Form::OneOf(_) if open.name.is_empty() => Some(Wanted::Member(open.form)),
+            Form::Object(members) if open.left > 0 => self.missing(open, members),
+            Form::OneOf(_) if open.left > 0 => Some(Wanted::Member(open.form)),
             Form::Tuple(forms) if open.next != forms.len() => Some(Wanted::Items(forms.len())),
             _ => None,
         }
     }
-}
 
-/// The form of a value that is neither null nor left out.
-fn filled(form: &'static Form) -> &'static Form {
-    match form {
-        Form::OrNull(form) | Form::Optional(form) => form,
-        _ => form,
+    /// The first member that is missing.
+    fn missing(&self, open: &Open, members: &'static [(&'static str, Form)]) -> Option<Wanted> {
+        let mut parts = self.read(open);
+        for (name, form) in members {
+            let [part, rest @ ..] = parts else {
+                return None;
+            };
+            if let (Slot::Absent, false) = (part, matches!(form, Form::Optional(_))) {
+                return Some(Wanted::Missing(*name));
+            }
+            parts = rest;
+        }
+        None
     }
 }
 
-/// Whether a value without parts is in its form.
-fn fits(form: &'static Form, slot: Slot<'_>) -> bool {
-    match (filled(form), slot) {
-        (Form::Any, _) => true,
-        (_, Slot::Null) => matches!(form, Form::OrNull(_)),
-        (Form::Number(least, most), Slot::Number(number)) => *least <= number && number <= *most,
-        (Form::OrZero(form), Slot::Number(number)) => number == 0 || is_within(form, number),
-        (Form::Flag, Slot::Flag(_)) | (Form::Text, Slot::Text(_)) => true,
-        (Form::Hex(most), Slot::Text(text)) => is_hex(text.as_bytes(), *most),
-        _ => false,
+fn open_at(form: &'static Form, base: usize, count: usize) -> Open {
+    Open {
+        form,
+        base,
+        count,
+        next: 0,
+        which: 0,
+        left: count,
+        wrong: None,
     }
 }
 
+/// Whether a number is in a form.
 fn is_within(form: &Form, number: u64) -> bool {
     match form {
         Form::Number(least, most) => *least <= number && number <= *most,
+        Form::OrZero(least, most) => number == 0 || *least <= number && number <= *most,
+        Form::Any => true,
         _ => false,
     }
 }
@@ -274,21 +328,21 @@ fn is_hex(text: &[u8], most: usize) -> bool {
     text.len() % 2 == 0 && text.len() / 2 <= most
 }
 
-/// The member of a name, sought first where it is likely.
+/// The member of a name, sought first where it is likely: its place, and its form.
 fn found(
     members: &'static [(&'static str, Form)],
     likely: usize,
     name: &str,
-) -> Option<(usize, &'static (&'static str, Form))> {
-    if let Some(member) = members.get(likely) {
-        if member.0 == name {
-            return Some((likely, member));
+) -> Option<(usize, &'static Form)> {
+    if let Some((known, form)) = members.get(likely) {
+        if *known == name {
+            return Some((likely, form));
         }
     }
     let mut index = 0usize;
-    for member in members {
-        if member.0 == name {
-            return Some((index, member));
+    for (known, form) in members {
+        if *known == name {
+            return Some((index, form));
         }
         index = index.wrapping_add(1);
     }

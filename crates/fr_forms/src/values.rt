@@ -1,6 +1,7 @@
 //! The parts of types: numbers within their limits, bytes, lists, batches, pushes and states.
-use crate::object::{Object, hex_value, write_all};
+use crate::object::{Object, hex_value, text_value, write_all};
 use crate::row::{Formed, Row};
+use crate::table;
 use fr_ask::Rows;
 use fr_base::{Ballot, Bytes, Epoch, LogId, Memory, Shape, Stamp, Step, Tag, Version};
 use fr_cli_json::tokens::Unread;
@@ -43,74 +44,29 @@ impl Formed for bool {
     }
 }
 
-impl Formed for Version {
-    fn from_row(_alloc: Global, row: Row<'_>) -> Result<Self, Unread> {
-        Version::new(row.number()).ok_or(Unread::Unusual)
-    }
+/// Types of one number, each with its limits.
+macro_rules! numbered {
+    ($($type:ident $number:ident;)+) => { $(
+        impl Formed for $type {
+            fn from_row(_alloc: Global, row: Row<'_>) -> Result<Self, Unread> {
+                $type::new(row.$number()).ok_or(Unread::Unusual)
+            }
 
-    fn to_value(&self, _alloc: Global) -> Result<Value, Memory> {
-        Ok(Value::from(self.get()))
-    }
+            fn to_value(&self, _alloc: Global) -> Result<Value, Memory> {
+                Ok(Value::from(u64::from(self.get())))
+            }
+        }
+    )+ };
 }
 
-impl Formed for Epoch {
-    fn from_row(_alloc: Global, row: Row<'_>) -> Result<Self, Unread> {
-        Epoch::new(row.number()).ok_or(Unread::Unusual)
-    }
-
-    fn to_value(&self, _alloc: Global) -> Result<Value, Memory> {
-        Ok(Value::from(self.get()))
-    }
-}
-
-impl Formed for Ballot {
-    fn from_row(_alloc: Global, row: Row<'_>) -> Result<Self, Unread> {
-        Ballot::new(row.number()).ok_or(Unread::Unusual)
-    }
-
-    fn to_value(&self, _alloc: Global) -> Result<Value, Memory> {
-        Ok(Value::from(self.get()))
-    }
-}
-
-impl Formed for Step {
-    fn from_row(_alloc: Global, row: Row<'_>) -> Result<Self, Unread> {
-        Step::new(row.number()).ok_or(Unread::Unusual)
-    }
-
-    fn to_value(&self, _alloc: Global) -> Result<Value, Memory> {
-        Ok(Value::from(self.get()))
-    }
-}
-
-impl Formed for Stamp {
-    fn from_row(_alloc: Global, row: Row<'_>) -> Result<Self, Unread> {
-        Stamp::new(row.number()).ok_or(Unread::Unusual)
-    }
-
-    fn to_value(&self, _alloc: Global) -> Result<Value, Memory> {
-        Ok(Value::from(self.get()))
-    }
-}
-
-impl Formed for Tag {
-    fn from_row(_alloc: Global, row: Row<'_>) -> Result<Self, Unread> {
-        Tag::new(row.byte()).ok_or(Unread::Unusual)
-    }
-
-    fn to_value(&self, _alloc: Global) -> Result<Value, Memory> {
-        Ok(Value::from(self.get() as u64))
-    }
-}
-
-impl Formed for Most {
-    fn from_row(_alloc: Global, row: Row<'_>) -> Result<Self, Unread> {
-        Most::new(row.byte()).ok_or(Unread::Unusual)
-    }
-
-    fn to_value(&self, _alloc: Global) -> Result<Value, Memory> {
-        Ok(Value::from(self.get() as u64))
-    }
+numbered! {
+    Version number;
+    Epoch number;
+    Ballot number;
+    Step number;
+    Stamp number;
+    Tag byte;
+    Most byte;
 }
 
 impl Formed for Bytes {
@@ -120,6 +76,16 @@ impl Formed for Bytes {
 
     fn to_value(&self, alloc: Global) -> Result<Value, Memory> {
         hex_value(alloc, self.as_slice())
+    }
+}
+
+impl Formed for String {
+    fn from_row(alloc: Global, row: Row<'_>) -> Result<Self, Unread> {
+        Ok(String::from_str(alloc, row.text())?)
+    }
+
+    fn to_value(&self, alloc: Global) -> Result<Value, Memory> {
+        text_value(alloc, self.as_str())
     }
 }
 
@@ -176,6 +142,23 @@ impl<A: Formed, B: Formed> Formed for (A, B) {
         let mut items = Vec::with_capacity(alloc, 2)?;
         items.push(self.0.to_value(alloc)?)?;
         items.push(self.1.to_value(alloc)?)?;
+        Ok(Value::Array(items))
+    }
+}
+
+impl<A: Formed, B: Formed, C: Formed> Formed for (A, B, C) {
+    fn from_row(alloc: Global, row: Row<'_>) -> Result<Self, Unread> {
+        let mut parts = row.parts();
+        let first = parts.take(alloc)?;
+        let second = parts.take(alloc)?;
+        Ok((first, second, parts.take(alloc)?))
+    }
+
+    fn to_value(&self, alloc: Global) -> Result<Value, Memory> {
+        let mut items = Vec::with_capacity(alloc, 3)?;
+        items.push(self.0.to_value(alloc)?)?;
+        items.push(self.1.to_value(alloc)?)?;
+        items.push(self.2.to_value(alloc)?)?;
         Ok(Value::Array(items))
     }
 }
@@ -238,7 +221,7 @@ impl Formed for Batch {
 
 impl Formed for Mutation {
     fn from_row(alloc: Global, row: Row<'_>) -> Result<Self, Unread> {
-        let (name, content) = row.named();
+        let (name, content) = row.named_in(&table::MUTATION);
         let first = content.part(0).bytes(alloc)?;
         let second = content.part(1).bytes(alloc)?;
         mutation_of(name, Bytes::from_vec(first), Bytes::from_vec(second)).ok_or(Unread::Unusual)

@@ -16,6 +16,22 @@ pub(crate) const IN_REPLY_TO: &str = "in_reply_to";
 
 pub(crate) const AT: &str = "at";
 
+pub(crate) const FROM: &str = "from";
+
+pub(crate) const ASK: &str = "ask";
+
+pub(crate) const TELL: &str = "tell";
+
+pub(crate) const STEP: &str = "step";
+
+pub(crate) const BATCH: &str = "batch";
+
+pub(crate) const ENTRIES: &str = "entries";
+
+pub(crate) const LAST: &str = "last";
+
+pub(crate) const NODE: &str = "node";
+
 pub(crate) const CODE: &str = "code";
 
 pub(crate) const ENTRY: &str = "entry";
@@ -33,6 +49,8 @@ pub(crate) const WANTS: &str = "wants";
 // ---- types
 
 pub(crate) const INIT: &str = "init";
+
+pub(crate) const BEGIN: &str = "begin";
 
 pub(crate) const HEAR: &str = "hear";
 

@@ -1,8 +1,36 @@
 //! The config of a script.
 use fr_cli_json::tokens::Unread;
-use fr_forms::{Formed, Row};
+use fr_forms::{Form, Formed, Part, Row, ScriptFault, Sink, read_text, table};
 use fr_run_event::{Config, ConfigFault};
 use std::alloc::Global;
+
+static CONFIG: Form = table::CONFIG;
+
+/// Who takes a config.
+#[derive(Drop)]
+struct Found {
+    config: Option<Config>,
+}
+
+impl Sink for Found {
+    fn begin(&mut self, _part: Part) {}
+
+    fn take(&mut self, _alloc: Global, _part: Part, _row: Row<'_>) -> Result<(), Unread> {
+        Ok(())
+    }
+
+    fn end(&mut self, alloc: Global, whole: Row<'_>) -> Result<(), Unread> {
+        self.config = Some(config_of(alloc, whole)?);
+        Ok(())
+    }
+}
+
+/// Reads the config that a text is.
+pub fn read_config(alloc: Global, text: &[u8]) -> Result<Config, ScriptFault> {
+    let mut found = Found { config: None };
+    read_text(alloc, text, &CONFIG, &mut found, &mut String::new(alloc))?;
+    found.config.ok_or(ScriptFault::BadScript)
+}
 
 /// A config within its limits.
 pub fn config_of(alloc: Global, row: Row<'_>) -> Result<Config, Unread> {

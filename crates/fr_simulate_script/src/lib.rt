@@ -5,6 +5,6 @@ mod config;
 mod script;
 mod step;
 
-pub use config::config_of;
+pub use config::{config_of, read_config};
 pub use script::{Script, read_script};
 pub use step::{Act, Commit, Pull, Push, Recover};

@@ -7,7 +7,7 @@ use crate::config::config_of;
 use crate::step::{Act, act_of};
 use fr_cli_json::CliFault;
 use fr_cli_json::tokens::Unread;
-use fr_forms::{Part, Row, Sink, read_text, table};
+use fr_forms::{Part, Row, ScriptFault, Sink, read_text, table};
 use fr_run_event::Config;
 use std::alloc::Global;
 
@@ -48,7 +48,11 @@ pub fn read_script(alloc: Global, input: Vec<u8>, place: &mut String) -> Result<
         config: None,
         acts: Vec::new(alloc),
     };
-    read_text(alloc, input.as_slice(), &table::SIMULATE, &mut found, place)?;
+    match read_text(alloc, input.as_slice(), &table::SIMULATE, &mut found, place) {
+        Ok(()) => {}
+        Err(ScriptFault::BadScript) => return Err(CliFault::BadScript),
+        Err(ScriptFault::Memory) => return Err(CliFault::Memory),
+    }
     match found.config {
         Some(config) => Ok(Script {
             config,

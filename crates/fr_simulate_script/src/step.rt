@@ -2,7 +2,7 @@
 use fr_base::{Ballot, Epoch, LogId, Shape, Step, Tag};
 use fr_cli_json::Mutations;
 use fr_cli_json::tokens::Unread;
-use fr_forms::{Formed, Row, kind};
+use fr_forms::{Formed, Row, kind, table};
 use std::alloc::Global;
 
 /// A step of a script.
@@ -63,7 +63,7 @@ pub struct Recover {
 }
 
 pub(crate) fn act_of(alloc: Global, row: Row<'_>) -> Result<Act, Unread> {
-    let (name, fields) = row.named();
+    let (name, fields) = row.named_in(&table::SIMULATE_STEP);
     match name {
         "commit" => Ok(Act::Commit(commit_of(alloc, fields)?)),
         "push" => Ok(Act::Push(push_of(alloc, fields)?)),

@@ -1,7 +1,7 @@
 //! Values taken out of the tree of JSON.
-use crate::fault::ScriptFault;
 use fr_base::{Ballot, Bytes, Epoch, Tag, Version};
 use fr_cli_json::tree::{into_items, into_one_member, member_of, read_bytes, take_member};
+use fr_forms::ScriptFault;
 use serde_json::Value;
 use std::alloc::Global;
 

@@ -1,11 +1,9 @@
 //! Forms of the table, read from a tree of JSON and written as one.
-use crate::fault::ScriptFault;
 use crate::fields::Fields;
 use fr_ask::{Ask, Last, SeqAsk, Tell};
 use fr_base::{Bytes, Memory, NodeId, Step};
-use fr_cli_json::CliFault;
 pub use fr_forms::write_all;
-use fr_forms::{Form, Formed, read_one, table};
+use fr_forms::{Form, Formed, ScriptFault, read_one, table};
 use fr_log::LogAsk;
 use fr_mutation::Batch;
 use fr_register::CellAsk;
@@ -36,11 +34,7 @@ static SHARDS: Form = table::SHARDS;
 /// A value of a form: the text of the tree is read.
 fn read<T: Formed>(alloc: Global, value: Value, form: &'static Form) -> Result<T, ScriptFault> {
     let text = value.to_vec(alloc)?;
-    match read_one(alloc, text.as_slice(), form, &mut String::new(alloc)) {
-        Ok(value) => Ok(value),
-        Err(CliFault::Memory) => Err(ScriptFault::Memory),
-        Err(_) => Err(ScriptFault::BadScript),
-    }
+    read_one(alloc, text.as_slice(), form)
 }
 
 pub fn read_ask(alloc: Global, value: Value) -> Result<Ask, ScriptFault> {

@@ -2,7 +2,6 @@
 //! a player makes of the first one.
 #![tactic(auto)]
 
-mod fault;
 pub mod fields;
 mod forms;
 pub mod json;
@@ -15,8 +14,8 @@ mod rows;
 mod subject;
 mod wrong;
 
-pub use fault::ScriptFault;
 pub use forms::{of_nothing, played, read_sizes, write_last_state, write_name, write_state_of};
+pub use fr_forms::ScriptFault;
 pub use play::{Player, play_file};
 pub use report::Report;
 pub use subject::{Plays, Scene, no_such_word};

@@ -35,7 +35,7 @@ pub(crate) fn read_event(
         "deliver" => some(read_deliver(alloc, world, given.of(3))),
         "hear" => some(read_hear(alloc, world, given)),
         "submit" => some(read_submit(alloc, given.of(4))),
-        "crash" => some(read_crash(given)),
+        "crash" => some(read_crash(alloc, given)),
         "lose" => some(read_lose(given.of(2))),
         _ => Ok(None),
     }
@@ -68,7 +68,7 @@ fn read_shape(fields: &Fields) -> Result<Shape, Wrong> {
     Shape::new(m, k).ok_or(NO_FORM)
 }
 
-fn read_crash(given: &mut Fields) -> Result<Event, Wrong> {
+fn read_crash(alloc: Global, given: &mut Fields) -> Result<Event, Wrong> {
     let node = read_node(alloc, given.take_all())?;
     Ok(Event::Crash { node })
 }

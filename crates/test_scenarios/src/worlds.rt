@@ -48,8 +48,8 @@ impl Plays<Played> for Worlds {
     ) -> Result<Value, Wrong> {
         match word {
             "state" => state(alloc, &played.world, given),
-            "there" => there(&played.world, given),
-            "gone" => gone(&played.world, given),
+            "there" => there(alloc, &played.world, given),
+            "gone" => gone(alloc, &played.world, given),
             "sent" => was_sent(alloc, &played.world, given.of(3)),
             "told" => was_told(alloc, &played.world, given.of(3)),
             "turns" => Ok(Value::from(played.world.turns().len())),
@@ -114,11 +114,11 @@ fn state(alloc: Global, world: &World, given: &mut Fields) -> Result<Value, Wron
     }
 }
 
-fn there(world: &World, given: &mut Fields) -> Result<Value, Wrong> {
+fn there(alloc: Global, world: &World, given: &mut Fields) -> Result<Value, Wrong> {
     Ok(Value::from(world.is_there(read_node(alloc, given.take_all())?)))
 }
 
-fn gone(world: &World, given: &mut Fields) -> Result<Value, Wrong> {
+fn gone(alloc: Global, world: &World, given: &mut Fields) -> Result<Value, Wrong> {
     Ok(Value::from(world.is_gone(read_node(alloc, given.take_all())?)))
 }
 
