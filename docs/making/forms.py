@@ -1,4 +1,4 @@
-"""The table of forms (crates/fr_forms/src/table.rt), its rows in docs/FORMATS.md, and the schemas that are made of it."""
+"""The table of forms (crates/fr_forms/src/table.rt), its rows in docs/FORMATS.md, and the schemas made of it."""
 import json
 import re
 

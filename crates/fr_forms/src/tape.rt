@@ -265,7 +265,9 @@ impl<'a> Tape<'a> {
     fn read(&self, open: &Open) -> &[Slot<'a>] {
         let read = match open.form {
             Form::List(_) => self.items.get(open.base..),
-            _ => self.parts.get(open.base..open.base.wrapping_add(open.count)),
+            _ => self
+                .parts
+                .get(open.base..open.base.wrapping_add(open.count)),
         };
         read.unwrap_or(&[])
     }

@@ -4,8 +4,8 @@ use crate::fault::LineFault;
 use crate::names::{self, name_of};
 use fr_ask::Last;
 use fr_audit_journal::Entry;
-use fr_base::{Memory, NodeId};
 use fr_audit_script::write_entry;
+use fr_base::{Memory, NodeId};
 use fr_forms::{Object, text_value, write_all};
 use fr_node_steps::{Kind, Reply, Wants};
 use serde_json::Value;
@@ -22,9 +22,7 @@ pub fn write_reply(
         Reply::Init { node, last } => of_type(alloc, names::INIT_OK)?
             .with(names::NODE, node)?
             .with(names::LAST, last)?,
-        Reply::Last { last } => {
-            of_type(alloc, names::LAST_OK)?.with(names::LAST, last)?
-        }
+        Reply::Last { last } => { of_type(alloc, names::LAST_OK)?.with(names::LAST, last)? }
         Reply::Wants { wants } => {
             of_type(alloc, names::WANTS_OK)?.put(names::WANTS, write_all(alloc, wants.as_slice()))?
         }
