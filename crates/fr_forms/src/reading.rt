@@ -165,6 +165,7 @@ fn end<S: Sink>(
 /// `Unusual`. What is not in its form is a mistake, and read to its end all the same, since a member that a later one
 /// of its name replaces may be any JSON.
 #[cycle(read)]
+#[inline(always)]
 fn read_value<'a, S: Sink>(
     alloc: Global,
     tape: &mut Tape<'a>,
@@ -226,6 +227,7 @@ fn read_value<'a, S: Sink>(
 
 /// Reads the items of an array that has begun, and its end.
 #[cycle(read)]
+#[inline(never)]
 fn read_items<'a, S: Sink>(
     alloc: Global,
     tape: &mut Tape<'a>,
@@ -248,12 +250,13 @@ fn read_items<'a, S: Sink>(
         let slot = hand(alloc, tape, sink, item, slot, (first, reader.offset()))?;
         tape.add(&mut open, slot)?;
     }
-    let slot = tape.end(open, reader.offset())?;
+    let slot = tape.end(&mut open, reader.offset())?;
     Ok(slot)
 }
 
 /// Reads the members of an object that has begun, and its end.
 #[cycle(read)]
+#[inline(never)]
 fn read_members<'a, S: Sink>(
     alloc: Global,
     tape: &mut Tape<'a>,
@@ -273,7 +276,7 @@ fn read_members<'a, S: Sink>(
         let slot = hand(alloc, tape, sink, member, slot, (first, reader.offset()))?;
         tape.put(&mut open, at, slot);
     }
-    let slot = tape.end(open, reader.offset())?;
+    let slot = tape.end(&mut open, reader.offset())?;
     Ok(slot)
 }
 
@@ -296,6 +299,7 @@ fn hand<'a, S: Sink>(
 }
 
 /// Gives a part to who takes it.
+#[inline(never)]
 fn give<'a, S: Sink>(
     alloc: Global,
     tape: &mut Tape<'a>,

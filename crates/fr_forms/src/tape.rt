@@ -7,6 +7,9 @@ use std::alloc::Global;
 /// The form of what counts for nothing.
 static ANY: Form = Form::Any;
 
+/// The place of what counts for nothing.
+const NOWHERE: usize = usize::MAX;
+
 /// A value that was read, or what is known of it.
 #[derive(Clone, Copy)]
 pub(crate) enum Slot<'a> {
@@ -74,6 +77,7 @@ impl<'a> Tape<'a> {
     }
 
     /// A value that ends there is not in its form.
+    #[inline(never)]
     pub(crate) fn wrong(&mut self, end: usize, wanted: Wanted) -> Result<Slot<'a>, Unread> {
         let slot = Slot::Wrong(self.mistakes.len());
         self.mistakes.push(Mistake { end, wanted })?;
@@ -95,6 +99,7 @@ impl<'a> Tape<'a> {
     }
 
     /// A text that ends there, in its form or not.
+    #[inline(always)]
     pub(crate) fn text(
         &mut self,
         form: &'static Form,
@@ -110,6 +115,7 @@ impl<'a> Tape<'a> {
     }
 
     /// Null, true or false, or a number that is not one in digits alone. It ends there, in its form or not.
+    #[inline(always)]
     pub(crate) fn single(
         &mut self,
         form: &'static Form,
@@ -125,6 +131,7 @@ impl<'a> Tape<'a> {
     }
 
     /// Begins an object or an array, of which nothing is read before `end`.
+    #[inline(always)]
     pub(crate) fn begin(
         &mut self,
         form: &'static Form,
@@ -143,12 +150,13 @@ impl<'a> Tape<'a> {
             _ => return self.none(form, end),
         };
         if left > 0 {
-            self.parts.resize(base + left, Slot::Absent)?;
+            self.parts.resize(base.wrapping_add(left), Slot::Absent)?;
         }
         Ok(open_at(within, base, left))
     }
 
     /// Begins an object or an array where none is wanted, or that counts for nothing.
+    #[inline(never)]
     fn none(&mut self, form: &'static Form, end: usize) -> Result<Open, Unread> {
         let mut open = open_at(&ANY, 0, 0);
         if !matches!(form, Form::Any) {
@@ -164,36 +172,57 @@ impl<'a> Tape<'a> {
         Ok(())
     }
 
-    /// The form of the member of a name, and its place: none if there is no such member.
+    /// The form of the member of a name, and its place: none if there is no such member. It is sought first where it is
+    /// likely.
+    #[inline(always)]
     pub(crate) fn member(
         &mut self,
         open: &mut Open,
         name: &str,
         end: usize,
-    ) -> Result<(&'static Form, Option<usize>), Unread> {
-        match open.form {
-            Form::Object(members) => {
-                if let Some((index, member)) = found(members, open.next, name) {
-                    open.next = index.wrapping_add(1);
-                    return Ok((member, Some(open.base.wrapping_add(index))));
+    ) -> Result<(&'static Form, usize), Unread> {
+        if let Form::Object(members) = open.form {
+            if let Some((known, form)) = members.get(open.next) {
+                if *known == name {
+                    let at = open.base.wrapping_add(open.next);
+                    open.next = open.next.wrapping_add(1);
+                    return Ok((form, at));
                 }
             }
-            Form::OneOf(members) => if let Some((index, member)) = found(members, 0, name) {
+        }
+        self.seek(open, name, end)
+    }
+
+    /// The same of any member.
+    #[inline(never)]
+    fn seek(
+        &mut self,
+        open: &mut Open,
+        name: &str,
+        end: usize,
+    ) -> Result<(&'static Form, usize), Unread> {
+        match open.form {
+            Form::Object(members) => if let Some((index, form)) = found(members, name) {
+                open.next = index.wrapping_add(1);
+                return Ok((form, open.base.wrapping_add(index)));
+            },
+            Form::OneOf(members) => if let Some((index, form)) = found(members, name) {
                 if open.left > 0 || open.which == index {
                     open.which = index;
-                    return Ok((member, Some(open.base)));
+                    return Ok((form, open.base));
                 }
             },
-            _ => return Ok((&ANY, None)),
+            _ => return Ok((&ANY, NOWHERE)),
         }
         let form = open.form;
         self.spoil(open, end, Wanted::Member(form))?;
-        Ok((&ANY, None))
+        Ok((&ANY, NOWHERE))
     }
 
     /// Puts the value of a member into its place: of two of one name the last one stays.
-    pub(crate) fn put(&mut self, open: &mut Open, at: Option<usize>, slot: Slot<'a>) {
-        if let Some(place) = at.and_then(|at| self.parts.get_mut(at)) {
+    #[inline(always)]
+    pub(crate) fn put(&mut self, open: &mut Open, at: usize, slot: Slot<'a>) {
+        if let Some(place) = self.parts.get_mut(at) {
             if let Slot::Absent = *place {
                 open.left = open.left.wrapping_sub(1);
             }
@@ -202,6 +231,7 @@ impl<'a> Tape<'a> {
     }
 
     /// The form of the next item; one that an array has too many counts for nothing.
+    #[inline(always)]
     pub(crate) fn item(&self, open: &mut Open) -> &'static Form {
         let index = open.next;
         open.next = index.wrapping_add(1);
@@ -213,34 +243,32 @@ impl<'a> Tape<'a> {
     }
 
     /// Adds an item behind the others. Of those that are handed out none is kept.
+    #[inline(always)]
     pub(crate) fn add(&mut self, open: &mut Open, slot: Slot<'a>) -> Result<(), Unread> {
         match (open.form, slot) {
             (Form::List(Form::Handed(_, _)), Slot::Null) => {}
             (Form::List(_), _) => self.items.push(slot)?,
-            (Form::Tuple(_), _) => {
+            (Form::Tuple(_), _) => if open.next <= open.count {
                 let at = open.base.wrapping_add(open.next).wrapping_sub(1);
-                if open.left > 0 {
-                    self.put(open, Some(at), slot);
-                }
-            }
+                self.put(open, at, slot);
+            },
             _ => {}
         }
         Ok(())
     }
 
     /// Ends an object or an array: it has all parts that may not be left out, and none of them is a mistake.
-    pub(crate) fn end(&mut self, open: Open, end: usize) -> Result<Slot<'a>, Unread> {
-        let mut open = open;
-        if let Some(wanted) = self.lacks(&open) {
-            self.spoil(&mut open, end, wanted)?;
-        }
-        if !self.mistakes.is_empty() {
-            for part in self.read(&open) {
-                note(&mut open.wrong, *part);
-            }
+    #[inline(always)]
+    pub(crate) fn end(&mut self, open: &mut Open, end: usize) -> Result<Slot<'a>, Unread> {
+        let is_full = match open.form {
+            Form::Tuple(_) => open.next == open.count,
+            _ => open.left == 0,
+        };
+        if !is_full || !self.mistakes.is_empty() {
+            self.look(open, end)?;
         }
         if let Form::List(_) = open.form {
-            self.keep(&mut open)?;
+            self.keep(open)?;
         }
         match (open.wrong, open.form) {
             (Some(mistake), _) => Ok(Slot::Wrong(mistake)),
@@ -248,6 +276,18 @@ impl<'a> Tape<'a> {
             (None, Form::Any) => Ok(Slot::Null),
             (None, _) => Ok(Slot::Parts(open.base, open.count)),
         }
+    }
+
+    /// Looks for what an object or an array lacks, and for mistakes in it.
+    #[inline(never)]
+    fn look(&mut self, open: &mut Open, end: usize) -> Result<(), Unread> {
+        if let Some(wanted) = self.lacks(open) {
+            self.spoil(open, end, wanted)?;
+        }
+        for part in self.read(open) {
+            note(&mut open.wrong, *part);
+        }
+        Ok(())
     }
 
     /// Puts the items of a list behind all parts.
@@ -330,20 +370,11 @@ fn is_hex(text: &[u8], most: usize) -> bool {
     text.len() % 2 == 0 && text.len() / 2 <= most
 }
 
-/// The member of a name, sought first where it is likely: its place, and its form.
-fn found(
-    members: &'static [(&'static str, Form)],
-    likely: usize,
-    name: &str,
-) -> Option<(usize, &'static Form)> {
-    if let Some((known, form)) = members.get(likely) {
-        if *known == name {
-            return Some((likely, form));
-        }
-    }
+/// The member of a name: its place, and its form.
+fn found(members: &'static [(&'static str, Form)], name: &str) -> Option<(usize, &'static Form)> {
     let mut index = 0usize;
     for (known, form) in members {
-        if *known == name {
+        if known.len() == name.len() && *known == name {
             return Some((index, form));
         }
         index = index.wrapping_add(1);

@@ -77,7 +77,11 @@ fn split<'t>(alloc: Global, text: &'t str) -> Result<Option<Vec<(String, &'t str
         return Ok(None);
     };
     let mut all = Vec::new(alloc);
-    'members: while let Some(name) = reader.next_key()? {
+    // (an object has more bytes than members)
+    for _member in 0..text.len() {
+        let Some(name) = reader.next_key()? else {
+            return Ok(Some(all));
+        };
         let start = reader.offset();
         reader.skip_value(127)?;
         let value = value_in(text.get(start..reader.offset()).unwrap_or(""));
@@ -88,7 +92,7 @@ fn split<'t>(alloc: Global, text: &'t str) -> Result<Option<Vec<(String, &'t str
             None => all.push((String::from_str(alloc, name)?, value))?,
         }
     }
-    Ok(Some(all))
+    Err(Unread::Unusual)
 }
 
 /// A value, without the comma behind it.
