@@ -120,9 +120,9 @@ fn read_whole<S: Sink>(
     let mut scratch = Scratch::new(alloc);
     let mut reader = Reader::new(text, &mut scratch)?;
     let mut tape = Tape::new(alloc);
-    let slot = read_first(alloc, &mut tape, &mut reader, sink, form, mistake)?;
+    read_first(alloc, &mut tape, &mut reader, sink, form, mistake)?;
     match reader.next() {
-        None => end(alloc, &tape, sink, slot, mistake),
+        None => end(alloc, &tape, sink, mistake),
         Some(_) => Err(Unread::Unusual),
     }
 }
@@ -135,7 +135,7 @@ fn read_first<'a, S: Sink>(
     sink: &mut S,
     form: &'static Form,
     mistake: &mut Mistake,
-) -> Result<Slot<'a>, Unread>
+) -> Result<(), Unread>
     ensures value { OnOk result (HasValue 127 reader.old reader.new) }
 {
     let read = read_value(alloc, tape, reader, sink, form, 127);
@@ -148,17 +148,16 @@ fn end<S: Sink>(
     alloc: Global,
     tape: &Tape<'_>,
     sink: &mut S,
-    slot: Slot<'_>,
     mistake: &mut Mistake,
 ) -> Result<(), Unread> {
-    if let Slot::Wrong(index) = slot {
+    if let Slot::Wrong(index) = tape.last {
         if let Some(first) = tape.mistakes.get(index) {
             *mistake = *first;
         }
         return Err(Unread::Unusual);
     }
     mistake.wanted = Wanted::Whole;
-    sink.end(alloc, Row::new(tape.parts.as_slice(), slot))
+    sink.end(alloc, Row::new(tape.parts.as_slice(), tape.last))
 }
 
 /// Reads the next value, which is to be of a form: arrays and objects nest no deeper than `depth`. What is no JSON is
@@ -173,7 +172,7 @@ fn read_value<'a, S: Sink>(
     sink: &mut S,
     form: &'static Form,
     depth: usize,
-) -> Result<Slot<'a>, Unread>
+) -> Result<(), Unread>
     ensures value { OnOk result (HasValue depth reader.old reader.new) }
     ensures shorter { OnOk result (length reader.new < length reader.old) }
 {
@@ -183,43 +182,43 @@ fn read_value<'a, S: Sink>(
     let end = reader.offset();
     match token {
         Token::String(text) => {
-            let slot = tape.text(form, text, end)?;
-            Ok(slot)
+            tape.text(form, text, end)?;
+            Ok(())
         }
         Token::Number(digits) => match unsigned(digits.as_bytes()) {
             Some(number) => {
-                let slot = tape.number(form, number, end)?;
-                Ok(slot)
+                tape.number(form, number, end)?;
+                Ok(())
             }
             None => {
                 if !is_in_range(digits.as_bytes()) {
                     return Err(Unread::Unusual);
                 }
-                let slot = tape.single(form, Slot::Absent, end)?;
-                Ok(slot)
+                tape.single(form, Slot::Absent, end)?;
+                Ok(())
             }
         },
         Token::Bool(truth) => {
-            let slot = tape.single(form, Slot::Flag(truth), end)?;
-            Ok(slot)
+            tape.single(form, Slot::Flag(truth), end)?;
+            Ok(())
         }
         Token::Null => {
-            let slot = tape.single(form, Slot::Null, end)?;
-            Ok(slot)
+            tape.single(form, Slot::Null, end)?;
+            Ok(())
         }
         Token::BeginArray => {
             if depth == 0 {
                 return Err(Unread::Unusual);
             }
-            let slot = read_items(alloc, tape, reader, sink, form, depth - 1)?;
-            Ok(slot)
+            read_items(alloc, tape, reader, sink, form, depth - 1)?;
+            Ok(())
         }
         Token::BeginObject => {
             if depth == 0 {
                 return Err(Unread::Unusual);
             }
-            let slot = read_members(alloc, tape, reader, sink, form, depth - 1)?;
-            Ok(slot)
+            read_members(alloc, tape, reader, sink, form, depth - 1)?;
+            Ok(())
         }
         Token::EndObject | Token::EndArray | Token::Key(_) | Token::Bad => Err(Unread::Unusual),
     }
@@ -235,7 +234,7 @@ fn read_items<'a, S: Sink>(
     sink: &mut S,
     form: &'static Form,
     depth: usize,
-) -> Result<Slot<'a>, Unread>
+) -> Result<(), Unread>
     ensures value { OnOk result ((found : Items) × BeginsWithItems depth (length reader.old) reader.old found reader.new) }
     ensures shorter { OnOk result (length reader.new < length reader.old) }
 {
@@ -246,12 +245,12 @@ fn read_items<'a, S: Sink>(
     'items: while !reader.take_end_array() {
         let item = tape.item(&mut open);
         let first = tape.parts.len();
-        let slot = read_value(alloc, tape, reader, sink, item, depth)?;
-        let slot = hand(alloc, tape, sink, item, slot, (first, reader.offset()))?;
-        tape.add(&mut open, slot)?;
+        read_value(alloc, tape, reader, sink, item, depth)?;
+        hand(alloc, tape, sink, item, (first, reader.offset()))?;
+        tape.add(&mut open)?;
     }
-    let slot = tape.end(&mut open, reader.offset())?;
-    Ok(slot)
+    tape.end(&mut open, reader.offset())?;
+    Ok(())
 }
 
 /// Reads the members of an object that has begun, and its end.
@@ -264,7 +263,7 @@ fn read_members<'a, S: Sink>(
     sink: &mut S,
     form: &'static Form,
     depth: usize,
-) -> Result<Slot<'a>, Unread>
+) -> Result<(), Unread>
     ensures value { OnOk result ((found : Members) × BeginsWithMembers depth (length reader.old) reader.old no_members found reader.new) }
     ensures shorter { OnOk result (length reader.new < length reader.old) }
 {
@@ -272,12 +271,12 @@ fn read_members<'a, S: Sink>(
     'members: while let Some(name) = reader.next_key()? {
         let (member, at) = tape.member(&mut open, name, reader.offset())?;
         let first = tape.parts.len();
-        let slot = read_value(alloc, tape, reader, sink, member, depth)?;
-        let slot = hand(alloc, tape, sink, member, slot, (first, reader.offset()))?;
-        tape.put(&mut open, at, slot);
+        read_value(alloc, tape, reader, sink, member, depth)?;
+        hand(alloc, tape, sink, member, (first, reader.offset()))?;
+        tape.put(&mut open, at);
     }
-    let slot = tape.end(&mut open, reader.offset())?;
-    Ok(slot)
+    tape.end(&mut open, reader.offset())?;
+    Ok(())
 }
 
 /// Hands a value out, if its form is to be: its parts are on the tape from the first number on, and it ends at the
@@ -288,13 +287,12 @@ fn hand<'a, S: Sink>(
     tape: &mut Tape<'a>,
     sink: &mut S,
     form: &'static Form,
-    slot: Slot<'a>,
     place: (usize, usize),
-) -> Result<Slot<'a>, Unread> {
-    match (form, slot) {
-        (Form::Handed(_, _), Slot::Wrong(_)) => Ok(slot),
-        (Form::Handed(part, _), _) => give(alloc, tape, sink, *part, slot, place),
-        _ => Ok(slot),
+) -> Result<(), Unread> {
+    match (form, tape.last) {
+        (Form::Handed(_, _), Slot::Wrong(_)) => Ok(()),
+        (Form::Handed(part, _), _) => give(alloc, tape, sink, *part, place),
+        _ => Ok(()),
     }
 }
 
@@ -305,13 +303,15 @@ fn give<'a, S: Sink>(
     tape: &mut Tape<'a>,
     sink: &mut S,
     part: Part,
-    slot: Slot<'a>,
     place: (usize, usize),
-) -> Result<Slot<'a>, Unread> {
-    let taken = sink.take(alloc, part, Row::new(tape.parts.as_slice(), slot));
+) -> Result<(), Unread> {
+    let taken = sink.take(alloc, part, Row::new(tape.parts.as_slice(), tape.last));
     tape.parts.truncate(place.0);
     match taken {
-        Ok(()) => Ok(Slot::Null),
+        Ok(()) => {
+            tape.last = Slot::Null;
+            Ok(())
+        }
         Err(Unread::Unusual) => tape.wrong(place.1, Wanted::Whole),
         Err(Unread::Memory) => Err(Unread::Memory),
     }

@@ -36,6 +36,8 @@ pub(crate) enum Slot<'a> {
 pub(crate) struct Tape<'a> {
     pub(crate) parts: Vec<Slot<'a>>,
     items: Vec<Slot<'a>>,
+    /// The value that was read last.
+    pub(crate) last: Slot<'a>,
     pub(crate) mistakes: Vec<Mistake>,
 }
 
@@ -72,16 +74,17 @@ impl<'a> Tape<'a> {
         Tape {
             parts: Vec::new(alloc),
             items: Vec::new(alloc),
+            last: Slot::Absent,
             mistakes: Vec::new(alloc),
         }
     }
 
     /// A value that ends there is not in its form.
     #[inline(never)]
-    pub(crate) fn wrong(&mut self, end: usize, wanted: Wanted) -> Result<Slot<'a>, Unread> {
-        let slot = Slot::Wrong(self.mistakes.len());
+    pub(crate) fn wrong(&mut self, end: usize, wanted: Wanted) -> Result<(), Unread> {
+        self.last = Slot::Wrong(self.mistakes.len());
         self.mistakes.push(Mistake { end, wanted })?;
-        Ok(slot)
+        Ok(())
     }
 
     /// A number that ends there, in its form or not.
@@ -91,9 +94,10 @@ impl<'a> Tape<'a> {
         form: &'static Form,
         number: u64,
         end: usize,
-    ) -> Result<Slot<'a>, Unread> {
+    ) -> Result<(), Unread> {
         if is_within(form.filled(), number) {
-            return Ok(Slot::Number(number));
+            self.last = Slot::Number(number);
+            return Ok(());
         }
         self.wrong(end, Wanted::Value(form))
     }
@@ -105,13 +109,14 @@ impl<'a> Tape<'a> {
         form: &'static Form,
         text: &'a str,
         end: usize,
-    ) -> Result<Slot<'a>, Unread> {
+    ) -> Result<(), Unread> {
         match form.filled() {
-            Form::Hex(most) if is_hex(text.as_bytes(), *most) => Ok(Slot::Hex(text)),
-            Form::Text => Ok(Slot::Text(text)),
-            Form::Any => Ok(Slot::Null),
-            _ => self.wrong(end, Wanted::Value(form)),
+            Form::Hex(most) if is_hex(text.as_bytes(), *most) => self.last = Slot::Hex(text),
+            Form::Text => self.last = Slot::Text(text),
+            Form::Any => self.last = Slot::Null,
+            _ => return self.wrong(end, Wanted::Value(form)),
         }
+        Ok(())
     }
 
     /// Null, true or false, or a number that is not one in digits alone. It ends there, in its form or not.
@@ -121,10 +126,11 @@ impl<'a> Tape<'a> {
         form: &'static Form,
         slot: Slot<'a>,
         end: usize,
-    ) -> Result<Slot<'a>, Unread> {
+    ) -> Result<(), Unread> {
         match (form, slot) {
             (Form::OrNull(_), Slot::Null) | (Form::Flag, Slot::Flag(_)) | (Form::Any, _) => {
-                Ok(slot)
+                self.last = slot;
+                Ok(())
             }
             _ => self.wrong(end, Wanted::Value(form)),
         }
@@ -167,8 +173,8 @@ impl<'a> Tape<'a> {
 
     /// What is under way is not in its form, whatever follows.
     fn spoil(&mut self, open: &mut Open, end: usize, wanted: Wanted) -> Result<(), Unread> {
-        let slot = self.wrong(end, wanted)?;
-        note(&mut open.wrong, slot);
+        self.wrong(end, wanted)?;
+        note(&mut open.wrong, self.last);
         Ok(())
     }
 
@@ -221,12 +227,12 @@ impl<'a> Tape<'a> {
 
     /// Puts the value of a member into its place: of two of one name the last one stays.
     #[inline(always)]
-    pub(crate) fn put(&mut self, open: &mut Open, at: usize, slot: Slot<'a>) {
+    pub(crate) fn put(&mut self, open: &mut Open, at: usize) {
         if let Some(place) = self.parts.get_mut(at) {
             if let Slot::Absent = *place {
                 open.left = open.left.wrapping_sub(1);
             }
-            *place = slot;
+            *place = self.last;
         }
     }
 
@@ -244,13 +250,13 @@ impl<'a> Tape<'a> {
 
     /// Adds an item behind the others. Of those that are handed out none is kept.
     #[inline(always)]
-    pub(crate) fn add(&mut self, open: &mut Open, slot: Slot<'a>) -> Result<(), Unread> {
-        match (open.form, slot) {
+    pub(crate) fn add(&mut self, open: &mut Open) -> Result<(), Unread> {
+        match (open.form, self.last) {
             (Form::List(Form::Handed(_, _)), Slot::Null) => {}
-            (Form::List(_), _) => self.items.push(slot)?,
+            (Form::List(_), _) => self.items.push(self.last)?,
             (Form::Tuple(_), _) => if open.next <= open.count {
                 let at = open.base.wrapping_add(open.next).wrapping_sub(1);
-                self.put(open, at, slot);
+                self.put(open, at);
             },
             _ => {}
         }
@@ -259,7 +265,7 @@ impl<'a> Tape<'a> {
 
     /// Ends an object or an array: it has all parts that may not be left out, and none of them is a mistake.
     #[inline(always)]
-    pub(crate) fn end(&mut self, open: &mut Open, end: usize) -> Result<Slot<'a>, Unread> {
+    pub(crate) fn end(&mut self, open: &mut Open, end: usize) -> Result<(), Unread> {
         let is_full = match open.form {
             Form::Tuple(_) => open.next == open.count,
             _ => open.left == 0,
@@ -271,11 +277,12 @@ impl<'a> Tape<'a> {
             self.keep(open)?;
         }
         match (open.wrong, open.form) {
-            (Some(mistake), _) => Ok(Slot::Wrong(mistake)),
-            (None, Form::OneOf(_)) => Ok(Slot::Named(open.which, open.base)),
-            (None, Form::Any) => Ok(Slot::Null),
-            (None, _) => Ok(Slot::Parts(open.base, open.count)),
+            (Some(mistake), _) => self.last = Slot::Wrong(mistake),
+            (None, Form::OneOf(_)) => self.last = Slot::Named(open.which, open.base),
+            (None, Form::Any) => self.last = Slot::Null,
+            (None, _) => self.last = Slot::Parts(open.base, open.count),
         }
+        Ok(())
     }
 
     /// Looks for what an object or an array lacks, and for mistakes in it.
