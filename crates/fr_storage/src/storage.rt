@@ -10,6 +10,7 @@ mod course;
 mod marked;
 mod opening;
 mod peeked;
+mod reading;
 
 use crate::fault::StorageFault;
 use crate::laws::lower_laws;
