@@ -159,8 +159,7 @@ module _ (rows : List Row) (all : AreUndoRows rows) (t : ℕ) (k : List ℕ) whe
       let is : place_of r ≡ (shape.1, shape.2) = ap place_of shape.4 in
       let key : shape.2 ≡ k = exact_key shape.2 k (ap (λ (p : Place). is_same p.1 k) (sym is) ∙ parts.0) in
       let at : place_of r ≡ (shape.1, k) = is ∙ ap (λ (q : List ℕ). (shape.1, q)) key in
-      let one : filter (is_at_place (shape.1, k)) rows ≡ r ∷ [] = single_is (filter (is_at_place (shape.1, k)) rows) r (has_kept (is_at_place (shape.1, k)) rows r both.0 (ap (λ (p : Place). same_place p (shape.1, k)) at ∙ ap is_eq (tied_itself place_total (shape.1, k)))) (all.single (shape.1, k)) in
-      (
+      let one : filter (is_at_place (shape.1, k)) rows ≡ r ∷ [] = single_is (filter (is_at_place (shape.1, k)) rows) r (has_kept (is_at_place (shape.1, k)) rows r both.0 (ap (λ (p : Place). same_place p (shape.1, k)) at ∙ ap is_eq (tied_itself place_total (shape.1, k)))) (all.single (shape.1, k)) in (
         shape.1,
         column r 3,
         ap (λ (v : Value). (v ∷ [], column r 3 ∷ [])) (ap (λ (x : Row). column x 1) shape.4),

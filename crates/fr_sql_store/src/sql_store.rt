@@ -16,7 +16,9 @@ mod files;
 pub use files::{OpenFault, SEED};
 use fr_base::{Bytes, Version};
 use fr_mutation::{Batch, Shard};
-use fr_sql_calls::{Marks, advance, apply, bytes, dump, forget, range, set_state, undo_to, value, value_then};
+use fr_sql_calls::{
+    Marks, advance, apply, bytes, dump, forget, range, set_state, undo_to, value, value_then,
+};
 use fr_sql_rows::{Backing, Refusals, schema};
 use fr_sql_work::probe;
 use fr_undo::{ShardStore, StoreFault};

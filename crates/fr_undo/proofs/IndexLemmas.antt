@@ -20,7 +20,7 @@ use Rattle.fr_base.specs.Bytes.{bytes_cmp, bytes_total, bytes_exact}
 use Rattle.fr_base.proofs.MapLemmas.{one_key, none_below}
 use Rattle.fr_undo.specs.State.{Place, place_cmp, UndoRows}
 use Rattle.fr_undo.specs.Changes.{row_made}
-use Rattle.fr_undo.specs.Undo.{before_if_changed, least_row}
+use Rattle.fr_undo.specs.Undo.{before_if_changed, least_row, IsFirstAbove}
 use Rattle.fr_undo.specs.Rows.{RowList, row_in, map_of_rows, rows_beyond, rows_from, IsInOrder, AreThrough}
 use Rattle.fr_undo.specs.declared.index.RowIndex.{RowIndex}
 use Rattle.fr_undo.specs.Index.{by_key, is_listed, IsIndex, IsLeastAbove}
@@ -179,6 +179,9 @@ new_index index rows zero none above = record {
   listed = λ w q some le. absurd (let lt = above w q some in omega arith);
   only = λ w q h. absurd (clash (sym h ∙ none q w));
 }
+
+pub no_rows_yet : (rows : RowList) → rows ≡ [] → (w : ℕ) (q : List ℕ) → IsSome (row_in rows (w, q)) → 0 < w
+no_rows_yet rows none w q some = absurd (clash (sym (subst (λ (l : RowList). IsSome (row_in l (w, q))) none some)))
 
 -- rows beyond a version are rows
 beyond_in : (rows : RowList) (t w : ℕ) (q : List ℕ) → nat_lt t w ≡ true → IsSome (row_in rows (w, q)) → IsSome (row_in (rows_beyond rows t) (w, q))
@@ -355,6 +358,15 @@ unchanged_yet undo q applied t le held = sym (ap (λ o. unwrap_or o held) (least
 pub unequal : (r b : Bool) → r ≡ not b → r ≡ false → b ≡ true
 unequal r true is e = refl
 unequal r false is e = absurd (clash (sym is ∙ e))
+
+-- what is found first above t is the least row
+pub first_least : (undo : UndoRows) (q : List ℕ) (t n : ℕ) → ((w : ℕ) → IsSome (get undo (w, q)) → w ≤ t + n) → (o : Option (Option (List ℕ))) → IsFirstAbove (λ w. get undo (w, q)) t o → least_row undo q t n ≡ o
+first_least undo q t n upto None none = least_row-none undo q t n (λ w a b. none w a)
+first_least undo q t n upto (Some before) (v, above, held, none) = least_row-at undo q v before held t n none above (upto v (ap is_some held))
+
+pub same_first : (f g : ℕ → Option (Option (List ℕ))) → ((w : ℕ) → f w ≡ g w) → (t : ℕ) (o : Option (Option (List ℕ))) → IsFirstAbove f t o → IsFirstAbove g t o
+same_first f g same t None none w above = sym (same w) ∙ none w above
+same_first f g same t (Some before) (v, above, held, none) = (v, above, sym (same v) ∙ held, λ w a b. sym (same w) ∙ none w a b)
 
 -- ---- the rows from a place on
 

@@ -109,10 +109,10 @@ impl ShardStore for FailsOnce {
         if self.is_failed {
             return Err(StoreFault::Failed);
         }
-        if version < self.store.floor() {
+        if self.store.floor() > version {
             return Err(StoreFault::BelowFloor);
         }
-        if version > self.store.applied() {
+        if self.store.applied() < version {
             return Err(StoreFault::AboveApplied);
         }
         self.read()?;
