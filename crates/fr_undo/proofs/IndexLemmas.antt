@@ -155,27 +155,26 @@ module _ (places : BTreeSet (List ℕ × ℕ)) (q : List ℕ) (t : ℕ) (range :
 
     pub least_of_key : k.0 ≡ q → IsLeastAbove (is_listed places q) t (Some k.1)
     least_of_key same =
-        let from : t + 1 ≤ k.1 = not_above (t + 1) k.1 (sym (one_key_gt q (t + 1) k.1) ∙ subst (λ (x : List ℕ). is_gt (by_key (q, t + 1) (x, k.1)) ≡ false) same there) in
-        (
+        let from : t + 1 ≤ k.1 = not_above (t + 1) k.1 (sym (one_key_gt q (t + 1) k.1) ∙ subst (λ (x : List ℕ). is_gt (by_key (q, t + 1) (x, k.1)) ≡ false) same there) in (
           omega arith,
           subst (λ (x : List ℕ). contains by_key places (x, k.1) ≡ true) same held,
           λ w lt before. untrue (is_listed places q w) (λ h.
-          let le : k.1 ≤ w = not_above k.1 w (sym (one_key_gt q k.1 w) ∙ subst (λ (x : List ℕ). is_gt (by_key (x, k.1) (q, w)) ≡ false) same (least w lt h)) in
-          omega arith),
+              let le : k.1 ≤ w = not_above k.1 w (sym (one_key_gt q k.1 w) ∙ subst (λ (x : List ℕ). is_gt (by_key (x, k.1) (q, w)) ≡ false) same (least w lt h)) in
+              omega arith),
         )
 
     pub least_of_other : (k.0 ≡ q → ⊥) → IsLeastAbove (is_listed places q) t None
     least_of_other other w lt = untrue (is_listed places q w) (λ h. from (bytes_cmp q k.0) refl (least w lt h))
       where
         from : (r : Ordering) → bytes_cmp q k.0 ≡ r → is_gt (by_key k (q, w)) ≡ false → ⊥
-        from Less e no = clash (sym (ap (λ r. is_gt (ordering_then r (nat_cmp k.1 w))) (bytes_total.antisymm k.0 q ∙ ap ordering_reverse e)) ∙ no)
-        from Equal e no = other (sym (bytes_exact q k.0 e))
-        from Greater e no = clash (sym (ap (λ r. is_gt (ordering_then r (nat_cmp (t + 1) k.1))) e) ∙ there)
+        from Less e off = clash (sym (ap (λ r. is_gt (ordering_then r (nat_cmp k.1 w))) (bytes_total.antisymm k.0 q ∙ ap ordering_reverse e)) ∙ off)
+        from Equal e off = other (sym (bytes_exact q k.0 e))
+        from Greater e off = clash (sym (ap (λ r. is_gt (ordering_then r (nat_cmp (t + 1) k.1))) e) ∙ there)
 
 -- ---- the list is made anew, or brought up
 
 pub new_index : (index : RowIndex) (rows : RowList) → index.through ≡ 0 → ((q : List ℕ) (w : ℕ) → is_listed index.places q w ≡ false) → ((w : ℕ) (q : List ℕ) → IsSome (row_in rows (w, q)) → 0 < w) → IsIndex index rows
-new_index index rows zero none above = record {
+new_index index rows start none above = record {
   listed = λ w q some le. absurd (let lt = above w q some in omega arith);
   only = λ w q h. absurd (clash (sym h ∙ none q w));
 }
@@ -279,16 +278,6 @@ last_struck index index' rows rest row is order listed same struck = (
         ∙ ap (λ b. option_or (row_in rest p) (cond b (Some row.1) None)) e
         ∙ option_or_none (row_in rest p))
 
-pub take_take : {X : Type 0} (i j : ℕ) (xs : List X) → i ≤ j → take i (take j xs) ≡ take i xs
-take_take zero j xs le = refl
-take_take (suc i) j [] le = ap (take (suc i)) (take_none j)
-  where
-    take_none : (n : ℕ) → take n [] ≡ []
-    take_none zero = refl
-    take_none (suc n) = refl
-take_take (suc i) zero (x ∷ xs) le = absurd (omega arith)
-take_take (suc i) (suc j) (x ∷ xs) le = ap (λ l. x ∷ l) (take_take i j xs (omega arith))
-
 -- the list promises less after it goes back
 pub gone_back : (index index' : RowIndex) (rows : RowList) → index'.places ≡ index.places → index'.through ≤ index.through → IsIndex index rows → IsIndex index' rows
 gone_back index index' rows same less is = record {
@@ -328,19 +317,19 @@ least_row-at undo q v x at t (suc n) none lt le =
     ] refl
   where
     apart : (b : Bool) → nat_lt (t + 1) v ≡ b → (t + 1 == v) ≡ false → t + 1 < v
-    apart true e no = ltb-true (t + 1) v e
-    apart false e no = absurd (clash (sym ((unsigned_Decides (t + 1) v).1 (let le = ltb-false (t + 1) v e in omega arith)) ∙ no))
+    apart true e off = ltb-true (t + 1) v e
+    apart false e off = absurd (clash (sym ((unsigned_Decides (t + 1) v).1 (let le = ltb-false (t + 1) v e in omega arith)) ∙ off))
 
 module _ (index : RowIndex) (rows : RowList) (applied t : ℕ) (q : List ℕ) (is : IsIndex index rows) (whole : index.through ≡ applied) (upto : AreThrough rows applied) (below : t < applied) where
   absent : (w : ℕ) → is_listed index.places q w ≡ false → row_in rows (w, q) ≡ None
-  absent w no = from (row_in rows (w, q)) refl
+  absent w off = from (row_in rows (w, q)) refl
     where
       from : (o : Option (Option (List ℕ))) → row_in rows (w, q) ≡ o → row_in rows (w, q) ≡ None
       from None e = e
       from (Some x) e =
           let some : IsSome (row_in rows (w, q)) = ap is_some e in
           let le = upto w q some in
-          absurd (clash (sym (is.listed w q some (omega arith)) ∙ no))
+          absurd (clash (sym (is.listed w q some (omega arith)) ∙ off))
 
   pub unchanged_since : (held : Option (List ℕ)) → IsLeastAbove (is_listed index.places q) t None → held ≡ unwrap_or (least_row (map_of_rows rows) q t (applied - t)) held
   unchanged_since held none =
@@ -362,11 +351,11 @@ unequal r false is e = absurd (clash (sym is ∙ e))
 -- what is found first above t is the least row
 pub first_least : (undo : UndoRows) (q : List ℕ) (t n : ℕ) → ((w : ℕ) → IsSome (get undo (w, q)) → w ≤ t + n) → (o : Option (Option (List ℕ))) → IsFirstAbove (λ w. get undo (w, q)) t o → least_row undo q t n ≡ o
 first_least undo q t n upto None none = least_row-none undo q t n (λ w a b. none w a)
-first_least undo q t n upto (Some before) (v, above, held, none) = least_row-at undo q v before held t n none above (upto v (ap is_some held))
+first_least undo q t n upto (Some before) (v, above, at, none) = least_row-at undo q v before at t n none above (upto v (ap is_some at))
 
 pub same_first : (f g : ℕ → Option (Option (List ℕ))) → ((w : ℕ) → f w ≡ g w) → (t : ℕ) (o : Option (Option (List ℕ))) → IsFirstAbove f t o → IsFirstAbove g t o
-same_first f g same t None none w above = sym (same w) ∙ none w above
-same_first f g same t (Some before) (v, above, held, none) = (v, above, sym (same v) ∙ held, λ w a b. sym (same w) ∙ none w a b)
+same_first f g same t None none = λ w above. sym (same w) ∙ none w above
+same_first f g same t (Some before) (v, above, at, none) = (v, above, sym (same v) ∙ at, λ w a b. sym (same w) ∙ none w a b)
 
 -- ---- the rows from a place on
 

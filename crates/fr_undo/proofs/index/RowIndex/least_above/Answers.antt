@@ -1,4 +1,4 @@
-use Rattle.std.proofs.Common.{◌≡◌, ◌×◌, true, not, ℕ, List, ap, ◌∙◌, subst}
+use Rattle.std.proofs.Common.{◌≡◌, true, not, ℕ, List, ap, ◌∙◌, subst}
 use Rattle.std.specs.declared.ops.Bound.TheVariants.{Included, Unbounded}
 use Rattle.std.specs.BTreeSet.{IsKeyRangeOf}
 use Rattle.std.proofs.lemmas.Slice.Eq.{bytes_eq-Decides}
@@ -19,7 +19,7 @@ returns-then-ne c =
     let is = subst (λ (x : List ℕ × ℕ). IsKeyRangeOf by_key (Included x) Unbounded places c.range.result) (λ i. (c.in_ok-copy.ensures i, c.next.ensures i)) (c.range.ensures.in_range tt) in
     least_of_other places c.args.key.now c.args.version c.range.result is c.in-Some.place.now _ c.in-Some.ensures.steps (λ same.
     let alike : bytes_eq c.in-Some.place.now.0 c.args.key.now ≡ true = (bytes_eq-Decides c.in-Some.place.now.0 c.args.key.now).1 same in
-    absurd (let no = c.ne.ensures ∙ ap not alike in let yes = c.if-ne.true in cc))
+    absurd (let off = c.ne.ensures ∙ ap not alike in let on = c.if-ne.true in cc))
 
 pub returns : goal.returns
 returns c =

@@ -30,7 +30,7 @@ returns-then-gt-2-clause-writes c =
     let a = c.self.inside in
     let f = c.args.version in
     let above = above_from_gt f a.floor (cc (c.gt-2.ensures, c.if-gt-2.true)) in
-    let made = forgotten_fields a.contents a.rows.items c.drop_through.new.rows.items a.applied a.floor f a.bytes above c.drop_through.ensures in
+    let made = forgotten_fields a.contents a.rows.items c.drop_through.new.rows.items a.applied a.floor f a.bytes above c.drop_through.ensures.rows in
     writes_all _ _ _
     (made ∙ ap (λ (s : StoreState). forgotten s f) c.self.view_is)
     (subst IsStoreState (sym made) (forgotten_sound (state_of a) f c.self.invariant.sound (le_from_not_gt f a.applied (cc (c.gt.ensures, c.if-gt.false)))))
