@@ -18,7 +18,7 @@ pub use fr_cli_end::{EndOptions, run_end};
 pub use fr_cli_json::CliFault;
 pub use fr_cli_simulate::run_simulate;
 use fr_cli_words::own_words;
-pub use fr_cli_words::{BAD_WORDS, Ending, StoreKind};
+pub use fr_cli_words::{BAD_WORDS, Ending, StoreWord};
 pub use program::run_program;
 use std::io;
 use std::io::{BufWriter, IsTerminal};

@@ -5,7 +5,7 @@ use clap::{Arg, ArgAction, ArgMatches, Command, value_parser};
 use fr_cli_cluster::{ClusterOptions, ClusterWords, DEFAULTS};
 use fr_cli_end::EndOptions;
 use fr_cli_words::{
-    MIXED, StoreKind, StoreWords, apply_command, bad_words, of_kind, program_command, read_file,
+    MIXED, StoreWord, StoreWords, apply_command, bad_words, of_kind, program_command, read_file,
     read_store, read_store_words, rows_command,
 };
 use std::alloc::Global;
@@ -14,7 +14,7 @@ use std::alloc::Global;
 #[derive(Debug, Drop, PartialEq, Eq)]
 pub enum Request {
     /// The operations of a script, run on an empty store.
-    Apply(StoreKind),
+    Apply(StoreWord),
     /// The operations of a script, run on the store of the file of this name.
     ApplyTo(String),
     /// The store of the file of this name, shown.
@@ -26,7 +26,7 @@ pub enum Request {
     /// The audit of a script's journals.
     Audit,
     /// A cluster in threads, whose stores are of this kind, and the audit of its journals.
-    Cluster(StoreKind, ClusterOptions),
+    Cluster(StoreWord, ClusterOptions),
 }
 
 /// Reads the words, the first of which is the program's name. An error is a request for help or a
@@ -55,7 +55,7 @@ fn read_request(alloc: Global, matches: &ArgMatches<'_>) -> Result<Request, Erro
     }
     match matches.subcommand_matches("apply") {
         Some(apply) => read_apply(alloc, apply),
-        None => Ok(Request::Apply(StoreKind::Map)),
+        None => Ok(Request::Apply(StoreWord::Map)),
     }
 }
 

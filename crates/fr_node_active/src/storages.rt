@@ -6,9 +6,9 @@ ghost use Rattle.fr_node_active.specs.Leads.{EndsInCrash, LeadsOn};
 ghost use Rattle.fr_node_active.specs.Nodes.{IsStoreCrash, IsStoreEnd, storage_back_refusal, storage_refusal, two_refusal};
 ghost use Rattle.fr_node_active.specs.Steps.{StorageStep};
 ghost use Rattle.fr_node_active.specs.Told.{IsTold};
-ghost use Rattle.fr_node_steps.specs.declared.turn.Turn.{Turn};
+ghost use Rattle.fr_node_steps.specs.declared.turn.NodeTurn.{NodeTurn};
 ghost use Rattle.fr_node_steps.specs.declared.fault.Crash.{Crash};
-ghost use Rattle.fr_node_steps.specs.declared.fault.Refusal.{Refusal};
+ghost use Rattle.fr_node_steps.specs.declared.fault.TurnRefusal.{TurnRefusal};
 ghost use Rattle.fr_node_steps.specs.Turns.{IfCrashed, IfRefused, IsBack, IsTaken, Refuses};
 ghost use Rattle.fr_run_event.specs.Last as last;
 ghost use Rattle.fr_runtime_hears.specs.Taken.{IsPart};
@@ -22,7 +22,8 @@ use fr_audit_journal::{Act, Entry, Journal};
 use fr_base::{Epoch, Memory, NodeId, Stamp, Version};
 use fr_log::{LogTell, Peeked};
 use fr_node_steps::{
-    Acting, Crash, Hearing, Newest, Refusal, Turn, TurnFault, Wants, crash_at, stamp_above,
+    Acting, Crash, Hearing, Newest, NodeTurn, NodeTurnFault, TurnRefusal, Wants, crash_at,
+    stamp_above,
 };
 use fr_runtime_hears::{take_marked, take_peeked};
 use fr_storage::{Storage, StorageFault};
@@ -104,17 +105,17 @@ impl<S: ShardStore> StorageNode<S> {
         at: Stamp,
         from: NodeId,
         tell: Tell,
-    ) -> Result<Entry, TurnFault>
+    ) -> Result<Entry, NodeTurnFault>
         requires works { self.old.is_over ≡ false }
         ensures place { self.new.place ≡ self.old.place }
-        ensures taken { IfOk result (λ entry. IsTaken self.old.entries self.new.entries at (Turn.Hear from tell) entry) }
+        ensures taken { IfOk result (λ entry. IsTaken self.old.entries self.new.entries at (NodeTurn.Hear from tell) entry) }
         ensures works { OnOk result (self.new.is_over ≡ false) }
-        ensures refused { Refuses (storage_refusal self.old.entries at (Turn.Hear from tell)) result }
+        ensures refused { Refuses (storage_refusal self.old.entries at (NodeTurn.Hear from tell)) result }
         ensures left { IfRefused result (self.new ≡ self.old) }
         ensures crashed { IfCrashed result IsStoreCrash }
     {
         let Some(stamp) = stamp_above(&self.journal, at) else {
-            return Err(TurnFault::Refused(Refusal::StampsSpent));
+            return Err(NodeTurnFault::Refused(TurnRefusal::StampsSpent));
         };
         self.journal.reserve()?;
         let taken = match tell_storage(alloc, &mut self.storage, &from, &tell) {
@@ -145,7 +146,7 @@ impl<S: ShardStore> StorageNode<S> {
         alloc: Global,
         at: Stamp,
         hearing: Option<Hearing>,
-    ) -> Result<Vec<Entry>, TurnFault>
+    ) -> Result<Vec<Entry>, NodeTurnFault>
         requires works { self.old.is_over ≡ false }
         ensures place { self.new.place ≡ self.old.place }
         ensures storage { self.new.storage ≡ self.old.storage }
@@ -158,13 +159,13 @@ impl<S: ShardStore> StorageNode<S> {
         ensures crashed { IfCrashed result (λ why. why ≡ Crash.Memory) }
     {
         if !self.has_files {
-            return Err(TurnFault::Refused(Refusal::NotTaken));
+            return Err(NodeTurnFault::Refused(TurnRefusal::NotTaken));
         }
         if !self.journal.entries().is_empty() {
-            return Err(TurnFault::Refused(Refusal::Begun));
+            return Err(NodeTurnFault::Refused(TurnRefusal::Begun));
         }
         let Some(stamps) = two_stamps(at) else {
-            return Err(TurnFault::Refused(Refusal::StampsSpent));
+            return Err(NodeTurnFault::Refused(TurnRefusal::StampsSpent));
         };
         let part = match &hearing {
             Some(hearing) => part_of(&self.storage, hearing),
@@ -180,7 +181,7 @@ impl<S: ShardStore> StorageNode<S> {
 fn two_stamps(at: Stamp) -> Option<(Stamp, Stamp)>
     ensures later { IfSome result (λ two. (at < two.0) × (two.0 < two.1)) }
     ensures there { IfSome result (λ two. two_refusal at ≡ None) }
-    ensures spent { result ≡ None → two_refusal at ≡ Some Refusal.StampsSpent }
+    ensures spent { result ≡ None → two_refusal at ≡ Some TurnRefusal.StampsSpent }
 {
     let first = Stamp::new(at.get() + 1)?;
     let second = Stamp::new(first.get() + 1)?;
@@ -237,7 +238,7 @@ fn tell_storage<S: ShardStore>(
     storage: &mut Storage<S>,
     from: &NodeId,
     tell: &Tell,
-) -> Result<Option<Version>, TurnFault>
+) -> Result<Option<Version>, NodeTurnFault>
     ensures tag { storage.new.tag ≡ storage.old.tag }
     ensures told { storage.old.failed ≡ false → IfOk result (λ taken. IsTold (storage_of S.state storage.old) from.now tell.now taken
         (storage_of S.state storage.new)) }
@@ -274,7 +275,7 @@ fn peeked_by<S: ShardStore>(
 }
 
 /// A storage server's state, as others see it.
-fn last_said<S: ShardStore>(alloc: Global, storage: &mut Storage<S>) -> Result<Last, TurnFault>
+fn last_said<S: ShardStore>(alloc: Global, storage: &mut Storage<S>) -> Result<Last, NodeTurnFault>
     ensures last { IfOk result (λ told. told ≡ last.last_of_storage (storage_of S.state storage.old)) }
     ensures stands { storage.old.failed ≡ false → OnOk result (storage_of S.state storage.new ≡ storage_of S.state storage.old) }
     ensures works { storage.old.failed ≡ false → OnOk result (storage.new.failed ≡ false) }
@@ -294,17 +295,17 @@ fn last_said<S: ShardStore>(alloc: Global, storage: &mut Storage<S>) -> Result<L
 }
 
 /// What a fault of a storage server is to its process.
-fn end_of(fault: StorageFault) -> TurnFault
+fn end_of(fault: StorageFault) -> NodeTurnFault
     ensures { IsStoreEnd result }
 {
     match fault {
-        StorageFault::Store(StoreFault::Memory) => TurnFault::Crashed(Crash::Memory),
-        _ => TurnFault::Crashed(Crash::Store),
+        StorageFault::Store(StoreFault::Memory) => NodeTurnFault::Crashed(Crash::Memory),
+        _ => NodeTurnFault::Crashed(Crash::Store),
     }
 }
 
 /// What a storage server answers, if it is no fault of its store.
-fn unless_fault<T>(answer: Result<T, StorageFault>) -> Result<T, TurnFault>
+fn unless_fault<T>(answer: Result<T, StorageFault>) -> Result<T, NodeTurnFault>
     ensures ok { IfOk result (λ value. answer ≡ Ok value) }
     ensures fault { IfErr result IsStoreEnd }
 {
@@ -341,12 +342,12 @@ impl<S: ShardStore> Acting for StorageNode<S> {
         self.journal.node()
     }
 
-    fn act(&mut self, alloc: Global, at: Stamp, turn: Turn) -> Result<Entry, TurnFault> {
+    fn act(&mut self, alloc: Global, at: Stamp, turn: NodeTurn) -> Result<Entry, NodeTurnFault> {
         match turn {
-            Turn::Hear { from, tell } => self.hear(alloc, at, from, tell),
-            Turn::Ask { .. } => Err(TurnFault::Refused(Refusal::NotTaken)),
-            Turn::Submit { .. } => Err(TurnFault::Refused(Refusal::NotTaken)),
-            Turn::Begin => Err(TurnFault::Refused(Refusal::NotTaken)),
+            NodeTurn::Hear { from, tell } => self.hear(alloc, at, from, tell),
+            NodeTurn::Ask { .. } => Err(NodeTurnFault::Refused(TurnRefusal::NotTaken)),
+            NodeTurn::Submit { .. } => Err(NodeTurnFault::Refused(TurnRefusal::NotTaken)),
+            NodeTurn::Begin => Err(NodeTurnFault::Refused(TurnRefusal::NotTaken)),
         }
     }
 
@@ -355,11 +356,11 @@ impl<S: ShardStore> Acting for StorageNode<S> {
         alloc: Global,
         at: Stamp,
         hearing: Option<Hearing>,
-    ) -> Result<Vec<Entry>, TurnFault> {
+    ) -> Result<Vec<Entry>, NodeTurnFault> {
         self.started_again(alloc, at, hearing)
     }
 
-    fn last(&mut self, alloc: Global) -> Result<Last, TurnFault> {
+    fn last(&mut self, alloc: Global) -> Result<Last, NodeTurnFault> {
         match last_said(alloc, &mut self.storage) {
             Ok(last) => Ok(last),
             Err(fault) => {
@@ -373,7 +374,12 @@ impl<S: ShardStore> Acting for StorageNode<S> {
         false
     }
 
-    fn wants(&self, alloc: Global, turn: u32, newest: Option<Newest>) -> Result<Wants, TurnFault> {
+    fn wants(
+        &self,
+        alloc: Global,
+        turn: u32,
+        newest: Option<Newest>,
+    ) -> Result<Wants, NodeTurnFault> {
         Ok(Wants::from_vec(asks_at(alloc, &self.storage, turn, newest)?))
     }
 }

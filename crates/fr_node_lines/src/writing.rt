@@ -9,7 +9,7 @@ use fr_base::{Memory, NodeId};
 use fr_forms::lists::write_all;
 use fr_forms::object::{Object, write_text};
 use fr_forms::{names as forms, write_last, write_node};
-use fr_node_steps::{Kind, Reply, Wants};
+use fr_node_steps::{Kind, NodeReply, Wants};
 use serde_json::Value;
 use std::alloc::Global;
 
@@ -18,19 +18,19 @@ pub fn write_reply(
     alloc: Global,
     node: NodeId,
     envelope: &Envelope,
-    reply: &Reply,
+    reply: &NodeReply,
 ) -> Result<Vec<u8>, Memory> {
     let body = match reply {
-        Reply::Init { node, last } => of_type(alloc, names::INIT_OK)?
+        NodeReply::Init { node, last } => of_type(alloc, names::INIT_OK)?
             .and(forms::NODE, write_node(alloc, node))?
             .and(forms::LAST, write_last(alloc, last))?,
-        Reply::Last { last } => {
+        NodeReply::Last { last } => {
             of_type(alloc, names::LAST_OK)?.and(forms::LAST, write_last(alloc, last))?
         }
-        Reply::Wants { wants } => {
+        NodeReply::Wants { wants } => {
             of_type(alloc, names::WANTS_OK)?.and(names::WANTS, write_all(alloc, wants.as_slice()))?
         }
-        Reply::Taken {
+        NodeReply::Taken {
             kind,
             entry,
             last,
@@ -39,7 +39,7 @@ pub fn write_reply(
             let body = write_taken(alloc, *kind, entry, last)?;
             with_wants(alloc, body, wants)?
         }
-        Reply::Back { entries, last } => write_back(alloc, entries.as_slice(), last)?,
+        NodeReply::Back { entries, last } => write_back(alloc, entries.as_slice(), last)?,
     };
     write_line(alloc, node, envelope, body)
 }

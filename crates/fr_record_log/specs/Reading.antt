@@ -6,7 +6,7 @@ use Rattle.fr_mutation.specs.declared.mutation.Mutation.{Mutation}
 use Rattle.fr_mutation.specs.CodecReading.{decoded}
 use Rattle.fr_tags.specs.declared.body.Body.{Body}
 use Rattle.fr_tags.specs.Bodies as bodies
-use Rattle.fr_state.specs.declared.fault.DecodeFault as state
+use Rattle.fr_state.specs.declared.fault.StateDecodeFault.{StateDecodeFault}
 use Rattle.fr_state.specs.Generations.{CoordinatedState}
 use Rattle.fr_state.specs.Reading.{reading}
 use Rattle.fr_log.specs.declared.records.SeedRecord.{SeedRecord}
@@ -69,7 +69,7 @@ whole len (Err fault) = None
 abbrev pub batch_of : List ℕ → Option (List Mutation)
 batch_of bytes = whole (length bytes) (decoded bytes)
 
-abbrev pub found : Result CoordinatedState state.DecodeFault → Option CoordinatedState
+abbrev pub found : Result CoordinatedState StateDecodeFault → Option CoordinatedState
 found (Ok s) = Some s
 found (Err fault) = None
 

@@ -12,7 +12,7 @@ use crate::reading::change_at;
 use crate::spelling::spelled_ask;
 use fr_base::{Machine, Memory};
 use fr_log::laws::{chain_law, letting_law, place_law};
-use fr_log::{Log, LogAsk, LogTell, Place, PoppedTag, SeedRecord};
+use fr_log::{Checkpoint, Log, LogAsk, LogTell, PoppedTag, SeedRecord};
 use fr_record_node::{ReadFault, Recorded};
 use std::alloc::Global;
 use std::marker::Model;
@@ -150,12 +150,12 @@ impl Recorded for FileLog {
     ghost use Rattle.fr_log.specs.LogState.{swept};
     ghost use Rattle.fr_log.specs.SweptLaws.{swept_tells};
     ghost use Rattle.fr_log.specs.Chain.{IsLog};
-    ghost use Rattle.fr_log.specs.Place.{place_of};
+    ghost use Rattle.fr_log.specs.Checkpoint.{checkpoint_of};
     ghost use Rattle.fr_record_log.specs.Spelling.{written_log};
     ghost use Rattle.fr_record_log.specs.LogFile.{fresh_of, replay_log, IsSettledLog, IsFileAsk};
     ghost use Rattle.fr_record_log.specs.LogFileLaws.{same_fresh, same_read, settles, written_same};
 
-    type Place = Place;
+    type Place = Checkpoint;
 
     ghost fresh = { fresh_of };
 
@@ -171,7 +171,7 @@ impl Recorded for FileLog {
 
     ghost settled = { swept };
 
-    ghost IsPlaceOf = { λ l p. IsLog l × (p ≡ place_of l) };
+    ghost IsPlaceOf = { λ l p. IsLog l × (p ≡ checkpoint_of l) };
 
     ghost replays = { λ l a settled ask. ask.leads l settled.sound };
 
@@ -198,7 +198,7 @@ impl Recorded for FileLog {
         }
     }
 
-    fn place(&self, _alloc: Global) -> Result<Place, Memory> {
+    fn place(&self, _alloc: Global) -> Result<Checkpoint, Memory> {
         self.log.place()
     }
 
@@ -210,7 +210,7 @@ impl Recorded for FileLog {
         self.log.settle();
     }
 
-    fn go_back(&mut self, place: Place) {
+    fn go_back(&mut self, place: Checkpoint) {
         place_law();
         self.log.go_back(place);
     }

@@ -9,7 +9,7 @@ use fr_base::{Epoch, Tag, Version};
 use fr_log::{Log, LogAsk, PoppedTag, Push, Seed, SeedRecord};
 use fr_mutation::{Batch, DecodeFault, decode};
 use fr_record_node::ReadFault;
-use fr_state::{CoordState, DecodeFault as StateFault, decode as decode_state};
+use fr_state::{CoordState, StateDecodeFault, decode as decode_state};
 use fr_tags::Body;
 use std::alloc::Global;
 
@@ -133,10 +133,10 @@ fn state_of(alloc: Global, bytes: &[u8]) -> Result<CoordState, ReadFault>
 {
     match decode_state(alloc, bytes) {
         Ok(state) => Ok(state),
-        Err(StateFault::Memory) => Err(ReadFault::Memory),
-        Err(StateFault::Short) => Err(ReadFault::Broken),
-        Err(StateFault::BadForm) => Err(ReadFault::Broken),
-        Err(StateFault::Trailing) => Err(ReadFault::Broken),
+        Err(StateDecodeFault::Memory) => Err(ReadFault::Memory),
+        Err(StateDecodeFault::Short) => Err(ReadFault::Broken),
+        Err(StateDecodeFault::BadForm) => Err(ReadFault::Broken),
+        Err(StateDecodeFault::Trailing) => Err(ReadFault::Broken),
     }
 }
 

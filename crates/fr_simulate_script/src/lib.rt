@@ -7,4 +7,4 @@ mod script;
 mod setting;
 mod step;
 
-pub use script::{Act, Commit, Pull, Push, Recover, Script, read_script};
+pub use script::{Commit, Pull, Recover, Resend, Script, ScriptStep, read_script};

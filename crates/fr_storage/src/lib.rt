@@ -6,7 +6,7 @@ mod fault;
 mod laws;
 mod storage;
 
-pub use answer::Answer;
+pub use answer::LogAnswer;
 pub use fault::StorageFault;
 pub use laws::{follow_law, piece_law, position_law, storage_law};
 pub use storage::Storage;

@@ -3,7 +3,7 @@ use fr_audit::audit;
 use fr_audit_journal::Journal;
 use fr_audit_script::{read_script, write_script};
 use fr_cli_cluster::{
-    ClusterOptions, ClusterWords, DEFAULTS, NoFaults, PlainRack, Progress, cluster_counted,
+    ClusterOptions, ClusterWords, DEFAULTS, NoFaults, PlainRack, ProgressLine, cluster_counted,
     run_cluster,
 };
 use fr_cli_json::CallCounts;
@@ -239,7 +239,7 @@ fn is_told<R: Threads + Wait + Sync>(
         terminal,
         first: None,
     };
-    let progress = Progress::new(terminal, &NoFaults, options);
+    let progress = ProgressLine::new(terminal, &NoFaults, options);
     let status = cluster_counted(
         rt,
         alloc,

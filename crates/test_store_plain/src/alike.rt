@@ -1,5 +1,5 @@
 //! Whether a store does what lists do.
-use crate::draw::{Step, drawn, key, version};
+use crate::draw::{StoreCall, drawn, key, version};
 use crate::slow_store::SlowStore;
 use fr_base::Bytes;
 use fr_mutation::Shard;
@@ -60,12 +60,12 @@ fn agree_between<S: ShardStore>(
 }
 
 /// What a store answers to a call.
-fn taken<S: ShardStore>(alloc: Global, store: &mut S, step: &Step) -> Result<(), StoreFault> {
+fn taken<S: ShardStore>(alloc: Global, store: &mut S, step: &StoreCall) -> Result<(), StoreFault> {
     match step {
-        Step::Apply(version, batch) => store.apply(alloc, *version, batch),
-        Step::Undo(version) => store.undo_to(alloc, *version),
-        Step::Forget(version) => store.forget_through(alloc, *version),
-        Step::Advance(version) => store.advance(*version),
+        StoreCall::Apply(version, batch) => store.apply(alloc, *version, batch),
+        StoreCall::Undo(version) => store.undo_to(alloc, *version),
+        StoreCall::Forget(version) => store.forget_through(alloc, *version),
+        StoreCall::Advance(version) => store.advance(*version),
     }
 }
 
@@ -73,13 +73,13 @@ fn taken<S: ShardStore>(alloc: Global, store: &mut S, step: &Step) -> Result<(),
 fn taken_by_lists(
     alloc: Global,
     slow: &mut SlowStore,
-    step: &Step,
+    step: &StoreCall,
 ) -> Result<Result<(), StoreFault>, AllocError> {
     match step {
-        Step::Apply(version, batch) => slow.apply(alloc, version.get(), batch),
-        Step::Undo(version) => slow.undo_to(alloc, version.get()),
-        Step::Forget(version) => Ok(slow.forget_through(version.get())),
-        Step::Advance(version) => Ok(slow.advance(version.get())),
+        StoreCall::Apply(version, batch) => slow.apply(alloc, version.get(), batch),
+        StoreCall::Undo(version) => slow.undo_to(alloc, version.get()),
+        StoreCall::Forget(version) => Ok(slow.forget_through(version.get())),
+        StoreCall::Advance(version) => Ok(slow.advance(version.get())),
     }
 }
 
@@ -88,7 +88,7 @@ fn follows<S: ShardStore>(
     alloc: Global,
     store: &mut S,
     slow: &mut SlowStore,
-    step: &Step,
+    step: &StoreCall,
 ) -> Result<bool, Fail> {
     let wanted = taken_by_lists(alloc, slow, step)?;
     let answer = taken(alloc, store, step);
@@ -114,7 +114,7 @@ pub fn goes_back<S: ShardStore>(
     slow: &mut SlowStore,
 ) -> Result<bool, Fail> {
     for _ in slow.floor..slow.applied {
-        let step = Step::Undo(version(slow.applied.saturating_sub(1))?);
+        let step = StoreCall::Undo(version(slow.applied.saturating_sub(1))?);
         if !follows(alloc, store, slow, &step)? {
             return Ok(false);
         }

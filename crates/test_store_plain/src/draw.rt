@@ -72,7 +72,7 @@ pub fn version(number: u64) -> Result<Version, Fail> {
 
 /// A call of a store.
 #[derive(Drop)]
-pub enum Step {
+pub enum StoreCall {
     Apply(Version, Batch),
     Undo(Version),
     Forget(Version),
@@ -80,14 +80,14 @@ pub enum Step {
 }
 
 /// A call near the versions of a store.
-pub fn drawn(alloc: Global, rng: &mut Pcg32, applied: u64, floor: u64) -> Result<Step, Fail> {
+pub fn drawn(alloc: Global, rng: &mut Pcg32, applied: u64, floor: u64) -> Result<StoreCall, Fail> {
     let kind = rng.next_u32() % 12;
     let back = u64::from(rng.next_u32() % 6);
     let next = version(applied.saturating_add(back % 3))?;
     Ok(match kind {
-        0 | 1 => Step::Undo(version(applied.saturating_sub(back))?),
-        2 => Step::Forget(version(floor.saturating_add(back % 2))?),
-        3 => Step::Advance(next),
-        _ => Step::Apply(next, batch(alloc, rng)?),
+        0 | 1 => StoreCall::Undo(version(applied.saturating_sub(back))?),
+        2 => StoreCall::Forget(version(floor.saturating_add(back % 2))?),
+        3 => StoreCall::Advance(next),
+        _ => StoreCall::Apply(next, batch(alloc, rng)?),
     })
 }

@@ -7,5 +7,5 @@ mod draw;
 mod slow_store;
 
 pub use alike::{agree, agrees, goes_back, looks_alike};
-pub use draw::{Step, drawn, key, version};
+pub use draw::{StoreCall, drawn, key, version};
 pub use slow_store::SlowStore;

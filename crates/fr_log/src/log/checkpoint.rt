@@ -2,7 +2,7 @@
 ghost use Rattle.std.specs.Prelude.{◌≡◌, IfOk};
 ghost use Rattle.fr_log.specs.LogState.{LogState};
 ghost use Rattle.fr_log.specs.Chain.{IsLog};
-ghost use Rattle.fr_log.specs.Place.{Extends, place_of};
+ghost use Rattle.fr_log.specs.Checkpoint.{Extends, checkpoint_of};
 
 use super::Log;
 use crate::popped::PoppedTags;
@@ -12,7 +12,7 @@ use std::marker::Model;
 /// A checkpoint of a log: a few numbers, by which it goes back there, as long as it let nothing go.
 /// Contracts see it as the record of them.
 #[derive(Debug, Drop)]
-pub struct Place {
+pub struct Checkpoint {
     pushes: usize,
     durable: Version,
     known: Version,
@@ -21,21 +21,21 @@ pub struct Place {
     popped: PoppedTags,
 }
 
-impl Model for Place {
-    ghost use Rattle.fr_log.specs.Place.{LogPlace};
+impl Model for Checkpoint {
+    ghost use Rattle.fr_log.specs.Checkpoint.{LogCheckpoint};
 
-    ghost Value = { LogPlace };
+    ghost Value = { LogCheckpoint };
 
     ghost view = { λ p. record { pushes = p.pushes; durable = p.durable; known = p.known; seeded = p.seeded; stopped = p.stopped; popped = p.popped } };
 }
 
 impl Log {
     /// A checkpoint of its state.
-    pub fn place(&self) -> Result<Place, Memory>
-        ensures value { IfOk result (λ place. place ≡ place_of self.now) }
+    pub fn place(&self) -> Result<Checkpoint, Memory>
+        ensures value { IfOk result (λ place. place ≡ checkpoint_of self.now) }
         ensures sound { IsLog self.now }
     {
-        Ok(Place {
+        Ok(Checkpoint {
             pushes: self.pushes.len(),
             durable: self.durable,
             known: self.known,
@@ -47,9 +47,9 @@ impl Log {
 
     /// Goes back to its state before some asks that were kept: those pushes go that it did not hold then. A
     /// log whose records could not be appended goes back so. It takes no memory.
-    pub fn go_back(&mut self, place: Place)
-        requires { (l : LogState) × IsLog l × (place ≡ place_of l) × Extends l self.old }
-        ensures { (l : LogState) → place ≡ place_of l → Extends l self.old → self.new ≡ l }
+    pub fn go_back(&mut self, place: Checkpoint)
+        requires { (l : LogState) × IsLog l × (place ≡ checkpoint_of l) × Extends l self.old }
+        ensures { (l : LogState) → place ≡ checkpoint_of l → Extends l self.old → self.new ≡ l }
     {
         self.pushes.truncate(place.pushes);
         if !place.seeded {

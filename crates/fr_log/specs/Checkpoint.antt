@@ -5,7 +5,7 @@ use Rattle.fr_log.specs.declared.popped.PoppedTag.{PoppedTag}
 use Rattle.fr_log.specs.LogState.{LogState, durable_of, known_of}
 
 -- how many pushes a log holds, how far its tags are popped, and what else tells it from itself later on
-pub record LogPlace : Type 0 where
+pub record LogCheckpoint : Type 0 where
   pub pushes : ℕ
   pub durable : ℕ
   pub known : ℕ
@@ -14,8 +14,8 @@ pub record LogPlace : Type 0 where
   pub popped : List PoppedTag
 
 -- the place of a log
-abbrev pub place_of : LogState → LogPlace
-place_of l = record { pushes = length l.pushes; durable = durable_of l; known = known_of l; seeded = is_some l.seed; stopped = l.stopped; popped = l.popped }
+abbrev pub checkpoint_of : LogState → LogCheckpoint
+checkpoint_of l = record { pushes = length l.pushes; durable = durable_of l; known = known_of l; seeded = is_some l.seed; stopped = l.stopped; popped = l.popped }
 
 -- n is l, or l after some asks that let nothing go: nothing of l is lost
 pub record Extends (l n : LogState) : Type 0 where
@@ -28,5 +28,5 @@ pub record Extends (l n : LogState) : Type 0 where
   pub stopped : IsTrue l.stopped → IsTrue n.stopped
 
 -- the log of a place, of what it is later on
-abbrev pub gone_back : LogPlace → LogState → LogState
+abbrev pub gone_back : LogCheckpoint → LogState → LogState
 gone_back place n = record n { seed = (if place.seeded then n.seed else None); pushes = take place.pushes n.pushes; stopped = place.stopped; popped = place.popped }
