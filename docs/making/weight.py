@@ -68,7 +68,7 @@ def functions(path):
         lines = 0
         if body and "{" in body[0]:
             close = re.compile(r"^" + it[1] + r"\}", re.M).search(text, body.end())
-            lines = text.count("\n", body.end(), close.start()) if close else 0
+            lines = text.count("\n", body.end(), close.start()) - 1 if close else 0
         yield it[3], it[2] == "pub ", parameters(text[start:end]), lines
 
 

@@ -205,49 +205,52 @@ fn cluster_command<'a>(alloc: Global) -> Result<Command<'a>, Error> {
     with_storm(alloc, of_work)
 }
 
+/// The words of how many nodes of each kind there are: the word, its help, what it is if it is not there, and the least
+/// and the greatest number.
+static NODES: [(&str, &str, &str, u8, u8); 5] = [
+    (
+        "coordinators",
+        "How many coordinators there are, 1, 3, 5, 7 or 9",
+        "3",
+        1,
+        9,
+    ),
+    (
+        "logs",
+        "How many logs a generation has, 1 to 16",
+        "4",
+        1,
+        16,
+    ),
+    (
+        "degree",
+        "On how many of the logs each shard is, 1 to all",
+        "2",
+        1,
+        16,
+    ),
+    (
+        "storages",
+        "How many storage servers there are, 1 to 32",
+        "2",
+        1,
+        32,
+    ),
+    (
+        "proxies",
+        "How many proxies a generation has, 1 to 16",
+        "2",
+        1,
+        16,
+    ),
+];
+
 /// With the words of how many nodes of each kind there are.
 fn with_nodes<'a>(alloc: Global, cluster: Command<'a>) -> Result<Command<'a>, Error> {
-    let command = cluster
-        .arg(few(
-            alloc,
-            "coordinators",
-            "How many coordinators there are, 1, 3, 5, 7 or 9",
-            "3",
-            1,
-            9,
-        ))?
-        .arg(few(
-            alloc,
-            "logs",
-            "How many logs a generation has, 1 to 16",
-            "4",
-            1,
-            16,
-        ))?
-        .arg(few(
-            alloc,
-            "degree",
-            "On how many of the logs each shard is, 1 to all",
-            "2",
-            1,
-            16,
-        ))?
-        .arg(few(
-            alloc,
-            "storages",
-            "How many storage servers there are, 1 to 32",
-            "2",
-            1,
-            32,
-        ))?
-        .arg(few(
-            alloc,
-            "proxies",
-            "How many proxies a generation has, 1 to 16",
-            "2",
-            1,
-            16,
-        ))?;
+    let mut command = cluster;
+    for &(word, help, usual, least, most) in &NODES {
+        command = command.arg(few(alloc, word, help, usual, least, most))?;
+    }
     Ok(command)
 }
 
