@@ -1,8 +1,9 @@
 //! Lines read.
 use crate::envelope::{Envelope, text_of};
 use crate::fault::{BadLine, Member, at};
-use crate::names::{self, name_of};
+use crate::names;
 use fr_ask::{Ask, Tell};
+use fr_audit_journal::node_text;
 use fr_base::{NodeId, Stamp};
 use fr_forms::fields::Fields;
 use fr_forms::{
@@ -60,7 +61,7 @@ fn read_order(
         return Err(BadLine::Member(Member::Src));
     }
     let dest = at(Member::Dest, fields.take(names::DEST))?;
-    if !is_text(&dest, name_of(alloc, node)?.as_str()) {
+    if !is_text(&dest, node_text(alloc, node)?.as_str()) {
         return Err(BadLine::OtherNode);
     }
     let body = at(Member::Body, fields.take(names::BODY))?;

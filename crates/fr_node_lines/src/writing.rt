@@ -1,10 +1,10 @@
 //! Lines written.
 use crate::envelope::Envelope;
 use crate::fault::LineFault;
-use crate::names::{self, name_of};
+use crate::names;
 use crate::records::write_entry;
 use fr_ask::Last;
-use fr_audit_journal::Entry;
+use fr_audit_journal::{Entry, node_text};
 use fr_base::{Memory, NodeId};
 use fr_forms::lists::write_all;
 use fr_forms::object::{Object, write_text};
@@ -105,7 +105,7 @@ fn write_line(
         Some(number) => body.with(names::IN_REPLY_TO, Value::from(number))?,
         None => body,
     };
-    let name = name_of(alloc, node)?;
+    let name = node_text(alloc, node)?;
     let line = Object::new(alloc)
         .and(names::SRC, write_text(alloc, name.as_str()))?
         .with(names::BODY, body.value())?;

@@ -5,7 +5,7 @@ ghost use Rattle.fr_runtime_spawn.specs.Sworn.{AllDone};
 ghost use Rattle.fr_runtime.specs.Job.{AllDid, Did, DidServe, oks, pull_jobs, recover_jobs, serve_jobs};
 
 use crate::fault::Unfinished;
-use crate::prepare::{first_generation, put};
+use crate::prepare::put;
 use fr_audit_journal::Journal;
 use fr_base::{Ballot, Memory, Node, Shape};
 use fr_log::Log;
@@ -18,6 +18,7 @@ use fr_runtime_threads::{
 };
 use fr_storage::Storage;
 use fr_undo::ShardStore;
+use fr_world_nodes::start::generation;
 use std::alloc::Global;
 use std::sync::Wait;
 use std::thread::Threads;
@@ -132,7 +133,7 @@ fn serve_at<K: Rack, F: Faults, R: Wait, W: Workload + Drop>(
             told: Vec::new(site.alloc),
         });
     };
-    let first = first_generation(site.config);
+    let first = generation(site.config);
     let Served {
         work,
         journals,

@@ -1,6 +1,6 @@
 //! A mirror over a disk in memory that stops at each call, or fails for a while. What is wanted was worked out by hand
 //! from what each call is to do to a file.
-use crate::lapse::Lapse;
+use crate::gap::Gap;
 use fr_host_mirror::Mirror;
 use sqlite_disk::{Disk, Fuse, Memory as MemoryDisk};
 use std::alloc::Global;
@@ -145,7 +145,7 @@ fn does_at_last<D: Disk>(disk: &mut D, call: Call) -> bool {
 
 /// A mirror of a disk that fails so many times after so many calls, each call made anew: how many are done.
 fn goes_on(rt: &impl Abort, alloc: Global, before: u64, failing: u64) -> Option<usize> {
-    let Some(mut mirror) = over(alloc, Lapse::new(MemoryDisk::new(alloc), before, failing)) else {
+    let Some(mut mirror) = over(alloc, Gap::new(MemoryDisk::new(alloc), before, failing)) else {
         return None;
     };
     for (number, (call, wanted)) in ROWS.iter().enumerate() {
@@ -191,7 +191,7 @@ fn a_disk_below_fails_for_a_while(rt: HostRuntime) {
 fn a_write_is_made_anew_before_the_next_call(rt: HostRuntime) -> Result<(), Fail> {
     for next in [Call::Write(4, b"ef"), Call::Sync, Call::Cut(4)] {
         // (it is measured, read, written and synced before it fails)
-        let below = Lapse::new(MemoryDisk::new(rt.alloc()), 4, 1);
+        let below = Gap::new(MemoryDisk::new(rt.alloc()), 4, 1);
         let Some(mut mirror) = over(rt.alloc(), below) else {
             return Err(Fail::from("it was not read"));
         };

@@ -1,5 +1,5 @@
 //! Records on a device over a disk in memory that stops at each call, or fails for a while, and then crashes.
-use crate::lapse::Lapse;
+use crate::gap::Gap;
 use fr_device::{Device, DeviceFault};
 use fr_host_device::DiskDevice;
 use fr_record::{RecordFault, Records};
@@ -104,7 +104,7 @@ fn stays_shut<D: Device>(device: &mut D) -> bool {
 fn a_disk_below_fails_for_a_while(rt: HostRuntime) {
     let alloc = rt.alloc();
     for before in 5..21u64 {
-        match made(alloc, Lapse::new(MemoryDisk::new(alloc), before, 1)) {
+        match made(alloc, Gap::new(MemoryDisk::new(alloc), before, 1)) {
             None => assert!(rt; false, "not made before {before}"),
             Some(mut file) => {
                 // (each record takes two writes and two syncs)
