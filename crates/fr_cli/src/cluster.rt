@@ -1,6 +1,8 @@
 //! The command `cluster` on each kind of store.
-use fr_cli_cluster::{ClusterOptions, PlainRack, ProgressLine, Watcher, cluster_counted, storm_of};
-use fr_cli_cluster_sql::cluster_sql_counted;
+use fr_cli_cluster::{
+    ClusterOptions, PlainRack, ProgressLine, Watcher, cluster_counted, cluster_sql_counted,
+    storm_of,
+};
 use fr_cli_json::{CallCounts, CliFault};
 use fr_cli_words::StoreWord;
 use std::alloc::Global;

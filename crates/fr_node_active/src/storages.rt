@@ -11,7 +11,7 @@ ghost use Rattle.fr_node_steps.specs.declared.fault.Crash.{Crash};
 ghost use Rattle.fr_node_steps.specs.declared.fault.TurnRefusal.{TurnRefusal};
 ghost use Rattle.fr_node_steps.specs.Turns.{IfCrashed, IfRefused, IsBack, IsTaken, Refuses};
 ghost use Rattle.fr_run_event.specs.Last as last;
-ghost use Rattle.fr_runtime_hears.specs.Taken.{IsPart};
+ghost use Rattle.fr_storage.specs.Taken.{IsPart};
 ghost use Rattle.fr_storage.specs.Server.{storage_of};
 ghost use Rattle.fr_storage.specs.Storage.{after_peeked, peeked_calls, peeked_fault};
 
@@ -25,8 +25,7 @@ use fr_node_steps::{
     Acting, Crash, Hearing, Newest, NodeTurn, NodeTurnFault, TurnRefusal, Wants, crash_at,
     stamp_above,
 };
-use fr_runtime_hears::{take_marked, take_peeked};
-use fr_storage::{Storage, StorageFault};
+use fr_storage::{Storage, StorageFault, take_marked, take_peeked};
 use fr_undo::{ShardStore, StoreFault};
 use std::alloc::Global;
 use std::marker::Model;

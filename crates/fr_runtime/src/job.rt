@@ -1,17 +1,17 @@
 //! What the threads of a cluster do.
 ghost use Rattle.std.specs.Prelude.{◌≡◌, ◌++◌, ◌∷◌, [], IfOk, OnOk};
 ghost use Rattle.fr_runtime.specs.declared.job.Job.TheVariants as job_of;
-ghost use Rattle.fr_runtime_spawn.specs.Sworn.{AllDone};
+ghost use Rattle.fr_runtime.specs.Sworn.{AllDone};
 ghost use Rattle.fr_runtime.specs.Job.{AllDid, Did, DidServe, oks, pull_jobs, recover_jobs, serve_jobs};
 
 use crate::fault::Unfinished;
 use crate::prepare::put;
+use crate::spawn::{SpawnFault, work_each};
 use fr_audit_journal::Journal;
 use fr_base::{Ballot, Memory, Node, Shape};
 use fr_log::Log;
 use fr_proxy::Outcome;
 use fr_register::Cell;
-use fr_runtime_spawn::{SpawnFault, work_each};
 use fr_runtime_station::Faults;
 use fr_runtime_threads::{
     Order, Rack, Served, Site, TurnFault, Workload, crash, pull, recover, serve,

@@ -8,3 +8,4 @@ pub mod Pull
 pub mod Server
 pub mod Standing
 pub mod Storage
+pub mod Taken

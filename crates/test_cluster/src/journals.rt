@@ -4,9 +4,8 @@ use fr_audit_journal::Journal;
 use fr_audit_script::{read_script, write_script};
 use fr_cli_cluster::{
     ClusterOptions, ClusterWords, DEFAULTS, NoFaults, PlainRack, ProgressLine, cluster_counted,
-    run_cluster,
+    run_cluster, run_cluster_sql,
 };
-use fr_cli_cluster_sql::run_cluster_sql;
 use fr_cli_json::CallCounts;
 use fr_run_event::Config;
 use std::alloc::Global;
