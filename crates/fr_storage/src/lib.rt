@@ -9,6 +9,6 @@ mod taking;
 
 pub use answer::LogAnswer;
 pub use fault::StorageFault;
-pub use laws::{follow_law, piece_law, position_law, storage_law};
+pub use laws::{follow_law, piece_law, position_law, storage_law, store_laws};
 pub use storage::Storage;
 pub use taking::{take_marked, take_peeked};

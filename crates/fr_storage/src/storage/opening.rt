@@ -13,7 +13,7 @@ ghost use Rattle.fr_storage.specs.Server.{storage_of, kept_of, refusal_of, store
 
 use super::Storage;
 use crate::fault::StorageFault;
-use crate::laws::{lower_laws, storage_law};
+use crate::laws::{storage_law, store_laws};
 use fr_base::{Bytes, Tag};
 use fr_state::{CoordState, StateDecodeFault, decode, encode};
 use fr_undo::{ShardStore, StoreFault};
@@ -98,7 +98,7 @@ impl<S: ShardStore> Storage<S> {
         ensures leaves { LeavesNoMore (S.MayLeave self.old.store) (S.MayLeave self.new.store) }
         ensures stands { StaysStanding S.state S.MayLeave [] self.old self.new (refusal_of result) }
     {
-        lower_laws();
+        store_laws();
         self.failed = true;
         self.store.reopen(alloc)?;
         let state = kept_state(alloc, &mut self.store)?;

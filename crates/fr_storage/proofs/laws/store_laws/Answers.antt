@@ -1,4 +1,4 @@
-use Rattle.fr_run_serving.proofs.laws.store_laws.Goals as goal
+use Rattle.fr_storage.proofs.laws.store_laws.Goals as goal
 
 pub returns : goal.returns
 returns c = record {
@@ -11,9 +11,9 @@ returns c = record {
   above_seed = c.cut_law.ensures.above_seed;
   below_last = c.cut_law.ensures.below_last;
   front_cut = c.front_law.ensures.cut;
-  same = c.equal_law.ensures;
   goes = c.going_law.ensures.exact;
   drop_last = c.drop_law.ensures.last;
   drop_cut = c.left_law.ensures.cut;
+  same = c.equal_law.ensures;
   spelled = c.spelling_law.ensures.again;
 }
