@@ -1,10 +1,8 @@
 //! The command `cluster` on each kind of store.
-use fr_cli_cluster::{
-    ClusterOptions, PlainRack, ProgressLine, Watcher, cluster_counted, cluster_sql_counted,
-    storm_of,
-};
+use fr_cli_cluster::{ClusterOptions, PlainRack, ProgressLine, Watcher, cluster_counted, storm_of};
 use fr_cli_json::{CallCounts, CliFault};
 use fr_cli_words::StoreWord;
+use fr_runtime_disks::DiskRack;
 use std::alloc::Global;
 use std::io::{Eprint, Write};
 use std::sync::Wait;
@@ -44,6 +42,16 @@ fn watched<H: Threads + Wait + Sync, F: Watcher + Sync, W: Write>(
         StoreWord::Map => {
             cluster_counted(rt, alloc, options, PlainRack, watcher, &mut calls, writer)
         }
-        StoreWord::Sql => cluster_sql_counted(rt, alloc, options, watcher, &mut calls, writer),
+        StoreWord::Sql => {
+            cluster_counted(
+                rt,
+                alloc,
+                options,
+                DiskRack::new(),
+                watcher,
+                &mut calls,
+                writer,
+            )
+        }
     }
 }

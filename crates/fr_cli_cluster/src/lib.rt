@@ -7,7 +7,6 @@ mod options;
 mod progress;
 mod report;
 mod setting;
-mod tables;
 
 pub use cluster::{cluster_counted, run_cluster, run_cluster_on};
 pub use fr_runtime::{PlainRack, Rack};
@@ -16,4 +15,3 @@ pub use fr_runtime_storm::Storm;
 pub use options::{ClusterOptions, ClusterWords, DEFAULTS};
 pub use progress::{ProgressLine, Watcher};
 pub use setting::storm_of;
-pub use tables::{cluster_sql_counted, run_cluster_sql};

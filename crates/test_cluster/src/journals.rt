@@ -4,10 +4,11 @@ use fr_audit_journal::Journal;
 use fr_audit_script::{read_script, write_script};
 use fr_cli_cluster::{
     ClusterOptions, ClusterWords, DEFAULTS, NoFaults, PlainRack, ProgressLine, cluster_counted,
-    run_cluster, run_cluster_sql,
+    run_cluster, run_cluster_on,
 };
 use fr_cli_json::CallCounts;
 use fr_run_event::Config;
+use fr_runtime_disks::DiskRack;
 use std::alloc::Global;
 use std::fmt::{Display, Write as _};
 use std::io::{Eprint, Write};
@@ -34,7 +35,7 @@ fn runs<R: Threads + Wait + Sync>(
 ) -> Result<bool, Fail> {
     let status = match over {
         Over::Memory => run_cluster(rt, alloc, options, writer)?,
-        Over::Files => run_cluster_sql(rt, alloc, options, writer)?,
+        Over::Files => run_cluster_on(rt, alloc, options, DiskRack::new(), writer)?,
     };
     Ok(status == 0)
 }
