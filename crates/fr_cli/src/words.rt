@@ -98,7 +98,10 @@ fn read_cluster(alloc: Global, matches: &ArgMatches<'_>) -> Result<Request, Erro
         batches: number(matches, "batches", DEFAULTS.batches),
         recoveries: byte(matches, "recoveries", DEFAULTS.recoveries),
         turns: number(matches, "turns", DEFAULTS.turns),
-        storm: matches.get_one::<u16>("storm").unwrap_or(DEFAULTS.storm),
+        storm: share(matches, "storm", DEFAULTS.storm),
+        late: share(matches, "late", DEFAULTS.late),
+        crash: share(matches, "crash", DEFAULTS.crash),
+        lose: share(matches, "lose", DEFAULTS.lose),
         seed: matches.get_one::<u64>("seed").unwrap_or(DEFAULTS.seed),
         journal: matches.get_flag("journal"),
     };
@@ -117,6 +120,11 @@ fn read_cluster(alloc: Global, matches: &ArgMatches<'_>) -> Result<Request, Erro
         ErrorKind::ValueValidation,
         message,
     )?)
+}
+
+/// How many of 256 a word says, or what it says if it is not there.
+fn share(matches: &ArgMatches<'_>, name: &str, default: u16) -> u16 {
+    matches.get_one::<u16>(name).unwrap_or(default)
 }
 
 /// The number of a word, below 256, or what it is if the word is not there.
@@ -283,7 +291,10 @@ fn with_work<'a>(alloc: Global, cluster: Command<'a>) -> Result<Command<'a>, Err
 fn with_storm<'a>(alloc: Global, cluster: Command<'a>) -> Result<Command<'a>, Error> {
     let command = cluster
         .arg(store_word(alloc))?
-        .arg(storm_word(alloc))?
+        .arg(share_word(alloc, "storm", STORM))?
+        .arg(share_word(alloc, "late", LATE))?
+        .arg(share_word(alloc, "crash", CRASH))?
+        .arg(share_word(alloc, "lose", LOSE))?
         .arg(seed_word(alloc))?
         .arg(journal_word(alloc))?;
     Ok(command)
@@ -297,10 +308,26 @@ fn store_word<'a>(alloc: Global) -> Arg<'a> {
     )
 }
 
-fn storm_word<'a>(alloc: Global) -> Arg<'a> {
-    Arg::new(alloc, "storm")
-        .long("storm")
-        .help("How many of 256 asks are lost or repeated, and how often nodes crash, 0 to 256")
+/// What `--storm` says.
+const STORM: &str =
+    "How many of 256 asks are lost or repeated, and how often nodes crash, 0 to 256";
+
+/// What `--late` says.
+const LATE: &str =
+    "How many of 256 of the other asks are late, or what is told of them is, 0 to 256";
+
+/// What `--crash` says.
+const CRASH: &str =
+    "How many of 256 draws crash a node of any generation, or a node that asks, 0 to 256";
+
+/// What `--lose` says.
+const LOSE: &str = "How many of 256 of the other draws lose a log for good, 0 to 256";
+
+/// A word that says how many of 256 draws are a fault.
+fn share_word<'a>(alloc: Global, name: &'a str, help: &'a str) -> Arg<'a> {
+    Arg::new(alloc, name)
+        .long(name)
+        .help(help)
         .value_name("N")
         .value_parser(value_parser!(u16).range(0..=256))
         .default_value("0")

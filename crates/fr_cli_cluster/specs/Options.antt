@@ -24,9 +24,16 @@ pub record HasTime (w : ClusterWords) : Type 0 where
   pub turns_some : 1 ≤ w.turns
   pub turns_few : w.turns ≤ 1000000
 
--- at most 256 of 256 draws are a fault; each seed is one
+-- at most 256 of 256 draws are a fault
+pub record HasStorm (w : ClusterWords) : Type 0 where
+  pub storm : w.storm ≤ 256
+  pub late : w.late ≤ 256
+  pub crash : w.crash ≤ 256
+  pub lose : w.lose ≤ 256
+
+-- each seed is one
 pub record IsWithin (w : ClusterWords) : Type 0 where
   pub nodes : HasNodes w
   pub clients : HasClients w
   pub time : HasTime w
-  pub storm : w.storm ≤ 256
+  pub storm : HasStorm w

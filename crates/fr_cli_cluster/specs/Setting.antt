@@ -25,7 +25,7 @@ ballots_of (suc n) = ballots_of n ++ (((n + 2) * 256 + 1, None) ∷ [])
 
 -- what the faults of a cluster are drawn from
 abbrev pub draws_of : ClusterWords → Draws
-draws_of w = record { seed = w.seed; strength = w.storm; coordinators = w.coordinators; logs = w.logs }
+draws_of w = record { seed = w.seed; strength = w.storm; late = w.late; crashes = w.crash; losses = w.lose; coordinators = w.coordinators; logs = w.logs }
 
 -- what seeds the generators of so many workloads in a storm of this seed, and over how many shards each of them draws
 abbrev pub drawn_by : ℕ → ℕ → ℕ → List (ℕ × ℕ)

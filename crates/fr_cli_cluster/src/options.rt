@@ -1,6 +1,6 @@
 //! The options of `cluster`.
 ghost use Rattle.std.specs.Prelude.{◌≡◌, ◌↔◌, IsSome, IfSome, IsTrue};
-ghost use Rattle.fr_cli_cluster.specs.Options.{HasClients, HasNodes, HasTime, IsWithin};
+ghost use Rattle.fr_cli_cluster.specs.Options.{HasClients, HasNodes, HasStorm, HasTime, IsWithin};
 
 use std::marker::Model;
 
@@ -25,6 +25,12 @@ pub struct ClusterWords {
     pub turns: u32,
     /// How many of 256 asks and of 256 draws of a crash are a fault, 0 to 256.
     pub storm: u16,
+    /// How many of 256 asks that meet no other fault come late, or what is told of them does, 0 to 256.
+    pub late: u16,
+    /// How many of 256 further draws are a crash of a node of any generation, and of a node that asks, 0 to 256.
+    pub crash: u16,
+    /// How many of 256 of these draws that are no crash are the loss of a log, 0 to 256.
+    pub lose: u16,
     /// From what faults, and the batches of a storm, are drawn.
     pub seed: u64,
     /// Whether the script of the audit is printed if it finds a run.
@@ -42,6 +48,9 @@ pub const DEFAULTS: ClusterWords = ClusterWords {
     recoveries: 1,
     turns: 10_000,
     storm: 0,
+    late: 0,
+    crash: 0,
+    lose: 0,
     seed: 1,
     journal: false,
 };
@@ -71,7 +80,7 @@ impl ClusterOptions {
         ensures within { IsSome result ↔ IsWithin words }
         ensures value { IfSome result (λ o. o ≡ words) }
     {
-        if has_nodes(&words) && has_clients(&words) && has_time(&words) && words.storm <= 256 {
+        if has_nodes(&words) && has_clients(&words) && has_time(&words) && has_storm(&words) {
             Some(ClusterOptions { words })
         } else {
             None
@@ -105,6 +114,13 @@ fn has_clients(words: &ClusterWords) -> bool
     ensures { IsTrue result ↔ HasClients words.now }
 {
     1 <= words.storages && words.storages <= 32 && 1 <= words.proxies && words.proxies <= 16
+}
+
+/// Whether no more than all draws are a fault.
+fn has_storm(words: &ClusterWords) -> bool
+    ensures { IsTrue result ↔ HasStorm words.now }
+{
+    words.storm <= 256 && words.late <= 256 && words.crash <= 256 && words.lose <= 256
 }
 
 /// Whether so many batches, recoveries and turns are not too many.

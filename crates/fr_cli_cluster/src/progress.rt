@@ -5,7 +5,7 @@ use crate::options::ClusterOptions;
 use fr_ask::Ask;
 use fr_base::{Ballot, NodeId, Tag};
 use fr_log::LogAsk;
-use fr_runtime_station::{Faults, NoFaults, Verdict};
+use fr_runtime_station::{Blow, Chosen, Faults, NoFaults, Verdict};
 use fr_runtime_storm::Storm;
 use std::io::Eprint;
 use std::sync::atomic::{AtomicU64, Ordering};
@@ -92,7 +92,9 @@ impl<E: Eprint, F: Faults> Faults for Progress<'_, E, F> {
 
     ghost MayBefall = { λ p. F.MayBefall p.faults.now };
 
-    ghost MayCrash = { λ p. F.MayCrash p.faults.now };
+    ghost MayStrike = { λ p. F.MayStrike p.faults.now };
+
+    ghost MayEnd = { λ p. F.MayEnd p.faults.now };
 
     fn verdict(&self, to: NodeId, ask: &Ask) -> Verdict {
         if let NodeId::Log { epoch, .. } = to {
@@ -108,8 +110,12 @@ impl<E: Eprint, F: Faults> Faults for Progress<'_, E, F> {
         self.faults.answered(to, ask);
     }
 
-    fn crash(&self, turn: u32) -> Option<NodeId> {
-        self.faults.crash(turn)
+    fn strikes(&self, turn: u32, chosen: &[Chosen]) -> Option<Blow> {
+        self.faults.strikes(turn, chosen)
+    }
+
+    fn ends(&self, node: NodeId, turn: u32) -> bool {
+        self.faults.ends(node, turn)
     }
 
     fn begins(&self, ballot: Ballot, turn: u32) -> bool {

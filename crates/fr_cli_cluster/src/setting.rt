@@ -65,6 +65,9 @@ pub fn storm_of(options: ClusterOptions) -> Storm
     Storm::new(Draws {
         seed: words.seed,
         strength: words.storm,
+        late: words.late,
+        crashes: words.crash,
+        losses: words.lose,
         coordinators: words.coordinators,
         logs: words.logs,
     })

@@ -55,6 +55,9 @@ const GREATEST: ClusterWords = ClusterWords {
     recoveries: 2,
     turns: 120,
     storm: 0,
+    late: 0,
+    crash: 0,
+    lose: 0,
     seed: 1,
     journal: false,
 };
@@ -115,7 +118,7 @@ fn what_is_printed_is_read_back_and_is_a_run(rt: HostRuntime) -> Result<(), Fail
     Ok(())
 }
 
-static OTHERS: [ClusterWords; 5] = [
+static OTHERS: [ClusterWords; 8] = [
     ClusterWords {
         coordinators: 4,
         ..DEFAULTS
@@ -134,6 +137,18 @@ static OTHERS: [ClusterWords; 5] = [
     },
     ClusterWords {
         storm: 257,
+        ..DEFAULTS
+    },
+    ClusterWords {
+        late: 257,
+        ..DEFAULTS
+    },
+    ClusterWords {
+        crash: 257,
+        ..DEFAULTS
+    },
+    ClusterWords {
+        lose: 257,
         ..DEFAULTS
     },
 ];
