@@ -1,5 +1,7 @@
 //! The command `cluster` on each kind of store.
-use fr_cli_cluster::{ClusterOptions, PlainRack, Progress, Watcher, cluster_counted, storm_of};
+use fr_cli_cluster::{
+    ClusterOptions, PlainRack, Progress, Tally, Watcher, cluster_counted, storm_of,
+};
 use fr_cli_cluster_sql::cluster_sql_counted;
 use fr_cli_json::{CallCounts, CliFault};
 use fr_cli_words::StoreKind;
@@ -8,24 +10,27 @@ use std::io::{Eprint, Write};
 use std::sync::Wait;
 use std::thread::Threads;
 
-/// Runs a cluster whose stores are of a kind, in the storm of its words. If there is a terminal, it says there how far
-/// it has come.
+/// Runs a cluster whose stores are of a kind, in the storm of its words. On a terminal, it says there how far it has
+/// come; there, and where the words ask for it, it says at the end what was met.
 pub(crate) fn cluster_on<H: Threads + Wait + Sync, E: Eprint + Sync, W: Write>(
     kind: StoreKind,
     rt: &H,
-    terminal: Option<&E>,
+    errors: &E,
+    is_terminal: bool,
     alloc: Global,
     options: ClusterOptions,
     writer: &mut W,
 ) -> Result<u8, CliFault> {
     let storm = storm_of(options);
-    match terminal {
-        Some(terminal) => {
-            let progress = Progress::new(terminal, &storm, options);
-            watched(kind, rt, alloc, options, &progress, writer)
-        }
-        None => watched(kind, rt, alloc, options, &storm, writer),
+    let tally = Tally::new(errors, &storm);
+    if is_terminal {
+        let progress = Progress::new(errors, &tally, options);
+        return watched(kind, rt, alloc, options, &progress, writer);
     }
+    if options.words().counts {
+        return watched(kind, rt, alloc, options, &tally, writer);
+    }
+    watched(kind, rt, alloc, options, &storm, writer)
 }
 
 /// The same, with who watches it.

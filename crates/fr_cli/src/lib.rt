@@ -38,14 +38,11 @@ pub fn run_main<H: Threads + Wait + Sync>(rt: &HostRuntime, threads: &H) -> Exit
         return Ending::Fault(CliFault::Memory).say(rt);
     };
     let mut reader = rt.reader();
-    let terminal = if rt.stderr().is_terminal() {
-        Some(rt)
-    } else {
-        None
-    };
+    let is_terminal = rt.stderr().is_terminal();
     run_program(
         threads,
-        terminal,
+        rt,
+        is_terminal,
         rt,
         alloc,
         words.as_slice(),

@@ -13,11 +13,12 @@ use std::io::{Eprint, Read, Write};
 use std::sync::Wait;
 use std::thread::Threads;
 
-/// Does what the words ask for, the first of which is the program's name. If there is a terminal, a cluster that runs
-/// says there how far it has come. Files are those of `host`.
+/// Does what the words ask for, the first of which is the program's name. A cluster says what it met to `errors`, and if
+/// this is a terminal how far it has come. Files are those of `host`.
 pub fn run_program<H: Threads + Wait + Sync, E: Eprint + Sync, R: Read, W: Write>(
     rt: &H,
-    terminal: Option<&E>,
+    errors: &E,
+    is_terminal: bool,
     host: &HostRuntime,
     alloc: Global,
     words: &[String],
@@ -38,7 +39,7 @@ pub fn run_program<H: Threads + Wait + Sync, E: Eprint + Sync, R: Read, W: Write
         Request::Simulate => ending(run_simulate(alloc, reader, writer)),
         Request::Audit => ending(run_audit(alloc, reader, writer)),
         Request::Cluster(kind, options) => {
-            cluster_ending(cluster_on(kind, rt, terminal, alloc, options, writer))
+            cluster_ending(cluster_on(kind, rt, errors, is_terminal, alloc, options, writer))
         }
     }
 }

@@ -104,6 +104,7 @@ fn read_cluster(alloc: Global, matches: &ArgMatches<'_>) -> Result<Request, Erro
         lose: share(matches, "lose", DEFAULTS.lose),
         seed: matches.get_one::<u64>("seed").unwrap_or(DEFAULTS.seed),
         journal: matches.get_flag("journal"),
+        counts: matches.get_flag("counts"),
     };
     if let Some(options) = ClusterOptions::new(words) {
         return Ok(Request::Cluster(read_store(matches), options));
@@ -296,7 +297,8 @@ fn with_storm<'a>(alloc: Global, cluster: Command<'a>) -> Result<Command<'a>, Er
         .arg(share_word(alloc, "crash", CRASH))?
         .arg(share_word(alloc, "lose", LOSE))?
         .arg(seed_word(alloc))?
-        .arg(journal_word(alloc))?;
+        .arg(journal_word(alloc))?
+        .arg(counts_word(alloc))?;
     Ok(command)
 }
 
@@ -348,6 +350,13 @@ fn journal_word<'a>(alloc: Global) -> Arg<'a> {
     Arg::new(alloc, "journal")
         .long("journal")
         .help("Prints the script of the audit in place of 'audit ok'")
+        .action(ArgAction::SetTrue)
+}
+
+fn counts_word<'a>(alloc: Global) -> Arg<'a> {
+    Arg::new(alloc, "counts")
+        .long("counts")
+        .help("Says at the end on standard error what was met, as on a terminal")
         .action(ArgAction::SetTrue)
 }
 

@@ -93,6 +93,9 @@ pub fn cluster_counted<
     let Ok(ran) = ran else {
         return Err(CliFault::Memory);
     };
+    if let Ok(report) = &ran {
+        faults.shows(report.journals.as_slice());
+    }
     let status = put_report(alloc, &words, faults, ran, calls, writer)?;
     calls.flush(writer)?;
     Ok(status)

@@ -35,6 +35,8 @@ pub struct ClusterWords {
     pub seed: u64,
     /// Whether the script of the audit is printed if it finds a run.
     pub journal: bool,
+    /// Whether what was met is said where there is no terminal either.
+    pub counts: bool,
 }
 
 /// What is run if the words say nothing.
@@ -53,6 +55,7 @@ pub const DEFAULTS: ClusterWords = ClusterWords {
     lose: 0,
     seed: 1,
     journal: false,
+    counts: false,
 };
 
 /// Words whose numbers are those of a cluster. Contracts see them as the words.

@@ -3,6 +3,7 @@ ghost use Rattle.std.specs.Prelude.{◌≡◌};
 
 use crate::options::ClusterOptions;
 use fr_ask::Ask;
+use fr_audit_journal::Journal;
 use fr_base::{Ballot, NodeId, Tag};
 use fr_log::LogAsk;
 use fr_runtime_station::{Blow, Chosen, Faults, NoFaults, Verdict};
@@ -17,6 +18,9 @@ const TURNS_A_LINE: u64 = 512;
 pub trait Watcher: Faults {
     /// The audit has spoken. Nothing of the report is written yet.
     fn end(&self);
+
+    /// These journals are a run. Nothing of the report is written yet.
+    fn shows(&self, _journals: &[Journal]) {}
 }
 
 impl Watcher for NoFaults {
@@ -73,10 +77,15 @@ impl<'a, E: Eprint, F> Progress<'a, E, F> {
     }
 }
 
-impl<E: Eprint, F: Faults> Watcher for Progress<'_, E, F> {
+impl<E: Eprint, F: Watcher> Watcher for Progress<'_, E, F> {
     fn end(&self) {
         self.show(self.turns.load(Ordering::SeqCst), ", audited  ");
         let _ = eprintln!(self.to; "");
+        self.faults.end();
+    }
+
+    fn shows(&self, journals: &[Journal]) {
+        self.faults.shows(journals);
     }
 }
 

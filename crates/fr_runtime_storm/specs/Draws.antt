@@ -1,5 +1,5 @@
 -- What a seed draws, and what happens to an ask or a node by a word.
-use Rattle.std.specs.Prelude.{ℕ, ◌+◌, ◌-◌, ◌/◌, ◌%◌, ◌^◌, ◌==◌, Bool, false, nat_lt, length, slice_get, List, Option, None, Some, if◌then◌else◌}
+use Rattle.std.specs.Prelude.{ℕ, ◌+◌, ◌-◌, ◌/◌, ◌%◌, ◌^◌, ◌==◌, ◌&&◌, ◌||◌, Bool, false, nat_lt, length, slice_get, List, Option, None, Some, if◌then◌else◌}
 use Rattle.rand_core.specs.Pcg32Seed.{pcg32_seed}
 use Rattle.rand_pcg.specs.Lcg.{Lcg}
 use Rattle.rand_pcg.specs.Pcg.{pcg32, pcg32_of_seed}
@@ -75,8 +75,8 @@ named_by chosen word = slice_get chosen (word / 65536 % length chosen)
 abbrev pub strike_at : ℕ → ℕ → ℕ → ℕ → ℕ → ℕ → List Chosen → ℕ → Option Blow
 strike_at strength cells logs crashes losses turn chosen word =
     if turn % 64 == 0 then crash_of strength cells logs word
-    else (if turn % 64 == 32 then blow_at crashes losses (named_by chosen word) word else None)
+    else (if turn % 64 == 32 && (nat_lt 0 crashes || nat_lt 0 losses) then blow_at crashes losses (named_by chosen word) word else None)
 
 -- whether a node that asks is gone from a turn on: it may be from each 64th
 abbrev pub end_at : ℕ → ℕ → ℕ → Bool
-end_at crashes turn word = if turn % 64 == 0 then nat_lt (word % 256) crashes else false
+end_at crashes turn word = if turn % 64 == 0 && nat_lt 0 crashes then nat_lt (word % 256) crashes else false

@@ -45,6 +45,17 @@ fn after_saying(under_way: UnderWay, outcome: Outcome) -> UnderWay
     }
 }
 
+/// Enters that a proxy crashed, if there is a stamp for it: no batch is taken or spoken of by that.
+fn enter_crash(notes: &mut Notes) -> Result<(), Memory>
+    ensures place { notes.new.journal.node ≡ notes.old.journal.node }
+    ensures account { account notes.new.journal.entries ≡ account notes.old.journal.entries }
+{
+    if let Some(stamp) = notes.next()? {
+        notes.enter(stamp, Act::Crashed);
+    }
+    Ok(())
+}
+
 impl Door {
     /// The proxy of a number in a generation, of as many logs as that has, for a thread that has seen this stamp.
     pub(crate) fn new(
@@ -124,9 +135,7 @@ impl Door {
             ≡ (account self.old.notes.journal.entries).given }
         ensures gone { OnOk result (self.new.is_gone ≡ true) }
     {
-        if let Some(stamp) = self.notes.next()? {
-            self.notes.enter(stamp, Act::Crashed);
-        }
+        enter_crash(&mut self.notes)?;
         self.is_over = true;
         self.is_gone = true;
         Ok(())

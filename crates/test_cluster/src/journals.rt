@@ -60,6 +60,7 @@ const GREATEST: ClusterWords = ClusterWords {
     lose: 0,
     seed: 1,
     journal: false,
+    counts: false,
 };
 
 #[test]
