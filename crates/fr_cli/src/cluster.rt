@@ -1,4 +1,5 @@
 //! The command `cluster` on each kind of store.
+use fr_base::Shape;
 use fr_cli_cluster::{
     ClusterOptions, PlainRack, Progress, Tally, Watcher, cluster_counted, storm_of,
 };
@@ -19,18 +20,19 @@ pub(crate) fn cluster_on<H: Threads + Wait + Sync, E: Eprint + Sync, W: Write>(
     is_terminal: bool,
     alloc: Global,
     options: ClusterOptions,
+    shapes: &[Shape],
     writer: &mut W,
 ) -> Result<u8, CliFault> {
     let storm = storm_of(options);
     let tally = Tally::new(errors, &storm);
     if is_terminal {
         let progress = Progress::new(errors, &tally, options);
-        return watched(kind, rt, alloc, options, &progress, writer);
+        return watched(kind, rt, alloc, options, shapes, &progress, writer);
     }
     if options.words().counts {
-        return watched(kind, rt, alloc, options, &tally, writer);
+        return watched(kind, rt, alloc, options, shapes, &tally, writer);
     }
-    watched(kind, rt, alloc, options, &storm, writer)
+    watched(kind, rt, alloc, options, shapes, &storm, writer)
 }
 
 /// The same, with who watches it.
@@ -39,14 +41,15 @@ fn watched<H: Threads + Wait + Sync, F: Watcher + Sync, W: Write>(
     rt: &H,
     alloc: Global,
     options: ClusterOptions,
+    shapes: &[Shape],
     watcher: &F,
     writer: &mut W,
 ) -> Result<u8, CliFault> {
     let mut calls = CallCounts::new();
     match kind {
         StoreKind::Map => {
-            cluster_counted(rt, alloc, options, PlainRack, watcher, &mut calls, writer)
+            cluster_counted(rt, alloc, options, shapes, PlainRack, watcher, &mut calls, writer)
         }
-        StoreKind::Sql => cluster_sql_counted(rt, alloc, options, watcher, &mut calls, writer),
+        StoreKind::Sql => cluster_sql_counted(rt, alloc, options, shapes, watcher, &mut calls, writer),
     }
 }

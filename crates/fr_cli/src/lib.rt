@@ -7,6 +7,7 @@ mod apply;
 mod cluster;
 mod help;
 mod program;
+mod shapes;
 mod words;
 
 pub use fr_cli_apply::{ApplyOptions, run_apply, run_apply_on};

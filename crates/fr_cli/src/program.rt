@@ -38,8 +38,18 @@ pub fn run_program<H: Threads + Wait + Sync, E: Eprint + Sync, R: Read, W: Write
         Request::End(options) => ending(run_end(alloc, options, reader, writer)),
         Request::Simulate => ending(run_simulate(alloc, reader, writer)),
         Request::Audit => ending(run_audit(alloc, reader, writer)),
-        Request::Cluster(kind, options) => {
-            cluster_ending(cluster_on(kind, rt, errors, is_terminal, alloc, options, writer))
+        Request::Cluster(kind, options, shapes) => {
+            let shapes = shapes.as_slice();
+            cluster_ending(cluster_on(
+                kind,
+                rt,
+                errors,
+                is_terminal,
+                alloc,
+                options,
+                shapes,
+                writer,
+            ))
         }
     }
 }

@@ -1,7 +1,9 @@
 //! The words of the command line.
 use crate::help::{AUDIT_HELP, CLUSTER_HELP, END_HELP, SIMULATE_HELP};
+use crate::shapes::{SHAPES_BAD, shapes_of, shapes_word};
 use clap::error::{Error, ErrorKind};
 use clap::{Arg, ArgAction, ArgMatches, Command, value_parser};
+use fr_base::Shape;
 use fr_cli_cluster::{ClusterOptions, ClusterWords, DEFAULTS};
 use fr_cli_end::EndOptions;
 use fr_cli_words::{
@@ -25,8 +27,9 @@ pub enum Request {
     Simulate,
     /// The audit of a script's journals.
     Audit,
-    /// A cluster in threads, whose stores are of this kind, and the audit of its journals.
-    Cluster(StoreKind, ClusterOptions),
+    /// A cluster in threads, whose stores are of this kind, the audit of its journals, and the shapes of the generations
+    /// that recoveries open, in turn.
+    Cluster(StoreKind, ClusterOptions, Vec<Shape>),
 }
 
 /// Reads the words, the first of which is the program's name. An error is a request for help or a
@@ -107,7 +110,13 @@ fn read_cluster(alloc: Global, matches: &ArgMatches<'_>) -> Result<Request, Erro
         counts: matches.get_flag("counts"),
     };
     if let Some(options) = ClusterOptions::new(words) {
-        return Ok(Request::Cluster(read_store(matches), options));
+        return match shapes_of(alloc, matches.get_str("shapes").unwrap_or(""))? {
+            Some(shapes) => Ok(Request::Cluster(read_store(matches), options, shapes)),
+            None => {
+                let cluster = cluster_command(alloc)?;
+                Err(bad_words(cluster, "fdbrec cluster", ErrorKind::ValueValidation, SHAPES_BAD)?)
+            }
+        };
     }
     let message = if words.coordinators % 2 == 0 {
         "the value of '--coordinators <N>' is even: it can be 1, 3, 5, 7 or 9"
@@ -292,6 +301,7 @@ fn with_work<'a>(alloc: Global, cluster: Command<'a>) -> Result<Command<'a>, Err
 fn with_storm<'a>(alloc: Global, cluster: Command<'a>) -> Result<Command<'a>, Error> {
     let command = cluster
         .arg(store_word(alloc))?
+        .arg(shapes_word(alloc))?
         .arg(share_word(alloc, "storm", STORM))?
         .arg(share_word(alloc, "late", LATE))?
         .arg(share_word(alloc, "crash", CRASH))?

@@ -260,6 +260,7 @@ fn is_told<R: Threads + Wait + Sync>(
         rt,
         alloc,
         options,
+        &[],
         PlainRack,
         &progress,
         &mut calls,
