@@ -159,8 +159,9 @@ fn exchange<K: Rack, F: Faults, R: Wait, H: Hearer>(
     ensures given { H.given hearer.new ≡ H.given hearer.old }
     ensures told { H.told hearer.new ≡ H.told hearer.old }
 {
-    match call(site, hearer, by, to, ask)? {
-        Some((at, tell)) => hear(site, hearer, by, at, *to, tell),
+    let (sender, from) = (by, *to);
+    match call(site, hearer, sender, to, ask)? {
+        Some((at, tell)) => hear(site, hearer, by, at, from, tell),
         None => Ok(()),
     }
 }
