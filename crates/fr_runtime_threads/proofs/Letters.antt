@@ -1,26 +1,18 @@
--- What comes of kept messages, one after the other.
-use Rattle.std.proofs.Common.{◌≡◌, ◌≤◌, ◌<◌, ◌∙◌, ap, sym, List, [], ◌∷◌, ◌++◌, refl, Bool, true, false}
+-- Loops that put items behind others.
+use Rattle.std.proofs.Common.{sym, ap, ◌∙◌}
 use Rattle.std.proofs.lemmas.List.{append-nil, append_assoc}
-use Rattle.std.specs.Prelude.{nat_le, ◌-◌}
-use Rattle.fr_runtime_threads.specs.declared.late.Letter.{Letter}
-use Rattle.fr_runtime_threads.specs.Late.{due_of, left_of}
+use Rattle.std.specs.Prelude.{◌≡◌, ◌++◌, ◌∷◌, List, []}
 
--- one comes, and what comes of the rest follows it
-pub comes : (due new rest all : List Letter) (l : Letter) (whole : List Letter) → nat_le l.turns 1 ≡ true → all ≡ l ∷ rest → new ≡ due ++ l ∷ []
-    → due ++ due_of all ≡ whole → new ++ due_of rest ≡ whole
-comes due new rest all l whole now is grows before =
-    rw grows (append_assoc due (l ∷ []) (due_of rest) ∙ (sym (ap (λ (s : List Letter). due ++ s) (rw (is, now) refl)) ∙ before))
+-- what is put, and what comes of those that are left, are what came of them before
+pub put-more : {A B : Type 0} (f : List A → List B) (zs more y total : List B) (x : A) (xs rest : List A)
+    → more ≡ zs ++ y → xs ≡ x ∷ rest → f (x ∷ rest) ≡ y ++ f rest → zs ++ f xs ≡ total → more ++ f rest ≡ total
+put-more f zs more y total x xs rest put next step inv =
+    ap (λ (l : List _). l ++ f rest) put
+    ∙ (append_assoc zs y (f rest)
+    ∙ (ap (λ (l : List _). zs ++ l) (sym step)
+    ∙ (ap (λ (l : List _). zs ++ f l) (sym next) ∙ inv)))
 
-pub comes-not-left : (left rest all : List Letter) (l : Letter) (whole : List Letter) → nat_le l.turns 1 ≡ true → all ≡ l ∷ rest
-    → left ++ left_of all ≡ whole → left ++ left_of rest ≡ whole
-comes-not-left left rest all l whole now is before = sym (ap (λ (s : List Letter). left ++ s) (rw (is, now) refl)) ∙ before
-
--- one is left, a turn nearer
-pub is-left : (left new rest all : List Letter) (l m : Letter) (whole : List Letter) → nat_le l.turns 1 ≡ false → all ≡ l ∷ rest
-    → m ≡ record l { turns = l.turns - 1 } → new ≡ left ++ m ∷ [] → left ++ left_of all ≡ whole → new ++ left_of rest ≡ whole
-is-left left new rest all l m whole later is nearer grows before =
-    rw (grows, nearer) (append_assoc left (record l { turns = l.turns - 1 } ∷ []) (left_of rest) ∙ (sym (ap (λ (s : List Letter). left ++ s) (rw (is, later) refl)) ∙ before))
-
-pub left-comes-not : (due rest all : List Letter) (l : Letter) (whole : List Letter) → nat_le l.turns 1 ≡ false → all ≡ l ∷ rest
-    → due ++ due_of all ≡ whole → due ++ due_of rest ≡ whole
-left-comes-not due rest all l whole later is before = sym (ap (λ (s : List Letter). due ++ s) (rw (is, later) refl)) ∙ before
+-- where none is left
+pub put-all : {A B : Type 0} (f : List A → List B) (zs total : List B) (xs : List A) → xs ≡ [] → f [] ≡ [] → zs ++ f xs ≡ total → zs ≡ total
+put-all f zs total xs none nothing inv =
+    sym (append-nil zs) ∙ (ap (λ (l : List _). zs ++ l) (sym nothing) ∙ (ap (λ (l : List _). zs ++ f l) (sym none) ∙ inv))

@@ -50,9 +50,10 @@ fn enter_crash(notes: &mut Notes) -> Result<(), Memory>
     ensures place { notes.new.journal.node ≡ notes.old.journal.node }
     ensures account { account notes.new.journal.entries ≡ account notes.old.journal.entries }
 {
-    if let Some(stamp) = notes.next()? {
-        notes.enter(stamp, Act::Crashed);
-    }
+    let Some(stamp) = notes.next()? else {
+        return Ok(());
+    };
+    notes.enter(stamp, Act::Crashed);
     Ok(())
 }
 

@@ -1,6 +1,6 @@
 //! What a thread keeps of what comes late.
 ghost use Rattle.std.specs.Prelude.{◌≡◌, ◌<◌, ◌-◌, ◌++◌, ◌∷◌, [], IfOk, OnOk};
-ghost use Rattle.fr_runtime_threads.specs.Late.{due_of, left_of};
+ghost use Rattle.fr_runtime_threads.specs.Late.{due_by, due_of, left_by, left_of};
 
 use fr_ask::{Ask, Tell};
 use fr_base::{Memory, NodeId, Stamp};
@@ -55,13 +55,20 @@ impl Late {
         let kept = std::mem::replace(&mut self.letters, Vec::new(alloc));
         let mut due = Vec::new(alloc);
         for letter in kept {
-            if letter.turns <= 1 {
-                put(&mut due, letter)?;
-            } else {
-                put(&mut self.letters, nearer(letter))?;
-            }
+            self.sort(&mut due, letter)?;
         }
         Ok(due)
+    }
+
+    /// Puts a message to those that come, or a turn nearer to those that are kept.
+    fn sort(&mut self, due: &mut Vec<Letter>, letter: Letter) -> Result<(), Memory>
+        ensures due { OnOk result (due.new.items ≡ due.old.items ++ due_by letter) }
+        ensures left { OnOk result (self.new.letters.items ≡ self.old.letters.items ++ left_by letter) }
+    {
+        if letter.turns <= 1 {
+            return put(due, letter);
+        }
+        put(&mut self.letters, nearer(letter))
     }
 }
 

@@ -93,9 +93,10 @@ impl Recovery {
         ensures node { self.new.notes.journal.node ≡ self.old.notes.journal.node }
         ensures shape { self.new.shape ≡ self.old.shape }
     {
-        if let Some(stamp) = self.notes.next()? {
-            self.notes.enter(stamp, Act::Crashed);
-        }
+        let Some(stamp) = self.notes.next()? else {
+            return Ok(());
+        };
+        self.notes.enter(stamp, Act::Crashed);
         Ok(())
     }
 }
