@@ -56,7 +56,7 @@ impl Counts {
     }
 
     /// What the journals of a run show.
-    pub fn of(journals: &[Journal]) -> Self {
+    pub fn over(journals: &[Journal]) -> Self {
         let mut counts = Counts::new();
         for journal in journals {
             counts.count(journal);
@@ -149,13 +149,17 @@ fn add(number: &mut u64, is_so: bool) {
     }
 }
 
-/// A storage server as its journal shows it: its epoch, none yet for that of the start, its version, and the generations
-/// that it knows.
+/// The first of some generations whose epoch is above another, if there is one.
+fn after(gens: &[Generation], epoch: u64) -> Option<Generation> {
+    gens.iter().copied().find(|g| g.epoch().get() > epoch)
+}
+
+/// A storage server as its journal shows it: its epoch, its version, and the generations that it knows, none at the start.
 #[derive(Drop)]
 struct Server<'a> {
     epoch: u64,
     version: u64,
-    known: &'a [Generation],
+    known: Option<&'a [Generation]>,
 }
 
 impl<'a> Server<'a> {
@@ -164,13 +168,19 @@ impl<'a> Server<'a> {
         Server {
             epoch: 257,
             version: 0,
-            known: &[],
+            known: None,
         }
     }
 
-    /// The first of some generations whose epoch is above another, if there is one.
-    fn after(known: &[Generation], epoch: u64) -> Option<Generation> {
-        known.iter().copied().find(|g| g.epoch().get() > epoch)
+    /// The last version of an epoch, as far as the server knows.
+    fn end_of(&self, epoch: Epoch) -> u64 {
+        match self.known {
+            Some(known) => match after(known, epoch.get()) {
+                Some(next) => next.first().get().saturating_sub(1),
+                None => u64::MAX,
+            },
+            None => u64::MAX,
+        }
     }
 
     /// Hears what a log of an epoch tells, all of it or through a version: how many versions it undoes.
@@ -178,10 +188,10 @@ impl<'a> Server<'a> {
         match tell {
             LogTell::Marked { state } => self.hear_marked(state.gens(), taken),
             LogTell::Peeked(peeked) => {
-                let reached = match (taken, Server::after(self.known, epoch.get())) {
-                    (Some(version), _) => version.get(),
-                    (None, Some(next)) => peeked.upto().get().min(next.first().get().saturating_sub(1)),
-                    (None, None) => peeked.upto().get(),
+                let end = self.end_of(epoch).min(peeked.upto().get());
+                let reached = match taken {
+                    Some(version) => version.get(),
+                    None => end,
                 };
                 self.version = self.version.max(reached);
                 0
@@ -195,14 +205,14 @@ impl<'a> Server<'a> {
         let Some(last) = gens.last() else {
             return 0;
         };
-        let Some(next) = Server::after(gens, self.epoch) else {
+        let Some(next) = after(gens, self.epoch) else {
             return 0;
         };
         let before = self.version;
         self.version = before.min(next.seeded_to().get());
         if taken.is_none() {
             self.epoch = last.epoch().get();
-            self.known = gens;
+            self.known = Some(gens);
         }
         before.saturating_sub(self.version)
     }
@@ -257,9 +267,8 @@ impl<'a, E: Eprint, F> Tally<'a, E, F> {
         let repeated = self.repeated.load(Ordering::SeqCst);
         let late = self.asks_late.load(Ordering::SeqCst);
         let heard_late = self.tells_late.load(Ordering::SeqCst);
-        let _ = eprint!(self.to;
-            "asks: {passed} plain, {lost} lost, {late} late, {repeated} repeated; tells: {untold} lost, {heard_late} late; "
-        );
+        let _ = eprint!(self.to; "asks: {passed} plain, {lost} lost, {late} late, {repeated} repeated; ");
+        let _ = eprint!(self.to; "tells: {untold} lost, {heard_late} late; ");
     }
 
     /// Says what the journals show.
@@ -267,14 +276,12 @@ impl<'a, E: Eprint, F> Tally<'a, E, F> {
         let (asked, heard) = (counts.asked, counts.heard);
         let (crashed, lost) = (counts.crashed, counts.lost);
         let (chosen, beaten) = (counts.chosen, counts.beaten);
-        let _ = eprint!(self.to;
-            "served {asked}, heard {heard}; crashes {crashed}, logs lost {lost}; recoveries: {chosen} chosen, {beaten} lost; "
-        );
+        let _ = eprint!(self.to; "served {asked}, heard {heard}; crashes {crashed}, logs lost {lost}; ");
+        let _ = eprint!(self.to; "recoveries: {chosen} chosen, {beaten} lost; ");
         let (rollbacks, undone) = (counts.rollbacks, counts.undone);
         let (committed, ended, waiting) = (counts.committed, counts.ended, counts.waiting);
-        let _ = eprintln!(self.to;
-            "rollbacks {rollbacks}, versions undone {undone}; batches: {committed} committed, {ended} ended, {waiting} waiting"
-        );
+        let _ = eprint!(self.to; "rollbacks {rollbacks}, versions undone {undone}; ");
+        let _ = eprintln!(self.to; "batches: {committed} committed, {ended} ended, {waiting} waiting");
     }
 }
 
@@ -285,7 +292,7 @@ impl<E: Eprint, F: Watcher> Watcher for Tally<'_, E, F> {
 
     fn shows(&self, journals: &[Journal]) {
         self.show_asks();
-        self.show_counts(&Counts::of(journals));
+        self.show_counts(&Counts::over(journals));
         self.faults.shows(journals);
     }
 }

@@ -129,13 +129,13 @@ fn run<R: Threads + Wait + Sync>(rt: &R, alloc: Global, faults: Overtaken) -> Re
 }
 
 /// What is entered of a node.
-fn entries(journals: &[Journal], node: NodeId) -> &[Entry] {
+fn entries(journals: &[Journal], node: NodeId) -> Result<&[Entry], Fail> {
     for journal in journals {
         if journal.node() == node {
-            return journal.entries();
+            return Ok(journal.entries());
         }
     }
-    &[]
+    Err(Fail::from("no journal"))
 }
 
 /// Whether what a log of the first epoch has was heard after the mark of a later one.
@@ -171,7 +171,7 @@ fn server() -> Result<NodeId, Fail> {
 #[test]
 fn a_tell_late_by_64_turns_is_overtaken_by_a_recovery(rt: HostRuntime) -> Result<(), Fail> {
     let report = run(&rt, rt.alloc(), Overtaken::Tells)?;
-    assert!(rt; is_overtaken(entries(report.journals.as_slice(), server()?)));
+    assert!(rt; is_overtaken(entries(report.journals.as_slice(), server()?)?));
     Ok(())
 }
 
@@ -234,12 +234,12 @@ fn the_tag_of_a_lost_log_comes_from_the_others(rt: HostRuntime) -> Result<(), Fa
             index: 1,
         },
     );
-    let stamp = lost_at(entries(journals, log)).ok_or("a lost log")?;
+    let stamp = lost_at(entries(journals, log)?).ok_or("a lost log")?;
     let proxy = NodeId::Proxy {
         epoch: next,
         number: 0,
     };
-    assert!(rt; is_heard_after(entries(journals, server()?), other, stamp));
-    assert!(rt; has_committed(entries(journals, proxy)));
+    assert!(rt; is_heard_after(entries(journals, server()?)?, other, stamp));
+    assert!(rt; has_committed(entries(journals, proxy)?));
     Ok(())
 }
