@@ -48,8 +48,12 @@ fn watched<H: Threads + Wait + Sync, F: Watcher + Sync, W: Write>(
     let mut calls = CallCounts::new();
     match kind {
         StoreKind::Map => {
-            cluster_counted(rt, alloc, options, shapes, PlainRack, watcher, &mut calls, writer)
+            cluster_counted(
+                rt, alloc, options, shapes, PlainRack, watcher, &mut calls, writer,
+            )
         }
-        StoreKind::Sql => cluster_sql_counted(rt, alloc, options, shapes, watcher, &mut calls, writer),
+        StoreKind::Sql => cluster_sql_counted(
+            rt, alloc, options, shapes, watcher, &mut calls, writer,
+        ),
     }
 }

@@ -7,13 +7,16 @@ use std::alloc::Global;
 pub(crate) fn shapes_word<'a>(alloc: Global) -> Arg<'a> {
     Arg::new(alloc, "shapes")
         .long("shapes")
-        .help("How many logs the generation of each recovery has in turn, and its degree, as 5:3,1:1")
+        .help(
+            "How many logs the generation of each recovery has in turn, and its degree, as 5:3,1:1",
+        )
         .value_name("M:K,..")
         .action(ArgAction::Set)
 }
 
 /// Why shapes are bad words.
-pub(crate) const SHAPES_BAD: &str = "the value of '--shapes <M:K,..>' is not of logs, 1 to 16, and degrees, 1 to all of them";
+pub(crate) const SHAPES_BAD: &str =
+    "the value of '--shapes <M:K,..>' is not of logs, 1 to 16, and degrees, 1 to all of them";
 
 /// The shapes that a text gives, as 5:3,1:1, if it gives some: of each how many logs there are, 1 to 16, and the degree,
 /// 1 to all of them. No text gives none.

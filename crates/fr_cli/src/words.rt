@@ -114,7 +114,12 @@ fn read_cluster(alloc: Global, matches: &ArgMatches<'_>) -> Result<Request, Erro
             Some(shapes) => Ok(Request::Cluster(read_store(matches), options, shapes)),
             None => {
                 let cluster = cluster_command(alloc)?;
-                Err(bad_words(cluster, "fdbrec cluster", ErrorKind::ValueValidation, SHAPES_BAD)?)
+                Err(bad_words(
+                    cluster,
+                    "fdbrec cluster",
+                    ErrorKind::ValueValidation,
+                    SHAPES_BAD,
+                )?)
             }
         };
     }

@@ -267,7 +267,9 @@ impl<'a, E: Eprint, F> Tally<'a, E, F> {
         let repeated = self.repeated.load(Ordering::SeqCst);
         let late = self.asks_late.load(Ordering::SeqCst);
         let heard_late = self.tells_late.load(Ordering::SeqCst);
-        let _ = eprint!(self.to; "asks: {passed} plain, {lost} lost, {late} late, {repeated} repeated; ");
+        let _ = eprint!(self.to;
+            "asks: {passed} plain, {lost} lost, {late} late, {repeated} repeated; "
+        );
         let _ = eprint!(self.to; "tells: {untold} lost, {heard_late} late; ");
     }
 
@@ -276,12 +278,16 @@ impl<'a, E: Eprint, F> Tally<'a, E, F> {
         let (asked, heard) = (counts.asked, counts.heard);
         let (crashed, lost) = (counts.crashed, counts.lost);
         let (chosen, beaten) = (counts.chosen, counts.beaten);
-        let _ = eprint!(self.to; "served {asked}, heard {heard}; crashes {crashed}, logs lost {lost}; ");
+        let _ = eprint!(self.to;
+            "served {asked}, heard {heard}; crashes {crashed}, logs lost {lost}; "
+        );
         let _ = eprint!(self.to; "recoveries: {chosen} chosen, {beaten} lost; ");
         let (rollbacks, undone) = (counts.rollbacks, counts.undone);
         let (committed, ended, waiting) = (counts.committed, counts.ended, counts.waiting);
         let _ = eprint!(self.to; "rollbacks {rollbacks}, versions undone {undone}; ");
-        let _ = eprintln!(self.to; "batches: {committed} committed, {ended} ended, {waiting} waiting");
+        let _ = eprintln!(self.to;
+            "batches: {committed} committed, {ended} ended, {waiting} waiting"
+        );
     }
 }
 

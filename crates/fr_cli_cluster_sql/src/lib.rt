@@ -52,5 +52,14 @@ pub fn cluster_sql_counted<R: Threads + Wait + Sync, F: Watcher + Sync, W: Write
     ensures fault { IfErr result (λ e. IsWriteFault calls.new e) }
     ensures done { OnOk result (HasNotFailed calls.new) }
 {
-    cluster_counted(rt, alloc, options, shapes, DiskRack::new(), faults, calls, writer)
+    cluster_counted(
+        rt,
+        alloc,
+        options,
+        shapes,
+        DiskRack::new(),
+        faults,
+        calls,
+        writer,
+    )
 }

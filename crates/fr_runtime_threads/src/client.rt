@@ -112,7 +112,7 @@ impl<W: Workload + Drop> Client<W> {
     /// Goes over to the proxy of the newest epoch, if the epoch is later, from one that crashed with a batch under way,
     /// which is told to be waiting.
     fn leave(&mut self, alloc: Global, config: &Config, newest: Chosen) -> Result<(), Memory>
-        requires open { self.old.door.under_way ≡ UnderWay.Open }
+        requires under_way { self.old.door.under_way ≡ UnderWay.Open }
         ensures first { self.new.first ≡ self.old.first }
         ensures number { self.new.number ≡ self.old.number }
     {

@@ -20,8 +20,8 @@ invariant_of-self-2-clause-tells g c =
     let items : c.push_reserved-2.new.self.items ≡ old.earlier.items ++ c.close.result ∷ [] = c.push_reserved-2.ensures.items ∙ ap (λ l. l ++ c.close.result ∷ []) c.reserve.ensures.items in
     let closed : c.close.result.entries ≡ old.door.notes.journal.entries = c.close.ensures.entries ∙ ap (λ d. d.notes.journal.entries) c.replace-before.ensures.value in
     let fresh : c.replace-before.new.dest.told.items ≡ [] = ap (λ d. d.told.items) c.replace-before.ensures.after ∙ c.in_ok-next.ensures.told in
-    let open = c.requires.open in
-    let told : outcomes old.door.notes.journal.entries ≡ old.door.told.items ++ Waiting ∷ [] = told-open old.door.notes.journal.entries old.door.told.items old.door.under_way old.door.tells old.door.opens (ap said open) ∙ rw open refl in
+    let is_open = c.requires.under_way in
+    let told : outcomes old.door.notes.journal.entries ≡ old.door.told.items ++ Waiting ∷ [] = told-open old.door.notes.journal.entries old.door.told.items old.door.under_way old.door.tells old.door.opens (ap said is_open) ∙ rw is_open refl in
     let more : c.push_reserved.new.self.items ≡ old.told.items ++ Waiting ∷ [] = c.push_reserved.ensures.items ∙ ap (λ l. l ++ Waiting ∷ []) c.reserve-2.ensures.items in
     told-ended old.earlier.items c.close.result _ old.told.items old.door.told.items c.push_reserved.new.self.items c.push_reserved.new.self.items [] _ true
     items (ap outcomes closed ∙ told) old.tells more (sym (append-nil c.push_reserved.new.self.items)) (sym fresh)
