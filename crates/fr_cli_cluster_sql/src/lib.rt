@@ -52,14 +52,6 @@ pub fn cluster_sql_counted<R: Threads + Wait + Sync, F: Watcher + Sync, W: Write
     ensures fault { IfErr result (λ e. IsWriteFault calls.new e) }
     ensures done { OnOk result (HasNotFailed calls.new) }
 {
-    cluster_counted(
-        rt,
-        alloc,
-        options,
-        shapes,
-        DiskRack::new(),
-        faults,
-        calls,
-        writer,
-    )
+    let rack = DiskRack::new();
+    cluster_counted(rt, alloc, options, shapes, rack, faults, calls, writer)
 }
