@@ -1,7 +1,7 @@
 //! The shapes of generations in the words of `cluster`.
 use clap::{Arg, ArgAction};
-use fr_base::{Memory, Shape};
-use std::alloc::Global;
+use fr_base::Shape;
+use std::alloc::{AllocError, Global};
 
 /// The word with the shapes.
 pub(crate) fn shapes_word<'a>(alloc: Global) -> Arg<'a> {
@@ -20,7 +20,7 @@ pub(crate) const SHAPES_BAD: &str =
 
 /// The shapes that a text gives, as 5:3,1:1, if it gives some: of each how many logs there are, 1 to 16, and the degree,
 /// 1 to all of them. No text gives none.
-pub(crate) fn shapes_of(alloc: Global, text: &str) -> Result<Option<Vec<Shape>>, Memory> {
+pub(crate) fn shapes_of(alloc: Global, text: &str) -> Result<Option<Vec<Shape>>, AllocError> {
     let mut shapes = Vec::new(alloc);
     if text.is_empty() {
         return Ok(Some(shapes));
