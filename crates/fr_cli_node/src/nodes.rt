@@ -27,7 +27,7 @@ use std::alloc::Global;
 use std::fs;
 use std::io::{ErrorKind, Read, Write};
 
-/// Makes the node that the words name, and has it serve lines to the end of the input. Files are those of `host`.
+/// Makes the node that the words name, and has it serve lines to the end of the input. Its files are files of `host`.
 pub fn run_node<R: Read, W: Write>(
     host: &HostRuntime,
     alloc: Global,

@@ -19,8 +19,8 @@ use std::io::{Read, Write};
 pub const MAX_LINE: usize = 268_435_456;
 
 /// Serves lines to the end of the input, each of at most so many bytes: reads one, answers it, and flushes the answer
-/// before it reads on. A line that is not done is answered by why. A node that cannot go on says so in its answer, and
-/// serves no more.
+/// before it reads the next. A line that is not done is answered with the reason. A node that cannot go on says so in
+/// its answer, and serves no more.
 pub fn serve<T: Acting, R: Read, W: Write>(
     alloc: Global,
     most: usize,

@@ -18,7 +18,7 @@ use std::alloc::Global;
 use std::marker::Model;
 use std::snapshot::Snapshot;
 
-/// A proxy, with its journal. Contracts see the proxy, its place, the one that its process began with, and what it did
+/// A proxy, with its journal. Contracts see the proxy, its name, its state when its process began, and what it did
 /// since.
 #[derive(Drop)]
 pub struct ProxyNode {

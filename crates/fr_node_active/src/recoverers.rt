@@ -18,7 +18,7 @@ use std::marker::Model;
 use std::snapshot::Snapshot;
 
 /// A recoverer, the shape of the generation that it is to open, if it was given one, and its journal. Contracts see
-/// the recoverer and whether it began, its place, the one that its process began with, and what it did since.
+/// the recoverer and whether it began, its name, its state when its process began, and what it did since.
 #[derive(Drop)]
 pub struct RecovererNode {
     recoverer: Recoverer,
@@ -49,7 +49,7 @@ impl Model for RecovererNode {
 }
 
 impl RecovererNode {
-    /// A recoverer that has not begun, to open a generation of this shape, which it was given.
+    /// A recoverer that has not begun. It is to open a generation of this shape, or of its parent's if none is given.
     pub fn new(alloc: Global, recoverer: Recoverer, shape: Option<Shape>) -> Self
         requires shape { shape ≡ recoverer.shape }
         ensures recoverer { result.state.recoverer ≡ recoverer }

@@ -31,7 +31,7 @@ use std::alloc::Global;
 use std::marker::Model;
 use std::snapshot::Snapshot;
 
-/// A storage server, with its journal. Contracts see the server, its place, the one that its process began with, and what
+/// A storage server, with its journal. Contracts see the server, its name, its state when its process began, and what
 /// it did since.
 #[derive(Drop)]
 pub struct StorageNode<S: ShardStore> {
@@ -65,7 +65,7 @@ impl<S: ShardStore> Model for StorageNode<S> {
 }
 
 impl<S: ShardStore> StorageNode<S> {
-    /// A storage server that heard nothing yet in this process, over a store that outlasts it if it has files.
+    /// A storage server that heard nothing yet in this process. With files its store outlasts the process.
     pub fn new(alloc: Global, storage: Storage<S>, has_files: bool) -> Self
         requires works { storage.failed ≡ false }
         ensures storage { result.storage ≡ storage }
@@ -230,8 +230,8 @@ fn begun_again(
     Ok((journal, answered))
 }
 
-/// Tells a storage server what a node told it: at which version the hear broke off, if a call of its store failed in
-/// it and a part of it is missing. What it refuses changes nothing. A store that cannot be opened again is a fault.
+/// Has a storage server hear what a node told it. The answer is the version at which the hear broke off, if a call of
+/// the store failed and a part is missing. A refusal changes nothing. A store that cannot be opened again is a fault.
 fn tell_storage<S: ShardStore>(
     alloc: Global,
     storage: &mut Storage<S>,

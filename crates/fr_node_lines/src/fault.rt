@@ -53,7 +53,7 @@ pub enum BadLine {
     TooLong,
     /// It is no JSON.
     NotJson,
-    /// It has other members than a line has, or its content others than its type has.
+    /// The line, or its body, has not exactly the members of its type.
     Members,
     /// It is for another node.
     OtherNode,
@@ -75,7 +75,7 @@ pub enum LineFault {
 }
 
 impl LineFault {
-    /// Its code, by which a reader goes: those of Maelstrom.
+    /// Its code in an answer of the type `error`: those of Maelstrom.
     pub fn code(self) -> u64 {
         match self {
             LineFault::Bad(BadLine::Memory) => CRASH,

@@ -24,7 +24,7 @@ pub struct Line {
 }
 
 impl Line {
-    /// One that asks nothing, and does not say who sent it.
+    /// A line that asks nothing, and does not say who sent it.
     pub fn bad(bad: BadLine) -> Self {
         Line {
             envelope: Envelope::unknown(),
@@ -33,7 +33,8 @@ impl Line {
     }
 }
 
-/// Reads a line to a node. It has exactly its members, in any order; of two members of one name the last one counts.
+/// Reads a line to a node. An object has exactly the members that its type has, in any order. Of two members of one
+/// name the last one counts.
 pub fn read_line(alloc: Global, node: NodeId, text: &[u8]) -> Line {
     let line = match Value::from_slice(alloc, text) {
         Ok(line) => line,

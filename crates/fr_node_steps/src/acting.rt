@@ -51,8 +51,8 @@ pub trait Acting {
     fn place(&self) -> NodeId
         ensures { result ≡ node self.now };
 
-    /// Takes a turn, above the stamp that the asker has seen, and answers what is entered. A turn that is refused changes
-    /// nothing that others see.
+    /// Takes a turn, above the stamp that the asker has seen, and answers what is entered. A turn that is refused
+    /// changes nothing that others see.
     fn act(&mut self, alloc: Global, at: Stamp, turn: Turn) -> Result<Entry, TurnFault>
         requires works { works self.old ≡ true }
         ensures node { node self.new ≡ node self.old }
@@ -63,9 +63,9 @@ pub trait Acting {
         ensures stands { IfRefused result (last_of self.new ≡ last_of self.old) }
         ensures crashed { IfCrashed result CanCrash };
 
-    /// Takes in that it was started again over its files, above the stamp that the asker has seen, and which hear its
-    /// process had under way, if any. It answers what is entered: what it took of that hear, if it took any, and that
-    /// it crashed. Nothing else is changed.
+    /// Enters that its process was killed and started again over its files, above the stamp that the asker has seen.
+    /// `hearing` is the hear that was under way, if one was. It answers the entries: what it took of that hear, if it
+    /// took any, and that it crashed. Nothing else changes.
     fn back(
         &mut self,
         alloc: Global,
@@ -93,11 +93,11 @@ pub trait Acting {
         ensures crashed { IfCrashed result CanCrash }
         ensures never_refused { IfRefused result ⊥ };
 
-    /// Whether each turn is answered with what the node then asks: of a proxy and of a recoverer, whose asks follow from
-    /// what they heard.
+    /// Whether each turn is answered with what the node then asks. So it is of a proxy and of a recoverer, whose asks
+    /// follow from what they heard.
     fn tells_wants(&self) -> bool;
 
-    /// What it asks in a turn, if the logs of an epoch may be asked for their mark.
+    /// What it asks in a turn, with the newest epoch whose logs it may ask for their mark.
     fn wants(&self, alloc: Global, turn: u32, newest: Option<Newest>) -> Result<Wants, TurnFault>
         ensures asks { IfOk result (λ asks. asks ≡ wanted self.now turn newest) }
         ensures crashed { IfCrashed result CanCrash }

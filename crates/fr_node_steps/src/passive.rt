@@ -20,8 +20,8 @@ use std::alloc::Global;
 use std::marker::Model;
 use std::snapshot::Snapshot;
 
-/// A cell, a log or a sequencer, with its journal. Contracts see the node, its place, the state in which its process found
-/// it, and what it did since.
+/// A cell, a log or a sequencer, with its journal. Contracts see the node, its name, the state in which its process
+/// found it, and what it did since.
 #[derive(Drop)]
 pub struct Passive<N: Node>
 where
@@ -55,7 +55,7 @@ where
     N::Plain: Answering,
     <N::Plain as Machine>::Ask: Drop,
 {
-    /// A node that did nothing yet, and that ends with its process.
+    /// A node in memory that did nothing yet. It ends with its process.
     pub fn new(alloc: Global, node: N, id: NodeId) -> Self
         ensures node { result.node ≡ node }
         ensures place { result.place ≡ id }

@@ -13,7 +13,7 @@ use fr_audit_journal::Entry;
 use fr_base::{NodeId, Stamp};
 use std::alloc::Global;
 
-/// What a process is asked of its node.
+/// What a line asks a process of its node.
 #[derive(Debug, Drop)]
 pub enum Order {
     /// Which node it is, and its state.
@@ -22,9 +22,9 @@ pub enum Order {
     Last,
     /// What it asks in a turn.
     Wants { turn: u32, newest: Option<Newest> },
-    /// That it takes a turn, above a stamp.
+    /// To take a turn, above a stamp.
     Take { at: Stamp, turn: Turn },
-    /// That it was started again over its files, above a stamp, and which hear was under way, if one was.
+    /// To enter that it was started again over its files, above a stamp; with the hear that was under way, if one was.
     Back { at: Stamp, hearing: Option<Hearing> },
 }
 
@@ -51,7 +51,7 @@ pub enum Reply {
         last: Last,
         wants: Option<Wants>,
     },
-    /// What is entered as it was started again, and its state.
+    /// What was entered when it was started again, and its state.
     Back {
         entries: Vec<Entry>,
         last: Last,

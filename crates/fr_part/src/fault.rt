@@ -20,7 +20,8 @@ pub enum PartFault {
     /// The machine refuses.
     #[error("the machine refuses")]
     Refused,
-    /// Memory ran out in a storage server that hears an answer. It took a front of the answer, or nothing of it.
+    /// A storage server ran out of memory while it heard an answer. It took a front of the answer, or nothing of it: it
+    /// may hear the same again.
     #[error("out of memory amid an answer")]
     Part,
 }
@@ -36,7 +37,7 @@ impl From<NoMemory> for PartFault {
     }
 }
 
-/// What the fault of a proxy is.
+/// What a proxy's fault is to its holder.
 pub(crate) fn of_submit(fault: SubmitFault) -> PartFault
     ensures { result ≡ of_submit fault }
 {
@@ -47,7 +48,7 @@ pub(crate) fn of_submit(fault: SubmitFault) -> PartFault
     }
 }
 
-/// What the fault of a storage server is.
+/// What a storage server's fault is to its holder.
 pub(crate) fn of_storage(fault: StorageFault) -> PartFault
     ensures { result ≡ of_storage fault }
 {
@@ -62,7 +63,7 @@ pub(crate) fn of_storage(fault: StorageFault) -> PartFault
     }
 }
 
-/// What the fault of a store in memory is.
+/// What the fault of a store in memory is to its holder.
 pub(crate) fn of_store(fault: StoreFault) -> PartFault
     ensures { result ≡ of_store fault }
 {

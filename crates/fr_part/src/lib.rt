@@ -1,4 +1,4 @@
-//! The machines of a cluster as one type, for who holds any of them in one place: a host, or a caller in another
+//! The machines of a cluster as one type, for whoever holds any of them in one place: a host, or a caller in another
 //! language.
 #![tactic(auto)]
 
