@@ -1,21 +1,21 @@
-"""Programs that a script of bench/ builds and runs. Each is a crate that the gate leaves out, since it shows nothing that
-tests can show in their time: its files stand in a folder of bench/, each as NAME.rt.txt. That of bench/timing is what
-bench/asks, bench/peek, bench/pops and bench/replay time."""
+"""The program that bench/asks, bench/peek, bench/pops and bench/replay time. It is a crate that the gate leaves out, since
+it shows nothing that tests do not show: its files stand in bench/timing, each as NAME.rt.txt."""
 import os
 import shutil
 import subprocess
 import tempfile
 
 ROOT = os.path.dirname(os.path.dirname(os.path.realpath(__file__)))
+SOURCES = f"{ROOT}/bench/timing"
 LIBRARIES = "fr_base fr_mutation fr_undo fr_register fr_state fr_tags fr_log fr_ask fr_proxy fr_epoch fr_storage"
-TIMING = f"timing: {LIBRARIES} fr_device fr_record_log fr_world anyhow"
+LINE = f"timing: {LIBRARIES} fr_device fr_record_log fr_world anyhow"
 
 
-def below(line):
-    """The lines of crates.txt of all that a program with this line stands on, by name."""
+def below():
+    """The lines of crates.txt of all that the program stands on, by name."""
     with open(f"{ROOT}/crates.txt", encoding="utf-8") as it:
         lines = {line.partition(":")[0]: line for line in it.read().split("\n") if ":" in line}
-    found, todo = {}, line.split()[1:]
+    found, todo = {}, LINE.split()[1:]
     while todo:
         name = todo.pop()
         if name in lines and name not in found:
@@ -35,32 +35,35 @@ def copy(crate, room):
         shutil.copytree(f"{ROOT}/{proved}", f"{room}/{proved}")
 
 
-def room(line):
-    """The folder of the program with this line of crates.txt, beside the temporary files, with all that it is built of."""
-    name = line.partition(":")[0]
-    found = f"{tempfile.gettempdir()}/fdbrec_{name}_{os.getuid()}"
+def folder_of(room):
+    return os.path.join(room, "crates", "timing")
+
+
+def room():
+    """The folder of the program, beside the temporary files, with all that it is built of."""
+    found = f"{tempfile.gettempdir()}/fdbrec_timing_{os.getuid()}"
     os.makedirs(f"{found}/crates", mode=0o700, exist_ok=True)
     if os.stat(found).st_uid != os.getuid():
         raise SystemExit(f"{found} is somebody else's")
-    lines = below(line)
+    lines = below()
     for crate in lines:
         copy(crate, found)
-    sources = f"{found}/crates/{name}/src"
+    sources = f"{folder_of(found)}/src"
     shutil.rmtree(sources, ignore_errors=True)
-    for at, _, names in os.walk(f"{ROOT}/bench/{name}"):
-        to = f"{sources}/{os.path.relpath(at, f'{ROOT}/bench/{name}')}"
+    for at, _, names in os.walk(SOURCES):
+        to = f"{sources}/{os.path.relpath(at, SOURCES)}"
         os.makedirs(to, exist_ok=True)
-        for name_of in names:
-            shutil.copyfile(f"{at}/{name_of}", f"{to}/{name_of.removesuffix('.txt')}")
+        for name in names:
+            shutil.copyfile(f"{at}/{name}", f"{to}/{name.removesuffix('.txt')}")
     shutil.copyfile(f"{ROOT}/HANDLES", f"{found}/HANDLES")
     with open(f"{found}/crates.txt", "w", encoding="utf-8") as it:
-        it.write("\n".join([*lines.values(), line]) + "\n")
-    return f"{found}/crates/{name}"
+        it.write("\n".join([*lines.values(), LINE]) + "\n")
+    return found
 
 
-def built(line=TIMING):
+def built():
     """Builds the program, its proofs included, and returns where it is."""
-    crate = room(line)
+    crate = folder_of(room())
     print(f"building {crate}, its proofs included", flush=True)
     subprocess.run(["rt", "run"], cwd=crate, stdout=subprocess.DEVNULL, check=True)
-    return f"{crate}/out/{os.path.basename(crate)}"
+    return f"{crate}/out/timing"
