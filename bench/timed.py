@@ -1,4 +1,4 @@
-"""The program that bench/asks, bench/peek, bench/pops and bench/replay time. It is a crate that the gate leaves out, since
+"""The program that bench/asks, bench/peek, bench/pops, bench/reads and bench/replay time. It is a crate that the gate leaves out, since
 it shows nothing that tests do not show: its files stand in bench/timing, each as NAME.rt.txt."""
 import os
 import shutil

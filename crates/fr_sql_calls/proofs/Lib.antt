@@ -1,4 +1,5 @@
 pub mod CallLemmas
 pub mod KnownLemmas
 pub mod LeadLemmas
+pub mod ThenLemmas
 pub mod UndoLeads

@@ -1,10 +1,10 @@
 //! The calls that read, and those that write, as one transaction each. A call that writes is told how many undo rows
 //! there are, and answers how many there are then, so that no call reads the whole table for that number.
-ghost use Rattle.std.specs.Prelude.{◌≡◌, ◌<◌, IfOk, IfErr};
+ghost use Rattle.std.specs.Prelude.{◌≡◌, ◌<◌, ◌≤◌, IfOk, IfErr};
 ghost use Rattle.std.specs.FinMap as map;
 ghost use Rattle.sqlite.specs.Held.{state};
 ghost use Rattle.fr_undo.specs.State.{StoreState};
-ghost use Rattle.fr_undo.specs.Undo.{extended, undone, forgotten, advanced, with_bytes};
+ghost use Rattle.fr_undo.specs.Undo.{extended, undone, value_undone, forgotten, advanced, with_bytes};
 ghost use Rattle.fr_mutation.specs.Shard.{part};
 ghost use Rattle.fr_sql_rows.specs.Told.{IsTold};
 ghost use Rattle.fr_sql_rows.specs.Rows.{contents_in, bytes_in};
@@ -20,7 +20,8 @@ use fr_base::{Bytes, Version};
 use fr_mutation::{Batch, Shard};
 use fr_sql_rows::{Backing, Refusals, Trouble};
 use fr_sql_work::{
-    MetaWork, RowWork, Work, all, bytes as held_bytes, make, of_shard, value as held_value,
+    MetaWork, RowWork, Work, all, bytes as held_bytes, first_above, make, of_shard,
+    value as held_value,
 };
 use fr_undo::StoreFault;
 use sqlite::Connection;
@@ -128,6 +129,41 @@ fn try_set_state<S: Backing>(
         meta: MetaWork::State { bytes },
     };
     write(conn, marks, &work)
+}
+
+/// The value that a key had at a version that is not above the one applied.
+fn try_value_then<S: Backing>(
+    conn: &mut Connection<S>,
+    marks: &Marks,
+    key: &Bytes,
+    version: Version,
+) -> Result<Option<Bytes>, Trouble>
+    requires stands { Stands (state S.Store conn.old) marks.now.applied marks.now.floor marks.now.rows }
+    requires within { version ≤ marks.now.applied }
+    ensures value { IfOk result (λ value. value ≡ value_undone (state_in (state S.Store conn.old).now.trees) version key.now) }
+    ensures looks { Looks (state S.Store conn.old) (state S.Store conn.new) result }
+{
+    match first_above(conn, key, version)? {
+        Some(before) => Ok(before),
+        None => held_value(conn, key),
+    }
+}
+
+/// The value that a key had at a version that is not above the one applied.
+pub fn value_then<S: Backing>(
+    conn: &mut Connection<S>,
+    told: &mut Refusals,
+    marks: &Marks,
+    key: &Bytes,
+    version: Version,
+) -> Result<Option<Bytes>, StoreFault>
+    requires stands { Stands (state S.Store conn.old) marks.now.applied marks.now.floor marks.now.rows }
+    requires within { version ≤ marks.now.applied }
+    ensures value { IfOk result (λ value. value ≡ value_undone (state_in (state S.Store conn.old).now.trees) version key.now) }
+    ensures looks { Looks (state S.Store conn.old) (state S.Store conn.new) result }
+    ensures told { IfErr result (IsTold told.old told.new) }
+{
+    told.told(try_value_then(conn, marks, key, version))
 }
 
 /// The value at a key.

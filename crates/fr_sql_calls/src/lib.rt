@@ -8,5 +8,7 @@ mod known;
 mod marks;
 mod plan;
 
-pub use calls::{advance, apply, bytes, dump, forget, range, set_state, undo_to, value};
+pub use calls::{
+    advance, apply, bytes, dump, forget, range, set_state, undo_to, value, value_then,
+};
 pub use marks::Marks;

@@ -4,7 +4,7 @@ use Rattle.sqlite_trees.specs.declared.store.Store.{Ghosts}
 use Rattle.fr_undo.specs.declared.fault.StoreFault.{StoreFault}
 use Rattle.fr_undo.specs.declared.fault.StoreFault.TheVariants.{Failed}
 use Rattle.fr_undo.specs.State.{StoreState, IsStoreState, fresh}
-use Rattle.fr_undo.specs.Calls.{IsTrouble, is_device, LeavesNoMore, LeftAsIs, Reads, Writes}
+use Rattle.fr_undo.specs.Calls.{IsTrouble, is_device, LeavesNoMore, LeftAsIs, Reads, WritesNothing, Writes}
 use Rattle.fr_undo.proofs.StateLemmas.{fresh_sound}
 use Rattle.fr_sql_work.specs.Calls.{MeetsAll}
 use Rattle.fr_sql_store.specs.Tables.{Seen}
@@ -18,7 +18,7 @@ use Rattle.fr_sql_files.specs.declared.table_store.TableStore.{TableStore}
 failed_is : (b : Bool) → b ≡ true → b ≡ false → ⊥
 failed_is b yes' no' = true≢false (sym yes' ∙ no')
 
-abbrev pub failed_answer : Result (Unit {0}) StoreFault
+abbrev pub failed_answer : {T : Type 0} → Result T StoreFault
 failed_answer = Err Failed
 
 module _ {S K : Type 0} (g : Ghosts S) (keeps : K → StoreState → Type 0) where
@@ -39,6 +39,12 @@ module _ {S K : Type 0} (g : Ghosts S) (keeps : K → StoreState → Type 0) whe
       subst (λ (l : Link S K). Reads {T = T} (λ (s : TableStore S K). state_of g s.link) (λ (s : TableStore S K). is_failed s.link) (λ (s : TableStore S K). MayLeave g keeps s.link) MeetsAll (record { link = l }) (record { link = l }) (Err Failed)) (sym is)
       (record { failed = (λ e. refl, λ e. refl); trouble = λ apart. absurd (apart refl); same = λ e. refl; fails = refl; leaves = λ x may. may; left_as_is = λ e. absurd (true≢false e) })
 
+  pub shut_keeps : {T : Type 0} (it : Shut S K) (whole : TableStore S K) → whole.link ≡ link.Shut it
+      → WritesNothing {T = T} (λ (s : TableStore S K). state_of g s.link) (λ (s : TableStore S K). is_failed s.link) (λ (s : TableStore S K). MayLeave g keeps s.link) whole whole (Err Failed)
+  shut_keeps {T} it whole is =
+      subst (λ (l : Link S K). WritesNothing {T = T} (λ (s : TableStore S K). state_of g s.link) (λ (s : TableStore S K). is_failed s.link) (λ (s : TableStore S K). MayLeave g keeps s.link) (record { link = l }) (record { link = l }) (Err Failed)) (sym is)
+      (record { failed = (λ e. refl, λ e. refl); same = λ e. refl; fails = refl; leaves = λ x may. may; left_as_is = λ e. absurd (true≢false e) })
+
   pub shut_writes : (f : StoreState → StoreState) (it : Shut S K) (whole : TableStore S K) → whole.link ≡ link.Shut it
       → Writes (λ (s : TableStore S K). state_of g s.link) (λ (s : TableStore S K). is_failed s.link) (λ (s : TableStore S K). MayLeave g keeps s.link) whole whole (f (state_of g whole.link)) (Err Failed)
   shut_writes f it whole is =
@@ -49,7 +55,7 @@ module _ {S K : Type 0} (g : Ghosts S) (keeps : K → StoreState → Type 0) whe
   shut_told it l is = subst (λ (m : Link S K). IsLinkTold m m Failed) (sym is) refl
 
   -- a shut store refuses no version, since it has failed
-  pub shut_refuses : (it : Shut S K) (l : Link S K) (fault : StoreFault) (P : StoreState → Type 0) → fault ≢ Failed → l ≡ link.Shut it → (failed_answer ≡ Err fault) ↔ ((is_failed l ≡ false) × P (state_of g l))
+  pub shut_refuses : {T : Type 0} (it : Shut S K) (l : Link S K) (fault : StoreFault) (P : StoreState → Type 0) → fault ≢ Failed → l ≡ link.Shut it → (failed_answer {T = T} ≡ Err fault) ↔ ((is_failed l ≡ false) × P (state_of g l))
   shut_refuses it l fault P apart is =
       (λ e. absurd (apart (let same : fault ≡ Failed = cc in same)), λ h. absurd (true≢false (sym (ap is_failed is) ∙ h.0)))
 
@@ -64,7 +70,7 @@ module _ {S K : Type 0} (g : Ghosts S) (keeps : K → StoreState → Type 0) whe
   pub left_open : (old : Seen S) (l : Link S K) → l ≡ link.Open old → LeftAsIs old.failed (tables.state_of g old) (tables.MayLeave g old) → LeftAsIs (is_failed l) (state_of g l) (MayLeave g keeps l)
   left_open old l is h = subst (λ (m : Link S K). LeftAsIs (is_failed m) (state_of g m) (MayLeave g keeps m)) (sym is) h
 
-  pub refuses_open : (old : Seen S) (r : Result (Unit {0}) StoreFault) (l : Link S K) (fault : StoreFault) (P : StoreState → Type 0) → l ≡ link.Open old → (r ≡ Err fault) ↔ ((old.failed ≡ false) × P (tables.state_of g old)) → (r ≡ Err fault) ↔ ((is_failed l ≡ false) × P (state_of g l))
+  pub refuses_open : {T : Type 0} (old : Seen S) (r : Result T StoreFault) (l : Link S K) (fault : StoreFault) (P : StoreState → Type 0) → l ≡ link.Open old → (r ≡ Err fault) ↔ ((old.failed ≡ false) × P (tables.state_of g old)) → (r ≡ Err fault) ↔ ((is_failed l ≡ false) × P (state_of g l))
   refuses_open old r l fault P is h = subst (λ (m : Link S K). (r ≡ Err fault) ↔ ((is_failed m ≡ false) × P (state_of g m))) (sym is) h
 
   pub told_open : {T : Type 0} (old new : Seen S) (r : Result T StoreFault) (l : Link S K) → l ≡ link.Open old → IfErr r (tables.IsTold old new) → IfErr r (IsLinkTold l (link.Open new))
@@ -76,6 +82,13 @@ module _ {S K : Type 0} (g : Ghosts S) (keeps : K → StoreState → Type 0) whe
   reads_open {T} old new r whole is h =
       subst (λ (l : Link S K). Reads {T = T} (λ (s : TableStore S K). state_of g s.link) (λ (s : TableStore S K). is_failed s.link) (λ (s : TableStore S K). MayLeave g keeps s.link) MeetsAll (record { link = l }) (record { link = link.Open new }) r) (sym is)
       (record { failed = h.failed; trouble = h.trouble; same = h.same; fails = h.fails; leaves = h.leaves; left_as_is = h.left_as_is })
+
+  pub keeps_open : {T : Type 0} (old new : Seen S) (r : Result T StoreFault) (whole : TableStore S K) → whole.link ≡ link.Open old
+      → WritesNothing (tables.state_of g) (λ (s : Seen S). s.failed) (tables.MayLeave g) old new r
+      → WritesNothing (λ (s : TableStore S K). state_of g s.link) (λ (s : TableStore S K). is_failed s.link) (λ (s : TableStore S K). MayLeave g keeps s.link) whole (record { link = link.Open new }) r
+  keeps_open {T} old new r whole is h =
+      subst (λ (l : Link S K). WritesNothing {T = T} (λ (s : TableStore S K). state_of g s.link) (λ (s : TableStore S K). is_failed s.link) (λ (s : TableStore S K). MayLeave g keeps s.link) (record { link = l }) (record { link = link.Open new }) r) (sym is)
+      (record { failed = h.failed; same = h.same; fails = h.fails; leaves = h.leaves; left_as_is = h.left_as_is })
 
   pub writes_open : (f : StoreState → StoreState) (old new : Seen S) (r : Result (Unit {0}) StoreFault) (whole : TableStore S K) → whole.link ≡ link.Open old
       → Writes (tables.state_of g) (λ (s : Seen S). s.failed) (tables.MayLeave g) old new (f (tables.state_of g old)) r

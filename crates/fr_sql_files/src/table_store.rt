@@ -2,8 +2,8 @@
 ghost use Rattle.std.specs.Prelude.{◌≡◌, ◌≢◌, ◌<◌, ◌≤◌, ◌↔◌, true, false, Err, OnOk, IfOk, IfErr, IfSome, IsNone, IsTrue};
 ghost use Rattle.std.specs.FinMap as map;
 ghost use Rattle.fr_mutation.specs.Shard.{part};
-ghost use Rattle.fr_undo.specs.Undo.{extended, undone, forgotten, advanced, with_bytes};
-ghost use Rattle.fr_undo.specs.Calls.{IsTrouble, LeavesNoMore, Reads, Writes};
+ghost use Rattle.fr_undo.specs.Undo.{extended, undone, value_undone, forgotten, advanced, with_bytes};
+ghost use Rattle.fr_undo.specs.Calls.{IsTrouble, LeavesNoMore, Reads, WritesNothing, Writes};
 ghost use Rattle.fr_sql_work.specs.Calls.{MeetsAll};
 ghost use Rattle.fr_sql_store.specs.Tables as tables;
 ghost use Rattle.fr_sql_files.specs.Linked.{IsParted, IsConnected, IsReopened, is_failed, MayLeave, shown_by, has_failed, Leaves, IsTold};
@@ -160,6 +160,28 @@ impl<S: FileTables> ShardStore for TableStore<S> {
     {
         match &mut self.link {
             Link::Open(store) => store.get(alloc, key),
+            Link::Shut(_) => Err(StoreFault::Failed),
+        }
+    }
+
+    fn get_at(
+        &mut self,
+        alloc: Global,
+        key: &Bytes,
+        version: Version,
+    ) -> Result<Option<Bytes>, StoreFault>
+        ensures value { IfOk result (λ value. value ≡ value_undone (shown_by S.Store self.old) version key.now) }
+        ensures within { OnOk result (((shown_by S.Store self.old).floor ≤ version) × (version ≤ (shown_by S.Store self.old).applied)) }
+        ensures below_floor { (result ≡ Err StoreFault.BelowFloor) ↔ ((has_failed self.old ≡ false) × (version < (shown_by S.Store self.old).floor)) }
+        ensures above_applied { (result ≡ Err StoreFault.AboveApplied)
+            ↔ ((has_failed self.old ≡ false) × ((shown_by S.Store self.old).applied < version)) }
+        ensures trouble { IfErr result (λ fault. fault ≢ StoreFault.Failed → fault ≢ StoreFault.BelowFloor
+            → fault ≢ StoreFault.AboveApplied → IsTrouble MeetsAll fault) }
+        ensures keeps { WritesNothing (shown_by S.Store) has_failed (Leaves S.Store S.KeptLeaves) self.old self.new result }
+        ensures told { IfErr result (IsTold self.old self.new) }
+    {
+        match &mut self.link {
+            Link::Open(store) => store.get_at(alloc, key, version),
             Link::Shut(_) => Err(StoreFault::Failed),
         }
     }

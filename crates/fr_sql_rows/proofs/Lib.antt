@@ -12,5 +12,6 @@ pub mod UndoWrites
 pub mod MetaWrites
 pub mod ReadLemmas
 pub mod KvReads
+pub mod UndoFirst
 pub mod UndoReads
 pub mod TransactionLemmas

@@ -286,3 +286,24 @@ pub above_is : command_of (understood schema above_text)
     ≡ Select (record { lets = []; body = sorted_query 2 is_above (col 1 1 ∷ col 1 2 ∷ col 1 3 ∷ []) ((col 1 1, down) ∷ (col 1 2, up) ∷ []) }) (codes "ver" ∷ codes "k" ∷ codes "before" ∷ [])
 unfolding understood everything
 above_is = refl
+
+abbrev pub is_of_key_above : List Term
+is_of_key_above = op2 (Compare Eq Binary) (col 1 2) (col 0 0) ∷ op2 (Compare Gt Binary) (col 1 1) (col 0 1) ∷ []
+
+abbrev pub first_query : Query
+first_query = record (sorted_query 2 is_of_key_above (col 1 3 ∷ []) ((col 1 1, up) ∷ [])) { limit = lit (Int (pos 1)) }
+
+abbrev pub first_text : List ℕ
+first_text = codes "SELECT before FROM undo WHERE k = ?1 AND ver > ?2 ORDER BY ver LIMIT 1"
+
+pub first_plain : IsPlain (understood schema first_text)
+unfolding understood everything
+first_plain = (refl, refl)
+
+pub first_unlisted : reads_listing schema first_text ≡ false
+unfolding understood everything
+first_unlisted = refl
+
+pub first_is : command_of (understood schema first_text) ≡ Select (record { lets = []; body = first_query }) (codes "before" ∷ [])
+unfolding understood everything
+first_is = refl

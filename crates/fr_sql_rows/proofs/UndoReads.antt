@@ -67,7 +67,7 @@ ordered_by = output_cmp (sorted_query 2 [] [] order)
 not_less : (a b : ℕ) → nat_lt a b ≡ false → b ≤ a
 not_less a b e = elim (leb_tells (suc a) b) [ inl h ↦ absurd (let clash = sym e ∙ h.0 in cc) | inr h ↦ (let below = h.1 in omega (arith, below)) ]
 
-int_as_nat : (a b : ℕ) → int_cmp (pos a) (pos b) ≡ nat_cmp a b
+pub int_as_nat : (a b : ℕ) → int_cmp (pos a) (pos b) ≡ nat_cmp a b
 int_as_nat a b = go (nat_lt a b) refl (nat_lt b a) refl
   where
     go : (s : Bool) → nat_lt a b ≡ s → (t : Bool) → nat_lt b a ≡ t → int_cmp (pos a) (pos b) ≡ nat_cmp a b

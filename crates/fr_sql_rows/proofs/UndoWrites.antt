@@ -143,7 +143,7 @@ goes terms params count old new test laid says t =
 not_le : (a b : ℕ) → nat_le a b ≡ false → b < a
 not_le a b e = elim (leb_tells a b) [ inl h ↦ absurd (let clash = sym e ∙ h.0 in cc) | inr h ↦ h.1 ]
 
-above_is : (a b : ℕ) → is_gt (int_cmp (pos a) (pos b)) ≡ not (nat_le a b)
+pub above_is : (a b : ℕ) → is_gt (int_cmp (pos a) (pos b)) ≡ not (nat_le a b)
 above_is a b = go (nat_lt a b) refl (nat_lt b a) refl (nat_le a b) refl
   where
     go : (s : Bool) → nat_lt a b ≡ s → (t : Bool) → nat_lt b a ≡ t → (u : Bool) → nat_le a b ≡ u → is_gt (int_cmp (pos a) (pos b)) ≡ not (nat_le a b)

@@ -4,7 +4,9 @@ ghost use Rattle.std.specs.FinMap.{find};
 ghost use Rattle.std.specs.List.Sorted.{IsSorted};
 ghost use Rattle.sqlite.specs.Held.{state};
 ghost use Rattle.fr_undo.specs.State.{Place, place_cmp};
-ghost use Rattle.fr_sql_rows.specs.Rows.{before_in, shown_row, newest_first};
+ghost use Rattle.fr_undo.specs.Undo.{IsFirstAbove};
+ghost use Rattle.sqlite.specs.Order.{column};
+ghost use Rattle.fr_sql_rows.specs.Rows.{before_in, blob_in, shown_row, newest_first};
 ghost use Rattle.fr_sql_rows.specs.Connection.{IsAtRest, IsLaidOut, IsInside, KeepsIfOpen, CommitsNothing, Stays, Notes, Retains};
 
 use crate::backing::Backing;
@@ -150,4 +152,39 @@ pub fn above<S: Backing>(
         params![number_of(version)],
     )?;
     undo_rows(alloc, rows.as_slice())
+}
+
+/// What the key of an undo row held before, as a row that begins with it shows.
+fn before_shown(row: &Row) -> Result<Option<Bytes>, Refused>
+    ensures { IfOk result (λ before. before ≡ blob_in (column row.now 0)) }
+{
+    let before: Option<Vec<u8>> = read(row, 0)?;
+    match before {
+        Some(before) => Ok(Some(Bytes::from_vec(before))),
+        None => Ok(None),
+    }
+}
+
+/// What a key held before the least version above one at which it has an undo row, if it has one there.
+pub fn first_above<S: Backing>(
+    conn: &mut Connection<S>,
+    key: &Bytes,
+    version: Version,
+) -> Result<Option<Option<Bytes>>, Refused>
+    requires rest { IsAtRest (state S.Store conn.old) }
+    requires laid { IsLaidOut (state S.Store conn.old).now }
+    ensures first { IfOk result (IsFirstAbove (λ w. before_in ((state S.Store conn.old).now.trees 2) (w, key.now)) version) }
+    ensures open { OnOk result (IsTrue (state S.Store conn.new).is_open) }
+    ensures keeps { KeepsIfOpen (state S.Store conn.old) (state S.Store conn.new) }
+    ensures survives { CommitsNothing (state S.Store conn.old) (state S.Store conn.new) }
+{
+    let rows = ask(
+        conn,
+        "SELECT before FROM undo WHERE k = ?1 AND ver > ?2 ORDER BY ver LIMIT 1",
+        params![key.as_slice(), number_of(version)],
+    )?;
+    match rows.as_slice().first() {
+        None => Ok(None),
+        Some(row) => Ok(Some(before_shown(row)?)),
+    }
 }

@@ -12,7 +12,7 @@ use Rattle.fr_undo.specs.declared.fault.StoreFault.TheVariants.{Device, Full, Fa
 use Rattle.fr_base.specs.Map.{map_by}
 use Rattle.fr_undo.proofs.StateLemmas.{fresh_sound}
 use Rattle.fr_undo.specs.State.{place_cmp, StoreState, IsStoreState, fresh}
-use Rattle.fr_undo.specs.Calls.{IsTrouble, is_device, met_device, LeftAsIs, Reads, Writes}
+use Rattle.fr_undo.specs.Calls.{IsTrouble, is_device, met_device, LeftAsIs, Reads, WritesNothing, Writes}
 use Rattle.fr_sql_rows.specs.Told.{Told}
 use Rattle.fr_sql_rows.specs.Connection.{IsAtRest, IsLaidOut, IsBegun, KeepsIfOpen}
 use Rattle.fr_sql_work.specs.Calls.{Looks, MeetsAll}
@@ -179,6 +179,22 @@ module _ {S : Type 0} (g : Ghosts S) (law : Lawful g) where
     fails = or_met old.failed (met_device result) works;
     leaves = λ x (db, leaves, is). (db, elim (l.survives.crash (law.clean conn.store) db leaves) [ inl before ↦ before | inr none ↦ absurd none ], is);
     left_as_is = left (then_seen old conn told (met_device result)) (read_store old conn told result i works l);
+  }
+
+  abbrev pub KeepsOf : {T : Type 0} → Seen S → Seen S → Result T StoreFault → Type 0
+  KeepsOf old new result = WritesNothing (state_of g) (λ (s : Seen S). s.failed) (MayLeave g) old new result
+
+  pub keeps_from_reads : {T : Type 0} (old new : Seen S) (result : Result T StoreFault) → ReadsOf old new result → KeepsOf old new result
+  keeps_from_reads old new result r = record { failed = r.failed; same = r.same; fails = r.fails; leaves = r.leaves; left_as_is = r.left_as_is }
+
+  -- a read that the state refuses
+  pub refused_read : {T : Type 0} (old : Seen S) (fault : StoreFault) → IsStoreOf g old → old.failed ≡ false → is_device fault ≡ false → fault ≢ Failed → KeepsOf {T = T} old old (Err fault)
+  refused_read old fault i works other apart = record {
+    failed = (λ e. absurd (apart (let same : fault ≡ Failed = cc in same)), λ e. absurd (let clash = sym works ∙ e in cc));
+    same = λ e. refl;
+    fails = works ∙ sym (ap (λ b. b || is_device fault) works ∙ other);
+    leaves = λ x may. may;
+    left_as_is = left old i;
   }
 
   -- a store that failed reads nothing

@@ -3,8 +3,8 @@ ghost use Rattle.std.specs.Prelude.{◌≡◌, ◌≢◌, ◌<◌, ◌≤◌, �
 ghost use Rattle.std.specs.FinMap as map;
 ghost use Rattle.fr_mutation.specs.Shard.{part};
 ghost use Rattle.fr_undo.specs.State.{IsStoreState, fresh};
-ghost use Rattle.fr_undo.specs.Undo.{extended, undone, forgotten, advanced, with_bytes};
-ghost use Rattle.fr_undo.specs.Calls.{IsTrouble, is_device, met_device, StaysUnlessFailed, LeavesNoMore, LeftAsIs, Reads, Writes};
+ghost use Rattle.fr_undo.specs.Undo.{extended, undone, value_undone, forgotten, advanced, with_bytes};
+ghost use Rattle.fr_undo.specs.Calls.{IsTrouble, is_device, met_device, StaysUnlessFailed, LeavesNoMore, LeftAsIs, Reads, WritesNothing, Writes};
 ghost use Rattle.fr_sql_rows.specs.Connection.{IsAtRest};
 ghost use Rattle.fr_sql_rows.specs.Schema.{no_schema};
 ghost use Rattle.fr_sql_work.specs.Calls.{MeetsAll};
@@ -16,7 +16,9 @@ mod files;
 pub use files::{OpenFault, SEED};
 use fr_base::{Bytes, Version};
 use fr_mutation::{Batch, Shard};
-use fr_sql_calls::{Marks, advance, apply, bytes, dump, forget, range, set_state, undo_to, value};
+use fr_sql_calls::{
+    Marks, advance, apply, bytes, dump, forget, range, set_state, undo_to, value, value_then,
+};
 use fr_sql_rows::{Backing, Refusals, schema};
 use fr_sql_work::probe;
 use fr_undo::{ShardStore, StoreFault};
@@ -165,6 +167,36 @@ impl<S: Backing> ShardStore for SqlStore<S> {
             return Err(StoreFault::Failed);
         }
         let held = value(&mut self.conn, &mut self.told, key);
+        self.is_failed = met_device(&held);
+        held
+    }
+
+    fn get_at(
+        &mut self,
+        alloc: Global,
+        key: &Bytes,
+        version: Version,
+    ) -> Result<Option<Bytes>, StoreFault>
+        ensures value { IfOk result (λ value. value ≡ value_undone (state_of S.Store self.old) version key.now) }
+        ensures within { OnOk result (((state_of S.Store self.old).floor ≤ version) × (version ≤ (state_of S.Store self.old).applied)) }
+        ensures below_floor { (result ≡ Err StoreFault.BelowFloor) ↔ ((has_failed self.old ≡ false) × (version < (state_of S.Store self.old).floor)) }
+        ensures above_applied { (result ≡ Err StoreFault.AboveApplied)
+            ↔ ((has_failed self.old ≡ false) × ((state_of S.Store self.old).applied < version)) }
+        ensures trouble { IfErr result (λ fault. fault ≢ StoreFault.Failed → fault ≢ StoreFault.BelowFloor
+            → fault ≢ StoreFault.AboveApplied → IsTrouble MeetsAll fault) }
+        ensures keeps { WritesNothing (state_of S.Store) has_failed (MayLeave S.Store) self.old self.new result }
+        ensures told { IfErr result (IsTold self.old self.new) }
+    {
+        if self.is_failed {
+            return Err(StoreFault::Failed);
+        }
+        if version < self.marks.floor {
+            return Err(StoreFault::BelowFloor);
+        }
+        if version > self.marks.applied {
+            return Err(StoreFault::AboveApplied);
+        }
+        let held = value_then(&mut self.conn, &mut self.told, &self.marks, key, version);
         self.is_failed = met_device(&held);
         held
     }

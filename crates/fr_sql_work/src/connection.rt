@@ -9,6 +9,7 @@ ghost use Rattle.std.specs.List.Sorted.{IsSorted};
 ghost use Rattle.fr_mutation.specs.Mutation.{is_between};
 ghost use Rattle.fr_mutation.specs.Shard.{part};
 ghost use Rattle.fr_undo.specs.State.{Place, place_cmp};
+ghost use Rattle.fr_undo.specs.Undo.{IsFirstAbove};
 ghost use Rattle.fr_undo.specs.Calls.{IsTrouble};
 ghost use Rattle.fr_sql_rows.specs.Fault.{fault_in};
 ghost use Rattle.fr_sql_rows.specs.Rows.{contents_in, bytes_in, before_in, undo_in, newest_first};
@@ -151,6 +152,23 @@ pub fn above<S: Backing>(
 {
     match undo::above(alloc, conn, version) {
         Ok(rows) => Ok(rows),
+        Err(refused) => Err(settle(conn, refused)),
+    }
+}
+
+/// What a key held before the least version above one at which it has an undo row, if it has one there.
+pub fn first_above<S: Backing>(
+    conn: &mut Connection<S>,
+    key: &Bytes,
+    version: Version,
+) -> Result<Option<Option<Bytes>>, Trouble>
+    requires rest { IsAtRest (state S.Store conn.old) }
+    requires laid { IsLaidOut (state S.Store conn.old).now }
+    ensures first { IfOk result (IsFirstAbove (λ w. before_in ((state S.Store conn.old).now.trees 2) (w, key.now)) version) }
+    ensures looks { Looks (state S.Store conn.old) (state S.Store conn.new) result }
+{
+    match undo::first_above(conn, key, version) {
+        Ok(before) => Ok(before),
         Err(refused) => Err(settle(conn, refused)),
     }
 }

@@ -6,5 +6,5 @@
 mod connection;
 mod work;
 
-pub use connection::{above, all, between, bytes, make, of_shard, probe, value};
+pub use connection::{above, all, between, bytes, first_above, make, of_shard, probe, value};
 pub use work::{MetaWork, RowWork, Work};

@@ -76,6 +76,14 @@ all-filter P test (e ∷ rows) h =
       | false ↦ all-filter P test rows h.1
     ]
 
+pub all-passing : (test : Place → Bool) (rows : RowList) → AllByRecursion (λ p. test p ≡ true) (keys_of (filter (λ e. test e.0) rows))
+all-passing test [] = tt
+all-passing test (e ∷ rows) =
+    elim (test e.0) as (λ b. test e.0 ≡ b → AllByRecursion (λ p. test p ≡ true) (keys_of (cond b (e ∷ filter (λ r. test r.0) rows) (filter (λ r. test r.0) rows)))) [
+      | true ↦ λ t. (t, all-passing test rows)
+      | false ↦ λ t. all-passing test rows
+    ] refl
+
 pub order-filter : (test : Place → Bool) (rows : RowList) → IsInOrder rows → IsInOrder (filter (λ e. test e.0) rows)
 unfolding IsStrictlySortedBy
 order-filter test [] h = tt
@@ -94,7 +102,7 @@ lt_from_le t n =
       | false ↦ λ e. let lt = leb-false n t e in elim (nat_lt t n) as (λ b. nat_lt t n ≡ b → b ≡ true) [ true ↦ λ h. refl | false ↦ λ h. absurd (let le = ltb-false t n h in omega arith) ] refl
     ] refl
 
-at_place : (P : Place → Type 0) (rows : RowList) → AllByRecursion P (keys_of rows) → (j : ℕ) (d : Place × Option (List ℕ)) → j < length rows → P (slice_index_or rows j d).0
+pub at_place : (P : Place → Type 0) (rows : RowList) → AllByRecursion P (keys_of rows) → (j : ℕ) (d : Place × Option (List ℕ)) → j < length rows → P (slice_index_or rows j d).0
 at_place P [] h j d lt = absurd (omega arith)
 at_place P (e ∷ rows) h zero d lt = h.0
 at_place P (e ∷ rows) h (suc j) d lt = at_place P rows h.1 j d (omega arith)

@@ -54,6 +54,14 @@ pub record Reads {S T : Type 0} (state : S → StoreState) (is_failed : S → Bo
   pub leaves : LeavesNoMore (MayLeave old) (MayLeave new)
   pub left_as_is : LeftAsIs (is_failed new) (state new) (MayLeave new)
 
+-- what each call that writes nothing keeps, also one that refuses by the state: its other clauses say why it fails
+pub record WritesNothing {S T : Type 0} (state : S → StoreState) (is_failed : S → Bool) (MayLeave : S → StoreState → Type 0) (old new : S) (result : Result T StoreFault) : Type 0 where
+  pub failed : (result ≡ Err Failed) ↔ IsTrue (is_failed old)
+  pub same : StaysUnlessFailed (is_failed new) (state old) (state new)
+  pub fails : is_failed new ≡ (is_failed old || met_device result)
+  pub leaves : LeavesNoMore (MayLeave old) (MayLeave new)
+  pub left_as_is : LeftAsIs (is_failed new) (state new) (MayLeave new)
+
 -- what each call that writes does, if it is to make the state `after`: all of it, or nothing, or the store is failed
 -- and a crash leaves one or the other
 pub record Writes {S : Type 0} (state : S → StoreState) (is_failed : S → Bool) (MayLeave : S → StoreState → Type 0) (old new : S) (after : StoreState) (result : Result (Unit {0}) StoreFault) : Type 0 where

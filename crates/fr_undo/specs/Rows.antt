@@ -1,6 +1,7 @@
 -- The list in which a store in memory keeps its undo rows.
 use Rattle.std.specs.Prelude.{ℕ, ◌≤◌, List, [], ◌∷◌, Option, None, Some, IsSome, nat_le, nat_lt}
 use Rattle.std.specs.List.{filter}
+use Rattle.std.specs.Ordering.{is_le}
 use Rattle.std.specs.List.Sorted.{IsStrictlySortedBy}
 use Rattle.std.specs.Map.{lookup, keys_of}
 use Rattle.std.specs.FinMap.{from_entries}
@@ -33,6 +34,10 @@ rows_to rows t = filter (λ (row : Place × Option (List ℕ)). nat_le row.0.0 t
 -- the rows of the versions above f
 abbrev pub rows_beyond : RowList → ℕ → RowList
 rows_beyond rows f = filter (λ (row : Place × Option (List ℕ)). nat_lt f row.0.0) rows
+
+-- the rows at a place and after it
+abbrev pub rows_from : RowList → Place → RowList
+rows_from rows place = filter (λ (row : Place × Option (List ℕ)). is_le (place_cmp place row.0)) rows
 
 -- no row is above the version
 abbrev pub AreThrough : RowList → ℕ → Type 0

@@ -1,18 +1,24 @@
 //! Undo rows: how many are through a version, and what they make of keys.
-ghost use Rattle.std.specs.Prelude.{◌≡◌, ◌+◌, ◌<◌, ◌≤◌, ℕ, List, length, take, drop, None, Some, OnOk, IfOk, cond};
+ghost use Rattle.std.specs.Prelude.{◌≡◌, ◌+◌, ◌-◌, ◌<◌, ◌≤◌, ℕ, List, length, take, drop, None, Some, IsSome, OnOk, IfOk, cond};
 ghost use Rattle.std.specs.Option.{option_or};
+ghost use Rattle.std.specs.Ordering.{is_lt};
 ghost use Rattle.std.specs.BTreeMap as tree;
 ghost use Rattle.fr_base.specs.Bytes.{bytes_cmp, is_same};
 ghost use Rattle.fr_base.specs.Map.{map_of};
 ghost use Rattle.fr_undo.specs.Trees.{IsUpTo};
-ghost use Rattle.fr_undo.specs.Rows.{IsInOrder, rows_to, rows_beyond};
+ghost use Rattle.fr_undo.specs.State.{place_cmp};
+ghost use Rattle.fr_undo.specs.Rows.{IsInOrder, row_in, rows_to, rows_beyond, rows_from};
+ghost use Rattle.fr_undo.specs.Index.{IsIndex};
 ghost use Rattle.fr_undo.specs.Changes.{KnowBefore, after_of};
 ghost use Rattle.fr_undo.specs.Undo.{least_row};
 
 use crate::changes::{Change, changes_by};
+use crate::copies::copy_of;
+use crate::index::RowIndex;
 use crate::plan::{Plan, add};
 use fr_base::{Bytes, Memory, Version};
 use std::alloc::Global;
+use std::cmp::Ordering;
 use std::collections::{BTreeMap, VecDeque};
 
 /// A place, which is a version and a key, and what the key held before that version.
@@ -38,35 +44,113 @@ fn give_back(rows: &mut VecDeque<Row>)
     }
 }
 
-/// Keeps the first rows, as many as are said, and removes the others.
-pub(crate) fn keep_front(rows: &mut VecDeque<Row>, count: usize)
-    ensures { rows.new.items ≡ take count rows.old.items }
+/// Removes the last row, if there is one.
+fn drop_last(rows: &mut VecDeque<Row>, index: &mut RowIndex)
+    requires order { IsInOrder rows.old.items }
+    requires index { IsIndex index.old rows.old.items }
+    ensures rows { rows.new.items ≡ take (length rows.old.items - 1) rows.old.items }
+    ensures order { IsInOrder rows.new.items }
+    ensures index { IsIndex index.new rows.new.items }
+    ensures through { index.new.through ≡ index.old.through }
 {
-    rows.truncate(count);
+    if let Some((place, _)) = rows.pop_back() {
+        index.strike(place);
+    }
+}
+
+/// Keeps the first rows, as many as are said, and removes the others.
+pub(crate) fn keep_front(rows: &mut VecDeque<Row>, index: &mut RowIndex, count: usize)
+    requires order { IsInOrder rows.old.items }
+    requires index { IsIndex index.old rows.old.items }
+    ensures rows { rows.new.items ≡ take count rows.old.items }
+    ensures index { IsIndex index.new rows.new.items }
+    ensures through { index.new.through ≡ index.old.through }
+{
+    while rows.len() > count {
+        drop_last(rows, index);
+    }
     give_back(rows);
 }
 
+/// Removes the first row, if there is one.
+fn drop_first(rows: &mut VecDeque<Row>, index: &mut RowIndex)
+    requires order { IsInOrder rows.old.items }
+    requires index { IsIndex index.old rows.old.items }
+    ensures rows { rows.new.items ≡ drop 1 rows.old.items }
+    ensures order { IsInOrder rows.new.items }
+    ensures index { IsIndex index.new rows.new.items }
+    ensures through { index.new.through ≡ index.old.through }
+{
+    if let Some((place, _)) = rows.pop_front() {
+        index.strike(place);
+    }
+}
+
 /// Removes the first rows, as many as are said.
-fn drop_front(rows: &mut VecDeque<Row>, count: usize)
-    ensures { rows.new.items ≡ drop count rows.old.items }
+fn drop_front(rows: &mut VecDeque<Row>, index: &mut RowIndex, count: usize)
+    requires order { IsInOrder rows.old.items }
+    requires index { IsIndex index.old rows.old.items }
+    ensures rows { rows.new.items ≡ drop count rows.old.items }
+    ensures index { IsIndex index.new rows.new.items }
+    ensures through { index.new.through ≡ index.old.through }
 {
     for _ in 0..count {
-        rows.pop_front();
+        drop_first(rows, index);
     }
     give_back(rows);
 }
 
 /// Removes the rows through a version.
-pub(crate) fn drop_through(rows: &mut VecDeque<Row>, version: Version)
-    requires { IsInOrder rows.old.items }
-    ensures { rows.new.items ≡ rows_beyond rows.old.items version }
+pub(crate) fn drop_through(rows: &mut VecDeque<Row>, index: &mut RowIndex, version: Version)
+    requires order { IsInOrder rows.old.items }
+    requires index { IsIndex index.old rows.old.items }
+    ensures rows { rows.new.items ≡ rows_beyond rows.old.items version }
+    ensures index { IsIndex index.new rows.new.items }
+    ensures through { index.new.through ≡ index.old.through }
 {
     let count = count_through(rows, version);
-    drop_front(rows, count);
+    drop_front(rows, index, count);
+}
+
+/// Whether a row is before a place.
+fn is_before(row: &Row, version: Version, key: &Bytes) -> bool
+    ensures { result ≡ is_lt (place_cmp row.now.0 (version, key.now)) }
+{
+    match row.0.0.cmp(&version) {
+        Ordering::Less => true,
+        Ordering::Equal => row.0.1 < *key,
+        Ordering::Greater => false,
+    }
+}
+
+/// How many rows, in the order of their places, are before a place. They come before all others.
+fn count_before(rows: &VecDeque<Row>, version: Version, key: &Bytes) -> usize
+    requires { IsInOrder rows.now.items }
+    ensures bound { result ≤ length rows.now.items }
+    ensures back { drop result rows.now.items ≡ rows_from rows.now.items (version, key.now) }
+{
+    rows.partition_point(|row| is_before(row, version, key))
+}
+
+/// A copy of what a key held before a version at which it has a row.
+pub(crate) fn held_before(
+    rows: &VecDeque<Row>,
+    version: Version,
+    key: &Bytes,
+) -> Result<Option<Bytes>, Memory>
+    requires order { IsInOrder rows.now.items }
+    requires row { IsSome (row_in rows.now.items (version, key.now)) }
+    ensures { IfOk result (λ before. row_in rows.now.items (version, key.now) ≡ Some before) }
+{
+    let first = count_before(rows, version, key);
+    match rows.range(first..).next() {
+        Some(row) => copy_of(&row.1),
+        None => unreachable!(),
+    }
 }
 
 /// The version after one that is below another.
-fn next(version: Version, later: Version) -> Version
+pub(crate) fn next(version: Version, later: Version) -> Version
     requires { version < later }
     ensures { result ≡ version + 1 }
 {

@@ -6,11 +6,11 @@ use fr_undo::{ShardStore, StoreFault};
 use std::alloc::Global;
 use std::test::Fail;
 
-fn bytes(alloc: Global, content: &[u8]) -> Result<Bytes, Memory> {
+pub(crate) fn bytes(alloc: Global, content: &[u8]) -> Result<Bytes, Memory> {
     Bytes::from_slice(alloc, content)
 }
 
-fn at(number: u64) -> Result<Version, Fail> {
+pub(crate) fn at(number: u64) -> Result<Version, Fail> {
     Ok(Version::new(number).ok_or("no version")?)
 }
 

@@ -20,3 +20,5 @@ mod made;
 mod scene;
 #[cfg(test)]
 mod stops;
+#[cfg(test)]
+mod then;

@@ -100,6 +100,25 @@ impl ShardStore for FailsOnce {
         self.store.get(alloc, key)
     }
 
+    fn get_at(
+        &mut self,
+        alloc: Global,
+        key: &Bytes,
+        version: Version,
+    ) -> Result<Option<Bytes>, StoreFault> {
+        if self.is_failed {
+            return Err(StoreFault::Failed);
+        }
+        if self.store.floor() > version {
+            return Err(StoreFault::BelowFloor);
+        }
+        if self.store.applied() < version {
+            return Err(StoreFault::AboveApplied);
+        }
+        self.read()?;
+        self.store.get_at(alloc, key, version)
+    }
+
     fn range(&mut self, alloc: Global, shard: &Shard) -> Result<Vec<(Bytes, Bytes)>, StoreFault> {
         self.read()?;
         self.store.range(alloc, shard)

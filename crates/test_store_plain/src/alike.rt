@@ -1,7 +1,7 @@
 //! Whether a store does what lists do.
-use crate::draw::{Step, drawn, key, version};
+use crate::draw::{Step, drawn, key, near, version};
 use crate::slow_store::SlowStore;
-use fr_base::Bytes;
+use fr_base::{Bytes, Version};
 use fr_mutation::Shard;
 use fr_undo::{ShardStore, StoreFault};
 use rand_pcg::Pcg32;
@@ -36,6 +36,23 @@ fn agree_at<S: ShardStore>(
         (None, None) => true,
         _ => false,
     })
+}
+
+/// Whether a read of a key at a version is answered alike by both.
+fn agree_then<S: ShardStore>(
+    alloc: Global,
+    store: &mut S,
+    slow: &SlowStore,
+    key: &Bytes,
+    version: Version,
+) -> bool {
+    let answer = store.get_at(alloc, key, version);
+    match (answer, slow.get_at(key.as_slice(), version.get())) {
+        (Ok(Some(value)), Ok(Some(other))) => value.as_slice() == other,
+        (Ok(None), Ok(None)) => true,
+        (Err(fault), Err(other)) => fault == other,
+        _ => false,
+    }
 }
 
 /// Whether the keys of a shard are those of the whole from its begin up to its end.
@@ -95,7 +112,7 @@ fn follows<S: ShardStore>(
     Ok(answer == wanted && agree(alloc, store, slow)?)
 }
 
-/// Whether a store has the same value at a key, and the same keys in a range.
+/// Whether a store has the same value at a key, now and at a version near the last one, and the same keys in a range.
 pub fn looks_alike<S: ShardStore>(
     alloc: Global,
     rng: &mut Pcg32,
@@ -104,7 +121,12 @@ pub fn looks_alike<S: ShardStore>(
 ) -> Result<bool, Fail> {
     let begin = key(alloc, rng)?;
     let end = key(alloc, rng)?;
-    Ok(agree_at(alloc, store, slow, &begin)? && agree_between(alloc, store, slow, begin, end)?)
+    let then = near(rng, slow.applied)?;
+    Ok(
+        agree_at(alloc, store, slow, &begin)?
+            && agree_then(alloc, store, slow, &begin, then)
+            && agree_between(alloc, store, slow, begin, end)?,
+    )
 }
 
 /// Whether a store goes back as the lists do, one version after the other.

@@ -70,6 +70,12 @@ pub fn version(number: u64) -> Result<Version, Fail> {
     Ok(Version::new(number).ok_or("too great a version")?)
 }
 
+/// A version from six below the last one up to the next.
+pub fn near(rng: &mut Pcg32, applied: u64) -> Result<Version, Fail> {
+    let back = u64::from(rng.next_u32() % 8);
+    version(applied.saturating_add(1).saturating_sub(back))
+}
+
 /// A call of a store.
 #[derive(Drop)]
 pub enum Step {

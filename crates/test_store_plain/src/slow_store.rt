@@ -11,11 +11,13 @@ struct Row {
     before: Option<Vec<u8>>,
 }
 
-/// Keys with values in no order, and undo rows in no order.
+/// Keys with values in no order, undo rows in no order, and all that the keys held at each version that was applied,
+/// the last one first.
 #[derive(Debug, Drop)]
 pub struct SlowStore {
     data: Vec<(Vec<u8>, Vec<u8>)>,
     undo: Vec<Row>,
+    past: Vec<(u64, Vec<(Vec<u8>, Vec<u8>)>)>,
     pub applied: u64,
     pub floor: u64,
 }
@@ -158,6 +160,7 @@ impl SlowStore {
         SlowStore {
             data: Vec::new(alloc),
             undo: Vec::new(alloc),
+            past: Vec::new(alloc),
             applied: 0,
             floor: 0,
         }
@@ -165,6 +168,22 @@ impl SlowStore {
 
     pub fn get(&self, key: &[u8]) -> Option<&[u8]> {
         find(self.data.as_slice(), key)
+    }
+
+    /// The value that a key had at a version: what the last version through there left, which no undo row says.
+    pub fn get_at(&self, key: &[u8], version: u64) -> Result<Option<&[u8]>, StoreFault> {
+        if version < self.floor {
+            return Err(StoreFault::BelowFloor);
+        }
+        if version > self.applied {
+            return Err(StoreFault::AboveApplied);
+        }
+        for (applied, data) in &self.past {
+            if *applied <= version {
+                return Ok(find(data.as_slice(), key));
+            }
+        }
+        Ok(None)
     }
 
     pub fn undo_rows(&self) -> usize {
@@ -220,6 +239,7 @@ impl SlowStore {
                 self.keep_row(alloc, version, key.as_slice(), None)?;
             }
         }
+        self.past.insert(0, (version, new))?;
         self.applied = version;
         Ok(Ok(()))
     }
@@ -242,6 +262,7 @@ impl SlowStore {
             }
         }
         self.undo.retain(|row| row.version <= version);
+        self.past.retain(|kept| kept.0 <= version);
         self.applied = self.applied.min(version);
         Ok(Ok(()))
     }
@@ -277,6 +298,7 @@ impl SlowStore {
         Ok(SlowStore {
             data: self.data.clone()?,
             undo,
+            past: self.past.clone()?,
             applied: self.applied,
             floor: self.floor,
         })

@@ -1,4 +1,4 @@
-use Rattle.std.proofs.Common.{ap, sym, ◌∙◌, subst}
+use Rattle.std.proofs.Common.{ap, sym, ◌∙◌, subst, arith}
 use Rattle.std.proofs.lemmas.Map.Keys.{le_from_not_gt}
 use Rattle.std.specs.Prelude.{nat_lt}
 use Rattle.fr_undo.specs.Rows.{IsInOrder}
@@ -18,9 +18,11 @@ invariant_of-self c =
     let above = above_from_gt f a.floor (cc (c.gt-2.ensures, c.if-gt-2.true)) in
     record {
       sound =
-          subst IsStoreState (sym (forgotten_fields a.contents a.rows.items c.drop_through.new.rows.items a.applied a.floor f a.bytes above c.drop_through.ensures))
+          subst IsStoreState (sym (forgotten_fields a.contents a.rows.items c.drop_through.new.rows.items a.applied a.floor f a.bytes above c.drop_through.ensures.rows))
           (forgotten_sound (state_of a) f c.self.invariant.sound (le_from_not_gt f a.applied (cc (c.gt.ensures, c.if-gt.false))));
-      order = subst IsInOrder (sym c.drop_through.ensures) (order-filter (λ p. nat_lt f p.0) a.rows.items c.self.invariant.order);
+      order = subst IsInOrder (sym c.drop_through.ensures.rows) (order-filter (λ p. nat_lt f p.0) a.rows.items c.self.invariant.order);
+      index = c.drop_through.ensures.index;
+      through = let same = c.drop_through.ensures.through in let upto = c.self.invariant.through in omega arith;
     }
 
 pub returns-then-gt-2-clause-writes : goal.returns-then-gt-2-clause-writes
@@ -28,7 +30,7 @@ returns-then-gt-2-clause-writes c =
     let a = c.self.inside in
     let f = c.args.version in
     let above = above_from_gt f a.floor (cc (c.gt-2.ensures, c.if-gt-2.true)) in
-    let made = forgotten_fields a.contents a.rows.items c.drop_through.new.rows.items a.applied a.floor f a.bytes above c.drop_through.ensures in
+    let made = forgotten_fields a.contents a.rows.items c.drop_through.new.rows.items a.applied a.floor f a.bytes above c.drop_through.ensures.rows in
     writes_all _ _ _
     (made ∙ ap (λ (s : StoreState). forgotten s f) c.self.view_is)
     (subst IsStoreState (sym made) (forgotten_sound (state_of a) f c.self.invariant.sound (le_from_not_gt f a.applied (cc (c.gt.ensures, c.if-gt.false)))))
@@ -43,5 +45,8 @@ returns-else-gt-2-clause-writes c =
     ∙ ap (λ (s : StoreState). forgotten s f) c.self.view_is)
     (subst IsStoreState c.self.view_is c.self.invariant.sound)
 
-pub drop_through-requires : goal.drop_through-requires
-drop_through-requires c = c.self.invariant.order
+pub drop_through-requires-clause-order : goal.drop_through-requires-clause-order
+drop_through-requires-clause-order c = c.self.invariant.order
+
+pub drop_through-requires-clause-index : goal.drop_through-requires-clause-index
+drop_through-requires-clause-index c = c.self.invariant.index
