@@ -5,6 +5,7 @@ pub mod Law
 pub mod Laws
 pub mod Position
 pub mod Pull
+pub mod Reads
 pub mod Server
 pub mod Standing
 pub mod Storage

@@ -1,4 +1,4 @@
-//! Why a storage server did not take what it heard.
+//! Why a storage server did not take what it heard, or does not answer a read.
 use fr_base::Memory as NoMemory;
 use fr_undo::StoreFault;
 use thiserror::Error;
@@ -31,6 +31,25 @@ pub enum StorageFault {
     /// The bytes that the store keeps are no coordinated state.
     #[error("the store keeps no coordinated state")]
     BadState,
+}
+
+/// Why a storage server does not answer a read at a version. A server whose store failed tells so first, as
+/// `Store(Failed)`; else of several reasons the first in the order of these variants is told.
+#[derive(Clone, Copy, Debug, PartialEq, Eq, Error)]
+pub enum ReadFault {
+    /// The key is not of its shard.
+    #[error("the key is not of the shard")]
+    NotMine,
+    /// The version is below the floor, so undo rows that are wanted are gone.
+    #[error("the version is below the floor")]
+    TooOld,
+    /// The version is above the one applied.
+    #[error("the version is above the one applied")]
+    FutureVersion,
+    /// The store refused the call, or memory ran out. If its device failed, the server answers `Store(Failed)`
+    /// until it is opened again.
+    #[error("{0}")]
+    Store(StoreFault),
 }
 
 impl From<StoreFault> for StorageFault {

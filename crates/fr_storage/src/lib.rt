@@ -7,6 +7,6 @@ mod laws;
 mod storage;
 
 pub use answer::Answer;
-pub use fault::StorageFault;
+pub use fault::{ReadFault, StorageFault};
 pub use laws::{follow_law, piece_law, position_law, storage_law};
 pub use storage::Storage;

@@ -10,6 +10,7 @@ mod course;
 mod marked;
 mod opening;
 mod peeked;
+mod reading;
 
 use crate::fault::StorageFault;
 use crate::laws::lower_laws;
@@ -30,7 +31,8 @@ const MOST: u8 = 100;
 /// with undo rows in its store in place of a window of versions in memory.
 ///
 /// A call of the store that is refused leaves the server failed: it keeps what it kept before, and each call
-/// but [`reopen`](Storage::reopen) is answered `Store(Failed)`.
+/// but [`reopen`](Storage::reopen) is answered `Store(Failed)`. A [read](Storage::read) does so only if the
+/// device failed.
 #[derive(Drop)]
 pub struct Storage<S: ShardStore> {
     tag: Tag,

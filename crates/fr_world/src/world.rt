@@ -11,16 +11,17 @@ ghost use Rattle.fr_run_event.specs.Tests as tests;
 ghost use Rattle.fr_run_event.specs.At.{last_at, proxy_if_there};
 ghost use Rattle.fr_world_kept.specs.Kept.{state_of, IsKept};
 ghost use Rattle.fr_world_nodes.specs.Parts.{server_of};
+ghost use Rattle.fr_world_nodes.specs.Reads.{IsReadAt};
 ghost use Rattle.fr_world_turns.specs.Turns.{history_of};
 
 use crate::step::{step, step_owned};
 use fr_ask::{Ask, Last, Tell};
-use fr_base::{Ballot, Epoch, Memory, NodeId, Tag};
+use fr_base::{Ballot, Bytes, Epoch, Memory, NodeId, Tag, Version};
 use fr_epoch::Recoverer;
 use fr_proxy::Proxy;
 use fr_run_event::{Answer, Config, Event, NotEnabled};
 use fr_run_headline::laws::safety_law;
-use fr_storage::Storage;
+use fr_storage::{ReadFault, Storage};
 use fr_undo::MapStore;
 use fr_world_kept::Nodes;
 use fr_world_turns::Turn;
@@ -145,6 +146,22 @@ impl World {
         ensures works { IfSome result (λ s. s.now.failed ≡ false) }
     {
         self.nodes.storage(tag)
+    }
+
+    /// What the storage server of a tag answers a read of a key at a version: the value that the key had then, from
+    /// the server's floor through the version that it applied. Nothing happens. None if there is no such shard.
+    pub fn read(
+        &mut self,
+        alloc: Global,
+        tag: Tag,
+        key: &Bytes,
+        version: Version,
+    ) -> Option<Result<Option<Bytes>, ReadFault>>
+        ensures there { is_some result ≡ nat_lt tag (length self.old.config.begins) }
+        ensures read { IfSome result (IsReadAt self.old.config self.old.turns tag key.now version) }
+        ensures same { self.new ≡ self.old }
+    {
+        self.nodes.read(alloc, tag, key, version)
     }
 
     /// The recoverer of a ballot, from its begin on, also if it is gone.

@@ -31,6 +31,28 @@ pub server_there : (c : Config) (h : List Turn) (storages : Storages) → AreSto
 server_there c h storages k tag n same l s e =
     slice_get-get_or storages tag s (subst (λ m. tag < m) (sym k.all) l) ∙ ap Some (sym (e ∙ ap (λ m. slice_index_or storages m s) same))
 
+-- the servers after a read of one of them, which leaves it as it was
+storages_read : (c : Config) (h : List Turn) (storages : Storages) → AreStorages c h storages → (tag n : ℕ) → n ≡ tag → (s : Server StoreState) → server_of s ≡ storage_at c h tag → s.failed ≡ false → AreStorages c h (slice_set storages n s)
+storages_read c h storages k tag n same s own works = record {
+  all = length-set storages n s ∙ k.all;
+  each = each_set (λ j x. server_of x ≡ storage_at c h j) storages n s (λ j x ne at. k.each j x at) (subst (λ m. server_of s ≡ storage_at c h m) (sym same) own);
+  work = each_set (λ j x. x.failed ≡ false) storages n s (λ j x ne at. k.work j x at) works;
+}
+
+-- what a world keeps is kept by a read
+pub world_read : (c : Config) (h : List Turn) (cells : List CellState) (logs : Logs) (sequencers : Sequencers) (proxies : Proxies) (recoverers : Recoverers) (storages : Storages) → IsWorld c h cells logs sequencers proxies recoverers storages
+    → (tag n : ℕ) → n ≡ tag → (s : Server StoreState) → server_of s ≡ storage_at c h tag → s.failed ≡ false → IsWorld c h cells logs sequencers proxies recoverers (slice_set storages n s)
+world_read c h cells logs sequencers proxies recoverers storages w tag n same s own works = record {
+  within = w.within;
+  run = w.run;
+  cells_are = w.cells_are;
+  logs_are = w.logs_are;
+  sequencers_are = w.sequencers_are;
+  proxies_are = w.proxies_are;
+  recoverers_are = w.recoverers_are;
+  storages_are = storages_read c h storages w.storages_are tag n same s own works;
+}
+
 -- the servers after a tell to one of them
 storages_next : (c : Config) (h : List Turn) (tag : ℕ) (from : NodeId) (t : Tell) (taken : Option ℕ) (fault : Option StorageFault) (storages : Storages) (s : Server StoreState) → AreStorages c h storages
     → server_of s ≡ storage_hear taken (storage_at c h tag) from t → s.failed ≡ false → AreStorages c (StorageHeard tag from t taken fault ∷ h) (slice_set storages tag s)

@@ -10,13 +10,15 @@ ghost use Rattle.fr_run_event.specs.Step.{breaks_in, may_break};
 ghost use Rattle.fr_run_event.specs.Last as last;
 ghost use Rattle.fr_run.specs.Turn.{Turn};
 ghost use Rattle.fr_world_nodes.specs.Parts.{server_of, is_ok_true, AreStorages};
+ghost use Rattle.fr_world_nodes.specs.Reads.{IsRead};
 
 use fr_ask::{Last, Tell};
-use fr_base::{Epoch, Memory, NodeId, Version};
+use fr_base::{Bytes, Epoch, Memory, NodeId, Version};
 use fr_log::{LogAsk, LogTell};
+use fr_mutation::Shard;
 use fr_run_event::{Config, last_of_storage};
 use fr_state::Generation;
-use fr_storage::{Storage, StorageFault};
+use fr_storage::{ReadFault, Storage, StorageFault};
 use fr_undo::MapStore;
 use std::alloc::Global;
 
@@ -95,6 +97,22 @@ fn refusal(heard: Result<(), StorageFault>) -> Result<Option<StorageFault>, Memo
         Err(StorageFault::Store(_)) => Err(Memory),
         Err(fault) => Ok(Some(fault)),
     }
+}
+
+/// What the server of a shard answers a read of a key at a version. It stays as it is.
+pub fn read_server(
+    alloc: Global,
+    server: &mut Storage<MapStore>,
+    shard: &Shard,
+    key: &Bytes,
+    version: Version,
+) -> Result<Option<Bytes>, ReadFault>
+    requires { server.old.failed ≡ false }
+    ensures read { IsRead shard.now (server_of server.old) key.now version result }
+    ensures stays { server_of server.new ≡ server_of server.old }
+    ensures works { server.new.failed ≡ false }
+{
+    server.read(alloc, shard, key, version)
 }
 
 /// Whether a server's hear of a tell can break off at a version. It takes no memory.

@@ -7,17 +7,18 @@ ghost use Rattle.fr_run.specs.Nodes as nodes;
 ghost use Rattle.fr_run_event.specs.At.{last_at, proxy_if_there};
 ghost use Rattle.fr_run_event.specs.Last as last;
 ghost use Rattle.fr_world_nodes.specs.Parts.{server_of};
+ghost use Rattle.fr_world_nodes.specs.Reads.{IsReadAt};
 ghost use Rattle.fr_world_kept.specs.Kept.{state_of, IsKept};
 
 use super::Nodes;
 use fr_ask::{Last, Named};
-use fr_base::{Ballot, Epoch, LogId, Memory, NodeId, Tag};
+use fr_base::{Ballot, Bytes, Epoch, LogId, Memory, NodeId, Tag, Version};
 use fr_epoch::Recoverer;
 use fr_proxy::Proxy;
 use fr_run_event::{last_of_proxy, last_of_recoverer};
-use fr_storage::Storage;
-use fr_undo::MapStore;
-use fr_world_nodes::storages::last_of_copy;
+use fr_storage::{ReadFault, Storage};
+use fr_undo::{MapStore, StoreFault};
+use fr_world_nodes::storages::{last_of_copy, read_server};
 use std::alloc::Global;
 
 impl Nodes {
@@ -29,6 +30,34 @@ impl Nodes {
         ensures works { IfSome result (λ s. s.now.failed ≡ false) }
     {
         self.storages.get(usize::from(tag.get()))
+    }
+
+    /// What the storage server of a tag answers a read of a key at a version.
+    pub fn read(
+        &mut self,
+        alloc: Global,
+        tag: Tag,
+        key: &Bytes,
+        version: Version,
+    ) -> Option<Result<Option<Bytes>, ReadFault>>
+        requires { IsKept self.old }
+        ensures there { is_some result ≡ nat_lt tag (length (state_of self.old).config.begins) }
+        ensures read { IfSome result (IsReadAt (state_of self.old).config (state_of self.old).turns tag key.now version) }
+        ensures world { state_of self.new ≡ state_of self.old }
+        ensures stays { IsKept self.new }
+    {
+        let number = usize::from(tag.get());
+        match self.config.map().shard_of(alloc, tag) {
+            Ok(Some(shard)) => Some(read_server(
+                alloc,
+                &mut self.storages[number],
+                &shard,
+                key,
+                version,
+            )),
+            Ok(None) => None,
+            Err(_) => Some(Err(ReadFault::Store(StoreFault::Memory))),
+        }
     }
 
     /// The recoverer of a ballot.
