@@ -16,7 +16,7 @@ STATEMENTS = (
 RUN = ("fr_runtime", "cluster.rt", "run")
 BESIDE = (
     ("fr_run_outcomes", "laws.rt", ("once_law", "lost_law")),
-    ("fr_run_serving", "laws.rt", ("serving_law", "loss_law", "snapshot_law")),
+    ("fr_run_serving", "laws.rt", ("serving_law", "loss_law", "snapshot_law", "read_law")),
     (
         "fr_run_progress",
         "laws.rt",
@@ -210,8 +210,8 @@ def beside(closure, code):
 def counted(title, keys):
     places = len({it[:2] for it in keys if it[1]})
     types = len([it for it in keys if it[1] is None])
-    words = f"{len(keys) - types} definitions in {places} modules, and {types} types of the code, seen as their models."
-    return [title, "", words]
+    seen = "1 type of the code, seen as its model" if types == 1 else f"{types} types of the code, seen as their models"
+    return [title, "", f"{len(keys) - types} definitions in {places} modules, and {seen}."]
 
 
 def contract_of(text, function):

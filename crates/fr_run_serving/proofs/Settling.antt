@@ -36,7 +36,7 @@ use Rattle.fr_run_contents.specs.Contents.{IsTrueTell}
 use Rattle.fr_run_contents.proofs.IssuedLists.{version_of}
 use Rattle.fr_run_contents.proofs.Lists.{planned_list, planned_line_stays}
 use Rattle.fr_run_contents.proofs.Truths.{peeks_are_true}
-use Rattle.fr_run_contents.proofs.Versions.{through, through_twice}
+use Rattle.fr_run_contents.proofs.Versions.{through_twice}
 use Rattle.fr_run_headline.specs.Agreement.{pieces_at}
 use Rattle.fr_run_headline.specs.Storages.{IsStorageOf}
 use Rattle.fr_run_headline.specs.Committed.{map_after, shard_of, LatestIsThere}
@@ -50,6 +50,7 @@ use Rattle.fr_run_headline.proofs.Keeping.{viewed_cut}
 use Rattle.fr_run_headline.proofs.Later.{run_before, still_chosen, still_below, issued_still}
 use Rattle.fr_run_headline.proofs.Splits.{IsLaterSplit, later_split, below_is_within}
 use Rattle.fr_run_serving.specs.Snapshots.{IsSettledAt, SettledIsSnapshot, FloorIsSettled, SettledStays, SnapshotStays}
+use Rattle.fr_run_serving.specs.Reads.{CommittedStays}
 
 -- ---- firm versions
 
@@ -402,8 +403,7 @@ floor_is_settled laws stays seeded c h config run latest is tag =
 -- ---- the same read
 
 -- through a version that is settled the committed list stays the same
-committed_same : Laws → (c : Config) (h more : List Turn) → IsConfig c → IsRun c (more ++ h) → (latest later version : ℕ) → IsLatest c h latest → IsLatest c (more ++ h) later → version ≤ least_durable c h latest
-    → through version_of version (committed c (more ++ h) later) ≡ through version_of version (committed c h latest)
+pub committed_same : Laws → CommittedStays
 committed_same laws c h more config run latest later version is now low =
     let before = run_before c more h run in
     let g = chosen_is_planned laws.contents.nodes c h before latest is.chosen in

@@ -1,3 +1,4 @@
 pub mod Losses
 pub mod Snapshots
+pub mod Reads
 pub mod Serving

@@ -1,4 +1,4 @@
--- Reads at a version: the undo rows of a storage server give what is committed at each version from its floor on.
+-- Snapshots: the undo rows of a storage server give what is committed at each version from its floor on.
 use Rattle.std.specs.Prelude.{◌≡◌, ◌≤◌, ℕ, List, ◌++◌, IfSome}
 use Rattle.std.specs.FinMap.{get}
 use Rattle.fr_state.specs.LookUp.{cut_of}
@@ -42,7 +42,7 @@ SettledStays =
     (c : Config) (h more : List Turn) → IsConfig c → IsRun c (more ++ h) → (latest later : ℕ) → IsLatest c h latest → IsLatest c (more ++ h) later → (tag version : ℕ)
     → IsSettledAt c h latest tag version → (storage_at c (more ++ h) tag).store.floor ≤ version → IsSettledAt c (more ++ h) later tag version
 
--- and a read at it says the same
+-- and what the server has at it is the same
 abbrev pub SnapshotStays : Type 0
 SnapshotStays =
     (c : Config) (h more : List Turn) → IsConfig c → IsRun c (more ++ h) → (tag version latest : ℕ) → IsLatest c h latest

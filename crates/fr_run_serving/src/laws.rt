@@ -2,6 +2,7 @@
 ghost use Rattle.fr_run_contents.specs.Laws as contents;
 ghost use Rattle.fr_run_headline.specs.Laws.{Laws};
 ghost use Rattle.fr_run_serving.specs.Losses.{HoldersHaveCommitted, RetrievableIsExact};
+ghost use Rattle.fr_run_serving.specs.Reads.{CommittedStays, ReadIsCommitted, ReadStays};
 ghost use Rattle.fr_run_serving.specs.Serving.{ServingIsSwept, ServingTells};
 ghost use Rattle.fr_run_serving.specs.Snapshots.{FloorIsSettled, SettledIsSnapshot, SettledStays, SnapshotStays};
 ghost use Rattle.fr_storage.specs.Laws as storage;
@@ -105,5 +106,18 @@ pub fn snapshot_law()
     lower_laws();
     below_law();
     seeded_law();
+    committed_law();
+}
+
+/// What `Storage::read` answers at such a version, for a key of the tag's shard, is the committed map's value of the
+/// key at that version. It answers so at each later moment, until the floor passes the version: recoveries, rollbacks
+/// and losses of logs change neither what is committed there nor that the version is settled.
+pub fn read_law()
+    ensures committed { ReadIsCommitted }
+    ensures stays { ReadStays }
+    ensures same { CommittedStays }
+{
+    lower_laws();
+    snapshot_law();
     committed_law();
 }
