@@ -12,7 +12,7 @@ TOP = os.path.dirname(BENCH)
 COMMANDS = ("apply", "end", "simulate", "audit")
 # Scripts that are made: by what, with which words, for which command.
 MADE = [("scripts", [kind, "30", "1"], "apply") for kind in ("small", "undos", "forgets")]
-MADE += [("steps", [kind, "40", str(seed)], "simulate") for kind in ("chaos", "shapes", "pops") for seed in range(1, 9)]
+MADE += [("steps", [kind, "40", str(seed)], "simulate") for kind in ("chaos", "shapes", "pops", "reads") for seed in range(1, 9)]
 MADE += [("steps", ["recoveries", "30", "1"], "simulate"), ("steps", ["replies", "20", "1"], "end")]
 MADE += [("journals", ["60"], "audit")]
 

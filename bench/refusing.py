@@ -146,6 +146,21 @@ def of_player(ended, first):
     return "wanted" if is_end else f"status {ended.status}"
 
 
+MISSED = re.compile(rb"^[\w.]+:\d+: told (\d+)\n    wanted (\d+)\n", re.M)
+
+
+def of_housed(ended, first):
+    """A node with its journal may have entered an ask for whose answer there was no memory. The player, which looks how
+    many entries there are, then finds one more than before, and leaves that scenario."""
+    missed = MISSED.search(ended.said)
+    if ended.status != 1 or not missed or int(missed[1]) != int(missed[2]) + 1:
+        return of_player(ended, first)
+    before, behind = ended.said[: missed.start()].splitlines(), ended.said[missed.end() :].splitlines()
+    lines = first.said.splitlines()
+    is_right = lines[: len(before)] == before and lines[len(before) + 1 :] == behind
+    return "wanted" if is_right else "another scenario does not hold"
+
+
 def of_test(ended, _):
     said = ended.said + ended.complained
     if ended.status == 0 and b"test result: ok" in said:

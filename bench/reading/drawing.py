@@ -278,7 +278,9 @@ class Drawn:
         row = self.row_of(word, given)
         wanted = self.events.happen(word, json.loads(json.dumps(given)))
         is_server = word == "hear" and "storage" in given["by"] and self.events.stamp > turns
-        self.rows.append((*row, wanted, self.events.last(given["by"]) if is_server else None))
+        last = self.events.last(given["by"]) if is_server else None
+        reads = list(self.reads(number, given["by"]["storage"]["tag"])) if is_server else []
+        self.rows.append((*row, wanted, last, reads))
         self.new_asks += self.events.asks[asks:]
         self.new_tells += self.events.tells[tells:]
         if self.events.stamp == turns:
@@ -302,6 +304,19 @@ class Drawn:
             self.came.add(key)
             return word, {"from": given["by"], "to": given["to"], "ask": given["ask"] if number is None else number}
         return word, given
+
+    def reads(self, number, tag):
+        """Two reads of a storage server with their answers, drawn apart: around the versions of its batches, most of keys
+        that it ever held."""
+        dice, server = random.Random(f"{self.seed} {number} reads"), self.events.nodes.storages[tag]
+        past = self.events.rows[tag]
+        keys = sorted({key.hex() for _, rows in past for key in rows}) or [self.config["shards"][tag]]
+        ends = {server.floor - 1, server.floor, server.version, server.version + 1}
+        versions = sorted(it for it in ends | {at - less for at, _ in past for less in (0, 1)} if it >= 0)
+        for _ in range(2):
+            key, other = dice.choice(BEGINS if dice.randrange(8) == 0 else keys), dice.randrange(16) == 0
+            given = {"key": key, "tag": tag + other, "version": dice.choice(versions)}
+            yield given, self.events.read(**given)
 
     def stood(self, tag, wanted):
         where, rows = self.events.stands(tag)

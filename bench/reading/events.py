@@ -242,6 +242,21 @@ class Events:
             last["rows"] = [[key.hex(), value.hex()] for key, value in rows]
         return last
 
+    def read(self, tag, key, version):
+        """What a storage server answers a read: what its rows were once it had applied the last batch through a version, or
+        the name of why it does not say."""
+        if not 0 <= tag < len(self.rows):
+            return "NoSuchNode"
+        server, key = self.nodes.storages[tag], bytes.fromhex(key)
+        if not self.nodes.shards[tag].has(key):
+            return "NotMine"
+        if version < server.floor:
+            return "TooOld"
+        if version > server.version:
+            return "FutureVersion"
+        value = next(rows for at, rows in reversed(self.rows[tag]) if at <= version).get(key)
+        return None if value is None else value.hex()
+
     def stands(self, tag):
         """Where a storage server stands, as a line of a run."""
         last = self.last({"storage": {"tag": tag}})

@@ -22,14 +22,16 @@ def name_of(node):
 
 def rows_of(world):
     """The rows of a world's scenario: the config, each event, where a storage server stands where it came to stand
-    elsewhere, and at the end where each node stands, how many turns there were and what comes of all events anew."""
+    elsewhere, with reads of it, and at the end where each node stands, how many turns there were and what comes of all
+    events anew."""
     found = [f"world {json_of(world.config)}"]
     stood = {}
-    for word, given, wanted, last in world.rows:
+    for word, given, wanted, last, reads in world.rows:
         found.append(f"{word} {json_of(given)} -> {json_of(wanted)}")
         if last is not None and stood.get(json_of(given["by"])) != last:
             stood[json_of(given["by"])] = last
             found.append(f"state {json_of(given['by'])} -> {json_of(last)}")
+            found += [f"read {json_of(it)} -> {json_of(answer)}" for it, answer in reads]
     events = world.events
     for text in sorted(events.journals):
         name = json.loads(text)

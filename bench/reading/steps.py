@@ -15,6 +15,7 @@ class Steps:
     def __init__(self, config):
         self.events = Events(config)
         self.storages = len(config["shards"])
+        self.reads = []
 
     def take(self, step):
         ((word, what),) = step.items()
@@ -69,6 +70,12 @@ class Steps:
     def pop(self, it):
         through = self.server(it).floor
         self.of_storage(it, {"pop": {"epoch": it["epoch"], "tag": it["storage"], "through": through}})
+
+    def read(self, it):
+        answer = self.events.read(it["storage"], it["key"], it["version"])
+        said = {"": "-", None: "none"}.get(answer, answer)
+        is_name = said[0].isupper()
+        self.reads.append(f"read {it['storage']} {it['version']} {'refused ' if is_name else ''}{said}")
 
     def recover(self, it):
         name = {"recoverer": {"ballot": it["ballot"]}}

@@ -107,7 +107,7 @@ impl Shards {
     }
 
     /// The shard of a key.
-    fn of(&self, key: &[u8]) -> usize {
+    pub fn of(&self, key: &[u8]) -> usize {
         self.0.partition_point(|begin| begin.as_slice() <= key) - 1
     }
 

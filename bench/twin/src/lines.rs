@@ -53,7 +53,7 @@ pub fn push_row(line: &mut Vec<u8>, key: &[u8], value: &[u8]) {
 }
 
 /// Lower-case hex, or `-` for no bytes.
-fn push_text(text: &mut Vec<u8>, bytes: &[u8]) {
+pub fn push_text(text: &mut Vec<u8>, bytes: &[u8]) {
     if bytes.is_empty() {
         text.push(b'-');
         return;

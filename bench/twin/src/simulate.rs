@@ -2,11 +2,11 @@
 
 use crate::batch::{Batch, BatchFault};
 use crate::journal::{write_script, Journals};
-use crate::forms::{object, variants, Ballot, CellPlace, Count, Epoch, Place, Step, Tag};
-use crate::lines::push_row;
+use crate::forms::{object, variants, Ballot, CellPlace, Count, Epoch, Place, Step, Tag, Version};
+use crate::lines::{push_row, push_text};
 use crate::messages::{Ask, CellAsk, LogAsk, LogId, LogTell, NodeId, Pop, Tell};
 use crate::proxy::Outcome;
-use crate::script::Mutations;
+use crate::script::{Bytes, Mutations};
 use crate::state::Shape;
 use crate::world::{ConfigForm, Heard, NotEnabled, World};
 use serde_json::Value;
@@ -27,6 +27,7 @@ object! {
 object! { PushForm { epoch: u64 as Epoch, proxy: u8 as Place, logs: Vec<Place> as Vec<Place> } }
 object! { StorageForm { storage: u8 as Tag, epoch: u64 as Epoch, log: u8 as Place } }
 object! { LoseForm { epoch: u64 as Epoch, log: u8 as Place } }
+object! { ReadForm { storage: u8 as Tag, key: Bytes as Bytes, version: u64 as Version } }
 object! {
     RecoverForm {
         ballot: u64 as Ballot,
@@ -48,6 +49,7 @@ pub enum StepForm {
     Pop(StorageForm),
     Recover(RecoverForm, Option<Shape>),
     Lose(LogId),
+    Read(ReadForm),
 }
 
 variants! {
@@ -68,6 +70,7 @@ variants! {
             Some(StepForm::Recover(it, shape))
         },
         "lose": LoseForm => |it| Some(StepForm::Lose(LogId { epoch: it.epoch, index: it.log })),
+        "read": ReadForm => |it| Some(StepForm::Read(it)),
     }
 }
 
@@ -138,6 +141,19 @@ fn take_steps(play: &mut Play, steps: Vec<StepForm>, output: &mut impl Write) ->
                 Ok(()) => writeln!(output, "lose {} {}", log.epoch, log.index)?,
                 Err(name) => writeln!(output, "lose refused {}", name.name())?,
             },
+            StepForm::Read(ReadForm { storage, key, version }) => {
+                write!(output, "read {storage} {version} ")?;
+                match play.world.read(storage, &key.0, version) {
+                    Ok(Some(value)) => {
+                        let mut line = Vec::new();
+                        push_text(&mut line, value);
+                        line.push(b'\n');
+                        output.write_all(&line)?;
+                    }
+                    Ok(None) => writeln!(output, "none")?,
+                    Err(name) => writeln!(output, "refused {name}")?,
+                }
+            }
         }
     }
     Ok(())

@@ -61,6 +61,22 @@ impl Store {
             .map(|(k, v)| (k.as_slice(), v.as_slice()))
     }
 
+    /// The value that a key had at a version: what the next version that changed it found there, and now's where none did.
+    pub fn value_at(&self, key: &[u8], version: u64) -> Result<Option<&[u8]>, StoreFault> {
+        if version < self.floor {
+            return Err(StoreFault::BelowFloor);
+        }
+        if version > self.applied {
+            return Err(StoreFault::AboveApplied);
+        }
+        let later = self.undo.iter().skip_while(|undo| undo.version <= version);
+        let found = later.flat_map(|undo| undo.rows.iter()).find(|row| row.0 == key);
+        Ok(match found {
+            Some((_, before)) => before.as_deref(),
+            None => self.values.get(key).map(Vec::as_slice),
+        })
+    }
+
     pub fn apply(&mut self, version: u64, batch: Batch) -> Result<(), StoreFault> {
         self.advance(version)?;
         let mutations = batch.into_mutations();

@@ -10,6 +10,7 @@ use crate::recoverer::Recoverer;
 use crate::script::Bytes;
 use crate::state::{Generation, Shape, State};
 use crate::storage::{Storage, StorageFault, Unheard};
+use crate::store::StoreFault;
 use std::collections::BTreeMap;
 use std::sync::Arc;
 
@@ -203,6 +204,18 @@ impl World {
 
     pub fn storage(&self, tag: u8) -> Option<&Storage> {
         self.storages.get(usize::from(tag))
+    }
+
+    /// What the storage server of a tag answers a read of a key at a version: its value then, or why it does not say.
+    pub fn read(&self, tag: u8, key: &[u8], version: u64) -> Result<Option<&[u8]>, &'static str> {
+        let storage = self.storage(tag).ok_or(NotEnabled::NoSuchNode.name())?;
+        if self.config.shards.of(key) != usize::from(tag) {
+            return Err("NotMine");
+        }
+        storage.store.value_at(key, version).map_err(|fault| match fault {
+            StoreFault::BelowFloor => "TooOld",
+            _ => "FutureVersion",
+        })
     }
 
     /// A recoverer begins, to open a generation of a shape. Ballot 0 is nobody's, and that of the first epoch was used

@@ -65,6 +65,8 @@ its mark, so a first batch with step 1 has version 2. A step is one of
       generation has this shape, and else that of the one before
   {\"lose\":{\"epoch\":E,\"log\":I}}
       a log is lost for good
+  {\"read\":{\"storage\":S,\"key\":\"61\",\"version\":V}}
+      a storage server answers what the key had at a version, and nothing changes
 
 It prints a line for each step, and then the state of each storage server, with its rows:
 
@@ -75,6 +77,7 @@ It prints a line for each step, and then the state of each storage server, with 
   recover B PHASE           reading, locking, copying, writing, chosen pev P rv R (through P all is
                             known to be committed, through R the epoch takes over) or lost WHY
   lose E I                  the log is lost
+  read S V VALUE            what the key had: as in a row, or none
   .. refused NAME           not done, and nothing changed; docs/FORMATS.md has the names
   storage S E V floor F rows N
                             server S: its epoch, version, floor and number of rows

@@ -3,6 +3,7 @@ mod commit;
 mod lose;
 mod peeks;
 mod push;
+mod reading;
 mod recover;
 mod storing;
 
@@ -21,6 +22,7 @@ pub(crate) fn line_of(alloc: Global, world: World, act: Act) -> Result<(World, S
         Act::Pull(pull) => return storing::line_of(alloc, world, Wish::Pull, &pull),
         Act::Mark(pull) => return storing::line_of(alloc, world, Wish::Mark, &pull),
         Act::Pop(pull) => return storing::line_of(alloc, world, Wish::Pop, &pull),
+        Act::Read(read) => reading::line_of(alloc, &mut world, &read),
         Act::Recover(recover) => recover::line_of(alloc, &mut world, &recover),
         Act::Lose(log) => lose::line_of(alloc, &mut world, log),
     };

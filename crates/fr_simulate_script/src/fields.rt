@@ -1,7 +1,7 @@
 //! Members of a script's objects.
 ghost use Rattle.std.specs.Prelude.{◌≡◌, ◌⊎◌, IfErr};
 
-use fr_base::{Epoch, LogId};
+use fr_base::{Epoch, LogId, Tag};
 use fr_cli_json::CliFault;
 use fr_cli_json::tree::member_of;
 use serde_json::Value;
@@ -15,6 +15,9 @@ pub(crate) const LAST_LOG: u8 = 15;
 
 /// The greatest number of a proxy in its generation.
 const LAST_PROXY: u8 = 15;
+
+/// The greatest tag.
+const LAST_TAG: u8 = 31;
 
 /// An object of this many members.
 #[derive(Clone, Copy)]
@@ -62,6 +65,13 @@ impl<'v> Fields<'v> {
         ensures fault { IfErr result (λ e. (e ≡ CliFault.BadScript) ⊎ (e ≡ CliFault.Memory)) }
     {
         self.index("proxy", LAST_PROXY)
+    }
+
+    /// The tag of a storage server under the name `storage`.
+    pub(crate) fn storage(self) -> Result<Tag, CliFault>
+        ensures fault { IfErr result (λ e. (e ≡ CliFault.BadScript) ⊎ (e ≡ CliFault.Memory)) }
+    {
+        Tag::new(self.index("storage", LAST_TAG)?).ok_or(CliFault::BadScript)
     }
 
     /// The log under the names `epoch` and `log`.

@@ -6,7 +6,7 @@ ghost use Rattle.fr_cli_json.specs.Json.{data_of};
 use crate::pieces;
 use crate::setting::read_config;
 use crate::step::read_step;
-use fr_base::{Ballot, Epoch, LogId, Shape, Step, Tag};
+use fr_base::{Ballot, Bytes, Epoch, LogId, Shape, Step, Tag, Version};
 use fr_cli_json::tokens::Unread;
 use fr_cli_json::tree::{into_items, read_value, take_member};
 use fr_cli_json::{CliFault, Mutations};
@@ -33,6 +33,8 @@ pub enum Act {
     Mark(Pull),
     /// A storage server has a log let go of what it has for good.
     Pop(Pull),
+    /// A storage server answers a read.
+    Read(Read),
     /// A recoverer begins, or goes on.
     Recover(Recover),
     /// A log is lost.
@@ -62,6 +64,14 @@ pub struct Push {
 pub struct Pull {
     pub storage: Tag,
     pub log: LogId,
+}
+
+/// A storage server, and a key with the version at which it is read.
+#[derive(Drop)]
+pub struct Read {
+    pub storage: Tag,
+    pub key: Bytes,
+    pub version: Version,
 }
 
 /// A recoverer, by its ballot, with the shape of the generation that it is to open, if it begins now and one is given.

@@ -2,15 +2,14 @@
 ghost use Rattle.std.specs.Prelude.{◌≡◌, ◌⊎◌, IfErr};
 
 use crate::fields::{Fields, LAST_CELL, LAST_LOG};
-use crate::script::{Act, Commit, Pull, Push, Recover};
-use fr_base::{Ballot, Shape, Step, Tag};
+use crate::script::{Act, Commit, Pull, Push, Read, Recover};
+use fr_base::{Ballot, Shape, Step};
 use fr_cli_json::CliFault;
-use fr_cli_json::tree::{into_one_member, member_of, read_batch, take_member};
+use fr_cli_json::tree::{
+    into_one_member, member_of, read_batch, read_bytes, read_version, take_member,
+};
 use serde_json::Value;
 use std::alloc::Global;
-
-/// The greatest tag.
-const LAST_TAG: u8 = 31;
 
 /// How many members a step `recover` has.
 const RECOVER: usize = 5;
@@ -29,6 +28,7 @@ pub(crate) fn read_step(alloc: Global, value: Value) -> Result<Act, CliFault>
         "pull" => Ok(Act::Pull(read_pull(&fields)?)),
         "mark" => Ok(Act::Mark(read_pull(&fields)?)),
         "pop" => Ok(Act::Pop(read_pull(&fields)?)),
+        "read" => Ok(Act::Read(read_read(alloc, &fields)?)),
         "recover" => Ok(Act::Recover(read_recover(alloc, &fields)?)),
         "lose" => Ok(Act::Lose(Fields::new(&fields, 2).log()?)),
         _ => Err(CliFault::BadScript),
@@ -71,10 +71,21 @@ fn read_pull(value: &Value) -> Result<Pull, CliFault>
     ensures fault { IfErr result (λ e. (e ≡ CliFault.BadScript) ⊎ (e ≡ CliFault.Memory)) }
 {
     let fields = Fields::new(value, 3);
-    let storage = Tag::new(fields.index("storage", LAST_TAG)?).ok_or(CliFault::BadScript)?;
     Ok(Pull {
-        storage,
+        storage: fields.storage()?,
         log: fields.log()?,
+    })
+}
+
+/// Reads a storage server, and a key with a version.
+fn read_read(alloc: Global, value: &Value) -> Result<Read, CliFault>
+    ensures fault { IfErr result (λ e. (e ≡ CliFault.BadScript) ⊎ (e ≡ CliFault.Memory)) }
+{
+    let fields = Fields::new(value, 3);
+    Ok(Read {
+        storage: fields.storage()?,
+        key: read_bytes(alloc, Some(fields.value("key")?))?,
+        version: read_version(fields.value("version")?).ok_or(CliFault::BadScript)?,
     })
 }
 

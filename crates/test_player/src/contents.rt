@@ -59,7 +59,7 @@ pub(crate) fn play_shard(alloc: Global, scene: Scene, at: &mut usize) -> Result<
 }
 
 /// The keys from `begin` on, up to `end` if that is none.
-fn read_shard(alloc: Global, fields: &Fields) -> Result<Shard, Wrong> {
+pub(crate) fn read_shard(alloc: Global, fields: &Fields) -> Result<Shard, Wrong> {
     let begin = fields.bytes(alloc, "begin")?;
     let end = match fields.value("end")? {
         Value::Null => None,

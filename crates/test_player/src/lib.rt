@@ -15,4 +15,5 @@ mod subjects;
 mod tails;
 mod tallies;
 
+pub use storages::write_read;
 pub use subjects::play;

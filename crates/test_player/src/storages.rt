@@ -1,14 +1,15 @@
 //! Storage servers, over a store in memory, and over one that fails once.
+use crate::contents::read_shard;
 use crate::stores::read_failing;
 use crate::subjects::Nodes;
 use fr_ask::{Ask, Tell};
 use fr_base::{Bytes, Epoch, Memory, Version};
 use fr_forms::fields::{Fields, items};
 use fr_forms::lists::write_all;
-use fr_forms::object::{Object, write_text};
+use fr_forms::object::{Object, hex_value, write_text};
 use fr_forms::{ScriptFault, read_state, read_tell, write_ask, write_state};
 use fr_log::LogTell;
-use fr_storage::{Answer, Storage, StorageFault};
+use fr_storage::{Answer, ReadFault, Storage, StorageFault};
 use fr_undo::{MapStore, ShardStore, StoreFault};
 use serde_json::Value;
 use std::alloc::Global;
@@ -105,9 +106,10 @@ fn do_row<S: ShardStore + Drop>(
         "generations" => generations(alloc, storage),
         "position" => position(alloc, storage),
         "rows" => rows_of(alloc, storage.dump(alloc)),
+        "read" => read(alloc, storage, given.of(3)),
         _ => no_such_word(
             "rows of a storage server: hear, follow, follow_all, break_off, reopen, failed, next, \
-             generations, position, rows",
+             generations, position, rows, read",
         ),
     }
 }
@@ -230,6 +232,30 @@ fn write_store_fault(alloc: Global, name: &str, fault: StoreFault) -> Result<Val
     }
     let object = Object::new(alloc);
     Ok(object.and(name, write_text(alloc, fault.name()))?.value())
+}
+
+/// The value that a key of a shard had at a version, or null, or why the server does not answer.
+fn read<S: ShardStore + Drop>(
+    alloc: Global,
+    storage: &mut Storage<S>,
+    fields: &mut Fields,
+) -> Result<Value, Wrong> {
+    let key = fields.bytes(alloc, "key")?;
+    let version = fields.version("version")?;
+    let shard = read_shard(alloc, &Fields::new(fields.take("shard")?, 2))?;
+    write_read(alloc, storage.read(alloc, &shard, &key, version))
+}
+
+/// What came of a read: null if the key had no value.
+pub fn write_read(alloc: Global, read: Result<Option<Bytes>, ReadFault>) -> Result<Value, Wrong> {
+    match read {
+        Ok(Some(value)) => Ok(hex_value(alloc, value.as_slice())?),
+        Ok(None) => Ok(Value::Null),
+        Err(ReadFault::NotMine) => write_name(alloc, "NotMine"),
+        Err(ReadFault::TooOld) => write_name(alloc, "TooOld"),
+        Err(ReadFault::FutureVersion) => write_name(alloc, "FutureVersion"),
+        Err(ReadFault::Store(fault)) => write_store_fault(alloc, "store", fault),
+    }
 }
 
 /// What the server asks next.

@@ -84,13 +84,14 @@ fn play_word<S: ShardStore>(
         "keep" => keep(alloc, store, given.all()),
         "kept" => write_kept(alloc, store.state_bytes(alloc)),
         "get" => get(alloc, store, given.all()),
+        "get_at" => get_at(alloc, store, given.of(2)),
         "rows" => rows_of(alloc, store.dump(alloc)),
         "below" => below(alloc, store, given.all()),
         "failed" => Ok(Value::from(store.is_failed())),
         "reopen" => write_done(alloc, store.reopen(alloc)),
         _ => no_such_word(
-            "rows of a store: apply, undo, forget, advance, keep, kept, get, rows, below, state, \
-             failed, reopen, and of one that never fails adopt, copied, lent, \
+            "rows of a store: apply, undo, forget, advance, keep, kept, get, get_at, rows, below, \
+             state, failed, reopen, and of one that never fails adopt, copied, lent, \
              lent_rows, lent_bytes",
         ),
     }
@@ -125,6 +126,13 @@ fn keep<S: ShardStore>(alloc: Global, store: &mut S, given: &Value) -> Result<Va
 fn get<S: ShardStore>(alloc: Global, store: &mut S, given: &Value) -> Result<Value, Wrong> {
     let key = read_bytes(alloc, Some(given))?;
     write_found(alloc, store.get(alloc, &key))
+}
+
+/// The value that a key had at a version.
+fn get_at<S: ShardStore>(alloc: Global, store: &mut S, fields: &Fields) -> Result<Value, Wrong> {
+    let key = fields.bytes(alloc, "key")?;
+    let version = fields.version("version")?;
+    write_found(alloc, store.get_at(alloc, &key, version))
 }
 
 /// The value that a store lends of a key, or null.

@@ -8,6 +8,7 @@ use fr_forms::read_node;
 use fr_world::{Answer, Event, NotEnabled, World};
 use serde_json::Value;
 use std::alloc::Global;
+use test_player::write_read;
 use test_rows::{Plays, Scene, Wrong, no_such_word, played, said, write_last_state};
 
 /// The player of worlds.
@@ -53,6 +54,7 @@ impl Plays<Played> for Worlds {
             "sent" => was_sent(alloc, &played.world, given.of(3)),
             "told" => was_told(alloc, &played.world, given.of(3)),
             "turns" => Ok(Value::from(played.world.turns().len())),
+            "read" => read(alloc, &mut played.world, given.of(3)),
             "replay" => replay(alloc, played),
             _ => happen(alloc, played, word, given),
         }
@@ -70,7 +72,7 @@ fn happen(
         Some(event) => take(alloc, played, event),
         None => no_such_word(
             "rows of a world: begin, deliver, hear, submit, crash, lose, state, there, gone, sent, \
-             told, turns, replay",
+             told, turns, read, replay",
         ),
     }
 }
@@ -120,6 +122,17 @@ fn there(world: &World, given: &mut Fields) -> Result<Value, Wrong> {
 
 fn gone(world: &World, given: &mut Fields) -> Result<Value, Wrong> {
     Ok(Value::from(world.is_gone(read_node(given.take_all())?)))
+}
+
+/// What the storage server of a tag answers a read of a key at a version.
+fn read(alloc: Global, world: &mut World, fields: &Fields) -> Result<Value, Wrong> {
+    let tag = fields.tag("tag")?;
+    let key = fields.bytes(alloc, "key")?;
+    let version = fields.version("version")?;
+    match world.read(alloc, tag, &key, version) {
+        Some(read) => write_read(alloc, read),
+        None => write_why(alloc, NotEnabled::NoSuchNode),
+    }
 }
 
 /// How many turns the world has that begins anew with all events up to the first one that cannot happen, and the number
