@@ -86,6 +86,7 @@ CELLS = [
     fault({"type": "hear", "at": 50, "from": CELL, "tell": {"cell": {"two_values": {}}}}, 10),
     ({"type": "wants", "turn": 1}, {"type": "wants_ok", "wants": []}),
     fault({"type": "sing"}, 10),
+    fault({"type": "read", "key": "61", "version": 1}, 10),
     fault({"type": "ask", "at": 50, "from": RECOVERER}, 12),
     fault({"type": "ask", "at": 50, "from": RECOVERER, "ask": {"cell": {"read": {}}}}, 12),
     fault({"type": "ask", "at": 50, "from": RECOVERER, "ask": {"log": {"lock": {"epoch": 257}}}}, 12),
@@ -316,6 +317,53 @@ STORAGES = [
     fault({"type": "ask", "at": 30, "from": RECOVERER, "ask": PEEK}, 10),
 ]
 
+# ---- a storage server that is read: its shard has the keys below 6d
+
+
+def reads(key, version):
+    return {"type": "read", "key": key, "version": version}
+
+
+def has(key, version, value):
+    return reads(key, version), {"type": "read_ok", "value": value}
+
+
+WITH_SHARDS = CONFIG | {"shards": ["", "6d"]}
+OTHERS = [{"set": {"key": "62", "value": ""}}, {"clear": {"begin": "61", "end": "62"}}]
+READS = [
+    begins(STORAGE, stands(257, 0, 0)),
+    has("61", 0, None),
+    fault(reads("61", 1), 14, "FutureVersion"),
+    heard(5, log(257, 0), peeked(0, 1, 4, (2, BATCH), (3, SET), (4, OTHERS)), 6, stands(257, 4, 1, k62="")),
+    # (version 2 set 61 to 01, version 3 to 02, and version 4 set 62 to no byte and cleared 61)
+    has("61", 1, None),
+    has("61", 2, "01"),
+    has("61", 3, "02"),
+    has("61", 4, None),
+    has("62", 3, None),
+    has("62", 4, ""),
+    has("", 4, None),
+    fault(reads("61", 5), 14, "FutureVersion"),
+    fault(reads("61", 0), 14, "TooOld"),
+    fault(reads("6d", 3), 14, "NotMine"),
+    fault(reads("7a", 9), 14, "NotMine"),
+    # (of two versions above the recovery version, 3 and 4, nothing is left)
+    heard(8, log(513, 0), CUT, 9, stands(513, 2, 1, k61="01")),
+    has("61", 2, "01"),
+    fault(reads("61", 3), 14, "FutureVersion"),
+    fault(reads("62", 4), 14, "FutureVersion"),
+    # (reads have no stamps)
+    heard(9, log(513, 1), peeked(2, 4, 5, (4, ADD)), 10, stands(513, 5, 4, k61="0200")),
+    fault(reads("61", 3), 14, "TooOld"),
+    has("61", 4, "0200"),
+    has("61", 5, "0200"),
+    fault({"type": "read", "key": "61"}, 12),
+    fault(reads("6", 4), 12),
+    fault(reads("61", -1), 12),
+    is_last(stands(513, 5, 4, k61="0200")),
+]
+LAST_SHARD = [fault(reads("6cff", 0), 14, "NotMine"), has("6d", 0, None), has("ff", 0, None)]
+
 # ---- nodes over files, which are killed and started again: a script for each process, in the same folder
 
 
@@ -370,6 +418,10 @@ STORAGES_AGAIN = [
     ],
     [
         begins(STORAGE, AFTER),
+        # (a read is no turn, so it may come before the start is said; what was undone is not read)
+        has("61", 2, "01"),
+        has("61", 1, None),
+        fault(reads("61", 3), 14, "FutureVersion"),
         # (all of it was taken, and its answer was lost)
         hearing(7, log(513, 0), CUT, 3, AFTER, of_hear(8, log(513, 0), CUT), entry(9, "crashed", {})),
         heard(20, log(513, 1), peeked(2, 4, 5, (4, ADD)), 21, stands(513, 5, 4, k61="0200")),
@@ -434,6 +486,8 @@ SCRIPTS = {
     "a recoverer": ("recoverer --ballot 513", CONFIG, RECOVERERS),
     "a recoverer with a shape": ("recoverer --ballot 513 --logs 3 --degree 1", CONFIG, OTHER_SHAPE),
     "a storage server": ("storage --tag 0", CONFIG, STORAGES),
+    "a storage server that is read": ("storage --tag 0", WITH_SHARDS, READS),
+    "that of the last shard": ("storage --tag 1", WITH_SHARDS, LAST_SHARD),
 }
 NAMES = {
     "a cell": "cell 0",
@@ -444,6 +498,8 @@ NAMES = {
     "a recoverer": "recoverer 513",
     "a recoverer with a shape": "recoverer 513",
     "a storage server": "storage 0",
+    "a storage server that is read": "storage 0",
+    "that of the last shard": "storage 1",
     "a log of the first epoch": "log 257 1",
     "parts of hears": "storage 0",
 }

@@ -115,6 +115,13 @@ class Storage:
     def is_older(self, state):
         return gens(state)[-1]["epoch"] < gens(self.state)[-1]["epoch"]
 
+    # ---- reads
+
+    def value_at(self, key, version):
+        """The value that a key had at a version: what the first change above the version found, or what it has."""
+        found = [before[key] for at, before in self.undo if at > version and key in before]
+        return found[0] if found else self.rows.get(key)
+
     # ---- the calls of its store
 
     def apply(self, version, batch):

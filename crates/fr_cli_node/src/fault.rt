@@ -7,13 +7,13 @@ use std::alloc::{AllocError, AllocFailed};
 /// Why a node's process ends before its input does.
 #[derive(Clone, Copy, Debug, PartialEq, Eq)]
 pub enum NodeEnd {
-    /// By a fault that any command has.
+    /// A fault that any command may have.
     Command(CliFault),
-    /// Its file of a config is missing, or holds none.
+    /// The file of its config is missing, or holds no config.
     NoConfig,
-    /// The node is none of its config's world.
+    /// The world of its config has no such node.
     NotThere,
-    /// Its file is not to be had.
+    /// Its file cannot be opened: it is no plain file of its kind, may not be read, or has no folder.
     NoFile,
     /// Somebody else has its file.
     Busy,

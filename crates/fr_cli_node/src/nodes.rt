@@ -12,6 +12,7 @@ use fr_base::{
 use fr_cli_json::CliFault;
 use fr_epoch::Recoverer;
 use fr_log::Log;
+use fr_mutation::Shard;
 use fr_node_active::{ProxyNode, RecovererNode, StorageNode};
 use fr_node_lines::{ScriptFault, read_config};
 use fr_node_steps::{Answering, Passive};
@@ -27,7 +28,7 @@ use std::alloc::Global;
 use std::fs;
 use std::io::{ErrorKind, Read, Write};
 
-/// Makes the node that the words name, and has it serve lines to the end of the input. Files are those of `host`.
+/// Makes the node that the words name, and has it serve lines to the end of the input. Its files are files of `host`.
 pub fn run_node<R: Read, W: Write>(
     host: &HostRuntime,
     alloc: Global,
@@ -349,17 +350,17 @@ fn storage<R: Read, W: Write>(
     reader: &mut R,
     writer: &mut W,
 ) -> Result<(), NodeEnd> {
-    if usize::from(tag.get()) >= config.map().begins().len() {
+    let Some(shard) = config.map().shard_of(alloc, tag)? else {
         return Err(NodeEnd::NotThere);
-    }
+    };
     match folder {
         Some(folder) => {
             let files = store_files(host, alloc, folder.as_str(), tag)?;
-            storage_in(alloc, files, tag, config, reader, writer)
+            storage_in(alloc, files, tag, config, shard, reader, writer)
         }
         None => {
             let storage = start::storage(alloc, config, tag)?;
-            serve_storage(alloc, storage, false, reader, writer)
+            serve_storage(alloc, storage, shard, false, reader, writer)
         }
     }
 }
@@ -370,24 +371,26 @@ fn storage_in<D: FaithfulDisk + Drop, R: Read, W: Write>(
     files: Files<D>,
     tag: Tag,
     config: &Config,
+    shard: Shard,
     reader: &mut R,
     writer: &mut W,
 ) -> Result<(), NodeEnd> {
     let storage = storage_over(alloc, files, tag, config)?;
-    serve_storage(alloc, storage, true, reader, writer)
+    serve_storage(alloc, storage, shard, true, reader, writer)
 }
 
-/// Serves a storage server, over a store that outlasts the process if it has files.
+/// Serves the storage server of a shard, over a store that outlasts the process if it has files.
 fn serve_storage<S: ShardStore + Drop, R: Read, W: Write>(
     alloc: Global,
     storage: Storage<S>,
+    shard: Shard,
     has_files: bool,
     reader: &mut R,
     writer: &mut W,
 ) -> Result<(), NodeEnd>
     requires works { storage.failed ≡ false }
 {
-    let mut storage = StorageNode::new(alloc, storage, has_files);
+    let mut storage = StorageNode::new(alloc, storage, shard, has_files);
     serve(alloc, MAX_LINE, &mut storage, reader, writer)
 }
 

@@ -19,8 +19,8 @@ use std::io::{Read, Write};
 pub const MAX_LINE: usize = 268_435_456;
 
 /// Serves lines to the end of the input, each of at most so many bytes: reads one, answers it, and flushes the answer
-/// before it reads on. A line that is not done is answered by why. A node that cannot go on says so in its answer, and
-/// serves no more.
+/// before it reads the next. A line that is not done is answered with the reason. A node that cannot go on says so in
+/// its answer, and serves no more.
 pub fn serve<T: Acting, R: Read, W: Write>(
     alloc: Global,
     most: usize,
@@ -94,8 +94,8 @@ fn do_line<T: Acting>(
     ensures node { T.node node.new ≡ T.node node.old }
     ensures bad { IfErr order (λ bad. (result ≡ Err (LineFault.Bad bad)) × (node.new ≡ node.old)) }
     ensures answered { IfOk order (λ asked. IfOk result (λ reply. IsAnswer
-        (record { node = T.node node.old; entries = T.entries node.old; last = T.last_of node.old; wanted = T.wanted node.old })
-        (record { node = T.node node.new; entries = T.entries node.new; last = T.last_of node.new; wanted = T.wanted node.new })
+        (record { node = T.node node.old; entries = T.entries node.old; last = T.last_of node.old; wanted = T.wanted node.old; read = T.value_at node.old })
+        (record { node = T.node node.new; entries = T.entries node.new; last = T.last_of node.new; wanted = T.wanted node.new; read = T.value_at node.new })
         asked reply)) }
     ensures works { UnlessEnded result (T.works node.new ≡ true) }
     ensures left { IfUndone result (T.entries node.new ≡ T.entries node.old) }

@@ -8,14 +8,15 @@ use std::alloc::{AllocError, Global};
 /// Which node the words name, and how it begins.
 #[derive(Debug, Drop, PartialEq, Eq)]
 pub enum NodeWords {
-    /// A coordinator's cell, as the world of a config starts with it, or a fresh one; over a file in a folder, or in
-    /// memory.
+    /// A coordinator's cell: with a config as its world starts with it, else fresh. With a folder it keeps a file
+    /// there, else it is in memory.
     Cell {
         index: u8,
         config: Option<String>,
         folder: Option<String>,
     },
-    /// A log, which a world starts with, or a fresh one; over a file in a folder, or in memory.
+    /// A log: if it is started one that a world starts with, else fresh. With a folder it keeps a file there, else it
+    /// is in memory.
     Log {
         epoch: Epoch,
         index: u8,
@@ -28,7 +29,8 @@ pub enum NodeWords {
         epoch: Epoch,
         last: Version,
     },
-    /// A storage server, as a world starts with it; over a store in files in a folder, or in memory.
+    /// A storage server, as the world of a config starts with it. With a folder it keeps its store in files there, else
+    /// in memory.
     Storage {
         tag: Tag,
         config: String,
@@ -223,9 +225,9 @@ fn start_word<'a>(alloc: Global) -> Arg<'a> {
         .action(ArgAction::SetTrue)
 }
 
-/// Reads which node the words of `node` name. What is left to be refused is a number that is none of its type, a degree
-/// above the number of logs, and one of these two without the other. So is a cell's start without its config, or its
-/// config without a start.
+/// Reads which node the words of `node` name. clap has refused most mistakes before. Left are a number beyond the
+/// limits of its type, a degree above the number of logs or one of these two without the other, and a cell with only
+/// one of its start and its config.
 pub fn read_node_words(alloc: Global, matches: &ArgMatches<'_>) -> Result<NodeWords, Error> {
     match read_kind(alloc, matches)? {
         Some(words) => Ok(words),

@@ -5,7 +5,12 @@ use Rattle.fr_audit_journal.specs.declared.act.Entry.{Entry}
 use Rattle.fr_proxy.specs.declared.fault.SubmitFault.{SubmitFault}
 use Rattle.fr_proxy.specs.declared.fault.SubmitFault.TheVariants as submit
 use Rattle.fr_proxy.specs.Proxy.{ProxyState, submit_fault}
+use Rattle.fr_mutation.specs.declared.shard.Shard.{Shard}
+use Rattle.fr_storage.specs.declared.fault.ReadFault.{ReadFault}
+use Rattle.fr_storage.specs.declared.fault.ReadFault.TheVariants as read
+use Rattle.fr_storage.specs.Reads.{read_fault}
 use Rattle.fr_storage.specs.Server.{Server}
+use Rattle.fr_storage.specs.Storage.{StorageState}
 use Rattle.fr_node_steps.specs.Passive.{are_spent}
 use Rattle.fr_node_steps.specs.declared.turn.Turn.{Turn}
 use Rattle.fr_node_steps.specs.declared.turn.Turn.TheVariants as turn
@@ -23,9 +28,10 @@ pub record Active (S : Type 0) : Type 0 where
   pub first : S
   pub entries : List Entry
 
--- a storage server too, whether its store outlasts the process, and whether it failed so that it cannot go on
+-- a storage server too, with its shard, whether its store outlasts the process, and whether it failed so that it cannot go on
 pub record ActiveStorage (S : Type 0) : Type 0 where
   pub storage : Server S
+  pub shard : Shard
   pub place : NodeId
   pub first : Server S
   pub entries : List Entry
@@ -66,6 +72,17 @@ storage_refusal entries at (turn.Ask from a) = Some refusal.NotTaken
 storage_refusal entries at (turn.Hear from tell) = spent_refusal entries at
 storage_refusal entries at (turn.Submit step batch) = Some refusal.NotTaken
 storage_refusal entries at turn.Begin = Some refusal.NotTaken
+
+-- the reason why a storage server does not say which value a key had at a version
+abbrev pub of_read : Option ReadFault → Option Refusal
+of_read None = None
+of_read (Some read.NotMine) = Some refusal.NotMine
+of_read (Some read.TooOld) = Some refusal.TooOld
+of_read (Some read.FutureVersion) = Some refusal.FutureVersion
+of_read (Some (read.Store fault)) = None
+
+abbrev pub storage_read_refusal : Shard → StorageState → List ℕ → ℕ → Option Refusal
+storage_read_refusal shard s key version = of_read (read_fault shard s.store.floor s.store.applied key version)
 
 -- the reason if there is no stamp for each of two entries
 abbrev pub two_refusal : ℕ → Option Refusal

@@ -12,8 +12,8 @@ use fr_state::{CoordState, equal_law};
 use fr_storage::Storage;
 use fr_undo::ShardStore;
 
-/// How much a storage server, which was opened again, took of the hear that was under way: None if it took nothing of
-/// it, else at which version the hear broke off, or that nothing of it is missing.
+/// How much a storage server that was opened again took of the hear that was under way. `None`: nothing of it.
+/// `Some(None)`: all of it. With a version: the part through it, where it broke off.
 pub(crate) fn part_of<S: ShardStore>(
     storage: &Storage<S>,
     hearing: &Hearing,
@@ -32,7 +32,7 @@ pub(crate) fn part_of<S: ShardStore>(
     }
 }
 
-/// How much it took of what a log of an epoch has of its tag.
+/// The same of an answer to a peek.
 fn part_of_peeked<S: ShardStore>(
     storage: &Storage<S>,
     before: Version,
@@ -52,7 +52,7 @@ fn part_of_peeked<S: ShardStore>(
     part_at(has_all, before, version)
 }
 
-/// How much it took of the coordinated state of a mark.
+/// The same of the coordinated state of a mark.
 fn part_of_marked<S: ShardStore>(
     storage: &Storage<S>,
     before: Version,

@@ -4,6 +4,7 @@
 mod begun;
 mod proxies;
 mod pulls;
+mod reads;
 mod recoverers;
 mod storages;
 

@@ -9,7 +9,7 @@ ghost use Rattle.fr_node_steps.specs.Turns.{IfCrashed, IfRefused, IsTaken, Refus
 
 use fr_ask::{Last, Tell};
 use fr_audit_journal::{Act, Entry, Journal};
-use fr_base::{NodeId, Stamp, Step};
+use fr_base::{Bytes, NodeId, Stamp, Step, Version};
 use fr_mutation::Batch;
 use fr_node_steps::{Acting, Hearing, Newest, Refusal, Turn, TurnFault, Wants, stamp_above};
 use fr_proxy::{Proxy, SubmitFault};
@@ -18,7 +18,7 @@ use std::alloc::Global;
 use std::marker::Model;
 use std::snapshot::Snapshot;
 
-/// A proxy, with its journal. Contracts see the proxy, its place, the one that its process began with, and what it did
+/// A proxy, with its journal. Contracts see the proxy, its name, its state when its process began, and what it did
 /// since.
 #[derive(Drop)]
 pub struct ProxyNode {
@@ -135,7 +135,7 @@ impl ProxyNode {
 
 impl Acting for ProxyNode {
     ghost use Rattle.fr_node_steps.specs.declared.fault.Refusal.TheVariants as refusal;
-    ghost use Rattle.std.specs.Prelude.{true, Some};
+    ghost use Rattle.std.specs.Prelude.{true, None, Some};
     ghost use Rattle.fr_proxy.specs.Proxy.{pending};
     ghost use Rattle.fr_run_event.specs.Last as last;
     ghost use Rattle.fr_node_active.specs.Nodes.{IsMemory, proxy_refusal};
@@ -153,6 +153,10 @@ impl Acting for ProxyNode {
     ghost back_refusal = { λ node at hearing. Some refusal.NotTaken };
 
     ghost wanted = { λ p turn newest. pending p.state };
+
+    ghost value_at = { λ node key version. None };
+
+    ghost read_refusal = { λ node key version. Some refusal.NotTaken };
 
     ghost CanCrash = { IsMemory };
 
@@ -180,6 +184,15 @@ impl Acting for ProxyNode {
 
     fn last(&mut self, _alloc: Global) -> Result<Last, TurnFault> {
         Ok(last_of_proxy(&self.proxy))
+    }
+
+    fn read(
+        &mut self,
+        _alloc: Global,
+        _key: &Bytes,
+        _version: Version,
+    ) -> Result<Option<Bytes>, TurnFault> {
+        Err(TurnFault::Refused(Refusal::NotTaken))
     }
 
     fn tells_wants(&self) -> bool {

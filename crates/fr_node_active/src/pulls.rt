@@ -42,7 +42,7 @@ fn log_at(epoch: Epoch, logs: u8, turn: u32) -> NodeId
     }
 }
 
-/// What is asked for records of a tag: of a generation that is known.
+/// Adds the ask for records of a tag, if their generation is known.
 fn add_peek(
     asks: &mut Vec<(NodeId, Ask)>,
     source: Option<Generation>,
@@ -60,7 +60,7 @@ fn add_peek(
     Ok(())
 }
 
-/// What is asked for the mark of the newest epoch, if it is known and has logs.
+/// Adds the ask for the mark of the newest epoch, if one is known and has logs.
 fn add_mark(asks: &mut Vec<(NodeId, Ask)>, newest: Option<Newest>, turn: u32) -> Result<(), Memory>
     ensures { OnOk result (asks.new.items ≡ asks.old.items ++ mark_asks newest turn) }
 {

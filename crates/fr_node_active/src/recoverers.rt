@@ -9,7 +9,7 @@ ghost use Rattle.fr_node_steps.specs.Turns.{IfCrashed, IfRefused, IsTaken, Refus
 
 use fr_ask::{Last, Tell};
 use fr_audit_journal::{Act, Entry, Journal};
-use fr_base::{NodeId, Shape, Stamp};
+use fr_base::{Bytes, NodeId, Shape, Stamp, Version};
 use fr_epoch::Recoverer;
 use fr_node_steps::{Acting, Hearing, Newest, Refusal, Turn, TurnFault, Wants, stamp_above};
 use fr_run_event::last_of_recoverer;
@@ -18,7 +18,7 @@ use std::marker::Model;
 use std::snapshot::Snapshot;
 
 /// A recoverer, the shape of the generation that it is to open, if it was given one, and its journal. Contracts see
-/// the recoverer and whether it began, its place, the one that its process began with, and what it did since.
+/// the recoverer and whether it began, its name, its state when its process began, and what it did since.
 #[derive(Drop)]
 pub struct RecovererNode {
     recoverer: Recoverer,
@@ -49,7 +49,7 @@ impl Model for RecovererNode {
 }
 
 impl RecovererNode {
-    /// A recoverer that has not begun, to open a generation of this shape, which it was given.
+    /// A recoverer that has not begun. It is to open a generation of this shape, or of its parent's if none is given.
     pub fn new(alloc: Global, recoverer: Recoverer, shape: Option<Shape>) -> Self
         requires shape { shape ≡ recoverer.shape }
         ensures recoverer { result.state.recoverer ≡ recoverer }
@@ -143,7 +143,7 @@ impl RecovererNode {
 
 impl Acting for RecovererNode {
     ghost use Rattle.fr_node_steps.specs.declared.fault.Refusal.TheVariants as refusal;
-    ghost use Rattle.std.specs.Prelude.{true, Some, [], if◌then◌else◌};
+    ghost use Rattle.std.specs.Prelude.{true, None, Some, [], if◌then◌else◌};
     ghost use Rattle.fr_epoch.specs.Asks.{pending};
     ghost use Rattle.fr_run_event.specs.Last as last;
     ghost use Rattle.fr_node_active.specs.Nodes.{IsMemory, recoverer_refusal};
@@ -161,6 +161,10 @@ impl Acting for RecovererNode {
     ghost back_refusal = { λ node at hearing. Some refusal.NotTaken };
 
     ghost wanted = { λ r turn newest. if r.state.has_begun then pending r.state.recoverer else [] };
+
+    ghost value_at = { λ node key version. None };
+
+    ghost read_refusal = { λ node key version. Some refusal.NotTaken };
 
     ghost CanCrash = { IsMemory };
 
@@ -188,6 +192,15 @@ impl Acting for RecovererNode {
 
     fn last(&mut self, alloc: Global) -> Result<Last, TurnFault> {
         Ok(last_of_recoverer(alloc, &self.recoverer)?)
+    }
+
+    fn read(
+        &mut self,
+        _alloc: Global,
+        _key: &Bytes,
+        _version: Version,
+    ) -> Result<Option<Bytes>, TurnFault> {
+        Err(TurnFault::Refused(Refusal::NotTaken))
     }
 
     fn tells_wants(&self) -> bool {

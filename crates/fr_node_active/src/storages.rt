@@ -3,39 +3,42 @@ ghost use Rattle.std.specs.Prelude.{◌≡◌, ◌<◌, ◌++◌, ℕ, [], map, 
 ghost use Rattle.fr_base.specs.declared.place.NodeId.{NodeId};
 ghost use Rattle.fr_node_active.specs.Begun.{acts_of, back_acts};
 ghost use Rattle.fr_node_active.specs.Leads.{EndsInCrash, LeadsOn};
-ghost use Rattle.fr_node_active.specs.Nodes.{IsStoreCrash, IsStoreEnd, storage_back_refusal, storage_refusal, two_refusal};
+ghost use Rattle.fr_node_active.specs.Nodes.{IsStoreCrash, IsStoreEnd, storage_back_refusal, storage_read_refusal, storage_refusal, two_refusal};
 ghost use Rattle.fr_node_active.specs.Steps.{StorageStep};
 ghost use Rattle.fr_node_active.specs.Told.{IsTold};
 ghost use Rattle.fr_node_steps.specs.declared.turn.Turn.{Turn};
 ghost use Rattle.fr_node_steps.specs.declared.fault.Crash.{Crash};
 ghost use Rattle.fr_node_steps.specs.declared.fault.Refusal.{Refusal};
-ghost use Rattle.fr_node_steps.specs.Turns.{IfCrashed, IfRefused, IsBack, IsTaken, Refuses};
-ghost use Rattle.fr_run_event.specs.Last as last;
+ghost use Rattle.fr_node_steps.specs.Turns.{IfCrashed, IfRefused, IsBack, IsTaken, Refuses, RefusesRead, UnlessCrashed};
 ghost use Rattle.fr_runtime_hears.specs.Taken.{IsPart};
 ghost use Rattle.fr_storage.specs.Server.{storage_of};
 ghost use Rattle.fr_storage.specs.Storage.{after_peeked, peeked_calls, peeked_fault};
+ghost use Rattle.fr_undo.specs.Undo.{value_undone};
 
 use crate::begun::part_of;
 use crate::pulls::asks_at;
-use fr_ask::{Last, Rows, Tell};
+use crate::reads::{end_of, last_said, value_said};
+use fr_ask::{Last, Tell};
 use fr_audit_journal::{Act, Entry, Journal};
-use fr_base::{Epoch, Memory, NodeId, Stamp, Version};
+use fr_base::{Bytes, Epoch, Memory, NodeId, Stamp, Version};
 use fr_log::{LogTell, Peeked};
+use fr_mutation::Shard;
 use fr_node_steps::{
-    Acting, Crash, Hearing, Newest, Refusal, Turn, TurnFault, Wants, crash_at, stamp_above,
+    Acting, Hearing, Newest, Refusal, Turn, TurnFault, Wants, crash_at, stamp_above,
 };
 use fr_runtime_hears::{take_marked, take_peeked};
 use fr_storage::{Storage, StorageFault};
-use fr_undo::{ShardStore, StoreFault};
+use fr_undo::ShardStore;
 use std::alloc::Global;
 use std::marker::Model;
 use std::snapshot::Snapshot;
 
-/// A storage server, with its journal. Contracts see the server, its place, the one that its process began with, and what
-/// it did since.
+/// A storage server, with its shard and its journal. Contracts see the server and its shard, its name, its state when
+/// its process began, and what it did since.
 #[derive(Drop)]
 pub struct StorageNode<S: ShardStore> {
     storage: Storage<S>,
+    shard: Shard,
     journal: Journal,
     first: Snapshot<Storage<S>>,
     has_files: bool,
@@ -53,6 +56,7 @@ impl<S: ShardStore> Model for StorageNode<S> {
 
     ghost view = { λ s. record {
       storage = s.storage;
+      shard = s.shard;
       place = s.journal.node;
       first = s.first.value;
       entries = s.journal.entries;
@@ -65,10 +69,11 @@ impl<S: ShardStore> Model for StorageNode<S> {
 }
 
 impl<S: ShardStore> StorageNode<S> {
-    /// A storage server that heard nothing yet in this process, over a store that outlasts it if it has files.
-    pub fn new(alloc: Global, storage: Storage<S>, has_files: bool) -> Self
+    /// A storage server of a shard that heard nothing yet in this process. With files its store outlasts the process.
+    pub fn new(alloc: Global, storage: Storage<S>, shard: Shard, has_files: bool) -> Self
         requires works { storage.failed ≡ false }
         ensures storage { result.storage ≡ storage }
+        ensures shard { result.shard ≡ shard }
         ensures first { result.first ≡ storage }
         ensures place { result.place ≡ NodeId.Storage storage.tag }
         ensures entries { result.entries ≡ [] }
@@ -79,6 +84,7 @@ impl<S: ShardStore> StorageNode<S> {
         let first = Snapshot::of(&storage);
         StorageNode {
             storage,
+            shard,
             journal: Journal::new(alloc, id),
             first,
             has_files,
@@ -136,6 +142,34 @@ impl<S: ShardStore> StorageNode<S> {
         let answered = entry.copy();
         self.journal.push_reserved(entry);
         Ok(answered?)
+    }
+
+    /// The value that a key of its shard had at a version, from the floor through the version applied. It is no turn:
+    /// nothing is entered, and the server stays as it is.
+    pub fn value_at(
+        &mut self,
+        alloc: Global,
+        key: &Bytes,
+        version: Version,
+    ) -> Result<Option<Bytes>, TurnFault>
+        requires works { self.old.is_over ≡ false }
+        ensures place { self.new.place ≡ self.old.place }
+        ensures shard { self.new.shard ≡ self.old.shard }
+        ensures value { IfOk result (λ value. value ≡ value_undone (S.state self.old.storage.store) version key.now) }
+        ensures entries { self.new.entries ≡ self.old.entries }
+        ensures stands { UnlessCrashed result (storage_of S.state self.new.storage ≡ storage_of S.state self.old.storage) }
+        ensures works { UnlessCrashed result (self.new.is_over ≡ false) }
+        ensures refused { RefusesRead (storage_read_refusal self.old.shard (storage_of S.state self.old.storage) key.now version) result }
+        ensures crashed { IfCrashed result IsStoreCrash }
+    {
+        match value_said(alloc, &mut self.storage, &self.shard, key, version) {
+            Ok(value) => Ok(value),
+            Err(TurnFault::Refused(why)) => Err(TurnFault::Refused(why)),
+            Err(TurnFault::Crashed(why)) => {
+                self.is_over = true;
+                Err(TurnFault::Crashed(why))
+            }
+        }
     }
 
     /// Enters that it was started again: what it took of the hear that was under way, if it took any, and that it
@@ -230,8 +264,8 @@ fn begun_again(
     Ok((journal, answered))
 }
 
-/// Tells a storage server what a node told it: at which version the hear broke off, if a call of its store failed in
-/// it and a part of it is missing. What it refuses changes nothing. A store that cannot be opened again is a fault.
+/// Has a storage server hear what a node told it. The answer is the version at which the hear broke off, if a call of
+/// the store failed and a part is missing. A refusal changes nothing. A store that cannot be opened again is a fault.
 fn tell_storage<S: ShardStore>(
     alloc: Global,
     storage: &mut Storage<S>,
@@ -273,36 +307,6 @@ fn peeked_by<S: ShardStore>(
     take_peeked(alloc, storage, *epoch, peeked)
 }
 
-/// A storage server's state, as others see it.
-fn last_said<S: ShardStore>(alloc: Global, storage: &mut Storage<S>) -> Result<Last, TurnFault>
-    ensures last { IfOk result (λ told. told ≡ last.last_of_storage (storage_of S.state storage.old)) }
-    ensures stands { storage.old.failed ≡ false → OnOk result (storage_of S.state storage.new ≡ storage_of S.state storage.old) }
-    ensures works { storage.old.failed ≡ false → OnOk result (storage.new.failed ≡ false) }
-    ensures fault { IfErr result IsStoreEnd }
-{
-    let (epoch, version) = storage.position();
-    let floor = storage.floor();
-    match storage.dump(alloc) {
-        Ok(rows) => Ok(Last::Storage {
-            epoch,
-            version,
-            floor,
-            rows: Rows::from_vec(rows),
-        }),
-        Err(fault) => Err(end_of(fault)),
-    }
-}
-
-/// What a fault of a storage server is to its process.
-fn end_of(fault: StorageFault) -> TurnFault
-    ensures { IsStoreEnd result }
-{
-    match fault {
-        StorageFault::Store(StoreFault::Memory) => TurnFault::Crashed(Crash::Memory),
-        _ => TurnFault::Crashed(Crash::Store),
-    }
-}
-
 /// What a storage server answers, if it is no fault of its store.
 fn unless_fault<T>(answer: Result<T, StorageFault>) -> Result<T, TurnFault>
     ensures ok { IfOk result (λ value. answer ≡ Ok value) }
@@ -318,7 +322,8 @@ impl<S: ShardStore> Acting for StorageNode<S> {
     ghost use Rattle.std.specs.Prelude.{not};
     ghost use Rattle.fr_run_event.specs.Last as last;
     ghost use Rattle.fr_storage.specs.Server.{storage_of};
-    ghost use Rattle.fr_node_active.specs.Nodes.{IsStoreCrash, storage_back_refusal, storage_refusal};
+    ghost use Rattle.fr_undo.specs.Undo.{value_undone};
+    ghost use Rattle.fr_node_active.specs.Nodes.{IsStoreCrash, storage_back_refusal, storage_read_refusal, storage_refusal};
     ghost use Rattle.fr_node_active.specs.Pulls.{asks_of};
 
     ghost node = { λ s. s.place };
@@ -334,6 +339,10 @@ impl<S: ShardStore> Acting for StorageNode<S> {
     ghost back_refusal = { λ s at hearing. storage_back_refusal s.has_files s.entries at };
 
     ghost wanted = { λ s turn newest. asks_of s.storage turn newest };
+
+    ghost value_at = { λ s key version. value_undone (S.state s.storage.store) version key };
+
+    ghost read_refusal = { λ s key version. storage_read_refusal s.shard (storage_of S.state s.storage) key version };
 
     ghost CanCrash = { IsStoreCrash };
 
@@ -367,6 +376,15 @@ impl<S: ShardStore> Acting for StorageNode<S> {
                 Err(fault)
             }
         }
+    }
+
+    fn read(
+        &mut self,
+        alloc: Global,
+        key: &Bytes,
+        version: Version,
+    ) -> Result<Option<Bytes>, TurnFault> {
+        self.value_at(alloc, key, version)
     }
 
     fn tells_wants(&self) -> bool {

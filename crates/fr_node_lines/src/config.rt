@@ -5,7 +5,7 @@ use fr_run_event::{Config, ConfigFault};
 use serde_json::Value;
 use std::alloc::Global;
 
-/// Reads the config that a text is.
+/// Reads a text as a config: an object with exactly the members of a script's config, within their limits.
 pub fn read_config(alloc: Global, text: &[u8]) -> Result<Config, ScriptFault> {
     match Value::from_slice(alloc, text) {
         Ok(value) => config_of(alloc, &mut Fields::new(value, 5)),

@@ -6,7 +6,7 @@ use std::alloc::{AllocError, Global};
 /// The greatest number of a line.
 const LAST_NUMBER: u64 = (1 << 53) - 1;
 
-/// Who sent a line, and by which number, as far as it says so.
+/// Who sent a line, and its number, if it says so.
 #[derive(Debug, Drop)]
 pub struct Envelope {
     pub sender: Option<String>,
@@ -14,7 +14,7 @@ pub struct Envelope {
 }
 
 impl Envelope {
-    /// That of a line that says neither.
+    /// The envelope of a line that says neither.
     pub fn unknown() -> Self {
         Envelope {
             sender: None,
@@ -22,7 +22,7 @@ impl Envelope {
         }
     }
 
-    /// That of a line.
+    /// The envelope of a line.
     pub(crate) fn of(alloc: Global, line: &Value) -> Result<Self, AllocError> {
         let sender = match line.get(names::SRC) {
             Some(sender) => text_of(alloc, sender)?,

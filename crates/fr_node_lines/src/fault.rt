@@ -22,6 +22,8 @@ pub enum Member {
     Turn,
     Newest,
     Hearing,
+    Key,
+    Version,
 }
 
 impl Member {
@@ -42,6 +44,8 @@ impl Member {
             Member::Turn => names::TURN,
             Member::Newest => names::NEWEST,
             Member::Hearing => names::HEARING,
+            Member::Key => forms::KEY,
+            Member::Version => forms::VERSION,
         }
     }
 }
@@ -53,7 +57,7 @@ pub enum BadLine {
     TooLong,
     /// It is no JSON.
     NotJson,
-    /// It has other members than a line has, or its content others than its type has.
+    /// The line, or its body, has not exactly the members of its type.
     Members,
     /// It is for another node.
     OtherNode,
@@ -75,7 +79,7 @@ pub enum LineFault {
 }
 
 impl LineFault {
-    /// Its code, by which a reader goes: those of Maelstrom.
+    /// Its code in an answer of the type `error`: those of Maelstrom.
     pub fn code(self) -> u64 {
         match self {
             LineFault::Bad(BadLine::Memory) => CRASH,
@@ -132,6 +136,9 @@ fn refusal_text(why: Refusal) -> &'static str {
         Refusal::Begun => "Begun",
         Refusal::TwoOpen => "TwoOpen",
         Refusal::Over => "Over",
+        Refusal::NotMine => "NotMine",
+        Refusal::TooOld => "TooOld",
+        Refusal::FutureVersion => "FutureVersion",
         Refusal::StampsSpent => "StampsSpent",
         Refusal::Full => "Full",
     }

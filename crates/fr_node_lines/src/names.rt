@@ -46,6 +46,8 @@ pub(crate) const LAST_OK: &str = "last_ok";
 
 pub(crate) const WANTS_OK: &str = "wants_ok";
 
+pub(crate) const READ_OK: &str = "read_ok";
+
 pub(crate) const ASK_OK: &str = "ask_ok";
 
 pub(crate) const HEAR_OK: &str = "hear_ok";

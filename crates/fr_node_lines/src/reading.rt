@@ -24,7 +24,7 @@ pub struct Line {
 }
 
 impl Line {
-    /// One that asks nothing, and does not say who sent it.
+    /// A line that asks nothing, and does not say who sent it.
     pub fn bad(bad: BadLine) -> Self {
         Line {
             envelope: Envelope::unknown(),
@@ -33,7 +33,8 @@ impl Line {
     }
 }
 
-/// Reads a line to a node. It has exactly its members, in any order; of two members of one name the last one counts.
+/// Reads a line to a node. An object has exactly the members that its type has, in any order. Of two members of one
+/// name the last one counts.
 pub fn read_line(alloc: Global, node: NodeId, text: &[u8]) -> Line {
     let line = match Value::from_slice(alloc, text) {
         Ok(line) => line,
@@ -95,6 +96,7 @@ fn read_kind(alloc: Global, kind: &str, body: Value) -> Result<Order, BadLine> {
         names::INIT => read_init(body),
         forms::LAST => read_last(body),
         names::WANTS => read_wants(body),
+        forms::READ => read_read(alloc, body),
         forms::ASK => read_asked(alloc, body),
         names::HEAR => read_heard(alloc, body),
         names::SUBMIT => read_submitted(alloc, body),
@@ -133,6 +135,14 @@ fn read_wants(body: Value) -> Result<Order, BadLine> {
     let turn = read_turn(&fields)?;
     let newest = read_newest(at(Member::Newest, fields.take(names::NEWEST))?)?;
     Ok(Order::Wants { turn, newest })
+}
+
+/// A key, and the version at which its value is asked for.
+fn read_read(alloc: Global, body: Value) -> Result<Order, BadLine> {
+    let fields = fields_of(body, 4)?;
+    let key = at(Member::Key, fields.bytes(alloc, forms::KEY))?;
+    let version = at(Member::Version, fields.version(forms::VERSION))?;
+    Ok(Order::Read { key, version })
 }
 
 /// The number of a turn.

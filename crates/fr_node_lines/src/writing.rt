@@ -5,9 +5,9 @@ use crate::names::{self, name_of};
 use crate::records::write_entry;
 use fr_ask::Last;
 use fr_audit_journal::Entry;
-use fr_base::{Memory, NodeId};
+use fr_base::{Bytes, Memory, NodeId};
 use fr_forms::lists::write_all;
-use fr_forms::object::{Object, write_text};
+use fr_forms::object::{Object, hex_value, write_text};
 use fr_forms::{names as forms, write_last, write_node};
 use fr_node_steps::{Kind, Reply, Wants};
 use serde_json::Value;
@@ -29,6 +29,9 @@ pub fn write_reply(
         }
         Reply::Wants { wants } => {
             of_type(alloc, names::WANTS_OK)?.and(names::WANTS, write_all(alloc, wants.as_slice()))?
+        }
+        Reply::Read { value } => {
+            of_type(alloc, names::READ_OK)?.and(forms::VALUE, write_value(alloc, value))?
         }
         Reply::Taken {
             kind,
@@ -59,6 +62,14 @@ pub fn write_error(
 
 fn of_type(alloc: Global, name: &str) -> Result<Object, Memory> {
     Object::new(alloc).and(names::TYPE, write_text(alloc, name))
+}
+
+/// A value in hex, or null.
+fn write_value(alloc: Global, value: &Option<Bytes>) -> Result<Value, Memory> {
+    match value {
+        Some(value) => hex_value(alloc, value.as_slice()),
+        None => Ok(Value::Null),
+    }
 }
 
 /// What is entered of a turn, and the node's state then.

@@ -44,6 +44,13 @@ Refuses None (Ok a) = ⊤
 Refuses None (Err (fault.Refused why)) = why ≡ refusal.Full
 Refuses None (Err (fault.Crashed why)) = ⊤
 
+-- a read is refused by the reason that there is, and else by none
+abbrev pub RefusesRead : {A : Type 0} → Option Refusal → Result A TurnFault → Type 0
+RefusesRead (Some why) r = r ≡ Err (fault.Refused why)
+RefusesRead None (Ok a) = ⊤
+RefusesRead None (Err (fault.Refused why)) = ⊥
+RefusesRead None (Err (fault.Crashed why)) = ⊤
+
 -- what is so if a node can go on: if it answered, or refused
 abbrev pub UnlessCrashed : {A : Type 0} → Result A TurnFault → Type 0 → Type 0
 UnlessCrashed (Ok a) P = P

@@ -1,13 +1,13 @@
 //! Nodes that a process serves.
 ghost use Rattle.std.specs.Prelude.{◌≡◌, ◌++◌, true, IfOk, OnOk};
-ghost use Rattle.fr_node_steps.specs.Turns.{IfCrashed, IfRefused, IsBack, IsTaken, Refuses, UnlessCrashed};
+ghost use Rattle.fr_node_steps.specs.Turns.{IfCrashed, IfRefused, IsBack, IsTaken, Refuses, RefusesRead, UnlessCrashed};
 
 use crate::fault::TurnFault;
 use crate::turn::{Hearing, Newest, Turn};
 use crate::wants::Wants;
 use fr_ask::Last;
 use fr_audit_journal::Entry;
-use fr_base::{NodeId, Stamp};
+use fr_base::{Bytes, NodeId, Stamp, Version};
 use std::alloc::Global;
 
 /// A node that a process serves: each turn that it takes is one entry more of its journal, and that entry is answered.
@@ -44,6 +44,12 @@ pub trait Acting {
     /// What it asks in a turn, if the logs of an epoch may be asked for their mark.
     ghost wanted: { Self → ℕ → Option Newest → List (NodeId × Ask) };
 
+    /// The value that a key had at a version.
+    ghost value_at: { Self → List ℕ → ℕ → Option (List ℕ) };
+
+    /// The reason why it does not say which value a key had at a version, if there is one.
+    ghost read_refusal: { Self → List ℕ → ℕ → Option Refusal };
+
     /// Why such a node may be unable to go on.
     ghost CanCrash: { Crash → Type 0 };
 
@@ -51,8 +57,8 @@ pub trait Acting {
     fn place(&self) -> NodeId
         ensures { result ≡ node self.now };
 
-    /// Takes a turn, above the stamp that the asker has seen, and answers what is entered. A turn that is refused changes
-    /// nothing that others see.
+    /// Takes a turn, above the stamp that the asker has seen, and answers what is entered. A turn that is refused
+    /// changes nothing that others see.
     fn act(&mut self, alloc: Global, at: Stamp, turn: Turn) -> Result<Entry, TurnFault>
         requires works { works self.old ≡ true }
         ensures node { node self.new ≡ node self.old }
@@ -63,9 +69,9 @@ pub trait Acting {
         ensures stands { IfRefused result (last_of self.new ≡ last_of self.old) }
         ensures crashed { IfCrashed result CanCrash };
 
-    /// Takes in that it was started again over its files, above the stamp that the asker has seen, and which hear its
-    /// process had under way, if any. It answers what is entered: what it took of that hear, if it took any, and that
-    /// it crashed. Nothing else is changed.
+    /// Enters that its process was killed and started again over its files, above the stamp that the asker has seen.
+    /// `hearing` is the hear that was under way, if one was. It answers the entries: what it took of that hear, if it
+    /// took any, and that it crashed. Nothing else changes.
     fn back(
         &mut self,
         alloc: Global,
@@ -93,11 +99,27 @@ pub trait Acting {
         ensures crashed { IfCrashed result CanCrash }
         ensures never_refused { IfRefused result ⊥ };
 
-    /// Whether each turn is answered with what the node then asks: of a proxy and of a recoverer, whose asks follow from
-    /// what they heard.
+    /// The value that a key had at a version. It is no turn: nothing is entered, and nothing changes.
+    fn read(
+        &mut self,
+        alloc: Global,
+        key: &Bytes,
+        version: Version,
+    ) -> Result<Option<Bytes>, TurnFault>
+        requires works { works self.old ≡ true }
+        ensures node { node self.new ≡ node self.old }
+        ensures value { IfOk result (λ value. value ≡ value_at self.old key.now version) }
+        ensures entries { entries self.new ≡ entries self.old }
+        ensures stands { UnlessCrashed result (last_of self.new ≡ last_of self.old) }
+        ensures works { UnlessCrashed result (works self.new ≡ true) }
+        ensures refused { RefusesRead (read_refusal self.old key.now version) result }
+        ensures crashed { IfCrashed result CanCrash };
+
+    /// Whether each turn is answered with what the node then asks. So it is of a proxy and of a recoverer, whose asks
+    /// follow from what they heard.
     fn tells_wants(&self) -> bool;
 
-    /// What it asks in a turn, if the logs of an epoch may be asked for their mark.
+    /// What it asks in a turn, with the newest epoch whose logs it may ask for their mark.
     fn wants(&self, alloc: Global, turn: u32, newest: Option<Newest>) -> Result<Wants, TurnFault>
         ensures asks { IfOk result (λ asks. asks ≡ wanted self.now turn newest) }
         ensures crashed { IfCrashed result CanCrash }

@@ -7,7 +7,7 @@ use fr_proxy::Sequencer;
 use fr_register::{Cell, CellAsk};
 use fr_runtime_housing::Housable;
 
-/// A machine that knows its asks among all asks.
+/// A machine that can tell its own asks among those of all kinds.
 pub trait Answering: Housable {
     /// This ask as one of the machine's own; none if it is another kind's. It takes no memory.
     fn unwrap(ask: Ask) -> Option<Self::Ask>

@@ -2,7 +2,7 @@
 use fr_base::{Memory as NoMemory, NodeFault};
 use thiserror::Error;
 
-/// Why a node refuses a turn, which changes nothing. Of several reasons the first in the order of these variants is told.
+/// Why a node refuses a turn or a read. A refusal changes nothing. Of several reasons the first of these variants is told.
 #[derive(Clone, Copy, Debug, PartialEq, Eq, Error)]
 pub enum Refusal {
     /// A node of its kind takes no such turn.
@@ -23,6 +23,15 @@ pub enum Refusal {
     /// A proxy takes no more batches.
     #[error("Over")]
     Over,
+    /// The key that is read is not of the shard.
+    #[error("NotMine")]
+    NotMine,
+    /// The version that is read is below the floor.
+    #[error("TooOld")]
+    TooOld,
+    /// The version that is read is above the one applied.
+    #[error("FutureVersion")]
+    FutureVersion,
     /// There is no stamp above that of the line and those of the journal.
     #[error("StampsSpent")]
     StampsSpent,
@@ -31,7 +40,7 @@ pub enum Refusal {
     Full,
 }
 
-/// Why a node cannot go on. What it was to do is entered nowhere that anybody was told of.
+/// Why a node cannot go on. Its process then ends; no entry was answered of the turn that met it.
 #[derive(Clone, Copy, Debug, PartialEq, Eq, Error)]
 pub enum Crash {
     /// There is no memory.
@@ -40,7 +49,7 @@ pub enum Crash {
     /// A file failed.
     #[error("a file failed")]
     Device,
-    /// A file is none of such a node.
+    /// A file is not that of such a node.
     #[error("a file is none of such a node")]
     Broken,
     /// The store of a storage server failed.

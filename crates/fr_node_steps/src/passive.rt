@@ -14,14 +14,14 @@ use crate::turn::{Hearing, Newest, Turn};
 use crate::wants::Wants;
 use fr_ask::{Last, Named};
 use fr_audit_journal::{Act, Entry, Journal};
-use fr_base::{Machine, Memory, Node, NodeId, Stamp};
+use fr_base::{Bytes, Machine, Memory, Node, NodeId, Stamp, Version};
 use fr_runtime_housing::Housable;
 use std::alloc::Global;
 use std::marker::Model;
 use std::snapshot::Snapshot;
 
-/// A cell, a log or a sequencer, with its journal. Contracts see the node, its place, the state in which its process found
-/// it, and what it did since.
+/// A cell, a log or a sequencer, with its journal. Contracts see the node, its name, the state in which its process
+/// found it, and what it did since.
 #[derive(Drop)]
 pub struct Passive<N: Node>
 where
@@ -55,7 +55,7 @@ where
     N::Plain: Answering,
     <N::Plain as Machine>::Ask: Drop,
 {
-    /// A node that did nothing yet, and that ends with its process.
+    /// A node in memory that did nothing yet. It ends with its process.
     pub fn new(alloc: Global, node: N, id: NodeId) -> Self
         ensures node { result.node ≡ node }
         ensures place { result.place ≡ id }
@@ -155,7 +155,8 @@ where
     N::Plain: Answering,
     <N::Plain as Machine>::Ask: Drop,
 {
-    ghost use Rattle.std.specs.Prelude.{[], not};
+    ghost use Rattle.std.specs.Prelude.{[], not, None, Some};
+    ghost use Rattle.fr_node_steps.specs.declared.fault.Refusal.TheVariants as refusal;
     ghost use Rattle.fr_node_steps.specs.Passive.{IsCrash, back_refusal, passive_refusal};
 
     ghost node = { λ p. p.place };
@@ -171,6 +172,10 @@ where
     ghost back_refusal = { λ p at hearing. back_refusal p.has_files p.entries at hearing };
 
     ghost wanted = { λ p turn newest. [] };
+
+    ghost value_at = { λ p key version. None };
+
+    ghost read_refusal = { λ p key version. Some refusal.NotTaken };
 
     ghost CanCrash = { IsCrash N.CanMeet };
 
@@ -218,6 +223,15 @@ where
 
     fn last(&mut self, alloc: Global) -> Result<Last, TurnFault> {
         Ok(self.node.plain().last(alloc)?)
+    }
+
+    fn read(
+        &mut self,
+        _alloc: Global,
+        _key: &Bytes,
+        _version: Version,
+    ) -> Result<Option<Bytes>, TurnFault> {
+        Err(TurnFault::Refused(Refusal::NotTaken))
     }
 
     fn tells_wants(&self) -> bool {

@@ -10,10 +10,10 @@ use crate::turn::{Hearing, Kind, Newest, Turn};
 use crate::wants::Wants;
 use fr_ask::Last;
 use fr_audit_journal::Entry;
-use fr_base::{NodeId, Stamp};
+use fr_base::{Bytes, NodeId, Stamp, Version};
 use std::alloc::Global;
 
-/// What a process is asked of its node.
+/// What a line asks a process of its node.
 #[derive(Debug, Drop)]
 pub enum Order {
     /// Which node it is, and its state.
@@ -22,9 +22,11 @@ pub enum Order {
     Last,
     /// What it asks in a turn.
     Wants { turn: u32, newest: Option<Newest> },
-    /// That it takes a turn, above a stamp.
+    /// The value that a key had at a version.
+    Read { key: Bytes, version: Version },
+    /// To take a turn, above a stamp.
     Take { at: Stamp, turn: Turn },
-    /// That it was started again over its files, above a stamp, and which hear was under way, if one was.
+    /// To enter that it was started again over its files, above a stamp; with the hear that was under way, if one was.
     Back { at: Stamp, hearing: Option<Hearing> },
 }
 
@@ -44,6 +46,10 @@ pub enum Reply {
     Wants {
         wants: Wants,
     },
+    /// The value, if the key had one.
+    Read {
+        value: Option<Bytes>,
+    },
     /// What is entered of a turn of a kind, the node's state then, and what it asks, if it asks others.
     Taken {
         kind: Kind,
@@ -51,7 +57,7 @@ pub enum Reply {
         last: Last,
         wants: Option<Wants>,
     },
-    /// What is entered as it was started again, and its state.
+    /// What was entered when it was started again, and its state.
     Back {
         entries: Vec<Entry>,
         last: Last,
@@ -63,11 +69,11 @@ pub fn answer<T: Acting>(alloc: Global, node: &mut T, order: Order) -> Result<Re
     requires works { T.works node.old ≡ true }
     ensures node { T.node node.new ≡ T.node node.old }
     ensures answered { IfOk result (λ reply. IsAnswer
-        (record { node = T.node node.old; entries = T.entries node.old; last = T.last_of node.old; wanted = T.wanted node.old })
-        (record { node = T.node node.new; entries = T.entries node.new; last = T.last_of node.new; wanted = T.wanted node.new })
+        (record { node = T.node node.old; entries = T.entries node.old; last = T.last_of node.old; wanted = T.wanted node.old; read = T.value_at node.old })
+        (record { node = T.node node.new; entries = T.entries node.new; last = T.last_of node.new; wanted = T.wanted node.new; read = T.value_at node.new })
         order reply) }
     ensures works { UnlessCrashed result (T.works node.new ≡ true) }
-    ensures refused { Refuses (order_refusal (T.refusal node.old) (T.back_refusal node.old) order) result }
+    ensures refused { Refuses (order_refusal (T.refusal node.old) (T.back_refusal node.old) (T.read_refusal node.old) order) result }
     ensures left { IfRefused result (T.entries node.new ≡ T.entries node.old) }
     ensures stands { IfRefused result (T.last_of node.new ≡ T.last_of node.old) }
     ensures crashed { IfCrashed result T.CanCrash }
@@ -86,6 +92,10 @@ pub fn answer<T: Acting>(alloc: Global, node: &mut T, order: Order) -> Result<Re
             let wants = node.wants(alloc, turn, newest)?;
             Ok(Reply::Wants { wants })
         }
+        Order::Read { key, version } => {
+            let value = node.read(alloc, &key, version)?;
+            Ok(Reply::Read { value })
+        }
         Order::Take { at, turn } => take(alloc, node, at, turn),
         Order::Back { at, hearing } => take_back(alloc, node, at, hearing),
     }
@@ -96,8 +106,8 @@ fn take<T: Acting>(alloc: Global, node: &mut T, at: Stamp, turn: Turn) -> Result
     requires works { T.works node.old ≡ true }
     ensures node { T.node node.new ≡ T.node node.old }
     ensures answered { IfOk result (λ reply. IsAnswer
-        (record { node = T.node node.old; entries = T.entries node.old; last = T.last_of node.old; wanted = T.wanted node.old })
-        (record { node = T.node node.new; entries = T.entries node.new; last = T.last_of node.new; wanted = T.wanted node.new })
+        (record { node = T.node node.old; entries = T.entries node.old; last = T.last_of node.old; wanted = T.wanted node.old; read = T.value_at node.old })
+        (record { node = T.node node.new; entries = T.entries node.new; last = T.last_of node.new; wanted = T.wanted node.new; read = T.value_at node.new })
         (Order.Take at turn) reply) }
     ensures works { UnlessCrashed result (T.works node.new ≡ true) }
     ensures refused { Refuses (T.refusal node.old at turn) result }
@@ -127,8 +137,8 @@ fn take_back<T: Acting>(
     requires works { T.works node.old ≡ true }
     ensures node { T.node node.new ≡ T.node node.old }
     ensures answered { IfOk result (λ reply. IsAnswer
-        (record { node = T.node node.old; entries = T.entries node.old; last = T.last_of node.old; wanted = T.wanted node.old })
-        (record { node = T.node node.new; entries = T.entries node.new; last = T.last_of node.new; wanted = T.wanted node.new })
+        (record { node = T.node node.old; entries = T.entries node.old; last = T.last_of node.old; wanted = T.wanted node.old; read = T.value_at node.old })
+        (record { node = T.node node.new; entries = T.entries node.new; last = T.last_of node.new; wanted = T.wanted node.new; read = T.value_at node.new })
         (Order.Back at hearing) reply) }
     ensures works { UnlessCrashed result (T.works node.new ≡ true) }
     ensures refused { Refuses (T.back_refusal node.old at hearing) result }

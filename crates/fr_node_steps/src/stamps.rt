@@ -7,7 +7,7 @@ ghost use Rattle.fr_node_steps.specs.Passive.{are_spent};
 use fr_audit_journal::Journal;
 use fr_base::Stamp;
 
-/// The stamp above this one and those of a journal; none if they are spent.
+/// The next stamp above this one and those of a journal; none if there is no greater one.
 pub fn stamp_above(journal: &Journal, at: Stamp) -> Option<Stamp>
     ensures value { IfSome result (λ stamp. stamp ≡ next_stamp journal.now.entries at) }
     ensures there { IfSome result (λ stamp. are_spent journal.now.entries at ≡ false) }

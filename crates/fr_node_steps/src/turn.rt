@@ -13,7 +13,7 @@ pub enum Turn {
     Ask { from: NodeId, ask: Ask },
     /// It hears what a node told it.
     Hear { from: NodeId, tell: Tell },
-    /// It takes a batch, whose version is to be a step above the one before.
+    /// It takes a batch, whose version is to be this step above the last one given.
     Submit { step: Step, batch: Batch },
     /// It begins.
     Begin,
@@ -49,8 +49,8 @@ pub struct Newest {
     pub logs: u8,
 }
 
-/// A hear that was under way when the process of a storage server ended: what it was told, and at which version it stood
-/// before.
+/// A hear that was under way when the process of a storage server ended: who told what, and the version applied before
+/// it.
 #[derive(Debug, Drop)]
 pub struct Hearing {
     pub from: NodeId,
