@@ -34,7 +34,10 @@ enum {
     FDBREC_UNTOLD = 8,      /* the turn is done; no memory for its answer, which is to be fetched, or there is none */
     FDBREC_PART = 9,        /* out of memory amid an answer to a storage server, which may have taken a front of it */
     FDBREC_TWO_VALUES = 10, /* a cell holds another value under the ballot */
-    FDBREC_NONE = 11        /* the key has no value */
+    FDBREC_NONE = 11,       /* the key has no value */
+    FDBREC_NOT_MINE = 12,   /* the key that is read is not of the shard */
+    FDBREC_TOO_OLD = 13,    /* the version that is read is below the floor of the storage server */
+    FDBREC_FUTURE_VERSION = 14 /* the version that is read is above the one that the storage server applied */
 };
 
 /* Machines. What the handle held before is freed, if the new one is there. `shards` are the keys at which shards begin,
@@ -74,6 +77,12 @@ uint32_t fdbrec_log_peek(fdbrec_part **of, uint64_t epoch, uint8_t tag, uint64_t
                          size_t out_len, size_t *len, uint64_t *upto, uint64_t *known);
 uint32_t fdbrec_log_answer(fdbrec_part **of, uint8_t *out, size_t out_len, size_t *len, uint64_t *upto,
                            uint64_t *known);
+
+/* Storage servers, in bytes: the value that a key had at a version. The shard of the server's tag goes from `begin` up
+ * to, but not with, `end`; with an `end` of length 0 it has none. */
+uint32_t fdbrec_storage_read(fdbrec_part **of, const uint8_t *begin, size_t begin_len, const uint8_t *end,
+                             size_t end_len, const uint8_t *key, size_t key_len, uint64_t version, uint8_t *out,
+                             size_t out_len, size_t *len);
 
 /* Stores in memory, in bytes. */
 uint32_t fdbrec_store_apply(fdbrec_part **of, uint64_t version, const uint8_t *batch, size_t batch_len);

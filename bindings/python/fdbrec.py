@@ -50,6 +50,9 @@ class Status(IntEnum):
     PART = 9
     TWO_VALUES = 10
     NONE = 11
+    NOT_MINE = 12
+    TOO_OLD = 13
+    FUTURE_VERSION = 14
 
 
 class Fault(Exception):
@@ -94,6 +97,18 @@ class TwoValues(Fault):
     """The cell holds another value under this ballot: two nodes wrote under one, so something is wrong."""
 
 
+class NotMine(Fault):
+    """The key that is read is not of the shard."""
+
+
+class TooOld(Fault):
+    """The version that is read is below the floor of the storage server."""
+
+
+class FutureVersion(Fault):
+    """The version that is read is above the one that the storage server applied."""
+
+
 _FAULTS: dict[Status, type[Fault]] = {
     Status.MEMORY: OutOfMemory,
     Status.EMPTY: Closed,
@@ -104,6 +119,9 @@ _FAULTS: dict[Status, type[Fault]] = {
     Status.UNTOLD: Untold,
     Status.PART: PartTaken,
     Status.TWO_VALUES: TwoValues,
+    Status.NOT_MINE: NotMine,
+    Status.TOO_OLD: TooOld,
+    Status.FUTURE_VERSION: FutureVersion,
 }
 
 # ---- the library
@@ -139,6 +157,9 @@ _DECLARED: dict[str, tuple] = {
     "fdbrec_log_push": (_U32, _PART, _U64, _U64, _U64, _U64, _U8, _BYTES, _SIZE, _U64_OUT),
     "fdbrec_log_peek": (_U32, _PART, _U64, _U8, _U64, _U8, _ROOM, _SIZE, _SIZE_OUT, _U64_OUT, _U64_OUT),
     "fdbrec_log_answer": (_U32, _PART, _ROOM, _SIZE, _SIZE_OUT, _U64_OUT, _U64_OUT),
+    "fdbrec_storage_read": (
+        _U32, _PART, _BYTES, _SIZE, _BYTES, _SIZE, _BYTES, _SIZE, _U64, _ROOM, _SIZE, _SIZE_OUT
+    ),
     "fdbrec_store_apply": (_U32, _PART, _U64, _BYTES, _SIZE),
     "fdbrec_store_undo": (_U32, _PART, _U64),
     "fdbrec_store_forget": (_U32, _PART, _U64),
@@ -480,6 +501,13 @@ class Storage(Hears):
     def __init__(self, tag: int, state: Json) -> None:
         line = _compact(state)
         super().__init__("fdbrec_storage_new", tag, line, len(line))
+
+    def read(self, shard: tuple[bytes, bytes | None], key: bytes, version: int) -> bytes | None:
+        """The value that a key had at a version, if it had one; or `NotMine`, `TooOld` or `FutureVersion`. `shard` is
+        that of the server's tag: the key where it begins, and the one where the next does, if there is a next one."""
+        begin, end = shard[0], shard[1] or b""
+        its = begin, len(begin), end, len(end), key, len(key), version
+        return self._read("fdbrec_storage_read", *its, none=Status.NONE)
 
 
 class Store(Machine):

@@ -41,6 +41,28 @@ class Calls(unittest.TestCase):
             for record in peeked.records:
                 self.assertEqual(list(fdbrec.mutations(record.batch)), [Mutation("set", b"a", long)])
 
+    def test_a_storage_server_is_read_at_a_version(self):
+        long = b"7" * 4096
+        pairs = ((2, b"a", b"1"), (3, b"a", long), (4, b"b", b"2"))
+        sets = [(version, {"set": {"key": key.hex(), "value": value.hex()}}) for version, key, value in pairs]
+        records = [{"batch": [it], "version": version} for version, it in sets]
+        peeked = {"after": 0, "known": 2, "records": records, "tag": 0, "upto": 5}
+        with fdbrec.Storage(0, STATE) as storage:
+            storage.hear({"log": {"epoch": 257, "index": 0}}, {"log": {"peeked": peeked}})
+            was, whole = storage.last(), (b"", None)
+            found = [storage.read(whole, key, at) for key, at in ((b"a", 2), (b"a", 4), (b"b", 3), (b"b", 5))]
+            self.assertEqual(found, [b"1", long, None, b"2"])
+            for fault, shard, key, version in (
+                (fdbrec.TooOld, whole, b"a", 1),
+                (fdbrec.FutureVersion, whole, b"a", 6),
+                (fdbrec.NotMine, (b"", b"b"), b"b", 5),
+                (fdbrec.NotMine, (b"b", None), b"a", 1),
+                (fdbrec.OutOfLimits, whole, b"a", 2**62),
+            ):
+                with self.assertRaises(fault):
+                    storage.read(shard, key, version)
+            self.assertEqual(storage.last(), was)
+
     def test_what_is_not_done_says_why(self):
         with fdbrec.Cell() as cell:
             cell.write(513, b"x")

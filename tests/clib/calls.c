@@ -79,6 +79,10 @@ static const char NUMBERED[] = "{\"from\":{\"sequencer\":{\"epoch\":257}},"
 static const char PEEKED[] = "{\"from\":{\"log\":{\"epoch\":257,\"index\":0}},\"tell\":{\"log\":{\"peeked\":{\"after\":0,"
                              "\"known\":2,\"records\":[{\"batch\":[{\"set\":{\"key\":\"61\",\"value\":\"01\"}}],"
                              "\"version\":2}],\"tag\":0,\"upto\":2}}}}";
+static const char MORE[] = "{\"from\":{\"log\":{\"epoch\":257,\"index\":0}},\"tell\":{\"log\":{\"peeked\":{\"after\":2,"
+                           "\"known\":2,\"records\":[{\"batch\":[{\"set\":{\"key\":\"61\",\"value\":\"02\"}}],"
+                           "\"version\":3},{\"batch\":[{\"set\":{\"key\":\"62\",\"value\":\"03\"}}],"
+                           "\"version\":4}],\"tag\":0,\"upto\":4}}}}";
 static const char BATCH[] = {1, 0, 1, 1, 0, 1, 'a', 0, 0, 0, 1, 1};
 static const char LONGER[] = {1, 0, 1, 1, 0, 1, 'a', 0, 0, 0, 1, 1, 0};
 
@@ -102,6 +106,8 @@ static void of_none(void)
     WITH(batch, SPELLED, IS(fdbrec_log_push(&none, 257, 1, 2, 0, 0, batch.at, batch.size, &number), FDBREC_EMPTY));
     IS(fdbrec_log_peek(&none, 257, 0, 0, 1, out, room, &len, &number, &other), FDBREC_EMPTY);
     IS(fdbrec_log_answer(&none, out, room, &len, &number, &other), FDBREC_EMPTY);
+    WITH(key, text("a"),
+         IS(fdbrec_storage_read(&none, key.at, 0, key.at, 0, key.at, key.size, 2, out, room, &len), FDBREC_EMPTY));
     WITH(batch, SPELLED, IS(fdbrec_store_apply(&none, 5, batch.at, batch.size), FDBREC_EMPTY));
     IS(fdbrec_store_undo(&none, 5), FDBREC_EMPTY);
     IS(fdbrec_store_forget(&none, 5), FDBREC_EMPTY);
@@ -278,6 +284,47 @@ static void recoverers(void)
     fdbrec_free(&recoverer);
 }
 
+/* A key of the shard from `begin` to `end`, at a version. */
+static uint32_t read(fdbrec_part **of, const char *begin, const char *end, const char *key, uint64_t version)
+{
+    uint32_t status = 0;
+    WITH(first, text(begin),
+         WITH(last, text(end),
+              WITH(it, text(key), status = fdbrec_storage_read(of, first.at, first.size, last.at, last.size, it.at,
+                                                               it.size, version, out, room, &len))));
+    return status;
+}
+
+/* A server with a at 01 from version 2 on and at 02 from version 3 on, and b at 03 from version 4 on; its floor is 2. */
+static void reads(fdbrec_part **storage)
+{
+    char longest[10002];
+    WITH(line, text(MORE), IS(fdbrec_hear(storage, line.at, line.size, out, room, &len), FDBREC_OK));
+    with_room(0);
+    IS(read(storage, "", "", "a", 2), FDBREC_SHORT);
+    IS(len, 1);
+    with_room(1);
+    IS(read(storage, "", "", "a", 2), FDBREC_OK);
+    IS(says("\1"), 1);
+    IS(read(storage, "", "b", "a", 3), FDBREC_OK);
+    IS(says("\2"), 1);
+    IS(read(storage, "", "", "b", 3), FDBREC_NONE);
+    IS(read(storage, "b", "", "b", 4), FDBREC_OK);
+    IS(says("\3"), 1);
+    IS(read(storage, "", "", "", 4), FDBREC_NONE);
+    IS(read(storage, "", "b", "b", 4), FDBREC_NOT_MINE);
+    IS(read(storage, "b", "", "a", 1), FDBREC_NOT_MINE);
+    IS(read(storage, "", "", "a", 1), FDBREC_TOO_OLD);
+    IS(read(storage, "", "", "a", 5), FDBREC_FUTURE_VERSION);
+    IS(read(storage, "", "", "a", 1ull << 62), FDBREC_LIMIT);
+    /* a key at which a shard begins has at most 10,000 bytes */
+    memset(longest, 'c', sizeof longest - 1);
+    longest[sizeof longest - 1] = 0;
+    IS(read(storage, longest, "", "a", 2), FDBREC_LIMIT);
+    IS(read(storage, "", longest, "a", 2), FDBREC_LIMIT);
+    IS(read(storage, "", longest + 1, "a", 2), FDBREC_OK);
+}
+
 static void storages(void)
 {
     fdbrec_part *storage = NULL;
@@ -295,12 +342,18 @@ static void storages(void)
     with_room(100);
     IS(fdbrec_last(&storage, out, room, &len), FDBREC_OK);
     IS(says("{\"storage\":{\"epoch\":257,\"floor\":2,\"rows\":[[\"61\",\"01\"]],\"version\":2}}"), 1);
+    reads(&storage);
+    with_room(100);
+    IS(fdbrec_last(&storage, out, room, &len), FDBREC_OK);
+    IS(says("{\"storage\":{\"epoch\":257,\"floor\":2,\"rows\":[[\"61\",\"02\"],[\"62\",\"03\"]],\"version\":4}}"), 1);
     /* records after a version that the server does not have */
     WITH(line,
          text("{\"from\":{\"log\":{\"epoch\":257,\"index\":0}},\"tell\":{\"log\":{\"peeked\":{\"after\":9,\"known\":2,"
               "\"records\":[],\"tag\":0,\"upto\":9}}}}"),
          IS(fdbrec_hear(&storage, line.at, line.size, out, room, &len), FDBREC_REFUSED));
     WITH(line, text(READ), IS(fdbrec_ask(&storage, line.at, line.size, out, room, &len), FDBREC_KIND));
+    IS(fdbrec_store_new(&storage), FDBREC_OK);
+    IS(read(&storage, "", "", "a", 0), FDBREC_KIND);
     fdbrec_free(&storage);
 }
 

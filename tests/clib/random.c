@@ -13,7 +13,7 @@
 
 int LLVMFuzzerTestOneInput(const uint8_t *data, size_t size);
 
-enum { ROOM = 1 << 16, GUARD = 16, STATUSES = 12 };
+enum { ROOM = 1 << 16, GUARD = 16, STATUSES = 15 };
 
 static unsigned long count[STATUSES];
 static uint8_t out[ROOM + GUARD], before[ROOM], after[ROOM];
@@ -55,6 +55,8 @@ static uint32_t call(fdbrec_part **of, char kind, uint64_t number, const uint8_t
     case 'u': return fdbrec_store_undo(of, number);
     case 'f': return fdbrec_store_forget(of, number);
     case 'g': return fdbrec_store_get(of, text, size, out, room, len);
+    case 't': /* the first half of the text is the key, and the other one the end of the shard */
+        return fdbrec_storage_read(of, text, 0, text + size / 2, size - size / 2, text, size / 2, number, out, room, len);
     case 'd': return fdbrec_audit(text, size, out, room, len);
     default: return fdbrec_answer(of, out, room, len);
     }
@@ -84,7 +86,8 @@ static void turn(fdbrec_part **of, const uint8_t *line, size_t size)
         MUST(len <= room);
     if (status == FDBREC_SHORT)
         MUST(len > room);
-    if (status == FDBREC_KIND || status == FDBREC_REFUSED || status == FDBREC_LIMIT || status == FDBREC_BAD_TEXT)
+    if (status == FDBREC_KIND || status == FDBREC_REFUSED || status == FDBREC_LIMIT || status == FDBREC_BAD_TEXT ||
+        status > FDBREC_TWO_VALUES)
         MUST(line[0] == 'd' || (stands(of, after) == was && memcmp(before, after, was) == 0));
     if (status == FDBREC_SHORT && (line[0] == 'a' || line[0] == 'h' || line[0] == 'b')) {
         size_t wanted = len;

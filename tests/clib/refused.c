@@ -39,7 +39,7 @@ void *__wrap_realloc(void *at, size_t size)
 }
 
 enum { CELL, LOG, SEQUENCER, PROXY, RECOVERER, STORAGE, STORE, MACHINES };
-enum kind { MAKE, ASK, HEAR, NEXT, LAST, SUBMIT, READ, WRITE, PUSH, PEEK, APPLY, UNDO, FORGET, GET, AUDIT };
+enum kind { MAKE, ASK, HEAR, NEXT, LAST, SUBMIT, READ, WRITE, PUSH, PEEK, APPLY, UNDO, FORGET, GET, READ_AT, AUDIT };
 
 struct step {
     enum kind kind;
@@ -108,6 +108,9 @@ static void call(const struct step *it, struct answer *told)
     case APPLY: told->status = fdbrec_store_apply(of, version, spelled, length); break;
     case UNDO: told->status = fdbrec_store_undo(of, version); break;
     case FORGET: told->status = fdbrec_store_forget(of, version); break;
+    case READ_AT:
+        told->status = fdbrec_storage_read(of, text, 0, text, 0, text, size, version, told->out, room, &told->len);
+        break;
     case GET: told->status = fdbrec_store_get(of, text, size, told->out, room, &told->len); break;
     case AUDIT: told->status = fdbrec_audit(text, size, told->out, room, &told->len); break;
     }
@@ -172,6 +175,7 @@ static const struct step STORY[] = {
     {NEXT, STORAGE, NULL, 0},
     {HEAR, STORAGE, HEARD(LOG_0, "{\"log\":{\"peeked\":{\"after\":0,\"known\":3,\"records\":" RECORDS ",\"tag\":0,"
                                  "\"upto\":4}}}"), 0},
+    {READ_AT, STORAGE, "c", 3}, {READ_AT, STORAGE, "d", 4},
     {LAST, STORAGE, NULL, 0},
     {MAKE, STORE, NULL, 0},
     {APPLY, STORE, NULL, 1}, {APPLY, STORE, NULL, 2}, {APPLY, STORE, NULL, 8}, {APPLY, STORE, NULL, 9},

@@ -12,7 +12,8 @@ use fr_seat::giving::give;
 use fr_seat::status::{BAD_TEXT, MEMORY, OK, REFUSED, SHORT};
 use std::alloc::Global;
 
-/// Tells whether a script's journals are a run, by the line of the command `audit`.
+/// Tells whether a script's journals are a run: `OK` or `REFUSED`, with the line of the command `audit`, or `SHORT` if
+/// the line does not fit.
 #[unsafe(no_mangle)]
 pub extern "C" fn fdbrec_audit(alloc: Global, script: &[u8], out: &mut [u8], len: &mut usize) -> u32
     ensures ok { result ≡ 0 → (c : history.Config) × (js : List JournalState)

@@ -11,7 +11,7 @@ use fr_seat::cells::{give_read, read_cell, write_cell};
 use fr_seat::status::EMPTY;
 use std::alloc::Global;
 
-/// Reads a cell at a ballot.
+/// Reads a cell at a ballot. `number` is the ballot of the last write, or if refused the one promised.
 #[unsafe(no_mangle)]
 pub extern "C" fn fdbrec_cell_read(
     alloc: Global,
@@ -38,7 +38,7 @@ pub extern "C" fn fdbrec_cell_read(
     status
 }
 
-/// Gives the answer of the last read again.
+/// Gives the answer of the last read again. It is no turn.
 #[unsafe(no_mangle)]
 pub extern "C" fn fdbrec_cell_answer(
     alloc: Global,
@@ -63,7 +63,7 @@ pub extern "C" fn fdbrec_cell_answer(
     status
 }
 
-/// Writes a value into a cell under a ballot.
+/// Writes a value into a cell under a ballot. `number` is that ballot, or if refused the one promised.
 #[unsafe(no_mangle)]
 pub extern "C" fn fdbrec_cell_write(
     alloc: Global,

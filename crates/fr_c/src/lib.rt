@@ -6,6 +6,7 @@ mod audits;
 mod cells;
 mod logs;
 mod making;
+mod storages;
 mod stores;
 mod turns;
 

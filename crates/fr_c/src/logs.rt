@@ -11,7 +11,8 @@ use fr_seat::logs::{give_peeked, peek_tag, push_body};
 use fr_seat::status::EMPTY;
 use std::alloc::Global;
 
-/// Pushes one body to a log: a tag, and its batch.
+/// Pushes the batch of one tag to a log. `held` is the version that the log answers to hold. A push of several tags is
+/// a line of `fdbrec_ask`.
 #[unsafe(no_mangle)]
 pub extern "C" fn fdbrec_log_push(
     alloc: Global,
@@ -39,7 +40,7 @@ pub extern "C" fn fdbrec_log_push(
     status
 }
 
-/// Peeks a log for the records of a tag above a version.
+/// Peeks a log for the records of a tag above a version, at most `most` of them.
 #[unsafe(no_mangle)]
 pub extern "C" fn fdbrec_log_peek(
     alloc: Global,
@@ -70,7 +71,7 @@ pub extern "C" fn fdbrec_log_peek(
     status
 }
 
-/// Gives the answer of the last peek again.
+/// Gives the answer of the last peek again. It is no turn.
 #[unsafe(no_mangle)]
 pub extern "C" fn fdbrec_log_answer(
     alloc: Global,

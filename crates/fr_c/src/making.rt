@@ -1,4 +1,4 @@
-//! Machines made.
+//! Makes machines, and puts each into its handle.
 ghost use Rattle.std.specs.Prelude.{◌≡◌, false};
 ghost use Rattle.fr_register.specs.CellState.{fresh_cell};
 ghost use Rattle.fr_log.specs.LogState.{fresh_log};
@@ -16,7 +16,8 @@ use fr_seat::status::{MEMORY, OK};
 use fr_undo::MapStore;
 use std::alloc::Global;
 
-/// Puts a machine into a handle.
+/// Puts a machine that took no turn into a handle. What the handle had before is freed, if there is memory for this
+/// one.
 fn put(alloc: Global, of: &mut Handle, part: Part) -> u32
     ensures made { IsMade result of.old.value of.new.value part }
     ensures status { keeps result ≡ false → result ≡ 0 }
@@ -30,7 +31,7 @@ fn put(alloc: Global, of: &mut Handle, part: Part) -> u32
     }
 }
 
-/// A cell that was never asked.
+/// Makes a cell that was never asked.
 #[unsafe(no_mangle)]
 pub extern "C" fn fdbrec_cell_new(alloc: Global, of: &mut Handle) -> u32
     ensures made { IsMade result of.old.value of.new.value (part.Cell fresh_cell) }
@@ -38,7 +39,7 @@ pub extern "C" fn fdbrec_cell_new(alloc: Global, of: &mut Handle) -> u32
     put(alloc, of, Part::Cell(Cell::new(alloc)))
 }
 
-/// A log that was never asked.
+/// Makes a log that was never asked.
 #[unsafe(no_mangle)]
 pub extern "C" fn fdbrec_log_new(
     alloc: Global,
@@ -56,7 +57,7 @@ pub extern "C" fn fdbrec_log_new(
     }
 }
 
-/// A sequencer that gave nothing yet.
+/// Makes a sequencer that gave nothing yet, and whose first version follows `last`.
 #[unsafe(no_mangle)]
 pub extern "C" fn fdbrec_sequencer_new(alloc: Global, of: &mut Handle, epoch: u64, last: u64) -> u32
     ensures made { IsMade result of.old.value of.new.value (part.Sequencer (new_sequencer epoch last)) }
@@ -67,7 +68,7 @@ pub extern "C" fn fdbrec_sequencer_new(alloc: Global, of: &mut Handle, epoch: u6
     }
 }
 
-/// A proxy that took nothing yet.
+/// Makes a proxy that took nothing yet.
 #[unsafe(no_mangle)]
 pub extern "C" fn fdbrec_proxy_new(
     alloc: Global,
@@ -87,8 +88,8 @@ pub extern "C" fn fdbrec_proxy_new(
     }
 }
 
-/// A recoverer that heard nothing, for a generation of `m` logs on `k` of which each tag is, or of the parent's shape if
-/// both are 0.
+/// Makes a recoverer that heard nothing. It is to open a generation of `m` logs with each tag on `k` of them, or one of
+/// its parent's shape if both are 0.
 #[unsafe(no_mangle)]
 pub extern "C" fn fdbrec_recoverer_new(
     alloc: Global,
@@ -107,7 +108,7 @@ pub extern "C" fn fdbrec_recoverer_new(
     }
 }
 
-/// A storage server that begins in a state, over a store in which nothing was applied.
+/// Makes a storage server that begins in a state, over a store in which nothing was applied.
 #[unsafe(no_mangle)]
 pub extern "C" fn fdbrec_storage_new(alloc: Global, of: &mut Handle, tag: u8, state: &[u8]) -> u32
     ensures made { IsMadeAs result of.old.value of.new.value (IsStorageMade tag) }
@@ -118,7 +119,7 @@ pub extern "C" fn fdbrec_storage_new(alloc: Global, of: &mut Handle, tag: u8, st
     }
 }
 
-/// A store in which nothing was applied.
+/// Makes a store in which nothing was applied.
 #[unsafe(no_mangle)]
 pub extern "C" fn fdbrec_store_new(alloc: Global, of: &mut Handle) -> u32
     ensures made { IsMade result of.old.value of.new.value (part.Store fresh) }

@@ -11,7 +11,7 @@ use fr_seat::status::EMPTY;
 use fr_seat::stores::{apply_to, forget_in, get_in, undo_in};
 use std::alloc::Global;
 
-/// Applies a batch to a store at a version.
+/// Applies a batch to a store at a version, which is to be above the one applied.
 #[unsafe(no_mangle)]
 pub extern "C" fn fdbrec_store_apply(
     alloc: Global,
@@ -32,7 +32,7 @@ pub extern "C" fn fdbrec_store_apply(
     status
 }
 
-/// Undoes all versions of a store above one.
+/// Undoes all versions of a store above one, which is not to be below the floor.
 #[unsafe(no_mangle)]
 pub extern "C" fn fdbrec_store_undo(alloc: Global, of: &mut Handle, version: u64) -> u32
     ensures kept { Over of.old.value of.new.value result (λ old new. refuses result ≡ true → new.part ≡ old.part) }

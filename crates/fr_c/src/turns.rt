@@ -53,7 +53,8 @@ pub extern "C" fn fdbrec_hear(
     status
 }
 
-/// Has a proxy take a batch, whose version is to be so much above the one before, and gives the line of what it then asks.
+/// Has a proxy take a batch, whose version is to be `step` above the last one given, and gives the line of what it
+/// asks.
 #[unsafe(no_mangle)]
 pub extern "C" fn fdbrec_submit(
     alloc: Global,
@@ -77,7 +78,7 @@ pub extern "C" fn fdbrec_submit(
     status
 }
 
-/// Gives the line of what a machine said in its last turn again.
+/// Gives the line of what a machine said in its last turn again. It is no turn.
 #[unsafe(no_mangle)]
 pub extern "C" fn fdbrec_answer(
     alloc: Global,

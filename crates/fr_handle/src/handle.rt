@@ -14,7 +14,7 @@ use std::alloc::Global;
 use std::marker::{Model, Send};
 use std::mem;
 
-/// Empty, or the only way to a machine. Null is an empty one.
+/// A handle: empty, or the only pointer to a machine. In C an empty one is NULL.
 #[repr(C)]
 pub struct Handle {
     at: *mut u8,
@@ -43,7 +43,7 @@ impl Handle {
         }
     }
 
-    /// The handle of a machine that is taken apart.
+    /// The handle of a box that was taken apart.
     fn of_lone(lone: Lone<Seat, Global>) -> Handle
         ensures { result.value ≡ Some lone.value }
     {
@@ -54,7 +54,7 @@ impl Handle {
         }
     }
 
-    /// The machine of this handle, taken apart, if it is not empty.
+    /// The box of this handle, taken apart, if it is not empty.
     fn into_lone(self) -> Option<Lone<Seat, Global>>
         ensures { MatchOption result (self.value ≡ None) (λ lone. self.value ≡ Some lone.value) }
     {

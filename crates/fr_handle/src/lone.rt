@@ -7,7 +7,9 @@ use std::marker::Model;
 
 /// A box taken apart. Contracts see what lies at the pointer as `value`.
 pub struct Lone<T, A: Allocator> {
+    /// The pointer of the box.
     pub at: *mut T,
+    /// The allocator of its block.
     pub alloc: A,
     pub ghost value: { T },
 }

@@ -13,7 +13,7 @@ use fr_register::Cell;
 use std::alloc::Global;
 
 impl Part {
-    /// Answers an ask of its kind. Want of memory, and an ask of another kind, change nothing.
+    /// Answers an ask of its kind. Out of memory, and at an ask of another kind, nothing changes.
     pub fn ask(&mut self, alloc: Global, ask: Ask) -> Result<Tell, PartFault>
         ensures told { IfOk result (λ tell. told_of self.old ask ≡ Some tell) }
         ensures after { IfOk result (λ _. self.new ≡ after_of self.old ask) }

@@ -39,7 +39,7 @@ impl Asks {
         Asks { list }
     }
 
-    /// The asks.
+    /// The asks, lent.
     pub fn as_slice(&self) -> &[(NodeId, Ask)]
         ensures { result.now ≡ self.now }
     {

@@ -20,9 +20,34 @@ pub enum PartFault {
     /// The machine refuses.
     #[error("the machine refuses")]
     Refused,
-    /// Memory ran out in a storage server that hears an answer. It took a front of the answer, or nothing of it.
+    /// A storage server ran out of memory while it heard an answer. It took a front of the answer, or nothing of it: it
+    /// may hear the same again.
     #[error("out of memory amid an answer")]
     Part,
+}
+
+/// Why a machine does not say which value a key had at a version. It is left as it was. Of several reasons the first
+/// in the order of these variants is told.
+#[derive(Clone, Copy, Debug, PartialEq, Eq, Error)]
+pub enum Unread {
+    /// Another kind of machine does that.
+    #[error("another kind of machine does that")]
+    Kind,
+    /// The storage server ran out of memory amid an answer: it may hear the same again.
+    #[error("out of memory amid an answer")]
+    Part,
+    /// The key is not of the shard.
+    #[error("the key is not of the shard")]
+    NotMine,
+    /// The version is below the floor.
+    #[error("the version is below the floor")]
+    TooOld,
+    /// The version is above the one applied.
+    #[error("the version is above the one applied")]
+    FutureVersion,
+    /// Memory ran out.
+    #[error("out of memory")]
+    Memory,
 }
 
 impl From<NoMemory> for PartFault {
@@ -36,7 +61,7 @@ impl From<NoMemory> for PartFault {
     }
 }
 
-/// What the fault of a proxy is.
+/// What a proxy's fault is to its holder.
 pub(crate) fn of_submit(fault: SubmitFault) -> PartFault
     ensures { result ≡ of_submit fault }
 {
@@ -47,7 +72,7 @@ pub(crate) fn of_submit(fault: SubmitFault) -> PartFault
     }
 }
 
-/// What the fault of a storage server is.
+/// What a storage server's fault is to its holder.
 pub(crate) fn of_storage(fault: StorageFault) -> PartFault
     ensures { result ≡ of_storage fault }
 {
@@ -62,7 +87,7 @@ pub(crate) fn of_storage(fault: StorageFault) -> PartFault
     }
 }
 
-/// What the fault of a store in memory is.
+/// What the fault of a store in memory is to its holder.
 pub(crate) fn of_store(fault: StoreFault) -> PartFault
     ensures { result ≡ of_store fault }
 {

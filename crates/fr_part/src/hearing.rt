@@ -24,9 +24,8 @@ use fr_undo::MapStore;
 use std::alloc::Global;
 
 impl Part {
-    /// Hears what a node tells. A proxy and a recoverer answer what they then ask, which was not asked before, and a
-    /// proxy what it says of its batch. Want of memory changes nothing but a storage server, which then has taken a
-    /// front of an answer, or nothing of it.
+    /// Hears what a node tells. A proxy and a recoverer answer what they newly ask, and a proxy what it says of its
+    /// batch. Out of memory nothing changes, but in a storage server, which may have taken a front of the answer.
     pub fn hear(&mut self, alloc: Global, from: NodeId, tell: Tell) -> Result<Heard, PartFault>
         ensures heard { IfOk result (λ heard. IsHeard self.old from tell heard self.new) }
         ensures err { IfErr result (λ fault. fault ≢ PartOnly → self.new ≡ self.old) }
@@ -43,8 +42,8 @@ impl Part {
         }
     }
 
-    /// Takes a batch, whose version is to be this step above the one before: a proxy does, and asks for its number. What
-    /// is refused changes nothing.
+    /// Has a proxy take a batch, and ask for a version that is this step above the last one given. A refusal and out of
+    /// memory change nothing.
     pub fn submit(&mut self, alloc: Global, step: Step, batch: Batch) -> Result<Heard, PartFault>
         ensures submitted { IfOk result (λ heard. IsSubmitted self.old step batch heard self.new) }
         ensures err { OnErr result (self.new ≡ self.old) }
@@ -62,7 +61,8 @@ impl Part {
         }
     }
 
-    /// What it asks now: all asks of a proxy or of a recoverer whose tells are wanted, and a storage server's next one.
+    /// What the machine asks now: of a proxy or a recoverer all asks whose tells are wanted, of a storage server the
+    /// next one. To ask again is harmless.
     pub fn next(&self, alloc: Global) -> Result<Asks, PartFault>
         ensures asks { IfOk result (λ asks. asks_of self.now ≡ Some asks) }
         ensures kind { result ≡ Err Kind ↔ asks_of self.now ≡ None }
@@ -130,7 +130,7 @@ fn hear_recoverer(
     }
 }
 
-/// What a log told a storage server, where it is something to it.
+/// What a log told a storage server; none if a storage server does not hear such a tell.
 fn told_by(from: NodeId, tell: Tell) -> Option<Answer>
     ensures { option_map heard_of result ≡ told_by from tell }
 {
@@ -193,7 +193,8 @@ fn submit_to(alloc: Global, proxy: &mut Proxy, step: Step, batch: Batch) -> Resu
     }
 }
 
-/// What a storage server asks next: the first log of the next records' generation on which its tag stands, for them.
+/// What a storage server asks next: the records behind its version, of the first log that holds its tag in their
+/// generation.
 fn pull_of(alloc: Global, storage: &Storage<MapStore>) -> Result<Vec<(NodeId, Ask)>, Memory>
     ensures { IfOk result (λ asks. asks.items ≡ pull_of storage.now) }
 {
@@ -203,7 +204,7 @@ fn pull_of(alloc: Global, storage: &Storage<MapStore>) -> Result<Vec<(NodeId, As
     pull_from(alloc, source, tag, ask)
 }
 
-/// What is asked for records of a tag: of a generation that is known.
+/// The ask for records of a tag, of one log of their generation; nothing if the generation is not known.
 fn pull_from(
     alloc: Global,
     source: Option<Generation>,

@@ -3,10 +3,12 @@ use crate::asks::Asks;
 use fr_ask::Tell;
 use fr_proxy::Outcome;
 
-/// What a machine does at a tell that it hears: what it then asks, and what a proxy says of its batch.
+/// What comes of a tell that a machine hears.
 #[derive(Debug, Drop)]
 pub struct Heard {
+    /// What it newly asks.
     pub asks: Asks,
+    /// What a proxy says of its batch; none of other machines.
     pub outcome: Option<Outcome>,
 }
 

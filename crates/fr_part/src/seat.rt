@@ -15,11 +15,13 @@ use fr_base::{NodeId, Step};
 use fr_mutation::Batch;
 use std::alloc::Global;
 
-/// A machine with what it said in its last turn, which stays until the next: who could not take it may fetch it, and need
-/// not ask again.
+/// A machine with what it said in its last turn. That stays until the next turn: a caller who could not take it fetches
+/// it, and need not ask again, which would be another turn.
 #[derive(Drop)]
 pub struct Seat {
+    /// The machine.
     pub part: Part,
+    /// What it said in its last turn.
     pub said: Said,
 }
 
@@ -35,7 +37,7 @@ impl Seat {
         }
     }
 
-    /// Answers an ask, and keeps the tell. Want of memory, and an ask of another kind, change nothing.
+    /// Answers an ask, and keeps the tell. Out of memory, and at an ask of another kind, nothing changes.
     pub fn ask(&mut self, alloc: Global, ask: Ask) -> Result<(), PartFault>
         ensures after { OnOk result (self.new ≡ seat_after self.old ask) }
         ensures err { OnErr result (self.new ≡ self.old) }

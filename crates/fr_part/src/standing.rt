@@ -15,7 +15,8 @@ use fr_undo::MapStore;
 use std::alloc::Global;
 
 impl Part {
-    /// Where it stands, as others see it: a store does not say so. A storage server's rows are told of a copy of it.
+    /// Where the machine stands, as the end of its journal says it. A store has no such form (`Kind`). The rows of a
+    /// storage server are read from a copy, which takes memory and leaves the server as it is.
     pub fn last(&self, alloc: Global) -> Result<Last, PartFault>
         ensures last { IfOk result (λ told. last_of self.now ≡ Some told) }
         ensures kind { result ≡ Err Kind ↔ last_of self.now ≡ None }

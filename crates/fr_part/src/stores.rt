@@ -14,7 +14,8 @@ use fr_undo::ShardStore;
 use std::alloc::Global;
 
 impl Part {
-    /// Applies a batch at a version after the one applied, with undo rows: a store does. What is refused changes nothing.
+    /// Has a store apply a batch at a version after the one applied, with undo rows. A refusal and out of memory change
+    /// nothing.
     pub fn apply(&mut self, alloc: Global, version: Version, batch: &Batch) -> Result<(), PartFault>
         ensures ok { OnOk result (BecomesStore self.old self.new (λ s. extended s version batch.now)) }
         ensures err { OnErr result (self.new ≡ self.old) }
@@ -29,7 +30,7 @@ impl Part {
         }
     }
 
-    /// Undoes all versions above one that is not below the floor: a store does. What is refused changes nothing.
+    /// Has a store undo all versions above one that is not below the floor. A refusal and out of memory change nothing.
     pub fn undo_to(&mut self, alloc: Global, version: Version) -> Result<(), PartFault>
         ensures ok { OnOk result (BecomesStore self.old self.new (λ s. undone s version)) }
         ensures err { OnErr result (self.new ≡ self.old) }
@@ -44,7 +45,8 @@ impl Part {
         }
     }
 
-    /// Forgets how to undo below a version that is at most the one applied: a store does. What is refused changes nothing.
+    /// Has a store forget how to undo below a version that is at most the one applied. A refusal and out of memory
+    /// change nothing.
     pub fn forget_through(&mut self, alloc: Global, version: Version) -> Result<(), PartFault>
         ensures ok { OnOk result (BecomesStore self.old self.new (λ s. forgotten s version)) }
         ensures err { OnErr result (self.new ≡ self.old) }
@@ -59,7 +61,7 @@ impl Part {
         }
     }
 
-    /// The value of a key, lent, if it has one: a store says it.
+    /// The value of a key of a store, lent, if the key has one.
     pub fn value_at(&self, key: &Bytes) -> Result<Option<&Bytes>, PartFault>
         ensures value { IfOk result (λ value. IfStore self.now (λ s. option_map (λ bytes. bytes.now) value ≡ map.get s.contents key.now)) }
         ensures kind { result ≡ Err Kind ↔ is_store self.now ≡ false }

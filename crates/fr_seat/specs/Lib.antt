@@ -1,3 +1,4 @@
 pub mod Answers
 pub mod Made
+pub mod Reads
 pub mod Turns

@@ -94,7 +94,7 @@ pub fn write_cell(
     }
 }
 
-/// Gives the ballot of an answer to a write.
+/// Gives the ballot that the answer to a write names.
 fn written_into(said: &Said, number: &mut u64) -> u32
     ensures ok { result ≡ 0 → IsWritten said.now number.new }
     ensures refused { result ≡ 5 → IsCellRefused said.now number.new }

@@ -1,4 +1,4 @@
-//! Bytes given to a caller.
+//! Bytes that go into the memory of a caller.
 ghost use Rattle.std.specs.Prelude.{◌≡◌, ◌<◌, false, true, length, take, IfOk};
 ghost use Rattle.fr_seat.specs.Answers.{IsGiven, IsJson, IsShort};
 ghost use Rattle.fr_seat.specs.Turns.{is_told, keeps, refuses};
@@ -8,7 +8,7 @@ use crate::status::{KIND, MEMORY, OK, SHORT, UNTOLD};
 use fr_part::{PartFault, Said};
 use std::alloc::Global;
 
-/// Copies bytes, if there is room for them, and says how many they are.
+/// Copies bytes if there is room for them, and says in any case how many they are.
 pub fn give(bytes: &[u8], out: &mut [u8], len: &mut usize) -> bool
     ensures given { result ≡ true → IsGiven bytes.now out.new len.new }
     ensures short { result ≡ false → IsShort bytes.now out.new len.new }

@@ -9,5 +9,6 @@ pub mod logs;
 pub mod making;
 mod reading;
 pub mod status;
+pub mod storages;
 pub mod stores;
 pub mod turns;

@@ -1,5 +1,4 @@
-//! Lines of JSON: what machines are asked and tell, in the forms of journals. Whatever reads or writes a form does it
-//! here.
+//! Lines of JSON: what machines are asked and tell, in the forms of journals. All forms are read and written here.
 ghost use Rattle.std.specs.Prelude.{◌≡◌, IfOk};
 ghost use Rattle.fr_seat.specs.Answers.{IsJson};
 
@@ -17,10 +16,10 @@ use fr_state::CoordState;
 use serde_json::Value;
 use std::alloc::Global;
 
-/// The name of the asks of a machine.
+/// The member with what a machine asks.
 const ASKS: &str = "asks";
 
-/// The tree that a text is.
+/// Reads a text as a tree of JSON.
 fn tree(alloc: Global, text: &[u8]) -> Result<Value, ScriptFault> {
     match Value::from_slice(alloc, text) {
         Ok(value) => Ok(value),
@@ -29,12 +28,12 @@ fn tree(alloc: Global, text: &[u8]) -> Result<Value, ScriptFault> {
     }
 }
 
-/// What a machine is asked.
+/// Reads what a machine is asked.
 pub fn read_ask(alloc: Global, line: &[u8]) -> Result<Ask, ScriptFault> {
     fr_forms::read_ask(alloc, tree(alloc, line)?)
 }
 
-/// A node, and what it tells.
+/// Reads a node, and what it tells.
 pub fn read_heard(alloc: Global, line: &[u8]) -> Result<(NodeId, Tell), ScriptFault> {
     let mut fields = Fields::new(tree(alloc, line)?, 2);
     let from = read_node(fields.take(names::FROM)?)?;
@@ -42,18 +41,18 @@ pub fn read_heard(alloc: Global, line: &[u8]) -> Result<(NodeId, Tell), ScriptFa
     Ok((from, tell))
 }
 
-/// The keys at which shards begin.
+/// Reads the keys at which shards begin.
 pub fn read_begins(alloc: Global, line: &[u8]) -> Result<Vec<Bytes>, ScriptFault> {
     read_shards(alloc, tree(alloc, line)?)
 }
 
-/// A coordinated state.
+/// Reads a coordinated state.
 pub fn read_coordinated(alloc: Global, line: &[u8]) -> Result<CoordState, ScriptFault> {
     read_state(alloc, tree(alloc, line)?)
 }
 
-/// What a machine said in its last turn: a tell, or what it asks with what it says of a batch; null before its first
-/// turn.
+/// Writes what a machine said in its last turn: a tell, or what it asks with what it says of a batch. Before its first
+/// turn that is null.
 pub fn write_said(alloc: Global, said: &Said) -> Result<Vec<u8>, Memory>
     ensures { IfOk result (λ text. IsJson text.items) }
 {
@@ -72,7 +71,7 @@ fn heard_tree(alloc: Global, heard: &Heard) -> Result<Value, Memory> {
     Ok(tree.value())
 }
 
-/// Asks, each behind the node that is asked.
+/// Writes asks, each behind the node that is asked.
 pub fn write_asks(alloc: Global, asks: &Asks) -> Result<Vec<u8>, Memory>
     ensures { IfOk result (λ text. IsJson text.items) }
 {
@@ -80,7 +79,7 @@ pub fn write_asks(alloc: Global, asks: &Asks) -> Result<Vec<u8>, Memory>
     Ok(tree.to_vec(alloc)?)
 }
 
-/// Where a machine stands.
+/// Writes where a machine stands.
 pub fn write_standing(alloc: Global, last: &Last) -> Result<Vec<u8>, Memory>
     ensures { IfOk result (λ text. IsJson text.items) }
 {

@@ -54,7 +54,7 @@ pub fn push_body(
     }
 }
 
-/// The push of one body, where its numbers are within their limits.
+/// The push of one body, if its numbers are within their limits.
 fn one_body(
     alloc: Global,
     epoch: u64,

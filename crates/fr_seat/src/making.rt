@@ -72,7 +72,7 @@ pub fn make_proxy(
     Ok(Part::Proxy(Proxy::new(epoch, number, m, k, map, known)))
 }
 
-/// The map that a line says.
+/// Reads the map of shards that a line says.
 fn read_map(alloc: Global, shards: &[u8]) -> Result<ShardMap, u32>
     ensures err { IfErr result (λ status. status ≢ 0) }
 {
@@ -87,8 +87,8 @@ fn read_map(alloc: Global, shards: &[u8]) -> Result<ShardMap, u32>
     }
 }
 
-/// A recoverer that heard nothing, for a generation of `m` logs on `k` of which each tag is, or of the parent's shape if
-/// both are 0. An error is as that of [`make_log`].
+/// A recoverer that heard nothing, for a generation of `m` logs on `k` of which each tag is, or of the parent's shape
+/// if both are 0. An error is as that of [`make_log`].
 pub fn make_recoverer(
     alloc: Global,
     ballot: u64,

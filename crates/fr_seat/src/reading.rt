@@ -6,7 +6,7 @@ use fr_forms::ScriptFault;
 use fr_mutation::{Batch, DecodeFault, decode};
 use std::alloc::Global;
 
-/// The batch that bytes spell, all of them.
+/// Reads the batch that all of these bytes spell.
 pub fn read_batch(alloc: Global, bytes: &[u8]) -> Result<Batch, ScriptFault>
     ensures { IfOk result (λ batch. decoded bytes.now ≡ Ok (batch, length bytes.now)) }
 {

@@ -20,6 +20,9 @@ pub const UNTOLD: u32 = 8;
 pub const PART: u32 = 9;
 pub const TWO_VALUES: u32 = 10;
 pub const NONE: u32 = 11;
+pub const NOT_MINE: u32 = 12;
+pub const TOO_OLD: u32 = 13;
+pub const FUTURE_VERSION: u32 = 14;
 
 extern "C" {
     pub fn fdbrec_cell_new(of: *mut *mut fdbrec_part) -> u32;
@@ -126,6 +129,19 @@ extern "C" {
         len: *mut usize,
         upto: *mut u64,
         known: *mut u64,
+    ) -> u32;
+    pub fn fdbrec_storage_read(
+        of: *mut *mut fdbrec_part,
+        begin: *const u8,
+        begin_len: usize,
+        end: *const u8,
+        end_len: usize,
+        key: *const u8,
+        key_len: usize,
+        version: u64,
+        out: *mut u8,
+        out_len: usize,
+        len: *mut usize,
     ) -> u32;
     pub fn fdbrec_store_apply(of: *mut *mut fdbrec_part, version: u64, batch: *const u8, batch_len: usize) -> u32;
     pub fn fdbrec_store_undo(of: *mut *mut fdbrec_part, version: u64) -> u32;

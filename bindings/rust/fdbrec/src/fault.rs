@@ -22,6 +22,12 @@ pub enum Fault {
     Part,
     /// The cell holds another value under this ballot: two nodes wrote under one, so something is wrong.
     TwoValues,
+    /// The key that is read is not of the shard.
+    NotMine,
+    /// The version that is read is below the floor of the storage server.
+    TooOld,
+    /// The version that is read is above the one that the storage server applied.
+    FutureVersion,
     /// A status that this version of the crate does not know.
     Unknown(u32),
 }
@@ -40,6 +46,9 @@ impl Fault {
             sys::UNTOLD => Fault::Untold,
             sys::PART => Fault::Part,
             sys::TWO_VALUES => Fault::TwoValues,
+            sys::NOT_MINE => Fault::NotMine,
+            sys::TOO_OLD => Fault::TooOld,
+            sys::FUTURE_VERSION => Fault::FutureVersion,
             other => Fault::Unknown(other),
         }
     }
@@ -65,6 +74,9 @@ impl fmt::Display for Fault {
             Fault::Untold => "out of memory for what came of a turn, which is done",
             Fault::Part => "out of memory amid what a storage server heard",
             Fault::TwoValues => "two values under one ballot",
+            Fault::NotMine => "the key is not of the shard",
+            Fault::TooOld => "the version is below the floor",
+            Fault::FutureVersion => "the version is above the one applied",
             Fault::Unknown(status) => return write!(f, "unknown status {status}"),
         })
     }

@@ -1,6 +1,6 @@
 use crate::batch::Batch;
 use crate::fault::{Fault, Result};
-use crate::handle::{Handle, Machine};
+use crate::handle::{Handle, Machine, Room};
 use crate::lines::Heard;
 use fdbrec_sys as sys;
 
@@ -147,5 +147,32 @@ impl Storage {
     pub fn new(tag: u8, state: &str) -> Result<Self> {
         // SAFETY: the handle is new, and its own.
         Handle::new(|at| unsafe { sys::fdbrec_storage_new(at, tag, state.as_ptr(), state.len()) }).map(Storage)
+    }
+
+    /// The value that a key had at a version, if it had one. `shard` is that of the server's tag: the key where it
+    /// begins, and the one where the next shard does, if there is a next one.
+    pub fn read(&mut self, shard: (&[u8], Option<&[u8]>), key: &[u8], version: u64) -> Result<Option<Vec<u8>>> {
+        let (begin, end) = (shard.0, shard.1.unwrap_or_default());
+        // SAFETY: the handle and its room are its own, and the keys are another one's.
+        let read = |at, room: &mut Room| unsafe {
+            sys::fdbrec_storage_read(
+                at,
+                begin.as_ptr(),
+                begin.len(),
+                end.as_ptr(),
+                end.len(),
+                key.as_ptr(),
+                key.len(),
+                version,
+                room.at(),
+                room.size(),
+                room.used(),
+            )
+        };
+        match self.0.bytes(read, read) {
+            Ok(value) => Ok(Some(value.to_vec())),
+            Err(sys::NONE) => Ok(None),
+            Err(status) => Err(Fault::of(status)),
+        }
     }
 }

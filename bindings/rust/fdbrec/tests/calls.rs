@@ -41,6 +41,30 @@ fn long_answers_are_fetched() {
 }
 
 #[test]
+fn a_storage_server_is_read_at_a_version() {
+    let mut storage = Storage::new(0, STATE).unwrap();
+    let long = "07".repeat(4096);
+    let record = |version, key, value| {
+        format!(r#"{{"batch":[{{"set":{{"key":"{key}","value":"{value}"}}}}],"version":{version}}}"#)
+    };
+    let records = [record(2, "61", "01"), record(3, "61", long.as_str()), record(4, "62", "02")].join(",");
+    let peeked = format!(r#"{{"after":0,"known":2,"records":[{records}],"tag":0,"upto":5}}"#);
+    storage.hear(r#"{"log":{"epoch":257,"index":0}}"#, &format!(r#"{{"log":{{"peeked":{peeked}}}}}"#)).unwrap();
+    let was = storage.last();
+    let whole: (&[u8], Option<&[u8]>) = (b"", None);
+    assert_eq!(storage.read(whole, b"a", 2), Ok(Some(vec![1])));
+    assert_eq!(storage.read(whole, b"a", 4), Ok(Some(vec![7; 4096])));
+    assert_eq!(storage.read(whole, b"b", 3), Ok(None));
+    assert_eq!(storage.read(whole, b"b", 5), Ok(Some(vec![2])));
+    assert_eq!(storage.read(whole, b"a", 1), Err(Fault::TooOld));
+    assert_eq!(storage.read(whole, b"a", 6), Err(Fault::FutureVersion));
+    assert_eq!(storage.read((b"", Some(b"b")), b"b", 5), Err(Fault::NotMine));
+    assert_eq!(storage.read((b"b", None), b"a", 1), Err(Fault::NotMine));
+    assert_eq!(storage.read(whole, b"a", 1 << 62), Err(Fault::Limit));
+    assert_eq!(storage.last(), was);
+}
+
+#[test]
 fn what_is_not_done_says_why() {
     assert_eq!(Log::new(255, 0, 1, 1).err(), Some(Fault::Limit));
     assert_eq!(Storage::new(0, "[]").err(), Some(Fault::BadText));

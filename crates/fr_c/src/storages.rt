@@ -1,0 +1,50 @@
+//! Storage servers, in bytes.
+ghost use Rattle.std.specs.Prelude.{◌≡◌, None, Some};
+ghost use Rattle.fr_undo.specs.Undo.{value_undone};
+ghost use Rattle.fr_part.specs.Reads.{IfStorage, unread_of};
+ghost use Rattle.fr_part.specs.declared.fault.Unread.TheVariants as unread;
+ghost use Rattle.fr_seat.specs.Answers.{IsGiven, IsShort};
+ghost use Rattle.fr_seat.specs.Reads.{shard_from};
+ghost use Rattle.fr_seat.specs.Turns.{IfFound, Over};
+
+use fr_handle::Handle;
+use fr_seat::status::EMPTY;
+use fr_seat::storages::read_in;
+use std::alloc::Global;
+
+/// Gives the value that a key had at a version, of a storage server of the shard from `begin` on and below `end`, if
+/// that has bytes. It is no turn.
+#[unsafe(no_mangle)]
+pub extern "C" fn fdbrec_storage_read(
+    alloc: Global,
+    of: &mut Handle,
+    begin: &[u8],
+    end: &[u8],
+    key: &[u8],
+    version: u64,
+    out: &mut [u8],
+    len: &mut usize,
+) -> u32
+    ensures same { of.new.value ≡ of.old.value }
+    ensures ok { Over of.old.value of.new.value result
+        (λ old new. result ≡ 0 → IfStorage new.part
+        (λ s. IfFound (value_undone s.store version key.now) (λ value. IsGiven value out.new len.new))) }
+    ensures short { Over of.old.value of.new.value result
+        (λ old new. result ≡ 3 → IfStorage new.part
+        (λ s. IfFound (value_undone s.store version key.now) (λ value. IsShort value out.new len.new))) }
+    ensures none { Over of.old.value of.new.value result
+        (λ old new. result ≡ 11 → IfStorage new.part (λ s. value_undone s.store version key.now ≡ None)) }
+    ensures not_mine { Over of.old.value of.new.value result (λ old new. result ≡ 12
+        → unread_of new.part (shard_from begin.now end.now) key.now version ≡ Some unread.NotMine) }
+    ensures too_old { Over of.old.value of.new.value result (λ old new. result ≡ 13
+        → unread_of new.part (shard_from begin.now end.now) key.now version ≡ Some unread.TooOld) }
+    ensures future_version { Over of.old.value of.new.value result (λ old new. result ≡ 14
+        → unread_of new.part (shard_from begin.now end.now) key.now version ≡ Some unread.FutureVersion) }
+{
+    let Some(mut seat) = of.take(alloc) else {
+        return EMPTY;
+    };
+    let status = read_in(alloc, &mut seat.part, begin, end, key, version, out, len);
+    of.put(seat);
+    status
+}
