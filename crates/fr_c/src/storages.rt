@@ -2,7 +2,7 @@
 ghost use Rattle.std.specs.Prelude.{◌≡◌, None, Some};
 ghost use Rattle.fr_undo.specs.Undo.{value_undone};
 ghost use Rattle.fr_part.specs.Reads.{IfStorage, unread_of};
-ghost use Rattle.fr_part.specs.declared.fault.Unread.TheVariants as unread;
+ghost use Rattle.fr_part.specs.declared.fault.ReadRefusal.TheVariants as unread;
 ghost use Rattle.fr_seat.specs.Answers.{IsGiven, IsShort};
 ghost use Rattle.fr_seat.specs.Reads.{shard_from};
 ghost use Rattle.fr_seat.specs.Turns.{IfFound, Over};

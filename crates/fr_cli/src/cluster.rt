@@ -1,8 +1,8 @@
 //! The command `cluster` on each kind of store.
-use fr_cli_cluster::{ClusterOptions, PlainRack, Progress, Watcher, cluster_counted, storm_of};
-use fr_cli_cluster_sql::cluster_sql_counted;
+use fr_cli_cluster::{ClusterOptions, PlainRack, ProgressLine, Watcher, cluster_counted, storm_of};
 use fr_cli_json::{CallCounts, CliFault};
-use fr_cli_words::StoreKind;
+use fr_cli_words::StoreWord;
+use fr_runtime_disks::DiskRack;
 use std::alloc::Global;
 use std::io::{Eprint, Write};
 use std::sync::Wait;
@@ -11,7 +11,7 @@ use std::thread::Threads;
 /// Runs a cluster whose stores are of a kind, in the storm of its words. If there is a terminal, it says there how far
 /// it has come.
 pub(crate) fn cluster_on<H: Threads + Wait + Sync, E: Eprint + Sync, W: Write>(
-    kind: StoreKind,
+    kind: StoreWord,
     rt: &H,
     terminal: Option<&E>,
     alloc: Global,
@@ -21,7 +21,7 @@ pub(crate) fn cluster_on<H: Threads + Wait + Sync, E: Eprint + Sync, W: Write>(
     let storm = storm_of(options);
     match terminal {
         Some(terminal) => {
-            let progress = Progress::new(terminal, &storm, options);
+            let progress = ProgressLine::new(terminal, &storm, options);
             watched(kind, rt, alloc, options, &progress, writer)
         }
         None => watched(kind, rt, alloc, options, &storm, writer),
@@ -30,7 +30,7 @@ pub(crate) fn cluster_on<H: Threads + Wait + Sync, E: Eprint + Sync, W: Write>(
 
 /// The same, with who watches it.
 fn watched<H: Threads + Wait + Sync, F: Watcher + Sync, W: Write>(
-    kind: StoreKind,
+    kind: StoreWord,
     rt: &H,
     alloc: Global,
     options: ClusterOptions,
@@ -39,9 +39,19 @@ fn watched<H: Threads + Wait + Sync, F: Watcher + Sync, W: Write>(
 ) -> Result<u8, CliFault> {
     let mut calls = CallCounts::new();
     match kind {
-        StoreKind::Map => {
+        StoreWord::Map => {
             cluster_counted(rt, alloc, options, PlainRack, watcher, &mut calls, writer)
         }
-        StoreKind::Sql => cluster_sql_counted(rt, alloc, options, watcher, &mut calls, writer),
+        StoreWord::Sql => {
+            cluster_counted(
+                rt,
+                alloc,
+                options,
+                DiskRack::new(),
+                watcher,
+                &mut calls,
+                writer,
+            )
+        }
     }
 }

@@ -5,7 +5,7 @@ use clap::{Arg, ArgAction, ArgMatches, Command, value_parser};
 use fr_cli_cluster::{ClusterOptions, ClusterWords, DEFAULTS};
 use fr_cli_end::EndOptions;
 use fr_cli_words::{
-    MIXED, StoreKind, StoreWords, apply_command, bad_words, of_kind, program_command, read_file,
+    MIXED, StoreWord, StoreWords, apply_command, bad_words, of_kind, program_command, read_file,
     read_store, read_store_words, rows_command,
 };
 use std::alloc::Global;
@@ -14,7 +14,7 @@ use std::alloc::Global;
 #[derive(Debug, Drop, PartialEq, Eq)]
 pub enum Request {
     /// The operations of a script, run on an empty store.
-    Apply(StoreKind),
+    Apply(StoreWord),
     /// The operations of a script, run on the store of the file of this name.
     ApplyTo(String),
     /// The store of the file of this name, shown.
@@ -26,7 +26,7 @@ pub enum Request {
     /// The audit of a script's journals.
     Audit,
     /// A cluster in threads, whose stores are of this kind, and the audit of its journals.
-    Cluster(StoreKind, ClusterOptions),
+    Cluster(StoreWord, ClusterOptions),
 }
 
 /// Reads the words, the first of which is the program's name. An error is a request for help or a
@@ -55,7 +55,7 @@ fn read_request(alloc: Global, matches: &ArgMatches<'_>) -> Result<Request, Erro
     }
     match matches.subcommand_matches("apply") {
         Some(apply) => read_apply(alloc, apply),
-        None => Ok(Request::Apply(StoreKind::Map)),
+        None => Ok(Request::Apply(StoreWord::Map)),
     }
 }
 
@@ -205,49 +205,52 @@ fn cluster_command<'a>(alloc: Global) -> Result<Command<'a>, Error> {
     with_storm(alloc, of_work)
 }
 
+/// The words of how many nodes of each kind there are: the word, its help, what it is if it is not there, and the least
+/// and the greatest number.
+static NODES: [(&str, &str, &str, u8, u8); 5] = [
+    (
+        "coordinators",
+        "How many coordinators there are, 1, 3, 5, 7 or 9",
+        "3",
+        1,
+        9,
+    ),
+    (
+        "logs",
+        "How many logs a generation has, 1 to 16",
+        "4",
+        1,
+        16,
+    ),
+    (
+        "degree",
+        "On how many of the logs each shard is, 1 to all",
+        "2",
+        1,
+        16,
+    ),
+    (
+        "storages",
+        "How many storage servers there are, 1 to 32",
+        "2",
+        1,
+        32,
+    ),
+    (
+        "proxies",
+        "How many proxies a generation has, 1 to 16",
+        "2",
+        1,
+        16,
+    ),
+];
+
 /// With the words of how many nodes of each kind there are.
 fn with_nodes<'a>(alloc: Global, cluster: Command<'a>) -> Result<Command<'a>, Error> {
-    let command = cluster
-        .arg(few(
-            alloc,
-            "coordinators",
-            "How many coordinators there are, 1, 3, 5, 7 or 9",
-            "3",
-            1,
-            9,
-        ))?
-        .arg(few(
-            alloc,
-            "logs",
-            "How many logs a generation has, 1 to 16",
-            "4",
-            1,
-            16,
-        ))?
-        .arg(few(
-            alloc,
-            "degree",
-            "On how many of the logs each shard is, 1 to all",
-            "2",
-            1,
-            16,
-        ))?
-        .arg(few(
-            alloc,
-            "storages",
-            "How many storage servers there are, 1 to 32",
-            "2",
-            1,
-            32,
-        ))?
-        .arg(few(
-            alloc,
-            "proxies",
-            "How many proxies a generation has, 1 to 16",
-            "2",
-            1,
-            16,
-        ))?;
+    let mut command = cluster;
+    for &(word, help, usual, least, most) in &NODES {
+        command = command.arg(few(alloc, word, help, usual, least, most))?;
+    }
     Ok(command)
 }
 

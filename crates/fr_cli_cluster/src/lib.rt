@@ -13,5 +13,5 @@ pub use fr_runtime::{PlainRack, Rack};
 pub use fr_runtime_station::{Faults, NoFaults};
 pub use fr_runtime_storm::Storm;
 pub use options::{ClusterOptions, ClusterWords, DEFAULTS};
-pub use progress::{Progress, Watcher};
+pub use progress::{ProgressLine, Watcher};
 pub use setting::storm_of;

@@ -31,7 +31,7 @@ impl Watcher for Storm {
 /// storage servers took, the greatest version that a proxy said to be committed, and the greatest epoch whose logs are
 /// asked. It says when the journals are audited, and ends before the report is written.
 #[derive(Drop)]
-pub struct Progress<'a, E, F> {
+pub struct ProgressLine<'a, E, F> {
     to: &'a E,
     faults: &'a F,
     all: u64,
@@ -40,11 +40,11 @@ pub struct Progress<'a, E, F> {
     epoch: AtomicU64,
 }
 
-impl<'a, E: Eprint, F> Progress<'a, E, F> {
+impl<'a, E: Eprint, F> ProgressLine<'a, E, F> {
     /// Nothing is written yet.
     pub fn new(to: &'a E, faults: &'a F, options: ClusterOptions) -> Self {
         let words = options.words();
-        Progress {
+        ProgressLine {
             to,
             faults,
             all: u64::from(words.storages) * u64::from(words.turns),
@@ -73,7 +73,7 @@ impl<'a, E: Eprint, F> Progress<'a, E, F> {
     }
 }
 
-impl<E: Eprint, F: Faults> Watcher for Progress<'_, E, F> {
+impl<E: Eprint, F: Faults> Watcher for ProgressLine<'_, E, F> {
     fn end(&self) {
         self.show(self.turns.load(Ordering::SeqCst), ", audited  ");
         let _ = eprintln!(self.to; "");
@@ -87,7 +87,7 @@ fn raise(number: &AtomicU64, to: u64) {
     }
 }
 
-impl<E: Eprint, F: Faults> Faults for Progress<'_, E, F> {
+impl<E: Eprint, F: Faults> Faults for ProgressLine<'_, E, F> {
     ghost begun = { λ p. F.begun p.faults.now };
 
     ghost MayBefall = { λ p. F.MayBefall p.faults.now };

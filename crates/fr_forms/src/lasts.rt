@@ -7,8 +7,9 @@ use crate::object::{Object, numbered, with_one, write_text};
 use crate::popped::{read_popped, says_popped, with_popped};
 use crate::values::{read_rows, write_rows};
 use fr_ask::{Last, Rows};
-use fr_base::{Bytes, Memory};
+use fr_base::{Ballot, Bytes, Memory};
 use fr_log::PoppedTags;
+use fr_register::CellValue;
 use serde_json::Value;
 use std::alloc::Global;
 
@@ -99,13 +100,7 @@ pub fn write_last(alloc: Global, last: &Last) -> Result<Value, Memory> {
             promised,
             written,
             value,
-        } => {
-            let numbers = [
-                (names::PROMISED, promised.get()),
-                (names::WRITTEN, written.get()),
-            ];
-            holding(alloc, names::CELL, &numbers, value)
-        }
+        } => write_cell(alloc, *promised, *written, value),
         Last::Log {
             seeded,
             durable,
@@ -139,6 +134,19 @@ pub fn write_last(alloc: Global, last: &Last) -> Result<Value, Memory> {
             write_storage(alloc, &numbers, rows)
         }
     }
+}
+
+fn write_cell(
+    alloc: Global,
+    promised: Ballot,
+    written: Ballot,
+    value: &CellValue,
+) -> Result<Value, Memory> {
+    let numbers = [
+        (names::PROMISED, promised.get()),
+        (names::WRITTEN, written.get()),
+    ];
+    holding(alloc, names::CELL, &numbers, value)
 }
 
 fn write_log(

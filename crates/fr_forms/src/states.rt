@@ -5,7 +5,7 @@ use crate::lists::{WriteItem, write_all};
 use crate::names;
 use crate::object::Object;
 use fr_base::Memory;
-use fr_state::{CoordState, DecodeFault, Generation, StateFault, decode, encode};
+use fr_state::{CoordState, Generation, StateDecodeFault, StateFault, decode, encode};
 use serde_json::Value;
 use std::alloc::Global;
 
@@ -38,7 +38,7 @@ fn with_dropped(
     }
     match decode(alloc, &bytes) {
         Ok(state) => Ok(state),
-        Err(DecodeFault::Memory) => Err(ScriptFault::Memory),
+        Err(StateDecodeFault::Memory) => Err(ScriptFault::Memory),
         Err(_) => Err(ScriptFault::BadScript),
     }
 }

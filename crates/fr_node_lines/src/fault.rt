@@ -2,7 +2,7 @@
 use crate::names;
 use fr_base::Memory as NoMemory;
 use fr_forms::{ScriptFault, names as forms};
-use fr_node_steps::{Crash, Refusal, TurnFault};
+use fr_node_steps::{Crash, NodeTurnFault, TurnRefusal};
 use std::alloc::AllocError;
 
 /// A member of a line.
@@ -75,7 +75,7 @@ pub enum LineFault {
     /// It asks nothing of the node.
     Bad(BadLine),
     /// The node refuses it, or cannot go on.
-    Turn(TurnFault),
+    Turn(NodeTurnFault),
 }
 
 impl LineFault {
@@ -85,10 +85,10 @@ impl LineFault {
             LineFault::Bad(BadLine::Memory) => CRASH,
             LineFault::Bad(BadLine::NoType) => NOT_SUPPORTED,
             LineFault::Bad(_) => MALFORMED,
-            LineFault::Turn(TurnFault::Refused(Refusal::NotTaken)) => NOT_SUPPORTED,
-            LineFault::Turn(TurnFault::Refused(Refusal::OtherAsk)) => MALFORMED,
-            LineFault::Turn(TurnFault::Refused(_)) => ABORT,
-            LineFault::Turn(TurnFault::Crashed(_)) => CRASH,
+            LineFault::Turn(NodeTurnFault::Refused(TurnRefusal::NotTaken)) => NOT_SUPPORTED,
+            LineFault::Turn(NodeTurnFault::Refused(TurnRefusal::OtherAsk)) => MALFORMED,
+            LineFault::Turn(NodeTurnFault::Refused(_)) => ABORT,
+            LineFault::Turn(NodeTurnFault::Crashed(_)) => CRASH,
         }
     }
 
@@ -96,8 +96,8 @@ impl LineFault {
     pub fn text(self) -> &'static str {
         match self {
             LineFault::Bad(bad) => bad_text(bad),
-            LineFault::Turn(TurnFault::Refused(why)) => refusal_text(why),
-            LineFault::Turn(TurnFault::Crashed(why)) => crash_text(why),
+            LineFault::Turn(NodeTurnFault::Refused(why)) => refusal_text(why),
+            LineFault::Turn(NodeTurnFault::Crashed(why)) => crash_text(why),
         }
     }
 }
@@ -128,19 +128,19 @@ fn bad_text(bad: BadLine) -> &'static str {
 }
 
 /// The name of a refusal.
-fn refusal_text(why: Refusal) -> &'static str {
+fn refusal_text(why: TurnRefusal) -> &'static str {
     match why {
-        Refusal::NotTaken => names::TYPE,
-        Refusal::OtherAsk => forms::ASK,
-        Refusal::NotBegun => "NotBegun",
-        Refusal::Begun => "Begun",
-        Refusal::TwoOpen => "TwoOpen",
-        Refusal::Over => "Over",
-        Refusal::NotMine => "NotMine",
-        Refusal::TooOld => "TooOld",
-        Refusal::FutureVersion => "FutureVersion",
-        Refusal::StampsSpent => "StampsSpent",
-        Refusal::Full => "Full",
+        TurnRefusal::NotTaken => names::TYPE,
+        TurnRefusal::OtherAsk => forms::ASK,
+        TurnRefusal::NotBegun => "NotBegun",
+        TurnRefusal::Begun => "Begun",
+        TurnRefusal::TwoOpen => "TwoOpen",
+        TurnRefusal::Over => "Over",
+        TurnRefusal::NotMine => "NotMine",
+        TurnRefusal::TooOld => "TooOld",
+        TurnRefusal::FutureVersion => "FutureVersion",
+        TurnRefusal::StampsSpent => "StampsSpent",
+        TurnRefusal::Full => "Full",
     }
 }
 

@@ -14,6 +14,5 @@ pub use config::read_config;
 pub use envelope::Envelope;
 pub use fault::{BadLine, LineFault, Member};
 pub use fr_forms::ScriptFault;
-pub use names::name_of;
 pub use reading::{Line, read_line};
 pub use writing::{write_error, write_reply};

@@ -1,7 +1,4 @@
 //! The names of members and types: one table, by which they are read and written.
-use fr_base::NodeId;
-use std::alloc::{AllocError, Global};
-
 pub(crate) const SRC: &str = "src";
 
 pub(crate) const DEST: &str = "dest";
@@ -59,30 +56,3 @@ pub(crate) const BEGIN_OK: &str = "begin_ok";
 pub(crate) const BACK_OK: &str = "back_ok";
 
 pub(crate) const ERROR: &str = "error";
-
-/// The name by which a node is written to: its kind, and its numbers.
-pub fn name_of(alloc: Global, node: NodeId) -> Result<String, AllocError> {
-    match node {
-        NodeId::Cell { index } => format!(in alloc; "cell {index}"),
-        NodeId::Log { epoch, index } => {
-            let epoch = epoch.get();
-            format!(in alloc; "log {epoch} {index}")
-        }
-        NodeId::Sequencer { epoch } => {
-            let epoch = epoch.get();
-            format!(in alloc; "sequencer {epoch}")
-        }
-        NodeId::Proxy { epoch, number } => {
-            let epoch = epoch.get();
-            format!(in alloc; "proxy {epoch} {number}")
-        }
-        NodeId::Recoverer { ballot } => {
-            let ballot = ballot.get();
-            format!(in alloc; "recoverer {ballot}")
-        }
-        NodeId::Storage { tag } => {
-            let tag = tag.get();
-            format!(in alloc; "storage {tag}")
-        }
-    }
-}

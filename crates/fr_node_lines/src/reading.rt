@@ -1,15 +1,16 @@
 //! Lines read.
 use crate::envelope::{Envelope, text_of};
 use crate::fault::{BadLine, Member, at};
-use crate::names::{self, name_of};
+use crate::names;
 use fr_ask::{Ask, Tell};
+use fr_audit_journal::node_text;
 use fr_base::{NodeId, Stamp};
 use fr_forms::fields::Fields;
 use fr_forms::{
     ScriptFault, names as forms, read_ask, read_batch, read_node, read_step, read_tell,
 };
 use fr_mutation::Batch;
-use fr_node_steps::{Hearing, Newest, Order, Turn};
+use fr_node_steps::{Hearing, Newest, NodeRequest, NodeTurn};
 use serde_json::Value;
 use std::alloc::{AllocError, Global};
 
@@ -20,7 +21,7 @@ const MAX_LOGS: u8 = 16;
 #[derive(Debug, Drop)]
 pub struct Line {
     pub envelope: Envelope,
-    pub order: Result<Order, BadLine>,
+    pub order: Result<NodeRequest, BadLine>,
 }
 
 impl Line {
@@ -55,13 +56,13 @@ fn read_order(
     node: NodeId,
     envelope: &Envelope,
     line: Value,
-) -> Result<Order, BadLine> {
+) -> Result<NodeRequest, BadLine> {
     let mut fields = fields_of(line, 3)?;
     if envelope.sender.is_none() {
         return Err(BadLine::Member(Member::Src));
     }
     let dest = at(Member::Dest, fields.take(names::DEST))?;
-    if !is_text(&dest, name_of(alloc, node)?.as_str()) {
+    if !is_text(&dest, node_text(alloc, node)?.as_str()) {
         return Err(BadLine::OtherNode);
     }
     let body = at(Member::Body, fields.take(names::BODY))?;
@@ -91,7 +92,7 @@ fn type_of(alloc: Global, body: &Value) -> Result<Option<String>, AllocError> {
 }
 
 /// Reads the body of a line of a type.
-fn read_kind(alloc: Global, kind: &str, body: Value) -> Result<Order, BadLine> {
+fn read_kind(alloc: Global, kind: &str, body: Value) -> Result<NodeRequest, BadLine> {
     match kind {
         names::INIT => read_init(body),
         forms::LAST => read_last(body),
@@ -114,35 +115,35 @@ fn fields_of(value: Value, count: usize) -> Result<Fields, BadLine> {
     }
 }
 
-fn read_init(body: Value) -> Result<Order, BadLine> {
+fn read_init(body: Value) -> Result<NodeRequest, BadLine> {
     let _fields = fields_of(body, 2)?;
-    Ok(Order::Init)
+    Ok(NodeRequest::Init)
 }
 
-fn read_last(body: Value) -> Result<Order, BadLine> {
+fn read_last(body: Value) -> Result<NodeRequest, BadLine> {
     let _fields = fields_of(body, 2)?;
-    Ok(Order::Last)
+    Ok(NodeRequest::Last)
 }
 
 /// What is asked in a turn. A line without the newest epoch asks none of its logs for their mark.
-fn read_wants(body: Value) -> Result<Order, BadLine> {
+fn read_wants(body: Value) -> Result<NodeRequest, BadLine> {
     if body.get(names::NEWEST).is_none() {
         let fields = fields_of(body, 3)?;
         let turn = read_turn(&fields)?;
-        return Ok(Order::Wants { turn, newest: None });
+        return Ok(NodeRequest::Wants { turn, newest: None });
     }
     let mut fields = fields_of(body, 4)?;
     let turn = read_turn(&fields)?;
     let newest = read_newest(at(Member::Newest, fields.take(names::NEWEST))?)?;
-    Ok(Order::Wants { turn, newest })
+    Ok(NodeRequest::Wants { turn, newest })
 }
 
 /// A key, and the version at which its value is asked for.
-fn read_read(alloc: Global, body: Value) -> Result<Order, BadLine> {
+fn read_read(alloc: Global, body: Value) -> Result<NodeRequest, BadLine> {
     let fields = fields_of(body, 4)?;
     let key = at(Member::Key, fields.bytes(alloc, forms::KEY))?;
     let version = at(Member::Version, fields.version(forms::VERSION))?;
-    Ok(Order::Read { key, version })
+    Ok(NodeRequest::Read { key, version })
 }
 
 /// The number of a turn.
@@ -175,27 +176,27 @@ fn read_stamp(fields: &Fields) -> Result<Stamp, BadLine> {
     }
 }
 
-fn read_begin(body: Value) -> Result<Order, BadLine> {
+fn read_begin(body: Value) -> Result<NodeRequest, BadLine> {
     let fields = fields_of(body, 3)?;
     let at = read_stamp(&fields)?;
-    Ok(Order::Take {
+    Ok(NodeRequest::Take {
         at,
-        turn: Turn::Begin,
+        turn: NodeTurn::Begin,
     })
 }
 
 /// A start after a kill. A line without a hear that was under way had none.
-fn read_back(alloc: Global, body: Value) -> Result<Order, BadLine> {
+fn read_back(alloc: Global, body: Value) -> Result<NodeRequest, BadLine> {
     if body.get(names::HEARING).is_none() {
         let fields = fields_of(body, 3)?;
         let at = read_stamp(&fields)?;
-        return Ok(Order::Back { at, hearing: None });
+        return Ok(NodeRequest::Back { at, hearing: None });
     }
     let mut fields = fields_of(body, 4)?;
     let stamp = read_stamp(&fields)?;
     let hearing = at(Member::Hearing, fields.take(names::HEARING))?;
     let hearing = at(Member::Hearing, read_hearing(alloc, hearing))?;
-    Ok(Order::Back {
+    Ok(NodeRequest::Back {
         at: stamp,
         hearing: Some(hearing),
     })
@@ -214,36 +215,36 @@ fn read_hearing(alloc: Global, value: Value) -> Result<Hearing, ScriptFault> {
     })
 }
 
-fn read_asked(alloc: Global, body: Value) -> Result<Order, BadLine> {
+fn read_asked(alloc: Global, body: Value) -> Result<NodeRequest, BadLine> {
     let mut fields = fields_of(body, 5)?;
     let stamp = read_stamp(&fields)?;
     let from = at(Member::From, read_from(&mut fields))?;
     let ask = at(Member::Ask, read_ask_in(alloc, &mut fields))?;
-    Ok(Order::Take {
+    Ok(NodeRequest::Take {
         at: stamp,
-        turn: Turn::Ask { from, ask },
+        turn: NodeTurn::Ask { from, ask },
     })
 }
 
-fn read_heard(alloc: Global, body: Value) -> Result<Order, BadLine> {
+fn read_heard(alloc: Global, body: Value) -> Result<NodeRequest, BadLine> {
     let mut fields = fields_of(body, 5)?;
     let stamp = read_stamp(&fields)?;
     let from = at(Member::From, read_from(&mut fields))?;
     let tell = at(Member::Tell, read_tell_in(alloc, &mut fields))?;
-    Ok(Order::Take {
+    Ok(NodeRequest::Take {
         at: stamp,
-        turn: Turn::Hear { from, tell },
+        turn: NodeTurn::Hear { from, tell },
     })
 }
 
-fn read_submitted(alloc: Global, body: Value) -> Result<Order, BadLine> {
+fn read_submitted(alloc: Global, body: Value) -> Result<NodeRequest, BadLine> {
     let mut fields = fields_of(body, 5)?;
     let stamp = read_stamp(&fields)?;
     let step = at(Member::Step, read_step(&fields))?;
     let batch = at(Member::Batch, read_batch_in(alloc, &mut fields))?;
-    Ok(Order::Take {
+    Ok(NodeRequest::Take {
         at: stamp,
-        turn: Turn::Submit { step, batch },
+        turn: NodeTurn::Submit { step, batch },
     })
 }
 

@@ -1,15 +1,15 @@
 //! Lines written.
 use crate::envelope::Envelope;
 use crate::fault::LineFault;
-use crate::names::{self, name_of};
+use crate::names;
 use crate::records::write_entry;
 use fr_ask::Last;
-use fr_audit_journal::Entry;
+use fr_audit_journal::{Entry, node_text};
 use fr_base::{Bytes, Memory, NodeId};
 use fr_forms::lists::write_all;
 use fr_forms::object::{Object, hex_value, write_text};
 use fr_forms::{names as forms, write_last, write_node};
-use fr_node_steps::{Kind, Reply, Wants};
+use fr_node_steps::{Kind, NodeReply, Wants};
 use serde_json::Value;
 use std::alloc::Global;
 
@@ -18,22 +18,22 @@ pub fn write_reply(
     alloc: Global,
     node: NodeId,
     envelope: &Envelope,
-    reply: &Reply,
+    reply: &NodeReply,
 ) -> Result<Vec<u8>, Memory> {
     let body = match reply {
-        Reply::Init { node, last } => of_type(alloc, names::INIT_OK)?
+        NodeReply::Init { node, last } => of_type(alloc, names::INIT_OK)?
             .and(forms::NODE, write_node(alloc, node))?
             .and(forms::LAST, write_last(alloc, last))?,
-        Reply::Last { last } => {
+        NodeReply::Last { last } => {
             of_type(alloc, names::LAST_OK)?.and(forms::LAST, write_last(alloc, last))?
         }
-        Reply::Wants { wants } => {
+        NodeReply::Wants { wants } => {
             of_type(alloc, names::WANTS_OK)?.and(names::WANTS, write_all(alloc, wants.as_slice()))?
         }
-        Reply::Read { value } => {
+        NodeReply::Read { value } => {
             of_type(alloc, names::READ_OK)?.and(forms::VALUE, write_value(alloc, value))?
         }
-        Reply::Taken {
+        NodeReply::Taken {
             kind,
             entry,
             last,
@@ -42,7 +42,7 @@ pub fn write_reply(
             let body = write_taken(alloc, *kind, entry, last)?;
             with_wants(alloc, body, wants)?
         }
-        Reply::Back { entries, last } => write_back(alloc, entries.as_slice(), last)?,
+        NodeReply::Back { entries, last } => write_back(alloc, entries.as_slice(), last)?,
     };
     write_line(alloc, node, envelope, body)
 }
@@ -116,7 +116,7 @@ fn write_line(
         Some(number) => body.with(names::IN_REPLY_TO, Value::from(number))?,
         None => body,
     };
-    let name = name_of(alloc, node)?;
+    let name = node_text(alloc, node)?;
     let line = Object::new(alloc)
         .and(names::SRC, write_text(alloc, name.as_str()))?
         .with(names::BODY, body.value())?;

@@ -8,6 +8,7 @@ mod handed;
 mod job;
 mod orders;
 mod prepare;
+mod spawn;
 
 pub use cluster::{Cluster, Report};
 pub use fault::RunFault;

@@ -2,7 +2,7 @@
 ghost use Rattle.std.specs.Prelude.{◌≡◌, None, Some, IfOk};
 ghost use Rattle.fr_undo.specs.Undo.{value_undone};
 ghost use Rattle.fr_part.specs.Reads.{IfStorage, unread_of};
-ghost use Rattle.fr_part.specs.declared.fault.Unread.TheVariants as unread;
+ghost use Rattle.fr_part.specs.declared.fault.ReadRefusal.TheVariants as unread;
 ghost use Rattle.fr_seat.specs.Answers.{IsGiven, IsShort};
 ghost use Rattle.fr_seat.specs.Reads.{shard_from, unread_status};
 ghost use Rattle.fr_seat.specs.Turns.{IfFound};
@@ -13,7 +13,7 @@ use crate::status::{
 };
 use fr_base::{Bytes, Memory, Version};
 use fr_mutation::{MAX_KEY, Shard};
-use fr_part::{Part, Unread};
+use fr_part::{Part, ReadRefusal};
 use std::alloc::Global;
 
 /// Gives the value that a key of a shard had at a version. The shard is that of the storage server: from `begin` on,
@@ -76,15 +76,15 @@ fn shard_from(alloc: Global, begin: &[u8], end: &[u8]) -> Result<Shard, Memory>
 }
 
 /// The status of a read that is not answered.
-fn unread_status(fault: Unread) -> u32
+fn unread_status(fault: ReadRefusal) -> u32
     ensures { result ≡ unread_status fault }
 {
     match fault {
-        Unread::Kind => KIND,
-        Unread::Part => PART,
-        Unread::NotMine => NOT_MINE,
-        Unread::TooOld => TOO_OLD,
-        Unread::FutureVersion => FUTURE_VERSION,
-        Unread::Memory => MEMORY,
+        ReadRefusal::Kind => KIND,
+        ReadRefusal::Part => PART,
+        ReadRefusal::NotMine => NOT_MINE,
+        ReadRefusal::TooOld => TOO_OLD,
+        ReadRefusal::FutureVersion => FUTURE_VERSION,
+        ReadRefusal::Memory => MEMORY,
     }
 }

@@ -7,4 +7,4 @@ mod script;
 mod setting;
 mod step;
 
-pub use script::{Act, Commit, Pull, Push, Read, Recover, Script, read_script};
+pub use script::{Commit, Pull, Read, Recover, Resend, Script, ScriptStep, read_script};

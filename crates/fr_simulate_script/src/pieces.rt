@@ -5,7 +5,7 @@ ghost use Rattle.serde_json.specs.Data.{Data};
 ghost use Rattle.fr_cli_json.specs.Json.{data_of};
 ghost use Rattle.fr_form_pieces.specs.Pieces.{HasValue};
 
-use crate::script::{Act, Script};
+use crate::script::{Script, ScriptStep};
 use crate::setting::read_config;
 use crate::step::read_step;
 use fr_cli_json::CliFault;
@@ -45,7 +45,7 @@ fn read_whole(alloc: Global, reader: &mut Reader<'_>) -> Result<Script, Unread>
 }
 
 /// Reads a list of steps.
-fn read_steps(alloc: Global, reader: &mut Reader<'_>) -> Result<Vec<Act>, Unread>
+fn read_steps(alloc: Global, reader: &mut Reader<'_>) -> Result<Vec<ScriptStep>, Unread>
     ensures value { OnOk result (HasValue 126 reader.old reader.new) }
     ensures shorter { OnOk result (length reader.new < length reader.old) }
 {

@@ -17,16 +17,16 @@ use std::alloc::Global;
 #[derive(Drop)]
 pub struct Script {
     pub config: Config,
-    pub acts: Vec<Act>,
+    pub acts: Vec<ScriptStep>,
 }
 
 /// A step of a script.
 #[derive(Drop)]
-pub enum Act {
+pub enum ScriptStep {
     /// A proxy takes a batch.
     Commit(Commit),
     /// A proxy pushes its open batch again.
-    Push(Push),
+    Push(Resend),
     /// A storage server pulls from a log.
     Pull(Pull),
     /// A storage server asks a log for the mark.
@@ -53,7 +53,7 @@ pub struct Commit {
 
 /// A proxy, and the logs that get its push.
 #[derive(Drop)]
-pub struct Push {
+pub struct Resend {
     pub epoch: Epoch,
     pub proxy: u8,
     pub logs: Vec<u8>,

@@ -2,7 +2,7 @@
 ghost use Rattle.std.specs.Prelude.{◌≡◌, ◌⊎◌, IfErr};
 
 use crate::fields::{Fields, LAST_CELL, LAST_LOG};
-use crate::script::{Act, Commit, Pull, Push, Read, Recover};
+use crate::script::{Commit, Pull, Read, Recover, Resend, ScriptStep};
 use fr_base::{Ballot, Shape, Step};
 use fr_cli_json::CliFault;
 use fr_cli_json::tree::{
@@ -18,19 +18,19 @@ const RECOVER: usize = 5;
 const RECOVER_SHAPED: usize = RECOVER + 2;
 
 /// Reads a step: an object of one member, which names it.
-pub(crate) fn read_step(alloc: Global, value: Value) -> Result<Act, CliFault>
+pub(crate) fn read_step(alloc: Global, value: Value) -> Result<ScriptStep, CliFault>
     ensures fault { IfErr result (λ e. (e ≡ CliFault.BadScript) ⊎ (e ≡ CliFault.Memory)) }
 {
     let (name, fields) = into_one_member(value).ok_or(CliFault::BadScript)?;
     match name.as_str() {
-        "commit" => Ok(Act::Commit(read_commit(alloc, fields)?)),
-        "push" => Ok(Act::Push(read_push(alloc, &fields)?)),
-        "pull" => Ok(Act::Pull(read_pull(&fields)?)),
-        "mark" => Ok(Act::Mark(read_pull(&fields)?)),
-        "pop" => Ok(Act::Pop(read_pull(&fields)?)),
-        "read" => Ok(Act::Read(read_read(alloc, &fields)?)),
-        "recover" => Ok(Act::Recover(read_recover(alloc, &fields)?)),
-        "lose" => Ok(Act::Lose(Fields::new(&fields, 2).log()?)),
+        "commit" => Ok(ScriptStep::Commit(read_commit(alloc, fields)?)),
+        "push" => Ok(ScriptStep::Push(read_push(alloc, &fields)?)),
+        "pull" => Ok(ScriptStep::Pull(read_pull(&fields)?)),
+        "mark" => Ok(ScriptStep::Mark(read_pull(&fields)?)),
+        "pop" => Ok(ScriptStep::Pop(read_pull(&fields)?)),
+        "read" => Ok(ScriptStep::Read(read_read(alloc, &fields)?)),
+        "recover" => Ok(ScriptStep::Recover(read_recover(alloc, &fields)?)),
+        "lose" => Ok(ScriptStep::Lose(Fields::new(&fields, 2).log()?)),
         _ => Err(CliFault::BadScript),
     }
 }
@@ -55,11 +55,11 @@ fn read_commit(alloc: Global, mut value: Value) -> Result<Commit, CliFault>
     })
 }
 
-fn read_push(alloc: Global, value: &Value) -> Result<Push, CliFault>
+fn read_push(alloc: Global, value: &Value) -> Result<Resend, CliFault>
     ensures fault { IfErr result (λ e. (e ≡ CliFault.BadScript) ⊎ (e ≡ CliFault.Memory)) }
 {
     let fields = Fields::new(value, 3);
-    Ok(Push {
+    Ok(Resend {
         epoch: fields.epoch()?,
         proxy: fields.proxy()?,
         logs: fields.indexes(alloc, "logs", LAST_LOG)?,

@@ -9,7 +9,7 @@ use fr_forms::lists::write_all;
 use fr_forms::object::{Object, hex_value, write_text};
 use fr_forms::{ScriptFault, read_state, read_tell, write_ask, write_state};
 use fr_log::LogTell;
-use fr_storage::{Answer, ReadFault, Storage, StorageFault};
+use fr_storage::{LogAnswer, ReadFault, Storage, StorageFault};
 use fr_undo::{MapStore, ShardStore, StoreFault};
 use serde_json::Value;
 use std::alloc::Global;
@@ -142,20 +142,20 @@ fn follow_all<S: ShardStore + Drop>(
 }
 
 /// What a log of an epoch tells a storage server.
-fn read_answer(alloc: Global, fields: &mut Fields) -> Result<Answer, Wrong> {
+fn read_answer(alloc: Global, fields: &mut Fields) -> Result<LogAnswer, Wrong> {
     let epoch = fields.epoch("epoch")?;
     answer_of(epoch, read_tell(alloc, fields.take("tell")?))
 }
 
-fn answer_of(epoch: Epoch, tell: Result<Tell, ScriptFault>) -> Result<Answer, Wrong> {
+fn answer_of(epoch: Epoch, tell: Result<Tell, ScriptFault>) -> Result<LogAnswer, Wrong> {
     match tell? {
-        Tell::Log(LogTell::Marked { state }) => Ok(Answer::Marked(state)),
-        Tell::Log(LogTell::Peeked(peeked)) => Ok(Answer::Peeked(epoch, peeked)),
+        Tell::Log(LogTell::Marked { state }) => Ok(LogAnswer::Marked(state)),
+        Tell::Log(LogTell::Peeked(peeked)) => Ok(LogAnswer::Peeked(epoch, peeked)),
         _ => Err(NO_FORM),
     }
 }
 
-fn read_answers(alloc: Global, given: Value) -> Result<Vec<Answer>, Wrong> {
+fn read_answers(alloc: Global, given: Value) -> Result<Vec<LogAnswer>, Wrong> {
     let mut answers = Vec::new(alloc);
     for item in items(given)? {
         answers.push(read_answer(alloc, &mut Fields::new(item, 2))?)?;
@@ -184,12 +184,14 @@ fn write_broken_off(alloc: Global, is_there: Result<bool, StorageFault>) -> Resu
 fn break_off_at<S: ShardStore + Drop>(
     alloc: Global,
     storage: &mut Storage<S>,
-    answer: &Answer,
+    answer: &LogAnswer,
     version: Version,
 ) -> Result<bool, StorageFault> {
     match answer {
-        Answer::Marked(state) => storage.break_off_marked(alloc, state, version),
-        Answer::Peeked(epoch, peeked) => storage.break_off_peeked(alloc, *epoch, peeked, version),
+        LogAnswer::Marked(state) => storage.break_off_marked(alloc, state, version),
+        LogAnswer::Peeked(epoch, peeked) => storage.break_off_peeked(
+            alloc, *epoch, peeked, version,
+        ),
     }
 }
 

@@ -13,7 +13,7 @@ use fr_undo::{MapStore, ShardStore, StoreFault};
 use serde_json::Value;
 use std::alloc::Global;
 use test_rows::{Plays, Scene, Wrong, no_such_word, of_nothing, write_name};
-use test_store_failing::FailsOnce;
+use test_stores::FailsOnce;
 
 /// Plays rows with a store in which nothing was applied.
 pub(crate) fn play_store(alloc: Global, scene: Scene, at: &mut usize) -> Result<(), Wrong> {

@@ -13,6 +13,6 @@ mod wrong;
 
 pub use forms::{of_nothing, played, read_sizes, write_last_state, write_name, write_state_of};
 pub use play::{Player, play_file};
-pub use report::Report;
+pub use report::ScenarioReport;
 pub use subject::{Plays, Scene, no_such_word};
 pub use wrong::{NO_FORM, Wrong, said, told, told_all};

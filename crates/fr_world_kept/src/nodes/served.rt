@@ -13,7 +13,7 @@ use fr_base::{Memory, NodeId, Tag, Version};
 use fr_run::laws::node_laws;
 use fr_storage::StorageFault;
 use fr_world_nodes::storages::{
-    Heard, break_in_place, break_server, may_break, tell_in_place, tell_server,
+    ServerHeard, break_in_place, break_server, may_break, tell_in_place, tell_server,
 };
 use fr_world_turns::Turn;
 use std::alloc::Global;
@@ -42,7 +42,12 @@ impl Nodes {
         self.turns.reserve()?;
         let kept = tell.copy()?;
         let number = usize::from(tag.get());
-        let Heard { server, fault } = tell_server(alloc, &self.storages[number], &from, tell)?;
+        let ServerHeard { server, fault } = tell_server(
+            alloc,
+            &self.storages[number],
+            &from,
+            tell,
+        )?;
         self.storages[number] = server;
         self.turns.push_reserved(Turn::Storage {
             tag,
