@@ -1,9 +1,8 @@
 //! What a fault of an audit is: the line that says it.
 use crate::differing::differing;
-use crate::lines::node_text;
 use fr_ask::Last;
 use fr_audit::{Cause, Finding, entry_at};
-use fr_audit_journal::{Act, Journal, NodeEntry};
+use fr_audit_journal::{Act, Journal, NodeEntry, node_text};
 use fr_base::{Memory, NodeId, Shape, Version};
 use fr_forms::{write_ask, write_batch, write_last, write_outcome, write_tell};
 use fr_run_event::Answer;

@@ -80,23 +80,23 @@ fn happen(
 /// What comes of an event. If memory runs out the world is as it was, and the event is tried again.
 fn take(alloc: Global, played: &mut Played, event: Event) -> Result<Value, Wrong> {
     let turns = played.world.turns().len();
-    let given = match played.world.step(alloc, &event) {
+    let given = match played.world.step(alloc, event.copy()?) {
         Err(NotEnabled::Memory) if played.world.turns().len() == turns => {
-            played.world.step(alloc, &event)
+            played.world.step(alloc, event.copy()?)
         }
         given => given,
     };
-    said(write_happened(alloc, &mut played.events, &event, given))
+    said(write_happened(alloc, &mut played.events, event, given))
 }
 
-/// Keeps a copy of an event, and says a copy of what came of it.
+/// Keeps an event, and says a copy of what came of it.
 fn write_happened(
     alloc: Global,
     events: &mut Vec<Event>,
-    event: &Event,
+    event: Event,
     given: Result<Answer, NotEnabled>,
 ) -> Result<Value, Wrong> {
-    events.push(event.copy()?)?;
+    events.push(event)?;
     match given {
         Ok(answer) => write_copy(alloc, answer.copy()),
         Err(why) => write_why(alloc, why),
@@ -139,10 +139,19 @@ fn read(alloc: Global, world: &mut World, fields: &Fields) -> Result<Value, Wron
 /// of that one, from 0, with why.
 fn replay(alloc: Global, played: &Played) -> Result<Value, Wrong> {
     let config = played.world.config().copy()?;
-    match World::replay(alloc, config, played.events.as_slice()) {
+    let events = copies(alloc, played.events.as_slice())?;
+    match World::replay(alloc, config, events) {
         Ok(world) => Ok(Value::from(world.turns().len())),
         Err((number, why)) => write_stop(alloc, number, write_why(alloc, why)?),
     }
+}
+
+fn copies(alloc: Global, events: &[Event]) -> Result<Vec<Event>, Memory> {
+    let mut copies = Vec::new(alloc);
+    for event in events {
+        copies.push(event.copy()?)?;
+    }
+    Ok(copies)
 }
 
 fn write_stop(alloc: Global, number: usize, why: Value) -> Result<Value, Wrong> {

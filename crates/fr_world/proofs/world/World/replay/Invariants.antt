@@ -6,5 +6,6 @@ use Rattle.fr_world.proofs.world.World.replay.Given as goal
 abbrev pub invariant-loop-number : goal.invariant-loop-number
 invariant-loop-number l =
     (l.world.config ≡ l.fn.config)
-    × (replay l.fn.config l.events ≡ replay_from l.fn.config l.world.turns l.number (drop l.number l.events))
-    × (replay l.fn.config (take l.number l.events) ≡ Ok l.world.turns)
+    × (replay l.fn.config l.fn.events.items ≡ replay_from l.fn.config l.world.turns l.number-iterator.count l.number-iterator.iter.rest.items)
+    × (replay l.fn.config (take l.number-iterator.count l.fn.events.items) ≡ Ok l.world.turns)
+    × (drop l.number-iterator.count l.fn.events.items ≡ l.number-iterator.iter.rest.items)

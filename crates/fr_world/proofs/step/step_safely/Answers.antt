@@ -1,8 +1,7 @@
-use Rattle.std.proofs.Common.{subst}
-use Rattle.fr_run_headline.specs.Safety.{IsGrownFrom, IsSafe}
-use Rattle.fr_world_kept.specs.Kept.{WorldState, state_of}
+use Rattle.fr_run_headline.specs.Safety.{IsSafe}
+use Rattle.fr_world_kept.specs.Kept.{state_of}
 use Rattle.fr_world.proofs.Grows.{is_config, grown}
-use Rattle.fr_world.proofs.world.World.step.Goals as goal
+use Rattle.fr_world.proofs.step.step_safely.Goals as goal
 
 pub returns-clause-safe : goal.returns-clause-safe
 returns-clause-safe c =
@@ -21,5 +20,4 @@ pub returns-clause-grows : goal.returns-clause-grows
 returns-clause-grows c =
     let k = c.step.ensures.stays in
     let new = state_of c.step.new.nodes in
-    subst (λ (old : WorldState). IsGrownFrom new.config old.turns new.turns) c.self.view_is
-    (grown c.safety_law.ensures.turns c.safety_law.ensures.stands (state_of c.self.inside.nodes) new c.args.event.now c.step.result c.step.ensures.turn c.step.ensures.err (is_config k.within) k.run)
+    grown c.safety_law.ensures.turns c.safety_law.ensures.stands (state_of c.args.nodes.now) new c.args.event c.step.result c.step.ensures.turn c.step.ensures.err (is_config k.within) k.run
