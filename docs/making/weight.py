@@ -14,7 +14,7 @@ FAMILIES = (
     ("worlds", "fr_world fr_world_"),
     ("audit", "fr_audit fr_audit_journal fr_audit_script"),
     ("runtime", "fr_runtime fr_runtime_"),
-    ("forms", "fr_forms fr_form_ fr_json_ fr_simulate_script"),
+    ("forms", "fr_forms fr_simulate_script"),
     ("commands", "fr_cli fdbrec"),
     ("tests", "test_"),
     ("examples", "example_"),

@@ -6,6 +6,7 @@
 mod apply;
 mod cluster;
 mod help;
+mod kept;
 mod program;
 mod words;
 
@@ -43,14 +44,21 @@ pub fn run_main<H: Threads + Wait + Sync>(rt: &HostRuntime, threads: &H) -> Exit
     } else {
         None
     };
-    run_program(
+    let mut place = String::new(alloc);
+    let ending = run_program(
         threads,
         terminal,
         rt,
-        alloc,
+        &mut place,
         words.as_slice(),
         &mut reader,
         &mut writer,
-    )
-    .say(rt)
+    );
+    match ending {
+        Ending::Fault(CliFault::BadScript) if !place.is_empty() => {
+            let _ = eprintln!(rt; "bad script: {place}");
+            ExitCode::from(CliFault::BadScript.status())
+        }
+        _ => ending.say(rt),
+    }
 }

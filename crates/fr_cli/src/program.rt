@@ -1,42 +1,64 @@
 //! The program over its words, a reader and a writer.
 use crate::apply::apply_to;
 use crate::cluster::cluster_on;
+use crate::kept::{Kept, is_bad};
 use crate::words::{Request, read_words};
 use fr_cli_apply_sql::{DbFault, run_apply_db, run_rows_db};
-use fr_cli_audit::{Judged, run_audit_explained};
+use fr_cli_audit::{Judged, audit_counted};
 use fr_cli_end::run_end;
-use fr_cli_json::CliFault;
-use fr_cli_simulate::run_simulate;
+use fr_cli_json::{CallCounts, CliFault};
+use fr_cli_simulate::simulate_counted;
 use fr_cli_words::{Ending, show};
-use std::alloc::Global;
+use fr_forms::table;
 use std::io::{Eprint, Read, Write};
 use std::sync::Wait;
 use std::thread::Threads;
 
 /// Does what the words ask for, the first of which is the program's name. If there is a terminal, a cluster that runs
-/// says there how far it has come. Files are those of `host`.
+/// says there how far it has come. Files are those of `host`. Of a bad script `place` says where it is bad.
 pub fn run_program<H: Threads + Wait + Sync, E: Eprint + Sync, R: Read, W: Write>(
     rt: &H,
     terminal: Option<&E>,
     host: &HostRuntime,
-    alloc: Global,
+    place: &mut String,
     words: &[String],
     reader: &mut R,
     writer: &mut W,
 ) -> Ending {
+    let alloc = host.alloc();
     let request = match read_words(alloc, words) {
         Ok(request) => request,
         Err(error) => return show(alloc, error, writer),
     };
     match request {
         Request::ApplyTo(name) => {
-            in_file(run_apply_db(host, alloc, name.as_str(), reader, writer))
+            let mut kept = Kept::new(alloc, reader);
+            let answer = run_apply_db(host, alloc, name.as_str(), &mut kept, writer);
+            let is_bad = matches!(answer, Err(DbFault::Command(CliFault::BadScript)));
+            kept.explain(alloc, &table::APPLY, is_bad, place);
+            in_file(answer)
         }
         Request::Rows(name) => in_file(run_rows_db(host, alloc, name.as_str(), writer)),
-        Request::Apply(kind) => ending(apply_to(kind, alloc, reader, writer)),
-        Request::End(options) => ending(run_end(alloc, options, reader, writer)),
-        Request::Simulate => ending(run_simulate(alloc, reader, writer)),
-        Request::Audit => audit_ending(host, run_audit_explained(alloc, reader, writer)),
+        Request::Apply(kind) => {
+            let mut kept = Kept::new(alloc, reader);
+            let answer = apply_to(kind, alloc, &mut kept, writer);
+            kept.explain(alloc, &table::APPLY, is_bad(answer), place);
+            ending(answer)
+        }
+        Request::End(options) => {
+            let mut kept = Kept::new(alloc, reader);
+            let answer = run_end(alloc, options, &mut kept, writer);
+            kept.explain(alloc, &table::END, is_bad(answer), place);
+            ending(answer)
+        }
+        Request::Simulate => {
+            let mut calls = CallCounts::new();
+            ending(simulate_counted(alloc, &mut calls, place, reader, writer))
+        }
+        Request::Audit => {
+            let mut calls = CallCounts::new();
+            audit_ending(host, audit_counted(alloc, &mut calls, place, reader, writer))
+        }
         Request::Cluster(kind, options) => {
             cluster_ending(cluster_on(kind, rt, terminal, alloc, options, writer))
         }

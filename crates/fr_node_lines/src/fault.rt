@@ -1,7 +1,8 @@
 //! Why a line is not done.
 use crate::names;
 use fr_base::Memory as NoMemory;
-use fr_forms::{ScriptFault, names as forms};
+use fr_forms::Form::{self, Number, Object, OrNull, Text};
+use fr_forms::table;
 use fr_node_steps::{Crash, NodeTurnFault, TurnRefusal};
 use std::alloc::AllocError;
 
@@ -36,19 +37,68 @@ impl Member {
             Member::Type => names::TYPE,
             Member::MsgId => names::MSG_ID,
             Member::At => names::AT,
-            Member::From => forms::FROM,
-            Member::Ask => forms::ASK,
-            Member::Tell => forms::TELL,
-            Member::Step => forms::STEP,
-            Member::Batch => forms::BATCH,
+            Member::From => names::FROM,
+            Member::Ask => names::ASK,
+            Member::Tell => names::TELL,
+            Member::Step => names::STEP,
+            Member::Batch => names::BATCH,
             Member::Turn => names::TURN,
             Member::Newest => names::NEWEST,
             Member::Hearing => names::HEARING,
-            Member::Key => forms::KEY,
-            Member::Version => forms::VERSION,
+            Member::Key => names::KEY,
+            Member::Version => names::VERSION,
+        }
+    }
+
+    /// Its form.
+    pub(crate) fn form(self) -> &'static Form {
+        match self {
+            Member::Src | Member::Dest | Member::Type => &TEXT,
+            Member::Body | Member::Hearing => &ANY,
+            Member::MsgId => &NUMBER,
+            Member::At => &STAMP,
+            Member::From => &NODE,
+            Member::Ask => &ASK,
+            Member::Tell => &TELL,
+            Member::Step => &STEP,
+            Member::Batch => &BATCH,
+            Member::Turn => &TURN,
+            Member::Newest => &NEWEST,
+            Member::Key => &KEY,
+            Member::Version => &VERSION,
         }
     }
 }
+
+static TEXT: Form = Text;
+
+/// What is split into its members.
+static ANY: Form = Form::Any;
+
+/// The number of a line.
+static NUMBER: Form = Number(0, (1 << 53) - 1);
+
+/// The greatest stamp that the sender has seen.
+static STAMP: Form = table::STAMP;
+
+static NODE: Form = table::NODE;
+
+static ASK: Form = table::ASK;
+
+static TELL: Form = table::TELL;
+
+static STEP: Form = table::STEP;
+
+static BATCH: Form = table::BATCH;
+
+static KEY: Form = table::HEX;
+
+static VERSION: Form = table::VERSION;
+
+static TURN: Form = Number(0, (1 << 32) - 1);
+
+/// The newest epoch and how many logs it has.
+static NEWEST: Form = OrNull(&Object(&[("epoch", table::EPOCH), ("logs", Number(1, 16))]));
 
 /// Why a line asks nothing of a node.
 #[derive(Clone, Copy, Debug, PartialEq, Eq)]
@@ -131,7 +181,7 @@ fn bad_text(bad: BadLine) -> &'static str {
 fn refusal_text(why: TurnRefusal) -> &'static str {
     match why {
         TurnRefusal::NotTaken => names::TYPE,
-        TurnRefusal::OtherAsk => forms::ASK,
+        TurnRefusal::OtherAsk => names::ASK,
         TurnRefusal::NotBegun => "NotBegun",
         TurnRefusal::Begun => "Begun",
         TurnRefusal::TwoOpen => "TwoOpen",
@@ -163,14 +213,5 @@ impl From<NoMemory> for BadLine {
 impl From<AllocError> for BadLine {
     fn from(_: AllocError) -> BadLine {
         BadLine::Memory
-    }
-}
-
-/// What is wrong with a member.
-pub(crate) fn at<T>(member: Member, read: Result<T, ScriptFault>) -> Result<T, BadLine> {
-    match read {
-        Ok(value) => Ok(value),
-        Err(ScriptFault::BadScript) => Err(BadLine::Member(member)),
-        Err(ScriptFault::Memory) => Err(BadLine::Memory),
     }
 }

@@ -13,6 +13,22 @@ pub(crate) const IN_REPLY_TO: &str = "in_reply_to";
 
 pub(crate) const AT: &str = "at";
 
+pub(crate) const FROM: &str = "from";
+
+pub(crate) const ASK: &str = "ask";
+
+pub(crate) const TELL: &str = "tell";
+
+pub(crate) const STEP: &str = "step";
+
+pub(crate) const BATCH: &str = "batch";
+
+pub(crate) const ENTRIES: &str = "entries";
+
+pub(crate) const LAST: &str = "last";
+
+pub(crate) const NODE: &str = "node";
+
 pub(crate) const CODE: &str = "code";
 
 pub(crate) const ENTRY: &str = "entry";
@@ -25,11 +41,21 @@ pub(crate) const TEXT: &str = "text";
 
 pub(crate) const TURN: &str = "turn";
 
+pub(crate) const KEY: &str = "key";
+
+pub(crate) const VALUE: &str = "value";
+
+pub(crate) const VERSION: &str = "version";
+
+pub(crate) const READ: &str = "read";
+
 pub(crate) const WANTS: &str = "wants";
 
 // ---- types
 
 pub(crate) const INIT: &str = "init";
+
+pub(crate) const BEGIN: &str = "begin";
 
 pub(crate) const HEAR: &str = "hear";
 

@@ -115,7 +115,7 @@ fn is_audited(alloc: Global, config: Config, journals: &[Journal]) -> bool {
 
 /// Whether a text is a line with the script of journals of the defaults, which are a run.
 fn is_read_back(alloc: Global, text: &[u8]) -> Result<bool, Fail> {
-    let (config, journals) = read_script(alloc, text)?;
+    let (config, journals) = read_script(alloc, text, &mut String::new(alloc))?;
     let is_same = is_line(alloc, &config, journals.as_slice(), text)?;
     Ok(is_same && has_numbers(&config) && is_audited(alloc, config, journals.as_slice()))
 }

@@ -2,12 +2,12 @@
 use crate::subjects::Nodes;
 use fr_ask::Tell;
 use fr_base::Memory;
-use fr_forms::fields::{Fields, index_of};
-use fr_forms::object::{Object, numbered, write_text};
-use fr_forms::read_tell;
 use fr_register::{CellTell, Progress, ReadTally, WriteTally};
 use serde_json::Value;
 use std::alloc::Global;
+use test_rows::fields::{Fields, index_of};
+use test_rows::json::read_tell;
+use test_rows::object::{Object, numbered, write_text};
 use test_rows::{NO_FORM, Plays, Scene, Wrong, no_such_word, said};
 
 /// Plays rows with a tally of reads that no cell answered.

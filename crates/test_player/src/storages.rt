@@ -4,16 +4,16 @@ use crate::stores::read_failing;
 use crate::subjects::Nodes;
 use fr_ask::{Ask, Tell};
 use fr_base::{Bytes, Epoch, Memory, Version};
-use fr_forms::fields::{Fields, items};
-use fr_forms::lists::write_all;
-use fr_forms::object::{Object, hex_value, write_text};
-use fr_forms::{ScriptFault, read_state, read_tell, write_ask, write_state};
+use fr_forms::write_all;
 use fr_log::LogTell;
 use fr_storage::{LogAnswer, ReadFault, Storage, StorageFault};
 use fr_undo::{MapStore, ShardStore, StoreFault};
 use serde_json::Value;
 use std::alloc::Global;
-use test_rows::{NO_FORM, Plays, Scene, Wrong, no_such_word, said, write_name};
+use test_rows::fields::{Fields, items};
+use test_rows::json::{read_state, read_tell, value_of};
+use test_rows::object::{Object, hex_value, write_text};
+use test_rows::{NO_FORM, Plays, Scene, ScriptFault, Wrong, no_such_word, said, write_name};
 
 /// Plays rows with a storage server that applied nothing yet.
 pub(crate) fn play_storage(alloc: Global, scene: Scene, at: &mut usize) -> Result<(), Wrong> {
@@ -262,11 +262,11 @@ pub fn write_read(alloc: Global, read: Result<Option<Bytes>, ReadFault>) -> Resu
 
 /// What the server asks next.
 fn write_next<S: ShardStore + Drop>(alloc: Global, storage: &Storage<S>) -> Result<Value, Wrong> {
-    Ok(write_ask(alloc, &Ask::Log(storage.next_ask().1))?)
+    Ok(value_of(alloc, &Ask::Log(storage.next_ask().1))?)
 }
 
 fn generations<S: ShardStore + Drop>(alloc: Global, storage: &Storage<S>) -> Result<Value, Wrong> {
-    Ok(write_state(alloc, storage.state())?)
+    Ok(value_of(alloc, storage.state())?)
 }
 
 /// The state of the server.
@@ -294,7 +294,7 @@ fn standing_of(alloc: Global, storage: &Storage<MapStore>) -> Result<Value, Memo
     let place = place_of(alloc, storage)?;
     Ok(
         place
-            .and("state", write_state(alloc, storage.state()))?
+            .and("state", value_of(alloc, storage.state()))?
             .value(),
     )
 }

@@ -1,10 +1,10 @@
 //! The end of an epoch, as the replies of its logs tell it.
 use crate::subjects::Nodes;
 use fr_epoch::{EndTally, EpochEnd, Inconsistent, ReplyFault};
-use fr_forms::fields::Fields;
-use fr_forms::object::Object;
 use serde_json::Value;
 use std::alloc::Global;
+use test_rows::fields::Fields;
+use test_rows::object::Object;
 use test_rows::{Plays, Scene, Wrong, no_such_word, read_sizes, said, write_name};
 
 /// Plays rows with a tally that no log replied to.

@@ -2,13 +2,13 @@
 use crate::answers::{write_answer, write_why};
 use crate::events::{read_config, read_event, was_sent, was_told};
 use fr_base::Memory;
-use fr_forms::fields::Fields;
-use fr_forms::object::Object;
-use fr_forms::read_node;
 use fr_world::{Answer, Event, NotEnabled, World};
 use serde_json::Value;
 use std::alloc::Global;
 use test_player::write_read;
+use test_rows::fields::Fields;
+use test_rows::json::read_node;
+use test_rows::object::Object;
 use test_rows::{Plays, Scene, Wrong, no_such_word, played, said, write_last_state};
 
 /// The player of worlds.
@@ -49,8 +49,8 @@ impl Plays<Played> for Worlds {
     ) -> Result<Value, Wrong> {
         match word {
             "state" => state(alloc, &played.world, given),
-            "there" => there(&played.world, given),
-            "gone" => gone(&played.world, given),
+            "there" => there(alloc, &played.world, given),
+            "gone" => gone(alloc, &played.world, given),
             "sent" => was_sent(alloc, &played.world, given.of(3)),
             "told" => was_told(alloc, &played.world, given.of(3)),
             "turns" => Ok(Value::from(played.world.turns().len())),
@@ -109,19 +109,19 @@ fn write_copy(alloc: Global, answer: Result<Answer, Memory>) -> Result<Value, Wr
 
 /// What others see of a node's last state; null if it is not there.
 fn state(alloc: Global, world: &World, given: &mut Fields) -> Result<Value, Wrong> {
-    let node = read_node(given.take_all())?;
+    let node = read_node(alloc, given.take_all())?;
     match world.last_of(alloc, node)? {
         Some(last) => write_last_state(alloc, Ok(last)),
         None => Ok(Value::Null),
     }
 }
 
-fn there(world: &World, given: &mut Fields) -> Result<Value, Wrong> {
-    Ok(Value::from(world.is_there(read_node(given.take_all())?)))
+fn there(alloc: Global, world: &World, given: &mut Fields) -> Result<Value, Wrong> {
+    Ok(Value::from(world.is_there(read_node(alloc, given.take_all())?)))
 }
 
-fn gone(world: &World, given: &mut Fields) -> Result<Value, Wrong> {
-    Ok(Value::from(world.is_gone(read_node(given.take_all())?)))
+fn gone(alloc: Global, world: &World, given: &mut Fields) -> Result<Value, Wrong> {
+    Ok(Value::from(world.is_gone(read_node(alloc, given.take_all())?)))
 }
 
 /// What the storage server of a tag answers a read of a key at a version.
