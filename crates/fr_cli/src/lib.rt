@@ -1,6 +1,6 @@
 //! The program `fdbrec` as a library: its words choose a command, which reads a script and prints lines.
 //! Each command is also a function over a reader and a writer, handed on here.
-//! `fdbrec` runs it over the words of its command line, `test_program` over those of each example.
+//! `fdbrec` runs it over the words of its command line.
 #![tactic(auto)]
 
 mod apply;
@@ -8,6 +8,7 @@ mod cluster;
 mod help;
 mod kept;
 mod program;
+mod shapes;
 mod words;
 
 pub use fr_cli_apply::{ApplyOptions, run_apply, run_apply_on};
@@ -20,7 +21,7 @@ pub use fr_cli_simulate::run_simulate;
 use fr_cli_words::own_words;
 pub use fr_cli_words::{BAD_WORDS, Ending, StoreWord};
 pub use fr_runtime_disks::DiskRack;
-pub use program::run_program;
+pub use program::{Errors, run_program};
 use std::io;
 use std::io::{BufWriter, IsTerminal};
 use std::process::ExitCode;
@@ -39,15 +40,14 @@ pub fn run_main<H: Threads + Wait + Sync>(rt: &HostRuntime, threads: &H) -> Exit
         return Ending::Fault(CliFault::Memory).say(rt);
     };
     let mut reader = rt.reader();
-    let terminal = if rt.stderr().is_terminal() {
-        Some(rt)
-    } else {
-        None
+    let errors = Errors {
+        to: rt,
+        is_terminal: rt.stderr().is_terminal(),
     };
     let mut place = String::new(alloc);
     let ending = run_program(
         threads,
-        terminal,
+        errors,
         rt,
         &mut place,
         words.as_slice(),

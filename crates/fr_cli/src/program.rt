@@ -14,11 +14,20 @@ use std::io::{Eprint, Read, Write};
 use std::sync::Wait;
 use std::thread::Threads;
 
-/// Does what the words ask for, the first of which is the program's name. If there is a terminal, a cluster that runs
-/// says there how far it has come. Files are those of `host`. Of a bad script `place` says where it is bad.
+/// Where the program says what is beside its output.
+#[derive(Clone, Copy, Debug)]
+pub struct Errors<'a, E> {
+    /// Standard error, or what stands for it.
+    pub to: &'a E,
+    /// Whether that is a terminal.
+    pub is_terminal: bool,
+}
+
+/// Does what the words ask for, the first of which is the program's name. A cluster says what it met to `errors`, and if
+/// this is a terminal how far it has come. Files are those of `host`. Of a bad script `place` says where it is bad.
 pub fn run_program<H: Threads + Wait + Sync, E: Eprint + Sync, R: Read, W: Write>(
     rt: &H,
-    terminal: Option<&E>,
+    errors: Errors<'_, E>,
     host: &HostRuntime,
     place: &mut String,
     words: &[String],
@@ -57,10 +66,14 @@ pub fn run_program<H: Threads + Wait + Sync, E: Eprint + Sync, R: Read, W: Write
         }
         Request::Audit => {
             let mut calls = CallCounts::new();
-            audit_ending(host, audit_counted(alloc, &mut calls, place, reader, writer))
+            audit_ending(
+                host,
+                audit_counted(alloc, &mut calls, place, reader, writer),
+            )
         }
-        Request::Cluster(kind, options) => {
-            cluster_ending(cluster_on(kind, rt, terminal, alloc, options, writer))
+        Request::Cluster(kind, options, shapes) => {
+            let shapes = shapes.as_slice();
+            cluster_ending(cluster_on(kind, rt, errors, alloc, options, shapes, writer))
         }
     }
 }

@@ -1,7 +1,9 @@
 //! The words of the command line.
 use crate::help::{AUDIT_HELP, CLUSTER_HELP, END_HELP, SIMULATE_HELP};
+use crate::shapes::{SHAPES_BAD, shapes_of, shapes_word};
 use clap::error::{Error, ErrorKind};
 use clap::{Arg, ArgAction, ArgMatches, Command, value_parser};
+use fr_base::Shape;
 use fr_cli_cluster::{ClusterOptions, ClusterWords, DEFAULTS};
 use fr_cli_end::EndOptions;
 use fr_cli_words::{
@@ -25,8 +27,9 @@ pub enum Request {
     Simulate,
     /// The audit of a script's journals.
     Audit,
-    /// A cluster in threads, whose stores are of this kind, and the audit of its journals.
-    Cluster(StoreWord, ClusterOptions),
+    /// A cluster in threads, whose stores are of this kind, the audit of its journals, and the shapes of the generations
+    /// that recoveries open, in turn.
+    Cluster(StoreWord, ClusterOptions, Vec<Shape>),
 }
 
 /// Reads the words, the first of which is the program's name. An error is a request for help or a
@@ -98,15 +101,33 @@ fn read_cluster(alloc: Global, matches: &ArgMatches<'_>) -> Result<Request, Erro
         batches: number(matches, "batches", DEFAULTS.batches),
         recoveries: byte(matches, "recoveries", DEFAULTS.recoveries),
         turns: number(matches, "turns", DEFAULTS.turns),
-        storm: matches.get_one::<u16>("storm").unwrap_or(DEFAULTS.storm),
+        storm: share(matches, "storm", DEFAULTS.storm),
+        late: share(matches, "late", DEFAULTS.late),
+        crash: share(matches, "crash", DEFAULTS.crash),
+        lose: share(matches, "lose", DEFAULTS.lose),
+        refuse: share(matches, "refuse", DEFAULTS.refuse),
         seed: matches.get_one::<u64>("seed").unwrap_or(DEFAULTS.seed),
         journal: matches.get_flag("journal"),
+        counts: matches.get_flag("counts"),
     };
     if let Some(options) = ClusterOptions::new(words) {
-        return Ok(Request::Cluster(read_store(matches), options));
+        return match shapes_of(alloc, matches.get_str("shapes").unwrap_or(""))? {
+            Some(shapes) => Ok(Request::Cluster(read_store(matches), options, shapes)),
+            None => {
+                let cluster = cluster_command(alloc)?;
+                Err(bad_words(
+                    cluster,
+                    "fdbrec cluster",
+                    ErrorKind::ValueValidation,
+                    SHAPES_BAD,
+                )?)
+            }
+        };
     }
     let message = if words.coordinators % 2 == 0 {
         "the value of '--coordinators <N>' is even: it can be 1, 3, 5, 7 or 9"
+    } else if 0 < words.refuse && words.refuse < 256 {
+        "the value of '--refuse <N>' is below 256: it can be 0, for none, or 256 and more"
     } else {
         "the value of '--degree <N>', 2 if it is not given, is above that of '--logs <N>'"
     };
@@ -117,6 +138,11 @@ fn read_cluster(alloc: Global, matches: &ArgMatches<'_>) -> Result<Request, Erro
         ErrorKind::ValueValidation,
         message,
     )?)
+}
+
+/// How many of 256 a word says, or what it says if it is not there.
+fn share(matches: &ArgMatches<'_>, name: &str, default: u16) -> u16 {
+    matches.get_one::<u16>(name).unwrap_or(default)
 }
 
 /// The number of a word, below 256, or what it is if the word is not there.
@@ -286,9 +312,15 @@ fn with_work<'a>(alloc: Global, cluster: Command<'a>) -> Result<Command<'a>, Err
 fn with_storm<'a>(alloc: Global, cluster: Command<'a>) -> Result<Command<'a>, Error> {
     let command = cluster
         .arg(store_word(alloc))?
-        .arg(storm_word(alloc))?
+        .arg(shapes_word(alloc))?
+        .arg(share_word(alloc, "storm", STORM))?
+        .arg(share_word(alloc, "late", LATE))?
+        .arg(share_word(alloc, "crash", CRASH))?
+        .arg(share_word(alloc, "lose", LOSE))?
+        .arg(refuse_word(alloc))?
         .arg(seed_word(alloc))?
-        .arg(journal_word(alloc))?;
+        .arg(journal_word(alloc))?
+        .arg(counts_word(alloc))?;
     Ok(command)
 }
 
@@ -300,10 +332,26 @@ fn store_word<'a>(alloc: Global) -> Arg<'a> {
     )
 }
 
-fn storm_word<'a>(alloc: Global) -> Arg<'a> {
-    Arg::new(alloc, "storm")
-        .long("storm")
-        .help("How many of 256 asks are lost or repeated, and how often nodes crash, 0 to 256")
+/// What `--storm` says.
+const STORM: &str =
+    "How many of 256 asks are lost or repeated, and how often nodes crash, 0 to 256";
+
+/// What `--late` says.
+const LATE: &str =
+    "How many of 256 of the other asks are late, or what is told of them is, 0 to 256";
+
+/// What `--crash` says.
+const CRASH: &str =
+    "How many of 256 draws crash a node of any generation, or a node that asks, 0 to 256";
+
+/// What `--lose` says.
+const LOSE: &str = "How many of 256 of the other draws lose a log for good, 0 to 256";
+
+/// A word that says how many of 256 draws are a fault.
+fn share_word<'a>(alloc: Global, name: &'a str, help: &'a str) -> Arg<'a> {
+    Arg::new(alloc, name)
+        .long(name)
+        .help(help)
         .value_name("N")
         .value_parser(value_parser!(u16).range(0..=256))
         .default_value("0")
@@ -320,10 +368,29 @@ fn seed_word<'a>(alloc: Global) -> Arg<'a> {
         .action(ArgAction::Set)
 }
 
+fn refuse_word<'a>(alloc: Global) -> Arg<'a> {
+    Arg::new(alloc, "refuse")
+        .long("refuse")
+        .help(
+            "With --store sql, of how many calls of a device or a database one is refused, 256 to 65535, 0 none",
+        )
+        .value_name("N")
+        .value_parser(value_parser!(u16).range(0..=65_535))
+        .default_value("0")
+        .action(ArgAction::Set)
+}
+
 fn journal_word<'a>(alloc: Global) -> Arg<'a> {
     Arg::new(alloc, "journal")
         .long("journal")
         .help("Prints the script of the audit in place of 'audit ok'")
+        .action(ArgAction::SetTrue)
+}
+
+fn counts_word<'a>(alloc: Global) -> Arg<'a> {
+    Arg::new(alloc, "counts")
+        .long("counts")
+        .help("Says at the end on standard error what was met, as on a terminal")
         .action(ArgAction::SetTrue)
 }
 

@@ -40,7 +40,7 @@ pub(crate) enum Job<W, T> {
     Pull {
         storage: T,
     },
-    /// It crashes nodes.
+    /// It crashes and loses nodes.
     Crash,
 }
 
@@ -167,7 +167,7 @@ fn work_at<K: Rack, F: Faults, R: Wait, S: ShardStore + Drop, W: Workload + Drop
             Ok(Done::Kept { journal })
         }
         Job::Crash => {
-            crash(site, turns);
+            crash(site, turns)?;
             Ok(Done::Nothing)
         }
     }

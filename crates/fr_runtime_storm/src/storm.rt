@@ -4,12 +4,12 @@ ghost use Rattle.std.specs.Prelude.{◌≡◌, ◌≤◌};
 use crate::draws::Draws;
 use fr_ask::Ask;
 use fr_base::{Ballot, NodeId};
-use fr_runtime_station::{Faults, NoFaults, Verdict};
+use fr_runtime_station::{Blow, Chosen, Faults, NoFaults, Verdict};
 use std::sync::atomic::{AtomicU64, Ordering};
 
-/// Faults drawn from a seed. The asks of all threads and the crashes are the calls of one count. Which of them gets
-/// which draw depends on the order in which threads come to it; what a draw is depends on the seed and the count
-/// alone. Recoverers begin as with [`NoFaults`].
+/// Faults drawn from a seed. The asks of all threads, the crashes and the losses are the calls of one count. Which of
+/// them gets which draw depends on the order in which threads come to it; what a draw is depends on the seed and the
+/// count alone. Recoverers begin as with [`NoFaults`].
 #[derive(Drop)]
 pub struct Storm {
     /// What it draws from.
@@ -40,16 +40,19 @@ impl Storm {
 
 impl Faults for Storm {
     ghost use Rattle.std.specs.Prelude.{◌≡◌, ◌+◌, ◌*◌, ◌/◌, ◌==◌, ℕ};
-    ghost use Rattle.fr_runtime_storm.specs.Draws.{crash_at, verdict_of, word_at};
+    ghost use Rattle.fr_runtime_storm.specs.Draws.{end_at, strike_at, verdict_of, word_at};
 
     ghost begun = { λ storm ballot turn. turn + 100 == 100 * (ballot / 256) };
 
     ghost MayBefall = { λ storm to ask verdict. (call : ℕ)
-        × (verdict ≡ verdict_of storm.draws.strength (word_at storm.draws.seed call)) };
+        × (verdict ≡ verdict_of storm.draws.strength storm.draws.late (word_at storm.draws.seed call)) };
 
-    ghost MayCrash = { λ storm turn node. (call : ℕ)
-        × (node ≡ crash_at storm.draws.strength storm.draws.coordinators storm.draws.logs turn
-        (word_at storm.draws.seed call)) };
+    ghost MayStrike = { λ storm turn chosen blow. (call : ℕ)
+        × (blow ≡ strike_at storm.draws.strength storm.draws.coordinators storm.draws.logs storm.draws.crashes
+        storm.draws.losses turn chosen (word_at storm.draws.seed call)) };
+
+    ghost MayEnd = { λ storm node turn is_end. (call : ℕ)
+        × (is_end ≡ end_at storm.draws.crashes turn (word_at storm.draws.seed call)) };
 
     fn verdict(&self, _to: NodeId, _ask: &Ask) -> Verdict {
         let call = self.next_call();
@@ -60,12 +63,24 @@ impl Faults for Storm {
         NoFaults.answered(to, ask);
     }
 
-    fn crash(&self, turn: u32) -> Option<NodeId> {
+    fn strikes(&self, turn: u32, chosen: &[Chosen]) -> Option<Blow> {
         if turn % 64 == 0 {
             let call = self.next_call();
             return self.draws.crash(call);
         }
+        if turn % 64 == 32 && (self.draws.crashes > 0 || self.draws.losses > 0) {
+            let call = self.next_call();
+            return self.draws.blow(call, chosen);
+        }
         None
+    }
+
+    fn ends(&self, _node: NodeId, turn: u32) -> bool {
+        if turn % 64 == 0 && self.draws.crashes > 0 {
+            let call = self.next_call();
+            return self.draws.ends(call);
+        }
+        false
     }
 
     fn begins(&self, ballot: Ballot, turn: u32) -> bool {

@@ -9,8 +9,9 @@ ghost use Rattle.fr_storage.specs.Server.{storage_of};
 ghost use Rattle.fr_storage.specs.Storage.{after_peeked, peeked_calls, peeked_fault};
 
 use crate::fault::{TurnFault, fault_of};
+use crate::late::Late;
 use crate::notes::Notes;
-use crate::sending::{Hearer, send};
+use crate::sending::{Hearer, bring_late, send};
 use crate::site::Site;
 use fr_ask::{Ask, Last, Tell};
 use fr_audit_journal::{Act, Journal};
@@ -54,6 +55,19 @@ impl<S: ShardStore> Hearer for Puller<S> {
 
     fn now(&self) -> Stamp {
         self.notes.seen()
+    }
+
+    fn may_come(&self, ask: &Ask) -> bool {
+        match ask {
+            Ask::Log(LogAsk::Pop { epoch, .. }) => {
+                of_epoch(self.storage.state().gens(), *epoch).is_some()
+            }
+            _ => true,
+        }
+    }
+
+    fn see(&mut self, at: Stamp) {
+        self.notes.see(at);
     }
 
     fn hear(
@@ -203,23 +217,25 @@ fn log_at(generation: Generation, turn: u32) -> NodeId
 fn pull_once<K: Rack, F: Faults, R: Wait, S: ShardStore>(
     site: &Site<'_, K, F, R>,
     puller: &mut Puller<S>,
+    late: &mut Late,
     turn: u32,
 ) -> Result<(), TurnFault>
     ensures node { puller.new.notes.journal.node ≡ puller.old.notes.journal.node }
 {
     let before = puller.storage.position();
+    bring_late(site, puller, late)?;
     let (epoch, ask) = puller.storage.next_ask();
     let tag = puller.storage.tag();
     if let Some(source) = of_epoch(puller.storage.state().gens(), epoch) {
         let to = holder_at(source, tag, turn);
-        send(site, puller, &to, &Ask::Log(ask))?;
+        send(site, puller, late, &to, &Ask::Log(ask))?;
     }
     let newest = site.directory.newest().generation;
     let to = log_at(newest, turn);
     let ask = LogAsk::MarkAsked {
         epoch: newest.epoch(),
     };
-    send(site, puller, &to, &Ask::Log(ask))?;
+    send(site, puller, late, &to, &Ask::Log(ask))?;
     let own = puller.storage.state().last();
     let ask = LogAsk::Pop {
         epoch: own.epoch(),
@@ -227,7 +243,7 @@ fn pull_once<K: Rack, F: Faults, R: Wait, S: ShardStore>(
         through: puller.storage.floor(),
     };
     let to = holder_at(own, tag, turn);
-    send(site, puller, &to, &Ask::Log(ask))?;
+    send(site, puller, late, &to, &Ask::Log(ask))?;
     if puller.storage.position() == before {
         yield_now();
     }
@@ -248,8 +264,9 @@ pub fn pull<K: Rack, F: Faults, R: Wait, S: ShardStore + Drop>(
         storage,
         notes: Notes::new(site.alloc, place, first_stamp()),
     };
+    let mut late = Late::new(site.alloc);
     for number in 1..=turns {
-        pull_once(site, &mut puller, number)?;
+        pull_once(site, &mut puller, &mut late, number)?;
     }
     let Puller { storage, notes } = puller;
     let mut storage = storage;

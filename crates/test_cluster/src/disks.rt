@@ -1,3 +1,4 @@
 //! Nodes and stores over record files and tables that fail while threads run.
 mod breaking;
 mod devices;
+mod frail;

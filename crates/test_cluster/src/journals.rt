@@ -75,8 +75,12 @@ const GREATEST: ClusterWords = ClusterWords {
     recoveries: 2,
     turns: 120,
     storm: 0,
+    late: 0,
+    crash: 0,
+    lose: 0,
     seed: 1,
     journal: false,
+    counts: false,
 };
 
 #[test]
@@ -146,7 +150,7 @@ fn what_is_printed_over_files_is_read_back_and_is_a_run(rt: HostRuntime) -> Resu
     Ok(())
 }
 
-static OTHERS: [ClusterWords; 5] = [
+static OTHERS: [ClusterWords; 8] = [
     ClusterWords {
         coordinators: 4,
         ..DEFAULTS
@@ -165,6 +169,18 @@ static OTHERS: [ClusterWords; 5] = [
     },
     ClusterWords {
         storm: 257,
+        ..DEFAULTS
+    },
+    ClusterWords {
+        late: 257,
+        ..DEFAULTS
+    },
+    ClusterWords {
+        crash: 257,
+        ..DEFAULTS
+    },
+    ClusterWords {
+        lose: 257,
         ..DEFAULTS
     },
 ];
@@ -275,6 +291,7 @@ fn is_told<R: Threads + Wait + Sync>(
         rt,
         alloc,
         options,
+        &[],
         PlainRack,
         &progress,
         &mut calls,

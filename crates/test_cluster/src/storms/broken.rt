@@ -49,6 +49,9 @@ fn broken_off<R: Threads + Wait + Sync>(
     let storm = Storm::new(Draws {
         seed,
         strength: 32,
+        late: 0,
+        crashes: 0,
+        losses: 0,
         coordinators: 3,
         logs: 4,
     });

@@ -1,0 +1,104 @@
+//! Nodes on devices that fail, and stores in files that fail.
+ghost use Rattle.std.specs.Prelude.{◌≡◌, ◌≤◌, ◌<◌, [], None, false, IfErr, IfOk};
+
+use crate::device::FrailDevice;
+use crate::disk::FrailDisk;
+use crate::frailty::{Frailty, Refusals, number_of_log};
+use fr_base::{LogId, NodeFault, Tag};
+use fr_device::MemoryDevice;
+use fr_record_log::LogNode;
+use fr_record_node::CellNode;
+use fr_runtime_disks::{Devices, FileRack, MemoryDevices};
+use fr_runtime_rack::Rack;
+use fr_sql_files::SqlFileStore;
+use fr_undo::StoreFault;
+use sqlite::Files;
+use sqlite_disk::Memory as MemoryDisk;
+use std::alloc::Global;
+
+/// Devices in memory, with room for 16,777,216 bytes each, that refuse writes and syncs by draw.
+#[derive(Clone, Copy)]
+pub struct FrailDevices<'a> {
+    frailty: Frailty,
+    refusals: &'a Refusals,
+}
+
+impl<'a> Devices for FrailDevices<'a> {
+    ghost use Rattle.std.specs.Prelude.{◌≡◌};
+    ghost use Rattle.fr_base.specs.declared.node.NodeFault.TheVariants.{Memory};
+
+    type Device = FrailDevice<'a, MemoryDevice>;
+
+    ghost room = { λ d. 16777216 };
+
+    ghost CanRefuse = { λ d fault. fault ≡ Memory };
+
+    fn cell(&self, alloc: Global, index: u8) -> Result<FrailDevice<'a, MemoryDevice>, NodeFault> {
+        let fuse = self.frailty.fuse(u64::from(index));
+        let device = MemoryDevices.cell(alloc, index)?;
+        Ok(FrailDevice::new(device, fuse, self.refusals))
+    }
+
+    fn log(&self, alloc: Global, id: &LogId) -> Result<FrailDevice<'a, MemoryDevice>, NodeFault> {
+        let fuse = self.frailty.fuse(number_of_log(*id));
+        let device = MemoryDevices.log(alloc, id)?;
+        Ok(FrailDevice::new(device, fuse, self.refusals))
+    }
+}
+
+/// Record files on such devices, and stores in databases in two files in memory, each of which refuses writes by draw.
+#[derive(Drop)]
+pub struct FrailRack<'a> {
+    frailty: Frailty,
+    refusals: &'a Refusals,
+    nodes: FileRack<FrailDevices<'a>>,
+}
+
+impl<'a> FrailRack<'a> {
+    /// Nodes and stores that fail as is drawn from this. What they refuse is counted beside them.
+    pub fn new(frailty: Frailty, refusals: &'a Refusals) -> Self {
+        FrailRack {
+            frailty,
+            refusals,
+            nodes: FileRack::on(FrailDevices { frailty, refusals }),
+        }
+    }
+
+    /// An empty file of a database, of this number.
+    fn file(&self, alloc: Global, number: u64) -> FrailDisk<'a, MemoryDisk> {
+        let fuse = self.frailty.fuse(number);
+        FrailDisk::new(MemoryDisk::new(alloc), fuse, self.refusals)
+    }
+}
+
+impl<'a> Rack for FrailRack<'a> {
+    ghost use Rattle.fr_undo.specs.Calls.{IsTrouble};
+    ghost use Rattle.fr_sql_work.specs.Calls.{MeetsAll};
+
+    type Cell = CellNode<FrailDevice<'a, MemoryDevice>>;
+
+    type Log = LogNode<FrailDevice<'a, MemoryDevice>>;
+
+    type Store = SqlFileStore<FrailDisk<'a, MemoryDisk>>;
+
+    ghost CanRefuse = { λ rack fault. ⟦<FileRack<FrailDevices<'a>> as Rack>⟧.CanRefuse rack.nodes fault };
+
+    ghost CanRefuseStore = { λ rack fault. IsTrouble MeetsAll fault };
+
+    fn cell(&self, alloc: Global, index: u8) -> Result<Self::Cell, NodeFault> {
+        self.nodes.cell(alloc, index)
+    }
+
+    fn log(&self, alloc: Global, id: LogId, m: u8, k: u8) -> Result<Self::Log, NodeFault> {
+        self.nodes.log(alloc, id, m, k)
+    }
+
+    fn store(&self, alloc: Global, tag: Tag) -> Result<Self::Store, StoreFault> {
+        let number = 64 + 2 * u64::from(tag.get());
+        let files = Files {
+            log: self.file(alloc, number),
+            db: self.file(alloc, number + 1),
+        };
+        SqlFileStore::create(alloc, files)
+    }
+}
