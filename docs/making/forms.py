@@ -1,117 +1,128 @@
-"""The table of forms (crates/fr_forms/src/table.rt), its rows in docs/FORMATS.md, and the schemas made of it."""
+"""The table of forms as the program test_forms prints it: its rows in docs/FORMATS.md, and the schemas made of it."""
 import json
 import re
 
 from making.sources import read
 
-TABLE = "crates/fr_forms/src/table.rt"
+PRINTED = "crates/test_forms/stdout"
 
+# Where forms stand in the table: the names of members, a number in an array of fixed length, * for an item of a list,
+# and [ for the array where an array or an object may stand.
+ACT = "audit journals * entries * act"
+ASK, TELL = f"{ACT} asked ask", f"{ACT} asked tell"
 # what the rows of the page are called, and their forms
 ROWS = [
-    ("node", "NODE"), ("act", "ACT"), ("ask", "ASK"), ("tell", "TELL"),
-    ("ask of a cell", "CELL_ASK"), ("tell of a cell", "CELL_TELL"),
-    ("ask of a log", "LOG_ASK"), ("tell of a log", "LOG_TELL"), ("why of a log", "LOG_REFUSAL"),
-    ("ask of a sequencer", "SEQ_ASK"), ("tell of a sequencer", "SEQ_TELL"), ("why of a sequencer", "SEQ_REFUSAL"),
-    ("outcome", "OUTCOME"), ("last state", "LAST"),
+    ("node", "audit journals * node"), ("act", ACT), ("ask", ASK), ("tell", TELL),
+    ("ask of a cell", f"{ASK} cell"), ("tell of a cell", f"{TELL} cell"),
+    ("ask of a log", f"{ASK} log"), ("tell of a log", f"{TELL} log"), ("why of a log", f"{TELL} log refused why"),
+    ("ask of a sequencer", f"{ASK} seq"), ("tell of a sequencer", f"{TELL} seq"),
+    ("why of a sequencer", f"{TELL} seq refused why"),
+    ("outcome", f"{ACT} heard outcome"), ("last state", "audit journals * last"),
 ]
-KINDS = "Number OrZero Hex Object OneOf Tuple List Handed OrNull Optional Either".split()
+# wrappers of a form
+AROUND = ("part", "or null", "maybe")
 
 
-class Named:
-    """A form: its kind, what belongs to it, and its name in the table, if it has one."""
-
-    def __init__(self, kind, *rest):
-        self.kind, self.rest, self.name = kind, rest, None
-
-    def called(self, name):
-        """The same under a name."""
-        it = Named(self.kind, *self.rest)
-        it.name = name
-        return it
-
-
-class Forms(dict):
-    """Each form by its name in the table."""
+class Forms:
+    """The forms of the scripts of all commands."""
 
     def __init__(self):
-        super().__init__({kind: lambda *of, kind=kind: Named(kind, *of) for kind in KINDS})
-        self |= {kind: Named(kind) for kind in ("Any", "Flag", "Text")}
-        self["members"] = lambda named: Named("Object", list(named.items()))
-        self["one_member"] = lambda named: Named("OneOf", list(named.items()))
-        text = read(TABLE)
-        self.texts = dict(re.findall(r"(?:const|static) (\w+): Form =\s+(.*?);\n", text, re.S))
-        row = r"\((\w+) \$\(\$way:tt\)\+\) => \{ \$crate::\w+! \{ \$\(\$way\)\+; (.*?) ?\}\};?\n"
-        self.rows = dict(re.findall(row, text, re.S))
+        self.scripts = json.loads(read(PRINTED))
 
-    def __missing__(self, name):
-        if name not in self.texts:
-            raise KeyError(name)
-        self[name] = self.form(self.texts[name]).called(name)
-        return self[name]
+    def at(self, path):
+        """The form of a place."""
+        name, *steps = path.split()
+        form = self.scripts[name]
+        for step in steps:
+            while form[0] in AROUND or form[0] == "either" and step != "[":
+                form = form[-1]
+            form = form[1] if step in "*[" else form[1][int(step) if step.isdigit() else step]
+        while form[0] in AROUND:
+            form = form[1]
+        return form
 
-    def text_of(self, name):
-        """The form of a name, or the row of a type."""
-        return self[name] if name in self.texts else self.kind(name)
-
-    def form(self, text):
-        text = re.sub(r"kind!\((\w+) form\)", r"kind('\1')", text)
-        text = re.sub(r"Part::(\w+)", r"'\1'", text.replace("&", ""))
-        text = text.replace("usize::MAX", "2**64").replace("u64::MAX", "2**64 - 1")
-        text = re.sub(r"(\w+): ", r"'\1': ", re.sub(r"(\w+)! \{", r"\1({", text).replace("}", "})"))
-        return eval(text.replace("Form::", ""), {"kind": self.kind, "__builtins__": {}}, self)
-
-    def kind(self, name):
-        return self.row(self.rows[name]).called(name)
-
-    def row(self, text):
-        variants = re.findall(r'"(\w+)" \w+ ?(?:\{ ?(.*?) ?\}|\((.*?)\)|\[(.*?)\]);', text)
-        if variants:
-            return Named("OneOf", [(it, self.content_of(parts, whole or only)) for it, parts, whole, only in variants])
-        body = re.search(r"([\[{])(.*)[\]}]", text, re.S)
-        parts = self.parts(body[2])
-        return Named("Tuple", [form for _, form in parts]) if body[1] == "[" else Named("Object", parts)
-
-    def content_of(self, parts, whole):
-        return self.form(whole.split(": ")[1]) if whole else Named("Object", self.parts(parts))
-
-    def parts(self, text):
-        found = re.findall(r"(\w+)(?:\(all\))?: (\w+(?:\([^)]*\))?)", text)
-        return [(name, self.form(form)) for name, form in found]
-
-    def words(self, name):
+    def words(self, path):
         """A variant as the page has it: each name with its members."""
-        return ", ".join(f"`{it}`{content(form)}" for it, form in self[name].rest[0])
+        return ", ".join(f"`{it}`{content(form)}" for it, form in self.at(path)[1].items())
 
 
 def content(form):
-    if form.kind != "Object":
+    if form[0] != "object":
         return ""
-    named = [name + ("?" if it.kind == "Optional" else "") for name, it in form.rest[0]]
+    named = [name + ("?" if it[0] == "maybe" else "") for name, it in form[1].items()]
     return " {" + ", ".join(named) + "}" if named else ""
 
 
 def formats(text):
     """The page with the rows of its table of forms."""
     forms = Forms()
-    rows = "".join(f"| {name} | {forms.words(form)} |\n" for name, form in ROWS)
+    rows = "".join(f"| {name} | {forms.words(path)} |\n" for name, path in ROWS)
     return re.sub(r"(\| What \| Forms \|\n\|---\|---\|\n)(?:\|.*\n)+", lambda it: it[1] + rows, text)
 
 
 # ---- schemas
 
 MORE = "docs/making/schemas.json"
-SCRIPTS = {"apply": "APPLY", "end": "END", "simulate": "SIMULATE", "audit": "AUDIT"}
-# The definitions of each schema, by the names that their forms have in the table. A name in capitals is that of a form;
-# another one is a type's.
+SCRIPTS = ("apply", "end", "simulate", "audit")
+LOG_ASK, LOG_TELL, STATE = f"{ASK} log", f"{TELL} log", f"{TELL} log marked state"
+STEPS = "simulate steps *"
+# The definitions of each schema, and where their forms stand. An equal form is referred to in the same schema, one of
+# common.json in all of them; but one in ONLY by members of these names alone.
 DEFS = {
-    "common": "VERSION STEP EPOCH BALLOT CELL LOG PROXY TAG HEX MUTATION OPERAND BATCH CONFIG",
-    "apply": "OPERATION",
-    "end": "REPLY",
-    "simulate": "SIMULATE_STEP:step PULL:asked LOGS CELLS",
-    "audit": "JOURNAL ENTRY NODE ACT OUTCOME ASK TELL CELL_ASK CELL_VALUE CELL_TELL LOG_ASK SEED SEED_RECORD PUSH Body"
-             " POPPED STATE GENERATIONS Generation LOG_TELL PEEKED PEEKED_RECORD LOG_REFUSAL SEQ_ASK REQUEST SEQ_TELL"
-             " LAST",
+    "common": {
+        "version": "apply ops * undo to",
+        "step": f"{STEPS} commit step",
+        "epoch": f"{STEPS} commit epoch",
+        "ballot": f"{STEPS} recover ballot",
+        "cell": f"{STEPS} recover read *",
+        "log": f"{STEPS} lose log",
+        "proxy": f"{STEPS} commit proxy",
+        "tag": f"{STEPS} pull storage",
+        "hex": f"{STEPS} read key",
+        "mutation": "apply ops * apply batch *",
+        "operand": "apply ops * apply batch * add",
+        "batch": "apply ops * apply batch",
+        "config": "simulate config",
+    },
+    "apply": {"operation": "apply ops *"},
+    "end": {"reply": "end replies *"},
+    "simulate": {
+        "step": STEPS,
+        "asked": f"{STEPS} pull",
+        "logs": f"{STEPS} push logs",
+        "cells": f"{STEPS} recover read",
+    },
+    "audit": {
+        "journal": "audit journals *",
+        "entry": "audit journals * entries *",
+        "node": "audit journals * node",
+        "act": ACT,
+        "outcome": f"{ACT} heard outcome",
+        "ask": ASK,
+        "tell": TELL,
+        "cell_ask": f"{ASK} cell",
+        "cell_value": f"{ASK} cell write value",
+        "cell_tell": f"{TELL} cell",
+        "log_ask": LOG_ASK,
+        "seed": f"{LOG_ASK} seed",
+        "seed_record": f"{LOG_ASK} seed records *",
+        "push": f"{LOG_ASK} push",
+        "body": f"{LOG_ASK} push bodies *",
+        "popped": f"{LOG_TELL} locked popped",
+        "state": STATE,
+        "generations": f"{STATE} [",
+        "generation": f"{STATE} [ *",
+        "log_tell": LOG_TELL,
+        "peeked": f"{LOG_TELL} peeked",
+        "peeked_record": f"{LOG_TELL} peeked records *",
+        "log_refusal": f"{LOG_TELL} refused why",
+        "seq_ask": f"{ASK} seq",
+        "request": f"{ASK} seq next request",
+        "seq_tell": f"{TELL} seq",
+        "last": "audit journals * last",
+    },
 }
+ONLY = {"proxy": ("proxy", "number"), "request": ("request",)}
 # Definitions that there are once more with the limits of a batch, and the members of these that are keys.
 LIMITED, KEYS = ("mutation", "operand"), ("key", "begin", "end")
 BYTES = {"type": "string", "pattern": "^([0-9a-f]{2})*$"}
@@ -122,11 +133,10 @@ class Schemas:
     words, limits that come of several members, and definitions of their own."""
 
     def __init__(self):
-        self.forms, self.more, self.places = Forms(), json.loads(read(MORE)), {}
-        for file, names in DEFS.items():
-            for name in names.split():
-                form, _, said = name.partition(":")
-                self.places[form] = (file, said or form.lower())
+        self.forms, self.more, self.named = Forms(), json.loads(read(MORE)), {}
+        for file, places in DEFS.items():
+            for name, path in places.items():
+                self.named.setdefault(json.dumps(self.forms.at(path)), []).append((file, name))
 
     def page(self, file):
         """A schema as a file has it."""
@@ -134,10 +144,9 @@ class Schemas:
         more = self.more[file]
         if file in SCRIPTS:
             text |= {"title": f"A script of fdbrec {file}"}
-            text |= self.made(file, self.forms.text_of(SCRIPTS[file]), True)
+            text |= self.made(file, self.forms.scripts[file], "", True)
         text |= more.get("", {})
-        named = {name: form for form, (where, name) in self.places.items() if where == file}
-        defs = {name: self.made(file, self.forms.text_of(form), True) for name, form in named.items()}
+        defs = {name: self.made(file, self.forms.at(path), name, True) for name, path in DEFS[file].items()}
         defs |= {f"limited_{name}": limited(defs[name]) for name in LIMITED if name in defs}
         defs |= {name: {} for name in more if name and name not in defs}
         text["$defs"] = {name: self.with_more(it, more.get(name, {})) for name, it in defs.items()}
@@ -154,48 +163,51 @@ class Schemas:
             at.update(said)
         return it
 
-    def made(self, file, form, is_whole=False):
-        """The schema of a form as it is seen from a file; what has a name is referred to."""
-        name = None if is_whole else form.name
-        if name in self.places:
-            where, its = self.places[name]
-            return {"$ref": f"{'' if where == file else where + '.json'}#/$defs/{its}"}
-        kind, rest = form.kind, form.rest
-        within = [self.made(file, it) for it in rest if isinstance(it, Named)]
-        if kind in ("Handed", "Optional"):
-            return within[0]
-        if kind == "OrNull":
-            return {"anyOf": [{"type": "null"}, within[0]]}
-        if kind == "Either":
-            return {"anyOf": within}
-        if kind == "List":
-            return {"type": "array", "items": within[0]}
-        if kind == "Tuple":
-            count = len(rest[0])
+    def reference(self, file, form, member):
+        """The definition that a member's form has, if there is one."""
+        found = [it for it in self.named.get(json.dumps(form), []) if it[0] in (file, "common")]
+        found = [it for it in found if member in ONLY.get(it[1], (member,))]
+        where, name = found[-1] if found else (None, None)
+        return found and {"$ref": f"{'' if where == file else where + '.json'}#/$defs/{name}"}
+
+    def made(self, file, form, member="", is_whole=False):
+        """The schema of a member's form as it is seen from a file; what has a definition is referred to."""
+        if not is_whole and (known := self.reference(file, form, member)):
+            return known
+        kind, rest = form[0], form[1:]
+        if kind in ("part", "maybe"):
+            return self.made(file, rest[0], member)
+        if kind == "or null":
+            return {"anyOf": [{"type": "null"}, self.made(file, rest[0], member)]}
+        if kind == "either":
+            return {"anyOf": [self.made(file, it) for it in rest]}
+        if kind == "list":
+            return {"type": "array", "items": self.made(file, rest[0])}
+        if kind == "tuple":
             parts = [self.made(file, it) for it in rest[0]]
-            return {"type": "array", "prefixItems": parts, "minItems": count, "maxItems": count}
-        if kind in ("Object", "OneOf"):
-            return self.of_members(file, kind, rest[0])
-        return self.plain(kind, rest)
+            return {"type": "array", "prefixItems": parts, "minItems": len(parts), "maxItems": len(parts)}
+        return self.of_members(file, kind, rest[0]) if kind in ("object", "one of") else plain(kind, rest)
 
     def of_members(self, file, kind, members):
         if not members and file == "audit":
             return {"$ref": "#/$defs/nothing"}
-        it = {"type": "object", "properties": {name: self.made(file, form) for name, form in members}}
-        if kind == "OneOf":
+        it = {"type": "object", "properties": {name: self.made(file, form, name) for name, form in members.items()}}
+        if kind == "one of":
             it |= {"minProperties": 1, "maxProperties": 1}
         else:
-            it["required"] = [name for name, form in members if form.kind != "Optional"]
+            it["required"] = [name for name, form in members.items() if form[0] != "maybe"]
         return it | {"additionalProperties": False}
 
-    def plain(self, kind, rest):
-        if kind == "Hex":
-            return BYTES | ({} if rest[0] == 2**64 else {"maxLength": 2 * rest[0]})
-        if kind == "Number":
-            return {"type": "integer", "minimum": rest[0], "maximum": rest[1]}
-        if kind == "OrZero":
-            return {"anyOf": [{"const": 0}, self.plain("Number", rest)]}
-        return {"type": {"Flag": "boolean", "Text": "string"}[kind]}
+
+def plain(kind, rest):
+    """The schema of a form that holds no others."""
+    if kind == "hex":
+        return BYTES | ({} if rest[0] is None else {"maxLength": 2 * rest[0]})
+    if kind == "number":
+        return {"type": "integer", "minimum": rest[0], "maximum": rest[1]}
+    if kind == "or zero":
+        return {"anyOf": [{"const": 0}, plain("number", rest)]}
+    return {"type": {"flag": "boolean", "text": "string"}[kind]}
 
 
 def limited(it, member=""):

@@ -11,7 +11,7 @@ use crate::journals::{journal_of, write_journal};
 use fr_audit_journal::{Entry, Journal};
 use fr_base::Memory;
 use fr_cli_json::tokens::Unread;
-use fr_forms::{Object, Part, Row, ScriptFault, Sink, read_text, table, write_all};
+use fr_forms::{Form, Object, Part, Row, ScriptFault, Sink, read_text, table, write_all};
 use fr_run_event::Config;
 use fr_simulate_script::config_of;
 use serde_json::Value;
@@ -24,6 +24,28 @@ struct Found {
     journals: Vec<Journal>,
     /// Those of the journal that is read.
     entries: Vec<Entry>,
+}
+
+impl Found {
+    fn new(alloc: Global) -> Self {
+        Found {
+            config: None,
+            journals: Vec::new(alloc),
+            entries: Vec::new(alloc),
+        }
+    }
+
+    fn script(self) -> Result<(Config, Vec<Journal>), ScriptFault> {
+        let Found {
+            config,
+            journals,
+            entries: _,
+        } = self;
+        match config {
+            Some(config) => Ok((config, journals)),
+            None => Err(ScriptFault::BadScript),
+        }
+    }
 }
 
 impl Sink for Found {
@@ -47,6 +69,11 @@ impl Sink for Found {
     }
 }
 
+/// The form of a script. (A proof that names the table writes all of it out.)
+fn form() -> &'static Form {
+    &table::AUDIT
+}
+
 /// Reads the script that a text is: a config and journals, each within the limits of its type. Each object has
 /// exactly its members, in any order; of two members of one name the last one counts. What is no such text is
 /// `BadScript`, and `place` says where.
@@ -58,16 +85,10 @@ pub fn read_script(
     ensures utf8 { OnOk result (IsUtf8 text.now) }
     ensures json { OnOk result ((d : Data) × (read text.now ≡ Some d)) }
 {
-    let mut found = Found {
-        config: None,
-        journals: Vec::new(alloc),
-        entries: Vec::new(alloc),
-    };
-    read_text(alloc, text, &table::AUDIT, &mut found, place)?;
-    match found.config {
-        Some(config) => Ok((config, found.journals)),
-        None => Err(ScriptFault::BadScript),
-    }
+    let mut found = Found::new(alloc);
+    read_text(alloc, text, form(), &mut found, place)?;
+    let script = found.script()?;
+    Ok(script)
 }
 
 /// Writes a config and journals as a script: members in the order of their names' bytes, without blanks. It is read

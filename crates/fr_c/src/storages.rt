@@ -1,10 +1,10 @@
 //! Storage servers, in bytes.
-ghost use Rattle.std.specs.Prelude.{◌≡◌, None, Some};
+ghost use Rattle.std.specs.Prelude.{◌≡◌, ◌≢◌, ◌↔◌, None, Some, option_map};
 ghost use Rattle.fr_undo.specs.Undo.{value_undone};
 ghost use Rattle.fr_part.specs.Reads.{IfStorage, unread_of};
 ghost use Rattle.fr_part.specs.declared.fault.ReadRefusal.TheVariants as unread;
 ghost use Rattle.fr_seat.specs.Answers.{IsGiven, IsShort};
-ghost use Rattle.fr_seat.specs.Reads.{shard_from};
+ghost use Rattle.fr_seat.specs.Reads.{IsPast, shard_from, unread_said, unread_status};
 ghost use Rattle.fr_seat.specs.Turns.{IfFound, Over};
 
 use fr_handle::Handle;
@@ -40,6 +40,14 @@ pub extern "C" fn fdbrec_storage_read(
         → unread_of new.part (shard_from begin.now end.now) key.now version ≡ Some unread.TooOld) }
     ensures future_version { Over of.old.value of.new.value result (λ old new. result ≡ 14
         → unread_of new.part (shard_from begin.now end.now) key.now version ≡ Some unread.FutureVersion) }
+    ensures limit { Over of.old.value of.new.value result
+        (λ old new. (result ≡ 6) ↔ IsPast begin.now end.now version) }
+    ensures kind { Over of.old.value of.new.value result (λ old new. result ≡ 4
+        → unread_of new.part (shard_from begin.now end.now) key.now version ≡ Some unread.Kind) }
+    ensures part { Over of.old.value of.new.value result (λ old new. result ≡ 9
+        → unread_of new.part (shard_from begin.now end.now) key.now version ≡ Some unread.Part) }
+    ensures refused { Over of.old.value of.new.value result (λ old new. result ≢ 1 → result ≢ 6 → unread_said result
+        ≡ option_map unread_status (unread_of new.part (shard_from begin.now end.now) key.now version)) }
 {
     let Some(mut seat) = of.take(alloc) else {
         return EMPTY;

@@ -2,7 +2,7 @@
 use crate::program::Errors;
 use fr_base::Shape;
 use fr_cli_cluster::{
-    ClusterOptions, CountsLine, Frailty, PlainRack, ProgressLine, Rack, Refusals, Watcher,
+    ClusterOptions, CountsLine, Frailty, PlainRack, ProgressLine, Refusals, Watcher,
     cluster_counted, storm_of,
 };
 use fr_cli_json::{CallCounts, CliFault};
@@ -39,7 +39,8 @@ pub(crate) fn cluster_on<H: Threads + Wait + Sync, E: Eprint + Sync, W: Write>(
     watched(kind, rt, alloc, options, shapes, &refusals, &storm, writer)
 }
 
-/// The same, with who watches it. What devices and files refuse is counted beside them.
+/// The same, with who watches it. What devices and files refuse is counted beside them. (Each rack is in a function of
+/// its own: three in one are more than the prover takes.)
 fn watched<H: Threads + Wait + Sync, F: Watcher + Sync, W: Write>(
     kind: StoreWord,
     rt: &H,
@@ -50,31 +51,58 @@ fn watched<H: Threads + Wait + Sync, F: Watcher + Sync, W: Write>(
     watcher: &F,
     writer: &mut W,
 ) -> Result<u8, CliFault> {
-    let words = options.words();
-    match (kind, words.refuse) {
-        (StoreWord::Map, _) => { over(rt, alloc, options, shapes, PlainRack, watcher, writer) }
-        (StoreWord::Sql, 0) => {
-            let rack = DiskRack::new();
-            over(rt, alloc, options, shapes, rack, watcher, writer)
-        }
-        (StoreWord::Sql, every) => {
-            let seed = words.seed;
-            let rack = FrailRack::new(Frailty { seed, every }, refusals);
-            over(rt, alloc, options, shapes, rack, watcher, writer)
+    match (kind, options.words().refuse) {
+        (StoreWord::Map, _) => on_maps(rt, alloc, options, shapes, watcher, writer),
+        (StoreWord::Sql, 0) => on_tables(rt, alloc, options, shapes, watcher, writer),
+        (StoreWord::Sql, _) => {
+            on_frail_tables(rt, alloc, options, shapes, refusals, watcher, writer)
         }
     }
 }
 
-/// The same, over a rack.
-fn over<H: Threads + Wait + Sync, K: Rack + Sync + Drop, F: Watcher + Sync, W: Write>(
+/// The same, in memory.
+fn on_maps<H: Threads + Wait + Sync, F: Watcher + Sync, W: Write>(
     rt: &H,
     alloc: Global,
     options: ClusterOptions,
     shapes: &[Shape],
-    rack: K,
     watcher: &F,
     writer: &mut W,
 ) -> Result<u8, CliFault> {
+    let mut calls = CallCounts::new();
+    cluster_counted(
+        rt, alloc, options, shapes, PlainRack, watcher, &mut calls, writer,
+    )
+}
+
+/// The same, over devices and tables.
+fn on_tables<H: Threads + Wait + Sync, F: Watcher + Sync, W: Write>(
+    rt: &H,
+    alloc: Global,
+    options: ClusterOptions,
+    shapes: &[Shape],
+    watcher: &F,
+    writer: &mut W,
+) -> Result<u8, CliFault> {
+    let (mut calls, rack) = (CallCounts::new(), DiskRack::new());
+    cluster_counted(
+        rt, alloc, options, shapes, rack, watcher, &mut calls, writer,
+    )
+}
+
+/// The same, over devices and tables that refuse calls.
+fn on_frail_tables<H: Threads + Wait + Sync, F: Watcher + Sync, W: Write>(
+    rt: &H,
+    alloc: Global,
+    options: ClusterOptions,
+    shapes: &[Shape],
+    refusals: &Refusals,
+    watcher: &F,
+    writer: &mut W,
+) -> Result<u8, CliFault> {
+    let words = options.words();
+    let (seed, every) = (words.seed, words.refuse);
+    let rack = FrailRack::new(Frailty { seed, every }, refusals);
     let mut calls = CallCounts::new();
     cluster_counted(
         rt, alloc, options, shapes, rack, watcher, &mut calls, writer,

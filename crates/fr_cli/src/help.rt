@@ -185,8 +185,9 @@ meets which draw differs from run to run.
 With --late L further L of 256 asks are kept by the thread that sends them, or what is told of them is,
 for 1 to 64 turns, and come after later ones. With --crash C a further draw, 32 turns after each 64th,
 crashes a log or the sequencer of any epoch in C of 256, and each proxy and each recoverer is gone by C
-of 256 draws, one at each 64th of its thread's turns: the thread goes on in the next epoch. With --lose D
-the draws that crash nothing lose a log in D of 256, fewer of each epoch than a shard is on.
+of 256 draws, one at each 64th turn of a proxy's thread and each 8th of a recoverer's: the thread goes
+on in the next epoch. With --lose D the draws that crash nothing lose a log in D of 256, fewer of each
+epoch than a shard is on.
 
 With --store sql coordinators and logs keep what they have in record files, each on a device in memory
 with room for 16 MiB. Storage servers keep their rows in the tables of databases in memory. It prints

@@ -1,12 +1,12 @@
 //! Where a script of `apply` or of `end` is bad: what is read is kept, and read again by the table of forms.
 use fr_cli_json::CliFault;
-use fr_forms::{Form, Nobody, read_text};
+use fr_forms::{Form, Nobody, read_text, table};
 use std::alloc::Global;
 use std::io;
 use std::io::Read;
 
 /// The most bytes of a script that are kept: of a longer one no place is said.
-const MOST: usize = 1 << 24;
+const MOST: usize = 1 << 20;
 
 /// A reader that keeps what it reads, as far as there is room for it.
 #[derive(Drop)]
@@ -53,4 +53,14 @@ impl<R: Read> Read for Kept<'_, R> {
 /// Whether a script is bad.
 pub(crate) fn is_bad(answer: Result<u8, CliFault>) -> bool {
     matches!(answer, Err(CliFault::BadScript))
+}
+
+/// The form of a script of `apply`. (A proof that names a table writes all of it out.)
+pub(crate) fn operations() -> &'static Form {
+    &table::APPLY
+}
+
+/// The form of a script of `end`.
+pub(crate) fn replies() -> &'static Form {
+    &table::END
 }

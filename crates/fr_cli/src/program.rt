@@ -1,7 +1,7 @@
 //! The program over its words, a reader and a writer.
 use crate::apply::apply_to;
 use crate::cluster::cluster_on;
-use crate::kept::{Kept, is_bad};
+use crate::kept::{Kept, is_bad, operations, replies};
 use crate::words::{Request, read_words};
 use fr_cli_apply_sql::{DbFault, run_apply_db, run_rows_db};
 use fr_cli_audit::{Judged, audit_counted};
@@ -9,7 +9,6 @@ use fr_cli_end::run_end;
 use fr_cli_json::{CallCounts, CliFault};
 use fr_cli_simulate::simulate_counted;
 use fr_cli_words::{Ending, show};
-use fr_forms::table;
 use std::io::{Eprint, Read, Write};
 use std::sync::Wait;
 use std::thread::Threads;
@@ -40,24 +39,18 @@ pub fn run_program<H: Threads + Wait + Sync, E: Eprint + Sync, R: Read, W: Write
         Err(error) => return show(alloc, error, writer),
     };
     match request {
-        Request::ApplyTo(name) => {
-            let mut kept = Kept::new(alloc, reader);
-            let answer = run_apply_db(host, alloc, name.as_str(), &mut kept, writer);
-            let is_bad = matches!(answer, Err(DbFault::Command(CliFault::BadScript)));
-            kept.explain(alloc, &table::APPLY, is_bad, place);
-            in_file(answer)
-        }
+        Request::ApplyTo(name) => apply_in_file(host, name.as_str(), place, reader, writer),
         Request::Rows(name) => in_file(run_rows_db(host, alloc, name.as_str(), writer)),
         Request::Apply(kind) => {
             let mut kept = Kept::new(alloc, reader);
             let answer = apply_to(kind, alloc, &mut kept, writer);
-            kept.explain(alloc, &table::APPLY, is_bad(answer), place);
+            kept.explain(alloc, operations(), is_bad(answer), place);
             ending(answer)
         }
         Request::End(options) => {
             let mut kept = Kept::new(alloc, reader);
             let answer = run_end(alloc, options, &mut kept, writer);
-            kept.explain(alloc, &table::END, is_bad(answer), place);
+            kept.explain(alloc, replies(), is_bad(answer), place);
             ending(answer)
         }
         Request::Simulate => {
@@ -76,6 +69,22 @@ pub fn run_program<H: Threads + Wait + Sync, E: Eprint + Sync, R: Read, W: Write
             cluster_ending(cluster_on(kind, rt, errors, alloc, options, shapes, writer))
         }
     }
+}
+
+/// Runs `apply` on a store in a file.
+fn apply_in_file<R: Read, W: Write>(
+    host: &HostRuntime,
+    name: &str,
+    place: &mut String,
+    reader: &mut R,
+    writer: &mut W,
+) -> Ending {
+    let alloc = host.alloc();
+    let mut kept = Kept::new(alloc, reader);
+    let answer = run_apply_db(host, alloc, name, &mut kept, writer);
+    let is_bad = matches!(answer, Err(DbFault::Command(CliFault::BadScript)));
+    kept.explain(alloc, operations(), is_bad, place);
+    in_file(answer)
 }
 
 /// How a command ends.

@@ -92,7 +92,19 @@ fn read_end(alloc: Global, matches: &ArgMatches<'_>) -> Result<Request, Error> {
 /// Reads the options of `cluster`. Each of its numbers is within its limits, so what is left to be refused is an even
 /// number of coordinators, and a degree above the number of logs.
 fn read_cluster(alloc: Global, matches: &ArgMatches<'_>) -> Result<Request, Error> {
-    let words = ClusterWords {
+    let words = cluster_words(matches);
+    let Some(options) = ClusterOptions::new(words) else {
+        return Err(bad_cluster(alloc, not_within(words))?);
+    };
+    match shapes_of(alloc, matches.get_str("shapes").unwrap_or(""))? {
+        Some(shapes) => Ok(Request::Cluster(read_store(matches), options, shapes)),
+        None => Err(bad_cluster(alloc, SHAPES_BAD)?),
+    }
+}
+
+/// What the words of `cluster` say, or else their defaults.
+fn cluster_words(matches: &ArgMatches<'_>) -> ClusterWords {
+    ClusterWords {
         coordinators: byte(matches, "coordinators", DEFAULTS.coordinators),
         logs: byte(matches, "logs", DEFAULTS.logs),
         degree: byte(matches, "degree", DEFAULTS.degree),
@@ -109,35 +121,30 @@ fn read_cluster(alloc: Global, matches: &ArgMatches<'_>) -> Result<Request, Erro
         seed: matches.get_one::<u64>("seed").unwrap_or(DEFAULTS.seed),
         journal: matches.get_flag("journal"),
         counts: matches.get_flag("counts"),
-    };
-    if let Some(options) = ClusterOptions::new(words) {
-        return match shapes_of(alloc, matches.get_str("shapes").unwrap_or(""))? {
-            Some(shapes) => Ok(Request::Cluster(read_store(matches), options, shapes)),
-            None => {
-                let cluster = cluster_command(alloc)?;
-                Err(bad_words(
-                    cluster,
-                    "fdbrec cluster",
-                    ErrorKind::ValueValidation,
-                    SHAPES_BAD,
-                )?)
-            }
-        };
     }
-    let message = if words.coordinators % 2 == 0 {
+}
+
+/// Which of the words do not go together.
+fn not_within(words: ClusterWords) -> &'static str {
+    if words.coordinators % 2 == 0 {
         "the value of '--coordinators <N>' is even: it can be 1, 3, 5, 7 or 9"
-    } else if 0 < words.refuse && words.refuse < 256 {
-        "the value of '--refuse <N>' is below 256: it can be 0, for none, or 256 and more"
+    } else if 0 < words.refuse && words.refuse < 16 {
+        "the value of '--refuse <N>' is below 16: it can be 0, for none, or 16 and more"
     } else {
         "the value of '--degree <N>', 2 if it is not given, is above that of '--logs <N>'"
-    };
+    }
+}
+
+/// The error of words of `cluster` that are refused.
+fn bad_cluster(alloc: Global, message: &'static str) -> Result<Error, Error> {
     let cluster = cluster_command(alloc)?;
-    Err(bad_words(
+    let error = bad_words(
         cluster,
         "fdbrec cluster",
         ErrorKind::ValueValidation,
         message,
-    )?)
+    )?;
+    Ok(error)
 }
 
 /// How many of 256 a word says, or what it says if it is not there.
@@ -372,7 +379,7 @@ fn refuse_word<'a>(alloc: Global) -> Arg<'a> {
     Arg::new(alloc, "refuse")
         .long("refuse")
         .help(
-            "With --store sql, of how many calls of a device or a database one is refused, 256 to 65535, 0 none",
+            "With --store sql, of how many calls of a device or a database one is refused, 16 to 65535, 0 none",
         )
         .value_name("N")
         .value_parser(value_parser!(u16).range(0..=65_535))

@@ -4,7 +4,7 @@ use fr_ask::Last;
 use fr_audit::{Cause, Finding, entry_at};
 use fr_audit_journal::{Act, Journal, NodeEntry, node_text};
 use fr_base::{Memory, NodeId, Shape, Version};
-use fr_forms::Formed;
+use fr_forms::{Formed, put_printable};
 use fr_run_event::Answer;
 use serde_json::Value;
 use std::alloc::{AllocError, Global};
@@ -186,22 +186,7 @@ fn closed_otherwise<'a>(journals: &'a [Journal], node: &NodeId, last: &Last) -> 
 fn printable(alloc: Global, text: &str) -> Result<String, AllocError> {
     let mut plain = String::new(alloc);
     for letter in text.chars() {
-        if matches!(letter, ' '..='~') {
-            plain.push(letter)?;
-        } else {
-            escape(&mut plain, letter as u32)?;
-        }
+        put_printable(&mut plain, letter)?;
     }
     Ok(plain)
-}
-
-/// Puts a character to a text as JSON escapes it: by its number, or by two that stand for it.
-fn escape(text: &mut String, number: u32) -> Result<(), AllocError> {
-    if number < 0x1_0000 {
-        return write!(text, "\\u{number:04x}");
-    }
-    let rest = number - 0x1_0000;
-    let high = 0xd800 + rest / 0x400;
-    let low = 0xdc00 + rest % 0x400;
-    write!(text, "\\u{high:04x}\\u{low:04x}")
 }

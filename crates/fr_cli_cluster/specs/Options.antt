@@ -24,13 +24,13 @@ pub record HasTime (w : ClusterWords) : Type 0 where
   pub turns_some : 1 ≤ w.turns
   pub turns_few : w.turns ≤ 1000000
 
--- at most 256 of 256 draws are a fault, and no call is refused, or one of 256 or more
+-- at most 256 of 256 draws are a fault, and no call is refused, or one of 16 or more
 pub record HasStorm (w : ClusterWords) : Type 0 where
   pub storm : w.storm ≤ 256
   pub late : w.late ≤ 256
   pub crash : w.crash ≤ 256
   pub lose : w.lose ≤ 256
-  pub refuse : (w.refuse ≡ 0) ⊎ (256 ≤ w.refuse)
+  pub refuse : (w.refuse ≡ 0) ⊎ (16 ≤ w.refuse)
 
 -- each seed is one
 pub record IsWithin (w : ClusterWords) : Type 0 where

@@ -32,7 +32,7 @@ pub struct ClusterWords {
     /// How many of 256 of these draws that are no crash are the loss of a log, 0 to 256.
     pub lose: u16,
     /// How many writes and syncs lie between two that a device refuses, and writes between two that a database in files
-    /// refuses, at the least, the second one counted: 256 to 65,535. At 0 none is refused.
+    /// refuses, at the least, the second one counted: 16 to 65,535. At 0 none is refused.
     pub refuse: u16,
     /// From what faults, and the batches of a storm, are drawn.
     pub seed: u64,
@@ -127,7 +127,7 @@ fn has_clients(words: &ClusterWords) -> bool
 fn has_storm(words: &ClusterWords) -> bool
     ensures { IsTrue result ↔ HasStorm words.now }
 {
-    let is_rare = words.refuse == 0 || words.refuse >= 256;
+    let is_rare = words.refuse == 0 || words.refuse >= 16;
     words.storm <= 256 && words.late <= 256 && words.crash <= 256 && words.lose <= 256 && is_rare
 }
 

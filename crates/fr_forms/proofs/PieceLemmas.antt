@@ -1,16 +1,17 @@
 -- Values read piece by piece.
-use Rattle.std.proofs.Common.{◌≡◌, ℕ, ◌-◌, ◌^◌, ◌<◌, ◌≤◌, ◌&&◌, nat_lt, nat_le, Bool, true, false, List, ◌∷◌, length, Some, None, refl, sym, ap, subst, arith}
+use Rattle.std.proofs.Common.{◌≡◌, ℕ, ◌-◌, ◌^◌, ◌<◌, ◌≤◌, ◌&&◌, ◌==◌, nat_lt, nat_le, Bool, true, false, List, ◌∷◌, length, drop, slice_index, Some, None, refl, sym, ◌∙◌, subst}
+use Rattle.std.proofs.lemmas.Bool.{eq-eqb}
 use Rattle.std.specs.Float.{binary64, float_is_finite}
-use Rattle.fast_float.specs.Text.{Parts, digits_of, nearest, with_sign}
+use Rattle.fast_float.specs.Text.{Parts, scan, digits_of, nearest, with_sign}
 use Rattle.json.specs.Token.{Token}
 use Rattle.json.specs.Json as json
 use Rattle.json.specs.Json.{after_end_array, read_key}
-use Rattle.json.proofs.Grammar.{value_is, read_key-shorter}
-use Rattle.serde_json.specs.Data.{Data, Num, unsigned, negative, float, boolean, null, string, number, array, object, Items, no_items, item, Members, no_members, put}
+use Rattle.json.proofs.Grammar.{value_is}
+use Rattle.serde_json.specs.Data.{Data, Num, unsigned, negative, float, boolean, null, string, number, array, object, Items, item, Members, no_members, put}
 use Rattle.serde_json.specs.Read.{number_of, number_from, float_of, is_integer}
 use Rattle.fr_cli_json.specs.Tokens.{BeginsWith, BeginsWithItems, BeginsWithMembers}
 use Rattle.fr_forms.specs.Pieces.{HasValue}
-use Rattle.fr_cli_json.proofs.TokenLemmas.{a_string, a_number, an_array, an_object, no_more_items, no_more_members, one_more_item, one_more_member}
+use Rattle.fr_cli_json.proofs.TokenLemmas.{a_string, a_number, an_array, an_object, no_more_members, one_more_item, one_more_member}
 
 -- the same tokens, and a tree that is seen as the same value
 pub begins_at : (depth : ℕ) (ts old r : List Token) (d seen : Data) → old ≡ ts → seen ≡ d → BeginsWith depth ts d r → BeginsWith depth old seen r
@@ -86,3 +87,15 @@ by_sign p e false h = let f = finite_found true p e in (f.0, rw h f.1)
 pub number_found : (sign : Bool) (p : Parts) → float_is_finite (nearest binary64 sign p) ≡ true → (n : Num) × (number_from sign p ≡ Some n)
 number_found false p e = by_size p e (is_integer p && nat_lt (digits_of p) (2 ^ 64)) refl
 number_found true p e = by_sign p e (is_integer p && nat_lt 0 (digits_of p) && nat_le (digits_of p) (2 ^ 63)) refl
+
+pub signed_in_range : (s : List ℕ) (p : Parts) (b : Bool) → slice_index s 0 ≡ 45 → p ≡ scan (drop 1 s) → b ≡ float_is_finite (nearest binary64 true p) → b ≡ true → (n : Num) × (number_of s ≡ Some n)
+unfolding number_of number_found
+signed_in_range s p b first parts finite holds =
+    let f = number_found true (scan (drop 1 s)) (subst (λ q. float_is_finite (nearest binary64 true q) ≡ true) parts (sym finite ∙ holds)) in
+    (f.0, rw (eq-eqb (slice_index s 0) 45 first) f.1)
+
+pub plain_in_range : (s : List ℕ) (p : Parts) (b : Bool) → (slice_index s 0 == 45) ≡ false → p ≡ scan s → b ≡ float_is_finite (nearest binary64 false p) → b ≡ true → (n : Num) × (number_of s ≡ Some n)
+unfolding number_of number_found
+plain_in_range s p b first parts finite holds =
+    let f = number_found false (scan s) (subst (λ q. float_is_finite (nearest binary64 false q) ≡ true) parts (sym finite ∙ holds)) in
+    (f.0, rw first f.1)

@@ -1,4 +1,5 @@
 //! What a value of a script may be.
+use crate::table;
 
 /// What is handed out as soon as it is read, so that a script need not be kept whole.
 #[derive(Clone, Copy, PartialEq, Eq)]
@@ -44,6 +45,10 @@ pub enum Form {
     Optional(&'static Form),
     /// An array of the first, or an object of the second.
     Either(&'static Form, &'static Form),
+    /// What a node is asked, by its name. (A proof that names a table writes out all that is nested in it.)
+    Ask,
+    /// What a node tells, by its name.
+    Tell,
 }
 
 impl Form {
@@ -52,6 +57,8 @@ impl Form {
     pub(crate) fn filled(&'static self) -> &'static Form {
         match self {
             Form::OrNull(form) | Form::Optional(form) | Form::Handed(_, form) => form,
+            Form::Ask => &table::ASKED,
+            Form::Tell => &table::TOLD,
             _ => self,
         }
     }

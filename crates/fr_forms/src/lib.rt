@@ -16,6 +16,7 @@ mod values;
 
 pub use fault::ScriptFault;
 pub use form::{Form, Part};
+pub use mistake::put_printable;
 pub use object::{Object, text_value, write_all};
 pub use reading::{Nobody, Sink, read_one, read_text};
 pub use row::{Formed, Parts, Row};

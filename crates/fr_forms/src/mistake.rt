@@ -1,5 +1,6 @@
 //! Where a text is no script: line and column, the path, what was found there, and what may stand there.
 use crate::form::Form;
+use crate::reading::is_in_range;
 use json::{Reader, Scratch, Token};
 use std::alloc::{AllocError, Global};
 
@@ -32,7 +33,7 @@ pub(crate) const NO_JSON: Mistake = Mistake {
     wanted: Wanted::Json,
 };
 
-/// The most bytes of a token that are shown.
+/// The most characters of a token that are shown.
 const SHOWN: usize = 40;
 
 /// An object or an array on the way to a token.
@@ -47,17 +48,29 @@ struct Level<'a> {
     is_named: bool,
 }
 
-/// What is said of a mistake.
-pub(crate) fn explain(alloc: Global, text: &str, mistake: Mistake) -> Result<String, AllocError> {
+/// What is said of a mistake, or of bytes that are no text: of these the first one that is none.
+pub(crate) fn explain(alloc: Global, input: &[u8], mistake: Mistake) -> Result<String, AllocError> {
+    let read = simdutf8::compat::from_utf8(input);
+    let text = match &read {
+        Ok(text) => *text,
+        Err(fault) => {
+            let valid = input.get(..fault.valid_up_to()).unwrap_or(&[]);
+            std::str::from_utf8(valid).unwrap_or("")
+        }
+    };
     let mut scratch = Scratch::new(alloc);
     let mut reader = Reader::new(text, &mut scratch)?;
     let mut levels = Vec::new(alloc);
     let (start, end) = sought(&mut reader, text.len(), mistake, &mut levels)?;
-    let bytes = text.as_bytes();
-    let (line, column) = place(bytes.get(..start).unwrap_or(&[]));
+    let start = if read.is_ok() { start } else { text.len() };
+    let (line, column) = place(text.as_bytes().get(..start).unwrap_or(&[]));
     let mut said = format!(in alloc; "line {line}, column {column}: ")?;
     put_path(&mut said, levels.as_slice())?;
-    put_found(&mut said, bytes.get(start..end).unwrap_or(&[]))?;
+    if read.is_ok() {
+        put_found(&mut said, text.get(start..end).unwrap_or(""))?;
+    } else {
+        said.push_str("found a byte that is no UTF-8")?;
+    }
     put_wanted(&mut said, mistake.wanted)?;
     Ok(said)
 }
@@ -69,28 +82,30 @@ fn sought<'a>(
     mistake: Mistake,
     levels: &mut Vec<Level<'a>>,
 ) -> Result<(usize, usize), AllocError> {
-    let mut last = None;
     for index in 0..length {
         let start = reader.offset();
         let token = reader.next().unwrap_or(Token::Bad);
-        let is_json = fits(levels.last(), token) && (index == 0 || !levels.is_empty());
-        if let (Some(found), true) = (last, is_json) {
-            return Ok(found);
-        }
-        if !is_json {
+        let is_one = index == 0 || !levels.is_empty();
+        if !(is_one && fits(levels.last(), token) && is_read(token, levels.len())) {
             pass(levels, Token::Null, start)?;
             return Ok((start, length));
         }
         let start = pass(levels, token, start)?;
-        if reader.offset() == mistake.end {
-            if !matches!(mistake.wanted, Wanted::Json) {
-                return Ok((start, mistake.end));
-            }
-            last = Some((start, mistake.end));
+        if reader.offset() == mistake.end && !matches!(mistake.wanted, Wanted::Json) {
+            return Ok((start, mistake.end));
         }
     }
     pass(levels, Token::Null, length)?;
     Ok((length, length))
+}
+
+/// Whether a token is read so deep: numbers that no double can come near are not, nor is the 128th level.
+fn is_read(token: Token<'_>, depth: usize) -> bool {
+    match token {
+        Token::Number(digits) => is_in_range(digits.as_bytes()),
+        Token::BeginObject | Token::BeginArray => depth < 127,
+        _ => true,
+    }
 }
 
 /// Whether a token may stand there.
@@ -160,39 +175,63 @@ fn put_path(said: &mut String, levels: &[Level<'_>]) -> Result<(), AllocError> {
             write!(said, "[{index}]")?;
         } else if !level.name.is_empty() {
             said.push_str(if said.len() > start { "." } else { "" })?;
-            said.push_str(level.name)?;
+            put_token(said, level.name, true)?;
         }
     }
     said.push_str(if said.len() > start { ": " } else { "" })
 }
 
 /// What stands in a place: the first token of a text.
-fn put_found(said: &mut String, text: &[u8]) -> Result<(), AllocError> {
-    let mut length = 0usize;
-    let is_text = matches!(text, [b'"', ..]);
-    for byte in text {
-        let ends = match byte {
-            b' ' | b'\t' | b'\r' | b'\n' | b',' | b':' | b'{' | b'}' | b'[' | b']' => !is_text,
-            b'"' => is_text,
-            _ => false,
-        };
-        if length > 0 && ends || length == SHOWN {
-            break;
-        }
-        length = length.wrapping_add(1);
-    }
+fn put_found(said: &mut String, text: &str) -> Result<(), AllocError> {
     said.push_str("found ")?;
-    match text {
+    match text.as_bytes() {
         [] => said.push_str("the end of the script"),
         [b'{', ..] => said.push_str("an object"),
         [b'[', ..] => said.push_str("an array"),
-        _ => {
-            let shown = text.get(..length).unwrap_or(text);
-            said.push_str(std::str::from_utf8(shown).unwrap_or("a text"))?;
-            said.push_str(if is_text && length < SHOWN { "\"" } else { "" })?;
-            said.push_str(if length == SHOWN { ".." } else { "" })
-        }
+        _ => put_token(said, text, false),
     }
+}
+
+/// The name of a member, or the token with which a text begins; of a long one its first characters.
+fn put_token(said: &mut String, text: &str, is_name: bool) -> Result<(), AllocError> {
+    let is_text = !is_name && matches!(text.as_bytes(), [b'"', ..]);
+    let mut count = 0usize;
+    let mut is_escaped = false;
+    for letter in text.chars() {
+        let is_mark = matches!(
+            letter,
+            ' ' | '\t' | '\r' | '\n' | ',' | ':' | '{' | '}' | '[' | ']'
+        );
+        if count > 0 && is_mark && !is_name && !is_text {
+            return Ok(());
+        }
+        if count == SHOWN {
+            return said.push_str("..");
+        }
+        put_printable(said, letter)?;
+        if count > 0 && is_text && letter == '"' && !is_escaped {
+            return Ok(());
+        }
+        is_escaped = letter == '\\' && !is_escaped;
+        count = count.wrapping_add(1);
+    }
+    Ok(())
+}
+
+/// Puts a character to a text: one that is no printable one of ASCII as JSON escapes it, by its number, or by two that
+/// stand for it.
+pub fn put_printable(text: &mut String, letter: char) -> Result<(), AllocError> {
+    if matches!(letter, ' '..='~') {
+        return text.push(letter);
+    }
+    let number = letter as u32;
+    if number < 0x1_0000 {
+        return write!(text, "\\u{number:04x}");
+    }
+    let rest = number - 0x1_0000;
+    let high = 0xd800 + rest / 0x400;
+    let low = 0xdc00 + rest % 0x400;
+    write!(text, "\\u{high:04x}\\u{low:04x}")
 }
 
 /// What may stand in a place.
@@ -222,7 +261,12 @@ fn put_form(said: &mut String, form: &'static Form) -> Result<(), AllocError> {
         }
         Form::Flag => said.push_str("true or false"),
         Form::Text => said.push_str("a text"),
-        Form::Hex(_) => said.push_str("bytes in lower case hex, two digits each"),
+        Form::Hex(most) => {
+            if *most < usize::MAX {
+                write!(said, "at most {most} ")?;
+            }
+            said.push_str("bytes in lower case hex, two digits each")
+        }
         Form::Object([]) => said.push_str("an object of no members"),
         Form::Object(members) => put_names(said, "an object of ", members),
         Form::OneOf(members) => put_names(said, "an object of one of ", members),

@@ -77,20 +77,18 @@ pub fn read_text<S: Sink>(
     ensures utf8 { OnOk result (IsUtf8 input.now) }
     ensures json { OnOk result ((d : Data) × (read input.now ≡ Some d)) }
 {
-    let Ok(text) = simdutf8::compat::from_utf8(input) else {
-        return Err(ScriptFault::BadScript);
-    };
     let mut mistake = NO_JSON;
-    match read_whole(alloc, text, form, sink, &mut mistake) {
-        Ok(()) => Ok(()),
-        Err(Unread::Memory) => Err(ScriptFault::Memory),
-        Err(Unread::Unusual) => {
-            if let Ok(said) = explain(alloc, text, mistake) {
-                *place = said;
-            }
-            Err(ScriptFault::BadScript)
+    if let Ok(text) = simdutf8::compat::from_utf8(input) {
+        match read_whole(alloc, text, form, sink, &mut mistake) {
+            Ok(()) => return Ok(()),
+            Err(Unread::Memory) => return Err(ScriptFault::Memory),
+            Err(Unread::Unusual) => {}
         }
     }
+    if let Ok(said) = explain(alloc, input, mistake) {
+        *place = said;
+    }
+    Err(ScriptFault::BadScript)
 }
 
 /// Reads a text; of one that is bad it gives the first mistake that counts.
@@ -107,10 +105,11 @@ fn read_whole<S: Sink>(
     let mut reader = Reader::new(text, &mut scratch)?;
     let mut tape = Tape::new(alloc);
     read_first(alloc, &mut tape, &mut reader, sink, form, mistake)?;
-    match reader.next() {
-        None => end(alloc, &tape, sink, mistake),
-        Some(_) => Err(Unread::Unusual),
+    if reader.next().is_some() {
+        return Err(Unread::Unusual);
     }
+    end(alloc, &tape, sink, mistake)?;
+    Ok(())
 }
 
 /// Reads the value of a text, and says how far that went.
@@ -315,10 +314,13 @@ fn unsigned(digits: &[u8]) -> Option<u64>
 }
 
 /// Whether a text of JSON's is a number that a double can come near: JSON here has no greater ones.
-fn is_in_range(digits: &[u8]) -> bool
+pub(crate) fn is_in_range(digits: &[u8]) -> bool
     ensures { IsTrue result → (n : Num) × (number_of digits.now ≡ Some n) }
 {
-    if !digits.is_empty() && digits[0] == b'-' {
+    if digits.is_empty() {
+        return false;
+    }
+    if digits[0] == b'-' {
         Numeral::scan(&digits[1..])
             .to_float::<f64>(true)
             .is_finite()

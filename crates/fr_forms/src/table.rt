@@ -1,7 +1,8 @@
 //! The table: what each command reads, and what stands in it. Members of objects stand in the order of their names' bytes,
 //! in which they are written.
 use crate::form::Form::{
-    Either, Flag, Handed, Hex, List, Number, Object, OneOf, Optional, OrNull, OrZero, Text, Tuple,
+    Ask, Either, Flag, Handed, Hex, List, Number, Object, OneOf, Optional, OrNull, OrZero, Tell,
+    Text, Tuple,
 };
 use crate::form::{Form, Part};
 use crate::kind;
@@ -48,7 +49,7 @@ macro_rules! kind {
         "pop" Pop { epoch: EPOCH, tag: TAG, through: VERSION };
     }};
     (Seed $($way:tt)+) => { $crate::parts! { $($way)+; Seed {
-        epoch: EPOCH, first: VERSION, records(all): List(&SEED_RECORD), seeded_to: VERSION
+        epoch: EPOCH, first: FIRST, records(all): List(&SEED_RECORD), seeded_to: VERSION
     } new(epoch, first, seeded_to, records) }};
     (SeedRecord $($way:tt)+) => { $crate::parts! { $($way)+; SeedRecord {
         batch: BATCH, tag: TAG, version: VERSION
@@ -92,13 +93,13 @@ macro_rules! kind {
         "out_of_turn" OutOfTurn {};
     }};
     (Generation $($way:tt)+) => { $crate::parts! { $($way)+; Generation {
-        epoch: EPOCH, first: VERSION, k: BYTE, m: BYTE, seeded_to: VERSION
+        epoch: EPOCH, first: FIRST, k: COUNT, m: COUNT, seeded_to: VERSION
     } new(epoch, m, k, first, seeded_to) }};
     // ---- journals
     (Entry $($way:tt)+) => { $crate::parts! { $($way)+; Entry { act: ACT, stamp: STAMP } }};
     (Act $($way:tt)+) => { $crate::one_of! { $($way)+; Act;
-        "asked" Asked { ask: ASK, from: NODE, tell: TELL };
-        "heard" Heard { from: NODE, outcome: OrNull(&OUTCOME), taken: OrNull(&VERSION), tell: TELL };
+        "asked" Asked { ask: Ask, from: NODE, tell: Tell };
+        "heard" Heard { from: NODE, outcome: OrNull(&OUTCOME), taken: OrNull(&VERSION), tell: Tell };
         "submitted" Submitted { batch: BATCH, step: STEP };
         "begun" Begun [shape: BEGUN];
         "crashed" Crashed {};
@@ -138,6 +139,8 @@ macro_rules! one_member {
 // ---- numbers and bytes
 pub const VERSION: Form = Number(0, (1 << 62) - 1);
 
+const FIRST: Form = Number(1, (1 << 62) - 1);
+
 pub const EPOCH: Form = Number(256, (1 << 48) - 1);
 
 const BALLOT: Form = OrZero(256, (1 << 48) - 1);
@@ -157,6 +160,8 @@ const LOG: Form = Number(0, 15);
 const PROXY: Form = Number(0, 15);
 
 const TAG: Form = Number(0, 31);
+
+const COUNT: Form = Number(1, 16);
 
 const BYTE: Form = Number(0, 255);
 
@@ -212,11 +217,11 @@ const PUSH: Form = members! {
     bodies: List(&kind!(Body form)), epoch: EPOCH, known: VERSION, mark: OrNull(&STATE), prev: VERSION, version: VERSION
 };
 
-const DROPPED: Form = members! { dropped: Number(0, u64::MAX), gens: GENERATIONS };
+const DROPPED: Form = members! { dropped: Number(1, (1 << 48) - 1), gens: GENERATIONS };
 
 pub const STATE: Form = Either(&GENERATIONS, &DROPPED);
 
-const BEGUN: Form = members! { degree: Optional(&BYTE), logs: Optional(&BYTE) };
+const BEGUN: Form = members! { degree: Optional(&COUNT), logs: Optional(&COUNT) };
 
 const ROWS: Form = List(&Tuple(&[HEX, HEX]));
 
@@ -241,19 +246,19 @@ const LOG_ID: Form = members! { epoch: EPOCH, log: LOG };
 const PULL: Form = members! { epoch: EPOCH, log: LOG, storage: TAG };
 
 const RECOVER: Form = members! {
-    ballot: BALLOT, degree: Optional(&BYTE), lock: LOGS, logs: Optional(&BYTE), mark: LOGS, read: CELLS, write: CELLS
+    ballot: BALLOT, degree: Optional(&COUNT), lock: LOGS, logs: Optional(&COUNT), mark: LOGS, read: CELLS, write: CELLS
 };
 
 pub const SIMULATE_STEP: Form = one_member! {
-    commit: kind!(Commit form), push: kind!(Resend form), pull: PULL, mark: PULL, pop: PULL, read: kind!(Read form),
-    recover: RECOVER, lose: LOG_ID
+    commit: kind!(Commit form), push: kind!(Resend form), pull: PULL, mark: PULL, pop: PULL, recover: RECOVER,
+    lose: LOG_ID, read: kind!(Read form)
 };
 
 // ---- scripts
 pub const SHARDS: Form = List(&HEX);
 
 pub const CONFIG: Form =
-    members! { coordinators: BYTE, degree: BYTE, logs: BYTE, proxies: BYTE, shards: SHARDS };
+    members! { coordinators: Number(1, 9), degree: COUNT, logs: COUNT, proxies: COUNT, shards: SHARDS };
 
 const OPERATION: Form = one_member! {
     apply: members! { batch: BATCH, version: VERSION }, undo: members! { to: VERSION },
@@ -264,6 +269,12 @@ const REPLY: Form = Tuple(&[BYTE, VERSION, VERSION]);
 
 const JOURNAL: Form =
     members! { entries: List(&Handed(Part::Entry, &ENTRY)), last: OrNull(&LAST), node: NODE };
+
+/// What `Form::Ask` stands for.
+pub static ASKED: Form = ASK;
+
+/// What `Form::Tell` stands for.
+pub static TOLD: Form = TELL;
 
 /// A node, and what it tells.
 pub static HEARD: Form = members! { from: NODE, tell: TELL };

@@ -128,8 +128,8 @@ impl<'a> Tape<'a> {
             Form::List(_) if !is_object => (self.items.len(), 0),
             _ => return self.none(form, end),
         };
-        if left > 0 {
-            self.parts.resize(base.wrapping_add(left), Slot::Absent)?;
+        for _part in 0..left {
+            self.parts.push(Slot::Absent)?;
         }
         Ok(open_at(within, base, left))
     }

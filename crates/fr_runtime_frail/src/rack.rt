@@ -16,42 +16,40 @@ use sqlite::Files;
 use sqlite_disk::Memory as MemoryDisk;
 use std::alloc::Global;
 
-/// Devices in memory, with room for 16,777,216 bytes each, that refuse writes and syncs by draw.
-#[derive(Clone, Copy)]
-pub struct FrailDevices<'a> {
+/// Devices that refuse writes and syncs by draw.
+#[derive(Drop)]
+pub struct FrailDevices<'a, V: Devices> {
+    devices: V,
     frailty: Frailty,
     refusals: &'a Refusals,
 }
 
-impl<'a> Devices for FrailDevices<'a> {
-    ghost use Rattle.std.specs.Prelude.{◌≡◌};
-    ghost use Rattle.fr_base.specs.declared.node.NodeFault.TheVariants.{Memory};
+impl<'a, V: Devices> Devices for FrailDevices<'a, V> {
+    type Device = FrailDevice<'a, V::Device>;
 
-    type Device = FrailDevice<'a, MemoryDevice>;
+    ghost room = { λ d. V.room d.devices };
 
-    ghost room = { λ d. 16777216 };
+    ghost CanRefuse = { λ d fault. V.CanRefuse d.devices fault };
 
-    ghost CanRefuse = { λ d fault. fault ≡ Memory };
-
-    fn cell(&self, alloc: Global, index: u8) -> Result<FrailDevice<'a, MemoryDevice>, NodeFault> {
+    fn cell(&self, alloc: Global, index: u8) -> Result<FrailDevice<'a, V::Device>, NodeFault> {
         let fuse = self.frailty.fuse(u64::from(index));
-        let device = MemoryDevices.cell(alloc, index)?;
+        let device = self.devices.cell(alloc, index)?;
         Ok(FrailDevice::new(device, fuse, self.refusals))
     }
 
-    fn log(&self, alloc: Global, id: &LogId) -> Result<FrailDevice<'a, MemoryDevice>, NodeFault> {
+    fn log(&self, alloc: Global, id: &LogId) -> Result<FrailDevice<'a, V::Device>, NodeFault> {
         let fuse = self.frailty.fuse(number_of_log(*id));
-        let device = MemoryDevices.log(alloc, id)?;
+        let device = self.devices.log(alloc, id)?;
         Ok(FrailDevice::new(device, fuse, self.refusals))
     }
 }
 
-/// Record files on such devices, and stores in databases in two files in memory, each of which refuses writes by draw.
+/// Record files on such devices in memory, and stores in databases in two files in memory, each of which refuses writes by draw.
 #[derive(Drop)]
 pub struct FrailRack<'a> {
     frailty: Frailty,
     refusals: &'a Refusals,
-    nodes: FileRack<FrailDevices<'a>>,
+    nodes: FileRack<FrailDevices<'a, MemoryDevices>>,
 }
 
 impl<'a> FrailRack<'a> {
@@ -60,7 +58,11 @@ impl<'a> FrailRack<'a> {
         FrailRack {
             frailty,
             refusals,
-            nodes: FileRack::on(FrailDevices { frailty, refusals }),
+            nodes: FileRack::on(FrailDevices {
+                devices: MemoryDevices,
+                frailty,
+                refusals,
+            }),
         }
     }
 
@@ -81,7 +83,7 @@ impl<'a> Rack for FrailRack<'a> {
 
     type Store = SqlFileStore<FrailDisk<'a, MemoryDisk>>;
 
-    ghost CanRefuse = { λ rack fault. ⟦<FileRack<FrailDevices<'a>> as Rack>⟧.CanRefuse rack.nodes fault };
+    ghost CanRefuse = { λ rack fault. ⟦<FileRack<FrailDevices<'a, MemoryDevices>> as Rack>⟧.CanRefuse rack.nodes fault };
 
     ghost CanRefuseStore = { λ rack fault. IsTrouble MeetsAll fault };
 

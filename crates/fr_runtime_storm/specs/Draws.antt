@@ -4,7 +4,7 @@ use Rattle.rand_core.specs.Pcg32Seed.{pcg32_seed}
 use Rattle.rand_pcg.specs.Lcg.{Lcg}
 use Rattle.rand_pcg.specs.Pcg.{pcg32, pcg32_of_seed}
 use Rattle.fr_base.specs.declared.place.NodeId.{NodeId}
-use Rattle.fr_base.specs.declared.place.NodeId.TheVariants.{Cell, Log, Sequencer}
+use Rattle.fr_base.specs.declared.place.NodeId.TheVariants.{Cell, Log, Sequencer, Proxy, Recoverer, Storage}
 use Rattle.fr_state.specs.Generations.{LogGeneration}
 use Rattle.fr_runtime_station.specs.declared.chosen.Chosen.{Chosen}
 use Rattle.fr_runtime_station.specs.declared.faults.Blow.{Blow}
@@ -77,6 +77,15 @@ strike_at strength cells logs crashes losses turn chosen word =
     if turn % 64 == 0 then crash_of strength cells logs word
     else (if turn % 64 == 32 && (nat_lt 0 crashes || nat_lt 0 losses) then blow_at crashes losses (named_by chosen word) word else None)
 
--- whether a node that asks is gone from a turn on: it may be from each 64th
-abbrev pub end_at : ℕ → ℕ → ℕ → Bool
-end_at crashes turn word = if turn % 64 == 0 && nat_lt 0 crashes then nat_lt (word % 256) crashes else false
+-- whether a node may be gone from a turn on: a recoverer, whose turns are few, from each 8th, another one from each 64th
+abbrev pub is_end_turn : NodeId → ℕ → Bool
+is_end_turn (Recoverer b) turn = turn % 8 == 0
+is_end_turn (Proxy e p) turn = turn % 64 == 0
+is_end_turn (Cell i) turn = turn % 64 == 0
+is_end_turn (Log e i) turn = turn % 64 == 0
+is_end_turn (Sequencer e) turn = turn % 64 == 0
+is_end_turn (Storage t) turn = turn % 64 == 0
+
+-- whether a node that asks is gone from a turn on
+abbrev pub end_at : ℕ → NodeId → ℕ → ℕ → Bool
+end_at crashes node turn word = if is_end_turn node turn && nat_lt 0 crashes then nat_lt (word % 256) crashes else false

@@ -1,5 +1,6 @@
 //! Faults that are drawn from a seed while threads run.
 ghost use Rattle.std.specs.Prelude.{◌≡◌, ◌≤◌};
+ghost use Rattle.fr_runtime_storm.specs.Draws.{is_end_turn};
 
 use crate::draws::Draws;
 use fr_ask::Ask;
@@ -38,6 +39,21 @@ impl Storm {
     }
 }
 
+/// Whether a node that asks may be gone from a turn of its thread on. A recoverer takes few turns, so it may be at more
+/// of them.
+fn is_end_turn(node: NodeId, turn: u32) -> bool
+    ensures { result ≡ is_end_turn node turn }
+{
+    match node {
+        NodeId::Recoverer { .. } => turn % 8 == 0,
+        NodeId::Cell { .. }
+        | NodeId::Log { .. }
+        | NodeId::Sequencer { .. }
+        | NodeId::Proxy { .. }
+        | NodeId::Storage { .. } => turn % 64 == 0,
+    }
+}
+
 impl Faults for Storm {
     ghost use Rattle.std.specs.Prelude.{◌≡◌, ◌+◌, ◌*◌, ◌/◌, ◌==◌, ℕ};
     ghost use Rattle.fr_runtime_storm.specs.Draws.{end_at, strike_at, verdict_of, word_at};
@@ -52,7 +68,7 @@ impl Faults for Storm {
         storm.draws.losses turn chosen (word_at storm.draws.seed call)) };
 
     ghost MayEnd = { λ storm node turn is_end. (call : ℕ)
-        × (is_end ≡ end_at storm.draws.crashes turn (word_at storm.draws.seed call)) };
+        × (is_end ≡ end_at storm.draws.crashes node turn (word_at storm.draws.seed call)) };
 
     fn verdict(&self, _to: NodeId, _ask: &Ask) -> Verdict {
         let call = self.next_call();
@@ -75,8 +91,8 @@ impl Faults for Storm {
         None
     }
 
-    fn ends(&self, _node: NodeId, turn: u32) -> bool {
-        if turn % 64 == 0 && self.draws.crashes > 0 {
+    fn ends(&self, node: NodeId, turn: u32) -> bool {
+        if is_end_turn(node, turn) && self.draws.crashes > 0 {
             let call = self.next_call();
             return self.draws.ends(call);
         }

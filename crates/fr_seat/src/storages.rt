@@ -1,10 +1,10 @@
 //! Storage servers, in bytes.
-ghost use Rattle.std.specs.Prelude.{◌≡◌, None, Some, IfOk};
+ghost use Rattle.std.specs.Prelude.{◌≡◌, ◌≢◌, ◌↔◌, None, Some, IfOk, option_map};
 ghost use Rattle.fr_undo.specs.Undo.{value_undone};
 ghost use Rattle.fr_part.specs.Reads.{IfStorage, unread_of};
 ghost use Rattle.fr_part.specs.declared.fault.ReadRefusal.TheVariants as unread;
 ghost use Rattle.fr_seat.specs.Answers.{IsGiven, IsShort};
-ghost use Rattle.fr_seat.specs.Reads.{shard_from, unread_status};
+ghost use Rattle.fr_seat.specs.Reads.{IsPast, shard_from, unread_said, unread_status};
 ghost use Rattle.fr_seat.specs.Turns.{IfFound};
 
 use crate::giving::give;
@@ -38,6 +38,11 @@ pub fn read_in(
     ensures too_old { result ≡ 13 → unread_of part.old (shard_from begin.now end.now) key.now version ≡ Some unread.TooOld }
     ensures future_version { result ≡ 14
         → unread_of part.old (shard_from begin.now end.now) key.now version ≡ Some unread.FutureVersion }
+    ensures limit { (result ≡ 6) ↔ IsPast begin.now end.now version }
+    ensures kind { result ≡ 4 → unread_of part.old (shard_from begin.now end.now) key.now version ≡ Some unread.Kind }
+    ensures part { result ≡ 9 → unread_of part.old (shard_from begin.now end.now) key.now version ≡ Some unread.Part }
+    ensures refused { result ≢ 1 → result ≢ 6 → unread_said result
+        ≡ option_map unread_status (unread_of part.old (shard_from begin.now end.now) key.now version) }
 {
     let Some(version) = Version::new(version) else {
         return LIMIT;

@@ -53,11 +53,9 @@ pub fn read_script(alloc: Global, input: Vec<u8>, place: &mut String) -> Result<
         Err(ScriptFault::BadScript) => return Err(CliFault::BadScript),
         Err(ScriptFault::Memory) => return Err(CliFault::Memory),
     }
-    match found.config {
-        Some(config) => Ok(Script {
-            config,
-            acts: found.acts,
-        }),
+    let Found { config, acts } = found;
+    match config {
+        Some(config) => Ok(Script { config, acts }),
         None => Err(CliFault::BadScript),
     }
 }

@@ -75,15 +75,27 @@ pub struct Recover {
 pub(crate) fn step_of(alloc: Global, row: Row<'_>) -> Result<ScriptStep, Unread> {
     let (name, fields) = row.named_in(&table::SIMULATE_STEP);
     match name {
-        "commit" => Ok(ScriptStep::Commit(kind!(Commit read alloc fields)?)),
-        "push" => Ok(ScriptStep::Push(kind!(Resend read alloc fields)?)),
+        "commit" => Ok(ScriptStep::Commit(commit_of(alloc, fields)?)),
+        "push" => Ok(ScriptStep::Push(resend_of(alloc, fields)?)),
         "pull" => Ok(ScriptStep::Pull(pull_of(alloc, fields)?)),
         "mark" => Ok(ScriptStep::Mark(pull_of(alloc, fields)?)),
         "pop" => Ok(ScriptStep::Pop(pull_of(alloc, fields)?)),
-        "read" => Ok(ScriptStep::Read(kind!(Read read alloc fields)?)),
+        "read" => Ok(ScriptStep::Read(read_of(alloc, fields)?)),
         "recover" => Ok(ScriptStep::Recover(recover_of(alloc, fields)?)),
         _ => Ok(ScriptStep::Lose(LogId::from_row(alloc, fields)?)),
     }
+}
+
+fn commit_of(alloc: Global, row: Row<'_>) -> Result<Commit, Unread> {
+    kind!(Commit read alloc row)
+}
+
+fn resend_of(alloc: Global, row: Row<'_>) -> Result<Resend, Unread> {
+    kind!(Resend read alloc row)
+}
+
+fn read_of(alloc: Global, row: Row<'_>) -> Result<Read, Unread> {
+    kind!(Read read alloc row)
 }
 
 fn pull_of(alloc: Global, row: Row<'_>) -> Result<Pull, Unread> {

@@ -78,6 +78,7 @@ const GREATEST: ClusterWords = ClusterWords {
     late: 0,
     crash: 0,
     lose: 0,
+    refuse: 0,
     seed: 1,
     journal: false,
     counts: false,
@@ -150,7 +151,7 @@ fn what_is_printed_over_files_is_read_back_and_is_a_run(rt: HostRuntime) -> Resu
     Ok(())
 }
 
-static OTHERS: [ClusterWords; 8] = [
+static OTHERS: [ClusterWords; 9] = [
     ClusterWords {
         coordinators: 4,
         ..DEFAULTS
@@ -181,6 +182,10 @@ static OTHERS: [ClusterWords; 8] = [
     },
     ClusterWords {
         lose: 257,
+        ..DEFAULTS
+    },
+    ClusterWords {
+        refuse: 15,
         ..DEFAULTS
     },
 ];

@@ -3,7 +3,6 @@ use crate::nodes::{read_map, read_told, write_asks};
 use crate::subjects::Nodes;
 use fr_ask::{Ask, Last};
 use fr_base::{Memory, NodeId};
-use fr_forms::write_all;
 use fr_proxy::{Outcome, Proxy, SubmitFault};
 use serde_json::Value;
 use std::alloc::Global;

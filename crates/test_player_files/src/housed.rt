@@ -36,7 +36,7 @@ impl Asked for Log {
 }
 
 impl Asked for Sequencer {
-    fn read_ask(_alloc: Global, given: Value) -> Result<Self::Ask, Wrong> {
+    fn read_ask(alloc: Global, given: Value) -> Result<Self::Ask, Wrong> {
         Ok(read_seq_ask(alloc, given)?)
     }
 }

@@ -1,5 +1,6 @@
 //! Values taken out of the tree of JSON.
 use fr_base::{Ballot, Bytes, Epoch, Tag, Version};
+use fr_cli_json::CliFault;
 use fr_cli_json::tree::{into_items, into_one_member, member_of, read_bytes, take_member};
 use fr_forms::ScriptFault;
 use serde_json::Value;
@@ -143,6 +144,10 @@ impl Fields {
 
     /// The bytes under a name, a text of lower case hex.
     pub fn bytes(&self, alloc: Global, name: &str) -> Result<Bytes, ScriptFault> {
-        Ok(read_bytes(alloc, Some(self.value(name)?))?)
+        match read_bytes(alloc, Some(self.value(name)?)) {
+            Ok(bytes) => Ok(bytes),
+            Err(CliFault::Memory) => Err(ScriptFault::Memory),
+            Err(_) => Err(ScriptFault::BadScript),
+        }
     }
 }

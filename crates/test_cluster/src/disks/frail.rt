@@ -1,9 +1,7 @@
 //! Clusters whose devices and databases refuse calls by draw.
 ghost use Rattle.std.specs.Prelude.{◌≡◌};
 
-use fr_cli_cluster::{
-    ClusterOptions, ClusterWords, DEFAULTS, Frailty, Refusals, run_cluster_on,
-};
+use fr_cli_cluster::{ClusterOptions, ClusterWords, DEFAULTS, Frailty, Refusals, run_cluster_on};
 use fr_device::{Device, DeviceFault, MemoryDevice};
 use fr_runtime_frail::{FrailDevice, FrailRack, Fuse};
 use std::alloc::Global;
@@ -42,8 +40,7 @@ fn each_device_and_file_refuses_as_often_as_is_drawn(rt: HostRuntime) -> Result<
 static DONE: [bool; 7] = [true, true, false, true, true, false, true];
 
 /// What a device answers to a write, or to a sync.
-fn answer<D: Device>(device: &mut D, is_write: bool) -> Result<(), DeviceFault>
-{
+fn answer<D: Device>(device: &mut D, is_write: bool) -> Result<(), DeviceFault> {
     let at = device.len()?;
     if is_write {
         device.write_at(at, b"x")

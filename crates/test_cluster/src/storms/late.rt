@@ -70,21 +70,30 @@ enum Overtaken {
     Log,
 }
 
+impl Overtaken {
+    /// Whether it is a peek of a log of the first epoch, and what is told of such comes late.
+    fn tells_late(&self, to: NodeId, ask: &Ask) -> bool {
+        let Overtaken::Tells = self else {
+            return false;
+        };
+        let NodeId::Log { epoch, .. } = to else {
+            return false;
+        };
+        let is_peek = matches!(ask, Ask::Log(LogAsk::Peek { .. }));
+        is_peek && epoch.get() == 257
+    }
+}
+
 impl Faults for Overtaken {
     ghost use Rattle.std.specs.Prelude.{◌≡◌, ◌+◌, ◌*◌, ◌/◌, ◌==◌};
 
     ghost begun = { λ f ballot turn. turn + 100 == 100 * (ballot / 256) };
 
     fn verdict(&self, to: NodeId, ask: &Ask) -> Verdict {
-        match (self, to, ask) {
-            (Overtaken::Tells, NodeId::Log { epoch, .. }, Ask::Log(LogAsk::Peek { .. })) => {
-                if epoch.get() == 257 {
-                    Verdict::LateTell { turns: 64 }
-                } else {
-                    Verdict::Pass
-                }
-            }
-            _ => Verdict::Pass,
+        if self.tells_late(to, ask) {
+            Verdict::LateTell { turns: 64 }
+        } else {
+            Verdict::Pass
         }
     }
 

@@ -188,18 +188,35 @@ static GONE: [bool; 16] = [
     false, false,
 ];
 
-/// At each 64th turn of a node that asks one draw says whether it is gone.
+/// At each 64th turn of a proxy's thread, and at each 8th of a recoverer's, one draw says whether it is gone.
 #[test]
-fn each_64th_turn_ends_what_its_draw_says(rt: HostRuntime) {
+fn each_node_that_asks_ends_as_its_draws_say(rt: HostRuntime) -> Result<(), Fail> {
+    let (first, later) = (
+        Epoch::new(257).ok_or("an epoch")?,
+        Epoch::new(513).ok_or("an epoch")?,
+    );
+    let proxy = NodeId::Proxy {
+        epoch: first,
+        number: 0,
+    };
+    ends(&rt, proxy, 64);
+    let recoverer = NodeId::Recoverer {
+        ballot: later.ballot(),
+    };
+    ends(&rt, recoverer, 8);
+    Ok(())
+}
+
+/// A node is gone at each of so many turns as the draw says, and at no other.
+fn ends(rt: &impl Abort, node: NodeId, every: u32) {
     let storm = Storm::new(Draws {
         seed: 3,
         crashes: 100,
         ..CALM
     });
-    let node = NodeId::Cell { index: 0 };
     let mut turn = 0_u32;
     for (number, is_gone) in GONE.iter().enumerate() {
-        for _ in 0..63u32 {
+        for _ in 1..every {
             turn = turn.wrapping_add(1);
             assert!(rt; !storm.ends(node, turn), "{turn}");
         }

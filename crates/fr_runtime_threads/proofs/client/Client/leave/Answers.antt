@@ -1,5 +1,5 @@
 use Rattle.std.proofs.Common.{ap, refl, sym, ◌∙◌, ◌≡◌, ◌++◌, ◌∷◌, [], true}
-use Rattle.std.proofs.lemmas.List.{append-nil}
+use Rattle.std.proofs.lemmas.List.{append-nil, append_assoc}
 use Rattle.fr_proxy.specs.declared.outcome.Outcome.TheVariants.{Waiting}
 use Rattle.fr_runtime_threads.specs.Account.{is_proxy, outcomes, said}
 use Rattle.fr_runtime_threads.proofs.Accounts.{given-moved, places-append, told-ended, told-open}
@@ -12,6 +12,15 @@ invariant_of-self-2-clause-gives g c =
     let closed : c.close.result.entries ≡ old.door.notes.journal.entries = c.close.ensures.entries ∙ ap (λ d. d.notes.journal.entries) c.replace-before.ensures.value in
     let fresh : c.replace-before.new.dest.notes.journal.entries ≡ [] = ap (λ d. d.notes.journal.entries) c.replace-before.ensures.after ∙ c.in_ok-next.ensures.entries in
     c.told.ensures.given ∙ (old.gives ∙ ap (λ l. g.W.Workload.given old.first.value ++ l) (given-moved old.earlier.items c.close.result _ _ _ _ items closed fresh))
+
+pub invariant_of-self-2-clause-hears : goal.invariant_of-self-2-clause-hears
+invariant_of-self-2-clause-hears g c =
+    let old = c.args.self.now in
+    let more : c.push_reserved.new.self.items ≡ old.told.items ++ Waiting ∷ [] = c.push_reserved.ensures.items ∙ ap (λ l. l ++ Waiting ∷ []) c.reserve-2.ensures.items in
+    c.in_ok-told.ensures.heard
+    ∙ (ap (λ l. l ++ Waiting ∷ []) old.hears
+    ∙ (append_assoc (g.W.Workload.heard old.first.value) old.told.items (Waiting ∷ [])
+    ∙ ap (λ l. g.W.Workload.heard old.first.value ++ l) (sym more)))
 
 -- the batch that was under way is waiting
 pub invariant_of-self-2-clause-tells : goal.invariant_of-self-2-clause-tells
