@@ -5,11 +5,14 @@ import json
 import os
 import re
 import subprocess
+import sys
 import tempfile
 
 BENCH = os.path.dirname(os.path.realpath(__file__))
 TOP = os.path.dirname(BENCH)
 COMMANDS = ("apply", "end", "simulate", "audit")
+# Scenarios have values 1,000 levels deep.
+sys.setrecursionlimit(20_000)
 # Scripts that are made: by what, with which words, for which command.
 MADE = [("scripts", [kind, "30", "1"], "apply") for kind in ("small", "undos", "forgets")]
 MADE += [("steps", [kind, "40", str(seed)], "simulate") for kind in ("chaos", "shapes", "pops", "reads") for seed in range(1, 9)]
@@ -80,7 +83,15 @@ def expanded(text, names):
 def parts_of(row):
     asked, _, wanted = row.partition("->")
     word, _, given = asked.strip().partition(" ")
-    return word, *(json.loads(each) if each.strip() else None for each in (given, wanted))
+    return word, *(value_of(each) for each in (given, wanted))
+
+
+def value_of(text):
+    """The value that a text of a row is, or the text, if it is a script that is no JSON."""
+    try:
+        return json.loads(text) if text.strip() else None
+    except ValueError:
+        return text
 
 
 def pieces():

@@ -52,8 +52,13 @@ def word_of(number):
     return output((((seed & MASK) + increment) * MULTIPLIER + increment) & MASK)
 
 
-def verdict(strength, word):
-    return ("DropAsk", "DropTell", "Twice")[word // 256 % 3] if word % 256 < strength else "Pass"
+def verdict(strength, word, late=0):
+    """What happens to an ask. One that is late, or whose tell is, comes so many turns later."""
+    if word % 256 < strength:
+        return ("DropAsk", "DropTell", "Twice")[word // 256 % 3]
+    if word // 65536 % 256 < late:
+        return f"{('LateAsk', 'LateTell')[word // 2**24 % 2]}({word // 2**25 % 64 + 1})"
+    return "Pass"
 
 
 def crash(strength, coordinators, logs, word):
@@ -62,6 +67,28 @@ def crash(strength, coordinators, logs, word):
     if word // 65536 % 2 == 0:
         return f"Cell({word // 256 % coordinators})"
     return f"Log({word // 256 % logs})"
+
+
+def blow(crashes, losses, chosen, word):
+    """What befalls a node of a chosen generation, each of which is (epoch, logs, degree)."""
+    epoch, logs, degree = chosen[word // 65536 % len(chosen)]
+    number = word // 2**24
+    if word % 256 < crashes:
+        index = number % (logs + 1)
+        return f"Crash(Log({epoch}, {index}))" if index < logs else f"Crash(Sequencer({epoch}))"
+    if word // 256 % 256 < losses and degree > 1:
+        return f"Lose({epoch}, {(epoch // 256 + number % (degree - 1)) % logs})"
+    return "Nothing"
+
+
+def ends(crashes, word):
+    """Whether a node that asks is gone."""
+    return word % 256 < crashes
+
+
+def fuse(every, word):
+    """Of how many calls of a device or a file the last one is refused."""
+    return every + word % every
 
 
 def orders(seed, number, shards, many):
@@ -102,6 +129,16 @@ def main():
     for strength, many in ((100, 13), (256, 16)):
         print(f"crashes of seed 7 and strength {strength}, with 5 coordinators and 6 logs:")
         print("  " + " ".join(crash(strength, 5, 6, word_of(7 + call)) for call in range(many)))
+    print("asks 0 to 23 in a storm of seed 5, strength 64 and lateness 160:")
+    print("  " + " ".join(verdict(64, word_of(5 + call), 160) for call in range(24)))
+    chosen = ((257, 6, 2), (513, 4, 4), (769, 1, 1))
+    print("blows of seed 9, 100 crashes and 160 losses, of generations 257 (6 logs, 2), 513 (4, 4) and 769 (1, 1):")
+    print("  " + " ".join(blow(100, 160, chosen, word_of(9 + call)) for call in range(24)))
+    print("whether nodes that ask are gone, of seed 3 and 100 crashes:")
+    print("  " + " ".join(str(ends(100, word_of(3 + call))) for call in range(16)))
+    numbers = (0, 1, 64, 65, 4112, 8208)
+    print("of how many calls one is refused, of the numbers 0, 1, 64, 65, 4112 and 8208, of seed 6 and at least 300:")
+    print("  " + " ".join(str(fuse(300, word_of(6 + number))) for number in numbers))
     for seed, number, shards, many in ((1, 0, 3, 12), (MASK, 2, 32, 8)):
         print(f"batches of workload {number} in a storm of seed {seed}, over {shards} shards:")
         for order in orders(seed, number, shards, many):

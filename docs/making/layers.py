@@ -11,7 +11,7 @@ FAMILIES = (
     (
         "Audits",
         "journals, their scripts, and whether they are a run",
-        r"fr_audit.*|fr_forms|fr_form_.*|fr_simulate_script",
+        r"fr_audit.*|fr_forms|fr_simulate_script",
     ),
     (
         "Library for C",

@@ -22,15 +22,18 @@ LISTED = tuple((re.compile(form, re.I), plain) for form, plain in LISTED)
 
 
 class Row:
-    """What a page may have: its budget of words, and of words, long sentences and listed words what it has at most."""
+    """What a page may have: its budget of words, and of words, long sentences and listed words what it has at most;
+    and, if that is said, of lines."""
 
     def __init__(self, line):
         self.page, budget, *most = line.split()
         self.budget = int(budget)
-        self.most = [int(it) for it in most]
+        self.most = [int(it) for it in most[:3]]
+        self.lines = int(most[3]) if most[3:] else None
 
     def line(self):
-        return f"{self.page:40}{self.budget:6}" + "".join(f"{it:8}" for it in self.most)
+        numbers = self.most + [self.lines] * (self.lines is not None)
+        return f"{self.page:40}{self.budget:6}" + "".join(f"{it:8}" for it in numbers)
 
 
 WHOLE = re.compile(r"^in all +(\d+)$", re.M)
@@ -113,6 +116,8 @@ def prose_faults(pages):
                     faults.append(f"{row.page}: {now:,} {kind}, where {BUDGETS} allows {most:,}")
                     faults += [f"{row.page}:{at}: {' '.join(it.split()[:9])} .." for at, it in long if kind == KINDS[1]]
                     faults += [f"{row.page}:{at}: {it}: {say}" for at, it, say in listed if kind == KINDS[2]]
+            if row.lines is not None and (lines := read(row.page).count("\n")) > row.lines:
+                faults.append(f"{row.page}: {lines} lines, where {BUDGETS} allows {row.lines}")
     if not faults and (all_of := whole())[0] > all_of[1]:
         faults.append(f"{BUDGETS}: all pages have {all_of[0]:,} words, where it allows {all_of[1]:,}")
     return faults

@@ -14,7 +14,7 @@ FAMILIES = (
     ("worlds", "fr_world fr_world_"),
     ("audit", "fr_audit fr_audit_journal fr_audit_script"),
     ("runtime", "fr_runtime fr_runtime_"),
-    ("forms", "fr_forms fr_form_ fr_json_ fr_simulate_script"),
+    ("forms", "fr_forms fr_simulate_script"),
     ("commands", "fr_cli fdbrec"),
     ("tests", "test_"),
     ("examples", "example_"),
@@ -68,21 +68,27 @@ def functions(path):
         lines = 0
         if body and "{" in body[0]:
             close = re.compile(r"^" + it[1] + r"\}", re.M).search(text, body.end())
-            lines = text.count("\n", body.end(), close.start()) if close else 0
+            lines = text.count("\n", body.end(), close.start()) - 1 if close else 0
         yield it[3], it[2] == "pub ", parameters(text[start:end]), lines
 
 
-def shapes(path):
-    """The lines of a file as shapes: names, numbers and texts are all alike. Lines that say nothing are left out."""
+def shape_of(line):
+    """A line as its shape: words, names, numbers and texts are all alike."""
+    return WORD.sub("x", line)
+
+
+def lines_of(path, as_what):
+    """The lines of a file, each as what it counts. Blank lines, comments, imports and attributes are left out."""
     for number, line in enumerate(read(path).split("\n"), 1):
         line = line.strip()
         if line and not re.match(r"//|use |ghost use |#\[|mod |pub mod |pub use ", line):
-            yield number, WORD.sub("x", line)
+            yield number, as_what(line)
 
 
-def repeated(paths):
-    """Pairs of places with the same shapes over so many lines and more, each as long as it can be."""
-    lines = {path: list(shapes(path)) for path in paths}
+def repeated(paths, as_what=shape_of):
+    """Pairs of places that are alike over so many lines and more, each as long as it can be. What stands in n places
+    counts n (n - 1) / 2 times; runs with few lines of different shapes are left out."""
+    lines = {path: list(lines_of(path, as_what)) for path in paths}
     places = collections.defaultdict(list)
     for path, rows in lines.items():
         for at in range(len(rows) - RUN + 1):
@@ -139,7 +145,9 @@ def weight():
     said.append(f"| public functions with more than {PARAMETERS} parameters | {len(wide)} |")
     said.append(f"| bodies over {BODY} lines | {len(long)} |")
     said.append(f"| public types that share a name | {len(twice)} |")
-    said.append(f"| pairs of places in code that are alike over {RUN} lines and more | {len(pairs)} |")
+    same = repeated(code, lambda line: line)
+    said.append(f"| pairs of places in code with lines of the same shapes, {RUN} and more | {len(pairs)} |")
+    said.append(f"| pairs of places in code that are the same word for word, {RUN} lines and more | {len(same)} |")
     said += ["", *(f"{path}: {name} has {count} parameters" for path, name, _, count, _ in wide)]
     said += [f"{path}: {name} has {lines} lines" for path, name, _, _, lines in long]
     said += [f"{name}: {', '.join(sorted(types[name]))}" for name in twice]

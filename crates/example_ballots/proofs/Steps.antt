@@ -3,7 +3,7 @@ use Rattle.std.proofs.Common.{◌≡◌, ℕ, List, [], ◌∙◌, ap}
 use Rattle.fr_register.specs.CellState.{CellState}
 use Rattle.fr_register.specs.Tally.{progress_of}
 use Rattle.fr_register.specs.declared.poll.Progress.{Progress}
-use Rattle.example_ballots.specs.declared.phases.Found.{Found}
+use Rattle.example_ballots.specs.declared.phases.ReadOutcome.{ReadOutcome}
 use Rattle.example_ballots.specs.Phase.{after_read, after_write, read_of_two, write_of_two, found_by}
 
 -- a cell that holds this value under a ballot and then promised another
@@ -20,7 +20,7 @@ read_cell b n c s d e k h = h ∙ (ap (λ u. after_read c u) e ∙ ap (λ u. aft
 pub written_cell : (b n : ℕ) (x : List ℕ) (c s d : CellState) → b ≡ n → c ≡ s → d ≡ after_write c b x → d ≡ after_write s n x
 written_cell b n x c s d e k h = h ∙ (ap (λ u. after_write c u x) e ∙ ap (λ u. after_write u n x) k)
 
-pub read_found : (b n i j : ℕ) (c s d t : CellState) (f : Found) → b ≡ n → c ≡ s → d ≡ t →
+pub read_found : (b n i j : ℕ) (c s d t : CellState) (f : ReadOutcome) → b ≡ n → c ≡ s → d ≡ t →
     f ≡ found_by (read_of_two b i c j d) → f ≡ found_by (read_of_two n i s j t)
 read_found b n i j c s d t f e k m h =
     h ∙ (ap (λ u. found_by (read_of_two u i c j d)) e ∙ (ap (λ u. found_by (read_of_two n i u j d)) k ∙ ap (λ u. found_by (read_of_two n i s j u)) m))

@@ -4,7 +4,7 @@ use Rattle.fr_register.specs.CellState.{CellState}
 use Rattle.fr_register.specs.Cell.{answer_of, next_of}
 use Rattle.fr_register.specs.Poll.{ReadState, WriteState}
 use Rattle.fr_register.specs.Tally.{new_read, new_write, hear_read, hear_write, progress_of}
-use Rattle.example_ballots.specs.declared.phases.Found.{Found}
+use Rattle.example_ballots.specs.declared.phases.ReadOutcome.{ReadOutcome}
 use Rattle.fr_register.specs.declared.ask.CellAsk.TheVariants.{Read, Write}
 
 -- a cell after the read of a ballot
@@ -32,5 +32,5 @@ abbrev pub write_of_two : ℕ → List ℕ → ℕ → CellState → ℕ → Cel
 write_of_two b x i c j d = write_of (write_of (new_write 3 b) i c b x) j d b x
 
 -- what a read tally has found
-abbrev pub found_by : ReadState → Found
+abbrev pub found_by : ReadState → ReadOutcome
 found_by t = record { progress = progress_of t.poll; written = t.greatest.ballot; value = t.greatest.value }

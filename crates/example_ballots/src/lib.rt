@@ -11,6 +11,6 @@ mod sequence;
 
 pub use descent::descended;
 pub use overlap::overtaken;
-pub use phases::Found;
-pub use scenes::{Attempt, Cells, Outcome};
+pub use phases::ReadOutcome;
+pub use scenes::{Attempt, Cells, SceneEnd};
 pub use sequence::in_turn;

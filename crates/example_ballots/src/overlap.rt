@@ -4,7 +4,7 @@ ghost use Rattle.fr_register.specs.declared.poll.Progress.{Progress};
 ghost use Rattle.example_ballots.specs.Scene.{attempt, found_nothing, held};
 
 use crate::phases::{read_two, write_two};
-use crate::scenes::{Attempt, Cells, Outcome, ballots};
+use crate::scenes::{Attempt, Cells, SceneEnd, ballots};
 use fr_base::Memory;
 use fr_register::{Cell, CellValue};
 use std::alloc::Global;
@@ -16,7 +16,7 @@ pub fn overtaken(
     alloc: Global,
     first_value: &CellValue,
     second_value: &CellValue,
-) -> Result<Outcome, Memory>
+) -> Result<SceneEnd, Memory>
     ensures first { IfOk result (λ end. end.first ≡ attempt found_nothing (Progress.Lost 512)) }
     ensures second { IfOk result (λ end. end.second ≡ attempt found_nothing Progress.Majority) }
     ensures left { IfOk result (λ end. end.cells.left ≡ held 256 first_value.now) }
@@ -31,7 +31,7 @@ pub fn overtaken(
     let second_found = read_two(alloc, second, 1, &mut middle, 2, &mut right)?;
     let first_wrote = write_two(alloc, first, first_value, 0, &mut left, 1, &mut middle)?;
     let second_wrote = write_two(alloc, second, second_value, 1, &mut middle, 2, &mut right)?;
-    Ok(Outcome {
+    Ok(SceneEnd {
         first: Attempt {
             found: first_found,
             wrote: first_wrote,

@@ -9,7 +9,7 @@ use std::alloc::Global;
 
 /// What the reads of a ballot came to, and the pair of the greatest written ballot that they found.
 #[derive(Debug, Drop)]
-pub struct Found {
+pub struct ReadOutcome {
     pub progress: Progress,
     pub written: Ballot,
     pub value: CellValue,
@@ -57,7 +57,7 @@ pub fn read_two(
     one: &mut Cell,
     other_index: u8,
     other: &mut Cell,
-) -> Result<Found, Memory>
+) -> Result<ReadOutcome, Memory>
     ensures one { IfOk result (λ _. one.new ≡ after_read one.old ballot) }
     ensures other { IfOk result (λ _. other.new ≡ after_read other.old ballot) }
     ensures found { IfOk result (λ found. found ≡ found_by (read_of_two ballot one_index one.old other_index other.old)) }
@@ -66,7 +66,7 @@ pub fn read_two(
     ask_read(alloc, ballot, one_index, one, &mut tally)?;
     ask_read(alloc, ballot, other_index, other, &mut tally)?;
     let (written, value) = tally.greatest();
-    Ok(Found {
+    Ok(ReadOutcome {
         progress: tally.progress(),
         written,
         value: value.copy()?,

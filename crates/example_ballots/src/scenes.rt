@@ -1,14 +1,14 @@
 //! Three cells, and what two ballots that contend over them come to.
 ghost use Rattle.std.specs.Prelude.{◌≡◌};
 
-use crate::phases::Found;
+use crate::phases::ReadOutcome;
 use fr_base::Ballot;
 use fr_register::{Cell, Progress};
 
 /// What a ballot found by its reads, and what its writes came to.
 #[derive(Debug, Drop)]
 pub struct Attempt {
-    pub found: Found,
+    pub found: ReadOutcome,
     pub wrote: Progress,
 }
 
@@ -22,7 +22,7 @@ pub struct Cells {
 
 /// What the two ballots came to, and what the cells then are.
 #[derive(Debug, Drop)]
-pub struct Outcome {
+pub struct SceneEnd {
     pub first: Attempt,
     pub second: Attempt,
     pub cells: Cells,

@@ -26,7 +26,7 @@ fn small(rt: &HostRuntime, world: &mut World) -> anyhow::Result<()> {
 }
 
 /// What comes of an event.
-fn happen(alloc: Global, world: &mut World, event: &Event) -> anyhow::Result<Answer> {
+fn happen(alloc: Global, world: &mut World, event: Event) -> anyhow::Result<Answer> {
     Ok(world.step(alloc, event)?)
 }
 
@@ -39,7 +39,7 @@ fn submit(alloc: Global, world: &mut World, epoch: Epoch, step: Step) -> anyhow:
         step,
         batch,
     };
-    happen(alloc, world, &submitted)?;
+    happen(alloc, world, submitted)?;
     Ok(())
 }
 
@@ -76,7 +76,7 @@ fn serve(
     ask: Ask,
 ) -> anyhow::Result<()> {
     let asked = Event::Deliver { from, to, ask };
-    if let Answer::Told(tell) = happen(rt.alloc(), world, &asked)? {
+    if let Answer::Told(tell) = happen(rt.alloc(), world, asked)? {
         println!(rt; "{to:?} tells {from:?}: {tell:?}")?;
         let heard = Event::Hear {
             by: from,
@@ -84,12 +84,12 @@ fn serve(
             tell,
             taken: None,
         };
-        hear(rt, world, &from, &heard)?;
+        hear(rt, world, &from, heard)?;
     }
     Ok(())
 }
 
-fn hear(rt: &HostRuntime, world: &mut World, node: &NodeId, heard: &Event) -> anyhow::Result<()> {
+fn hear(rt: &HostRuntime, world: &mut World, node: &NodeId, heard: Event) -> anyhow::Result<()> {
     let answer = happen(rt.alloc(), world, heard)?;
     println!(rt; "{node:?}: {answer:?}")?;
     Ok(())

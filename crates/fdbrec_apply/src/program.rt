@@ -2,7 +2,7 @@
 use clap::error::{Error, ErrorKind};
 use fr_cli_apply::{ApplyOptions, run_apply};
 use fr_cli_words::{
-    Ending, StoreKind, apply_command, bad_words, program_command, read_store, show,
+    Ending, StoreWord, apply_command, bad_words, program_command, read_store, show,
 };
 use std::alloc::Global;
 use std::io::{Read, Write};
@@ -27,10 +27,10 @@ pub(crate) fn run_program<R: Read, W: Write>(
 /// Reads the words, the first of which is the program's name. A store in tables is refused.
 fn read_words(alloc: Global, words: &[String]) -> Result<ApplyOptions, Error> {
     match read_kind(alloc, words)? {
-        StoreKind::Map => Ok(ApplyOptions {
+        StoreWord::Map => Ok(ApplyOptions {
             store: fr_cli_apply::StoreKind::Map,
         }),
-        StoreKind::Sql => {
+        StoreWord::Sql => {
             let message = "this program has no store in tables: the whole program has";
             let apply = apply_command(alloc)?;
             Err(bad_words(apply, "fdbrec apply", ErrorKind::InvalidValue, message)?)
@@ -39,12 +39,12 @@ fn read_words(alloc: Global, words: &[String]) -> Result<ApplyOptions, Error> {
 }
 
 /// The kind of store that the words name, else a map. A file is one of tables.
-fn read_kind(alloc: Global, words: &[String]) -> Result<StoreKind, Error> {
+fn read_kind(alloc: Global, words: &[String]) -> Result<StoreWord, Error> {
     let matches = command(alloc)?.try_get_matches_from(words)?;
     match matches.subcommand_matches("apply") {
-        Some(apply) if apply.get_str("db").is_some() => Ok(StoreKind::Sql),
+        Some(apply) if apply.get_str("db").is_some() => Ok(StoreWord::Sql),
         Some(apply) => Ok(read_store(apply)),
-        None => Ok(StoreKind::Map),
+        None => Ok(StoreWord::Map),
     }
 }
 

@@ -115,7 +115,7 @@ fn enter(
         Ok(None) => return Err(no_run(number, Cause::NoSuchAct)),
         Err(_) => return Err(Finding::Memory),
     };
-    match world.step_owned(alloc, &event) {
+    match world.step_owned(alloc, event) {
         Ok((after, answer)) => {
             if says(&entry.entry.act, &answer) {
                 Ok(after)

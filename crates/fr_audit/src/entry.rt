@@ -47,13 +47,20 @@ pub fn event_of(node: NodeId, act: &Act) -> Result<Option<Event>, Memory>
             _ => None,
         },
         Act::Crashed => Some(Event::Crash { node }),
-        Act::Lost => match node {
-            NodeId::Log { epoch, index } => Some(Event::Lose {
-                log: LogId { epoch, index },
-            }),
-            _ => None,
-        },
+        Act::Lost => lose_of(node),
     })
+}
+
+/// The event that a node is lost: a log alone can be.
+fn lose_of(node: NodeId) -> Option<Event>
+    ensures { result ≡ entry.lose_of node }
+{
+    match node {
+        NodeId::Log { epoch, index } => Some(Event::Lose {
+            log: LogId { epoch, index },
+        }),
+        _ => None,
+    }
 }
 
 /// Whether an act says what the world answers: what it was told, or the outcome of what it heard.

@@ -1,4 +1,5 @@
 pub mod Journal
+pub mod Names
 pub mod Sort
 pub mod Merge
 pub mod Placed

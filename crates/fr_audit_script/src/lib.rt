@@ -2,11 +2,9 @@
 #![tactic(auto)]
 
 mod acts;
-mod entries;
 mod journals;
-mod pieces;
 mod script;
-mod setting;
 
+pub use acts::write_entry;
 pub use fr_forms::ScriptFault;
 pub use script::{read_script, write_script};

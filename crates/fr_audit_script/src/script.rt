@@ -6,71 +6,89 @@ ghost use Rattle.serde_json.specs.Data.{Data};
 ghost use Rattle.serde_json.specs.Read.{read};
 ghost use Rattle.serde_json.specs.Written.{IsInOrder};
 
-use crate::journals::{read_journal, write_journal};
-use crate::pieces::{self, Spelling};
-use crate::setting::{config_of, write_config};
-use fr_audit_journal::Journal;
+use crate::acts::entry_of;
+use crate::journals::{journal_of, write_journal};
+use fr_audit_journal::{Entry, Journal};
 use fr_base::Memory;
 use fr_cli_json::tokens::Unread;
-use fr_forms::fields::{Fields, items};
-use fr_forms::object::Object;
-use fr_forms::{ScriptFault, names};
+use fr_forms::{Form, Object, Piece, Row, ScriptFault, Sink, read_text, table, write_all};
 use fr_run_event::Config;
+use fr_simulate_script::config_of;
 use serde_json::Value;
 use std::alloc::Global;
 
+/// What was read of a script.
+#[derive(Drop)]
+struct Found {
+    config: Option<Config>,
+    journals: Vec<Journal>,
+    /// Those of the journal that is read.
+    entries: Vec<Entry>,
+}
+
+impl Found {
+    fn new(alloc: Global) -> Self {
+        Found {
+            config: None,
+            journals: Vec::new(alloc),
+            entries: Vec::new(alloc),
+        }
+    }
+
+    fn script(self) -> Result<(Config, Vec<Journal>), ScriptFault> {
+        let Found {
+            config,
+            journals,
+            entries: _,
+        } = self;
+        match config {
+            Some(config) => Ok((config, journals)),
+            None => Err(ScriptFault::BadScript),
+        }
+    }
+}
+
+impl Sink for Found {
+    fn begin(&mut self, part: Piece) {
+        match part {
+            Piece::Entry => self.entries.clear(),
+            _ => self.journals.clear(),
+        }
+    }
+
+    fn take(&mut self, alloc: Global, part: Piece, row: Row<'_>) -> Result<(), Unread> {
+        match part {
+            Piece::Config => self.config = Some(config_of(alloc, row)?),
+            Piece::Entry => self.entries.push(entry_of(alloc, row)?)?,
+            _ => {
+                let entries = std::mem::replace(&mut self.entries, Vec::new(alloc));
+                self.journals.push(journal_of(alloc, row, entries)?)?;
+            }
+        }
+        Ok(())
+    }
+}
+
+/// The form of a script. (A proof that names the table writes all of it out.)
+fn form() -> &'static Form {
+    &table::AUDIT
+}
+
 /// Reads the script that a text is: a config and journals, each within the limits of its type. Each object has
 /// exactly its members, in any order; of two members of one name the last one counts. What is no such text is
-/// `BadScript`. A text that is as [`write_script`] writes it is read piece by piece, and any other as one tree.
-pub fn read_script(alloc: Global, text: &[u8]) -> Result<(Config, Vec<Journal>), ScriptFault>
+/// `BadScript`, and `place` says where.
+pub fn read_script(
+    alloc: Global,
+    text: &[u8],
+    place: &mut String,
+) -> Result<(Config, Vec<Journal>), ScriptFault>
     ensures utf8 { OnOk result (IsUtf8 text.now) }
     ensures json { OnOk result ((d : Data) × (read text.now ≡ Some d)) }
 {
-    match pieces::read_script(alloc, text, Spelling::AsWritten) {
-        Ok(script) => Ok(script),
-        Err(Unread::Memory) => Err(ScriptFault::Memory),
-        Err(Unread::Unusual) => read_trees(alloc, text),
-    }
-}
-
-/// Reads the script that a text is, each entry as a tree, in which members are in any order.
-fn read_trees(alloc: Global, text: &[u8]) -> Result<(Config, Vec<Journal>), ScriptFault>
-    ensures utf8 { OnOk result (IsUtf8 text.now) }
-    ensures json { OnOk result ((d : Data) × (read text.now ≡ Some d)) }
-{
-    match pieces::read_script(alloc, text, Spelling::AnyOrder) {
-        Ok(script) => Ok(script),
-        Err(Unread::Memory) => Err(ScriptFault::Memory),
-        Err(Unread::Unusual) => read_tree_of(alloc, text),
-    }
-}
-
-/// Reads the script that a text is from the tree of its JSON, which alone knows that it is none.
-fn read_tree_of(alloc: Global, text: &[u8]) -> Result<(Config, Vec<Journal>), ScriptFault>
-    ensures utf8 { OnOk result (IsUtf8 text.now) }
-    ensures json { OnOk result ((d : Data) × (read text.now ≡ Some d)) }
-{
-    let script = match Value::from_slice(alloc, text) {
-        Ok(script) => script,
-        Err(error) if error.is_memory() => return Err(ScriptFault::Memory),
-        Err(_) => return Err(ScriptFault::BadScript),
-    };
-    read_parts(alloc, &mut Fields::new(script, 2))
-}
-
-fn read_parts(alloc: Global, fields: &mut Fields) -> Result<(Config, Vec<Journal>), ScriptFault> {
-    let config = config_of(alloc, fields.take(names::CONFIG)?)?;
-    let journals = read_journals(alloc, fields.take(names::JOURNALS)?)?;
-    Ok((config, journals))
-}
-
-fn read_journals(alloc: Global, value: Value) -> Result<Vec<Journal>, ScriptFault> {
-    let items = items(value)?;
-    let mut journals = Vec::with_capacity(alloc, items.len())?;
-    for item in items {
-        journals.push(read_journal(alloc, &mut Fields::new(item, 3))?)?;
-    }
-    Ok(journals)
+    let mut found = Found::new(alloc);
+    read_text(alloc, text, form(), &mut found, place)?;
+    let script = found.script()?;
+    Ok(script)
 }
 
 /// Writes a config and journals as a script: members in the order of their names' bytes, without blanks. It is read
@@ -80,17 +98,23 @@ pub fn write_script(alloc: Global, config: &Config, journals: &[Journal]) -> Res
     ensures compact { IfOk result (λ text. text.items ≡ print (tokens text.items)) }
     ensures json { IfOk result (λ text. (d : Data) × IsInOrder text.items d) }
 {
-    let script = Object::new(alloc)
-        .and(names::CONFIG, write_config(alloc, config))?
-        .and(names::JOURNALS, write_journals(alloc, journals))?
-        .value();
-    Ok(script.to_vec(alloc)?)
-}
-
-fn write_journals(alloc: Global, journals: &[Journal]) -> Result<Value, Memory> {
     let mut items = Vec::with_capacity(alloc, journals.len())?;
     for journal in journals {
         items.push(write_journal(alloc, journal)?)?;
     }
-    Ok(Value::Array(items))
+    let script = Object::new(alloc)
+        .put("config", write_config(alloc, config))?
+        .put("journals", Ok(Value::Array(items)))?
+        .value()?;
+    Ok(script.to_vec(alloc)?)
+}
+
+fn write_config(alloc: Global, config: &Config) -> Result<Value, Memory> {
+    Object::new(alloc)
+        .with("coordinators", &config.coordinators())?
+        .with("degree", &config.degree())?
+        .with("logs", &config.logs())?
+        .with("proxies", &config.proxies())?
+        .put("shards", write_all(alloc, config.map().begins()))?
+        .value()
 }

@@ -7,7 +7,7 @@ ghost use Rattle.fr_seat.specs.Answers.{IfBatch, IsHeld, IsPeekedShort, IsPeeked
 ghost use Rattle.fr_seat.specs.Turns.{IsTurn, Over};
 
 use fr_handle::Handle;
-use fr_seat::logs::{give_peeked, peek_tag, push_body};
+use fr_seat::logs::{PeekNumbers, PushNumbers, give_peeked, peek_tag, push_body};
 use fr_seat::status::EMPTY;
 use std::alloc::Global;
 
@@ -33,9 +33,14 @@ pub extern "C" fn fdbrec_log_push(
     let Some(mut seat) = of.take(alloc) else {
         return EMPTY;
     };
-    let status = push_body(
-        alloc, &mut seat, epoch, prev, version, known, tag, batch, held,
-    );
+    let at = PushNumbers {
+        epoch,
+        prev,
+        version,
+        known,
+        tag,
+    };
+    let status = push_body(alloc, &mut seat, at, batch, held);
     of.put(seat);
     status
 }
@@ -64,9 +69,13 @@ pub extern "C" fn fdbrec_log_peek(
     let Some(mut seat) = of.take(alloc) else {
         return EMPTY;
     };
-    let status = peek_tag(
-        alloc, &mut seat, epoch, tag, after, most, out, len, upto, known,
-    );
+    let at = PeekNumbers {
+        epoch,
+        tag,
+        after,
+        most,
+    };
+    let status = peek_tag(alloc, &mut seat, at, out, len, upto, known);
     of.put(seat);
     status
 }

@@ -1,15 +1,15 @@
 //! Storage servers, in bytes.
-ghost use Rattle.std.specs.Prelude.{◌≡◌, None, Some};
+ghost use Rattle.std.specs.Prelude.{◌≡◌, ◌≢◌, ◌↔◌, None, Some, option_map};
 ghost use Rattle.fr_undo.specs.Undo.{value_undone};
 ghost use Rattle.fr_part.specs.Reads.{IfStorage, unread_of};
-ghost use Rattle.fr_part.specs.declared.fault.Unread.TheVariants as unread;
+ghost use Rattle.fr_part.specs.declared.fault.ReadRefusal.TheVariants as unread;
 ghost use Rattle.fr_seat.specs.Answers.{IsGiven, IsShort};
-ghost use Rattle.fr_seat.specs.Reads.{shard_from};
+ghost use Rattle.fr_seat.specs.Reads.{IsPast, shard_from, unread_said, unread_status};
 ghost use Rattle.fr_seat.specs.Turns.{IfFound, Over};
 
 use fr_handle::Handle;
 use fr_seat::status::EMPTY;
-use fr_seat::storages::read_in;
+use fr_seat::storages::{KeyAt, read_in};
 use std::alloc::Global;
 
 /// Gives the value that a key had at a version, of a storage server of the shard from `begin` on and below `end`, if
@@ -40,11 +40,25 @@ pub extern "C" fn fdbrec_storage_read(
         → unread_of new.part (shard_from begin.now end.now) key.now version ≡ Some unread.TooOld) }
     ensures future_version { Over of.old.value of.new.value result (λ old new. result ≡ 14
         → unread_of new.part (shard_from begin.now end.now) key.now version ≡ Some unread.FutureVersion) }
+    ensures limit { Over of.old.value of.new.value result
+        (λ old new. (result ≡ 6) ↔ IsPast begin.now end.now version) }
+    ensures kind { Over of.old.value of.new.value result (λ old new. result ≡ 4
+        → unread_of new.part (shard_from begin.now end.now) key.now version ≡ Some unread.Kind) }
+    ensures part { Over of.old.value of.new.value result (λ old new. result ≡ 9
+        → unread_of new.part (shard_from begin.now end.now) key.now version ≡ Some unread.Part) }
+    ensures refused { Over of.old.value of.new.value result (λ old new. result ≢ 1 → result ≢ 6 → unread_said result
+        ≡ option_map unread_status (unread_of new.part (shard_from begin.now end.now) key.now version)) }
 {
     let Some(mut seat) = of.take(alloc) else {
         return EMPTY;
     };
-    let status = read_in(alloc, &mut seat.part, begin, end, key, version, out, len);
+    let what = KeyAt {
+        begin,
+        end,
+        key,
+        version,
+    };
+    let status = read_in(alloc, &mut seat.part, what, out, len);
     of.put(seat);
     status
 }

@@ -172,8 +172,8 @@ what each does in a turn:
 
 Recovery I, counted from 1, begins at turn 100 I of its thread, if there are so many turns. One that
 begins while another is not done may end it. Batch J of workload W sets one key to J, as four bytes. The
-key has two bytes: 8 (J mod the number of storage servers), and W. Without --storm no ask is lost and no
-node crashes.
+key has two bytes: 8 (J mod the number of storage servers), and W. Without the words of faults no ask is
+lost or late, and no node crashes.
 
 In a storm N of 256 asks are faulty on average, and with --storm 256 each one is. A faulty ask is lost,
 or what is told of it is lost, or it comes twice and is heard twice, each as often. At each 64th of its
@@ -182,9 +182,17 @@ often. Batches set, add to, combine or clear one of four keys of a shard. All is
 the count of the asks and of the draws so far. So the same words repeat the draws, but which thread
 meets which draw differs from run to run.
 
+With --late L, L of 256 of the other asks are kept by the thread that sends them, or what is told of
+them is, for 1 to 64 turns, and come after later ones. With --crash C a further draw, at turns 32, 96,
+160 and so on of the further thread, crashes a log or the sequencer of any chosen epoch in C of 256.
+Each proxy and each recoverer is gone by C of 256 draws, one at each 64th turn of a proxy's thread and
+each 7th of a recoverer's: a proxy's thread goes on in the next epoch, a recoverer's ends. With --lose D
+the draws that crash nothing lose a log in D of 256, fewer of each epoch than a shard is on.
+
 With --store sql coordinators and logs keep what they have in record files, each on a device in memory
 with room for 16 MiB. Storage servers keep their rows in the tables of databases in memory. It prints
-the same.
+the same. With --refuse R too, each device refuses one of some R to 2 R writes and syncs, and each
+database one of so many writes, as the seed draws: what met it is opened again.
 
 Each node keeps a journal of what it did. When all threads are done the journals are audited, as by the
 command audit, and one line is printed:

@@ -1,25 +1,27 @@
 //! The program `fdbrec` as a library: its words choose a command, which reads a script and prints lines.
 //! Each command is also a function over a reader and a writer, handed on here.
-//! `fdbrec` runs it over the words of its command line, `test_program` over those of each example.
+//! `fdbrec` runs it over the words of its command line.
 #![tactic(auto)]
 
 mod apply;
 mod cluster;
 mod help;
+mod kept;
 mod program;
+mod shapes;
 mod words;
 
 pub use fr_cli_apply::{ApplyOptions, run_apply, run_apply_on};
 pub use fr_cli_apply_sql::{DbFault, FileFault, run_apply_db, run_apply_sql, run_rows_db};
 pub use fr_cli_audit::{Judged, run_audit, run_audit_explained};
-pub use fr_cli_cluster::{ClusterOptions, ClusterWords, DEFAULTS, run_cluster};
-pub use fr_cli_cluster_sql::run_cluster_sql;
+pub use fr_cli_cluster::{ClusterOptions, ClusterWords, DEFAULTS, run_cluster, run_cluster_on};
 pub use fr_cli_end::{EndOptions, run_end};
 pub use fr_cli_json::CliFault;
 pub use fr_cli_simulate::run_simulate;
 use fr_cli_words::own_words;
-pub use fr_cli_words::{BAD_WORDS, Ending, StoreKind};
-pub use program::run_program;
+pub use fr_cli_words::{BAD_WORDS, Ending, StoreWord};
+pub use fr_runtime_disks::DiskRack;
+pub use program::{Errors, run_program};
 use std::io;
 use std::io::{BufWriter, IsTerminal};
 use std::process::ExitCode;
@@ -38,19 +40,25 @@ pub fn run_main<H: Threads + Wait + Sync>(rt: &HostRuntime, threads: &H) -> Exit
         return Ending::Fault(CliFault::Memory).say(rt);
     };
     let mut reader = rt.reader();
-    let terminal = if rt.stderr().is_terminal() {
-        Some(rt)
-    } else {
-        None
+    let errors = Errors {
+        to: rt,
+        is_terminal: rt.stderr().is_terminal(),
     };
-    run_program(
+    let mut place = String::new(alloc);
+    let ending = run_program(
         threads,
-        terminal,
+        errors,
         rt,
-        alloc,
+        &mut place,
         words.as_slice(),
         &mut reader,
         &mut writer,
-    )
-    .say(rt)
+    );
+    match ending {
+        Ending::Fault(CliFault::BadScript) if !place.is_empty() => {
+            let _ = eprintln!(rt; "bad script: {place}");
+            ExitCode::from(CliFault::BadScript.status())
+        }
+        _ => ending.say(rt),
+    }
 }

@@ -1,46 +1,90 @@
 //! The program over its words, a reader and a writer.
 use crate::apply::apply_to;
 use crate::cluster::cluster_on;
+use crate::kept::{Kept, is_bad, operations, replies};
 use crate::words::{Request, read_words};
 use fr_cli_apply_sql::{DbFault, run_apply_db, run_rows_db};
-use fr_cli_audit::{Judged, run_audit_explained};
+use fr_cli_audit::{Judged, audit_counted};
 use fr_cli_end::run_end;
-use fr_cli_json::CliFault;
-use fr_cli_simulate::run_simulate;
+use fr_cli_json::{CallCounts, CliFault};
+use fr_cli_simulate::simulate_counted;
 use fr_cli_words::{Ending, show};
-use std::alloc::Global;
 use std::io::{Eprint, Read, Write};
 use std::sync::Wait;
 use std::thread::Threads;
 
-/// Does what the words ask for, the first of which is the program's name. If there is a terminal, a cluster that runs
-/// says there how far it has come. Files are those of `host`.
+/// Where the program says what is beside its output.
+#[derive(Clone, Copy, Debug)]
+pub struct Errors<'a, E> {
+    /// Standard error, or what stands for it.
+    pub to: &'a E,
+    /// Whether that is a terminal.
+    pub is_terminal: bool,
+}
+
+/// Does what the words ask for, the first of which is the program's name. A cluster says what it met to `errors`, and if
+/// this is a terminal how far it has come. Files are those of `host`. Of a bad script `place` says where it is bad.
 pub fn run_program<H: Threads + Wait + Sync, E: Eprint + Sync, R: Read, W: Write>(
     rt: &H,
-    terminal: Option<&E>,
+    errors: Errors<'_, E>,
     host: &HostRuntime,
-    alloc: Global,
+    place: &mut String,
     words: &[String],
     reader: &mut R,
     writer: &mut W,
 ) -> Ending {
+    let alloc = host.alloc();
     let request = match read_words(alloc, words) {
         Ok(request) => request,
         Err(error) => return show(alloc, error, writer),
     };
     match request {
-        Request::ApplyTo(name) => {
-            in_file(run_apply_db(host, alloc, name.as_str(), reader, writer))
-        }
+        Request::ApplyTo(name) => apply_in_file(host, name.as_str(), place, reader, writer),
         Request::Rows(name) => in_file(run_rows_db(host, alloc, name.as_str(), writer)),
-        Request::Apply(kind) => ending(apply_to(kind, alloc, reader, writer)),
-        Request::End(options) => ending(run_end(alloc, options, reader, writer)),
-        Request::Simulate => ending(run_simulate(alloc, reader, writer)),
-        Request::Audit => audit_ending(host, run_audit_explained(alloc, reader, writer)),
-        Request::Cluster(kind, options) => {
-            cluster_ending(cluster_on(kind, rt, terminal, alloc, options, writer))
+        Request::Apply(kind) => {
+            let mut kept = Kept::new(alloc, reader);
+            let answer = apply_to(kind, alloc, &mut kept, writer);
+            kept.explain(alloc, operations(), is_bad(answer), place);
+            ending(answer)
+        }
+        Request::End(options) => {
+            let mut kept = Kept::new(alloc, reader);
+            let answer = run_end(alloc, options, &mut kept, writer);
+            kept.explain(alloc, replies(), is_bad(answer), place);
+            ending(answer)
+        }
+        Request::Simulate => {
+            let mut calls = CallCounts::new();
+            ending(simulate_counted(alloc, &mut calls, place, reader, writer))
+        }
+        Request::Audit => {
+            let mut calls = CallCounts::new();
+            audit_ending(
+                host,
+                audit_counted(alloc, &mut calls, place, reader, writer),
+            )
+        }
+        Request::Cluster(kind, options, shapes) => {
+            let shapes = shapes.as_slice();
+            cluster_ending(cluster_on(kind, rt, errors, alloc, options, shapes, writer))
         }
     }
+}
+
+/// Runs `apply` on a store in a file.
+fn apply_in_file<R: Read, W: Write>(
+    host: &HostRuntime,
+    name: &str,
+    place: &mut String,
+    reader: &mut R,
+    writer: &mut W,
+) -> Ending {
+    let alloc = host.alloc();
+    let mut kept = Kept::new(alloc, reader);
+    let answer = run_apply_db(host, alloc, name, &mut kept, writer);
+    let is_bad = matches!(answer, Err(DbFault::Command(CliFault::BadScript)));
+    kept.explain(alloc, operations(), is_bad, place);
+    in_file(answer)
 }
 
 /// How a command ends.

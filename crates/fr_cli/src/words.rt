@@ -1,11 +1,13 @@
 //! The words of the command line.
 use crate::help::{AUDIT_HELP, CLUSTER_HELP, END_HELP, SIMULATE_HELP};
+use crate::shapes::{SHAPES_BAD, shapes_of, shapes_word};
 use clap::error::{Error, ErrorKind};
 use clap::{Arg, ArgAction, ArgMatches, Command, value_parser};
+use fr_base::Shape;
 use fr_cli_cluster::{ClusterOptions, ClusterWords, DEFAULTS};
 use fr_cli_end::EndOptions;
 use fr_cli_words::{
-    MIXED, StoreKind, StoreWords, apply_command, bad_words, of_kind, program_command, read_file,
+    MIXED, StoreWord, StoreWords, apply_command, bad_words, of_kind, program_command, read_file,
     read_store, read_store_words, rows_command,
 };
 use std::alloc::Global;
@@ -14,7 +16,7 @@ use std::alloc::Global;
 #[derive(Debug, Drop, PartialEq, Eq)]
 pub enum Request {
     /// The operations of a script, run on an empty store.
-    Apply(StoreKind),
+    Apply(StoreWord),
     /// The operations of a script, run on the store of the file of this name.
     ApplyTo(String),
     /// The store of the file of this name, shown.
@@ -25,8 +27,9 @@ pub enum Request {
     Simulate,
     /// The audit of a script's journals.
     Audit,
-    /// A cluster in threads, whose stores are of this kind, and the audit of its journals.
-    Cluster(StoreKind, ClusterOptions),
+    /// A cluster in threads, whose stores are of this kind, the audit of its journals, and the shapes of the generations
+    /// that recoveries open, in turn.
+    Cluster(StoreWord, ClusterOptions, Vec<Shape>),
 }
 
 /// Reads the words, the first of which is the program's name. An error is a request for help or a
@@ -55,7 +58,7 @@ fn read_request(alloc: Global, matches: &ArgMatches<'_>) -> Result<Request, Erro
     }
     match matches.subcommand_matches("apply") {
         Some(apply) => read_apply(alloc, apply),
-        None => Ok(Request::Apply(StoreKind::Map)),
+        None => Ok(Request::Apply(StoreWord::Map)),
     }
 }
 
@@ -86,10 +89,25 @@ fn read_end(alloc: Global, matches: &ArgMatches<'_>) -> Result<Request, Error> {
     }
 }
 
-/// Reads the options of `cluster`. Each of its numbers is within its limits, so what is left to be refused is an even
-/// number of coordinators, and a degree above the number of logs.
+/// Reads the options of `cluster`. Each of its numbers is within its limits, so what is left to be refused is words that
+/// do not go together, and bad shapes.
 fn read_cluster(alloc: Global, matches: &ArgMatches<'_>) -> Result<Request, Error> {
-    let words = ClusterWords {
+    let (words, kind) = (cluster_words(matches), read_store(matches));
+    let Some(options) = ClusterOptions::new(words) else {
+        return Err(bad_cluster(alloc, not_within(words))?);
+    };
+    if words.refuse > 0 && matches!(kind, StoreWord::Map) {
+        return Err(bad_cluster(alloc, "'--refuse <N>' is of '--store sql' alone")?);
+    }
+    match shapes_of(alloc, matches.get_str("shapes").unwrap_or(""))? {
+        Some(shapes) => Ok(Request::Cluster(kind, options, shapes)),
+        None => Err(bad_cluster(alloc, SHAPES_BAD)?),
+    }
+}
+
+/// What the words of `cluster` say, or else their defaults.
+fn cluster_words(matches: &ArgMatches<'_>) -> ClusterWords {
+    ClusterWords {
         coordinators: byte(matches, "coordinators", DEFAULTS.coordinators),
         logs: byte(matches, "logs", DEFAULTS.logs),
         degree: byte(matches, "degree", DEFAULTS.degree),
@@ -98,25 +116,43 @@ fn read_cluster(alloc: Global, matches: &ArgMatches<'_>) -> Result<Request, Erro
         batches: number(matches, "batches", DEFAULTS.batches),
         recoveries: byte(matches, "recoveries", DEFAULTS.recoveries),
         turns: number(matches, "turns", DEFAULTS.turns),
-        storm: matches.get_one::<u16>("storm").unwrap_or(DEFAULTS.storm),
+        storm: share(matches, "storm", DEFAULTS.storm),
+        late: share(matches, "late", DEFAULTS.late),
+        crash: share(matches, "crash", DEFAULTS.crash),
+        lose: share(matches, "lose", DEFAULTS.lose),
+        refuse: share(matches, "refuse", DEFAULTS.refuse),
         seed: matches.get_one::<u64>("seed").unwrap_or(DEFAULTS.seed),
         journal: matches.get_flag("journal"),
-    };
-    if let Some(options) = ClusterOptions::new(words) {
-        return Ok(Request::Cluster(read_store(matches), options));
+        counts: matches.get_flag("counts"),
     }
-    let message = if words.coordinators % 2 == 0 {
+}
+
+/// Which of the words do not go together.
+fn not_within(words: ClusterWords) -> &'static str {
+    if words.coordinators % 2 == 0 {
         "the value of '--coordinators <N>' is even: it can be 1, 3, 5, 7 or 9"
+    } else if 0 < words.refuse && words.refuse < 16 {
+        "the value of '--refuse <N>' is below 16: it can be 0, for none, or 16 and more"
     } else {
         "the value of '--degree <N>', 2 if it is not given, is above that of '--logs <N>'"
-    };
+    }
+}
+
+/// The error of words of `cluster` that are refused.
+fn bad_cluster(alloc: Global, message: &'static str) -> Result<Error, Error> {
     let cluster = cluster_command(alloc)?;
-    Err(bad_words(
+    let error = bad_words(
         cluster,
         "fdbrec cluster",
         ErrorKind::ValueValidation,
         message,
-    )?)
+    )?;
+    Ok(error)
+}
+
+/// How many of 256 a word says, or what it says if it is not there.
+fn share(matches: &ArgMatches<'_>, name: &str, default: u16) -> u16 {
+    matches.get_one::<u16>(name).unwrap_or(default)
 }
 
 /// The number of a word, below 256, or what it is if the word is not there.
@@ -205,49 +241,52 @@ fn cluster_command<'a>(alloc: Global) -> Result<Command<'a>, Error> {
     with_storm(alloc, of_work)
 }
 
+/// The words of how many nodes of each kind there are: the word, its help, what it is if it is not there, and the least
+/// and the greatest number.
+static NODES: [(&str, &str, &str, u8, u8); 5] = [
+    (
+        "coordinators",
+        "How many coordinators there are, 1, 3, 5, 7 or 9",
+        "3",
+        1,
+        9,
+    ),
+    (
+        "logs",
+        "How many logs a generation has, 1 to 16",
+        "4",
+        1,
+        16,
+    ),
+    (
+        "degree",
+        "On how many of the logs each shard is, 1 to all",
+        "2",
+        1,
+        16,
+    ),
+    (
+        "storages",
+        "How many storage servers there are, 1 to 32",
+        "2",
+        1,
+        32,
+    ),
+    (
+        "proxies",
+        "How many proxies a generation has, 1 to 16",
+        "2",
+        1,
+        16,
+    ),
+];
+
 /// With the words of how many nodes of each kind there are.
 fn with_nodes<'a>(alloc: Global, cluster: Command<'a>) -> Result<Command<'a>, Error> {
-    let command = cluster
-        .arg(few(
-            alloc,
-            "coordinators",
-            "How many coordinators there are, 1, 3, 5, 7 or 9",
-            "3",
-            1,
-            9,
-        ))?
-        .arg(few(
-            alloc,
-            "logs",
-            "How many logs a generation has, 1 to 16",
-            "4",
-            1,
-            16,
-        ))?
-        .arg(few(
-            alloc,
-            "degree",
-            "On how many of the logs each shard is, 1 to all",
-            "2",
-            1,
-            16,
-        ))?
-        .arg(few(
-            alloc,
-            "storages",
-            "How many storage servers there are, 1 to 32",
-            "2",
-            1,
-            32,
-        ))?
-        .arg(few(
-            alloc,
-            "proxies",
-            "How many proxies a generation has, 1 to 16",
-            "2",
-            1,
-            16,
-        ))?;
+    let mut command = cluster;
+    for &(word, help, usual, least, most) in &NODES {
+        command = command.arg(few(alloc, word, help, usual, least, most))?;
+    }
     Ok(command)
 }
 
@@ -283,9 +322,15 @@ fn with_work<'a>(alloc: Global, cluster: Command<'a>) -> Result<Command<'a>, Err
 fn with_storm<'a>(alloc: Global, cluster: Command<'a>) -> Result<Command<'a>, Error> {
     let command = cluster
         .arg(store_word(alloc))?
-        .arg(storm_word(alloc))?
+        .arg(shapes_word(alloc))?
+        .arg(share_word(alloc, "storm", STORM))?
+        .arg(share_word(alloc, "late", LATE))?
+        .arg(share_word(alloc, "crash", CRASH))?
+        .arg(share_word(alloc, "lose", LOSE))?
+        .arg(refuse_word(alloc))?
         .arg(seed_word(alloc))?
-        .arg(journal_word(alloc))?;
+        .arg(journal_word(alloc))?
+        .arg(counts_word(alloc))?;
     Ok(command)
 }
 
@@ -297,10 +342,26 @@ fn store_word<'a>(alloc: Global) -> Arg<'a> {
     )
 }
 
-fn storm_word<'a>(alloc: Global) -> Arg<'a> {
-    Arg::new(alloc, "storm")
-        .long("storm")
-        .help("How many of 256 asks are lost or repeated, and how often nodes crash, 0 to 256")
+/// What `--storm` says.
+const STORM: &str =
+    "How many of 256 asks are lost or repeated, and how often nodes crash, 0 to 256";
+
+/// What `--late` says.
+const LATE: &str =
+    "How many of 256 of the other asks are late, or what is told of them is, 0 to 256";
+
+/// What `--crash` says.
+const CRASH: &str =
+    "How many of 256 draws crash a node of any generation, or a node that asks, 0 to 256";
+
+/// What `--lose` says.
+const LOSE: &str = "How many of 256 of the other draws lose a log for good, 0 to 256";
+
+/// A word that says how many of 256 draws are a fault.
+fn share_word<'a>(alloc: Global, name: &'a str, help: &'a str) -> Arg<'a> {
+    Arg::new(alloc, name)
+        .long(name)
+        .help(help)
         .value_name("N")
         .value_parser(value_parser!(u16).range(0..=256))
         .default_value("0")
@@ -317,10 +378,29 @@ fn seed_word<'a>(alloc: Global) -> Arg<'a> {
         .action(ArgAction::Set)
 }
 
+fn refuse_word<'a>(alloc: Global) -> Arg<'a> {
+    Arg::new(alloc, "refuse")
+        .long("refuse")
+        .help(
+            "With --store sql: a device or a database refuses one of N to 2 N calls, 16 to 65535; 0 none",
+        )
+        .value_name("N")
+        .value_parser(value_parser!(u16).range(0..=65_535))
+        .default_value("0")
+        .action(ArgAction::Set)
+}
+
 fn journal_word<'a>(alloc: Global) -> Arg<'a> {
     Arg::new(alloc, "journal")
         .long("journal")
         .help("Prints the script of the audit in place of 'audit ok'")
+        .action(ArgAction::SetTrue)
+}
+
+fn counts_word<'a>(alloc: Global) -> Arg<'a> {
+    Arg::new(alloc, "counts")
+        .long("counts")
+        .help("Says at the end on standard error what was met, as on a terminal")
         .action(ArgAction::SetTrue)
 }
 

@@ -11,5 +11,6 @@ mod script;
 pub use apply::{
     ApplyOptions, StoreKind, apply_counted, apply_counted_on, run_apply, run_apply_on,
 };
+pub use operations::{ok_line, put_contents};
 pub use rows::put_rows;
 pub use script::Operation;

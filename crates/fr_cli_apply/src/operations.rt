@@ -155,8 +155,8 @@ fn refusal_of(fault: StoreFault) -> Result<&'static str, CliFault>
     }
 }
 
-/// The line of an operation that was done.
-fn ok_line<S: ShardStore>(alloc: Global, store: &S) -> Result<String, AllocError>
+/// The line of an operation that was done: the state of the store.
+pub fn ok_line<S: ShardStore>(alloc: Global, store: &S) -> Result<String, AllocError>
     ensures { IfOk result (λ line. string_bytes line ≡ ok_line (S.state store.now)) }
 {
     let applied = store.applied().get();
@@ -166,7 +166,7 @@ fn ok_line<S: ShardStore>(alloc: Global, store: &S) -> Result<String, AllocError
 }
 
 /// Writes the rows of a store, by key.
-fn put_contents<S: ShardStore, W: Write>(
+pub fn put_contents<S: ShardStore, W: Write>(
     alloc: Global,
     store: &mut S,
     calls: &mut CallCounts,

@@ -1,19 +1,9 @@
 -- The line that an audit prints, and the status that it ends with.
 use Rattle.std.specs.Prelude.{ℕ, List, [], ◌++◌, codes, decimal, Result, Ok, Err}
-use Rattle.fr_base.specs.declared.place.NodeId.{NodeId}
-use Rattle.fr_base.specs.declared.place.NodeId.TheVariants.{Cell, Log, Sequencer, Proxy, Recoverer, Storage}
+use Rattle.fr_audit_journal.specs.Names.{node_text}
 use Rattle.fr_run.specs.Turn.{Turn}
 use Rattle.fr_audit.specs.declared.fault.AuditFault.{AuditFault}
 use Rattle.fr_audit.specs.declared.fault.AuditFault.TheVariants.{NotARun, TellDiffers, StateDiffers, Memory}
-
--- a node: its kind, and its numbers
-abbrev pub node_text : NodeId → List ℕ
-node_text (Cell i) = codes "cell " ++ decimal i
-node_text (Log e i) = codes "log " ++ (decimal e ++ (codes " " ++ decimal i))
-node_text (Sequencer e) = codes "sequencer " ++ decimal e
-node_text (Proxy e p) = codes "proxy " ++ (decimal e ++ (codes " " ++ decimal p))
-node_text (Recoverer b) = codes "recoverer " ++ decimal b
-node_text (Storage t) = codes "storage " ++ decimal t
 
 -- a fault; `Memory` prints no line
 abbrev pub fault_line : AuditFault → List ℕ

@@ -61,14 +61,16 @@ pub fn run_audit_explained<R: Read, W: Write>(
     ensures unsaid { IfOk result (λ judged. judged.status ≡ 0 → judged.why ≡ None) }
 {
     let mut calls = CallCounts::new();
-    audit_counted(alloc, &mut calls, reader, writer)
+    audit_counted(alloc, &mut calls, &mut String::new(alloc), reader, writer)
 }
 
 /// As [`run_audit_explained`], with the calls of the reader and of the writer counted in `calls`, which has none yet.
 /// `Input` is answered only if a read failed or 2^30 of them found no end, `Output` only if a write or a flush failed.
+/// Of a bad script `place` says where it is bad.
 pub fn audit_counted<R: Read, W: Write>(
     alloc: Global,
     calls: &mut CallCounts,
+    place: &mut String,
     reader: &mut R,
     writer: &mut W,
 ) -> Result<Judged, CliFault>
@@ -84,17 +86,21 @@ pub fn audit_counted<R: Read, W: Write>(
     ensures done { OnOk result (HasNotFailed calls.new) }
 {
     let input = read_input(alloc, calls, reader)?;
-    let (config, journals) = journals_in(alloc, input)?;
+    let (config, journals) = journals_in(alloc, input, place)?;
     let judged = put_audit(alloc, config, journals.as_slice(), calls, writer)?;
     calls.flush(writer)?;
     Ok(judged)
 }
 
 /// The config and the journals of a script. The input is let go once they are made.
-fn journals_in(alloc: Global, input: Vec<u8>) -> Result<(Config, Vec<Journal>), CliFault>
+fn journals_in(
+    alloc: Global,
+    input: Vec<u8>,
+    place: &mut String,
+) -> Result<(Config, Vec<Journal>), CliFault>
     ensures fault { IfErr result (λ e. (e ≡ CliFault.BadScript) ⊎ (e ≡ CliFault.Memory)) }
 {
-    match read_script(alloc, input.as_slice()) {
+    match read_script(alloc, input.as_slice(), place) {
         Ok(script) => Ok(script),
         Err(ScriptFault::BadScript) => Err(CliFault::BadScript),
         Err(ScriptFault::Memory) => Err(CliFault::Memory),

@@ -2,14 +2,14 @@
 use fr_ask::Last;
 use fr_base::Memory;
 use fr_cli_json::tree::into_one_member;
-use fr_forms::write_last;
+use fr_forms::Formed;
 use serde_json::{Map, Value};
 use std::alloc::Global;
 
-/// Two states of nodes in the forms of scripts, as far as they differ: without the members that are alike in both. Of
-/// two lists what both begin with and what both end with is left out. States of nodes of two kinds are whole.
+/// The members in which two states of nodes differ, in the forms of scripts; of lists, what is between a common beginning
+/// and end. States of nodes of two kinds are whole.
 pub(crate) fn differing(alloc: Global, one: &Last, other: &Last) -> Result<(Value, Value), Memory> {
-    let forms = (write_last(alloc, one)?, write_last(alloc, other)?);
+    let forms = (one.to_value(alloc)?, other.to_value(alloc)?);
     if !is_same_kind(one, other) {
         return Ok(forms);
     }

@@ -1,11 +1,10 @@
 //! What a fault of an audit is: the line that says it.
 use crate::differing::differing;
-use crate::lines::node_text;
 use fr_ask::Last;
 use fr_audit::{Cause, Finding, entry_at};
-use fr_audit_journal::{Act, Journal, NodeEntry};
+use fr_audit_journal::{Act, Journal, NodeEntry, node_text};
 use fr_base::{Memory, NodeId, Shape, Version};
-use fr_forms::{write_ask, write_batch, write_last, write_outcome, write_tell};
+use fr_forms::{Formed, put_printable};
 use fr_run_event::Answer;
 use serde_json::Value;
 use std::alloc::{AllocError, Global};
@@ -75,7 +74,7 @@ fn act_text(alloc: Global, act: &Act) -> Result<String, Memory> {
     let text = match act {
         Act::Asked { from, ask, .. } => {
             let from = node_text(alloc, *from)?;
-            let ask = write_ask(alloc, ask)?;
+            let ask = ask.to_value(alloc)?;
             format!(in alloc; "asked {ask} by {from}")?
         }
         Act::Heard {
@@ -85,13 +84,13 @@ fn act_text(alloc: Global, act: &Act) -> Result<String, Memory> {
             ..
         } => {
             let from = node_text(alloc, *from)?;
-            let tell = write_tell(alloc, tell)?;
+            let tell = tell.to_value(alloc)?;
             let taken = taken_text(alloc, taken)?;
             format!(in alloc; "told {tell} by {from}{taken}")?
         }
         Act::Submitted { step, batch } => {
             let step = step.get();
-            let batch = write_batch(alloc, batch)?;
+            let batch = batch.to_value(alloc)?;
             format!(in alloc; "submitted {batch} with step {step}")?
         }
         Act::Begun { shape } => begun_text(alloc, shape)?,
@@ -128,11 +127,11 @@ fn begun_text(alloc: Global, shape: &Option<Shape>) -> Result<String, AllocError
 fn said_text(alloc: Global, act: &Act) -> Result<String, Memory> {
     match act {
         Act::Asked { tell, .. } => {
-            let tell = write_tell(alloc, tell)?;
+            let tell = tell.to_value(alloc)?;
             Ok(format!(in alloc; "it told {tell}")?)
         }
         Act::Heard { outcome, .. } => {
-            let outcome = write_outcome(alloc, outcome)?;
+            let outcome = outcome.to_value(alloc)?;
             Ok(format!(in alloc; "its outcome was {outcome}")?)
         }
         _ => Ok(String::new(alloc)),
@@ -142,8 +141,8 @@ fn said_text(alloc: Global, act: &Act) -> Result<String, Memory> {
 /// The form of what the world answers: a tell, or an outcome, which is null if there is none.
 fn write_answer(alloc: Global, answer: &Answer) -> Result<Value, Memory> {
     match answer {
-        Answer::Told(tell) => write_tell(alloc, tell),
-        Answer::Heard(outcome) => write_outcome(alloc, &Some(*outcome)),
+        Answer::Told(tell) => tell.to_value(alloc),
+        Answer::Heard(outcome) => Some(*outcome).to_value(alloc),
         Answer::Refused(_) => Ok(Value::Null),
         Answer::Done => Ok(Value::Null),
     }
@@ -161,7 +160,7 @@ fn state_text(
         return Ok(format!(in alloc; "{name}: there is no such node")?);
     };
     let Some(closed) = closed_otherwise(journals, &node, last) else {
-        let last = write_last(alloc, last)?;
+        let last = last.to_value(alloc)?;
         return Ok(format!(in alloc; "{name}: its journal was not closed; by the rules {last}")?);
     };
     let (closed, last) = differing(alloc, closed, last)?;
@@ -187,22 +186,7 @@ fn closed_otherwise<'a>(journals: &'a [Journal], node: &NodeId, last: &Last) -> 
 fn printable(alloc: Global, text: &str) -> Result<String, AllocError> {
     let mut plain = String::new(alloc);
     for letter in text.chars() {
-        if matches!(letter, ' '..='~') {
-            plain.push(letter)?;
-        } else {
-            escape(&mut plain, letter as u32)?;
-        }
+        put_printable(&mut plain, letter)?;
     }
     Ok(plain)
-}
-
-/// Puts a character to a text as JSON escapes it: by its number, or by two that stand for it.
-fn escape(text: &mut String, number: u32) -> Result<(), AllocError> {
-    if number < 0x1_0000 {
-        return write!(text, "\\u{number:04x}");
-    }
-    let rest = number - 0x1_0000;
-    let high = 0xd800 + rest / 0x400;
-    let low = 0xdc00 + rest % 0x400;
-    write!(text, "\\u{high:04x}\\u{low:04x}")
 }

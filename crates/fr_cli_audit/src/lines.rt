@@ -3,7 +3,7 @@ ghost use Rattle.std.specs.Prelude.{◌≡◌, string_bytes, IfOk};
 ghost use Rattle.fr_cli_audit.specs.Lines as lines;
 
 use fr_audit::AuditFault;
-use fr_base::NodeId;
+use fr_audit_journal::node_text;
 use std::alloc::{AllocError, Global};
 
 /// The line of a fault; nothing out of memory.
@@ -18,34 +18,5 @@ pub fn fault_text(alloc: Global, fault: &AuditFault) -> Result<String, AllocErro
             format!(in alloc; "state differs at {node}\n")
         }
         AuditFault::Memory => Ok(String::new(alloc)),
-    }
-}
-
-/// A node: its kind, and its numbers.
-pub(crate) fn node_text(alloc: Global, node: NodeId) -> Result<String, AllocError>
-    ensures { IfOk result (λ text. string_bytes text ≡ lines.node_text node) }
-{
-    match node {
-        NodeId::Cell { index } => format!(in alloc; "cell {index}"),
-        NodeId::Log { epoch, index } => {
-            let epoch = epoch.get();
-            format!(in alloc; "log {epoch} {index}")
-        }
-        NodeId::Sequencer { epoch } => {
-            let epoch = epoch.get();
-            format!(in alloc; "sequencer {epoch}")
-        }
-        NodeId::Proxy { epoch, number } => {
-            let epoch = epoch.get();
-            format!(in alloc; "proxy {epoch} {number}")
-        }
-        NodeId::Recoverer { ballot } => {
-            let ballot = ballot.get();
-            format!(in alloc; "recoverer {ballot}")
-        }
-        NodeId::Storage { tag } => {
-            let tag = tag.get();
-            format!(in alloc; "storage {tag}")
-        }
     }
 }

@@ -10,10 +10,10 @@ use Rattle.fr_cli_cluster.specs.declared.options.ClusterWords.{ClusterWords}
 use Rattle.fr_cli_cluster.specs.Setting.{ballots_of, config_of}
 use Rattle.fr_cli_cluster.specs.Report.{IsBad}
 
-pub bad-of : (begun : ℕ → ℕ → Bool) (w : ClusterWords) (c : Config) (ballots : List (ℕ × Option ShapeContent)) (journals : List JournalState) (fault : AuditFault)
+pub bad-of : (begun : ℕ → ℕ → Bool) (w : ClusterWords) (shapes : List ShapeContent) (c : Config) (ballots : List (ℕ × Option ShapeContent)) (journals : List JournalState) (fault : AuditFault)
     → IsFaultIn c journals fault → AllBegin begun w.turns journals ballots
-    → c ≡ config_of w → ballots ≡ ballots_of w.recoveries → IsBad begun w fault
-bad-of begun w _ _ journals fault found begins config-is ballots-are = record {
+    → c ≡ config_of w → ballots ≡ ballots_of shapes w.recoveries → IsBad begun w shapes fault
+bad-of begun w shapes _ _ journals fault found begins config-is ballots-are = record {
   journals = journals;
   found = subst (λ (c : Config). IsFaultIn c journals fault) config-is found;
   have_begun = subst (λ (ballots : List (ℕ × Option ShapeContent)). AllBegin begun w.turns journals ballots) ballots-are begins;

@@ -1,5 +1,5 @@
 -- Which numbers a cluster can have.
-use Rattle.std.specs.Prelude.{◌≡◌, ◌≤◌, ◌%◌}
+use Rattle.std.specs.Prelude.{◌≡◌, ◌⊎◌, ◌≤◌, ◌%◌}
 use Rattle.fr_cli_cluster.specs.declared.options.ClusterWords.{ClusterWords}
 
 -- an odd number of coordinators up to 9, and 1 <= degree <= logs <= 16
@@ -24,9 +24,17 @@ pub record HasTime (w : ClusterWords) : Type 0 where
   pub turns_some : 1 ≤ w.turns
   pub turns_few : w.turns ≤ 1000000
 
--- at most 256 of 256 draws are a fault; each seed is one
+-- at most 256 of 256 draws are a fault, and no call is refused, or one of 16 or more
+pub record HasStorm (w : ClusterWords) : Type 0 where
+  pub storm : w.storm ≤ 256
+  pub late : w.late ≤ 256
+  pub crash : w.crash ≤ 256
+  pub lose : w.lose ≤ 256
+  pub refuse : (w.refuse ≡ 0) ⊎ (16 ≤ w.refuse)
+
+-- each seed is one
 pub record IsWithin (w : ClusterWords) : Type 0 where
   pub nodes : HasNodes w
   pub clients : HasClients w
   pub time : HasTime w
-  pub storm : w.storm ≤ 256
+  pub storm : HasStorm w

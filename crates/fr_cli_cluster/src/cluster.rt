@@ -1,5 +1,5 @@
 //! The command `cluster`.
-ghost use Rattle.std.specs.Prelude.{◌≡◌, ◌≢◌, ◌+◌, ◌*◌, ◌/◌, ◌==◌, ℕ, List, Err, IfErr, IfOk, OnOk};
+ghost use Rattle.std.specs.Prelude.{◌≡◌, ◌≢◌, ◌+◌, ◌*◌, ◌/◌, ◌==◌, ℕ, List, [], Err, IfErr, IfOk, OnOk};
 ghost use Rattle.std.specs.Io.KnownBytes.{Appends};
 ghost use Rattle.fr_cli_json.specs.Calls.{no_calls, HasNotFailed, IsWriteFault};
 ghost use Rattle.fr_cli_cluster.specs.Options.{IsWithin};
@@ -10,7 +10,7 @@ use crate::progress::Watcher;
 use crate::report::{put_fault, put_run};
 use crate::setting::{ballots, config, drawn_works, storm_of, works};
 use fr_audit::AuditFault;
-use fr_base::Memory;
+use fr_base::{Memory, Shape};
 use fr_cli_json::{CallCounts, CliFault};
 use fr_runtime::{Cluster, PlainRack, Rack, Report, RunFault, Workload};
 use fr_runtime_station::Faults;
@@ -23,8 +23,8 @@ use std::thread::Threads;
 /// journals of all nodes. It writes `audit ok`, or the script of the audit, if they are a run, with status 0; else the
 /// line of the audit's fault, with status 1. Each node of the config has its journal among those of a run.
 ///
-/// Asks are lost or repeated, and cells and logs crash, as the storm of the words draws it. At strength 0 nothing of it
-/// happens, and workloads hand out numbered batches, else drawn ones. The recoverer of ballot i, counted from 1, begins
+/// Asks are lost, late or repeated, and nodes crash and are lost, as the storm of the words draws it. At strength 0, with
+/// no word of faults, nothing of it happens. At strength 0 workloads hand out numbered batches, else drawn ones. The recoverer of ballot i, counted from 1, begins
 /// at turn 100 i of its thread. If memory, a thread or a node is lacking the answer is `Memory`, and nothing is
 /// written; a write that failed is `Output`, and nothing else is answered.
 pub fn run_cluster<R: Threads + Wait + Sync, W: Write>(
@@ -34,7 +34,7 @@ pub fn run_cluster<R: Threads + Wait + Sync, W: Write>(
     writer: &mut W,
 ) -> Result<u8, CliFault>
     ensures report { IfOk result (λ status. (text : List ℕ)
-        × IsReport (λ ballot turn. turn + 100 == 100 * (ballot / 256)) options status text
+        × IsReport (λ ballot turn. turn + 100 == 100 * (ballot / 256)) options [] status text
         × Appends (W.contents writer.old) (W.contents writer.new) text) }
     ensures unwritten { result ≡ Err CliFault.Memory → writer.new ≡ writer.old }
     ensures fault { IfErr result IsNoInputFault }
@@ -52,18 +52,30 @@ pub fn run_cluster_on<R: Threads + Wait + Sync, K: Rack + Sync + Drop, W: Write>
     writer: &mut W,
 ) -> Result<u8, CliFault>
     ensures report { IfOk result (λ status. (text : List ℕ)
-        × IsReport (λ ballot turn. turn + 100 == 100 * (ballot / 256)) options status text
+        × IsReport (λ ballot turn. turn + 100 == 100 * (ballot / 256)) options [] status text
         × Appends (W.contents writer.old) (W.contents writer.new) text) }
     ensures unwritten { result ≡ Err CliFault.Memory → writer.new ≡ writer.old }
     ensures fault { IfErr result IsNoInputFault }
 {
-    let mut calls = CallCounts::new();
-    let storm = storm_of(options);
-    cluster_counted(rt, alloc, options, rack, &storm, &mut calls, writer)
+    let (mut calls, storm) = (CallCounts::new(), storm_of(options));
+    let plan = ClusterPlan {
+        options,
+        shapes: &[],
+    };
+    cluster_counted(rt, alloc, plan, rack, &storm, &mut calls, writer)
 }
 
-/// As [`run_cluster_on`], but asks are lost or repeated, nodes crash and recoverers begin as the faults say. The calls
-/// of the writer are counted in `calls`, which has none yet. `Output` is answered only if a write or a flush failed;
+/// The cluster that words ask for.
+#[derive(Clone, Copy)]
+pub struct ClusterPlan<'a> {
+    pub options: ClusterOptions,
+    /// The shapes of the generations that recoveries open, in turn, as far as they go.
+    pub shapes: &'a [Shape],
+}
+
+/// As [`run_cluster_on`], but the generations that recoveries open have the shapes of the plan, asks are lost or
+/// repeated, nodes crash and recoverers begin as the faults say. The calls of the writer are counted in `calls`, which
+/// has none yet. `Output` is answered only if a write or a flush failed;
 /// every other fault is `Memory`. The faults are told when the run is over, before anything is written.
 pub fn cluster_counted<
     R: Threads + Wait + Sync,
@@ -73,7 +85,7 @@ pub fn cluster_counted<
 >(
     rt: &R,
     alloc: Global,
-    options: ClusterOptions,
+    plan: ClusterPlan<'_>,
     rack: K,
     faults: &F,
     calls: &mut CallCounts,
@@ -81,19 +93,23 @@ pub fn cluster_counted<
 ) -> Result<u8, CliFault>
     requires fresh { calls.old ≡ no_calls }
     ensures report { IfOk result (λ status. (text : List ℕ)
-        × IsReport (F.begun faults.now) options status text
+        × IsReport (F.begun faults.now) plan.entry.options plan.entry.shapes.now status text
         × Appends (W.contents writer.old) (W.contents writer.new) text) }
     ensures unwritten { result ≡ Err CliFault.Memory → writer.new ≡ writer.old }
     ensures fault { IfErr result (λ e. IsWriteFault calls.new e) }
     ensures done { OnOk result (HasNotFailed calls.new) }
 {
+    let ClusterPlan { options, shapes } = plan;
     let words = options.words();
-    let ran = run(rt, alloc, &words, rack, faults);
+    let ran = run(rt, alloc, &words, shapes, rack, faults);
     faults.end();
     let Ok(ran) = ran else {
         return Err(CliFault::Memory);
     };
-    let status = put_report(alloc, &words, faults, ran, calls, writer)?;
+    if let Ok(report) = &ran {
+        faults.shows(report.journals.as_slice());
+    }
+    let status = put_report(alloc, &words, shapes, faults, ran, calls, writer)?;
     calls.flush(writer)?;
     Ok(status)
 }
@@ -103,20 +119,21 @@ fn run<R: Threads + Wait + Sync, K: Rack + Sync + Drop, F: Faults + Sync>(
     rt: &R,
     alloc: Global,
     words: &ClusterWords,
+    shapes: &[Shape],
     rack: K,
     faults: &F,
 ) -> Result<Result<Report, AuditFault>, Memory>
     requires within { IsWithin words.now }
     ensures run { IfOk result (λ ran. IfOk ran (λ report.
-        IsGood (F.begun faults.now) words.now report.journals.items report.world.turns)) }
-    ensures fault { IfOk result (λ ran. IfErr ran (IsBad (F.begun faults.now) words.now)) }
+        IsGood (F.begun faults.now) words.now shapes.now report.journals.items report.world.turns)) }
+    ensures fault { IfOk result (λ ran. IfErr ran (IsBad (F.begun faults.now) words.now shapes.now)) }
 {
     if words.storm == 0 {
         let works = works(alloc, words)?;
-        return run_works(rt, alloc, words, rack, works, faults);
+        return run_works(rt, alloc, words, shapes, rack, works, faults);
     }
     let works = drawn_works(alloc, words)?;
-    run_works(rt, alloc, words, rack, works, faults)
+    run_works(rt, alloc, words, shapes, rack, works, faults)
 }
 
 /// What came of a cluster with these workloads.
@@ -129,27 +146,24 @@ fn run_works<
     rt: &R,
     alloc: Global,
     words: &ClusterWords,
+    shapes: &[Shape],
     rack: K,
     works: Vec<W>,
     faults: &F,
 ) -> Result<Result<Report, AuditFault>, Memory>
     requires within { IsWithin words.now }
     ensures run { IfOk result (λ ran. IfOk ran (λ report.
-        IsGood (F.begun faults.now) words.now report.journals.items report.world.turns)) }
-    ensures fault { IfOk result (λ ran. IfErr ran (IsBad (F.begun faults.now) words.now)) }
+        IsGood (F.begun faults.now) words.now shapes.now report.journals.items report.world.turns)) }
+    ensures fault { IfOk result (λ ran. IfErr ran (IsBad (F.begun faults.now) words.now shapes.now)) }
 {
     let config = config(alloc, words)?;
-    let ballots = ballots(alloc, words.recoveries)?;
-    match Cluster::run(
-        rt,
-        alloc,
+    let ballots = ballots(alloc, shapes, words.recoveries)?;
+    let cluster = Cluster {
         config,
-        ballots.as_slice(),
-        words.turns,
-        rack,
-        works,
-        faults,
-    ) {
+        ballots: ballots.as_slice(),
+        turns: words.turns,
+    };
+    match cluster.run(rt, alloc, rack, works, faults) {
         Ok((report, _)) => Ok(Ok(report)),
         Err(fault) => Ok(Err(audit_fault(fault)?)),
     }
@@ -172,15 +186,16 @@ fn audit_fault(fault: RunFault) -> Result<AuditFault, Memory>
 fn put_report<W: Write, F: Faults>(
     alloc: Global,
     words: &ClusterWords,
+    _shapes: &[Shape],
     _faults: &F,
     ran: Result<Report, AuditFault>,
     calls: &mut CallCounts,
     writer: &mut W,
 ) -> Result<u8, CliFault>
-    requires run { IfOk ran (λ report. IsGood (F.begun _faults.now) words.now report.journals.items report.world.turns) }
-    requires fault { IfErr ran (IsBad (F.begun _faults.now) words.now) }
+    requires run { IfOk ran (λ report. IsGood (F.begun _faults.now) words.now _shapes.now report.journals.items report.world.turns) }
+    requires fault { IfErr ran (IsBad (F.begun _faults.now) words.now _shapes.now) }
     ensures report { IfOk result (λ status. (text : List ℕ)
-        × IsReport (F.begun _faults.now) words.now status text
+        × IsReport (F.begun _faults.now) words.now _shapes.now status text
         × Appends (W.contents writer.old) (W.contents writer.new) text) }
     ensures unwritten { result ≡ Err CliFault.Memory → writer.new ≡ writer.old }
     ensures fault { IfErr result (λ e. IsWriteFault calls.new e) }

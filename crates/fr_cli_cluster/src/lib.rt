@@ -3,15 +3,18 @@
 #![tactic(auto)]
 
 mod cluster;
+mod counts;
 mod options;
 mod progress;
 mod report;
 mod setting;
 
-pub use cluster::{cluster_counted, run_cluster, run_cluster_on};
+pub use cluster::{ClusterPlan, cluster_counted, run_cluster, run_cluster_on};
+pub use counts::{Counts, CountsLine};
 pub use fr_runtime::{PlainRack, Rack};
+pub use fr_runtime_frail::{Frailty, RefusedCalls};
 pub use fr_runtime_station::{Faults, NoFaults};
 pub use fr_runtime_storm::Storm;
 pub use options::{ClusterOptions, ClusterWords, DEFAULTS};
-pub use progress::{Progress, Watcher};
+pub use progress::{ProgressLine, Watcher};
 pub use setting::storm_of;

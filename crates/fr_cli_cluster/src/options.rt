@@ -1,6 +1,6 @@
 //! The options of `cluster`.
 ghost use Rattle.std.specs.Prelude.{◌≡◌, ◌↔◌, IsSome, IfSome, IsTrue};
-ghost use Rattle.fr_cli_cluster.specs.Options.{HasClients, HasNodes, HasTime, IsWithin};
+ghost use Rattle.fr_cli_cluster.specs.Options.{HasClients, HasNodes, HasStorm, HasTime, IsWithin};
 
 use std::marker::Model;
 
@@ -25,10 +25,21 @@ pub struct ClusterWords {
     pub turns: u32,
     /// How many of 256 asks and of 256 draws of a crash are a fault, 0 to 256.
     pub storm: u16,
+    /// How many of 256 asks that meet no other fault come late, or what is told of them does, 0 to 256.
+    pub late: u16,
+    /// How many of 256 further draws are a crash of a node of any generation, and of a node that asks, 0 to 256.
+    pub crash: u16,
+    /// How many of 256 of these draws that are no crash are the loss of a log, 0 to 256.
+    pub lose: u16,
+    /// A device refuses one of N to 2 N writes and syncs, and a database in files one of as many writes: 16 to 65,535. At
+    /// 0 none is refused.
+    pub refuse: u16,
     /// From what faults, and the batches of a storm, are drawn.
     pub seed: u64,
     /// Whether the script of the audit is printed if it finds a run.
     pub journal: bool,
+    /// Whether the counts are said without a terminal too.
+    pub counts: bool,
 }
 
 /// What is run if the words say nothing.
@@ -42,8 +53,13 @@ pub const DEFAULTS: ClusterWords = ClusterWords {
     recoveries: 1,
     turns: 10_000,
     storm: 0,
+    late: 0,
+    crash: 0,
+    lose: 0,
+    refuse: 0,
     seed: 1,
     journal: false,
+    counts: false,
 };
 
 /// Words whose numbers are those of a cluster. Contracts see them as the words.
@@ -71,7 +87,7 @@ impl ClusterOptions {
         ensures within { IsSome result ↔ IsWithin words }
         ensures value { IfSome result (λ o. o ≡ words) }
     {
-        if has_nodes(&words) && has_clients(&words) && has_time(&words) && words.storm <= 256 {
+        if has_nodes(&words) && has_clients(&words) && has_time(&words) && has_storm(&words) {
             Some(ClusterOptions { words })
         } else {
             None
@@ -105,6 +121,14 @@ fn has_clients(words: &ClusterWords) -> bool
     ensures { IsTrue result ↔ HasClients words.now }
 {
     1 <= words.storages && words.storages <= 32 && 1 <= words.proxies && words.proxies <= 16
+}
+
+/// Whether no more than all draws are a fault, and nothing is refused so often that it cannot be opened again.
+fn has_storm(words: &ClusterWords) -> bool
+    ensures { IsTrue result ↔ HasStorm words.now }
+{
+    let is_rare = words.refuse == 0 || words.refuse >= 16;
+    words.storm <= 256 && words.late <= 256 && words.crash <= 256 && words.lose <= 256 && is_rare
 }
 
 /// Whether so many batches, recoveries and turns are not too many.

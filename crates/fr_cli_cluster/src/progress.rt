@@ -3,9 +3,10 @@ ghost use Rattle.std.specs.Prelude.{◌≡◌};
 
 use crate::options::ClusterOptions;
 use fr_ask::Ask;
+use fr_audit_journal::Journal;
 use fr_base::{Ballot, NodeId, Tag};
 use fr_log::LogAsk;
-use fr_runtime_station::{Faults, NoFaults, Verdict};
+use fr_runtime_station::{Blow, Chosen, Faults, NoFaults, Verdict};
 use fr_runtime_storm::Storm;
 use std::io::Eprint;
 use std::sync::atomic::{AtomicU64, Ordering};
@@ -17,6 +18,9 @@ const TURNS_A_LINE: u64 = 512;
 pub trait Watcher: Faults {
     /// The audit has spoken. Nothing of the report is written yet.
     fn end(&self);
+
+    /// These journals are a run. Nothing of the report is written yet.
+    fn shows(&self, _journals: &[Journal]) {}
 }
 
 impl Watcher for NoFaults {
@@ -31,7 +35,7 @@ impl Watcher for Storm {
 /// storage servers took, the greatest version that a proxy said to be committed, and the greatest epoch whose logs are
 /// asked. It says when the journals are audited, and ends before the report is written.
 #[derive(Drop)]
-pub struct Progress<'a, E, F> {
+pub struct ProgressLine<'a, E, F> {
     to: &'a E,
     faults: &'a F,
     all: u64,
@@ -40,11 +44,11 @@ pub struct Progress<'a, E, F> {
     epoch: AtomicU64,
 }
 
-impl<'a, E: Eprint, F> Progress<'a, E, F> {
+impl<'a, E: Eprint, F> ProgressLine<'a, E, F> {
     /// Nothing is written yet.
     pub fn new(to: &'a E, faults: &'a F, options: ClusterOptions) -> Self {
         let words = options.words();
-        Progress {
+        ProgressLine {
             to,
             faults,
             all: u64::from(words.storages) * u64::from(words.turns),
@@ -73,10 +77,15 @@ impl<'a, E: Eprint, F> Progress<'a, E, F> {
     }
 }
 
-impl<E: Eprint, F: Faults> Watcher for Progress<'_, E, F> {
+impl<E: Eprint, F: Watcher> Watcher for ProgressLine<'_, E, F> {
     fn end(&self) {
         self.show(self.turns.load(Ordering::SeqCst), ", audited  ");
         let _ = eprintln!(self.to; "");
+        self.faults.end();
+    }
+
+    fn shows(&self, journals: &[Journal]) {
+        self.faults.shows(journals);
     }
 }
 
@@ -87,12 +96,14 @@ fn raise(number: &AtomicU64, to: u64) {
     }
 }
 
-impl<E: Eprint, F: Faults> Faults for Progress<'_, E, F> {
+impl<E: Eprint, F: Faults> Faults for ProgressLine<'_, E, F> {
     ghost begun = { λ p. F.begun p.faults.now };
 
     ghost MayBefall = { λ p. F.MayBefall p.faults.now };
 
-    ghost MayCrash = { λ p. F.MayCrash p.faults.now };
+    ghost MayStrike = { λ p. F.MayStrike p.faults.now };
+
+    ghost MayEnd = { λ p. F.MayEnd p.faults.now };
 
     fn verdict(&self, to: NodeId, ask: &Ask) -> Verdict {
         if let NodeId::Log { epoch, .. } = to {
@@ -108,8 +119,12 @@ impl<E: Eprint, F: Faults> Faults for Progress<'_, E, F> {
         self.faults.answered(to, ask);
     }
 
-    fn crash(&self, turn: u32) -> Option<NodeId> {
-        self.faults.crash(turn)
+    fn strikes(&self, turn: u32, chosen: &[Chosen]) -> Option<Blow> {
+        self.faults.strikes(turn, chosen)
+    }
+
+    fn ends(&self, node: NodeId, turn: u32) -> bool {
+        self.faults.ends(node, turn)
     }
 
     fn begins(&self, ballot: Ballot, turn: u32) -> bool {

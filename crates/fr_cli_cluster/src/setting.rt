@@ -42,15 +42,19 @@ fn begins(alloc: Global, storages: u8) -> Result<Vec<Bytes>, Memory>
     Ok(begins)
 }
 
-/// The ballots: that of recovery i, counted from 1, has the round i + 1 and the recoverer number 1. Each generation has
-/// the shape of the one before.
-pub(crate) fn ballots(alloc: Global, recoveries: u8) -> Result<Vec<(Ballot, Option<Shape>)>, Memory>
-    ensures { IfOk result (λ ballots. ballots.items ≡ ballots_of recoveries) }
+/// The ballots: that of recovery i, counted from 1, has the round i + 1, the recoverer number 1, and the shape i of
+/// these. If there is none, its generation has the shape of the one before.
+pub(crate) fn ballots(
+    alloc: Global,
+    shapes: &[Shape],
+    recoveries: u8,
+) -> Result<Vec<(Ballot, Option<Shape>)>, Memory>
+    ensures { IfOk result (λ ballots. ballots.items ≡ ballots_of shapes.now recoveries) }
 {
     let mut all = Vec::new(alloc);
     for number in 0..recoveries {
         match Ballot::new((u64::from(number) + 2) * 256 + 1) {
-            Some(ballot) => all.push((ballot, None))?,
+            Some(ballot) => all.push((ballot, shapes.get(usize::from(number)).copied()))?,
             None => unreachable!(),
         }
     }
@@ -65,6 +69,9 @@ pub fn storm_of(options: ClusterOptions) -> Storm
     Storm::new(Draws {
         seed: words.seed,
         strength: words.storm,
+        late: words.late,
+        crashes: words.crash,
+        losses: words.lose,
         coordinators: words.coordinators,
         logs: words.logs,
     })

@@ -2,10 +2,10 @@
 use Rattle.std.specs.Prelude.{◌≡◌, ◌<◌, ◌⊎◌, ⊤, Option, None, Some, Result, Ok, Err}
 use Rattle.fr_cli_json.specs.Calls.{Counts}
 use Rattle.fr_cli_json.specs.declared.fault.CliFault.TheVariants as cli
-use Rattle.fr_node_steps.specs.declared.reply.Reply.{Reply}
+use Rattle.fr_node_steps.specs.declared.reply.NodeReply.{NodeReply}
 use Rattle.fr_node_steps.specs.declared.fault.Crash.{Crash}
 use Rattle.fr_node_steps.specs.declared.fault.Crash.TheVariants as crash
-use Rattle.fr_node_steps.specs.declared.fault.TurnFault.TheVariants as turn
+use Rattle.fr_node_steps.specs.declared.fault.NodeTurnFault.TheVariants as turn
 use Rattle.fr_node_lines.specs.declared.fault.BadLine.TheVariants as bad
 use Rattle.fr_node_lines.specs.declared.fault.LineFault.{LineFault}
 use Rattle.fr_node_lines.specs.declared.fault.LineFault.TheVariants as line
@@ -19,7 +19,7 @@ crash_in_fault (line.Bad b) = None
 crash_in_fault (line.Turn (turn.Crashed why)) = Some why
 crash_in_fault (line.Turn (turn.Refused why)) = None
 
-abbrev pub crash_in : Result Reply LineFault → Option Crash
+abbrev pub crash_in : Result NodeReply LineFault → Option Crash
 crash_in (Ok reply) = None
 crash_in (Err f) = crash_in_fault f
 
@@ -29,11 +29,11 @@ abbrev pub IfNone : Option Crash → Type 0 → Type 0
 IfNone None P = P
 IfNone (Some why) P = ⊤
 
-abbrev pub UnlessEnded : Result Reply LineFault → Type 0 → Type 0
+abbrev pub UnlessEnded : Result NodeReply LineFault → Type 0 → Type 0
 UnlessEnded done P = IfNone (crash_in done) P
 
 -- what is so if a line was not done, and the node can go on
-abbrev pub IfUndone : Result Reply LineFault → Type 0 → Type 0
+abbrev pub IfUndone : Result NodeReply LineFault → Type 0 → Type 0
 IfUndone (Ok reply) P = ⊤
 IfUndone (Err f) P = IfNone (crash_in_fault f) P
 

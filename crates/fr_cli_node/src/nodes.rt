@@ -5,7 +5,7 @@ ghost use Rattle.fr_runtime_housing.specs.Replays.{ends_by_crash};
 use crate::fault::NodeEnd;
 use crate::files::{cell_device, cell_over, log_device, log_over, storage_over, store_files};
 use crate::serving::{MAX_LINE, serve};
-use crate::words::NodeWords;
+use crate::words::{LogWords, NodeWords};
 use fr_base::{
     Ballot, Bytes, Epoch, InMemory, LogId, Machine, Memory, Node, NodeId, Shape, Tag, Version,
 };
@@ -40,37 +40,9 @@ pub fn run_node<R: Read, W: Write>(
         NodeWords::Cell {
             index,
             config,
-            folder: None,
-        } => cell(host, alloc, *index, config, reader, writer),
-        NodeWords::Cell {
-            index,
-            config,
-            folder: Some(folder),
-        } => {
-            let folder = folder.as_str();
-            cell_in(host, alloc, folder, *index, config, reader, writer)
-        }
-        NodeWords::Log {
-            epoch,
-            index,
-            shape,
-            is_started,
-            folder: None,
-        } => serve_log(alloc, *epoch, *index, shape, *is_started, reader, writer),
-        NodeWords::Log {
-            epoch,
-            index,
-            shape,
-            is_started,
-            folder: Some(folder),
-        } => {
-            let id = LogId {
-                epoch: *epoch,
-                index: *index,
-            };
-            let folder = folder.as_str();
-            log_in(host, alloc, folder, id, shape, *is_started, reader, writer)
-        }
+            folder,
+        } => cell(host, alloc, folder, *index, config, reader, writer),
+        NodeWords::Log(words) => log(host, alloc, words, reader, writer),
         NodeWords::Sequencer { epoch, last } => {
             serve_sequencer(alloc, *epoch, *last, reader, writer)
         }
@@ -78,10 +50,7 @@ pub fn run_node<R: Read, W: Write>(
             tag,
             config,
             folder,
-        } => {
-            let config = config_in(host, alloc, config.as_str())?;
-            storage(host, alloc, *tag, &config, folder, reader, writer)
-        }
+        } => storage(host, alloc, *tag, config.as_str(), folder, reader, writer),
         NodeWords::Proxy {
             epoch,
             number,
@@ -97,10 +66,7 @@ pub fn run_node<R: Read, W: Write>(
             ballot,
             shape,
             config,
-        } => {
-            let config = config_in(host, alloc, config.as_str())?;
-            serve_recoverer(alloc, *ballot, shape, &config, reader, writer)
-        }
+        } => recoverer(host, alloc, *ballot, shape, config.as_str(), reader, writer),
     }
 }
 
@@ -155,8 +121,24 @@ fn serve_proxy<R: Read, W: Write>(
     serve(alloc, MAX_LINE, &mut proxy, reader, writer)
 }
 
-/// Serves a cell, as the world of a config starts with it if one is named, or fresh.
+/// Serves a cell, over its file if a folder is named, else in memory.
 fn cell<R: Read, W: Write>(
+    host: &HostRuntime,
+    alloc: Global,
+    folder: &Option<String>,
+    index: u8,
+    config: &Option<String>,
+    reader: &mut R,
+    writer: &mut W,
+) -> Result<(), NodeEnd> {
+    match folder {
+        Some(folder) => cell_in(host, alloc, folder.as_str(), index, config, reader, writer),
+        None => cell_in_memory(host, alloc, index, config, reader, writer),
+    }
+}
+
+/// Serves a cell in memory, as the world of a config starts with it if one is named, or fresh.
+fn cell_in_memory<R: Read, W: Write>(
     host: &HostRuntime,
     alloc: Global,
     index: u8,
@@ -199,20 +181,32 @@ fn serve_cell<R: Read, W: Write>(
     serve(alloc, MAX_LINE, &mut cell, reader, writer)
 }
 
-/// Serves a log, as a world starts with it or fresh.
-fn serve_log<R: Read, W: Write>(
+/// Serves a log, over its file if a folder is named, else in memory.
+fn log<R: Read, W: Write>(
+    host: &HostRuntime,
     alloc: Global,
-    epoch: Epoch,
-    index: u8,
-    shape: &Shape,
-    is_started: bool,
+    words: &LogWords,
     reader: &mut R,
     writer: &mut W,
 ) -> Result<(), NodeEnd> {
-    let log = if is_started {
-        started_log(alloc, epoch, index, shape)?
+    match &words.folder {
+        Some(folder) => log_in(host, alloc, folder.as_str(), words, reader, writer),
+        None => log_in_memory(alloc, words, reader, writer),
+    }
+}
+
+/// Serves a log in memory, as a world starts with it or fresh.
+fn log_in_memory<R: Read, W: Write>(
+    alloc: Global,
+    words: &LogWords,
+    reader: &mut R,
+    writer: &mut W,
+) -> Result<(), NodeEnd> {
+    let LogId { epoch, index } = words.id;
+    let log = if words.is_started {
+        started_log(alloc, epoch, index, &words.shape)?
     } else {
-        fresh_log(alloc, epoch, index, shape)?
+        fresh_log(alloc, epoch, index, &words.shape)?
     };
     let place = NodeId::Log { epoch, index };
     let mut log = Passive::new(alloc, InMemory::new(log), place);
@@ -295,18 +289,16 @@ fn log_in<R: Read, W: Write>(
     host: &HostRuntime,
     alloc: Global,
     folder: &str,
-    id: LogId,
-    shape: &Shape,
-    is_started: bool,
+    words: &LogWords,
     reader: &mut R,
     writer: &mut W,
 ) -> Result<(), NodeEnd> {
-    let LogId { epoch, index } = id;
-    if index >= shape.m() || is_started && epoch != start::first_epoch() {
+    let LogId { epoch, index } = words.id;
+    if index >= words.shape.m() || words.is_started && epoch != start::first_epoch() {
         return Err(NodeEnd::NotThere);
     }
-    let device = log_device(host, alloc, folder, &id)?;
-    let node = log_over(alloc, device, id, shape, is_started)?;
+    let device = log_device(host, alloc, folder, &words.id)?;
+    let node = log_over(alloc, device, words.id, &words.shape, words.is_started)?;
     serve_kept(alloc, node, NodeId::Log { epoch, index }, reader, writer)
 }
 
@@ -345,21 +337,22 @@ fn storage<R: Read, W: Write>(
     host: &HostRuntime,
     alloc: Global,
     tag: Tag,
-    config: &Config,
+    config: &str,
     folder: &Option<String>,
     reader: &mut R,
     writer: &mut W,
 ) -> Result<(), NodeEnd> {
+    let config = config_in(host, alloc, config)?;
     let Some(shard) = config.map().shard_of(alloc, tag)? else {
         return Err(NodeEnd::NotThere);
     };
     match folder {
         Some(folder) => {
             let files = store_files(host, alloc, folder.as_str(), tag)?;
-            storage_in(alloc, files, tag, config, shard, reader, writer)
+            storage_in(alloc, files, tag, &config, shard, reader, writer)
         }
         None => {
-            let storage = start::storage(alloc, config, tag)?;
+            let storage = start::storage(alloc, &config, tag)?;
             serve_storage(alloc, storage, shard, false, reader, writer)
         }
     }
@@ -394,14 +387,17 @@ fn serve_storage<S: ShardStore + Drop, R: Read, W: Write>(
     serve(alloc, MAX_LINE, &mut storage, reader, writer)
 }
 
-fn serve_recoverer<R: Read, W: Write>(
+/// Serves a recoverer that opens a generation of this shape, or of the shape of the one before.
+fn recoverer<R: Read, W: Write>(
+    host: &HostRuntime,
     alloc: Global,
     ballot: Ballot,
     shape: &Option<Shape>,
-    config: &Config,
+    config: &str,
     reader: &mut R,
     writer: &mut W,
 ) -> Result<(), NodeEnd> {
+    let config = config_in(host, alloc, config)?;
     if ballot.epoch().is_none() {
         return Err(NodeEnd::NotThere);
     }

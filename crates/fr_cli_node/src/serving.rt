@@ -11,7 +11,7 @@ use crate::lines::{Found, Lines};
 use fr_base::{Memory, NodeId};
 use fr_cli_json::{CallCounts, CliFault, put_bytes};
 use fr_node_lines::{BadLine, Envelope, Line, LineFault, read_line, write_error, write_reply};
-use fr_node_steps::{Acting, Crash, Order, Reply, TurnFault, answer};
+use fr_node_steps::{Acting, Crash, NodeReply, NodeRequest, NodeTurnFault, answer};
 use std::alloc::Global;
 use std::io::{Read, Write};
 
@@ -88,8 +88,8 @@ fn unread(fault: CliFault) -> NodeEnd
 fn do_line<T: Acting>(
     alloc: Global,
     node: &mut T,
-    order: Result<Order, BadLine>,
-) -> Result<Reply, LineFault>
+    order: Result<NodeRequest, BadLine>,
+) -> Result<NodeReply, LineFault>
     requires works { T.works node.old ≡ true }
     ensures node { T.node node.new ≡ T.node node.old }
     ensures bad { IfErr order (λ bad. (result ≡ Err (LineFault.Bad bad)) × (node.new ≡ node.old)) }
@@ -111,15 +111,15 @@ fn do_line<T: Acting>(
 }
 
 /// Why a node cannot go on, if it cannot.
-fn crash_of(done: &Result<Reply, LineFault>) -> Option<Crash>
+fn crash_of(done: &Result<NodeReply, LineFault>) -> Option<Crash>
     ensures { result ≡ crash_in done.now }
 {
     match done {
         Ok(_) => None,
         Err(LineFault::Bad(BadLine::Memory)) => Some(Crash::Memory),
         Err(LineFault::Bad(_)) => None,
-        Err(LineFault::Turn(TurnFault::Crashed(why))) => Some(*why),
-        Err(LineFault::Turn(TurnFault::Refused(_))) => None,
+        Err(LineFault::Turn(NodeTurnFault::Crashed(why))) => Some(*why),
+        Err(LineFault::Turn(NodeTurnFault::Refused(_))) => None,
     }
 }
 
@@ -128,7 +128,7 @@ fn text_of(
     alloc: Global,
     place: NodeId,
     envelope: &Envelope,
-    done: Result<Reply, LineFault>,
+    done: Result<NodeReply, LineFault>,
 ) -> Result<Vec<u8>, Memory> {
     match done {
         Ok(reply) => write_reply(alloc, place, envelope, &reply),
@@ -142,7 +142,7 @@ fn put_answer<W: Write>(
     calls: &mut CallCounts,
     place: NodeId,
     envelope: &Envelope,
-    done: Result<Reply, LineFault>,
+    done: Result<NodeReply, LineFault>,
     writer: &mut W,
 ) -> Result<(), NodeEnd>
     ensures fault { IfErr result (IsPutFault calls.new) }

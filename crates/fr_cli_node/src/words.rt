@@ -1,7 +1,7 @@
 //! The words of the command `node`.
 use clap::error::{Error, ErrorKind};
 use clap::{Arg, ArgAction, ArgMatches, Command, value_parser};
-use fr_base::{Ballot, Epoch, Shape, Tag, Version};
+use fr_base::{Ballot, Epoch, LogId, Shape, Tag, Version};
 use fr_cli_words::bad_words;
 use std::alloc::{AllocError, Global};
 
@@ -17,13 +17,7 @@ pub enum NodeWords {
     },
     /// A log: if it is started one that a world starts with, else fresh. With a folder it keeps a file there, else it
     /// is in memory.
-    Log {
-        epoch: Epoch,
-        index: u8,
-        shape: Shape,
-        is_started: bool,
-        folder: Option<String>,
-    },
+    Log(LogWords),
     /// A sequencer, which gave this version last.
     Sequencer {
         epoch: Epoch,
@@ -50,6 +44,16 @@ pub enum NodeWords {
         shape: Option<Shape>,
         config: String,
     },
+}
+
+/// Which log the words name: its place, the shape of its generation, and whether a world starts with it; over a file in
+/// a folder, or in memory.
+#[derive(Debug, Drop, PartialEq, Eq)]
+pub struct LogWords {
+    pub id: LogId,
+    pub shape: Shape,
+    pub is_started: bool,
+    pub folder: Option<String>,
 }
 
 /// The command `node`, with a command below it for each kind of node.
@@ -301,13 +305,14 @@ fn read_log(alloc: Global, matches: &ArgMatches<'_>) -> Result<Option<NodeWords>
     let index = matches.get_one::<u8>("index").unwrap_or(0);
     let is_started = matches.get_flag("start");
     match (read_epoch(matches), read_shape(matches)) {
-        (Some(epoch), Some(Some(shape))) if index < shape.m() => Ok(Some(NodeWords::Log {
-            epoch,
-            index,
-            shape,
-            is_started,
-            folder,
-        })),
+        (Some(epoch), Some(Some(shape))) if index < shape.m() => Ok(Some(NodeWords::Log(
+            LogWords {
+                id: LogId { epoch, index },
+                shape,
+                is_started,
+                folder,
+            },
+        ))),
         _ => Ok(None),
     }
 }

@@ -15,7 +15,7 @@ pub(crate) struct Exchange {
 
 /// Makes the turn that an event is.
 fn make(alloc: Global, world: &mut World, event: Event) -> Result<Answer, NotEnabled> {
-    world.step(alloc, &event)
+    world.step(alloc, event)
 }
 
 /// Makes the turn that an event is, of which the answer is not wanted; says why it cannot happen.

@@ -5,13 +5,13 @@ ghost use Rattle.fr_cli_json.specs.Calls.{no_calls, HasNoInput, HasNotFailed, Is
 use crate::lines::put_storages;
 use crate::steps::line_of;
 use fr_cli_json::{CallCounts, CliFault, put, read_input};
-use fr_simulate_script::{Act, Script, read_script};
+use fr_simulate_script::{Script, ScriptStep, read_script};
 use fr_world::World;
 use std::alloc::Global;
 use std::io::{Read, Write};
 
 /// Takes the steps of a script, each a list of events, in a world of the script's config; writes a line for each step,
-/// and then the state of each storage server, with its rows.
+/// and then where each storage server stands, with its rows.
 ///
 /// The status is 0, for steps that are refused too. A script is read whole before its first line is written, so
 /// what is no script writes nothing.
@@ -25,14 +25,16 @@ pub fn run_simulate<R: Read, W: Write>(
         → writer.new ≡ writer.old }
 {
     let mut calls = CallCounts::new();
-    simulate_counted(alloc, &mut calls, reader, writer)
+    simulate_counted(alloc, &mut calls, &mut String::new(alloc), reader, writer)
 }
 
-/// As [`run_simulate`], with the calls of the reader and of the writer counted in `calls`, which has none yet. `Input`
-/// is answered only if a read failed or 2^30 of them found no end, `Output` only if a write or a flush failed.
+/// As [`run_simulate`], with the calls of the reader and of the writer counted in `calls`, which has none yet. `Input` is
+/// answered only if a read failed or 2^30 of them found no end, `Output` only if a write or a flush failed. Of a bad
+/// script `place` says where it is bad.
 pub fn simulate_counted<R: Read, W: Write>(
     alloc: Global,
     calls: &mut CallCounts,
+    place: &mut String,
     reader: &mut R,
     writer: &mut W,
 ) -> Result<u8, CliFault>
@@ -45,7 +47,7 @@ pub fn simulate_counted<R: Read, W: Write>(
     ensures done { OnOk result (HasNotFailed calls.new) }
 {
     let input = read_input(alloc, calls, reader)?;
-    let script = read_script(alloc, input)?;
+    let script = read_script(alloc, input, place)?;
     put_script(alloc, script, calls, writer)?;
     calls.flush(writer)?;
     Ok(0)
@@ -72,7 +74,7 @@ fn put_script<W: Write>(
 fn put_steps<W: Write>(
     alloc: Global,
     world: World,
-    acts: Vec<Act>,
+    acts: Vec<ScriptStep>,
     calls: &mut CallCounts,
     writer: &mut W,
 ) -> Result<World, CliFault>

@@ -9,22 +9,26 @@ mod storing;
 
 use crate::steps::storing::Wish;
 use fr_base::Memory;
-use fr_simulate_script::Act;
+use fr_simulate_script::ScriptStep;
 use fr_world::World;
 use std::alloc::Global;
 
 /// Takes a step, and gives the world after it with its line.
-pub(crate) fn line_of(alloc: Global, world: World, act: Act) -> Result<(World, String), Memory> {
+pub(crate) fn line_of(
+    alloc: Global,
+    world: World,
+    act: ScriptStep,
+) -> Result<(World, String), Memory> {
     let mut world = world;
     let line = match act {
-        Act::Commit(commit) => commit::line_of(alloc, &mut world, commit),
-        Act::Push(push) => push::line_of(alloc, &mut world, &push),
-        Act::Pull(pull) => return storing::line_of(alloc, world, Wish::Pull, &pull),
-        Act::Mark(pull) => return storing::line_of(alloc, world, Wish::Mark, &pull),
-        Act::Pop(pull) => return storing::line_of(alloc, world, Wish::Pop, &pull),
-        Act::Read(read) => reading::line_of(alloc, &mut world, &read),
-        Act::Recover(recover) => recover::line_of(alloc, &mut world, &recover),
-        Act::Lose(log) => lose::line_of(alloc, &mut world, log),
+        ScriptStep::Commit(commit) => commit::line_of(alloc, &mut world, commit),
+        ScriptStep::Push(push) => push::line_of(alloc, &mut world, &push),
+        ScriptStep::Pull(pull) => return storing::line_of(alloc, world, Wish::Pull, &pull),
+        ScriptStep::Mark(pull) => return storing::line_of(alloc, world, Wish::Mark, &pull),
+        ScriptStep::Pop(pull) => return storing::line_of(alloc, world, Wish::Pop, &pull),
+        ScriptStep::Read(read) => reading::line_of(alloc, &mut world, &read),
+        ScriptStep::Recover(recover) => recover::line_of(alloc, &mut world, &recover),
+        ScriptStep::Lose(log) => lose::line_of(alloc, &mut world, log),
     };
     beside(world, line)
 }

@@ -5,7 +5,7 @@ use std::alloc::{AllocError, Global};
 
 /// What a store keeps its rows in.
 #[derive(Clone, Copy, Debug, PartialEq, Eq)]
-pub enum StoreKind {
+pub enum StoreWord {
     /// A map in memory.
     Map,
     /// The tables of a database in memory.
@@ -55,7 +55,7 @@ fn of_file<'a>(alloc: Global) -> Arg<'a> {
 #[derive(Debug, Drop, PartialEq, Eq)]
 pub enum StoreWords {
     /// One in memory.
-    Memory(StoreKind),
+    Memory(StoreWord),
     /// That of the file of this name.
     File(String),
     /// `--db` without `--store sql`: bad words.
@@ -70,8 +70,8 @@ pub fn read_store_words(alloc: Global, matches: &ArgMatches<'_>) -> Result<Store
     let kind = read_store(matches);
     match (matches.get_str("db"), kind) {
         (None, _) => Ok(StoreWords::Memory(kind)),
-        (Some(name), StoreKind::Sql) => Ok(StoreWords::File(String::from_str(alloc, name)?)),
-        (Some(_), StoreKind::Map) => Ok(StoreWords::Mixed),
+        (Some(name), StoreWord::Sql) => Ok(StoreWords::File(String::from_str(alloc, name)?)),
+        (Some(_), StoreWord::Map) => Ok(StoreWords::Mixed),
     }
 }
 
@@ -89,10 +89,10 @@ pub fn of_kind<'a>(word: Arg<'a>) -> Arg<'a> {
 }
 
 /// Reads the kind of store from the word `store` of a command: a map if none is named. Other names were refused.
-pub fn read_store(matches: &ArgMatches<'_>) -> StoreKind {
+pub fn read_store(matches: &ArgMatches<'_>) -> StoreWord {
     match matches.get_str("store") {
-        Some("sql") => StoreKind::Sql,
-        _ => StoreKind::Map,
+        Some("sql") => StoreWord::Sql,
+        _ => StoreWord::Map,
     }
 }
 

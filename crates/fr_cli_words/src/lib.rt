@@ -5,7 +5,7 @@ mod apply;
 mod program;
 
 pub use apply::{
-    MIXED, StoreKind, StoreWords, apply_command, of_kind, read_file, read_store, read_store_words,
+    MIXED, StoreWord, StoreWords, apply_command, of_kind, read_file, read_store, read_store_words,
     rows_command,
 };
 pub use program::{BAD_WORDS, Ending, bad_words, own_words, program_command, show};

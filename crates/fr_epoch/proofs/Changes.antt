@@ -9,7 +9,7 @@ use Rattle.fr_register.specs.declared.poll.Progress.TheVariants as poll
 use Rattle.fr_state.specs.Generations.{LogGeneration, CoordinatedState, last_of}
 use Rattle.fr_state.specs.Order.{extended}
 use Rattle.fr_state.specs.Reading.{reading}
-use Rattle.fr_state.specs.declared.fault.DecodeFault.{DecodeFault}
+use Rattle.fr_state.specs.declared.fault.StateDecodeFault.{StateDecodeFault}
 use Rattle.fr_state.specs.declared.fault.StateFault.{StateFault}
 use Rattle.fr_state.specs.declared.fault.StateFault.TheVariants as fault
 use Rattle.fr_log.specs.declared.ask.LogTell.{LogTell}
@@ -27,7 +27,7 @@ use Rattle.fr_epoch.specs.Law.{HearIsChange}
 -- ---- reading
 
 found : (r : RecState) (w : Word) (i : ℕ) (t : CellTell) → IsPromised r w i t → progress_of (hear_read r.reads i t).poll ≡ poll.Majority
-    → (o : Result CoordinatedState DecodeFault) → reading (hear_read r.reads i t).greatest.value ≡ o → Change r w (with_parent (with_read r i t) o)
+    → (o : Result CoordinatedState StateDecodeFault) → reading (hear_read r.reads i t).greatest.value ≡ o → Change r w (with_parent (with_read r i t) o)
 found r w i t at m (Err fault) e = LosesReads i t why.BadState at
 found r w i t at m (Ok s) e = go (last_of s.gens) refl
   where

@@ -3,15 +3,15 @@ use Rattle.std.proofs.Common.{◌≡◌, ℕ, ◌*◌, Bool, true, false, cond, 
 use Rattle.std.specs.Prelude.{All}
 use Rattle.std.specs.List.{list_all}
 use Rattle.std.proofs.lemmas.Bool.{and_parts}
-use Rattle.fr_state.specs.declared.fault.DecodeFault.{DecodeFault}
-use Rattle.fr_state.specs.declared.fault.DecodeFault.TheVariants.{Short, BadForm, Trailing}
+use Rattle.fr_state.specs.declared.fault.StateDecodeFault.{StateDecodeFault}
+use Rattle.fr_state.specs.declared.fault.StateDecodeFault.TheVariants.{Short, BadForm, Trailing}
 use Rattle.fr_state.specs.Generations.{LogGeneration, CoordinatedState, IsGeneration, last_of, first_epoch_of}
 use Rattle.fr_state.specs.Order.{is_ordered}
 use Rattle.fr_state.specs.Reading.{start_at, count_at, generations_at, is_within, is_list, are_left, state_at, reading, ◌>>=◌}
 use Rattle.fr_state.specs.Laws.{LastIsWithin}
 use Rattle.fr_state.proofs.StateLemmas.{All-within}
 
-bind_ok : {A B : Type 0} (r : Result A DecodeFault) (f : A → Result B DecodeFault) (y : B) → (r >>= f) ≡ Ok y → (x : A) × (f x ≡ Ok y)
+bind_ok : {A B : Type 0} (r : Result A StateDecodeFault) (f : A → Result B StateDecodeFault) (y : B) → (r >>= f) ≡ Ok y → (x : A) × (f x ≡ Ok y)
 bind_ok (Ok x) f y e = (x, e)
 bind_ok (Err fault) f y e = absurd cc
 

@@ -4,7 +4,7 @@ use Rattle.fr_base.specs.Shape.{ShapeContent}
 use Rattle.fr_base.specs.declared.place.NodeId.{NodeId}
 use Rattle.fr_state.specs.Generations.{LogGeneration, CoordinatedState, last_of}
 use Rattle.fr_state.specs.Order.{extended}
-use Rattle.fr_state.specs.declared.fault.DecodeFault.{DecodeFault}
+use Rattle.fr_state.specs.declared.fault.StateDecodeFault.{StateDecodeFault}
 use Rattle.fr_state.specs.declared.fault.StateFault.{StateFault}
 use Rattle.fr_state.specs.declared.fault.StateFault.TheVariants as fault
 use Rattle.fr_ask.specs.declared.ask.Ask.{Ask}
@@ -28,7 +28,7 @@ parent_with s None = None
 parent_with s (Some g) = Some (record { state = s; last = g })
 
 -- the parent that was read, if it is a state
-abbrev pub parent_read : Result CoordinatedState DecodeFault → Option Parent
+abbrev pub parent_read : Result CoordinatedState StateDecodeFault → Option Parent
 parent_read (Ok s) = parent_with s (last_of s.gens)
 parent_read (Err fault) = None
 

@@ -10,7 +10,7 @@ use Rattle.fr_register.specs.declared.poll.Progress.TheVariants as poll
 use Rattle.fr_state.specs.Generations.{LogGeneration, CoordinatedState, last_of}
 use Rattle.fr_state.specs.Order.{extended}
 use Rattle.fr_state.specs.Reading.{reading}
-use Rattle.fr_state.specs.declared.fault.DecodeFault.{DecodeFault}
+use Rattle.fr_state.specs.declared.fault.StateDecodeFault.{StateDecodeFault}
 use Rattle.fr_state.specs.declared.fault.StateFault.{StateFault}
 use Rattle.fr_state.specs.declared.fault.StateFault.TheVariants as fault
 use Rattle.fr_log.specs.Peeked.{PeekedContent}
@@ -80,7 +80,7 @@ abbrev pub with_last : RecState → CoordinatedState → Option LogGeneration �
 with_last r s None = lost r why.BadState
 with_last r s (Some g) = record r { phase = Locking; parent = Some (record { state = s; last = g }); end = Some (new_end g.m g.k) }
 
-abbrev pub with_parent : RecState → Result CoordinatedState DecodeFault → RecState
+abbrev pub with_parent : RecState → Result CoordinatedState StateDecodeFault → RecState
 with_parent r (Ok s) = with_last r s (last_of s.gens)
 with_parent r (Err fault) = lost r why.BadState
 

@@ -14,7 +14,7 @@ use fr_base::{Ballot, Epoch, LogId, Memory, NodeId, Tag, Version};
 use fr_log::{LogAsk, Most, Push};
 use fr_register::{CellAsk, CellValue, ReadTally, WriteTally};
 use fr_state::{CoordState, Generation, encode};
-use fr_tags::{MAX_SHARDS, is_held};
+use fr_tags::{MAX_SHARDS, is_held, tag_at};
 use fr_tail::Tail;
 use std::alloc::Global;
 
@@ -285,17 +285,6 @@ fn most_records() -> Most
 {
     match Most::new(100) {
         Some(most) => most,
-        None => unreachable!(),
-    }
-}
-
-/// The tag of this number.
-pub(crate) fn tag_at(number: usize) -> Tag
-    requires { number < MAX_SHARDS }
-    ensures { result ≡ number }
-{
-    match Tag::new(number as u8) {
-        Some(tag) => tag,
         None => unreachable!(),
     }
 }

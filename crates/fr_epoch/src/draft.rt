@@ -20,7 +20,9 @@ use fr_ask::Ask;
 use fr_base::{Epoch, Memory, NodeId, Shape, Version};
 use fr_log::PoppedTag;
 use fr_register::CellValue;
-use fr_state::{CoordState, DecodeFault, Generation, StateFault, decode, extend_law, next_law};
+use fr_state::{
+    CoordState, Generation, StateDecodeFault, StateFault, decode, extend_law, next_law,
+};
 use fr_tags::MAX_SHARDS;
 use fr_tail::Tail;
 use std::alloc::Global;
@@ -36,10 +38,10 @@ pub(crate) fn parent_in(alloc: Global, value: &CellValue) -> Result<Option<Found
             let last = state.last();
             Ok(Some(Found { state, last }))
         }
-        Err(DecodeFault::Memory) => Err(Memory),
-        Err(DecodeFault::Short) => Ok(None),
-        Err(DecodeFault::BadForm) => Ok(None),
-        Err(DecodeFault::Trailing) => Ok(None),
+        Err(StateDecodeFault::Memory) => Err(Memory),
+        Err(StateDecodeFault::Short) => Ok(None),
+        Err(StateDecodeFault::BadForm) => Ok(None),
+        Err(StateDecodeFault::Trailing) => Ok(None),
     }
 }
 

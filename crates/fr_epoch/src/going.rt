@@ -3,10 +3,9 @@ ghost use Rattle.std.specs.Prelude.{◌≡◌, ◌<◌, min, length};
 ghost use Rattle.fr_tail.specs.Tail.{is_complete, is_responder, after_hear};
 ghost use Rattle.fr_epoch.specs.Going.{goes_on, reached_with};
 
-use crate::asks::tag_at;
 use fr_base::{Tag, Version};
 use fr_log::Peeked;
-use fr_tags::is_held;
+use fr_tags::{is_held, tag_at};
 use fr_tail::Tail;
 
 /// Whether a copy is complete once it heard what the log of this number answered.

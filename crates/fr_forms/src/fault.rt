@@ -1,6 +1,5 @@
 //! Why JSON is not in its form.
 use fr_base::Memory as NoMemory;
-use fr_cli_json::CliFault;
 use std::alloc::{AllocError, AllocFailed};
 use thiserror::Error;
 
@@ -30,14 +29,5 @@ impl<T: Drop> From<AllocFailed<T>> for ScriptFault {
 impl From<NoMemory> for ScriptFault {
     fn from(_error: NoMemory) -> ScriptFault {
         ScriptFault::Memory
-    }
-}
-
-impl From<CliFault> for ScriptFault {
-    fn from(fault: CliFault) -> ScriptFault {
-        match fault {
-            CliFault::Memory => ScriptFault::Memory,
-            CliFault::BadScript | CliFault::Input | CliFault::Output => ScriptFault::BadScript,
-        }
     }
 }

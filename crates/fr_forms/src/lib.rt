@@ -1,32 +1,22 @@
-//! The JSON forms of what journals and scenarios hold: nodes, what they are asked and tell, their last states,
-//! coordinated states and batches. They are read out of a tree of JSON, and made as one.
+//! The JSON forms of scripts and journals: one table of them, a reader that goes by it and says where a text is bad, and
+//! the steps between types and what is read and written, which go by it too.
 #![tactic(auto)]
 
-mod asks;
-mod cells;
 mod fault;
-pub mod fields;
-mod lasts;
-pub mod lists;
-mod logs;
-pub mod names;
-mod nodes;
-pub mod object;
-mod outcomes;
-mod popped;
-mod records;
-mod sequencers;
-mod states;
+mod form;
+mod kinds;
+mod mistake;
+mod object;
+mod reading;
+mod row;
+pub mod table;
+mod tape;
+mod types;
 mod values;
 
-pub use asks::{read_ask, read_tell, write_ask, write_tell};
-pub use cells::{read_cell_ask, write_cell_tell};
 pub use fault::ScriptFault;
-pub use lasts::{read_last, write_last};
-pub use logs::{read_log_ask, write_log_tell};
-pub use nodes::{read_node, write_node};
-pub use outcomes::{read_outcome, write_outcome};
-pub use records::write_bodies;
-pub use sequencers::{read_seq_ask, read_step, write_seq_tell};
-pub use states::{read_state, write_state};
-pub use values::{read_batch, read_shards, write_batch, write_rows, write_shards};
+pub use form::{Form, Piece};
+pub use mistake::put_printable;
+pub use object::{Object, text_value, write_all};
+pub use reading::{Nobody, Sink, read_one, read_text};
+pub use row::{Formed, Parts, Row};

@@ -1,4 +1,5 @@
-//! Objects of JSON, made member by member.
+//! Values of JSON as they are written.
+use crate::row::Formed;
 use fr_base::Memory;
 use serde_json::{Map, Value};
 use std::alloc::Global;
@@ -19,84 +20,56 @@ impl Object {
         }
     }
 
-    /// With one member more.
-    pub fn with(self, name: &str, value: Value) -> Result<Self, Memory> {
-        let Object { alloc, mut members } = self;
-        members.insert(String::from_str(alloc, name)?, value)?;
-        Ok(Object { alloc, members })
+    /// With one member more, if it is not left out.
+    pub fn with<T: Formed>(self, name: &str, part: &T) -> Result<Self, Memory> {
+        if part.is_left_out() {
+            return Ok(self);
+        }
+        let value = part.to_value(self.alloc);
+        self.put(name, value)
     }
 
     /// With one member more, if there was memory for its value.
-    pub fn and(self, name: &str, value: Result<Value, Memory>) -> Result<Self, Memory> {
-        self.with(name, value?)
-    }
-
-    /// With these numbers.
-    pub fn of(alloc: Global, numbers: &[(&str, u64)]) -> Result<Self, Memory> {
-        let mut object = Object::new(alloc);
-        for (name, number) in numbers {
-            object = object.with(name, Value::from(*number))?;
-        }
-        Ok(object)
-    }
-
-    /// With bytes more, as a text of lower case hex.
-    pub fn bytes(self, name: &str, bytes: &[u8]) -> Result<Self, Memory> {
-        let alloc = self.alloc;
-        self.with(name, hex_value(alloc, bytes)?)
+    pub fn put(self, name: &str, value: Result<Value, Memory>) -> Result<Self, Memory> {
+        let Object { alloc, mut members } = self;
+        members.insert(String::from_str(alloc, name)?, value?)?;
+        Ok(Object { alloc, members })
     }
 
     /// The object.
-    pub fn value(self) -> Value {
+    pub fn into_value(self) -> Value {
         Value::Object(self.members)
     }
 
-    /// The object as the content of a variant.
+    /// The object, as what makes one may answer.
+    pub fn value(self) -> Result<Value, Memory> {
+        Ok(self.into_value())
+    }
+
+    /// An object of one member, which is this one.
     pub fn named(self, name: &str) -> Result<Value, Memory> {
         let Object { alloc, members } = self;
-        Ok(
-            Object::new(alloc)
-                .with(name, Value::Object(members))?
-                .value(),
-        )
+        let mut outer = Map::new(alloc);
+        outer.insert(String::from_str(alloc, name)?, Value::Object(members))?;
+        Ok(Value::Object(outer))
     }
 }
 
-/// A variant that has these numbers alone.
-pub fn numbered(alloc: Global, name: &str, numbers: &[(&str, u64)]) -> Result<Value, Memory> {
-    Object::of(alloc, numbers)?.named(name)
-}
-
-/// A variant that has one member.
-pub(crate) fn with_one(
-    alloc: Global,
-    name: &str,
-    member: &str,
-    value: Result<Value, Memory>,
-) -> Result<Value, Memory> {
-    Object::new(alloc).and(member, value)?.named(name)
-}
-
-/// A variant without content.
-pub fn bare_named(alloc: Global, name: &str) -> Result<Value, Memory> {
-    Object::new(alloc).named(name)
-}
-
-/// A variant with its content.
-pub(crate) fn named(
-    alloc: Global,
-    name: &str,
-    content: Result<Value, Memory>,
-) -> Result<Value, Memory> {
-    Ok(Object::new(alloc).and(name, content)?.value())
-}
-
-/// Bytes as a text of lower case hex.
-pub fn hex_value(alloc: Global, bytes: &[u8]) -> Result<Value, Memory> {
-    Ok(Value::String(hex::encode(alloc, bytes)?))
+/// A list, which is written as an array.
+pub fn write_all<T: Formed>(alloc: Global, all: &[T]) -> Result<Value, Memory> {
+    let mut items = Vec::with_capacity(alloc, all.len())?;
+    for one in all {
+        items.push(one.to_value(alloc)?)?;
+    }
+    Ok(Value::Array(items))
 }
 
 /// A text.
-pub fn write_text(alloc: Global, text: &str) -> Result<Value, Memory> {
+pub fn text_value(alloc: Global, text: &str) -> Result<Value, Memory> {
     Ok(Value::try_from_str(alloc, text)?)
+}
+
+/// Bytes as a text of lower case hex.
+pub(crate) fn hex_value(alloc: Global, bytes: &[u8]) -> Result<Value, Memory> {
+    Ok(Value::String(hex::encode(alloc, bytes)?))
 }

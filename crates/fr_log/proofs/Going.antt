@@ -7,7 +7,7 @@ use Rattle.fr_log.specs.declared.popped.PoppedTag.{PoppedTag}
 use Rattle.fr_log.specs.Push.{PushContent}
 use Rattle.fr_log.specs.LogState.{LogState}
 use Rattle.fr_log.specs.Step.{next_of}
-use Rattle.fr_log.specs.Place.{Extends}
+use Rattle.fr_log.specs.Checkpoint.{Extends}
 use Rattle.fr_log.specs.Law.{after_all, AskExtends, AsksExtend, BackIsBefore}
 use Rattle.fr_log.proofs.Pushing.{some_is_not_none}
 use Rattle.fr_log.proofs.Changes.{by_change}

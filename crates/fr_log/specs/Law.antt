@@ -19,7 +19,7 @@ use Rattle.fr_log.specs.Step.{answer_of, next_of, peek_of, after_ask}
 use Rattle.fr_log.specs.Search.{seeded_records, pushed_records}
 use Rattle.fr_log.specs.Change.{with_seed, with_push, IsNext, LogChange}
 use Rattle.fr_log.specs.Answer.{IsAnswer}
-use Rattle.fr_log.specs.Place.{Extends, place_of, gone_back}
+use Rattle.fr_log.specs.Checkpoint.{Extends, checkpoint_of, gone_back}
 
 -- an ask within its limits
 abbrev pub IsLogAsk : LogAsk → Type 0
@@ -75,7 +75,7 @@ AsksExtend = (l : LogState) (asks : List LogAsk) → Extends l (after_all l asks
 
 -- so it can go back
 abbrev pub BackIsBefore : Type 0
-BackIsBefore = (l n : LogState) → Extends l n → gone_back (place_of l) n ≡ l
+BackIsBefore = (l n : LogState) → Extends l n → gone_back (checkpoint_of l) n ≡ l
 
 -- ---- what every log is
 

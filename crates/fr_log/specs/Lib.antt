@@ -17,7 +17,7 @@ pub mod Step
 pub mod Change
 pub mod Seeding
 pub mod Answer
-pub mod Place
+pub mod Checkpoint
 pub mod SweptLaws
 pub mod StepLaws
 pub mod Law

@@ -13,7 +13,7 @@ mod search;
 mod seed;
 
 pub use ask::{LogAsk, LogRefusal, LogTell, Most};
-pub use log::{Log, Place};
+pub use log::{Checkpoint, Log};
 pub use peeked::Peeked;
 pub use popped::{PoppedTag, PoppedTags};
 pub use push::Push;

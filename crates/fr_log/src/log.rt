@@ -7,7 +7,7 @@ ghost use Rattle.fr_log.specs.LogState.{fresh_log, first_of, seeded_to_of, seed_
 ghost use Rattle.fr_log.specs.Chain.{IsLog};
 ghost use Rattle.fr_log.specs.Popped.{left_seed};
 
-mod place;
+mod checkpoint;
 mod refusal;
 mod seeding;
 mod step;
@@ -17,10 +17,10 @@ use crate::push::Push;
 use crate::pushes::Pushes;
 use crate::records::SeedRecord;
 use crate::seed::Seed;
+pub use checkpoint::Checkpoint;
 use fr_base::{LogId, Memory, Shape, Tag, Version};
 use fr_state::CoordState;
 use fr_tags::{Body, MAX_LOGS, is_held};
-pub use place::Place;
 use std::alloc::{AllocError, Global};
 use std::marker::Model;
 

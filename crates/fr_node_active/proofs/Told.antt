@@ -9,7 +9,7 @@ use Rattle.fr_ask.specs.declared.tell.Tell.{Tell}
 use Rattle.fr_ask.specs.declared.tell.Tell.TheVariants as tell
 use Rattle.fr_storage.specs.declared.fault.StorageFault.{StorageFault}
 use Rattle.fr_storage.specs.Storage.{StorageState, after_peeked, peeked_calls, peeked_fault}
-use Rattle.fr_runtime_hears.specs.Taken.{IsPart}
+use Rattle.fr_storage.specs.Taken.{IsPart}
 use Rattle.fr_node_active.specs.Told.{IsTold}
 
 -- what is told where a log's answer was taken in part, if it was

@@ -12,12 +12,12 @@ use Rattle.fr_storage.specs.Reads.{read_fault}
 use Rattle.fr_storage.specs.Server.{Server}
 use Rattle.fr_storage.specs.Storage.{StorageState}
 use Rattle.fr_node_steps.specs.Passive.{are_spent}
-use Rattle.fr_node_steps.specs.declared.turn.Turn.{Turn}
-use Rattle.fr_node_steps.specs.declared.turn.Turn.TheVariants as turn
-use Rattle.fr_node_steps.specs.declared.fault.Refusal.{Refusal}
-use Rattle.fr_node_steps.specs.declared.fault.Refusal.TheVariants as refusal
-use Rattle.fr_node_steps.specs.declared.fault.TurnFault.{TurnFault}
-use Rattle.fr_node_steps.specs.declared.fault.TurnFault.TheVariants as turn_fault
+use Rattle.fr_node_steps.specs.declared.turn.NodeTurn.{NodeTurn}
+use Rattle.fr_node_steps.specs.declared.turn.NodeTurn.TheVariants as turn
+use Rattle.fr_node_steps.specs.declared.fault.TurnRefusal.{TurnRefusal}
+use Rattle.fr_node_steps.specs.declared.fault.TurnRefusal.TheVariants as refusal
+use Rattle.fr_node_steps.specs.declared.fault.NodeTurnFault.{NodeTurnFault}
+use Rattle.fr_node_steps.specs.declared.fault.NodeTurnFault.TheVariants as turn_fault
 use Rattle.fr_node_steps.specs.declared.fault.Crash.{Crash}
 use Rattle.fr_node_steps.specs.declared.fault.Crash.TheVariants as crash
 
@@ -39,19 +39,19 @@ pub record ActiveStorage (S : Type 0) : Type 0 where
   pub is_over : Bool
 
 -- the reason if the stamps are spent
-abbrev pub spent_refusal : List Entry → ℕ → Option Refusal
+abbrev pub spent_refusal : List Entry → ℕ → Option TurnRefusal
 spent_refusal entries at = if are_spent entries at then Some refusal.StampsSpent else None
 
 -- ---- proxies
 
 -- the reason why a proxy does not take a batch
-abbrev pub submit_refusal : Option SubmitFault → Option Refusal → Option Refusal
+abbrev pub submit_refusal : Option SubmitFault → Option TurnRefusal → Option TurnRefusal
 submit_refusal None other = other
 submit_refusal (Some submit.TwoOpen) other = Some refusal.TwoOpen
 submit_refusal (Some submit.Over) other = Some refusal.Over
 submit_refusal (Some submit.Memory) other = Some refusal.Over
 
-abbrev pub proxy_refusal : ProxyState → List Entry → ℕ → Turn → Option Refusal
+abbrev pub proxy_refusal : ProxyState → List Entry → ℕ → NodeTurn → Option TurnRefusal
 proxy_refusal p entries at (turn.Ask from a) = Some refusal.NotTaken
 proxy_refusal p entries at (turn.Hear from tell) = spent_refusal entries at
 proxy_refusal p entries at (turn.Submit step batch) = submit_refusal (submit_fault p) (spent_refusal entries at)
@@ -59,7 +59,7 @@ proxy_refusal p entries at turn.Begin = Some refusal.NotTaken
 
 -- ---- recoverers
 
-abbrev pub recoverer_refusal : Bool → List Entry → ℕ → Turn → Option Refusal
+abbrev pub recoverer_refusal : Bool → List Entry → ℕ → NodeTurn → Option TurnRefusal
 recoverer_refusal begun entries at (turn.Ask from a) = Some refusal.NotTaken
 recoverer_refusal begun entries at (turn.Hear from tell) = if begun then spent_refusal entries at else Some refusal.NotBegun
 recoverer_refusal begun entries at (turn.Submit step batch) = Some refusal.NotTaken
@@ -67,29 +67,29 @@ recoverer_refusal begun entries at turn.Begin = if begun then Some refusal.Begun
 
 -- ---- storage servers
 
-abbrev pub storage_refusal : List Entry → ℕ → Turn → Option Refusal
+abbrev pub storage_refusal : List Entry → ℕ → NodeTurn → Option TurnRefusal
 storage_refusal entries at (turn.Ask from a) = Some refusal.NotTaken
 storage_refusal entries at (turn.Hear from tell) = spent_refusal entries at
 storage_refusal entries at (turn.Submit step batch) = Some refusal.NotTaken
 storage_refusal entries at turn.Begin = Some refusal.NotTaken
 
 -- the reason why a storage server does not say which value a key had at a version
-abbrev pub of_read : Option ReadFault → Option Refusal
+abbrev pub of_read : Option ReadFault → Option TurnRefusal
 of_read None = None
 of_read (Some read.NotMine) = Some refusal.NotMine
 of_read (Some read.TooOld) = Some refusal.TooOld
 of_read (Some read.FutureVersion) = Some refusal.FutureVersion
 of_read (Some (read.Store fault)) = None
 
-abbrev pub storage_read_refusal : Shard → StorageState → List ℕ → ℕ → Option Refusal
+abbrev pub storage_read_refusal : Shard → StorageState → List ℕ → ℕ → Option TurnRefusal
 storage_read_refusal shard s key version = of_read (read_fault shard s.store.floor s.store.applied key version)
 
 -- the reason if there is no stamp for each of two entries
-abbrev pub two_refusal : ℕ → Option Refusal
+abbrev pub two_refusal : ℕ → Option TurnRefusal
 two_refusal at = if nat_lt at (2 ^ 40 - 2) then None else Some refusal.StampsSpent
 
 -- the reason why a storage server is not started again: its store ends with the process, or it did something since, or else the stamps are spent
-abbrev pub storage_back_refusal : Bool → List Entry → ℕ → Option Refusal
+abbrev pub storage_back_refusal : Bool → List Entry → ℕ → Option TurnRefusal
 storage_back_refusal false entries at = Some refusal.NotTaken
 storage_back_refusal true [] at = two_refusal at
 storage_back_refusal true (e ∷ es) at = Some refusal.Begun
@@ -102,6 +102,6 @@ IsMemory why = why ≡ crash.Memory
 abbrev pub IsStoreCrash : Crash → Type 0
 IsStoreCrash why = (why ≡ crash.Memory) ⊎ (why ≡ crash.Store)
 
-abbrev pub IsStoreEnd : TurnFault → Type 0
+abbrev pub IsStoreEnd : NodeTurnFault → Type 0
 IsStoreEnd (turn_fault.Refused why) = ⊥
 IsStoreEnd (turn_fault.Crashed why) = IsStoreCrash why

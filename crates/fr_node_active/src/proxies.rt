@@ -4,14 +4,16 @@ ghost use Rattle.fr_base.specs.declared.place.NodeId.{NodeId};
 ghost use Rattle.fr_node_active.specs.Leads.{LeadsTo};
 ghost use Rattle.fr_node_active.specs.Nodes.{IsMemory, proxy_refusal};
 ghost use Rattle.fr_node_active.specs.Steps.{ProxyStep};
-ghost use Rattle.fr_node_steps.specs.declared.turn.Turn.{Turn};
+ghost use Rattle.fr_node_steps.specs.declared.turn.NodeTurn.{NodeTurn};
 ghost use Rattle.fr_node_steps.specs.Turns.{IfCrashed, IfRefused, IsTaken, Refuses};
 
 use fr_ask::{Last, Tell};
 use fr_audit_journal::{Act, Entry, Journal};
 use fr_base::{Bytes, NodeId, Stamp, Step, Version};
 use fr_mutation::Batch;
-use fr_node_steps::{Acting, Hearing, Newest, Refusal, Turn, TurnFault, Wants, stamp_above};
+use fr_node_steps::{
+    Acting, Hearing, Newest, NodeTurn, NodeTurnFault, TurnRefusal, Wants, stamp_above,
+};
 use fr_proxy::{Proxy, SubmitFault};
 use fr_run_event::last_of_proxy;
 use std::alloc::Global;
@@ -70,20 +72,20 @@ impl ProxyNode {
     }
 
     /// Takes a batch, and enters it.
-    fn submit(&mut self, at: Stamp, step: Step, batch: Batch) -> Result<Entry, TurnFault>
+    fn submit(&mut self, at: Stamp, step: Step, batch: Batch) -> Result<Entry, NodeTurnFault>
         ensures place { self.new.place ≡ self.old.place }
-        ensures taken { IfOk result (λ entry. IsTaken self.old.entries self.new.entries at (Turn.Submit step batch) entry) }
-        ensures refused { Refuses (proxy_refusal self.old.state self.old.entries at (Turn.Submit step batch)) result }
+        ensures taken { IfOk result (λ entry. IsTaken self.old.entries self.new.entries at (NodeTurn.Submit step batch) entry) }
+        ensures refused { Refuses (proxy_refusal self.old.state self.old.entries at (NodeTurn.Submit step batch)) result }
         ensures left { IfRefused result (self.new ≡ self.old) }
         ensures crashed { IfCrashed result IsMemory }
     {
         match self.proxy.submit_fault() {
-            Some(SubmitFault::TwoOpen) => return Err(TurnFault::Refused(Refusal::TwoOpen)),
-            Some(_) => return Err(TurnFault::Refused(Refusal::Over)),
+            Some(SubmitFault::TwoOpen) => return Err(NodeTurnFault::Refused(TurnRefusal::TwoOpen)),
+            Some(_) => return Err(NodeTurnFault::Refused(TurnRefusal::Over)),
             None => {}
         }
         let Some(stamp) = stamp_above(&self.journal, at) else {
-            return Err(TurnFault::Refused(Refusal::StampsSpent));
+            return Err(NodeTurnFault::Refused(TurnRefusal::StampsSpent));
         };
         let taken = batch.copy()?;
         let entry = Entry {
@@ -106,15 +108,15 @@ impl ProxyNode {
         at: Stamp,
         from: NodeId,
         tell: Tell,
-    ) -> Result<Entry, TurnFault>
+    ) -> Result<Entry, NodeTurnFault>
         ensures place { self.new.place ≡ self.old.place }
-        ensures taken { IfOk result (λ entry. IsTaken self.old.entries self.new.entries at (Turn.Hear from tell) entry) }
-        ensures refused { Refuses (proxy_refusal self.old.state self.old.entries at (Turn.Hear from tell)) result }
+        ensures taken { IfOk result (λ entry. IsTaken self.old.entries self.new.entries at (NodeTurn.Hear from tell) entry) }
+        ensures refused { Refuses (proxy_refusal self.old.state self.old.entries at (NodeTurn.Hear from tell)) result }
         ensures left { IfRefused result (self.new ≡ self.old) }
         ensures crashed { IfCrashed result IsMemory }
     {
         let Some(stamp) = stamp_above(&self.journal, at) else {
-            return Err(TurnFault::Refused(Refusal::StampsSpent));
+            return Err(NodeTurnFault::Refused(TurnRefusal::StampsSpent));
         };
         self.journal.reserve()?;
         let (outcome, _asks) = self.proxy.hear(alloc, from, &tell)?;
@@ -134,7 +136,7 @@ impl ProxyNode {
 }
 
 impl Acting for ProxyNode {
-    ghost use Rattle.fr_node_steps.specs.declared.fault.Refusal.TheVariants as refusal;
+    ghost use Rattle.fr_node_steps.specs.declared.fault.TurnRefusal.TheVariants as refusal;
     ghost use Rattle.std.specs.Prelude.{true, None, Some};
     ghost use Rattle.fr_proxy.specs.Proxy.{pending};
     ghost use Rattle.fr_run_event.specs.Last as last;
@@ -164,12 +166,12 @@ impl Acting for ProxyNode {
         self.journal.node()
     }
 
-    fn act(&mut self, alloc: Global, at: Stamp, turn: Turn) -> Result<Entry, TurnFault> {
+    fn act(&mut self, alloc: Global, at: Stamp, turn: NodeTurn) -> Result<Entry, NodeTurnFault> {
         match turn {
-            Turn::Submit { step, batch } => self.submit(at, step, batch),
-            Turn::Hear { from, tell } => self.hear(alloc, at, from, tell),
-            Turn::Ask { .. } => Err(TurnFault::Refused(Refusal::NotTaken)),
-            Turn::Begin => Err(TurnFault::Refused(Refusal::NotTaken)),
+            NodeTurn::Submit { step, batch } => self.submit(at, step, batch),
+            NodeTurn::Hear { from, tell } => self.hear(alloc, at, from, tell),
+            NodeTurn::Ask { .. } => Err(NodeTurnFault::Refused(TurnRefusal::NotTaken)),
+            NodeTurn::Begin => Err(NodeTurnFault::Refused(TurnRefusal::NotTaken)),
         }
     }
 
@@ -178,11 +180,11 @@ impl Acting for ProxyNode {
         _alloc: Global,
         _at: Stamp,
         _hearing: Option<Hearing>,
-    ) -> Result<Vec<Entry>, TurnFault> {
-        Err(TurnFault::Refused(Refusal::NotTaken))
+    ) -> Result<Vec<Entry>, NodeTurnFault> {
+        Err(NodeTurnFault::Refused(TurnRefusal::NotTaken))
     }
 
-    fn last(&mut self, _alloc: Global) -> Result<Last, TurnFault> {
+    fn last(&mut self, _alloc: Global) -> Result<Last, NodeTurnFault> {
         Ok(last_of_proxy(&self.proxy))
     }
 
@@ -191,8 +193,8 @@ impl Acting for ProxyNode {
         _alloc: Global,
         _key: &Bytes,
         _version: Version,
-    ) -> Result<Option<Bytes>, TurnFault> {
-        Err(TurnFault::Refused(Refusal::NotTaken))
+    ) -> Result<Option<Bytes>, NodeTurnFault> {
+        Err(NodeTurnFault::Refused(TurnRefusal::NotTaken))
     }
 
     fn tells_wants(&self) -> bool {
@@ -204,7 +206,7 @@ impl Acting for ProxyNode {
         alloc: Global,
         _turn: u32,
         _newest: Option<Newest>,
-    ) -> Result<Wants, TurnFault> {
+    ) -> Result<Wants, NodeTurnFault> {
         Ok(Wants::from_vec(self.proxy.pending(alloc)?))
     }
 }

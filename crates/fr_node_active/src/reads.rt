@@ -9,7 +9,7 @@ ghost use Rattle.fr_undo.specs.Undo.{value_undone};
 use fr_ask::{Last, Rows};
 use fr_base::{Bytes, Version};
 use fr_mutation::Shard;
-use fr_node_steps::{Crash, Refusal, TurnFault};
+use fr_node_steps::{Crash, NodeTurnFault, TurnRefusal};
 use fr_storage::{ReadFault, Storage, StorageFault};
 use fr_undo::{ShardStore, StoreFault};
 use std::alloc::Global;
@@ -18,7 +18,7 @@ use std::alloc::Global;
 pub(crate) fn last_said<S: ShardStore>(
     alloc: Global,
     storage: &mut Storage<S>,
-) -> Result<Last, TurnFault>
+) -> Result<Last, NodeTurnFault>
     ensures last { IfOk result (λ told. told ≡ last.last_of_storage (storage_of S.state storage.old)) }
     ensures stands { storage.old.failed ≡ false → OnOk result (storage_of S.state storage.new ≡ storage_of S.state storage.old) }
     ensures works { storage.old.failed ≡ false → OnOk result (storage.new.failed ≡ false) }
@@ -44,7 +44,7 @@ pub(crate) fn value_said<S: ShardStore>(
     shard: &Shard,
     key: &Bytes,
     version: Version,
-) -> Result<Option<Bytes>, TurnFault>
+) -> Result<Option<Bytes>, NodeTurnFault>
     requires works { storage.old.failed ≡ false }
     ensures value { IfOk result (λ value. value ≡ value_undone (S.state storage.old.store) version key.now) }
     ensures refused { RefusesRead (storage_read_refusal shard.now (storage_of S.state storage.old) key.now version) result }
@@ -55,20 +55,20 @@ pub(crate) fn value_said<S: ShardStore>(
 {
     match storage.read(alloc, shard, key, version) {
         Ok(value) => Ok(value),
-        Err(ReadFault::NotMine) => Err(TurnFault::Refused(Refusal::NotMine)),
-        Err(ReadFault::TooOld) => Err(TurnFault::Refused(Refusal::TooOld)),
-        Err(ReadFault::FutureVersion) => Err(TurnFault::Refused(Refusal::FutureVersion)),
-        Err(ReadFault::Store(StoreFault::Memory)) => Err(TurnFault::Crashed(Crash::Memory)),
-        Err(ReadFault::Store(_)) => Err(TurnFault::Crashed(Crash::Store)),
+        Err(ReadFault::NotMine) => Err(NodeTurnFault::Refused(TurnRefusal::NotMine)),
+        Err(ReadFault::TooOld) => Err(NodeTurnFault::Refused(TurnRefusal::TooOld)),
+        Err(ReadFault::FutureVersion) => Err(NodeTurnFault::Refused(TurnRefusal::FutureVersion)),
+        Err(ReadFault::Store(StoreFault::Memory)) => Err(NodeTurnFault::Crashed(Crash::Memory)),
+        Err(ReadFault::Store(_)) => Err(NodeTurnFault::Crashed(Crash::Store)),
     }
 }
 
 /// What a fault of a storage server is to its process.
-pub(crate) fn end_of(fault: StorageFault) -> TurnFault
+pub(crate) fn end_of(fault: StorageFault) -> NodeTurnFault
     ensures { IsStoreEnd result }
 {
     match fault {
-        StorageFault::Store(StoreFault::Memory) => TurnFault::Crashed(Crash::Memory),
-        _ => TurnFault::Crashed(Crash::Store),
+        StorageFault::Store(StoreFault::Memory) => NodeTurnFault::Crashed(Crash::Memory),
+        _ => NodeTurnFault::Crashed(Crash::Store),
     }
 }

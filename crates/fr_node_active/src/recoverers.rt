@@ -4,14 +4,16 @@ ghost use Rattle.fr_base.specs.declared.place.NodeId.{NodeId};
 ghost use Rattle.fr_node_active.specs.Leads.{LeadsTo};
 ghost use Rattle.fr_node_active.specs.Nodes.{IsMemory, recoverer_refusal};
 ghost use Rattle.fr_node_active.specs.Steps.{RecStep};
-ghost use Rattle.fr_node_steps.specs.declared.turn.Turn.{Turn};
+ghost use Rattle.fr_node_steps.specs.declared.turn.NodeTurn.{NodeTurn};
 ghost use Rattle.fr_node_steps.specs.Turns.{IfCrashed, IfRefused, IsTaken, Refuses};
 
 use fr_ask::{Last, Tell};
 use fr_audit_journal::{Act, Entry, Journal};
 use fr_base::{Bytes, NodeId, Shape, Stamp, Version};
 use fr_epoch::Recoverer;
-use fr_node_steps::{Acting, Hearing, Newest, Refusal, Turn, TurnFault, Wants, stamp_above};
+use fr_node_steps::{
+    Acting, Hearing, Newest, NodeTurn, NodeTurnFault, TurnRefusal, Wants, stamp_above,
+};
 use fr_run_event::last_of_recoverer;
 use std::alloc::Global;
 use std::marker::Model;
@@ -79,18 +81,18 @@ impl RecovererNode {
     }
 
     /// Begins, and enters that.
-    fn begin(&mut self, at: Stamp) -> Result<Entry, TurnFault>
+    fn begin(&mut self, at: Stamp) -> Result<Entry, NodeTurnFault>
         ensures place { self.new.place ≡ self.old.place }
-        ensures taken { IfOk result (λ entry. IsTaken self.old.entries self.new.entries at Turn.Begin entry) }
-        ensures refused { Refuses (recoverer_refusal self.old.state.has_begun self.old.entries at Turn.Begin) result }
+        ensures taken { IfOk result (λ entry. IsTaken self.old.entries self.new.entries at NodeTurn.Begin entry) }
+        ensures refused { Refuses (recoverer_refusal self.old.state.has_begun self.old.entries at NodeTurn.Begin) result }
         ensures left { IfRefused result (self.new ≡ self.old) }
         ensures crashed { IfCrashed result IsMemory }
     {
         if self.has_begun {
-            return Err(TurnFault::Refused(Refusal::Begun));
+            return Err(NodeTurnFault::Refused(TurnRefusal::Begun));
         }
         let Some(stamp) = stamp_above(&self.journal, at) else {
-            return Err(TurnFault::Refused(Refusal::StampsSpent));
+            return Err(NodeTurnFault::Refused(TurnRefusal::StampsSpent));
         };
         let entry = Entry {
             stamp,
@@ -110,18 +112,18 @@ impl RecovererNode {
         at: Stamp,
         from: NodeId,
         tell: Tell,
-    ) -> Result<Entry, TurnFault>
+    ) -> Result<Entry, NodeTurnFault>
         ensures place { self.new.place ≡ self.old.place }
-        ensures taken { IfOk result (λ entry. IsTaken self.old.entries self.new.entries at (Turn.Hear from tell) entry) }
-        ensures refused { Refuses (recoverer_refusal self.old.state.has_begun self.old.entries at (Turn.Hear from tell)) result }
+        ensures taken { IfOk result (λ entry. IsTaken self.old.entries self.new.entries at (NodeTurn.Hear from tell) entry) }
+        ensures refused { Refuses (recoverer_refusal self.old.state.has_begun self.old.entries at (NodeTurn.Hear from tell)) result }
         ensures left { IfRefused result (self.new ≡ self.old) }
         ensures crashed { IfCrashed result IsMemory }
     {
         if !self.has_begun {
-            return Err(TurnFault::Refused(Refusal::NotBegun));
+            return Err(NodeTurnFault::Refused(TurnRefusal::NotBegun));
         }
         let Some(stamp) = stamp_above(&self.journal, at) else {
-            return Err(TurnFault::Refused(Refusal::StampsSpent));
+            return Err(NodeTurnFault::Refused(TurnRefusal::StampsSpent));
         };
         self.journal.reserve()?;
         let heard = tell.copy()?;
@@ -142,7 +144,7 @@ impl RecovererNode {
 }
 
 impl Acting for RecovererNode {
-    ghost use Rattle.fr_node_steps.specs.declared.fault.Refusal.TheVariants as refusal;
+    ghost use Rattle.fr_node_steps.specs.declared.fault.TurnRefusal.TheVariants as refusal;
     ghost use Rattle.std.specs.Prelude.{true, None, Some, [], if◌then◌else◌};
     ghost use Rattle.fr_epoch.specs.Asks.{pending};
     ghost use Rattle.fr_run_event.specs.Last as last;
@@ -172,12 +174,12 @@ impl Acting for RecovererNode {
         self.journal.node()
     }
 
-    fn act(&mut self, alloc: Global, at: Stamp, turn: Turn) -> Result<Entry, TurnFault> {
+    fn act(&mut self, alloc: Global, at: Stamp, turn: NodeTurn) -> Result<Entry, NodeTurnFault> {
         match turn {
-            Turn::Begin => self.begin(at),
-            Turn::Hear { from, tell } => self.hear(alloc, at, from, tell),
-            Turn::Ask { .. } => Err(TurnFault::Refused(Refusal::NotTaken)),
-            Turn::Submit { .. } => Err(TurnFault::Refused(Refusal::NotTaken)),
+            NodeTurn::Begin => self.begin(at),
+            NodeTurn::Hear { from, tell } => self.hear(alloc, at, from, tell),
+            NodeTurn::Ask { .. } => Err(NodeTurnFault::Refused(TurnRefusal::NotTaken)),
+            NodeTurn::Submit { .. } => Err(NodeTurnFault::Refused(TurnRefusal::NotTaken)),
         }
     }
 
@@ -186,11 +188,11 @@ impl Acting for RecovererNode {
         _alloc: Global,
         _at: Stamp,
         _hearing: Option<Hearing>,
-    ) -> Result<Vec<Entry>, TurnFault> {
-        Err(TurnFault::Refused(Refusal::NotTaken))
+    ) -> Result<Vec<Entry>, NodeTurnFault> {
+        Err(NodeTurnFault::Refused(TurnRefusal::NotTaken))
     }
 
-    fn last(&mut self, alloc: Global) -> Result<Last, TurnFault> {
+    fn last(&mut self, alloc: Global) -> Result<Last, NodeTurnFault> {
         Ok(last_of_recoverer(alloc, &self.recoverer)?)
     }
 
@@ -199,8 +201,8 @@ impl Acting for RecovererNode {
         _alloc: Global,
         _key: &Bytes,
         _version: Version,
-    ) -> Result<Option<Bytes>, TurnFault> {
-        Err(TurnFault::Refused(Refusal::NotTaken))
+    ) -> Result<Option<Bytes>, NodeTurnFault> {
+        Err(NodeTurnFault::Refused(TurnRefusal::NotTaken))
     }
 
     fn tells_wants(&self) -> bool {
@@ -212,7 +214,7 @@ impl Acting for RecovererNode {
         alloc: Global,
         _turn: u32,
         _newest: Option<Newest>,
-    ) -> Result<Wants, TurnFault> {
+    ) -> Result<Wants, NodeTurnFault> {
         if self.has_begun {
             Ok(Wants::from_vec(self.recoverer.pending(alloc)?))
         } else {

@@ -6,11 +6,11 @@ ghost use Rattle.fr_node_active.specs.Leads.{EndsInCrash, LeadsOn};
 ghost use Rattle.fr_node_active.specs.Nodes.{IsStoreCrash, IsStoreEnd, storage_back_refusal, storage_read_refusal, storage_refusal, two_refusal};
 ghost use Rattle.fr_node_active.specs.Steps.{StorageStep};
 ghost use Rattle.fr_node_active.specs.Told.{IsTold};
-ghost use Rattle.fr_node_steps.specs.declared.turn.Turn.{Turn};
+ghost use Rattle.fr_node_steps.specs.declared.turn.NodeTurn.{NodeTurn};
 ghost use Rattle.fr_node_steps.specs.declared.fault.Crash.{Crash};
-ghost use Rattle.fr_node_steps.specs.declared.fault.Refusal.{Refusal};
+ghost use Rattle.fr_node_steps.specs.declared.fault.TurnRefusal.{TurnRefusal};
 ghost use Rattle.fr_node_steps.specs.Turns.{IfCrashed, IfRefused, IsBack, IsTaken, Refuses, RefusesRead, UnlessCrashed};
-ghost use Rattle.fr_runtime_hears.specs.Taken.{IsPart};
+ghost use Rattle.fr_storage.specs.Taken.{IsPart};
 ghost use Rattle.fr_storage.specs.Server.{storage_of};
 ghost use Rattle.fr_storage.specs.Storage.{after_peeked, peeked_calls, peeked_fault};
 ghost use Rattle.fr_undo.specs.Undo.{value_undone};
@@ -24,10 +24,10 @@ use fr_base::{Bytes, Epoch, Memory, NodeId, Stamp, Version};
 use fr_log::{LogTell, Peeked};
 use fr_mutation::Shard;
 use fr_node_steps::{
-    Acting, Hearing, Newest, Refusal, Turn, TurnFault, Wants, crash_at, stamp_above,
+    Acting, Crash, Hearing, Newest, NodeTurn, NodeTurnFault, TurnRefusal, Wants, crash_at,
+    stamp_above,
 };
-use fr_runtime_hears::{take_marked, take_peeked};
-use fr_storage::{Storage, StorageFault};
+use fr_storage::{Storage, StorageFault, take_marked, take_peeked};
 use fr_undo::ShardStore;
 use std::alloc::Global;
 use std::marker::Model;
@@ -110,17 +110,17 @@ impl<S: ShardStore> StorageNode<S> {
         at: Stamp,
         from: NodeId,
         tell: Tell,
-    ) -> Result<Entry, TurnFault>
+    ) -> Result<Entry, NodeTurnFault>
         requires works { self.old.is_over ≡ false }
         ensures place { self.new.place ≡ self.old.place }
-        ensures taken { IfOk result (λ entry. IsTaken self.old.entries self.new.entries at (Turn.Hear from tell) entry) }
+        ensures taken { IfOk result (λ entry. IsTaken self.old.entries self.new.entries at (NodeTurn.Hear from tell) entry) }
         ensures works { OnOk result (self.new.is_over ≡ false) }
-        ensures refused { Refuses (storage_refusal self.old.entries at (Turn.Hear from tell)) result }
+        ensures refused { Refuses (storage_refusal self.old.entries at (NodeTurn.Hear from tell)) result }
         ensures left { IfRefused result (self.new ≡ self.old) }
         ensures crashed { IfCrashed result IsStoreCrash }
     {
         let Some(stamp) = stamp_above(&self.journal, at) else {
-            return Err(TurnFault::Refused(Refusal::StampsSpent));
+            return Err(NodeTurnFault::Refused(TurnRefusal::StampsSpent));
         };
         self.journal.reserve()?;
         let taken = match tell_storage(alloc, &mut self.storage, &from, &tell) {
@@ -151,7 +151,7 @@ impl<S: ShardStore> StorageNode<S> {
         alloc: Global,
         key: &Bytes,
         version: Version,
-    ) -> Result<Option<Bytes>, TurnFault>
+    ) -> Result<Option<Bytes>, NodeTurnFault>
         requires works { self.old.is_over ≡ false }
         ensures place { self.new.place ≡ self.old.place }
         ensures shard { self.new.shard ≡ self.old.shard }
@@ -164,10 +164,10 @@ impl<S: ShardStore> StorageNode<S> {
     {
         match value_said(alloc, &mut self.storage, &self.shard, key, version) {
             Ok(value) => Ok(value),
-            Err(TurnFault::Refused(why)) => Err(TurnFault::Refused(why)),
-            Err(TurnFault::Crashed(why)) => {
+            Err(NodeTurnFault::Refused(why)) => Err(NodeTurnFault::Refused(why)),
+            Err(NodeTurnFault::Crashed(why)) => {
                 self.is_over = true;
-                Err(TurnFault::Crashed(why))
+                Err(NodeTurnFault::Crashed(why))
             }
         }
     }
@@ -179,7 +179,7 @@ impl<S: ShardStore> StorageNode<S> {
         alloc: Global,
         at: Stamp,
         hearing: Option<Hearing>,
-    ) -> Result<Vec<Entry>, TurnFault>
+    ) -> Result<Vec<Entry>, NodeTurnFault>
         requires works { self.old.is_over ≡ false }
         ensures place { self.new.place ≡ self.old.place }
         ensures storage { self.new.storage ≡ self.old.storage }
@@ -192,13 +192,13 @@ impl<S: ShardStore> StorageNode<S> {
         ensures crashed { IfCrashed result (λ why. why ≡ Crash.Memory) }
     {
         if !self.has_files {
-            return Err(TurnFault::Refused(Refusal::NotTaken));
+            return Err(NodeTurnFault::Refused(TurnRefusal::NotTaken));
         }
         if !self.journal.entries().is_empty() {
-            return Err(TurnFault::Refused(Refusal::Begun));
+            return Err(NodeTurnFault::Refused(TurnRefusal::Begun));
         }
         let Some(stamps) = two_stamps(at) else {
-            return Err(TurnFault::Refused(Refusal::StampsSpent));
+            return Err(NodeTurnFault::Refused(TurnRefusal::StampsSpent));
         };
         let part = match &hearing {
             Some(hearing) => part_of(&self.storage, hearing),
@@ -214,7 +214,7 @@ impl<S: ShardStore> StorageNode<S> {
 fn two_stamps(at: Stamp) -> Option<(Stamp, Stamp)>
     ensures later { IfSome result (λ two. (at < two.0) × (two.0 < two.1)) }
     ensures there { IfSome result (λ two. two_refusal at ≡ None) }
-    ensures spent { result ≡ None → two_refusal at ≡ Some Refusal.StampsSpent }
+    ensures spent { result ≡ None → two_refusal at ≡ Some TurnRefusal.StampsSpent }
 {
     let first = Stamp::new(at.get() + 1)?;
     let second = Stamp::new(first.get() + 1)?;
@@ -271,7 +271,7 @@ fn tell_storage<S: ShardStore>(
     storage: &mut Storage<S>,
     from: &NodeId,
     tell: &Tell,
-) -> Result<Option<Version>, TurnFault>
+) -> Result<Option<Version>, NodeTurnFault>
     ensures tag { storage.new.tag ≡ storage.old.tag }
     ensures told { storage.old.failed ≡ false → IfOk result (λ taken. IsTold (storage_of S.state storage.old) from.now tell.now taken
         (storage_of S.state storage.new)) }
@@ -308,7 +308,7 @@ fn peeked_by<S: ShardStore>(
 }
 
 /// What a storage server answers, if it is no fault of its store.
-fn unless_fault<T>(answer: Result<T, StorageFault>) -> Result<T, TurnFault>
+fn unless_fault<T>(answer: Result<T, StorageFault>) -> Result<T, NodeTurnFault>
     ensures ok { IfOk result (λ value. answer ≡ Ok value) }
     ensures fault { IfErr result IsStoreEnd }
 {
@@ -350,12 +350,12 @@ impl<S: ShardStore> Acting for StorageNode<S> {
         self.journal.node()
     }
 
-    fn act(&mut self, alloc: Global, at: Stamp, turn: Turn) -> Result<Entry, TurnFault> {
+    fn act(&mut self, alloc: Global, at: Stamp, turn: NodeTurn) -> Result<Entry, NodeTurnFault> {
         match turn {
-            Turn::Hear { from, tell } => self.hear(alloc, at, from, tell),
-            Turn::Ask { .. } => Err(TurnFault::Refused(Refusal::NotTaken)),
-            Turn::Submit { .. } => Err(TurnFault::Refused(Refusal::NotTaken)),
-            Turn::Begin => Err(TurnFault::Refused(Refusal::NotTaken)),
+            NodeTurn::Hear { from, tell } => self.hear(alloc, at, from, tell),
+            NodeTurn::Ask { .. } => Err(NodeTurnFault::Refused(TurnRefusal::NotTaken)),
+            NodeTurn::Submit { .. } => Err(NodeTurnFault::Refused(TurnRefusal::NotTaken)),
+            NodeTurn::Begin => Err(NodeTurnFault::Refused(TurnRefusal::NotTaken)),
         }
     }
 
@@ -364,11 +364,11 @@ impl<S: ShardStore> Acting for StorageNode<S> {
         alloc: Global,
         at: Stamp,
         hearing: Option<Hearing>,
-    ) -> Result<Vec<Entry>, TurnFault> {
+    ) -> Result<Vec<Entry>, NodeTurnFault> {
         self.started_again(alloc, at, hearing)
     }
 
-    fn last(&mut self, alloc: Global) -> Result<Last, TurnFault> {
+    fn last(&mut self, alloc: Global) -> Result<Last, NodeTurnFault> {
         match last_said(alloc, &mut self.storage) {
             Ok(last) => Ok(last),
             Err(fault) => {
@@ -383,7 +383,7 @@ impl<S: ShardStore> Acting for StorageNode<S> {
         alloc: Global,
         key: &Bytes,
         version: Version,
-    ) -> Result<Option<Bytes>, TurnFault> {
+    ) -> Result<Option<Bytes>, NodeTurnFault> {
         self.value_at(alloc, key, version)
     }
 
@@ -391,7 +391,12 @@ impl<S: ShardStore> Acting for StorageNode<S> {
         false
     }
 
-    fn wants(&self, alloc: Global, turn: u32, newest: Option<Newest>) -> Result<Wants, TurnFault> {
+    fn wants(
+        &self,
+        alloc: Global,
+        turn: u32,
+        newest: Option<Newest>,
+    ) -> Result<Wants, NodeTurnFault> {
         Ok(Wants::from_vec(asks_at(alloc, &self.storage, turn, newest)?))
     }
 }

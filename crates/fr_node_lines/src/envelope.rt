@@ -1,10 +1,7 @@
 //! Who sends a line, and by which number.
-use crate::names;
-use serde_json::Value;
-use std::alloc::{AllocError, Global};
-
-/// The greatest number of a line.
-const LAST_NUMBER: u64 = (1 << 53) - 1;
+use crate::fault::{BadLine, Member};
+use crate::members::Members;
+use std::alloc::Global;
 
 /// Who sent a line, and its number, if it says so.
 #[derive(Debug, Drop)]
@@ -22,35 +19,24 @@ impl Envelope {
         }
     }
 
-    /// The envelope of a line.
-    pub(crate) fn of(alloc: Global, line: &Value) -> Result<Self, AllocError> {
-        let sender = match line.get(names::SRC) {
-            Some(sender) => text_of(alloc, sender)?,
-            None => None,
-        };
-        let number = match line.get(names::BODY) {
-            Some(body) => number_of(body),
-            None => None,
-        };
-        Ok(Envelope { sender, number })
+    /// That of a line with this body.
+    pub(crate) fn of(
+        alloc: Global,
+        line: &Members<'_>,
+        body: &Members<'_>,
+    ) -> Result<Self, BadLine> {
+        Ok(Envelope {
+            sender: found(line.read(alloc, Member::Src))?,
+            number: found(body.read(alloc, Member::MsgId))?,
+        })
     }
 }
 
-/// A text.
-pub(crate) fn text_of(alloc: Global, value: &Value) -> Result<Option<String>, AllocError> {
-    match value.as_str() {
-        Some(text) => Ok(Some(String::from_str(alloc, text)?)),
-        None => Ok(None),
-    }
-}
-
-/// The number of a line, from its body.
-fn number_of(body: &Value) -> Option<u64> {
-    match body.get(names::MSG_ID) {
-        Some(number) => match number.as_u64() {
-            Some(number) if number <= LAST_NUMBER => Some(number),
-            _ => None,
-        },
-        None => None,
+/// What a member says, if it is in its form.
+pub(crate) fn found<T>(read: Result<T, BadLine>) -> Result<Option<T>, BadLine> {
+    match read {
+        Ok(value) => Ok(Some(value)),
+        Err(BadLine::Memory) => Err(BadLine::Memory),
+        Err(_) => Ok(None),
     }
 }

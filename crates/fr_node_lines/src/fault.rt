@@ -1,8 +1,9 @@
 //! Why a line is not done.
 use crate::names;
 use fr_base::Memory as NoMemory;
-use fr_forms::{ScriptFault, names as forms};
-use fr_node_steps::{Crash, Refusal, TurnFault};
+use fr_forms::Form::{self, Number, Object, OrNull, Text};
+use fr_forms::table;
+use fr_node_steps::{Crash, NodeTurnFault, TurnRefusal};
 use std::alloc::AllocError;
 
 /// A member of a line.
@@ -36,19 +37,68 @@ impl Member {
             Member::Type => names::TYPE,
             Member::MsgId => names::MSG_ID,
             Member::At => names::AT,
-            Member::From => forms::FROM,
-            Member::Ask => forms::ASK,
-            Member::Tell => forms::TELL,
-            Member::Step => forms::STEP,
-            Member::Batch => forms::BATCH,
+            Member::From => names::FROM,
+            Member::Ask => names::ASK,
+            Member::Tell => names::TELL,
+            Member::Step => names::STEP,
+            Member::Batch => names::BATCH,
             Member::Turn => names::TURN,
             Member::Newest => names::NEWEST,
             Member::Hearing => names::HEARING,
-            Member::Key => forms::KEY,
-            Member::Version => forms::VERSION,
+            Member::Key => names::KEY,
+            Member::Version => names::VERSION,
+        }
+    }
+
+    /// Its form.
+    pub(crate) fn form(self) -> &'static Form {
+        match self {
+            Member::Src | Member::Dest | Member::Type => &TEXT,
+            Member::Body | Member::Hearing => &ANY,
+            Member::MsgId => &NUMBER,
+            Member::At => &STAMP,
+            Member::From => &NODE,
+            Member::Ask => &ASK,
+            Member::Tell => &TELL,
+            Member::Step => &STEP,
+            Member::Batch => &BATCH,
+            Member::Turn => &TURN,
+            Member::Newest => &NEWEST,
+            Member::Key => &KEY,
+            Member::Version => &VERSION,
         }
     }
 }
+
+static TEXT: Form = Text;
+
+/// What is split into its members.
+static ANY: Form = Form::Any;
+
+/// The number of a line.
+static NUMBER: Form = Number(0, (1 << 53) - 1);
+
+/// The greatest stamp that the sender has seen.
+static STAMP: Form = table::STAMP;
+
+static NODE: Form = table::NODE;
+
+static ASK: Form = table::ASK;
+
+static TELL: Form = table::TELL;
+
+static STEP: Form = table::STEP;
+
+static BATCH: Form = table::BATCH;
+
+static KEY: Form = table::HEX;
+
+static VERSION: Form = table::VERSION;
+
+static TURN: Form = Number(0, (1 << 32) - 1);
+
+/// The newest epoch and how many logs it has.
+static NEWEST: Form = OrNull(&Object(&[("epoch", table::EPOCH), ("logs", Number(1, 16))]));
 
 /// Why a line asks nothing of a node.
 #[derive(Clone, Copy, Debug, PartialEq, Eq)]
@@ -75,7 +125,7 @@ pub enum LineFault {
     /// It asks nothing of the node.
     Bad(BadLine),
     /// The node refuses it, or cannot go on.
-    Turn(TurnFault),
+    Turn(NodeTurnFault),
 }
 
 impl LineFault {
@@ -85,10 +135,10 @@ impl LineFault {
             LineFault::Bad(BadLine::Memory) => CRASH,
             LineFault::Bad(BadLine::NoType) => NOT_SUPPORTED,
             LineFault::Bad(_) => MALFORMED,
-            LineFault::Turn(TurnFault::Refused(Refusal::NotTaken)) => NOT_SUPPORTED,
-            LineFault::Turn(TurnFault::Refused(Refusal::OtherAsk)) => MALFORMED,
-            LineFault::Turn(TurnFault::Refused(_)) => ABORT,
-            LineFault::Turn(TurnFault::Crashed(_)) => CRASH,
+            LineFault::Turn(NodeTurnFault::Refused(TurnRefusal::NotTaken)) => NOT_SUPPORTED,
+            LineFault::Turn(NodeTurnFault::Refused(TurnRefusal::OtherAsk)) => MALFORMED,
+            LineFault::Turn(NodeTurnFault::Refused(_)) => ABORT,
+            LineFault::Turn(NodeTurnFault::Crashed(_)) => CRASH,
         }
     }
 
@@ -96,8 +146,8 @@ impl LineFault {
     pub fn text(self) -> &'static str {
         match self {
             LineFault::Bad(bad) => bad_text(bad),
-            LineFault::Turn(TurnFault::Refused(why)) => refusal_text(why),
-            LineFault::Turn(TurnFault::Crashed(why)) => crash_text(why),
+            LineFault::Turn(NodeTurnFault::Refused(why)) => refusal_text(why),
+            LineFault::Turn(NodeTurnFault::Crashed(why)) => crash_text(why),
         }
     }
 }
@@ -128,19 +178,19 @@ fn bad_text(bad: BadLine) -> &'static str {
 }
 
 /// The name of a refusal.
-fn refusal_text(why: Refusal) -> &'static str {
+fn refusal_text(why: TurnRefusal) -> &'static str {
     match why {
-        Refusal::NotTaken => names::TYPE,
-        Refusal::OtherAsk => forms::ASK,
-        Refusal::NotBegun => "NotBegun",
-        Refusal::Begun => "Begun",
-        Refusal::TwoOpen => "TwoOpen",
-        Refusal::Over => "Over",
-        Refusal::NotMine => "NotMine",
-        Refusal::TooOld => "TooOld",
-        Refusal::FutureVersion => "FutureVersion",
-        Refusal::StampsSpent => "StampsSpent",
-        Refusal::Full => "Full",
+        TurnRefusal::NotTaken => names::TYPE,
+        TurnRefusal::OtherAsk => names::ASK,
+        TurnRefusal::NotBegun => "NotBegun",
+        TurnRefusal::Begun => "Begun",
+        TurnRefusal::TwoOpen => "TwoOpen",
+        TurnRefusal::Over => "Over",
+        TurnRefusal::NotMine => "NotMine",
+        TurnRefusal::TooOld => "TooOld",
+        TurnRefusal::FutureVersion => "FutureVersion",
+        TurnRefusal::StampsSpent => "StampsSpent",
+        TurnRefusal::Full => "Full",
     }
 }
 
@@ -163,14 +213,5 @@ impl From<NoMemory> for BadLine {
 impl From<AllocError> for BadLine {
     fn from(_: AllocError) -> BadLine {
         BadLine::Memory
-    }
-}
-
-/// What is wrong with a member.
-pub(crate) fn at<T>(member: Member, read: Result<T, ScriptFault>) -> Result<T, BadLine> {
-    match read {
-        Ok(value) => Ok(value),
-        Err(ScriptFault::BadScript) => Err(BadLine::Member(member)),
-        Err(ScriptFault::Memory) => Err(BadLine::Memory),
     }
 }

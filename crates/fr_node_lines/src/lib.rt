@@ -2,18 +2,16 @@
 //! as one.
 #![tactic(auto)]
 
-mod config;
 mod envelope;
 mod fault;
+mod members;
 mod names;
 mod reading;
-mod records;
 mod writing;
 
-pub use config::read_config;
 pub use envelope::Envelope;
 pub use fault::{BadLine, LineFault, Member};
 pub use fr_forms::ScriptFault;
-pub use names::name_of;
+pub use fr_simulate_script::read_config;
 pub use reading::{Line, read_line};
 pub use writing::{write_error, write_reply};

@@ -1,7 +1,4 @@
 //! The names of members and types: one table, by which they are read and written.
-use fr_base::NodeId;
-use std::alloc::{AllocError, Global};
-
 pub(crate) const SRC: &str = "src";
 
 pub(crate) const DEST: &str = "dest";
@@ -16,6 +13,22 @@ pub(crate) const IN_REPLY_TO: &str = "in_reply_to";
 
 pub(crate) const AT: &str = "at";
 
+pub(crate) const FROM: &str = "from";
+
+pub(crate) const ASK: &str = "ask";
+
+pub(crate) const TELL: &str = "tell";
+
+pub(crate) const STEP: &str = "step";
+
+pub(crate) const BATCH: &str = "batch";
+
+pub(crate) const ENTRIES: &str = "entries";
+
+pub(crate) const LAST: &str = "last";
+
+pub(crate) const NODE: &str = "node";
+
 pub(crate) const CODE: &str = "code";
 
 pub(crate) const ENTRY: &str = "entry";
@@ -28,11 +41,21 @@ pub(crate) const TEXT: &str = "text";
 
 pub(crate) const TURN: &str = "turn";
 
+pub(crate) const KEY: &str = "key";
+
+pub(crate) const VALUE: &str = "value";
+
+pub(crate) const VERSION: &str = "version";
+
+pub(crate) const READ: &str = "read";
+
 pub(crate) const WANTS: &str = "wants";
 
 // ---- types
 
 pub(crate) const INIT: &str = "init";
+
+pub(crate) const BEGIN: &str = "begin";
 
 pub(crate) const HEAR: &str = "hear";
 
@@ -59,30 +82,3 @@ pub(crate) const BEGIN_OK: &str = "begin_ok";
 pub(crate) const BACK_OK: &str = "back_ok";
 
 pub(crate) const ERROR: &str = "error";
-
-/// The name by which a node is written to: its kind, and its numbers.
-pub fn name_of(alloc: Global, node: NodeId) -> Result<String, AllocError> {
-    match node {
-        NodeId::Cell { index } => format!(in alloc; "cell {index}"),
-        NodeId::Log { epoch, index } => {
-            let epoch = epoch.get();
-            format!(in alloc; "log {epoch} {index}")
-        }
-        NodeId::Sequencer { epoch } => {
-            let epoch = epoch.get();
-            format!(in alloc; "sequencer {epoch}")
-        }
-        NodeId::Proxy { epoch, number } => {
-            let epoch = epoch.get();
-            format!(in alloc; "proxy {epoch} {number}")
-        }
-        NodeId::Recoverer { ballot } => {
-            let ballot = ballot.get();
-            format!(in alloc; "recoverer {ballot}")
-        }
-        NodeId::Storage { tag } => {
-            let tag = tag.get();
-            format!(in alloc; "storage {tag}")
-        }
-    }
-}

@@ -1,26 +1,21 @@
 //! Lines read.
-use crate::envelope::{Envelope, text_of};
-use crate::fault::{BadLine, Member, at};
-use crate::names::{self, name_of};
-use fr_ask::{Ask, Tell};
-use fr_base::{NodeId, Stamp};
-use fr_forms::fields::Fields;
-use fr_forms::{
-    ScriptFault, names as forms, read_ask, read_batch, read_node, read_step, read_tell,
-};
-use fr_mutation::Batch;
-use fr_node_steps::{Hearing, Newest, Order, Turn};
-use serde_json::Value;
-use std::alloc::{AllocError, Global};
+use crate::envelope::Envelope;
+use crate::fault::{BadLine, Member};
+use crate::members::Members;
+use crate::names;
+use fr_audit_journal::node_text;
+use fr_base::NodeId;
+use fr_forms::{Form, Nobody, ScriptFault, read_text};
+use fr_node_steps::{Hearing, Newest, NodeRequest, NodeTurn};
+use std::alloc::Global;
 
-/// The most logs that a generation has.
-const MAX_LOGS: u8 = 16;
+static ANY: Form = Form::Any;
 
 /// A line: who sent it, and what it asks of the node, or why it asks nothing.
 #[derive(Debug, Drop)]
 pub struct Line {
     pub envelope: Envelope,
-    pub order: Result<Order, BadLine>,
+    pub order: Result<NodeRequest, BadLine>,
 }
 
 impl Line {
@@ -36,17 +31,36 @@ impl Line {
 /// Reads a line to a node. An object has exactly the members that its type has, in any order. Of two members of one
 /// name the last one counts.
 pub fn read_line(alloc: Global, node: NodeId, text: &[u8]) -> Line {
-    let line = match Value::from_slice(alloc, text) {
-        Ok(line) => line,
-        Err(error) if error.is_memory() => return Line::bad(BadLine::Memory),
-        Err(_) => return Line::bad(BadLine::NotJson),
+    match split(alloc, text) {
+        Ok((envelope, line, body)) => {
+            let order = read_order(alloc, node, &envelope, &line, &body);
+            Line { envelope, order }
+        }
+        Err(bad) => Line::bad(bad),
+    }
+}
+
+/// Who sent a line, its members, and those of its body.
+fn split<'t>(
+    alloc: Global,
+    text: &'t [u8],
+) -> Result<(Envelope, Members<'t>, Members<'t>), BadLine> {
+    let line = Members::of(alloc, json_of(alloc, text)?)?;
+    let body = match line.get(Member::Body) {
+        Some(body) => Members::of(alloc, body)?,
+        None => Members::none(),
     };
-    let envelope = match Envelope::of(alloc, &line) {
-        Ok(envelope) => envelope,
-        Err(_) => return Line::bad(BadLine::Memory),
-    };
-    let order = read_order(alloc, node, &envelope, line);
-    Line { envelope, order }
+    let envelope = Envelope::of(alloc, &line, &body)?;
+    Ok((envelope, line, body))
+}
+
+/// The text of a line, which is JSON.
+fn json_of(alloc: Global, text: &[u8]) -> Result<&str, BadLine> {
+    match read_text(alloc, text, &ANY, &mut Nobody, &mut String::new(alloc)) {
+        Ok(()) => std::str::from_utf8(text).or(Err(BadLine::NotJson)),
+        Err(ScriptFault::BadScript) => Err(BadLine::NotJson),
+        Err(ScriptFault::Memory) => Err(BadLine::Memory),
+    }
 }
 
 /// What a line asks of a node.
@@ -54,159 +68,108 @@ fn read_order(
     alloc: Global,
     node: NodeId,
     envelope: &Envelope,
-    line: Value,
-) -> Result<Order, BadLine> {
-    let mut fields = fields_of(line, 3)?;
+    line: &Members<'_>,
+    body: &Members<'_>,
+) -> Result<NodeRequest, BadLine> {
+    line.count(3)?;
     if envelope.sender.is_none() {
         return Err(BadLine::Member(Member::Src));
     }
-    let dest = at(Member::Dest, fields.take(names::DEST))?;
-    if !is_text(&dest, name_of(alloc, node)?.as_str()) {
-        return Err(BadLine::OtherNode);
+    if line.get(Member::Dest).is_none() {
+        return Err(BadLine::Member(Member::Dest));
     }
-    let body = at(Member::Body, fields.take(names::BODY))?;
+    let name = node_text(alloc, node)?;
+    match line.read::<String>(alloc, Member::Dest) {
+        Ok(dest) if dest.as_str() == name.as_str() => {}
+        Err(BadLine::Memory) => return Err(BadLine::Memory),
+        _ => return Err(BadLine::OtherNode),
+    }
+    if line.get(Member::Body).is_none() {
+        return Err(BadLine::Member(Member::Body));
+    }
     if envelope.number.is_none() {
         return Err(BadLine::Member(Member::MsgId));
     }
-    let Some(kind) = type_of(alloc, &body)? else {
-        return Err(BadLine::Member(Member::Type));
-    };
+    let kind: String = body.read(alloc, Member::Type)?;
     read_kind(alloc, kind.as_str(), body)
 }
 
-/// Whether a value is this text.
-fn is_text(value: &Value, text: &str) -> bool {
-    match value.as_str() {
-        Some(found) => found == text,
-        None => false,
-    }
-}
-
-/// The type of a line, from its body.
-fn type_of(alloc: Global, body: &Value) -> Result<Option<String>, AllocError> {
-    match body.get(names::TYPE) {
-        Some(kind) => text_of(alloc, kind),
-        None => Ok(None),
-    }
-}
-
 /// Reads the body of a line of a type.
-fn read_kind(alloc: Global, kind: &str, body: Value) -> Result<Order, BadLine> {
+fn read_kind(alloc: Global, kind: &str, body: &Members<'_>) -> Result<NodeRequest, BadLine> {
     match kind {
-        names::INIT => read_init(body),
-        forms::LAST => read_last(body),
-        names::WANTS => read_wants(body),
-        forms::READ => read_read(alloc, body),
-        forms::ASK => read_asked(alloc, body),
+        names::INIT => body.count(2).map(|()| NodeRequest::Init),
+        names::LAST => body.count(2).map(|()| NodeRequest::Last),
+        names::WANTS => read_wants(alloc, body),
+        names::READ => read_read(alloc, body),
+        names::ASK => read_asked(alloc, body),
         names::HEAR => read_heard(alloc, body),
         names::SUBMIT => read_submitted(alloc, body),
-        forms::BEGIN => read_begin(body),
+        names::BEGIN => read_begin(alloc, body),
         names::BACK => read_back(alloc, body),
         _ => Err(BadLine::NoType),
     }
 }
 
-/// An object of so many members.
-fn fields_of(value: Value, count: usize) -> Result<Fields, BadLine> {
-    match value.as_object() {
-        Some(members) if members.len() == count => Ok(Fields::new(value, count)),
-        _ => Err(BadLine::Members),
-    }
-}
-
-fn read_init(body: Value) -> Result<Order, BadLine> {
-    let _fields = fields_of(body, 2)?;
-    Ok(Order::Init)
-}
-
-fn read_last(body: Value) -> Result<Order, BadLine> {
-    let _fields = fields_of(body, 2)?;
-    Ok(Order::Last)
-}
-
 /// What is asked in a turn. A line without the newest epoch asks none of its logs for their mark.
-fn read_wants(body: Value) -> Result<Order, BadLine> {
-    if body.get(names::NEWEST).is_none() {
-        let fields = fields_of(body, 3)?;
-        let turn = read_turn(&fields)?;
-        return Ok(Order::Wants { turn, newest: None });
+fn read_wants(alloc: Global, body: &Members<'_>) -> Result<NodeRequest, BadLine> {
+    let has_newest = body.get(Member::Newest).is_some();
+    body.count(if has_newest { 4 } else { 3 })?;
+    let turn: u64 = body.read(alloc, Member::Turn)?;
+    let Ok(turn) = u32::try_from(turn) else {
+        return Err(BadLine::Member(Member::Turn));
+    };
+    let mut newest = None;
+    if has_newest {
+        if let Some((epoch, logs)) = body.read(alloc, Member::Newest)? {
+            newest = Some(Newest { epoch, logs });
+        }
     }
-    let mut fields = fields_of(body, 4)?;
-    let turn = read_turn(&fields)?;
-    let newest = read_newest(at(Member::Newest, fields.take(names::NEWEST))?)?;
-    Ok(Order::Wants { turn, newest })
+    Ok(NodeRequest::Wants { turn, newest })
 }
 
 /// A key, and the version at which its value is asked for.
-fn read_read(alloc: Global, body: Value) -> Result<Order, BadLine> {
-    let fields = fields_of(body, 4)?;
-    let key = at(Member::Key, fields.bytes(alloc, forms::KEY))?;
-    let version = at(Member::Version, fields.version(forms::VERSION))?;
-    Ok(Order::Read { key, version })
+fn read_read(alloc: Global, body: &Members<'_>) -> Result<NodeRequest, BadLine> {
+    body.count(4)?;
+    let key = body.read(alloc, Member::Key)?;
+    let version = body.read(alloc, Member::Version)?;
+    Ok(NodeRequest::Read { key, version })
 }
 
-/// The number of a turn.
-fn read_turn(fields: &Fields) -> Result<u32, BadLine> {
-    match u32::try_from(at(Member::Turn, fields.number(names::TURN))?) {
-        Ok(turn) => Ok(turn),
-        Err(_) => Err(BadLine::Member(Member::Turn)),
-    }
-}
-
-/// The newest epoch and how many logs it has, or null.
-fn read_newest(value: Value) -> Result<Option<Newest>, BadLine> {
-    if value.is_null() {
-        return Ok(None);
-    }
-    let fields = Fields::new(value, 2);
-    let epoch = at(Member::Newest, fields.epoch(forms::EPOCH))?;
-    let logs = at(Member::Newest, fields.index(forms::LOGS, MAX_LOGS))?;
-    if logs == 0 {
-        return Err(BadLine::Member(Member::Newest));
-    }
-    Ok(Some(Newest { epoch, logs }))
-}
-
-/// The greatest stamp that the sender has seen.
-fn read_stamp(fields: &Fields) -> Result<Stamp, BadLine> {
-    match Stamp::new(at(Member::At, fields.number(names::AT))?) {
-        Some(stamp) => Ok(stamp),
-        None => Err(BadLine::Member(Member::At)),
-    }
-}
-
-fn read_begin(body: Value) -> Result<Order, BadLine> {
-    let fields = fields_of(body, 3)?;
-    let at = read_stamp(&fields)?;
-    Ok(Order::Take {
+fn read_begin(alloc: Global, body: &Members<'_>) -> Result<NodeRequest, BadLine> {
+    body.count(3)?;
+    let at = body.read(alloc, Member::At)?;
+    Ok(NodeRequest::Take {
         at,
-        turn: Turn::Begin,
+        turn: NodeTurn::Begin,
     })
 }
 
 /// A start after a kill. A line without a hear that was under way had none.
-fn read_back(alloc: Global, body: Value) -> Result<Order, BadLine> {
-    if body.get(names::HEARING).is_none() {
-        let fields = fields_of(body, 3)?;
-        let at = read_stamp(&fields)?;
-        return Ok(Order::Back { at, hearing: None });
+fn read_back(alloc: Global, body: &Members<'_>) -> Result<NodeRequest, BadLine> {
+    let Some(text) = body.get(Member::Hearing) else {
+        body.count(3)?;
+        let at = body.read(alloc, Member::At)?;
+        return Ok(NodeRequest::Back { at, hearing: None });
+    };
+    body.count(4)?;
+    let at = body.read(alloc, Member::At)?;
+    match read_hearing(alloc, text) {
+        Ok(hearing) => Ok(NodeRequest::Back {
+            at,
+            hearing: Some(hearing),
+        }),
+        Err(BadLine::Memory) => Err(BadLine::Memory),
+        Err(_) => Err(BadLine::Member(Member::Hearing)),
     }
-    let mut fields = fields_of(body, 4)?;
-    let stamp = read_stamp(&fields)?;
-    let hearing = at(Member::Hearing, fields.take(names::HEARING))?;
-    let hearing = at(Member::Hearing, read_hearing(alloc, hearing))?;
-    Ok(Order::Back {
-        at: stamp,
-        hearing: Some(hearing),
-    })
 }
 
 /// A hear that was under way: who told what, and the version of the node's last answer before it.
-fn read_hearing(alloc: Global, value: Value) -> Result<Hearing, ScriptFault> {
-    let mut fields = Fields::new(value, 3);
-    let from = read_from(&mut fields)?;
-    let tell = read_tell_in(alloc, &mut fields)?;
-    let version = fields.version(forms::VERSION)?;
+fn read_hearing(alloc: Global, text: &str) -> Result<Hearing, BadLine> {
+    let members = Members::of(alloc, text)?;
+    members.count(3)?;
+    let from = members.read(alloc, Member::From)?;
+    let tell = members.read(alloc, Member::Tell)?;
+    let version = members.read(alloc, Member::Version)?;
     Ok(Hearing {
         from,
         tell,
@@ -214,51 +177,35 @@ fn read_hearing(alloc: Global, value: Value) -> Result<Hearing, ScriptFault> {
     })
 }
 
-fn read_asked(alloc: Global, body: Value) -> Result<Order, BadLine> {
-    let mut fields = fields_of(body, 5)?;
-    let stamp = read_stamp(&fields)?;
-    let from = at(Member::From, read_from(&mut fields))?;
-    let ask = at(Member::Ask, read_ask_in(alloc, &mut fields))?;
-    Ok(Order::Take {
-        at: stamp,
-        turn: Turn::Ask { from, ask },
+fn read_asked(alloc: Global, body: &Members<'_>) -> Result<NodeRequest, BadLine> {
+    body.count(5)?;
+    let at = body.read(alloc, Member::At)?;
+    let from = body.read(alloc, Member::From)?;
+    let ask = body.read(alloc, Member::Ask)?;
+    Ok(NodeRequest::Take {
+        at,
+        turn: NodeTurn::Ask { from, ask },
     })
 }
 
-fn read_heard(alloc: Global, body: Value) -> Result<Order, BadLine> {
-    let mut fields = fields_of(body, 5)?;
-    let stamp = read_stamp(&fields)?;
-    let from = at(Member::From, read_from(&mut fields))?;
-    let tell = at(Member::Tell, read_tell_in(alloc, &mut fields))?;
-    Ok(Order::Take {
-        at: stamp,
-        turn: Turn::Hear { from, tell },
+fn read_heard(alloc: Global, body: &Members<'_>) -> Result<NodeRequest, BadLine> {
+    body.count(5)?;
+    let at = body.read(alloc, Member::At)?;
+    let from = body.read(alloc, Member::From)?;
+    let tell = body.read(alloc, Member::Tell)?;
+    Ok(NodeRequest::Take {
+        at,
+        turn: NodeTurn::Hear { from, tell },
     })
 }
 
-fn read_submitted(alloc: Global, body: Value) -> Result<Order, BadLine> {
-    let mut fields = fields_of(body, 5)?;
-    let stamp = read_stamp(&fields)?;
-    let step = at(Member::Step, read_step(&fields))?;
-    let batch = at(Member::Batch, read_batch_in(alloc, &mut fields))?;
-    Ok(Order::Take {
-        at: stamp,
-        turn: Turn::Submit { step, batch },
+fn read_submitted(alloc: Global, body: &Members<'_>) -> Result<NodeRequest, BadLine> {
+    body.count(5)?;
+    let at = body.read(alloc, Member::At)?;
+    let step = body.read(alloc, Member::Step)?;
+    let batch = body.read(alloc, Member::Batch)?;
+    Ok(NodeRequest::Take {
+        at,
+        turn: NodeTurn::Submit { step, batch },
     })
-}
-
-fn read_from(fields: &mut Fields) -> Result<NodeId, ScriptFault> {
-    read_node(fields.take(forms::FROM)?)
-}
-
-fn read_ask_in(alloc: Global, fields: &mut Fields) -> Result<Ask, ScriptFault> {
-    read_ask(alloc, fields.take(forms::ASK)?)
-}
-
-fn read_tell_in(alloc: Global, fields: &mut Fields) -> Result<Tell, ScriptFault> {
-    read_tell(alloc, fields.take(forms::TELL)?)
-}
-
-fn read_batch_in(alloc: Global, fields: &mut Fields) -> Result<Batch, ScriptFault> {
-    read_batch(alloc, fields.take(forms::BATCH)?)
 }

@@ -1,15 +1,13 @@
 //! Lines written.
 use crate::envelope::Envelope;
 use crate::fault::LineFault;
-use crate::names::{self, name_of};
-use crate::records::write_entry;
+use crate::names;
 use fr_ask::Last;
-use fr_audit_journal::Entry;
-use fr_base::{Bytes, Memory, NodeId};
-use fr_forms::lists::write_all;
-use fr_forms::object::{Object, hex_value, write_text};
-use fr_forms::{names as forms, write_last, write_node};
-use fr_node_steps::{Kind, Reply, Wants};
+use fr_audit_journal::{Entry, node_text};
+use fr_audit_script::write_entry;
+use fr_base::{Memory, NodeId};
+use fr_forms::{Object, text_value, write_all};
+use fr_node_steps::{Kind, NodeReply, Wants};
 use serde_json::Value;
 use std::alloc::Global;
 
@@ -18,22 +16,18 @@ pub fn write_reply(
     alloc: Global,
     node: NodeId,
     envelope: &Envelope,
-    reply: &Reply,
+    reply: &NodeReply,
 ) -> Result<Vec<u8>, Memory> {
     let body = match reply {
-        Reply::Init { node, last } => of_type(alloc, names::INIT_OK)?
-            .and(forms::NODE, write_node(alloc, node))?
-            .and(forms::LAST, write_last(alloc, last))?,
-        Reply::Last { last } => {
-            of_type(alloc, names::LAST_OK)?.and(forms::LAST, write_last(alloc, last))?
+        NodeReply::Init { node, last } => of_type(alloc, names::INIT_OK)?
+            .with(names::NODE, node)?
+            .with(names::LAST, last)?,
+        NodeReply::Last { last } => of_type(alloc, names::LAST_OK)?.with(names::LAST, last)?,
+        NodeReply::Wants { wants } => {
+            of_type(alloc, names::WANTS_OK)?.put(names::WANTS, write_all(alloc, wants.as_slice()))?
         }
-        Reply::Wants { wants } => {
-            of_type(alloc, names::WANTS_OK)?.and(names::WANTS, write_all(alloc, wants.as_slice()))?
-        }
-        Reply::Read { value } => {
-            of_type(alloc, names::READ_OK)?.and(forms::VALUE, write_value(alloc, value))?
-        }
-        Reply::Taken {
+        NodeReply::Read { value } => { of_type(alloc, names::READ_OK)?.with(names::VALUE, value)? }
+        NodeReply::Taken {
             kind,
             entry,
             last,
@@ -42,7 +36,7 @@ pub fn write_reply(
             let body = write_taken(alloc, *kind, entry, last)?;
             with_wants(alloc, body, wants)?
         }
-        Reply::Back { entries, last } => write_back(alloc, entries.as_slice(), last)?,
+        NodeReply::Back { entries, last } => write_back(alloc, entries.as_slice(), last)?,
     };
     write_line(alloc, node, envelope, body)
 }
@@ -55,37 +49,30 @@ pub fn write_error(
     fault: LineFault,
 ) -> Result<Vec<u8>, Memory> {
     let body = of_type(alloc, names::ERROR)?
-        .with(names::CODE, Value::from(fault.code()))?
-        .and(names::TEXT, write_text(alloc, fault.text()))?;
+        .with(names::CODE, &fault.code())?
+        .put(names::TEXT, text_value(alloc, fault.text()))?;
     write_line(alloc, node, envelope, body)
 }
 
 fn of_type(alloc: Global, name: &str) -> Result<Object, Memory> {
-    Object::new(alloc).and(names::TYPE, write_text(alloc, name))
-}
-
-/// A value in hex, or null.
-fn write_value(alloc: Global, value: &Option<Bytes>) -> Result<Value, Memory> {
-    match value {
-        Some(value) => hex_value(alloc, value.as_slice()),
-        None => Ok(Value::Null),
-    }
+    Object::new(alloc).put(names::TYPE, text_value(alloc, name))
 }
 
 /// What is entered of a turn, and the node's state then.
 fn write_taken(alloc: Global, kind: Kind, entry: &Entry, last: &Last) -> Result<Object, Memory> {
-    let body = of_type(alloc, type_of(kind))?.and(forms::LAST, write_last(alloc, last))?;
-    body.and(names::ENTRY, write_entry(alloc, entry))
+    of_type(alloc, type_of(kind))?
+        .with(names::LAST, last)?
+        .put(names::ENTRY, write_entry(alloc, entry))
 }
 
 /// What is entered of a node that was started again, and its state.
 fn write_back(alloc: Global, entries: &[Entry], last: &Last) -> Result<Object, Memory> {
-    let body = of_type(alloc, names::BACK_OK)?.and(forms::LAST, write_last(alloc, last))?;
+    let body = of_type(alloc, names::BACK_OK)?.with(names::LAST, last)?;
     let mut written = Vec::with_capacity(alloc, entries.len())?;
     for entry in entries {
         written.push(write_entry(alloc, entry)?)?;
     }
-    body.with(forms::ENTRIES, Value::Array(written))
+    body.put(names::ENTRIES, Ok(Value::Array(written)))
 }
 
 /// The type of the answer to a turn of a kind.
@@ -100,7 +87,7 @@ fn type_of(kind: Kind) -> &'static str {
 
 fn with_wants(alloc: Global, body: Object, wants: &Option<Wants>) -> Result<Object, Memory> {
     match wants {
-        Some(wants) => body.and(names::WANTS, write_all(alloc, wants.as_slice())),
+        Some(wants) => body.put(names::WANTS, write_all(alloc, wants.as_slice())),
         None => Ok(body),
     }
 }
@@ -113,18 +100,18 @@ fn write_line(
     body: Object,
 ) -> Result<Vec<u8>, Memory> {
     let body = match envelope.number {
-        Some(number) => body.with(names::IN_REPLY_TO, Value::from(number))?,
+        Some(number) => body.with(names::IN_REPLY_TO, &number)?,
         None => body,
     };
-    let name = name_of(alloc, node)?;
+    let name = node_text(alloc, node)?;
     let line = Object::new(alloc)
-        .and(names::SRC, write_text(alloc, name.as_str()))?
-        .with(names::BODY, body.value())?;
+        .with(names::SRC, &name)?
+        .put(names::BODY, body.value())?;
     let line = match &envelope.sender {
-        Some(sender) => line.and(names::DEST, write_text(alloc, sender.as_str()))?,
+        Some(sender) => line.with(names::DEST, sender)?,
         None => line,
     };
-    let mut text = line.value().to_vec(alloc)?;
+    let mut text = line.value()?.to_vec(alloc)?;
     text.push(b'\n')?;
     Ok(text)
 }

@@ -7,7 +7,7 @@ use Rattle.fr_ask.specs.declared.tell.Tell.{Tell}
 use Rattle.fr_audit_journal.specs.declared.act.Act.TheVariants as act
 use Rattle.fr_audit_journal.specs.declared.act.Entry.{Entry}
 use Rattle.fr_runtime_housing.specs.Replays.{Steps, told_at, after_at, after_act, state_after, TellsAre, IsTold, ends_by_crash, gone_after, gone_at_end, IsThere}
-use Rattle.fr_node_steps.specs.declared.fault.TurnFault.{TurnFault}
+use Rattle.fr_node_steps.specs.declared.fault.NodeTurnFault.{NodeTurnFault}
 use Rattle.fr_node_steps.specs.Passive.{IsServed, IsOnlyCrash}
 
 state-append : {S A : Type 0} (m : Steps S A) (s : S) (es : List Entry) (e : Entry)
@@ -88,7 +88,7 @@ served-only m place now first es longer s (e ∷ []) h stays p is only = served-
 served-only m place now first es longer s (e ∷ f ∷ list) h stays p is only = absurd only
 
 -- and whether it was, or was refused, is what is answered
-pub served-back : {S A V : Type 0} (items : V → List Entry) (m : Steps S A) (place now : NodeId) (first : S) (es longer : List Entry) (s : S) (has : Bool) (r : Result V TurnFault)
+pub served-back : {S A V : Type 0} (items : V → List Entry) (m : Steps S A) (place now : NodeId) (first : S) (es longer : List Entry) (s : S) (has : Bool) (r : Result V NodeTurnFault)
     → IsServed m place first es s → (has ≡ true → ends_by_crash place ≡ false) → now ≡ place
     → IfOk r (λ v. longer ≡ es ++ items v) → IfOk r (λ v. IsOnlyCrash (items v)) → OnOk r (has ≡ true) → OnErr r (longer ≡ es)
     → IsServed m now first longer s

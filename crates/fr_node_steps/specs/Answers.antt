@@ -4,14 +4,14 @@ use Rattle.fr_base.specs.declared.place.NodeId.{NodeId}
 use Rattle.fr_ask.specs.declared.ask.Ask.{Ask}
 use Rattle.fr_ask.specs.declared.last.Last.{Last}
 use Rattle.fr_audit_journal.specs.declared.act.Entry.{Entry}
-use Rattle.fr_node_steps.specs.declared.turn.Turn.{Turn}
+use Rattle.fr_node_steps.specs.declared.turn.NodeTurn.{NodeTurn}
 use Rattle.fr_node_steps.specs.declared.turn.Newest.{Newest}
 use Rattle.fr_node_steps.specs.declared.turn.Hearing.{Hearing}
-use Rattle.fr_node_steps.specs.declared.fault.Refusal.{Refusal}
-use Rattle.fr_node_steps.specs.declared.reply.Order.{Order}
-use Rattle.fr_node_steps.specs.declared.reply.Order.TheVariants as order
-use Rattle.fr_node_steps.specs.declared.reply.Reply.{Reply}
-use Rattle.fr_node_steps.specs.declared.reply.Reply.TheVariants as reply
+use Rattle.fr_node_steps.specs.declared.fault.TurnRefusal.{TurnRefusal}
+use Rattle.fr_node_steps.specs.declared.reply.NodeRequest.{NodeRequest}
+use Rattle.fr_node_steps.specs.declared.reply.NodeRequest.TheVariants as order
+use Rattle.fr_node_steps.specs.declared.reply.NodeReply.{NodeReply}
+use Rattle.fr_node_steps.specs.declared.reply.NodeReply.TheVariants as reply
 use Rattle.fr_node_steps.specs.Kinds.{kind_of}
 use Rattle.fr_node_steps.specs.Turns.{IsBack, IsTaken}
 
@@ -24,7 +24,7 @@ pub record Seen : Type 0 where
   pub read : List ℕ → ℕ → Option (List ℕ)
 
 -- the answer is that of what was asked: of a turn and of a start the entries that the journal has more than before, and else nothing is entered
-abbrev pub IsAnswer : Seen → Seen → Order → Reply → Type 0
+abbrev pub IsAnswer : Seen → Seen → NodeRequest → NodeReply → Type 0
 IsAnswer old new order.Init (reply.Init node last) = (node ≡ new.node) × ((last ≡ new.last) × (new.entries ≡ old.entries))
 IsAnswer old new order.Last (reply.Last last) = (last ≡ new.last) × (new.entries ≡ old.entries)
 IsAnswer old new (order.Wants turn newest) (reply.Wants asks) = (asks ≡ new.wanted turn newest) × (new.entries ≡ old.entries)
@@ -36,7 +36,7 @@ IsAnswer old new (order.Back at hearing) (reply.Back answered last) =
 IsAnswer old new o r = ⊥
 
 -- the reason why it is refused, if there is one: only a turn, a start or a read can be
-abbrev pub order_refusal : (ℕ → Turn → Option Refusal) → (ℕ → Option Hearing → Option Refusal) → (List ℕ → ℕ → Option Refusal) → Order → Option Refusal
+abbrev pub order_refusal : (ℕ → NodeTurn → Option TurnRefusal) → (ℕ → Option Hearing → Option TurnRefusal) → (List ℕ → ℕ → Option TurnRefusal) → NodeRequest → Option TurnRefusal
 order_refusal refusal back read (order.Take at turn) = refusal at turn
 order_refusal refusal back read (order.Back at hearing) = back at hearing
 order_refusal refusal back read (order.Read key version) = read key version

@@ -8,11 +8,11 @@ use Rattle.fr_audit_journal.specs.declared.act.Entry.{Entry}
 use Rattle.fr_audit_journal.specs.declared.act.Act.TheVariants as act
 use Rattle.fr_runtime_housing.specs.Housing.{last_number}
 use Rattle.fr_runtime_housing.specs.Replays.{Steps, TellsAre, IsThere, gone_at_end, state_after}
-use Rattle.fr_node_steps.specs.declared.turn.Turn.{Turn}
-use Rattle.fr_node_steps.specs.declared.turn.Turn.TheVariants as turn
+use Rattle.fr_node_steps.specs.declared.turn.NodeTurn.{NodeTurn}
+use Rattle.fr_node_steps.specs.declared.turn.NodeTurn.TheVariants as turn
 use Rattle.fr_node_steps.specs.declared.turn.Hearing.{Hearing}
-use Rattle.fr_node_steps.specs.declared.fault.Refusal.{Refusal}
-use Rattle.fr_node_steps.specs.declared.fault.Refusal.TheVariants as refusal
+use Rattle.fr_node_steps.specs.declared.fault.TurnRefusal.{TurnRefusal}
+use Rattle.fr_node_steps.specs.declared.fault.TurnRefusal.TheVariants as refusal
 use Rattle.fr_node_steps.specs.declared.fault.Crash.{Crash}
 use Rattle.fr_node_steps.specs.declared.fault.Crash.TheVariants as crash
 
@@ -36,18 +36,18 @@ abbrev pub are_spent : List Entry → ℕ → Bool
 are_spent entries at = max (last_number entries) at == 2 ^ 40 - 1
 
 -- the reason why an ask is refused: it is one of another kind of node, or else the stamps are spent
-abbrev pub ask_refusal : {A : Type 0} → Option A → Bool → Option Refusal
+abbrev pub ask_refusal : {A : Type 0} → Option A → Bool → Option TurnRefusal
 ask_refusal None spent = Some refusal.OtherAsk
 ask_refusal (Some a) spent = if spent then Some refusal.StampsSpent else None
 
 -- the reason why a node is not started again: it has no files, or it is said to have heard something, or else the stamps are spent
-abbrev pub back_refusal : Bool → List Entry → ℕ → Option Hearing → Option Refusal
+abbrev pub back_refusal : Bool → List Entry → ℕ → Option Hearing → Option TurnRefusal
 back_refusal false entries at hearing = Some refusal.NotTaken
 back_refusal true entries at (Some h) = Some refusal.NotTaken
 back_refusal true entries at None = if are_spent entries at then Some refusal.StampsSpent else None
 
 -- the reason why a turn is refused: a node that answers asks takes no other turn
-abbrev pub passive_refusal : {A : Type 0} → (Ask → Option A) → List Entry → ℕ → Turn → Option Refusal
+abbrev pub passive_refusal : {A : Type 0} → (Ask → Option A) → List Entry → ℕ → NodeTurn → Option TurnRefusal
 passive_refusal unwrapped entries at (turn.Ask from ask) = ask_refusal (unwrapped ask) (are_spent entries at)
 passive_refusal unwrapped entries at t = Some refusal.NotTaken
 

@@ -2,8 +2,8 @@
 ghost use Rattle.std.specs.Prelude.{◌≡◌, ◌++◌, true, IfOk, OnOk};
 ghost use Rattle.fr_node_steps.specs.Turns.{IfCrashed, IfRefused, IsBack, IsTaken, Refuses, RefusesRead, UnlessCrashed};
 
-use crate::fault::TurnFault;
-use crate::turn::{Hearing, Newest, Turn};
+use crate::fault::NodeTurnFault;
+use crate::turn::{Hearing, Newest, NodeTurn};
 use crate::wants::Wants;
 use fr_ask::Last;
 use fr_audit_journal::Entry;
@@ -17,10 +17,10 @@ pub trait Acting {
     ghost use Rattle.fr_ask.specs.declared.ask.Ask.{Ask};
     ghost use Rattle.fr_ask.specs.declared.last.Last.{Last};
     ghost use Rattle.fr_audit_journal.specs.declared.act.Entry.{Entry};
-    ghost use Rattle.fr_node_steps.specs.declared.turn.Turn.{Turn};
+    ghost use Rattle.fr_node_steps.specs.declared.turn.NodeTurn.{NodeTurn};
     ghost use Rattle.fr_node_steps.specs.declared.turn.Newest.{Newest};
     ghost use Rattle.fr_node_steps.specs.declared.turn.Hearing.{Hearing};
-    ghost use Rattle.fr_node_steps.specs.declared.fault.Refusal.{Refusal};
+    ghost use Rattle.fr_node_steps.specs.declared.fault.TurnRefusal.{TurnRefusal};
     ghost use Rattle.fr_node_steps.specs.declared.fault.Crash.{Crash};
 
     /// The node.
@@ -36,10 +36,10 @@ pub trait Acting {
     ghost works: { Self → Bool };
 
     /// The reason why a turn is refused, above a stamp, if there is one.
-    ghost refusal: { Self → ℕ → Turn → Option Refusal };
+    ghost refusal: { Self → ℕ → NodeTurn → Option TurnRefusal };
 
     /// The reason why it is not started again, above a stamp, if there is one.
-    ghost back_refusal: { Self → ℕ → Option Hearing → Option Refusal };
+    ghost back_refusal: { Self → ℕ → Option Hearing → Option TurnRefusal };
 
     /// What it asks in a turn, if the logs of an epoch may be asked for their mark.
     ghost wanted: { Self → ℕ → Option Newest → List (NodeId × Ask) };
@@ -48,7 +48,7 @@ pub trait Acting {
     ghost value_at: { Self → List ℕ → ℕ → Option (List ℕ) };
 
     /// The reason why it does not say which value a key had at a version, if there is one.
-    ghost read_refusal: { Self → List ℕ → ℕ → Option Refusal };
+    ghost read_refusal: { Self → List ℕ → ℕ → Option TurnRefusal };
 
     /// Why such a node may be unable to go on.
     ghost CanCrash: { Crash → Type 0 };
@@ -59,7 +59,7 @@ pub trait Acting {
 
     /// Takes a turn, above the stamp that the asker has seen, and answers what is entered. A turn that is refused
     /// changes nothing that others see.
-    fn act(&mut self, alloc: Global, at: Stamp, turn: Turn) -> Result<Entry, TurnFault>
+    fn act(&mut self, alloc: Global, at: Stamp, turn: NodeTurn) -> Result<Entry, NodeTurnFault>
         requires works { works self.old ≡ true }
         ensures node { node self.new ≡ node self.old }
         ensures taken { IfOk result (λ entry. IsTaken (entries self.old) (entries self.new) at turn entry) }
@@ -77,7 +77,7 @@ pub trait Acting {
         alloc: Global,
         at: Stamp,
         hearing: Option<Hearing>,
-    ) -> Result<Vec<Entry>, TurnFault>
+    ) -> Result<Vec<Entry>, NodeTurnFault>
         requires works { works self.old ≡ true }
         ensures node { node self.new ≡ node self.old }
         ensures entries { IfOk result (λ answered. entries self.new ≡ entries self.old ++ answered.items) }
@@ -89,7 +89,7 @@ pub trait Acting {
         ensures crashed { IfCrashed result CanCrash };
 
     /// Its state, as others see it.
-    fn last(&mut self, alloc: Global) -> Result<Last, TurnFault>
+    fn last(&mut self, alloc: Global) -> Result<Last, NodeTurnFault>
         requires works { works self.old ≡ true }
         ensures node { node self.new ≡ node self.old }
         ensures last { IfOk result (λ last. last ≡ last_of self.old) }
@@ -105,7 +105,7 @@ pub trait Acting {
         alloc: Global,
         key: &Bytes,
         version: Version,
-    ) -> Result<Option<Bytes>, TurnFault>
+    ) -> Result<Option<Bytes>, NodeTurnFault>
         requires works { works self.old ≡ true }
         ensures node { node self.new ≡ node self.old }
         ensures value { IfOk result (λ value. value ≡ value_at self.old key.now version) }
@@ -120,7 +120,12 @@ pub trait Acting {
     fn tells_wants(&self) -> bool;
 
     /// What it asks in a turn, with the newest epoch whose logs it may ask for their mark.
-    fn wants(&self, alloc: Global, turn: u32, newest: Option<Newest>) -> Result<Wants, TurnFault>
+    fn wants(
+        &self,
+        alloc: Global,
+        turn: u32,
+        newest: Option<Newest>,
+    ) -> Result<Wants, NodeTurnFault>
         ensures asks { IfOk result (λ asks. asks ≡ wanted self.now turn newest) }
         ensures crashed { IfCrashed result CanCrash }
         ensures never_refused { IfRefused result ⊥ };

@@ -4,7 +4,7 @@ use thiserror::Error;
 
 /// Why a node refuses a turn or a read. A refusal changes nothing. Of several reasons the first of these variants is told.
 #[derive(Clone, Copy, Debug, PartialEq, Eq, Error)]
-pub enum Refusal {
+pub enum TurnRefusal {
     /// A node of its kind takes no such turn.
     #[error("NotTaken")]
     NotTaken,
@@ -59,39 +59,39 @@ pub enum Crash {
 
 /// Why a turn is not taken.
 #[derive(Clone, Copy, Debug, PartialEq, Eq, Error)]
-pub enum TurnFault {
+pub enum NodeTurnFault {
     /// It is refused, and nothing is changed.
     #[error("{0}")]
-    Refused(Refusal),
+    Refused(TurnRefusal),
     /// The node cannot go on.
     #[error("{0}")]
     Crashed(Crash),
 }
 
-impl From<NoMemory> for TurnFault {
+impl From<NoMemory> for NodeTurnFault {
     ghost use Rattle.std.specs.Prelude.{◌≡◌};
     ghost use Rattle.fr_node_steps.specs.Faults.{no_memory};
 
     ghost from_gives = { λ _ fault. fault ≡ no_memory };
 
-    fn from(_: NoMemory) -> TurnFault {
-        TurnFault::Crashed(Crash::Memory)
+    fn from(_: NoMemory) -> NodeTurnFault {
+        NodeTurnFault::Crashed(Crash::Memory)
     }
 }
 
-impl From<NodeFault> for TurnFault {
+impl From<NodeFault> for NodeTurnFault {
     ghost use Rattle.std.specs.Prelude.{◌≡◌};
     ghost use Rattle.fr_node_steps.specs.Faults.{of_node};
 
     ghost from_gives = { λ fault made. made ≡ of_node fault };
 
-    fn from(fault: NodeFault) -> TurnFault {
+    fn from(fault: NodeFault) -> NodeTurnFault {
         match fault {
-            NodeFault::Device => TurnFault::Crashed(Crash::Device),
-            NodeFault::Full => TurnFault::Refused(Refusal::Full),
-            NodeFault::Failed => TurnFault::Crashed(Crash::Device),
-            NodeFault::Memory => TurnFault::Crashed(Crash::Memory),
-            NodeFault::Broken => TurnFault::Crashed(Crash::Broken),
+            NodeFault::Device => NodeTurnFault::Crashed(Crash::Device),
+            NodeFault::Full => NodeTurnFault::Refused(TurnRefusal::Full),
+            NodeFault::Failed => NodeTurnFault::Crashed(Crash::Device),
+            NodeFault::Memory => NodeTurnFault::Crashed(Crash::Memory),
+            NodeFault::Broken => NodeTurnFault::Crashed(Crash::Broken),
         }
     }
 }

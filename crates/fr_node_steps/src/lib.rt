@@ -13,9 +13,9 @@ mod wants;
 
 pub use acting::Acting;
 pub use answering::Answering;
-pub use fault::{Crash, Refusal, TurnFault};
+pub use fault::{Crash, NodeTurnFault, TurnRefusal};
 pub use passive::{Passive, crash_at};
-pub use reply::{Order, Reply, answer};
+pub use reply::{NodeReply, NodeRequest, answer};
 pub use stamps::stamp_above;
-pub use turn::{Hearing, Kind, Newest, Turn};
+pub use turn::{Hearing, Kind, Newest, NodeTurn};
 pub use wants::Wants;

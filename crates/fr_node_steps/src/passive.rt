@@ -8,9 +8,9 @@ ghost use Rattle.fr_node_steps.specs.Turns.{IfCrashed, IsBack, Refuses};
 
 use crate::acting::Acting;
 use crate::answering::Answering;
-use crate::fault::{Refusal, TurnFault};
+use crate::fault::{NodeTurnFault, TurnRefusal};
 use crate::stamps::stamp_above;
-use crate::turn::{Hearing, Newest, Turn};
+use crate::turn::{Hearing, Newest, NodeTurn};
 use crate::wants::Wants;
 use fr_ask::{Last, Named};
 use fr_audit_journal::{Act, Entry, Journal};
@@ -109,7 +109,7 @@ fn started_again(
     at: Stamp,
     has_files: bool,
     hearing: &Option<Hearing>,
-) -> Result<Vec<Entry>, TurnFault>
+) -> Result<Vec<Entry>, NodeTurnFault>
     ensures place { journal.new.node ≡ journal.old.node }
     ensures entries { IfOk result (λ answered. journal.new.entries ≡ journal.old.entries ++ answered.items) }
     ensures back { IfOk result (λ answered. IsBack at hearing.now answered.items) }
@@ -120,10 +120,10 @@ fn started_again(
     ensures crashed { IfCrashed result (λ why. why ≡ Crash.Memory) }
 {
     if !has_files || hearing.is_some() {
-        return Err(TurnFault::Refused(Refusal::NotTaken));
+        return Err(NodeTurnFault::Refused(TurnRefusal::NotTaken));
     }
     let Some(stamp) = stamp_above(journal, at) else {
-        return Err(TurnFault::Refused(Refusal::StampsSpent));
+        return Err(NodeTurnFault::Refused(TurnRefusal::StampsSpent));
     };
     let answered = only_crash(alloc, stamp)?;
     journal.reserve()?;
@@ -156,7 +156,7 @@ where
     <N::Plain as Machine>::Ask: Drop,
 {
     ghost use Rattle.std.specs.Prelude.{[], not, None, Some};
-    ghost use Rattle.fr_node_steps.specs.declared.fault.Refusal.TheVariants as refusal;
+    ghost use Rattle.fr_node_steps.specs.declared.fault.TurnRefusal.TheVariants as refusal;
     ghost use Rattle.fr_node_steps.specs.Passive.{IsCrash, back_refusal, passive_refusal};
 
     ghost node = { λ p. p.place };
@@ -183,18 +183,18 @@ where
         self.journal.node()
     }
 
-    fn act(&mut self, alloc: Global, at: Stamp, turn: Turn) -> Result<Entry, TurnFault> {
+    fn act(&mut self, alloc: Global, at: Stamp, turn: NodeTurn) -> Result<Entry, NodeTurnFault> {
         let (from, ask) = match turn {
-            Turn::Ask { from, ask } => (from, ask),
-            Turn::Hear { .. } => return Err(TurnFault::Refused(Refusal::NotTaken)),
-            Turn::Submit { .. } => return Err(TurnFault::Refused(Refusal::NotTaken)),
-            Turn::Begin => return Err(TurnFault::Refused(Refusal::NotTaken)),
+            NodeTurn::Ask { from, ask } => (from, ask),
+            NodeTurn::Hear { .. } => return Err(NodeTurnFault::Refused(TurnRefusal::NotTaken)),
+            NodeTurn::Submit { .. } => return Err(NodeTurnFault::Refused(TurnRefusal::NotTaken)),
+            NodeTurn::Begin => return Err(NodeTurnFault::Refused(TurnRefusal::NotTaken)),
         };
         let Some(own) = N::Plain::unwrap(ask) else {
-            return Err(TurnFault::Refused(Refusal::OtherAsk));
+            return Err(NodeTurnFault::Refused(TurnRefusal::OtherAsk));
         };
         let Some(stamp) = stamp_above(&self.journal, at) else {
-            return Err(TurnFault::Refused(Refusal::StampsSpent));
+            return Err(NodeTurnFault::Refused(TurnRefusal::StampsSpent));
         };
         self.journal.reserve()?;
         let served = N::Plain::copy_ask(&own)?;
@@ -217,11 +217,11 @@ where
         alloc: Global,
         at: Stamp,
         hearing: Option<Hearing>,
-    ) -> Result<Vec<Entry>, TurnFault> {
+    ) -> Result<Vec<Entry>, NodeTurnFault> {
         started_again(alloc, &mut self.journal, at, self.has_files, &hearing)
     }
 
-    fn last(&mut self, alloc: Global) -> Result<Last, TurnFault> {
+    fn last(&mut self, alloc: Global) -> Result<Last, NodeTurnFault> {
         Ok(self.node.plain().last(alloc)?)
     }
 
@@ -230,8 +230,8 @@ where
         _alloc: Global,
         _key: &Bytes,
         _version: Version,
-    ) -> Result<Option<Bytes>, TurnFault> {
-        Err(TurnFault::Refused(Refusal::NotTaken))
+    ) -> Result<Option<Bytes>, NodeTurnFault> {
+        Err(NodeTurnFault::Refused(TurnRefusal::NotTaken))
     }
 
     fn tells_wants(&self) -> bool {
@@ -243,7 +243,7 @@ where
         alloc: Global,
         _turn: u32,
         _newest: Option<Newest>,
-    ) -> Result<Wants, TurnFault> {
+    ) -> Result<Wants, NodeTurnFault> {
         Ok(Wants::none(alloc))
     }
 }

@@ -1,12 +1,12 @@
 //! What a process is asked of its node, and what it answers.
 ghost use Rattle.std.specs.Prelude.{◌≡◌, true, None, IfOk, IfSome};
-ghost use Rattle.fr_node_steps.specs.declared.reply.Order.{Order};
+ghost use Rattle.fr_node_steps.specs.declared.reply.NodeRequest.{NodeRequest};
 ghost use Rattle.fr_node_steps.specs.Answers.{IsAnswer, order_refusal};
 ghost use Rattle.fr_node_steps.specs.Turns.{IfCrashed, IfRefused, Refuses, UnlessCrashed};
 
 use crate::acting::Acting;
-use crate::fault::TurnFault;
-use crate::turn::{Hearing, Kind, Newest, Turn};
+use crate::fault::NodeTurnFault;
+use crate::turn::{Hearing, Kind, Newest, NodeTurn};
 use crate::wants::Wants;
 use fr_ask::Last;
 use fr_audit_journal::Entry;
@@ -15,7 +15,7 @@ use std::alloc::Global;
 
 /// What a line asks a process of its node.
 #[derive(Debug, Drop)]
-pub enum Order {
+pub enum NodeRequest {
     /// Which node it is, and its state.
     Init,
     /// Its state.
@@ -25,14 +25,14 @@ pub enum Order {
     /// The value that a key had at a version.
     Read { key: Bytes, version: Version },
     /// To take a turn, above a stamp.
-    Take { at: Stamp, turn: Turn },
+    Take { at: Stamp, turn: NodeTurn },
     /// To enter that it was started again over its files, above a stamp; with the hear that was under way, if one was.
     Back { at: Stamp, hearing: Option<Hearing> },
 }
 
 /// What a process answers.
 #[derive(Debug, Drop)]
-pub enum Reply {
+pub enum NodeReply {
     /// The node, and its state.
     Init {
         node: NodeId,
@@ -65,7 +65,11 @@ pub enum Reply {
 }
 
 /// Does what is asked of a node, and answers it.
-pub fn answer<T: Acting>(alloc: Global, node: &mut T, order: Order) -> Result<Reply, TurnFault>
+pub fn answer<T: Acting>(
+    alloc: Global,
+    node: &mut T,
+    order: NodeRequest,
+) -> Result<NodeReply, NodeTurnFault>
     requires works { T.works node.old ≡ true }
     ensures node { T.node node.new ≡ T.node node.old }
     ensures answered { IfOk result (λ reply. IsAnswer
@@ -79,36 +83,41 @@ pub fn answer<T: Acting>(alloc: Global, node: &mut T, order: Order) -> Result<Re
     ensures crashed { IfCrashed result T.CanCrash }
 {
     match order {
-        Order::Init => {
+        NodeRequest::Init => {
             let place = node.place();
             let last = node.last(alloc)?;
-            Ok(Reply::Init { node: place, last })
+            Ok(NodeReply::Init { node: place, last })
         }
-        Order::Last => {
+        NodeRequest::Last => {
             let last = node.last(alloc)?;
-            Ok(Reply::Last { last })
+            Ok(NodeReply::Last { last })
         }
-        Order::Wants { turn, newest } => {
+        NodeRequest::Wants { turn, newest } => {
             let wants = node.wants(alloc, turn, newest)?;
-            Ok(Reply::Wants { wants })
+            Ok(NodeReply::Wants { wants })
         }
-        Order::Read { key, version } => {
+        NodeRequest::Read { key, version } => {
             let value = node.read(alloc, &key, version)?;
-            Ok(Reply::Read { value })
+            Ok(NodeReply::Read { value })
         }
-        Order::Take { at, turn } => take(alloc, node, at, turn),
-        Order::Back { at, hearing } => take_back(alloc, node, at, hearing),
+        NodeRequest::Take { at, turn } => take(alloc, node, at, turn),
+        NodeRequest::Back { at, hearing } => take_back(alloc, node, at, hearing),
     }
 }
 
 /// Has a node take a turn.
-fn take<T: Acting>(alloc: Global, node: &mut T, at: Stamp, turn: Turn) -> Result<Reply, TurnFault>
+fn take<T: Acting>(
+    alloc: Global,
+    node: &mut T,
+    at: Stamp,
+    turn: NodeTurn,
+) -> Result<NodeReply, NodeTurnFault>
     requires works { T.works node.old ≡ true }
     ensures node { T.node node.new ≡ T.node node.old }
     ensures answered { IfOk result (λ reply. IsAnswer
         (record { node = T.node node.old; entries = T.entries node.old; last = T.last_of node.old; wanted = T.wanted node.old; read = T.value_at node.old })
         (record { node = T.node node.new; entries = T.entries node.new; last = T.last_of node.new; wanted = T.wanted node.new; read = T.value_at node.new })
-        (Order.Take at turn) reply) }
+        (NodeRequest.Take at turn) reply) }
     ensures works { UnlessCrashed result (T.works node.new ≡ true) }
     ensures refused { Refuses (T.refusal node.old at turn) result }
     ensures left { IfRefused result (T.entries node.new ≡ T.entries node.old) }
@@ -119,7 +128,7 @@ fn take<T: Acting>(alloc: Global, node: &mut T, at: Stamp, turn: Turn) -> Result
     let entry = node.act(alloc, at, turn)?;
     let last = node.last(alloc)?;
     let wants = wants_of(alloc, node)?;
-    Ok(Reply::Taken {
+    Ok(NodeReply::Taken {
         kind,
         entry,
         last,
@@ -133,13 +142,13 @@ fn take_back<T: Acting>(
     node: &mut T,
     at: Stamp,
     hearing: Option<Hearing>,
-) -> Result<Reply, TurnFault>
+) -> Result<NodeReply, NodeTurnFault>
     requires works { T.works node.old ≡ true }
     ensures node { T.node node.new ≡ T.node node.old }
     ensures answered { IfOk result (λ reply. IsAnswer
         (record { node = T.node node.old; entries = T.entries node.old; last = T.last_of node.old; wanted = T.wanted node.old; read = T.value_at node.old })
         (record { node = T.node node.new; entries = T.entries node.new; last = T.last_of node.new; wanted = T.wanted node.new; read = T.value_at node.new })
-        (Order.Back at hearing) reply) }
+        (NodeRequest.Back at hearing) reply) }
     ensures works { UnlessCrashed result (T.works node.new ≡ true) }
     ensures refused { Refuses (T.back_refusal node.old at hearing) result }
     ensures left { IfRefused result (T.entries node.new ≡ T.entries node.old) }
@@ -148,11 +157,11 @@ fn take_back<T: Acting>(
 {
     let entries = node.back(alloc, at, hearing)?;
     let last = node.last(alloc)?;
-    Ok(Reply::Back { entries, last })
+    Ok(NodeReply::Back { entries, last })
 }
 
 /// What a node asks once it took a turn, if it says so with each.
-fn wants_of<T: Acting>(alloc: Global, node: &T) -> Result<Option<Wants>, TurnFault>
+fn wants_of<T: Acting>(alloc: Global, node: &T) -> Result<Option<Wants>, NodeTurnFault>
     ensures asks { IfOk result (λ asks. IfSome asks (λ wants. wants ≡ T.wanted node.now 0 None)) }
     ensures crashed { IfCrashed result T.CanCrash }
     ensures never_refused { IfRefused result ⊥ }

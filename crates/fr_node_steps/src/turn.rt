@@ -8,7 +8,7 @@ use fr_mutation::Batch;
 
 /// What a node is to do in one turn.
 #[derive(Debug, Drop)]
-pub enum Turn {
+pub enum NodeTurn {
     /// A node asks it this.
     Ask { from: NodeId, ask: Ask },
     /// It hears what a node told it.
@@ -19,16 +19,16 @@ pub enum Turn {
     Begin,
 }
 
-impl Turn {
+impl NodeTurn {
     /// Its kind.
     pub fn kind(&self) -> Kind
         ensures { result ≡ kind_of self.now }
     {
         match self {
-            Turn::Ask { .. } => Kind::Ask,
-            Turn::Hear { .. } => Kind::Hear,
-            Turn::Submit { .. } => Kind::Submit,
-            Turn::Begin => Kind::Begin,
+            NodeTurn::Ask { .. } => Kind::Ask,
+            NodeTurn::Hear { .. } => Kind::Hear,
+            NodeTurn::Submit { .. } => Kind::Submit,
+            NodeTurn::Begin => Kind::Begin,
         }
     }
 }

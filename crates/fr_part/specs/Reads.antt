@@ -6,8 +6,8 @@ use Rattle.fr_storage.specs.declared.fault.ReadFault.{ReadFault}
 use Rattle.fr_storage.specs.declared.fault.ReadFault.TheVariants as read
 use Rattle.fr_storage.specs.Reads.{read_fault}
 use Rattle.fr_storage.specs.Server.{Server}
-use Rattle.fr_part.specs.declared.fault.Unread.{Unread}
-use Rattle.fr_part.specs.declared.fault.Unread.TheVariants as unread
+use Rattle.fr_part.specs.declared.fault.ReadRefusal.{ReadRefusal}
+use Rattle.fr_part.specs.declared.fault.ReadRefusal.TheVariants as unread
 use Rattle.fr_part.specs.declared.part.Part.{Part}
 use Rattle.fr_part.specs.declared.part.Part.TheVariants as part
 
@@ -22,7 +22,7 @@ IfStorage (part.Storage s) P = P s
 IfStorage (part.Store s) P = ⊥
 
 -- why a read is refused, as its holder is told
-abbrev pub told_of : Option ReadFault → Option Unread
+abbrev pub told_of : Option ReadFault → Option ReadRefusal
 told_of None = None
 told_of (Some read.NotMine) = Some unread.NotMine
 told_of (Some read.TooOld) = Some unread.TooOld
@@ -30,10 +30,10 @@ told_of (Some read.FutureVersion) = Some unread.FutureVersion
 told_of (Some (read.Store fault)) = None
 
 -- why a storage server does not answer a read, if there is memory: it is amid an answer, or the read is refused
-abbrev pub unread_by : Server StoreState → Shard → List ℕ → ℕ → Option Unread
+abbrev pub unread_by : Server StoreState → Shard → List ℕ → ℕ → Option ReadRefusal
 unread_by s shard key version = if s.failed then Some unread.Part else told_of (read_fault shard s.floor s.applied key version)
 
-abbrev pub unread_of : Part → Shard → List ℕ → ℕ → Option Unread
+abbrev pub unread_of : Part → Shard → List ℕ → ℕ → Option ReadRefusal
 unread_of (part.Cell c) shard key version = Some unread.Kind
 unread_of (part.Log l) shard key version = Some unread.Kind
 unread_of (part.Sequencer q) shard key version = Some unread.Kind
@@ -43,7 +43,7 @@ unread_of (part.Storage s) shard key version = unread_by s shard key version
 unread_of (part.Store s) shard key version = Some unread.Kind
 
 -- why an answer says no value, if it is for another reason than memory
-abbrev pub unread_in : {T : Type 0} → Result T Unread → Option Unread
+abbrev pub unread_in : {T : Type 0} → Result T ReadRefusal → Option ReadRefusal
 unread_in (Ok value) = None
 unread_in (Err unread.Memory) = None
 unread_in (Err unread.Kind) = Some unread.Kind

@@ -29,7 +29,7 @@ pub enum PartFault {
 /// Why a machine does not say which value a key had at a version. It is left as it was. Of several reasons the first
 /// in the order of these variants is told.
 #[derive(Clone, Copy, Debug, PartialEq, Eq, Error)]
-pub enum Unread {
+pub enum ReadRefusal {
     /// Another kind of machine does that.
     #[error("another kind of machine does that")]
     Kind,

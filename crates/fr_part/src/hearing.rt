@@ -19,7 +19,7 @@ use fr_log::{LogAsk, LogTell};
 use fr_mutation::Batch;
 use fr_proxy::Proxy;
 use fr_state::Generation;
-use fr_storage::{Answer, Storage};
+use fr_storage::{LogAnswer, Storage};
 use fr_undo::MapStore;
 use std::alloc::Global;
 
@@ -131,13 +131,13 @@ fn hear_recoverer(
 }
 
 /// What a log told a storage server; none if a storage server does not hear such a tell.
-fn told_by(from: NodeId, tell: Tell) -> Option<Answer>
+fn told_by(from: NodeId, tell: Tell) -> Option<LogAnswer>
     ensures { option_map heard_of result ≡ told_by from tell }
 {
     match from {
         NodeId::Log { epoch, .. } => match tell {
-            Tell::Log(LogTell::Peeked(peeked)) => Some(Answer::Peeked(epoch, peeked)),
-            Tell::Log(LogTell::Marked { state }) => Some(Answer::Marked(state)),
+            Tell::Log(LogTell::Peeked(peeked)) => Some(LogAnswer::Peeked(epoch, peeked)),
+            Tell::Log(LogTell::Marked { state }) => Some(LogAnswer::Marked(state)),
             _ => None,
         },
         _ => None,

@@ -14,7 +14,7 @@ mod standing;
 mod stores;
 
 pub use asks::Asks;
-pub use fault::{PartFault, Unread};
+pub use fault::{PartFault, ReadRefusal};
 pub use part::Part;
 pub use said::{Heard, Said};
 pub use seat::Seat;

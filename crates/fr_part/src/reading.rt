@@ -4,7 +4,7 @@ ghost use Rattle.fr_undo.specs.Undo.{value_undone};
 ghost use Rattle.fr_storage.specs.Reads.{read_fault, read_refusal};
 ghost use Rattle.fr_part.specs.Reads.{IfStorage, unread_in, unread_of, unread_by};
 
-use crate::fault::Unread;
+use crate::fault::ReadRefusal;
 use crate::part::Part;
 use fr_base::{Bytes, Version};
 use fr_mutation::Shard;
@@ -21,14 +21,14 @@ impl Part {
         shard: &Shard,
         key: &Bytes,
         version: Version,
-    ) -> Result<Option<Bytes>, Unread>
+    ) -> Result<Option<Bytes>, ReadRefusal>
         ensures value { IfOk result (λ value. IfStorage self.old (λ s. value ≡ value_undone s.store version key.now)) }
         ensures refused { unread_in result ≡ unread_of self.old shard.now key.now version }
         ensures same { self.new ≡ self.old }
     {
         match self {
             Part::Storage(storage) => read_storage(alloc, storage, shard, key, version),
-            _ => Err(Unread::Kind),
+            _ => Err(ReadRefusal::Kind),
         }
     }
 }
@@ -39,20 +39,20 @@ fn read_storage(
     shard: &Shard,
     key: &Bytes,
     version: Version,
-) -> Result<Option<Bytes>, Unread>
+) -> Result<Option<Bytes>, ReadRefusal>
     ensures value { IfOk result (λ value. value ≡ value_undone storage.old.store version key.now) }
     ensures refused { unread_in result ≡ unread_by storage.old shard.now key.now version }
     ensures same { storage.new ≡ storage.old }
 {
     if storage.is_failed() {
-        return Err(Unread::Part);
+        return Err(ReadRefusal::Part);
     }
     match read_working(alloc, storage, shard, key, version) {
         Ok(value) => Ok(value),
-        Err(ReadFault::NotMine) => Err(Unread::NotMine),
-        Err(ReadFault::TooOld) => Err(Unread::TooOld),
-        Err(ReadFault::FutureVersion) => Err(Unread::FutureVersion),
-        Err(ReadFault::Store(_)) => Err(Unread::Memory),
+        Err(ReadFault::NotMine) => Err(ReadRefusal::NotMine),
+        Err(ReadFault::TooOld) => Err(ReadRefusal::TooOld),
+        Err(ReadFault::FutureVersion) => Err(ReadRefusal::FutureVersion),
+        Err(ReadFault::Store(_)) => Err(ReadRefusal::Memory),
     }
 }
 

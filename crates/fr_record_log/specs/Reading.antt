@@ -6,7 +6,7 @@ use Rattle.fr_mutation.specs.declared.mutation.Mutation.{Mutation}
 use Rattle.fr_mutation.specs.CodecReading.{decoded}
 use Rattle.fr_tags.specs.declared.body.Body.{Body}
 use Rattle.fr_tags.specs.Bodies as bodies
-use Rattle.fr_state.specs.declared.fault.DecodeFault as state
+use Rattle.fr_state.specs.declared.fault.StateDecodeFault.{StateDecodeFault}
 use Rattle.fr_state.specs.Generations.{CoordinatedState}
 use Rattle.fr_state.specs.Reading.{reading}
 use Rattle.fr_log.specs.declared.records.SeedRecord.{SeedRecord}
@@ -15,8 +15,8 @@ use Rattle.fr_log.specs.declared.popped.PoppedTag.{PoppedTag}
 use Rattle.fr_log.specs.Seed.{SeedContent}
 use Rattle.fr_log.specs.Push.{PushContent}
 use Rattle.fr_log.specs.LogState.{LogState}
-use Rattle.fr_record_node.specs.declared.fault.ReadFault.{ReadFault}
-use Rattle.fr_record_node.specs.declared.fault.ReadFault.TheVariants.{Broken}
+use Rattle.fr_record_node.specs.declared.fault.RecordReadFault.{RecordReadFault}
+use Rattle.fr_record_node.specs.declared.fault.RecordReadFault.TheVariants.{Broken}
 use Rattle.fr_record_log.specs.declared.reading.Numbers.{Numbers}
 use Rattle.fr_record_log.specs.declared.change.Change.{Change}
 use Rattle.fr_record_log.specs.declared.change.Change.TheVariants.{Asked, Seeded, Popped}
@@ -69,7 +69,7 @@ whole len (Err fault) = None
 abbrev pub batch_of : List ℕ → Option (List Mutation)
 batch_of bytes = whole (length bytes) (decoded bytes)
 
-abbrev pub found : Result CoordinatedState state.DecodeFault → Option CoordinatedState
+abbrev pub found : Result CoordinatedState StateDecodeFault → Option CoordinatedState
 found (Ok s) = Some s
 found (Err fault) = None
 
@@ -203,6 +203,6 @@ change_at l bytes = do
   change_of l kind.0 kind.1
 
 -- the code finds what reading does, its value seen by view; what it finds broken is no such field
-abbrev pub Finds : {A B : Type 0} → (A → B) → Result A ReadFault → Option B → Type 0
+abbrev pub Finds : {A B : Type 0} → (A → B) → Result A RecordReadFault → Option B → Type 0
 Finds view (Ok x) reading = reading ≡ Some (view x)
 Finds view (Err fault) reading = fault ≡ Broken → reading ≡ None

@@ -1,6 +1,6 @@
 //! The changes of a log as records of its file.
 ghost use Rattle.std.specs.Prelude.{◌≡◌, Err, None, Some, OnOk, OnErr};
-ghost use Rattle.fr_record_node.specs.declared.fault.ReadFault.{ReadFault};
+ghost use Rattle.fr_record_node.specs.declared.fault.RecordReadFault.{RecordReadFault};
 ghost use Rattle.fr_record_log.specs.declared.change.Change.{Change};
 ghost use Rattle.fr_log.specs.LogState.{swept};
 ghost use Rattle.fr_record_log.specs.LogFile.{taken, IsSettledLog};
@@ -12,8 +12,8 @@ use crate::reading::change_at;
 use crate::spelling::spelled_ask;
 use fr_base::{Machine, Memory};
 use fr_log::laws::{chain_law, letting_law, place_law};
-use fr_log::{Log, LogAsk, LogTell, Place, PoppedTag, SeedRecord};
-use fr_record_node::{ReadFault, Recorded};
+use fr_log::{Checkpoint, Log, LogAsk, LogTell, PoppedTag, SeedRecord};
+use fr_record_node::{RecordReadFault, Recorded};
 use std::alloc::Global;
 use std::marker::Model;
 
@@ -80,10 +80,10 @@ impl Machine for FileLog {
 }
 
 /// Takes an ask that changes the log.
-fn take_ask(log: &mut Log, alloc: Global, ask: LogAsk) -> Result<(), ReadFault>
+fn take_ask(log: &mut Log, alloc: Global, ask: LogAsk) -> Result<(), RecordReadFault>
     requires { IsSettledLog log.old }
     ensures ok { OnOk result (taken log.old (Change.Asked ask) ≡ Some log.new) }
-    ensures broken { (result ≡ Err ReadFault.Broken) → taken log.old (Change.Asked ask) ≡ None }
+    ensures broken { (result ≡ Err RecordReadFault.Broken) → taken log.old (Change.Asked ask) ≡ None }
     ensures err { OnErr result (log.new ≡ log.old) }
     ensures settled { IsSettledLog log.new }
 {
@@ -92,22 +92,22 @@ fn take_ask(log: &mut Log, alloc: Global, ask: LogAsk) -> Result<(), ReadFault>
     log_within_limits(log);
     ask_within_limits(&ask);
     if !log.is_changed_by(&ask) {
-        return Err(ReadFault::Broken);
+        return Err(RecordReadFault::Broken);
     }
     match log.step(alloc, ask) {
         Ok(_) => {
             log_within_limits(log);
             Ok(())
         }
-        Err(_) => Err(ReadFault::Memory),
+        Err(_) => Err(RecordReadFault::Memory),
     }
 }
 
 /// Takes one record more into the seed.
-fn take_seeded(log: &mut Log, next: SeedRecord) -> Result<(), ReadFault>
+fn take_seeded(log: &mut Log, next: SeedRecord) -> Result<(), RecordReadFault>
     requires { IsSettledLog log.old }
     ensures ok { OnOk result (taken log.old (Change.Seeded next) ≡ Some log.new) }
-    ensures broken { (result ≡ Err ReadFault.Broken) → taken log.old (Change.Seeded next) ≡ None }
+    ensures broken { (result ≡ Err RecordReadFault.Broken) → taken log.old (Change.Seeded next) ≡ None }
     ensures err { OnErr result (log.new ≡ log.old) }
     ensures settled { IsSettledLog log.new }
 {
@@ -118,16 +118,16 @@ fn take_seeded(log: &mut Log, next: SeedRecord) -> Result<(), ReadFault>
             log_within_limits(log);
             Ok(())
         }
-        Ok(false) => Err(ReadFault::Broken),
-        Err(_) => Err(ReadFault::Memory),
+        Ok(false) => Err(RecordReadFault::Broken),
+        Err(_) => Err(RecordReadFault::Memory),
     }
 }
 
 /// Pops a tag further.
-fn take_popped(log: &mut Log, popped: PoppedTag) -> Result<(), ReadFault>
+fn take_popped(log: &mut Log, popped: PoppedTag) -> Result<(), RecordReadFault>
     requires { IsSettledLog log.old }
     ensures ok { OnOk result (taken log.old (Change.Popped popped) ≡ Some log.new) }
-    ensures broken { (result ≡ Err ReadFault.Broken) → taken log.old (Change.Popped popped) ≡ None }
+    ensures broken { (result ≡ Err RecordReadFault.Broken) → taken log.old (Change.Popped popped) ≡ None }
     ensures err { OnErr result (log.new ≡ log.old) }
     ensures settled { IsSettledLog log.new }
 {
@@ -139,8 +139,8 @@ fn take_popped(log: &mut Log, popped: PoppedTag) -> Result<(), ReadFault>
             log_within_limits(log);
             Ok(())
         }
-        Ok(false) => Err(ReadFault::Broken),
-        Err(_) => Err(ReadFault::Memory),
+        Ok(false) => Err(RecordReadFault::Broken),
+        Err(_) => Err(RecordReadFault::Memory),
     }
 }
 
@@ -150,12 +150,12 @@ impl Recorded for FileLog {
     ghost use Rattle.fr_log.specs.LogState.{swept};
     ghost use Rattle.fr_log.specs.SweptLaws.{swept_tells};
     ghost use Rattle.fr_log.specs.Chain.{IsLog};
-    ghost use Rattle.fr_log.specs.Place.{place_of};
+    ghost use Rattle.fr_log.specs.Checkpoint.{checkpoint_of};
     ghost use Rattle.fr_record_log.specs.Spelling.{written_log};
     ghost use Rattle.fr_record_log.specs.LogFile.{fresh_of, replay_log, IsSettledLog, IsFileAsk};
     ghost use Rattle.fr_record_log.specs.LogFileLaws.{same_fresh, same_read, settles, written_same};
 
-    type Place = Place;
+    type Place = Checkpoint;
 
     ghost fresh = { fresh_of };
 
@@ -171,7 +171,7 @@ impl Recorded for FileLog {
 
     ghost settled = { swept };
 
-    ghost IsPlaceOf = { λ l p. IsLog l × (p ≡ place_of l) };
+    ghost IsPlaceOf = { λ l p. IsLog l × (p ≡ checkpoint_of l) };
 
     ghost replays = { λ l a settled ask. ask.leads l settled.sound };
 
@@ -198,7 +198,7 @@ impl Recorded for FileLog {
         }
     }
 
-    fn place(&self, _alloc: Global) -> Result<Place, Memory> {
+    fn place(&self, _alloc: Global) -> Result<Checkpoint, Memory> {
         self.log.place()
     }
 
@@ -210,7 +210,7 @@ impl Recorded for FileLog {
         self.log.settle();
     }
 
-    fn go_back(&mut self, place: Place) {
+    fn go_back(&mut self, place: Checkpoint) {
         place_law();
         self.log.go_back(place);
     }
@@ -219,7 +219,7 @@ impl Recorded for FileLog {
         ask.copy()
     }
 
-    fn read(&mut self, alloc: Global, change: &[u8]) -> Result<(), ReadFault> {
+    fn read(&mut self, alloc: Global, change: &[u8]) -> Result<(), RecordReadFault> {
         log_within_limits(&self.log);
         let change = match change_at(alloc, &self.log, change) {
             Ok(change) => change,

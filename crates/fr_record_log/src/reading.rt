@@ -1,6 +1,6 @@
 //! What the bytes of a record of a log are read as.
 ghost use Rattle.std.specs.Prelude.{◌≡◌, ◌<◌, ◌^◌, ◌++◌, ◌∷◌, [], IfOk, IfErr, OnOk};
-ghost use Rattle.fr_record_node.specs.declared.fault.ReadFault.{ReadFault};
+ghost use Rattle.fr_record_node.specs.declared.fault.RecordReadFault.{RecordReadFault};
 ghost use Rattle.fr_record_log.specs.Reading.{Finds, byte_at, bytes_at, number_at, length_at, version_at, tag_at, batch_of, state_of, text_at, bodies_of, numbers_at, push_of, mark_of, own_at, head_of, seeded_of, popped_of, change_at};
 
 use crate::change::Change;
@@ -8,8 +8,8 @@ use crate::spelling::{HEAD, LOCK, MARK, POPPED, PUSH, SEEDED};
 use fr_base::{Epoch, Tag, Version};
 use fr_log::{Log, LogAsk, PoppedTag, Push, Seed, SeedRecord};
 use fr_mutation::{Batch, DecodeFault, decode};
-use fr_record_node::ReadFault;
-use fr_state::{CoordState, DecodeFault as StateFault, decode as decode_state};
+use fr_record_node::RecordReadFault;
+use fr_state::{CoordState, StateDecodeFault, decode as decode_state};
 use fr_tags::Body;
 use std::alloc::Global;
 
@@ -22,43 +22,47 @@ pub(crate) struct Numbers {
 }
 
 /// A byte, and what follows it.
-fn byte_at(bytes: &[u8]) -> Result<(u8, &[u8]), ReadFault>
+fn byte_at(bytes: &[u8]) -> Result<(u8, &[u8]), RecordReadFault>
     ensures { Finds (λ x. (x.0, x.1.now)) result (byte_at bytes.now) }
 {
     match bytes {
-        [] => Err(ReadFault::Broken),
+        [] => Err(RecordReadFault::Broken),
         [byte, rest @ ..] => Ok((*byte, rest)),
     }
 }
 
 /// So many bytes, and what follows them.
-fn bytes_at(len: usize, bytes: &[u8]) -> Result<(&[u8], &[u8]), ReadFault>
+fn bytes_at(len: usize, bytes: &[u8]) -> Result<(&[u8], &[u8]), RecordReadFault>
     ensures { Finds (λ x. (x.0.now, x.1.now)) result (bytes_at len bytes.now) }
 {
-    bytes.split_at_checked(len).ok_or(ReadFault::Broken)
+    bytes.split_at_checked(len).ok_or(RecordReadFault::Broken)
 }
 
 /// A number of eight bytes, and what follows it.
 #[tactic(auto, unfolding(crate::specs::Reading::number_at))]
-fn number_at(bytes: &[u8]) -> Result<(u64, &[u8]), ReadFault>
+fn number_at(bytes: &[u8]) -> Result<(u64, &[u8]), RecordReadFault>
     ensures { Finds (λ x. (x.0, x.1.now)) result (number_at bytes.now) }
 {
-    let (front, rest) = bytes.split_first_chunk::<8>().ok_or(ReadFault::Broken)?;
+    let (front, rest) = bytes
+        .split_first_chunk::<8>()
+        .ok_or(RecordReadFault::Broken)?;
     Ok((u64::from_be_bytes(*front), rest))
 }
 
 /// A length of four bytes, and what follows it.
 #[tactic(auto, unfolding(crate::specs::Reading::length_at))]
-fn length_at(bytes: &[u8]) -> Result<(usize, &[u8]), ReadFault>
+fn length_at(bytes: &[u8]) -> Result<(usize, &[u8]), RecordReadFault>
     ensures { Finds (λ x. (x.0, x.1.now)) result (length_at bytes.now) }
 {
-    let (front, rest) = bytes.split_first_chunk::<4>().ok_or(ReadFault::Broken)?;
+    let (front, rest) = bytes
+        .split_first_chunk::<4>()
+        .ok_or(RecordReadFault::Broken)?;
     Ok((u32::from_be_bytes(*front) as usize, rest))
 }
 
 /// The number of a version, and what follows it.
 #[tactic(auto, unfolding(crate::specs::Reading::version_at))]
-fn version_at(bytes: &[u8]) -> Result<(u64, &[u8]), ReadFault>
+fn version_at(bytes: &[u8]) -> Result<(u64, &[u8]), RecordReadFault>
     ensures found { Finds (λ x. (x.0, x.1.now)) result (version_at bytes.now) }
     ensures within { IfOk result (λ x. x.0 < 2 ^ 62) }
 {
@@ -66,7 +70,7 @@ fn version_at(bytes: &[u8]) -> Result<(u64, &[u8]), ReadFault>
     if number < 1 << 62 {
         Ok((number, rest))
     } else {
-        Err(ReadFault::Broken)
+        Err(RecordReadFault::Broken)
     }
 }
 
@@ -83,7 +87,7 @@ fn version_of(number: u64) -> Version
 
 /// The number of a tag, and what follows it.
 #[tactic(auto, unfolding(crate::specs::Reading::tag_at))]
-fn tag_at(bytes: &[u8]) -> Result<(u8, &[u8]), ReadFault>
+fn tag_at(bytes: &[u8]) -> Result<(u8, &[u8]), RecordReadFault>
     ensures found { Finds (λ x. (x.0, x.1.now)) result (tag_at bytes.now) }
     ensures within { IfOk result (λ x. x.0 < 32) }
 {
@@ -91,7 +95,7 @@ fn tag_at(bytes: &[u8]) -> Result<(u8, &[u8]), ReadFault>
     if number < 32 {
         Ok((number, rest))
     } else {
-        Err(ReadFault::Broken)
+        Err(RecordReadFault::Broken)
     }
 }
 
@@ -107,7 +111,7 @@ fn tag_of(number: u8) -> Tag
 }
 
 /// The batch that all of the bytes spell.
-fn batch_of(alloc: Global, bytes: &[u8]) -> Result<Batch, ReadFault>
+fn batch_of(alloc: Global, bytes: &[u8]) -> Result<Batch, RecordReadFault>
     ensures { Finds (λ batch. batch) result (batch_of bytes.now) }
 {
     match decode(alloc, bytes) {
@@ -115,34 +119,34 @@ fn batch_of(alloc: Global, bytes: &[u8]) -> Result<Batch, ReadFault>
             if used == bytes.len() {
                 Ok(batch)
             } else {
-                Err(ReadFault::Broken)
+                Err(RecordReadFault::Broken)
             }
         }
-        Err(DecodeFault::Memory) => Err(ReadFault::Memory),
-        Err(DecodeFault::Short) => Err(ReadFault::Broken),
-        Err(DecodeFault::UnknownKind) => Err(ReadFault::Broken),
-        Err(DecodeFault::OverLimit) => Err(ReadFault::Broken),
-        Err(DecodeFault::Inverted) => Err(ReadFault::Broken),
-        Err(DecodeFault::NeedlessFormat) => Err(ReadFault::Broken),
+        Err(DecodeFault::Memory) => Err(RecordReadFault::Memory),
+        Err(DecodeFault::Short) => Err(RecordReadFault::Broken),
+        Err(DecodeFault::UnknownKind) => Err(RecordReadFault::Broken),
+        Err(DecodeFault::OverLimit) => Err(RecordReadFault::Broken),
+        Err(DecodeFault::Inverted) => Err(RecordReadFault::Broken),
+        Err(DecodeFault::NeedlessFormat) => Err(RecordReadFault::Broken),
     }
 }
 
 /// The coordinated state that all of the bytes spell.
-fn state_of(alloc: Global, bytes: &[u8]) -> Result<CoordState, ReadFault>
+fn state_of(alloc: Global, bytes: &[u8]) -> Result<CoordState, RecordReadFault>
     ensures { Finds (λ state. state) result (state_of bytes.now) }
 {
     match decode_state(alloc, bytes) {
         Ok(state) => Ok(state),
-        Err(StateFault::Memory) => Err(ReadFault::Memory),
-        Err(StateFault::Short) => Err(ReadFault::Broken),
-        Err(StateFault::BadForm) => Err(ReadFault::Broken),
-        Err(StateFault::Trailing) => Err(ReadFault::Broken),
+        Err(StateDecodeFault::Memory) => Err(RecordReadFault::Memory),
+        Err(StateDecodeFault::Short) => Err(RecordReadFault::Broken),
+        Err(StateDecodeFault::BadForm) => Err(RecordReadFault::Broken),
+        Err(StateDecodeFault::Trailing) => Err(RecordReadFault::Broken),
     }
 }
 
 /// The number of a body's tag, the bytes of its batch, and what follows it.
 #[tactic(auto, unfolding(crate::specs::Reading::text_at))]
-fn text_at(bytes: &[u8]) -> Result<(u8, &[u8], &[u8]), ReadFault>
+fn text_at(bytes: &[u8]) -> Result<(u8, &[u8], &[u8]), RecordReadFault>
     ensures found { Finds (λ x. (x.0, x.1.now, x.2.now)) result (text_at bytes.now) }
     ensures within { IfOk result (λ x. x.0 < 32) }
 {
@@ -154,7 +158,7 @@ fn text_at(bytes: &[u8]) -> Result<(u8, &[u8], &[u8]), ReadFault>
 
 /// The bodies that all of the bytes spell.
 #[tactic(auto, unfolding(crate::specs::Reading::bodies_of))]
-fn bodies_of(alloc: Global, bytes: &[u8]) -> Result<Vec<Body>, ReadFault>
+fn bodies_of(alloc: Global, bytes: &[u8]) -> Result<Vec<Body>, RecordReadFault>
     ensures { Finds (λ bodies. bodies.items) result (bodies_of bytes.now) }
 {
     let (count, front) = byte_at(bytes)?;
@@ -170,24 +174,24 @@ fn bodies_of(alloc: Global, bytes: &[u8]) -> Result<Vec<Body>, ReadFault>
     if rest.is_empty() {
         Ok(bodies)
     } else {
-        Err(ReadFault::Broken)
+        Err(RecordReadFault::Broken)
     }
 }
 
 /// Adds a body at the end.
-fn add(bodies: &mut Vec<Body>, body: Body) -> Result<(), ReadFault>
+fn add(bodies: &mut Vec<Body>, body: Body) -> Result<(), RecordReadFault>
     ensures ok { OnOk result (bodies.new.items ≡ bodies.old.items ++ body ∷ []) }
-    ensures err { IfErr result (λ fault. fault ≡ ReadFault.Memory) }
+    ensures err { IfErr result (λ fault. fault ≡ RecordReadFault.Memory) }
 {
     match bodies.push(body) {
         Ok(()) => Ok(()),
-        Err(_) => Err(ReadFault::Memory),
+        Err(_) => Err(RecordReadFault::Memory),
     }
 }
 
 /// The numbers of a push, and what follows them.
 #[tactic(auto, unfolding(crate::specs::Reading::numbers_at))]
-fn numbers_at(bytes: &[u8]) -> Result<(Numbers, &[u8]), ReadFault>
+fn numbers_at(bytes: &[u8]) -> Result<(Numbers, &[u8]), RecordReadFault>
     ensures found { Finds (λ x. (x.0, x.1.now)) result (numbers_at bytes.now) }
     ensures within { IfOk result (λ x. (x.0.prev < 2 ^ 62) × (x.0.version < 2 ^ 62) × (x.0.known < 2 ^ 62)) }
 {
@@ -206,7 +210,7 @@ fn numbers_at(bytes: &[u8]) -> Result<(Numbers, &[u8]), ReadFault>
 
 /// The push of an epoch that the bytes behind its kind spell.
 #[tactic(auto, unfolding(crate::specs::Reading::push_of))]
-fn push_of(alloc: Global, epoch: Epoch, bytes: &[u8]) -> Result<Push, ReadFault>
+fn push_of(alloc: Global, epoch: Epoch, bytes: &[u8]) -> Result<Push, RecordReadFault>
     ensures { Finds (λ push. push) result (push_of epoch bytes.now) }
 {
     let (numbers, rest) = numbers_at(bytes)?;
@@ -214,30 +218,30 @@ fn push_of(alloc: Global, epoch: Epoch, bytes: &[u8]) -> Result<Push, ReadFault>
     let (prev, version) = (version_of(numbers.prev), version_of(numbers.version));
     match Push::new(epoch, prev, version, version_of(numbers.known), bodies) {
         Some(push) => Ok(push),
-        None => Err(ReadFault::Broken),
+        None => Err(RecordReadFault::Broken),
     }
 }
 
 /// The mark of an epoch that the bytes behind its kind spell.
 #[tactic(auto, unfolding(crate::specs::Reading::mark_of))]
-fn mark_of(alloc: Global, epoch: Epoch, bytes: &[u8]) -> Result<Push, ReadFault>
+fn mark_of(alloc: Global, epoch: Epoch, bytes: &[u8]) -> Result<Push, RecordReadFault>
     ensures { Finds (λ push. push) result (mark_of epoch bytes.now) }
 {
     let (numbers, rest) = numbers_at(bytes)?;
     let state = state_of(alloc, rest)?;
     if numbers.version != numbers.prev + 1 {
-        return Err(ReadFault::Broken);
+        return Err(RecordReadFault::Broken);
     }
     let (prev, known) = (version_of(numbers.prev), version_of(numbers.known));
     match Push::mark(alloc, epoch, prev, known, state) {
         Some(push) => Ok(push),
-        None => Err(ReadFault::Broken),
+        None => Err(RecordReadFault::Broken),
     }
 }
 
 /// The bytes behind the four numbers of a log.
 #[tactic(auto, unfolding(crate::specs::Reading::own_at))]
-fn own_at<'a>(log: &Log, bytes: &'a [u8]) -> Result<&'a [u8], ReadFault>
+fn own_at<'a>(log: &Log, bytes: &'a [u8]) -> Result<&'a [u8], RecordReadFault>
     ensures { Finds (λ rest. rest.now) result (own_at log.now bytes.now) }
 {
     let (epoch, rest) = number_at(bytes)?;
@@ -248,31 +252,31 @@ fn own_at<'a>(log: &Log, bytes: &'a [u8]) -> Result<&'a [u8], ReadFault>
     if epoch == id.epoch.get() && index == id.index && m == log.m() && k == log.k() {
         Ok(rest)
     } else {
-        Err(ReadFault::Broken)
+        Err(RecordReadFault::Broken)
     }
 }
 
 /// The seed of a log, but for its records, that the bytes behind its kind spell.
 #[tactic(auto, unfolding(crate::specs::Reading::head_of))]
-fn head_of(alloc: Global, log: &Log, bytes: &[u8]) -> Result<Seed, ReadFault>
+fn head_of(alloc: Global, log: &Log, bytes: &[u8]) -> Result<Seed, RecordReadFault>
     ensures { Finds (λ seed. seed) result (head_of log.now bytes.now) }
 {
     let rest = own_at(log, bytes)?;
     let (first, rest) = version_at(rest)?;
     let (seeded_to, rest) = version_at(rest)?;
     if !rest.is_empty() {
-        return Err(ReadFault::Broken);
+        return Err(RecordReadFault::Broken);
     }
     let (first, seeded_to) = (version_of(first), version_of(seeded_to));
     match Seed::new(log.id().epoch, first, seeded_to, Vec::new(alloc)) {
         Some(seed) => Ok(seed),
-        None => Err(ReadFault::Broken),
+        None => Err(RecordReadFault::Broken),
     }
 }
 
 /// The record of a seed that the bytes behind its kind spell.
 #[tactic(auto, unfolding(crate::specs::Reading::seeded_of))]
-fn seeded_of(alloc: Global, bytes: &[u8]) -> Result<SeedRecord, ReadFault>
+fn seeded_of(alloc: Global, bytes: &[u8]) -> Result<SeedRecord, RecordReadFault>
     ensures { Finds (λ x. x) result (seeded_of bytes.now) }
 {
     let (version, rest) = version_at(bytes)?;
@@ -288,13 +292,13 @@ fn seeded_of(alloc: Global, bytes: &[u8]) -> Result<SeedRecord, ReadFault>
 
 /// The tag and the version that the bytes behind its kind spell.
 #[tactic(auto, unfolding(crate::specs::Reading::popped_of))]
-fn popped_of(bytes: &[u8]) -> Result<PoppedTag, ReadFault>
+fn popped_of(bytes: &[u8]) -> Result<PoppedTag, RecordReadFault>
     ensures { Finds (λ x. x) result (popped_of bytes.now) }
 {
     let (tag, rest) = tag_at(bytes)?;
     let (version, rest) = version_at(rest)?;
     if !rest.is_empty() {
-        return Err(ReadFault::Broken);
+        return Err(RecordReadFault::Broken);
     }
     let (tag, version) = (tag_of(tag), version_of(version));
     Ok(PoppedTag { tag, version })
@@ -302,7 +306,7 @@ fn popped_of(bytes: &[u8]) -> Result<PoppedTag, ReadFault>
 
 /// What a log does by a record.
 #[tactic(auto, unfolding(crate::specs::Reading::change_at))]
-pub(crate) fn change_at(alloc: Global, log: &Log, bytes: &[u8]) -> Result<Change, ReadFault>
+pub(crate) fn change_at(alloc: Global, log: &Log, bytes: &[u8]) -> Result<Change, RecordReadFault>
     ensures { Finds (λ change. change) result (change_at log.now bytes.now) }
 {
     let (kind, rest) = byte_at(bytes)?;
@@ -314,6 +318,6 @@ pub(crate) fn change_at(alloc: Global, log: &Log, bytes: &[u8]) -> Result<Change
         MARK => Ok(Change::Asked(LogAsk::Push(mark_of(alloc, epoch, rest)?))),
         LOCK if rest.is_empty() => Ok(Change::Asked(LogAsk::Lock { epoch })),
         POPPED => Ok(Change::Popped(popped_of(rest)?)),
-        _ => Err(ReadFault::Broken),
+        _ => Err(RecordReadFault::Broken),
     }
 }

@@ -2,7 +2,7 @@
 ghost use Rattle.std.specs.Prelude.{◌≡◌, ◌+◌, ◌≤◌, ◌<◌, ◌^◌, true, length, None, Some, IfOk, if◌then◌else◌};
 ghost use Rattle.fr_record_node.specs.CellFile.{spelled_cell, number_at, is_ballot, is_sound, is_cell_ask, ballots_of};
 
-use crate::fault::ReadFault;
+use crate::fault::RecordReadFault;
 use crate::file_node::FileNode;
 use crate::recorded::Recorded;
 use fr_base::{Ballot, Machine, Memory};
@@ -186,18 +186,18 @@ impl Recorded for Cell {
         ask.copy()
     }
 
-    fn read(&mut self, alloc: Global, change: &[u8]) -> Result<(), ReadFault> {
+    fn read(&mut self, alloc: Global, change: &[u8]) -> Result<(), RecordReadFault> {
         cell_within_limits(self);
         let found = match ballots(change) {
             Some(found) => found,
-            None => return Err(ReadFault::Broken),
+            None => return Err(RecordReadFault::Broken),
         };
         match restored(alloc, found.0, found.1, &change[FRONT..]) {
             Ok(cell) => {
                 *self = cell;
                 Ok(())
             }
-            Err(_) => Err(ReadFault::Memory),
+            Err(_) => Err(RecordReadFault::Memory),
         }
     }
 }

@@ -8,7 +8,7 @@ use thiserror::Error;
 
 /// Why a record was not read.
 #[derive(Clone, Copy, Debug, PartialEq, Eq, Error)]
-pub enum ReadFault {
+pub enum RecordReadFault {
     /// No ask of such a machine writes this record.
     #[error("the record is of no such machine")]
     Broken,
@@ -17,14 +17,14 @@ pub enum ReadFault {
     Memory,
 }
 
-impl From<NoMemory> for ReadFault {
+impl From<NoMemory> for RecordReadFault {
     ghost use Rattle.std.specs.Prelude.{◌≡◌};
-    ghost use Rattle.fr_record_node.specs.declared.fault.ReadFault.TheVariants.{Memory};
+    ghost use Rattle.fr_record_node.specs.declared.fault.RecordReadFault.TheVariants.{Memory};
 
     ghost from_gives = { λ _ fault. fault ≡ Memory };
 
-    fn from(_: NoMemory) -> ReadFault {
-        ReadFault::Memory
+    fn from(_: NoMemory) -> RecordReadFault {
+        RecordReadFault::Memory
     }
 }
 

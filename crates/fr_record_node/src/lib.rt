@@ -8,6 +8,6 @@ pub mod laws;
 mod recorded;
 
 pub use cell_file::CellNode;
-pub use fault::ReadFault;
+pub use fault::RecordReadFault;
 pub use file_node::FileNode;
 pub use recorded::Recorded;

@@ -4,7 +4,7 @@ ghost use Rattle.fr_record.specs.Group.{records_of};
 ghost use Rattle.fr_record_node.specs.Several.{after_all};
 ghost use Rattle.fr_record_node.specs.Replay.{replayed};
 
-use crate::fault::ReadFault;
+use crate::fault::RecordReadFault;
 use fr_base::{Machine, Memory};
 use std::alloc::Global;
 
@@ -76,10 +76,10 @@ pub trait Recorded: Machine + Drop {
         ensures { IfOk result (λ copy. copy ≡ ask.now) };
 
     /// Takes the change that a record of a file stands for.
-    fn read(&mut self, alloc: Global, change: &[u8]) -> Result<(), ReadFault>
+    fn read(&mut self, alloc: Global, change: &[u8]) -> Result<(), RecordReadFault>
         requires sound { IsSound self.old }
         ensures ok { OnOk result (replay self.old change.now ≡ Some self.new) }
-        ensures broken { (result ≡ Err ReadFault.Broken) → replay self.old change.now ≡ None }
+        ensures broken { (result ≡ Err RecordReadFault.Broken) → replay self.old change.now ≡ None }
         ensures err { OnErr result (self.new ≡ self.old) }
         ensures sound { IsSound self.new };
 

@@ -10,7 +10,7 @@ use Rattle.fr_register.specs.declared.poll.Progress.TheVariants as poll
 use Rattle.fr_state.specs.Generations.{LogGeneration, CoordinatedState, last_of}
 use Rattle.fr_state.specs.Order.{extended}
 use Rattle.fr_state.specs.Reading.{reading}
-use Rattle.fr_state.specs.declared.fault.DecodeFault.{DecodeFault}
+use Rattle.fr_state.specs.declared.fault.StateDecodeFault.{StateDecodeFault}
 use Rattle.fr_state.specs.declared.fault.StateFault.{StateFault}
 use Rattle.fr_state.specs.declared.fault.StateFault.TheVariants as fault
 use Rattle.fr_log.specs.declared.ask.LogTell.TheVariants as ltell
@@ -120,7 +120,7 @@ found_no : (r : RecState) (s : CoordinatedState) (o : Option LogGeneration) → 
 found_no r s None k = absurd (cc)
 found_no r s (Some g) k = absurd (cc)
 
-parent_no : (r : RecState) (o : Result CoordinatedState DecodeFault) → IsAtOdds (with_parent r o) → ⊥
+parent_no : (r : RecState) (o : Result CoordinatedState StateDecodeFault) → IsAtOdds (with_parent r o) → ⊥
 parent_no r (Ok s) k = found_no r s (last_of s.gens) k
 parent_no r (Err fault) k = absurd (cc)
 

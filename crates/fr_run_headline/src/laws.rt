@@ -12,7 +12,6 @@ ghost use Rattle.fr_run_headline.specs.Safety.{EachTurnGrows, EveryMomentIsSafe,
 ghost use Rattle.fr_run_headline.specs.Storages.{EachHearIsTaken, HearsAreTaken, StoragesFollow};
 ghost use Rattle.fr_run_headline.specs.Laws.{Laws};
 ghost use Rattle.fr_run_contents.specs.Laws as contents;
-ghost use Rattle.fr_storage.specs.Laws as storage;
 ghost use Rattle.fr_undo.specs.Law.{InverseLaw};
 
 use fr_log::laws::{letting_law, pop_law};
@@ -20,13 +19,11 @@ use fr_mutation::{after_law, clip_law};
 use fr_run::laws::node_laws;
 use fr_run_contents::laws::contents_law;
 use fr_run_versions::laws::{order_law as version_law, replied_law};
-use fr_state::{
-    cut_law, drop_law, equal_law, front_law, going_law, left_law, source_law, spelling_law,
-};
-use fr_storage::follow_law as hear_law;
+use fr_state::{cut_law, left_law, source_law};
+use fr_storage::{follow_law as hear_law, store_laws};
 use fr_tags::laws::{cover_law, shard_fold_law, split_law};
 use fr_tail::laws::copy_law;
-use fr_undo::{canonical_law, inverse_law};
+use fr_undo::inverse_law;
 
 /// The laws of what logs hold.
 fn contents_laws()
@@ -38,23 +35,8 @@ fn contents_laws()
     letting_law();
 }
 
-/// The laws of stores and of lists of generations.
-fn store_laws()
-    ensures { storage.Laws }
-{
-    canonical_law();
-    source_law();
-    cut_law();
-    front_law();
-    drop_law();
-    left_law();
-    going_law();
-    equal_law();
-    spelling_law();
-}
-
 /// The laws of the crates below on which these rest.
-fn lower_laws()
+pub fn lower_laws()
     ensures { Laws }
 {
     contents_laws();

@@ -19,7 +19,7 @@ use Rattle.fr_state.specs.Order.{extended}
 use Rattle.fr_state.specs.Reading.{reading}
 use Rattle.fr_state.specs.Spelling.{spelling}
 use Rattle.fr_state.specs.Laws.{NotLaterIsExact}
-use Rattle.fr_state.specs.declared.fault.DecodeFault.{DecodeFault}
+use Rattle.fr_state.specs.declared.fault.StateDecodeFault.{StateDecodeFault}
 use Rattle.fr_state.specs.declared.fault.StateFault.{StateFault}
 use Rattle.fr_state.specs.declared.fault.StateFault.TheVariants as fault
 use Rattle.fr_ask.specs.declared.tell.Tell.{Tell}
@@ -93,7 +93,7 @@ reads_fair : (r : RecState) (u : CellTell) (o : Progress) → progress_of r.read
 reads_fair r u poll.Waiting e fair never found = fair
 reads_fair r u poll.Majority e fair never found =
     let k = found e in
-    subst (λ (o : Result CoordinatedState DecodeFault). Fair (with_parent r o)) (sym k.1) (found_last r k.0 k.2)
+    subst (λ (o : Result CoordinatedState StateDecodeFault). Fair (with_parent r o)) (sym k.1) (found_last r k.0 k.2)
 reads_fair r u (poll.Lost promised) e fair never found = told_why r u never
 
 writes_fair : (r : RecState) (u : CellTell) (o : Progress) → Fair r → (u ≡ ctell.TwoValues → ⊥) → Fair (after_writes r u o)

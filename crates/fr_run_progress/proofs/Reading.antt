@@ -18,7 +18,7 @@ use Rattle.fr_register.specs.Tally.{is_majority, progress_from, progress_of, is_
 use Rattle.fr_register.specs.declared.poll.Progress.TheVariants as poll
 use Rattle.fr_state.specs.Generations.{LogGeneration, CoordinatedState, last_of}
 use Rattle.fr_state.specs.Reading.{reading}
-use Rattle.fr_state.specs.declared.fault.DecodeFault.{DecodeFault}
+use Rattle.fr_state.specs.declared.fault.StateDecodeFault.{StateDecodeFault}
 use Rattle.fr_ask.specs.declared.ask.Ask.TheVariants as ask
 use Rattle.fr_ask.specs.declared.tell.Tell.TheVariants as tell
 use Rattle.fr_epoch.specs.Recoverer.{RecState, Parent, Reading, Locking, Lost, new_recoverer}
@@ -163,7 +163,7 @@ fine only c h config run b r at is = elim (only c h config run b r why.BadState 
 abbrev HasParentNow : RecState → RecState → Type 0
 HasParentNow r n = (n.phase ≡ Locking) × (n.reads ≡ r.reads) × ((p : Parent) × (n.parent ≡ Some p)) × ((tally n).replies ≡ [])
 
-reads_parent : (r : RecState) (o : Result CoordinatedState DecodeFault) → HasParentNow r (with_parent r o) ⊎ ((with_parent r o).phase ≡ Lost why.BadState)
+reads_parent : (r : RecState) (o : Result CoordinatedState StateDecodeFault) → HasParentNow r (with_parent r o) ⊎ ((with_parent r o).phase ≡ Lost why.BadState)
 reads_parent r (Err fault) = inr refl
 reads_parent r (Ok s) = last (last_of s.gens)
   where

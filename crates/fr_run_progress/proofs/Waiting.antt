@@ -12,7 +12,7 @@ use Rattle.fr_register.specs.declared.poll.Progress.TheVariants as poll
 use Rattle.fr_state.specs.Generations.{LogGeneration, CoordinatedState, last_of}
 use Rattle.fr_state.specs.Order.{extended, is_ordered}
 use Rattle.fr_state.specs.Reading.{reading}
-use Rattle.fr_state.specs.declared.fault.DecodeFault.{DecodeFault}
+use Rattle.fr_state.specs.declared.fault.StateDecodeFault.{StateDecodeFault}
 use Rattle.fr_state.specs.declared.fault.StateFault.{StateFault}
 use Rattle.fr_state.specs.declared.fault.StateFault.TheVariants as fault
 use Rattle.fr_tail.specs.Tail.{is_complete, after_hear as after_peeked}
@@ -60,7 +60,7 @@ last_waits : (r : RecState) (s : CoordinatedState) (o : Option LogGeneration) �
 last_waits r s None = not_lost r _
 last_waits r s (Some g) = λ e. none_cover g.m g.k
 
-parent_waits : (r : RecState) (o : Result CoordinatedState DecodeFault) → WaitsForReplies (with_parent r o)
+parent_waits : (r : RecState) (o : Result CoordinatedState StateDecodeFault) → WaitsForReplies (with_parent r o)
 parent_waits r (Ok s) = last_waits r s (last_of s.gens)
 parent_waits r (Err f) = not_lost r _
 

@@ -1,67 +1,15 @@
 //! Laws of what serves: logs that let go, logs that are lost, and reads of storage servers at a version.
-ghost use Rattle.fr_run_contents.specs.Laws as contents;
-ghost use Rattle.fr_run_headline.specs.Laws.{Laws};
 ghost use Rattle.fr_run_serving.specs.Losses.{HoldersHaveCommitted, RetrievableIsExact};
 ghost use Rattle.fr_run_serving.specs.Reads.{CommittedStays, ReadIsCommitted, ReadStays};
 ghost use Rattle.fr_run_serving.specs.Serving.{ServingIsSwept, ServingTells};
 ghost use Rattle.fr_run_serving.specs.Snapshots.{FloorIsSettled, SettledIsSnapshot, SettledStays, SnapshotStays};
-ghost use Rattle.fr_storage.specs.Laws as storage;
 
 use fr_log::laws::{change_law, letting_law, pop_law, raise_law};
-use fr_mutation::{after_law, clip_law};
 use fr_run::laws::{ask_law, node_laws, states_law};
 use fr_run_contents::laws::contents_law;
-use fr_run_headline::laws::{agree_law, committed_law};
+use fr_run_headline::laws::{agree_law, committed_law, lower_laws};
 use fr_run_versions::laws::{below_law, logs_law, order_law, seeded_law, sent_law};
-use fr_state::{
-    cut_law, drop_law, equal_law, front_law, going_law, left_law, source_law, spelling_law,
-};
-use fr_storage::follow_law;
-use fr_tags::laws::{cover_law, shard_fold_law, split_law};
-use fr_tail::laws::copy_law;
-use fr_undo::canonical_law;
-
-/// The laws of what logs hold.
-fn contents_laws()
-    ensures { contents.Laws }
-{
-    node_laws();
-    split_law();
-    copy_law();
-    letting_law();
-}
-
-/// The laws of stores and of lists of generations.
-fn store_laws()
-    ensures { storage.Laws }
-{
-    canonical_law();
-    source_law();
-    cut_law();
-    front_law();
-    drop_law();
-    left_law();
-    going_law();
-    equal_law();
-    spelling_law();
-}
-
-/// The laws of the crates below on which these rest.
-fn lower_laws()
-    ensures { Laws }
-{
-    contents_laws();
-    store_laws();
-    cut_law();
-    source_law();
-    left_law();
-    pop_law();
-    cover_law();
-    after_law();
-    clip_law();
-    shard_fold_law();
-    follow_law();
-}
+use fr_tags::laws::cover_law;
 
 /// A log that lets go what is popped is, after the asks of a run, the log of the laws without what that may let go; so it
 /// tells the same, whatever it is asked.

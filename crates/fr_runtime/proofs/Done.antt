@@ -1,7 +1,7 @@
 -- What is done of each job, where calls say more of it than is asked.
 use Rattle.std.specs.Prelude.{List, [], ◌∷◌, Result, Ok, Err, IfOk}
 use Rattle.std.specs.Global.{Vec}
-use Rattle.fr_runtime_spawn.specs.Sworn.{AllDone}
+use Rattle.fr_runtime.specs.Sworn.{AllDone}
 
 pub done-so : {J D : Type 0} (P Q : J → D → Type 0) (js : List J) (ds : List D) → ((j : J) (d : D) → P j d → Q j d) → AllDone P js ds → AllDone Q js ds
 done-so P Q [] [] so done = tt

@@ -9,7 +9,7 @@ use Rattle.fr_base.specs.declared.place.NodeId.{NodeId}
 use Rattle.fr_base.specs.declared.place.NodeId.TheVariants.{Cell, Log, Sequencer, Proxy, Recoverer, Storage}
 use Rattle.fr_proxy.specs.declared.outcome.Outcome.{Outcome}
 use Rattle.fr_audit_journal.specs.Journal.{JournalState}
-use Rattle.fr_runtime_spawn.specs.Sworn.{AllDone}
+use Rattle.fr_runtime.specs.Sworn.{AllDone}
 use Rattle.fr_runtime_station.specs.Answering.{all_answer, answers}
 use Rattle.fr_runtime_threads.specs.declared.order.Order.{Order}
 use Rattle.fr_runtime_threads.specs.Account.{all_given, all_outcomes, are_proxies, is_proxy, left_over, waiting_for}

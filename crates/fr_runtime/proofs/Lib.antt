@@ -6,4 +6,5 @@ mod Heards
 mod Ordered
 mod Rows
 mod Starts
+mod Threads
 mod Took

@@ -5,8 +5,8 @@ use Rattle.fr_undo.specs.declared.fault.StoreFault.{StoreFault}
 use Rattle.fr_undo.specs.declared.fault.StoreFault.TheVariants as store
 use Rattle.fr_storage.specs.declared.fault.StorageFault.{StorageFault}
 use Rattle.fr_storage.specs.declared.fault.StorageFault.TheVariants as storage
-use Rattle.fr_runtime_spawn.specs.declared.spawn.SpawnFault.{SpawnFault}
-use Rattle.fr_runtime_spawn.specs.declared.spawn.SpawnFault.TheVariants as spawn
+use Rattle.fr_runtime.specs.declared.spawn.SpawnFault.{SpawnFault}
+use Rattle.fr_runtime.specs.declared.spawn.SpawnFault.TheVariants as spawn
 use Rattle.fr_runtime_threads.specs.declared.fault.TurnFault.{TurnFault}
 use Rattle.fr_runtime_threads.specs.declared.fault.TurnFault.TheVariants as turn
 use Rattle.fr_runtime.specs.declared.fault.Unfinished.{Unfinished}

@@ -33,14 +33,20 @@ pub struct Report {
 }
 
 /// A cluster: cells, logs, sequencers, proxies, recoverers and storage servers, in threads.
-#[derive(Clone, Copy, Debug)]
-pub struct Cluster;
+#[derive(Drop)]
+pub struct Cluster<'a> {
+    /// The shape of the first generation, the shards of the storage servers, and how many proxies a generation has.
+    pub config: Config,
+    /// Each recoverer's ballot, and the shape of the generation that it is to open: if none is given, the one that the
+    /// generation before has.
+    pub ballots: &'a [(Ballot, Option<Shape>)],
+    /// After how many turns each thread ends.
+    pub turns: u32,
+}
 
-impl Cluster {
-    /// Runs a cluster of a config, with one workload for each proxy of a generation, and a recoverer for each ballot.
-    /// A recoverer begins when the faults say so, and opens a generation of the shape beside the ballot, or if none
-    /// is given one of the shape that the generation before has. Each workload, each storage server and each ballot
-    /// has a thread, and the crashes have one; each ends after so many turns.
+impl Cluster<'_> {
+    /// Runs the cluster, with one workload for each proxy of a generation. A recoverer begins when the faults say so.
+    /// Each workload, each storage server and each ballot has a thread, and the crashes have one.
     ///
     /// Then the journals of all nodes are audited. The clauses say of an answer:
     ///
@@ -63,22 +69,25 @@ impl Cluster {
         F: Faults + Sync,
         R: Threads + Wait + Sync,
     >(
+        self,
         rt: &R,
         alloc: Global,
-        config: Config,
-        ballots: &[(Ballot, Option<Shape>)],
-        turns: u32,
         rack: K,
         workloads: Vec<W>,
         faults: &F,
     ) -> Result<(Report, Vec<W>), RunFault>
-        ensures run { IfOk result (λ done. IsRunOf config done.0.journals.items done.0.world.turns) }
-        ensures config { IfOk result (λ done. done.0.world.config ≡ config) }
-        ensures handed { IfOk result (λ done. IsHanded config done.0.journals.items done.0.world.turns) }
+        ensures run { IfOk result (λ done. IsRunOf self.entry.config done.0.journals.items done.0.world.turns) }
+        ensures config { IfOk result (λ done. done.0.world.config ≡ self.entry.config) }
+        ensures handed { IfOk result (λ done. IsHanded self.entry.config done.0.journals.items done.0.world.turns) }
         ensures heard { IfOk result (λ done. AreHeard W.given W.heard done.0.journals.items 0 workloads.items done.1.items done.0.told.items) }
-        ensures begun { IfOk result (λ done. AllBegin (F.begun faults.now) turns done.0.journals.items ballots.now) }
-        ensures fault { IfErr result (λ fault. IsExplained W.given W.heard (F.begun faults.now) turns config workloads.items ballots.now fault) }
+        ensures begun { IfOk result (λ done. AllBegin (F.begun faults.now) self.entry.turns done.0.journals.items self.entry.ballots.now) }
+        ensures fault { IfErr result (λ fault. IsExplained W.given W.heard (F.begun faults.now) self.entry.turns self.entry.config workloads.items self.entry.ballots.now fault) }
     {
+        let Cluster {
+            config,
+            ballots,
+            turns,
+        } = self;
         let ran = handed_back(rt, alloc, &config, ballots, turns, rack, workloads, faults);
         let Gathered {
             journals,

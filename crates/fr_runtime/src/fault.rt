@@ -3,9 +3,9 @@ ghost use Rattle.std.specs.Prelude.{◌≡◌, false};
 ghost use Rattle.fr_runtime.specs.Fault.{is_audit};
 ghost use Rattle.fr_runtime.specs.Unfinished.{run_fault};
 
+use crate::spawn::SpawnFault;
 use fr_audit::AuditFault;
 use fr_base::{Memory as NoMemory, NodeFault};
-use fr_runtime_spawn::SpawnFault;
 use fr_runtime_threads::TurnFault;
 use fr_storage::StorageFault;
 use fr_undo::StoreFault;

@@ -3,10 +3,10 @@ ghost use Rattle.std.specs.Prelude.{◌≡◌, ◌<◌, ℕ, false, true, length
 ghost use Rattle.fr_base.specs.declared.place.NodeId.TheVariants as node;
 ghost use Rattle.fr_runtime.specs.Handed.{HasStart, IsUnlike, are_of_one_each, has_journal};
 
-use crate::prepare::first_epoch;
 use fr_audit_journal::Journal;
 use fr_base::{NodeId, Tag};
 use fr_run_event::Config;
+use fr_world_nodes::start::first_epoch;
 
 /// The first node of the start that has no journal among these, or the first node that has two.
 pub(crate) fn unlike(config: &Config, journals: &[Journal]) -> Option<NodeId>

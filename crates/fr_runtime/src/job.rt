@@ -1,23 +1,24 @@
 //! What the threads of a cluster do.
 ghost use Rattle.std.specs.Prelude.{◌≡◌, ◌++◌, ◌∷◌, [], IfOk, OnOk};
 ghost use Rattle.fr_runtime.specs.declared.job.Job.TheVariants as job_of;
-ghost use Rattle.fr_runtime_spawn.specs.Sworn.{AllDone};
+ghost use Rattle.fr_runtime.specs.Sworn.{AllDone};
 ghost use Rattle.fr_runtime.specs.Job.{AllDid, Did, DidServe, oks, pull_jobs, recover_jobs, serve_jobs};
 
 use crate::fault::Unfinished;
-use crate::prepare::{first_generation, put};
+use crate::prepare::put;
+use crate::spawn::{SpawnFault, work_each};
 use fr_audit_journal::Journal;
 use fr_base::{Ballot, Memory, Node, Shape};
 use fr_log::Log;
 use fr_proxy::Outcome;
 use fr_register::Cell;
-use fr_runtime_spawn::{SpawnFault, work_each};
 use fr_runtime_station::Faults;
 use fr_runtime_threads::{
     Order, Rack, Served, Site, TurnFault, Workload, crash, pull, recover, serve,
 };
 use fr_storage::Storage;
 use fr_undo::ShardStore;
+use fr_world_nodes::start::generation;
 use std::alloc::Global;
 use std::sync::Wait;
 use std::thread::Threads;
@@ -39,7 +40,7 @@ pub(crate) enum Job<W, T> {
     Pull {
         storage: T,
     },
-    /// It crashes nodes.
+    /// It crashes and loses nodes.
     Crash,
 }
 
@@ -132,7 +133,7 @@ fn serve_at<K: Rack, F: Faults, R: Wait, W: Workload + Drop>(
             told: Vec::new(site.alloc),
         });
     };
-    let first = first_generation(site.config);
+    let first = generation(site.config);
     let Served {
         work,
         journals,
@@ -166,7 +167,7 @@ fn work_at<K: Rack, F: Faults, R: Wait, S: ShardStore + Drop, W: Workload + Drop
             Ok(Done::Kept { journal })
         }
         Job::Crash => {
-            crash(site, turns);
+            crash(site, turns)?;
             Ok(Done::Nothing)
         }
     }

@@ -1,7 +1,6 @@
 //! What a cluster starts with.
 ghost use Rattle.std.specs.Prelude.{◌≡◌, ◌++◌, ◌∷◌, ◌<◌, [], length, map, false, IfOk, None, OnOk};
 ghost use Rattle.fr_base.specs.declared.place.NodeId.TheVariants as node;
-ghost use Rattle.fr_run.specs.Config.{first_generation};
 ghost use Rattle.fr_runtime_station.specs.Named.{cells_named, logs_named};
 
 use crate::fault::Unfinished;
@@ -15,49 +14,10 @@ use fr_run_event::Config;
 use fr_runtime_housing::Housed;
 use fr_runtime_station::{Directory, Station};
 use fr_runtime_threads::Rack;
-use fr_state::{CoordState, Generation, encode};
+use fr_state::{CoordState, encode};
 use fr_storage::Storage;
+use fr_world_nodes::start::{first_epoch, generation, version_one};
 use std::alloc::Global;
-
-/// The number of the epoch that a cluster starts in: round 1, recoverer 1.
-const FIRST: u64 = 257;
-
-/// The first epoch.
-pub(crate) fn first_epoch() -> Epoch
-    ensures { result ≡ 257 }
-{
-    match Epoch::new(FIRST) {
-        Some(epoch) => epoch,
-        None => unreachable!(),
-    }
-}
-
-/// Version 1, which is that of the first mark.
-fn version_one() -> Version
-    ensures { result ≡ 1 }
-{
-    match Version::new(1) {
-        Some(version) => version,
-        None => unreachable!(),
-    }
-}
-
-/// The first generation.
-pub(crate) fn first_generation(config: &Config) -> Generation
-    ensures { result ≡ first_generation config.now }
-{
-    let _within = config.coordinators();
-    match Generation::new(
-        first_epoch(),
-        config.logs(),
-        config.degree(),
-        version_one(),
-        Version::ZERO,
-    ) {
-        Some(generation) => generation,
-        None => unreachable!(),
-    }
-}
 
 /// A cell that holds the first state.
 fn started_cell<N: Node<Plain = Cell> + Drop>(
@@ -179,7 +139,7 @@ pub(crate) fn directory<K: Rack>(
     rack: &K,
     ballots: &[(Ballot, Option<Shape>)],
 ) -> Result<Directory<K::Cell, K::Log>, Unfinished> {
-    let first = first_generation(config);
+    let first = generation(config);
     let state = CoordState::new(alloc, first)?;
     let cells = cells(alloc, config, rack, &state)?;
     let logs = logs(alloc, config, rack, &state)?;
@@ -196,7 +156,7 @@ pub(crate) fn storages<K: Rack>(
     config: &Config,
     rack: &K,
 ) -> Result<Vec<Storage<K::Store>>, Unfinished> {
-    let state = CoordState::new(alloc, first_generation(config))?;
+    let state = CoordState::new(alloc, generation(config))?;
     let mut all = Vec::new(alloc);
     for number in 0..32u8 {
         if usize::from(number) < config.map().begins().len() {

@@ -11,7 +11,7 @@ use Rattle.fr_audit_journal.specs.declared.act.Act.{Act}
 use Rattle.fr_audit_journal.specs.declared.act.Act.TheVariants as act
 use Rattle.fr_audit_journal.specs.declared.act.Entry.{Entry}
 use Rattle.fr_runtime_housing.specs.Replays.{Steps, told_at, after_at, after_act, state_after, TellsAre, IsTold, gone_after, gone_at_end, IsThere}
-use Rattle.fr_runtime_housing.specs.declared.kept.Kept.{Kept}
+use Rattle.fr_runtime_housing.specs.declared.kept.AskInDoubt.{AskInDoubt}
 use Rattle.fr_audit_journal.specs.Journal.{last_from, last_stamp}
 use Rattle.fr_runtime_housing.specs.Housing.{Housing, Asks, IsHoused, IsSettled, Leaves, Stands, StandsBy, before, found_entry, greatest_stamp, is_gone, kept_stamp, last_number, left_kept, next_stamp, number_or_zero, with_found}
 
@@ -62,7 +62,7 @@ housed-append m R h inner owed e state failed stays is there told after =
     }
 
 -- an ask that was found taken stands as found, and where the node works nothing is owed
-found-true : {A : Type 0} (k : Kept A) → left_kept (Some k) ≡ Some k → k.found ≡ true
+found-true : {A : Type 0} (k : AskInDoubt A) → left_kept (Some k) ≡ Some k → k.found ≡ true
 found-true k e = go k.found refl
   where
     go : (f : Bool) → k.found ≡ f → k.found ≡ true
@@ -70,7 +70,7 @@ found-true k e = go k.found refl
     go false f = let n = subst (λ b. (if b then Some k else None) ≡ Some k) f e in absurd (cc)
 
 -- how a node stands by an ask that was found taken
-stands-found : {N S A : Type 0} (m : Steps S A) (R : S → Type 0) (h : Housing N S A) (owed : Option S) (k : Kept A)
+stands-found : {N S A : Type 0} (m : Steps S A) (R : S → Type 0) (h : Housing N S A) (owed : Option S) (k : AskInDoubt A)
     → IsHoused m R h owed → h.kept ≡ Some k → left_kept h.kept ≡ h.kept → StandsBy m (before m h) h.state h.is_failed owed k true
 stands-found m R h owed k is e left =
     let f : k.found ≡ true = found-true k (subst (λ o. left_kept o ≡ o) e left) in
@@ -78,7 +78,7 @@ stands-found m R h owed k is e left =
     subst (λ b. StandsBy m (before m h) h.state h.is_failed owed k b) f s.1
 
 -- a node that works and whose ask was found taken holds no ask
-pub found-free : {N S A : Type 0} (m : Steps S A) (R : S → Type 0) (h : Housing N S A) (owed : Option S) (k : Kept A)
+pub found-free : {N S A : Type 0} (m : Steps S A) (R : S → Type 0) (h : Housing N S A) (owed : Option S) (k : AskInDoubt A)
     → IsHoused m R h owed → h.kept ≡ Some k → left_kept h.kept ≡ h.kept → h.is_failed ≡ false → owed ≡ None
 found-free m R h owed k is e left works = go (stands-found m R h owed k is e left).1
   where
@@ -104,7 +104,7 @@ two-same : {N S A : Type 0} (n : Housing N S A) (place : NodeId) (first : S) (en
 two-same n place first entries p f e k = rw (p, f, e, k) refl
 
 -- the ask that was found taken is entered
-pub found-housed : {N S A : Type 0} (m : Steps S A) (R : S → Type 0) (h n : Housing N S A) (owed free : Option S) (k : Kept A)
+pub found-housed : {N S A : Type 0} (m : Steps S A) (R : S → Type 0) (h n : Housing N S A) (owed free : Option S) (k : AskInDoubt A)
     → ((s : S) (a : A) → R s → R (m.after s a)) → ((s : S) (a : A) → R s → m.after (m.after s a) a ≡ m.after s a)
     → IsHoused m R h owed → is_gone h ≡ false → h.kept ≡ Some k → left_kept h.kept ≡ h.kept
     → m.unwrapped (m.wrapped k.ask) ≡ Some k.ask
@@ -134,7 +134,7 @@ asked-housed m R h n owed free stamp from a stays is there e own place first ent
     subst (λ o. IsHoused m R n o) (sym (none ∙ w.1)) (subst (λ x. IsHoused m R x None) (two-same n h.place h.first (h.entries ++ new ∷ []) (sym place) (sym first) (sym entries) (sym kept)) r)
 
 -- the ask that was found taken is told again what it would have been
-pub found-told : {N S A : Type 0} (m : Steps S A) (R : S → Type 0) (h : Housing N S A) (owed : Option S) (k : Kept A)
+pub found-told : {N S A : Type 0} (m : Steps S A) (R : S → Type 0) (h : Housing N S A) (owed : Option S) (k : AskInDoubt A)
     → IsHoused m R h owed → h.kept ≡ Some k → left_kept h.kept ≡ h.kept
     → ((s : S) (a : A) → R s → m.told (m.after s a) a ≡ m.told s a)
     → m.told h.state k.ask ≡ m.told (before m h) k.ask
@@ -181,7 +181,7 @@ last-append es e = ap number_or_zero (go es e)
     go [] e = refl
     go (x ∷ es) e = ap (λ n. Some n) (from x.stamp es e)
 
-last-found : {S A : Type 0} (m : Steps S A) (s : S) (es : List Entry) (k : Option (Kept A)) → last_number (with_found m s es k) ≤ max (last_number es) (kept_stamp k)
+last-found : {S A : Type 0} (m : Steps S A) (s : S) (es : List Entry) (k : Option (AskInDoubt A)) → last_number (with_found m s es k) ≤ max (last_number es) (kept_stamp k)
 last-found m s es None = omega arith
 last-found m s es (Some k) = let e = last-append es (found_entry m s k) in omega (arith, e)
 

@@ -8,7 +8,7 @@ use Rattle.fr_audit_journal.specs.declared.act.Act.{Act}
 use Rattle.fr_audit_journal.specs.declared.act.Act.TheVariants as act
 use Rattle.fr_audit_journal.specs.declared.act.Entry.{Entry}
 use Rattle.fr_audit_journal.specs.Journal.{IsAbove, last_stamp}
-use Rattle.fr_runtime_housing.specs.declared.kept.Kept.{Kept}
+use Rattle.fr_runtime_housing.specs.declared.kept.AskInDoubt.{AskInDoubt}
 use Rattle.fr_runtime_housing.specs.declared.fault.CallFault.{CallFault}
 use Rattle.fr_runtime_housing.specs.declared.fault.CallFault.TheVariants as call
 use Rattle.fr_runtime_housing.specs.Replays.{Steps, state_after, TellsAre, IsThere, gone_at_end}
@@ -22,7 +22,7 @@ pub record Housing (N S A : Type 0) : Type 0 where
   pub entries : List Entry
   pub state : S
   pub is_failed : Bool
-  pub kept : Option (Kept A)
+  pub kept : Option (AskInDoubt A)
 
 -- the stamp of the last entry, 0 if there is none
 abbrev pub number_or_zero : Option ℕ → ℕ
@@ -37,7 +37,7 @@ abbrev pub next_stamp : List Entry → ℕ → ℕ
 next_stamp entries stamp = max (last_number entries) stamp + 1
 
 -- the stamp of the ask that met the fault, 0 if there is none
-abbrev pub kept_stamp : {A : Type 0} → Option (Kept A) → ℕ
+abbrev pub kept_stamp : {A : Type 0} → Option (AskInDoubt A) → ℕ
 kept_stamp None = 0
 kept_stamp (Some k) = k.stamp
 
@@ -54,26 +54,26 @@ abbrev pub before : {N S A : Type 0} → Steps S A → Housing N S A → S
 before m h = state_after m h.first h.entries
 
 -- the entry of the ask that met the fault, if it was taken
-abbrev pub found_entry : {S A : Type 0} → Steps S A → S → Kept A → Entry
+abbrev pub found_entry : {S A : Type 0} → Steps S A → S → AskInDoubt A → Entry
 found_entry m s k = record { stamp = k.stamp; act = act.Asked k.from (m.wrapped k.ask) (m.told s k.ask) }
 
 -- the entries, and that of the ask that met the fault
-abbrev pub with_found : {S A : Type 0} → Steps S A → S → List Entry → Option (Kept A) → List Entry
+abbrev pub with_found : {S A : Type 0} → Steps S A → S → List Entry → Option (AskInDoubt A) → List Entry
 with_found m s entries None = entries
 with_found m s entries (Some k) = entries ++ found_entry m s k ∷ []
 
 -- whether there is such an ask, which was found taken
-abbrev pub is_found : {A : Type 0} → Option (Kept A) → Bool
+abbrev pub is_found : {A : Type 0} → Option (AskInDoubt A) → Bool
 is_found None = false
 is_found (Some k) = k.found
 
 -- what is kept once the node is found to be before the ask, and after it
 
-abbrev pub left_kept : {A : Type 0} → Option (Kept A) → Option (Kept A)
+abbrev pub left_kept : {A : Type 0} → Option (AskInDoubt A) → Option (AskInDoubt A)
 left_kept None = None
 left_kept (Some k) = if k.found then Some k else None
 
-abbrev pub found_kept : {A : Type 0} → Option (Kept A) → Option (Kept A)
+abbrev pub found_kept : {A : Type 0} → Option (AskInDoubt A) → Option (AskInDoubt A)
 found_kept None = None
 found_kept (Some k) = Some (record k { found = true })
 
@@ -120,11 +120,11 @@ Keeps m old new stamp from ask =
 
 -- where the node is beside what its journal says: there, or, if an ask met a fault, before it or, once that is found,
 -- after it; while it is not opened again it owes the state after that ask
-abbrev pub StandsBy : {S A : Type 0} → Steps S A → S → S → Bool → Option S → Kept A → Bool → Type 0
+abbrev pub StandsBy : {S A : Type 0} → Steps S A → S → S → Bool → Option S → AskInDoubt A → Bool → Type 0
 StandsBy m s state failed owed k false = (state ≡ s) × (failed ≡ true) × (owed ≡ Some (m.after state k.ask))
 StandsBy m s state failed owed k true = (state ≡ m.after s k.ask) × ((owed ≡ None) ⊎ ((owed ≡ Some (m.after state k.ask)) × (failed ≡ true)))
 
-abbrev pub Stands : {S A : Type 0} → Steps S A → S → List Entry → S → Bool → Option S → Option (Kept A) → Type 0
+abbrev pub Stands : {S A : Type 0} → Steps S A → S → List Entry → S → Bool → Option S → Option (AskInDoubt A) → Type 0
 Stands m s entries state failed owed None = (state ≡ s) × (owed ≡ None)
 Stands m s entries state failed owed (Some k) = IsAbove entries k.stamp × StandsBy m s state failed owed k k.found
 

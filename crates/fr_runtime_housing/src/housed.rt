@@ -13,7 +13,7 @@ mod settling;
 
 use crate::fault::CallFault;
 use crate::housable::Housable;
-use crate::kept::Kept;
+use crate::kept::AskInDoubt;
 use fr_ask::{Named, Tell};
 use fr_audit_journal::Journal;
 use fr_base::{Machine, Node, NodeFault, NodeId, Stamp};
@@ -32,7 +32,7 @@ where
     first: Snapshot<N::Plain>,
     is_failed: bool,
     is_gone: bool,
-    kept: Option<Kept<<N::Plain as Machine>::Ask>>,
+    kept: Option<AskInDoubt<<N::Plain as Machine>::Ask>>,
 }
 
 impl<N: Node> Model for Housed<N>

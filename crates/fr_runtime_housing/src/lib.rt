@@ -11,4 +11,4 @@ mod served;
 pub use fault::CallFault;
 pub use housable::Housable;
 pub use housed::Housed;
-pub use kept::Kept;
+pub use kept::AskInDoubt;

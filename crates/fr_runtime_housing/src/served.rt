@@ -6,7 +6,7 @@ ghost use Rattle.fr_runtime_housing.specs.Replays.{ends_by_crash};
 ghost use Rattle.fr_runtime_housing.specs.Housing.{found_kept, left_kept};
 
 use crate::housable::Housable;
-use crate::kept::Kept;
+use crate::kept::AskInDoubt;
 use fr_audit_journal::Journal;
 use fr_base::{Machine, Node, NodeFault, NodeId};
 use std::alloc::Global;
@@ -53,7 +53,7 @@ where
 }
 
 /// The ask that met a fault, if it was found taken before.
-pub(crate) fn left<A: Drop>(kept: Option<Kept<A>>) -> Option<Kept<A>>
+pub(crate) fn left<A: Drop>(kept: Option<AskInDoubt<A>>) -> Option<AskInDoubt<A>>
     ensures { result ≡ left_kept kept }
 {
     match kept {
@@ -63,7 +63,7 @@ pub(crate) fn left<A: Drop>(kept: Option<Kept<A>>) -> Option<Kept<A>>
 }
 
 /// The ask that met a fault, as one that is found taken.
-pub(crate) fn found<A>(kept: Option<Kept<A>>) -> Option<Kept<A>>
+pub(crate) fn found<A>(kept: Option<AskInDoubt<A>>) -> Option<AskInDoubt<A>>
     ensures { result ≡ found_kept kept }
 {
     match kept {

@@ -10,6 +10,7 @@ use Rattle.fr_ask.specs.declared.ask.Ask.{Ask}
 use Rattle.fr_ask.specs.declared.ask.Ask.TheVariants as ask
 use Rattle.fr_ask.specs.declared.tell.Tell.{Tell}
 use Rattle.fr_ask.specs.declared.tell.Tell.TheVariants as tell
+use Rattle.fr_audit_journal.specs.declared.act.Act.{Act}
 use Rattle.fr_audit_journal.specs.declared.act.Act.TheVariants as act
 use Rattle.fr_log.specs.LogState.{LogState}
 use Rattle.fr_log.specs.Step as log
@@ -44,19 +45,19 @@ pub record WasAsked (N : Type 0) {S A : Type 0} (m : Steps S A) (stamp : ℕ) (f
   pub place : answers old.place ≡ true
   pub asked : IsAsked m old new stamp from a result
 
--- the same of a crash
-pub record IsCrashed {N S A : Type 0} (m : Steps S A) (old new : Housing N S A) (stamp : ℕ) (result : Result ℕ CallFault) : Type 0 where
-  pub entered : IfOk result (λ at. Enters m old new stamp at act.Crashed)
+-- the same of a crash or a loss, which is entered as this act
+pub record IsStruck {N S A : Type 0} (by : Act) (m : Steps S A) (old new : Housing N S A) (stamp : ℕ) (result : Result ℕ CallFault) : Type 0 where
+  pub entered : IfOk result (λ at. Enters m old new stamp at by)
   pub lost : (result ≡ Err call.Lost) ↔ (refusal_of old stamp ≡ Some call.Lost)
   pub spent : (result ≡ Err call.StampsSpent) ↔ (refusal_of old stamp ≡ Some call.StampsSpent)
   pub left : OnErr result (Leaves m old new)
 
--- a node that answers asks was so when it crashed
-pub record HasCrashed (N : Type 0) {S A : Type 0} (m : Steps S A) (stamp : ℕ) (result : Result ℕ CallFault) : Type 0 where
+-- a node that answers asks was so when it crashed or was lost
+pub record WasStruck (N : Type 0) {S A : Type 0} (by : Act) (m : Steps S A) (stamp : ℕ) (result : Result ℕ CallFault) : Type 0 where
   pub old : Housing N S A
   pub new : Housing N S A
   pub place : answers old.place ≡ true
-  pub crashed : IsCrashed m old new stamp result
+  pub struck : IsStruck by m old new stamp result
 
 -- the machines of cells, logs and sequencers, their asks and tells among all
 
@@ -81,26 +82,30 @@ IsCall C L stamp from (ask.Cell a) result = WasCalled C cell_steps stamp from a 
 IsCall C L stamp from (ask.Log a) result = WasCalled L log_steps stamp from a result
 IsCall C L stamp from (ask.Seq a) result = WasCalled (InMemory SeqState) seq_steps stamp from a result
 
--- the same of a crash
-pub record WasCrashed (N : Type 0) {S A : Type 0} (m : Steps S A) (stamp : ℕ) (result : Result ℕ CallFault) : Type 0 where
+-- the same of a crash or a loss
+pub record IsBlow (N : Type 0) {S A : Type 0} (by : Act) (m : Steps S A) (stamp : ℕ) (result : Result ℕ CallFault) : Type 0 where
   pub raised : ℕ
   pub is_raised : stamp ≤ raised
-  pub crashed : HasCrashed N m raised result
+  pub struck : WasStruck N by m raised result
 
 abbrev pub IsCrash : (C L : Type 0) → ℕ → NodeId → Result ℕ CallFault → Type 0
-IsCrash C L stamp (place.Cell index) result = WasCrashed C cell_steps stamp result
-IsCrash C L stamp (place.Log epoch index) result = WasCrashed L log_steps stamp result
-IsCrash C L stamp (place.Sequencer epoch) result = WasCrashed (InMemory SeqState) seq_steps stamp result
+IsCrash C L stamp (place.Cell index) result = IsBlow C act.Crashed cell_steps stamp result
+IsCrash C L stamp (place.Log epoch index) result = IsBlow L act.Crashed log_steps stamp result
+IsCrash C L stamp (place.Sequencer epoch) result = IsBlow (InMemory SeqState) act.Crashed seq_steps stamp result
 IsCrash C L stamp node result = ⊥
+
+-- a log over L was lost
+abbrev pub IsLoss : (L : Type 0) → ℕ → Result ℕ CallFault → Type 0
+IsLoss L stamp result = IsBlow L act.Lost log_steps stamp result
 
 -- why a directory answers nothing: what the node that was called says, if it was called
 abbrev pub IsUncalled : (Result (ℕ × Tell) CallFault → Type 0) → DirectoryFault → Type 0
 IsUncalled Call (fault.Call why) = Call (Err why)
 IsUncalled Call why = ⊤
 
-abbrev pub IsUncrashed : (Result ℕ CallFault → Type 0) → DirectoryFault → Type 0
-IsUncrashed Crash (fault.Call why) = Crash (Err why)
-IsUncrashed Crash why = ⊤
+abbrev pub IsUnstruck : (Result ℕ CallFault → Type 0) → DirectoryFault → Type 0
+IsUnstruck Blow (fault.Call why) = Blow (Err why)
+IsUnstruck Blow why = ⊤
 
 -- the nodes for which a directory has a place: so many cells, so many logs and a sequencer of the generation of the start, and those of the later epochs that may come
 pub record Places : Type 0 where
@@ -148,4 +153,4 @@ pub record IsCrashAnswered (C L : Type 0) (places : Places) (stamp : ℕ) (node 
   pub there : (result ≡ Err fault.NotThere) → may_lack places node ≡ true
   pub lacking : must_lack places node ≡ true → answers node ≡ true → result ≡ Err fault.NotThere
   pub crashed : IfOk result (λ at. IsCrash C L stamp node (Ok at))
-  pub uncrashed : IfErr result (IsUncrashed (IsCrash C L stamp node))
+  pub uncrashed : IfErr result (IsUnstruck (IsCrash C L stamp node))

@@ -3,7 +3,8 @@ ghost use Rattle.std.specs.Prelude.{◌≡◌, ◌<◌, IfErr, IfOk, true};
 ghost use Rattle.fr_runtime_housing.specs.Replays.{steps};
 ghost use Rattle.fr_runtime_housing.specs.Housing.{IsTrouble};
 ghost use Rattle.fr_runtime_station.specs.Answering.{IsToldBy, answers};
-ghost use Rattle.fr_runtime_station.specs.Called.{IsAsked, IsCrashed};
+ghost use Rattle.fr_audit_journal.specs.declared.act.Act.TheVariants as act;
+ghost use Rattle.fr_runtime_station.specs.Called.{IsAsked, IsStruck};
 
 use fr_ask::Tell;
 use fr_base::{Machine, Node, NodeId, Stamp};
@@ -56,13 +57,26 @@ where
     pub(crate) fn crash(&mut self, alloc: Global, stamp: Stamp) -> Result<Stamp, CallFault>
     where
         N: Drop,
-        ensures crashed { IsCrashed
+        ensures crashed { IsStruck act.Crashed
             (steps N.Plain.wrapped N.Plain.unwrapped N.Plain.wrapped_tell N.Plain.told N.Plain.after)
             self.old.housed self.new.housed stamp result }
         ensures above { IfOk result (λ at. stamp < at) }
         ensures trouble { IfErr result (IsTrouble N.CanMeet) }
     {
         self.housed.crash(alloc, stamp)
+    }
+
+    /// The node is lost, as [`Housed::lose`] does.
+    pub(crate) fn lose(&mut self, alloc: Global, stamp: Stamp) -> Result<Stamp, CallFault>
+    where
+        N: Drop,
+        ensures lost { IsStruck act.Lost
+            (steps N.Plain.wrapped N.Plain.unwrapped N.Plain.wrapped_tell N.Plain.told N.Plain.after)
+            self.old.housed self.new.housed stamp result }
+        ensures above { IfOk result (λ at. stamp < at) }
+        ensures trouble { IfErr result (IsTrouble N.CanMeet) }
+    {
+        self.housed.lose(alloc, stamp)
     }
 
     /// The node with its journal.

@@ -1,9 +1,9 @@
 //! All nodes that answer asks, where threads find them.
-ghost use Rattle.std.specs.Prelude.{◌≡◌, ◌⊎◌, ◌↔◌, ◌≤◌, ◌<◌, ◌+◌, length, map, false, slice_get, IfErr, IfOk, IfSome, None, Ok, Err, Some, true};
+ghost use Rattle.std.specs.Prelude.{◌≡◌, ◌≢◌, ◌⊎◌, ◌↔◌, ◌≤◌, ◌<◌, ◌+◌, length, map, false, slice_get, IfErr, IfOk, IfSome, None, Ok, Err, Some, true};
 ghost use Rattle.fr_ask.specs.declared.ask.Ask.TheVariants as asked;
 ghost use Rattle.fr_base.specs.declared.place.NodeId.TheVariants as node;
 ghost use Rattle.fr_runtime_station.specs.Answering.{IsAnswer, IsClosingTrouble, all_answer, answers, is_asked_of};
-ghost use Rattle.fr_runtime_station.specs.Called.{IsAnswered, IsCall, IsCrash, IsCrashAnswered, IsUncalled, IsUncrashed, is_first, may_come, may_lack, must_lack};
+ghost use Rattle.fr_runtime_station.specs.Called.{IsAnswered, IsCall, IsCrash, IsCrashAnswered, IsLoss, IsUncalled, IsUnstruck, is_first, may_come, may_lack, must_lack};
 ghost use Rattle.fr_runtime_station.specs.Named.{cells_named, logs_named};
 ghost use Rattle.fr_runtime_station.specs.Places.{places_of};
 ghost use Rattle.fr_runtime_station.specs.declared.directory_fault.DirectoryFault.{DirectoryFault};
@@ -299,7 +299,7 @@ impl<C: Node<Plain = Cell> + Drop, L: Node<Plain = Log> + Drop> Directory<C, L> 
         ensures lacking { must_lack (places_of self.now) node ≡ true → answers node ≡ true
             → result ≡ Err DirectoryFault.NotThere }
         ensures crashed { IfOk result (λ at. IsCrash C L stamp node (Ok at)) }
-        ensures uncrashed { IfErr result (IsUncrashed (IsCrash C L stamp node)) }
+        ensures uncrashed { IfErr result (IsUnstruck (IsCrash C L stamp node)) }
     {
         match node {
             NodeId::Cell { index } => self.crash_cell(rt, alloc, stamp, index),
@@ -358,6 +358,33 @@ impl<C: Node<Plain = Cell> + Drop, L: Node<Plain = Log> + Drop> Directory<C, L> 
     {
         match self.sequencer(epoch) {
             Some((sequencer, there)) => match sequencer.crash(rt, alloc, stamp.max(there)) {
+                Ok(at) => Ok(at),
+                Err(fault) => Err(DirectoryFault::Call(fault)),
+            },
+            None => Err(DirectoryFault::NotThere),
+        }
+    }
+
+    /// A log is lost, if it is there, for good, and the stamp of that is answered. It answers nothing from then on. A
+    /// fault says that it is not there, or why the loss was not entered.
+    pub fn lose<R: Wait>(
+        &self,
+        rt: &R,
+        alloc: Global,
+        stamp: Stamp,
+        id: LogId,
+    ) -> Result<Stamp, DirectoryFault>
+        ensures above { IfOk result (λ at. stamp < at) }
+        ensures kind { result ≢ Err DirectoryFault.NotAsked }
+        ensures there { (result ≡ Err DirectoryFault.NotThere)
+            → may_lack (places_of self.now) (node.Log id.epoch id.index) ≡ true }
+        ensures lacking { must_lack (places_of self.now) (node.Log id.epoch id.index) ≡ true
+            → result ≡ Err DirectoryFault.NotThere }
+        ensures lost { IfOk result (λ at. IsLoss L stamp (Ok at)) }
+        ensures unlost { IfErr result (IsUnstruck (IsLoss L stamp)) }
+    {
+        match self.log(id) {
+            Some((log, there)) => match log.lose(rt, alloc, stamp.max(there)) {
                 Ok(at) => Ok(at),
                 Err(fault) => Err(DirectoryFault::Call(fault)),
             },

@@ -1,8 +1,9 @@
 //! What happens to asks and nodes while threads run, and when recoverers begin.
 ghost use Rattle.std.specs.Prelude.{◌≡◌};
 
+use crate::chosen::Chosen;
 use fr_ask::Ask;
-use fr_base::{Ballot, NodeId, Tag};
+use fr_base::{Ballot, LogId, NodeId, Tag};
 
 /// What happens to an ask on its way.
 #[derive(Clone, Copy, Debug, PartialEq, Eq)]
@@ -15,14 +16,29 @@ pub enum Verdict {
     DropTell,
     /// It comes to its node twice, and each tell is heard.
     Twice,
+    /// It is kept by the thread that sends it, and comes to its node so many turns later.
+    LateAsk { turns: u8 },
+    /// It comes to its node, and what the node tells is kept by the thread, and heard so many turns later.
+    LateTell { turns: u8 },
+}
+
+/// What befalls a node that answers asks.
+#[derive(Clone, Copy, Debug, PartialEq, Eq)]
+pub enum Blow {
+    /// It crashes. A cell or a log is opened again at once; a sequencer is gone.
+    Crash { node: NodeId },
+    /// A log is lost, for good.
+    Lose { log: LogId },
 }
 
 /// What happens to asks and nodes, and when recoverers begin. It is asked by the thread whose turn it is, with no
 /// lock held.
 pub trait Faults {
-    ghost use Rattle.std.specs.Prelude.{ℕ, Bool, Option};
+    ghost use Rattle.std.specs.Prelude.{ℕ, Bool, List, Option};
     ghost use Rattle.fr_ask.specs.declared.ask.Ask.{Ask};
     ghost use Rattle.fr_base.specs.declared.place.NodeId.{NodeId};
+    ghost use Rattle.fr_runtime_station.specs.declared.chosen.Chosen.{Chosen};
+    ghost use Rattle.fr_runtime_station.specs.declared.faults.Blow.{Blow};
     ghost use Rattle.fr_runtime_station.specs.declared.faults.Verdict.{Verdict};
 
     /// Whether the recoverer of a ballot may begin at a turn.
@@ -31,8 +47,12 @@ pub trait Faults {
     /// What may happen to an ask to a node.
     ghost MayBefall: { Self → NodeId → Ask → Verdict → Type 0 } = { λ faults to ask verdict. Unit {0} };
 
-    /// Which node may crash at a turn of the thread of crashes, and whether none may.
-    ghost MayCrash: { Self → ℕ → Option NodeId → Type 0 } = { λ faults turn node. Unit {0} };
+    /// What may befall a node at a turn of the thread of crashes, where these generations are chosen, and whether
+    /// nothing may.
+    ghost MayStrike: { Self → ℕ → List Chosen → Option Blow → Type 0 } = { λ faults turn chosen blow. Unit {0} };
+
+    /// Whether a node that asks may be gone from a turn of its thread on, and whether it may stay.
+    ghost MayEnd: { Self → NodeId → ℕ → Bool → Type 0 } = { λ faults node turn is_end. Unit {0} };
 
     /// What happens to this ask to a node.
     fn verdict(&self, to: NodeId, ask: &Ask) -> Verdict
@@ -41,9 +61,14 @@ pub trait Faults {
     /// The node told what it was asked.
     fn answered(&self, to: NodeId, ask: &Ask);
 
-    /// The node that crashes at this turn of the thread of crashes.
-    fn crash(&self, turn: u32) -> Option<NodeId>
-        ensures { MayCrash self.now turn result };
+    /// What befalls a node at this turn of the thread of crashes, where these generations are chosen, that of the start
+    /// first.
+    fn strikes(&self, turn: u32, chosen: &[Chosen]) -> Option<Blow>
+        ensures { MayStrike self.now turn chosen.now result };
+
+    /// Whether a proxy or a recoverer crashes at this turn of its thread: it is gone from then on.
+    fn ends(&self, node: NodeId, turn: u32) -> bool
+        ensures { MayEnd self.now node turn result };
 
     /// Whether the recoverer of this ballot, if it did not begin before, begins at this turn of its thread.
     fn begins(&self, ballot: Ballot, turn: u32) -> bool
@@ -56,20 +81,22 @@ pub trait Faults {
     fn audits(&self) {}
 }
 
-/// No ask is lost and no node crashes. The recoverer of a ballot whose round is r begins at turn 100 (r - 1): that of
+/// No ask is lost or late, and no node crashes. The recoverer of a ballot whose round is r begins at turn 100 (r - 1): that of
 /// round 2, the first after the start's, at turn 100.
 #[derive(Clone, Copy, Debug)]
 pub struct NoFaults;
 
 impl Faults for NoFaults {
-    ghost use Rattle.std.specs.Prelude.{◌≡◌, ◌+◌, ◌*◌, ◌/◌, ◌==◌, None};
+    ghost use Rattle.std.specs.Prelude.{◌≡◌, ◌+◌, ◌*◌, ◌/◌, ◌==◌, None, false};
     ghost use Rattle.fr_runtime_station.specs.declared.faults.Verdict.TheVariants.{Pass};
 
     ghost begun = { λ f ballot turn. turn + 100 == 100 * (ballot / 256) };
 
     ghost MayBefall = { λ f to ask verdict. verdict ≡ Pass };
 
-    ghost MayCrash = { λ f turn node. node ≡ None };
+    ghost MayStrike = { λ f turn chosen blow. blow ≡ None };
+
+    ghost MayEnd = { λ f node turn is_end. is_end ≡ false };
 
     fn verdict(&self, _to: NodeId, _ask: &Ask) -> Verdict {
         Verdict::Pass
@@ -77,8 +104,12 @@ impl Faults for NoFaults {
 
     fn answered(&self, _to: NodeId, _ask: &Ask) {}
 
-    fn crash(&self, _turn: u32) -> Option<NodeId> {
+    fn strikes(&self, _turn: u32, _chosen: &[Chosen]) -> Option<Blow> {
         None
+    }
+
+    fn ends(&self, _node: NodeId, _turn: u32) -> bool {
+        false
     }
 
     fn begins(&self, ballot: Ballot, turn: u32) -> bool {

@@ -15,5 +15,5 @@ mod station;
 pub use chosen::{Chosen, first_stamp};
 pub use directory::Directory;
 pub use directory_fault::DirectoryFault;
-pub use faults::{Faults, NoFaults, Verdict};
+pub use faults::{Blow, Faults, NoFaults, Verdict};
 pub use station::Station;

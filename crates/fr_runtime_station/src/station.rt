@@ -3,7 +3,8 @@ ghost use Rattle.std.specs.Prelude.{◌≡◌, ◌<◌, IfErr, IfOk, true};
 ghost use Rattle.fr_runtime_housing.specs.Housing.{IsTrouble};
 ghost use Rattle.fr_runtime_housing.specs.Replays.{steps};
 ghost use Rattle.fr_runtime_station.specs.Answering.{IsToldBy, answers};
-ghost use Rattle.fr_runtime_station.specs.Called.{HasCrashed, WasAsked};
+ghost use Rattle.fr_audit_journal.specs.declared.act.Act.TheVariants as act;
+ghost use Rattle.fr_runtime_station.specs.Called.{WasAsked, WasStruck};
 
 use crate::answering::Answering;
 use fr_ask::Tell;
@@ -69,11 +70,24 @@ where
     where
         N: Drop,
         ensures above { IfOk result (λ at. stamp < at) }
-        ensures crashed { HasCrashed N
+        ensures crashed { WasStruck N act.Crashed
             (steps N.Plain.wrapped N.Plain.unwrapped N.Plain.wrapped_tell N.Plain.told N.Plain.after) stamp result }
         ensures trouble { IfErr result (IsTrouble N.CanMeet) }
     {
         self.lock.lock(rt).crash(alloc, stamp)
+    }
+
+    /// The node is lost, as [`Housed::lose`] does, once the lock is free. What is answered and what is left are those
+    /// of one loss of such a node, as it was when the lock was taken. The stamp is above the caller's.
+    pub fn lose<R: Wait>(&self, rt: &R, alloc: Global, stamp: Stamp) -> Result<Stamp, CallFault>
+    where
+        N: Drop,
+        ensures above { IfOk result (λ at. stamp < at) }
+        ensures lost { WasStruck N act.Lost
+            (steps N.Plain.wrapped N.Plain.unwrapped N.Plain.wrapped_tell N.Plain.told N.Plain.after) stamp result }
+        ensures trouble { IfErr result (IsTrouble N.CanMeet) }
+    {
+        self.lock.lock(rt).lose(alloc, stamp)
     }
 
     /// The node with its journal.

@@ -1,4 +1,4 @@
-//! Storms: asks that are lost or repeated, nodes that crash and batches, each drawn from a seed.
+//! Storms: asks that are lost, repeated or late, nodes that crash or are lost, and batches, each drawn from a seed.
 #![tactic(auto)]
 
 mod draws;

@@ -1,4 +1,5 @@
 pub mod Accounts
+mod Letters
 mod Rows
 pub mod Steps
 mod Told

@@ -5,7 +5,9 @@ ghost use Rattle.fr_runtime_threads.specs.Account.{account, all_given, all_outco
 
 use crate::door::{Door, send_all};
 use crate::fault::TurnFault;
+use crate::late::Late;
 use crate::order::{Order, UnderWay};
+use crate::sending::Hearer;
 use crate::site::Site;
 use crate::workload::Workload;
 use fr_audit_journal::Journal;
@@ -107,6 +109,42 @@ impl<W: Workload + Drop> Client<W> {
         Ok(())
     }
 
+    /// Goes over to the proxy of the newest epoch, if the epoch is later, from one that crashed with a batch under way,
+    /// which is told to be waiting.
+    fn leave(&mut self, alloc: Global, config: &Config, newest: Chosen) -> Result<(), Memory>
+        requires under_way { self.old.door.under_way ≡ UnderWay.Open }
+        ensures first { self.new.first ≡ self.old.first }
+        ensures number { self.new.number ≡ self.old.number }
+    {
+        if newest.generation.epoch() <= self.door.epoch() {
+            return Ok(());
+        }
+        let now = self.door.seen().max(newest.stamp);
+        self.earlier.reserve(1)?;
+        self.told.reserve(1)?;
+        let next = Door::new(alloc, config, self.number, newest.generation, now)?;
+        self.work.told(Outcome::Waiting)?;
+        self.told.push_reserved(Outcome::Waiting);
+        let before = std::mem::replace(&mut self.door, next);
+        self.earlier.push_reserved(before.close());
+        Ok(())
+    }
+
+    /// A turn at which the proxy is gone: it goes over to that of the newest epoch, once there is a later one. Until
+    /// then other threads go first.
+    fn go_on(&mut self, alloc: Global, config: &Config, newest: Chosen) -> Result<(), Memory>
+        ensures first { self.new.first ≡ self.old.first }
+        ensures number { self.new.number ≡ self.old.number }
+    {
+        match self.door.under_way() {
+            UnderWay::Nothing => self.move_on(alloc, config, newest)?,
+            UnderWay::Open => self.leave(alloc, config, newest)?,
+            UnderWay::Said(_) => self.settle()?,
+        }
+        yield_now();
+        Ok(())
+    }
+
     /// Hands the next batch to a proxy; false if there is none. One that no proxy takes is kept.
     fn hand_out(&mut self, alloc: Global, config: &Config, newest: Chosen) -> Result<bool, Memory>
         requires shut { self.old.door.under_way ≡ UnderWay.Nothing }
@@ -145,21 +183,31 @@ impl<W: Workload + Drop> Client<W> {
         }
     }
 
-    /// One turn: a batch is handed out if none is open, and each pending ask is sent once. False if there is no
-    /// further batch. A turn at which the proxy says nothing of a batch lets other threads go first.
+    /// One turn: a batch is handed out if none is open, what is late comes, and each pending ask is sent once. False if
+    /// there is no further batch. A turn at which the proxy says nothing of a batch lets other threads go first. A proxy
+    /// that crashed takes no turn, and its thread waits for the next epoch.
     fn turn<K: Rack, F: Faults, R: Wait>(
         &mut self,
         site: &Site<'_, K, F, R>,
+        late: &mut Late,
+        number: u32,
     ) -> Result<bool, TurnFault>
         ensures first { self.new.first ≡ self.old.first }
         ensures number { self.new.number ≡ self.old.number }
     {
+        if !self.door.is_gone() && site.faults.ends(self.door.place(), number) {
+            self.door.crash()?;
+        }
+        if self.door.is_gone() {
+            self.go_on(site.alloc, site.config, site.directory.newest())?;
+            return Ok(true);
+        }
         if let UnderWay::Nothing = self.door.under_way() {
             if !self.hand_out(site.alloc, site.config, site.directory.newest())? {
                 return Ok(false);
             }
         }
-        send_all(site, &mut self.door)?;
+        send_all(site, &mut self.door, late)?;
         let is_told = matches!(self.door.under_way(), UnderWay::Said(_));
         self.settle()?;
         if !is_told {
@@ -246,8 +294,9 @@ pub fn serve<K: Rack, F: Faults, R: Wait, W: Workload + Drop>(
     ensures places { IfOk result (λ s. are_proxies number s.journals.items ≡ true) }
 {
     let mut client = Client::new(site.alloc, site.config, first, number, work)?;
-    for _turn in 0..turns {
-        if !client.turn(site)? {
+    let mut late = Late::new(site.alloc);
+    for turn in 1..=turns {
+        if !client.turn(site, &mut late, turn)? {
             break;
         }
     }

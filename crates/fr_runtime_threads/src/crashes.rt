@@ -1,19 +1,43 @@
 //! The thread of crashes.
+ghost use Rattle.std.specs.Prelude.{◌<◌, IfOk, IfSome};
+
+use crate::fault::TurnFault;
 use crate::site::Site;
+use fr_base::{Memory, Stamp};
 use fr_runtime_rack::Rack;
-use fr_runtime_station::{Faults, first_stamp};
+use fr_runtime_station::{Blow, Faults, first_stamp};
 use std::sync::Wait;
 use std::thread::yield_now;
 
-/// Crashes what the faults name, one turn after the other; each turn first lets other threads go.
-pub fn crash<K: Rack, F: Faults, R: Wait>(site: &Site<'_, K, F, R>, turns: u32) {
+/// Crashes and loses what the faults name, one turn after the other; each turn first lets other threads go.
+pub fn crash<K: Rack, F: Faults, R: Wait>(
+    site: &Site<'_, K, F, R>,
+    turns: u32,
+) -> Result<(), TurnFault> {
     let mut now = first_stamp();
     for number in 1..=turns {
         yield_now();
-        if let Some(node) = site.faults.crash(number) {
-            if let Ok(at) = site.directory.crash(site.rt, site.alloc, now, node) {
-                now = at;
-            }
+        if let Some(at) = strike(site, number, now)? {
+            now = at;
         }
+    }
+    Ok(())
+}
+
+/// What the faults name at a turn crashes or is lost: the stamp of that, above this one, if it is entered.
+fn strike<K: Rack, F: Faults, R: Wait>(
+    site: &Site<'_, K, F, R>,
+    turn: u32,
+    now: Stamp,
+) -> Result<Option<Stamp>, Memory>
+    ensures { IfOk result (λ at. IfSome at (λ at. now < at)) }
+{
+    let chosen = site.directory.epochs(site.alloc)?;
+    match site.faults.strikes(turn, chosen.as_slice()) {
+        Some(Blow::Crash { node }) => {
+            Ok(site.directory.crash(site.rt, site.alloc, now, node).ok())
+        }
+        Some(Blow::Lose { log }) => Ok(site.directory.lose(site.rt, site.alloc, now, log).ok()),
+        None => Ok(None),
     }
 }

@@ -1,13 +1,14 @@
 //! A proxy, what it took and what it said of it.
-ghost use Rattle.std.specs.Prelude.{◌≡◌, ◌++◌, ◌∷◌, [], ◌<◌, false, length, vec_capacity, IfOk, None, OnOk, Some};
+ghost use Rattle.std.specs.Prelude.{◌≡◌, ◌++◌, ◌∷◌, [], ◌<◌, false, true, length, vec_capacity, IfOk, None, OnOk, Some};
 ghost use Rattle.fr_base.specs.declared.place.NodeId.{NodeId};
 ghost use Rattle.fr_runtime_threads.specs.declared.order.UnderWay.{UnderWay};
 ghost use Rattle.fr_runtime_threads.specs.Account.{account, after_saying, is_open_in, left_over, said};
 
 use crate::fault::TurnFault;
+use crate::late::Late;
 use crate::notes::Notes;
 use crate::order::{Order, UnderWay};
-use crate::sending::{Hearer, send};
+use crate::sending::{Hearer, bring_late, send};
 use crate::site::Site;
 use fr_ask::{Ask, Tell};
 use fr_audit_journal::{Act, Journal};
@@ -28,6 +29,7 @@ pub(crate) struct Door {
     told: Vec<Outcome>,
     under_way: UnderWay,
     is_over: bool,
+    is_gone: bool,
     ghost tells: { (account notes.journal.entries).told ≡ told.items ++ said under_way },
     ghost opens: { (account notes.journal.entries).is_open ≡ is_open_in under_way },
 }
@@ -41,6 +43,18 @@ fn after_saying(under_way: UnderWay, outcome: Outcome) -> UnderWay
         (UnderWay::Open, Outcome::Ended) => UnderWay::Said(outcome),
         _ => under_way,
     }
+}
+
+/// Enters that a proxy crashed, if there is a stamp for it: no batch is taken or spoken of by that.
+fn enter_crash(notes: &mut Notes) -> Result<(), Memory>
+    ensures place { notes.new.journal.node ≡ notes.old.journal.node }
+    ensures account { account notes.new.journal.entries ≡ account notes.old.journal.entries }
+{
+    let Some(stamp) = notes.next()? else {
+        return Ok(());
+    };
+    notes.enter(stamp, Act::Crashed);
+    Ok(())
 }
 
 impl Door {
@@ -71,6 +85,7 @@ impl Door {
             told: Vec::new(alloc),
             under_way: UnderWay::Nothing,
             is_over: false,
+            is_gone: false,
         })
     }
 
@@ -105,6 +120,26 @@ impl Door {
     /// Whether the proxy takes no more.
     pub(crate) fn is_over(&self) -> bool {
         self.is_over
+    }
+
+    /// Whether the proxy crashed: it takes and hears nothing more.
+    pub(crate) fn is_gone(&self) -> bool {
+        self.is_gone
+    }
+
+    /// The proxy crashes, and is gone. What was under way stays so.
+    pub(crate) fn crash(&mut self) -> Result<(), Memory>
+        ensures place { self.new.notes.journal.node ≡ self.old.notes.journal.node }
+        ensures told { self.new.told.items ≡ self.old.told.items }
+        ensures under_way { self.new.under_way ≡ self.old.under_way }
+        ensures given { (account self.new.notes.journal.entries).given
+            ≡ (account self.old.notes.journal.entries).given }
+        ensures gone { OnOk result (self.new.is_gone ≡ true) }
+    {
+        enter_crash(&mut self.notes)?;
+        self.is_over = true;
+        self.is_gone = true;
+        Ok(())
     }
 
     /// The asks whose tells are wanted.
@@ -172,18 +207,20 @@ impl Door {
     }
 }
 
-/// Sends each pending ask of a proxy once.
+/// Brings a proxy what is late, and sends each of its pending asks once.
 pub(crate) fn send_all<K: Rack, F: Faults, R: Wait>(
     site: &Site<'_, K, F, R>,
     door: &mut Door,
+    late: &mut Late,
 ) -> Result<(), TurnFault>
     ensures place { door.new.notes.journal.node ≡ door.old.notes.journal.node }
     ensures given { (account door.new.notes.journal.entries).given ≡ (account door.old.notes.journal.entries).given }
     ensures told { door.new.told.items ≡ door.old.told.items }
 {
+    bring_late(site, door, late)?;
     let asks = door.pending(site.alloc)?;
     for (to, ask) in asks.iter() {
-        send(site, door, to, ask)?;
+        send(site, door, late, to, ask)?;
     }
     Ok(())
 }
@@ -210,6 +247,14 @@ impl Hearer for Door {
 
     fn now(&self) -> Stamp {
         self.notes.seen()
+    }
+
+    fn may_come(&self, _ask: &Ask) -> bool {
+        true
+    }
+
+    fn see(&mut self, at: Stamp) {
+        self.notes.see(at);
     }
 
     fn hear(

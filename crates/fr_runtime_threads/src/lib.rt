@@ -6,6 +6,7 @@ mod client;
 mod crashes;
 mod door;
 mod fault;
+mod late;
 mod notes;
 mod order;
 mod pulling;

@@ -3,25 +3,25 @@ ghost use Rattle.std.specs.Prelude.{◌≡◌, ◌≤◌, ◌==◌, ◌+◌, ◌
 ghost use Rattle.fr_audit_journal.specs.Journal.{IsAbove};
 ghost use Rattle.fr_audit_journal.specs.declared.act.Act.{Act};
 ghost use Rattle.fr_base.specs.declared.place.NodeId.{NodeId};
-ghost use Rattle.fr_runtime_hears.specs.Taken.{IsPart};
+ghost use Rattle.fr_storage.specs.Taken.{IsPart};
 ghost use Rattle.fr_runtime_threads.specs.Told.{IsTold};
 ghost use Rattle.fr_storage.specs.Server.{storage_of};
 ghost use Rattle.fr_storage.specs.Storage.{after_peeked, peeked_calls, peeked_fault};
 
 use crate::fault::{TurnFault, fault_of};
+use crate::late::Late;
 use crate::notes::Notes;
-use crate::sending::{Hearer, send};
+use crate::sending::{Hearer, bring_late, send};
 use crate::site::Site;
 use fr_ask::{Ask, Last, Tell};
 use fr_audit_journal::{Act, Journal};
 use fr_base::{Epoch, NodeId, Stamp, Tag, Version};
 use fr_log::{LogAsk, LogTell, Peeked};
 use fr_run_event::last_of_storage;
-use fr_runtime_hears::{take_marked, take_peeked};
 use fr_runtime_rack::Rack;
 use fr_runtime_station::{Faults, first_stamp};
 use fr_state::Generation;
-use fr_storage::{Storage, StorageFault};
+use fr_storage::{Storage, StorageFault, take_marked, take_peeked};
 use fr_undo::ShardStore;
 use std::alloc::Global;
 use std::sync::Wait;
@@ -55,6 +55,19 @@ impl<S: ShardStore> Hearer for Puller<S> {
 
     fn now(&self) -> Stamp {
         self.notes.seen()
+    }
+
+    fn may_come(&self, ask: &Ask) -> bool {
+        match ask {
+            Ask::Log(LogAsk::Pop { epoch, .. }) => {
+                of_epoch(self.storage.state().gens(), *epoch).is_some()
+            }
+            _ => true,
+        }
+    }
+
+    fn see(&mut self, at: Stamp) {
+        self.notes.see(at);
     }
 
     fn hear(
@@ -204,23 +217,25 @@ fn log_at(generation: Generation, turn: u32) -> NodeId
 fn pull_once<K: Rack, F: Faults, R: Wait, S: ShardStore>(
     site: &Site<'_, K, F, R>,
     puller: &mut Puller<S>,
+    late: &mut Late,
     turn: u32,
 ) -> Result<(), TurnFault>
     ensures node { puller.new.notes.journal.node ≡ puller.old.notes.journal.node }
 {
     let before = puller.storage.position();
+    bring_late(site, puller, late)?;
     let (epoch, ask) = puller.storage.next_ask();
     let tag = puller.storage.tag();
     if let Some(source) = of_epoch(puller.storage.state().gens(), epoch) {
         let to = holder_at(source, tag, turn);
-        send(site, puller, &to, &Ask::Log(ask))?;
+        send(site, puller, late, &to, &Ask::Log(ask))?;
     }
     let newest = site.directory.newest().generation;
     let to = log_at(newest, turn);
     let ask = LogAsk::MarkAsked {
         epoch: newest.epoch(),
     };
-    send(site, puller, &to, &Ask::Log(ask))?;
+    send(site, puller, late, &to, &Ask::Log(ask))?;
     let own = puller.storage.state().last();
     let ask = LogAsk::Pop {
         epoch: own.epoch(),
@@ -228,7 +243,7 @@ fn pull_once<K: Rack, F: Faults, R: Wait, S: ShardStore>(
         through: puller.storage.floor(),
     };
     let to = holder_at(own, tag, turn);
-    send(site, puller, &to, &Ask::Log(ask))?;
+    send(site, puller, late, &to, &Ask::Log(ask))?;
     if puller.storage.position() == before {
         yield_now();
     }
@@ -249,8 +264,9 @@ pub fn pull<K: Rack, F: Faults, R: Wait, S: ShardStore + Drop>(
         storage,
         notes: Notes::new(site.alloc, place, first_stamp()),
     };
+    let mut late = Late::new(site.alloc);
     for number in 1..=turns {
-        pull_once(site, &mut puller, number)?;
+        pull_once(site, &mut puller, &mut late, number)?;
     }
     let Puller { storage, notes } = puller;
     let mut storage = storage;

@@ -6,10 +6,11 @@ ghost use Rattle.fr_runtime_station.specs.Named.{logs_named};
 ghost use Rattle.fr_runtime_threads.specs.Begins.{StartsWithBegun};
 
 use crate::fault::TurnFault;
+use crate::late::{Late, put};
 use crate::notes::Notes;
-use crate::sending::{Hearer, send};
+use crate::sending::{Hearer, bring_late, send};
 use crate::site::Site;
-use fr_ask::Tell;
+use fr_ask::{Ask, Tell};
 use fr_audit_journal::{Act, Journal};
 use fr_base::{Ballot, InMemory, LogId, Memory, NodeFault, NodeId, Shape, Stamp};
 use fr_epoch::{Phase, Recoverer};
@@ -55,6 +56,14 @@ impl Hearer for Recovery {
         self.notes.seen()
     }
 
+    fn may_come(&self, _ask: &Ask) -> bool {
+        true
+    }
+
+    fn see(&mut self, at: Stamp) {
+        self.notes.see(at);
+    }
+
     fn hear(
         &mut self,
         alloc: Global,
@@ -78,6 +87,20 @@ impl Hearer for Recovery {
                 outcome: None,
             },
         );
+        Ok(())
+    }
+}
+
+impl Recovery {
+    /// The recoverer crashes, and is gone.
+    fn crash(&mut self) -> Result<(), Memory>
+        ensures node { self.new.notes.journal.node ≡ self.old.notes.journal.node }
+        ensures shape { self.new.shape ≡ self.old.shape }
+    {
+        let Some(stamp) = self.notes.next()? else {
+            return Ok(());
+        };
+        self.notes.enter(stamp, Act::Crashed);
         Ok(())
     }
 }
@@ -148,15 +171,6 @@ fn fresh_logs<K: Rack>(
     Ok(logs)
 }
 
-/// Puts an item behind the others.
-fn put<T: Drop>(all: &mut Vec<T>, item: T) -> Result<(), Memory>
-    ensures { OnOk result (all.new.items ≡ all.old.items ++ item ∷ []) }
-{
-    all.reserve(1)?;
-    all.push_reserved(item);
-    Ok(())
-}
-
 /// Publishes what a recoverer has come to: its logs once all is copied, its epoch once its state is chosen.
 fn show<K: Rack, F, R: Wait>(
     site: &Site<'_, K, F, R>,
@@ -186,19 +200,21 @@ fn show<K: Rack, F, R: Wait>(
     Ok(shown)
 }
 
-/// One turn: each pending ask is sent once.
+/// One turn: what is late comes, and each pending ask is sent once.
 fn recover_once<K: Rack, F: Faults, R: Wait>(
     site: &Site<'_, K, F, R>,
     recovery: &mut Recovery,
+    late: &mut Late,
     shown: Shown,
 ) -> Result<Shown, TurnFault>
     ensures node { recovery.new.notes.journal.node ≡ recovery.old.notes.journal.node }
     ensures shape { recovery.new.shape ≡ recovery.old.shape }
 {
-    let mut shown = shown;
+    bring_late(site, recovery, late)?;
+    let mut shown = show(site, recovery, shown)?;
     let asks = recovery.recoverer.pending(site.alloc)?;
     for (to, ask) in asks.iter() {
-        send(site, recovery, to, ask)?;
+        send(site, recovery, late, to, ask)?;
         shown = show(site, recovery, shown)?;
     }
     Ok(shown)
@@ -227,7 +243,7 @@ fn first_turn<F: Faults>(faults: &F, ballot: Ballot, turns: u32) -> Option<u32>
     None
 }
 
-/// The turns of a recoverer that begins at this one, and its journal.
+/// The turns of a recoverer that begins at this one, and its journal. If it crashes it is gone, and takes no further one.
 fn recovered<K: Rack, F: Faults, R: Wait>(
     site: &Site<'_, K, F, R>,
     ballot: Ballot,
@@ -240,9 +256,14 @@ fn recovered<K: Rack, F: Faults, R: Wait>(
     ensures begun { IfOk result (λ journal. StartsWithBegun shape journal.entries) }
 {
     let mut recovery = begin(site.alloc, site.config, ballot, &shape)?;
+    let mut late = Late::new(site.alloc);
     let mut shown = Shown::Nothing;
-    for _turn in from..=turns {
-        shown = recover_once(site, &mut recovery, shown)?;
+    for turn in from..=turns {
+        if site.faults.ends(recovery.place(), turn) {
+            recovery.crash()?;
+            break;
+        }
+        shown = recover_once(site, &mut recovery, &mut late, shown)?;
         if is_done(site.alloc, &recovery)? {
             break;
         }

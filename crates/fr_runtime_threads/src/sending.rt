@@ -1,8 +1,9 @@
 //! Asks on their way, and what happens to them.
-ghost use Rattle.std.specs.Prelude.{◌≡◌, OnOk};
+ghost use Rattle.std.specs.Prelude.{◌≡◌, ◌≤◌, IfOk, IfSome, OnOk};
 ghost use Rattle.fr_runtime_threads.specs.Hears.{HasHeard};
 
 use crate::fault::TurnFault;
+use crate::late::{Late, Letter, Message};
 use crate::site::Site;
 use fr_ask::{Ask, Tell};
 use fr_base::{Memory, NodeId, Stamp};
@@ -46,6 +47,19 @@ pub(crate) trait Hearer {
     fn now(&self) -> Stamp
         ensures { result ≡ seen self.now };
 
+    /// Whether an ask that it gave may still come to a node: a storage server asks no log of a generation that its
+    /// state has no more to let go of anything.
+    fn may_come(&self, ask: &Ask) -> bool;
+
+    /// The node's thread has seen this stamp: what is entered from then on comes after it.
+    fn see(&mut self, at: Stamp)
+        ensures node { node self.new ≡ node self.old }
+        ensures shape { shape self.new ≡ shape self.old }
+        ensures given { given self.new ≡ given self.old }
+        ensures told { told self.new ≡ told self.old }
+        ensures entries { entries self.new ≡ entries self.old }
+        ensures seen { at ≤ seen self.new };
+
     /// Hears what a node told at this stamp, and enters that, if there is a stamp above it.
     fn hear(&mut self, alloc: Global, at: Stamp, from: NodeId, tell: Tell) -> Result<(), TurnFault>
         ensures node { node self.new ≡ node self.old }
@@ -55,10 +69,11 @@ pub(crate) trait Hearer {
         ensures hears { OnOk result (HasHeard (entries self.old) (entries self.new) (seen self.new) at from tell) };
 }
 
-/// Sends an ask, and has its sender hear what it is told, as the faults say.
+/// Sends an ask, and has its sender hear what it is told, as the faults say. What is late is kept.
 pub(crate) fn send<K: Rack, F: Faults, R: Wait, H: Hearer>(
     site: &Site<'_, K, F, R>,
     hearer: &mut H,
+    late: &mut Late,
     to: &NodeId,
     ask: &Ask,
 ) -> Result<(), TurnFault>
@@ -67,24 +82,84 @@ pub(crate) fn send<K: Rack, F: Faults, R: Wait, H: Hearer>(
     ensures given { H.given hearer.new ≡ H.given hearer.old }
     ensures told { H.told hearer.new ≡ H.told hearer.old }
 {
+    let by = hearer.place();
     match site.faults.verdict(*to, ask) {
         Verdict::DropAsk => Ok(()),
         Verdict::DropTell => {
-            let _lost = call(site, hearer, to, ask)?;
+            let _lost = call(site, hearer, by, to, ask)?;
             Ok(())
         }
-        Verdict::Pass => exchange(site, hearer, to, ask),
+        Verdict::Pass => exchange(site, hearer, by, to, ask),
         Verdict::Twice => {
-            exchange(site, hearer, to, ask)?;
-            exchange(site, hearer, to, ask)
+            exchange(site, hearer, by, to, ask)?;
+            exchange(site, hearer, by, to, ask)
         }
+        Verdict::LateAsk { turns } => {
+            let (to, ask) = (*to, ask.copy()?);
+            let message = Message::Ask { to, ask };
+            Ok(late.keep(Letter { by, turns, message })?)
+        }
+        Verdict::LateTell { turns } => match call(site, hearer, by, to, ask)? {
+            Some((at, tell)) => {
+                let message = Message::Tell {
+                    from: *to,
+                    at,
+                    tell,
+                };
+                Ok(late.keep(Letter { by, turns, message })?)
+            }
+            None => Ok(()),
+        },
     }
 }
 
-/// Calls a node, and has the caller hear what it is told.
+/// A turn begins: the messages that come late at it come.
+pub(crate) fn bring_late<K: Rack, F: Faults, R: Wait, H: Hearer>(
+    site: &Site<'_, K, F, R>,
+    hearer: &mut H,
+    late: &mut Late,
+) -> Result<(), TurnFault>
+    ensures node { H.node hearer.new ≡ H.node hearer.old }
+    ensures shape { H.shape hearer.new ≡ H.shape hearer.old }
+    ensures given { H.given hearer.new ≡ H.given hearer.old }
+    ensures told { H.told hearer.new ≡ H.told hearer.old }
+{
+    let letters = late.next(site.alloc)?;
+    for letter in letters {
+        bring(site, hearer, letter)?;
+    }
+    Ok(())
+}
+
+/// A late message comes: an ask to its node, which tells, a tell to the one that asked.
+fn bring<K: Rack, F: Faults, R: Wait, H: Hearer>(
+    site: &Site<'_, K, F, R>,
+    hearer: &mut H,
+    letter: Letter,
+) -> Result<(), TurnFault>
+    ensures node { H.node hearer.new ≡ H.node hearer.old }
+    ensures shape { H.shape hearer.new ≡ H.shape hearer.old }
+    ensures given { H.given hearer.new ≡ H.given hearer.old }
+    ensures told { H.told hearer.new ≡ H.told hearer.old }
+{
+    let Letter { by, message, .. } = letter;
+    match message {
+        Message::Ask { to, ask } => {
+            if hearer.may_come(&ask) {
+                exchange(site, hearer, by, &to, &ask)
+            } else {
+                Ok(())
+            }
+        }
+        Message::Tell { from, at, tell } => hear(site, hearer, by, at, from, tell),
+    }
+}
+
+/// Calls a node, and has the one that asked hear what it is told.
 fn exchange<K: Rack, F: Faults, R: Wait, H: Hearer>(
     site: &Site<'_, K, F, R>,
     hearer: &mut H,
+    by: NodeId,
     to: &NodeId,
     ask: &Ask,
 ) -> Result<(), TurnFault>
@@ -93,26 +168,57 @@ fn exchange<K: Rack, F: Faults, R: Wait, H: Hearer>(
     ensures given { H.given hearer.new ≡ H.given hearer.old }
     ensures told { H.told hearer.new ≡ H.told hearer.old }
 {
-    match call(site, hearer, to, ask)? {
-        Some((at, tell)) => hearer.hear(site.alloc, at, *to, tell),
+    let (sender, from) = (by, *to);
+    match call(site, hearer, sender, to, ask)? {
+        Some((at, tell)) => hear(site, hearer, by, at, from, tell),
         None => Ok(()),
     }
 }
 
-/// Calls a node: what it told, and the stamp of that. A call that is refused tells nothing.
+/// Has the one that asked hear what it is told, unless the thread has gone over to another node since.
+fn hear<K: Rack, F: Faults, R: Wait, H: Hearer>(
+    site: &Site<'_, K, F, R>,
+    hearer: &mut H,
+    by: NodeId,
+    at: Stamp,
+    from: NodeId,
+    tell: Tell,
+) -> Result<(), TurnFault>
+    ensures node { H.node hearer.new ≡ H.node hearer.old }
+    ensures shape { H.shape hearer.new ≡ H.shape hearer.old }
+    ensures given { H.given hearer.new ≡ H.given hearer.old }
+    ensures told { H.told hearer.new ≡ H.told hearer.old }
+{
+    if hearer.place() == by {
+        hearer.hear(site.alloc, at, from, tell)
+    } else {
+        Ok(())
+    }
+}
+
+/// Calls a node for one that asks: what it told, and the stamp of that. A call that is refused tells nothing. The thread
+/// sees the stamp even if the tell is lost or late: what it enters next comes after the ask.
 fn call<K: Rack, F: Faults, R: Wait, H: Hearer>(
     site: &Site<'_, K, F, R>,
-    hearer: &H,
+    hearer: &mut H,
+    by: NodeId,
     to: &NodeId,
     ask: &Ask,
-) -> Result<Option<(Stamp, Tell)>, Memory> {
+) -> Result<Option<(Stamp, Tell)>, Memory>
+    ensures node { H.node hearer.new ≡ H.node hearer.old }
+    ensures shape { H.shape hearer.new ≡ H.shape hearer.old }
+    ensures given { H.given hearer.new ≡ H.given hearer.old }
+    ensures told { H.told hearer.new ≡ H.told hearer.old }
+    ensures entries { H.entries hearer.new ≡ H.entries hearer.old }
+    ensures seen { IfOk result (λ told. IfSome told (λ told. told.0 ≤ H.seen hearer.new)) }
+{
     let sent = ask.copy()?;
-    let (now, place) = (hearer.now(), hearer.place());
     let told = site
         .directory
-        .call(site.rt, site.alloc, now, place, *to, sent)
+        .call(site.rt, site.alloc, hearer.now(), by, *to, sent)
         .ok();
-    if told.is_some() {
+    if let Some((at, _)) = &told {
+        hearer.see(*at);
         site.faults.answered(*to, ask);
     }
     Ok(told)

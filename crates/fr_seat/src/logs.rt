@@ -19,21 +19,36 @@ use fr_part::{PartFault, Said, Seat};
 use fr_tags::Body;
 use std::alloc::Global;
 
+/// The numbers of a push of one body, as a caller gives them: none of them is known to be within its limit.
+#[derive(Clone, Copy, Debug)]
+pub struct PushNumbers {
+    pub epoch: u64,
+    pub prev: u64,
+    pub version: u64,
+    pub known: u64,
+    pub tag: u8,
+}
+
+/// The numbers of a peek, as a caller gives them.
+#[derive(Clone, Copy, Debug)]
+pub struct PeekNumbers {
+    pub epoch: u64,
+    pub tag: u8,
+    pub after: u64,
+    pub most: u8,
+}
+
 /// Pushes one body to a log: a tag, and its batch.
 pub fn push_body(
     alloc: Global,
     seat: &mut Seat,
-    epoch: u64,
-    prev: u64,
-    version: u64,
-    known: u64,
-    tag: u8,
+    at: PushNumbers,
     batch: &[u8],
     held: &mut u64,
 ) -> u32
     ensures turn { IsTurn result seat.old seat.new
         (IfBatch batch.now (λ ms.
-        seat.new ≡ seat_after seat.old (ask.Log (log_ask.Push (push_of epoch prev version known tag ms))))) }
+        seat.new ≡ seat_after seat.old (ask.Log (log_ask.Push (push_of at.epoch at.prev at.version at.known at.tag ms))))) }
     ensures ok { result ≡ 0 → IsHeld seat.new.said held.new }
 {
     let batch = match read_batch(alloc, batch) {
@@ -41,7 +56,7 @@ pub fn push_body(
         Err(ScriptFault::BadScript) => return BAD_TEXT,
         Err(ScriptFault::Memory) => return MEMORY,
     };
-    let Ok(push) = one_body(alloc, epoch, prev, version, known, tag, batch) else {
+    let Ok(push) = one_body(alloc, at, batch) else {
         return MEMORY;
     };
     let Some(push) = push else {
@@ -55,30 +70,22 @@ pub fn push_body(
 }
 
 /// The push of one body, if its numbers are within their limits.
-fn one_body(
-    alloc: Global,
-    epoch: u64,
-    prev: u64,
-    version: u64,
-    known: u64,
-    tag: u8,
-    batch: Batch,
-) -> Result<Option<Push>, Memory>
-    ensures { IfOk result (λ push. IfSome push (λ p. p ≡ push_of epoch prev version known tag batch)) }
+fn one_body(alloc: Global, at: PushNumbers, batch: Batch) -> Result<Option<Push>, Memory>
+    ensures { IfOk result (λ push. IfSome push (λ p. p ≡ push_of at.epoch at.prev at.version at.known at.tag batch)) }
 {
-    let Some(epoch) = Epoch::new(epoch) else {
+    let Some(epoch) = Epoch::new(at.epoch) else {
         return Ok(None);
     };
-    let Some(prev) = Version::new(prev) else {
+    let Some(prev) = Version::new(at.prev) else {
         return Ok(None);
     };
-    let Some(version) = Version::new(version) else {
+    let Some(version) = Version::new(at.version) else {
         return Ok(None);
     };
-    let Some(known) = Version::new(known) else {
+    let Some(known) = Version::new(at.known) else {
         return Ok(None);
     };
-    let Some(tag) = Tag::new(tag) else {
+    let Some(tag) = Tag::new(at.tag) else {
         return Ok(None);
     };
     let mut bodies = Vec::with_capacity(alloc, 1)?;
@@ -104,30 +111,27 @@ fn held_into(said: &Said, held: &mut u64) -> u32
 pub fn peek_tag(
     alloc: Global,
     seat: &mut Seat,
-    epoch: u64,
-    tag: u8,
-    after: u64,
-    most: u8,
+    at: PeekNumbers,
     out: &mut [u8],
     len: &mut usize,
     upto: &mut u64,
     known: &mut u64,
 ) -> u32
     ensures turn { IsTurn result seat.old seat.new
-        (seat.new ≡ seat_after seat.old (ask.Log (log_ask.Peek epoch tag after most))) }
+        (seat.new ≡ seat_after seat.old (ask.Log (log_ask.Peek at.epoch at.tag at.after at.most))) }
     ensures ok { result ≡ 0 → IsPeekedWhole seat.new.said out.new len.new upto.new known.new }
     ensures short { result ≡ 3 → IsPeekedShort seat.new.said out.new len.new upto.new known.new }
 {
-    let Some(epoch) = Epoch::new(epoch) else {
+    let Some(epoch) = Epoch::new(at.epoch) else {
         return LIMIT;
     };
-    let Some(tag) = Tag::new(tag) else {
+    let Some(tag) = Tag::new(at.tag) else {
         return LIMIT;
     };
-    let Some(after) = Version::new(after) else {
+    let Some(after) = Version::new(at.after) else {
         return LIMIT;
     };
-    let Some(most) = Most::new(most) else {
+    let Some(most) = Most::new(at.most) else {
         return LIMIT;
     };
     let ask = LogAsk::Peek {

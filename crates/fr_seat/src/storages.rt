@@ -1,10 +1,10 @@
 //! Storage servers, in bytes.
-ghost use Rattle.std.specs.Prelude.{◌≡◌, None, Some, IfOk};
+ghost use Rattle.std.specs.Prelude.{◌≡◌, ◌≢◌, ◌↔◌, None, Some, IfOk, option_map};
 ghost use Rattle.fr_undo.specs.Undo.{value_undone};
 ghost use Rattle.fr_part.specs.Reads.{IfStorage, unread_of};
-ghost use Rattle.fr_part.specs.declared.fault.Unread.TheVariants as unread;
+ghost use Rattle.fr_part.specs.declared.fault.ReadRefusal.TheVariants as unread;
 ghost use Rattle.fr_seat.specs.Answers.{IsGiven, IsShort};
-ghost use Rattle.fr_seat.specs.Reads.{shard_from, unread_status};
+ghost use Rattle.fr_seat.specs.Reads.{IsPast, shard_from, unread_said, unread_status};
 ghost use Rattle.fr_seat.specs.Turns.{IfFound};
 
 use crate::giving::give;
@@ -13,32 +13,49 @@ use crate::status::{
 };
 use fr_base::{Bytes, Memory, Version};
 use fr_mutation::{MAX_KEY, Shard};
-use fr_part::{Part, Unread};
+use fr_part::{Part, ReadRefusal};
 use std::alloc::Global;
 
-/// Gives the value that a key of a shard had at a version. The shard is that of the storage server: from `begin` on,
-/// and below `end`, if that has bytes.
+/// A key of a shard, and the version at which it is read. The shard is that of the storage server: from `begin` on, and
+/// below `end`, if that has bytes.
+#[derive(Clone, Copy)]
+pub struct KeyAt<'a> {
+    pub begin: &'a [u8],
+    pub end: &'a [u8],
+    pub key: &'a [u8],
+    pub version: u64,
+}
+
+/// Gives the value that a key of a shard had at a version.
 pub fn read_in(
     alloc: Global,
     part: &mut Part,
-    begin: &[u8],
-    end: &[u8],
-    key: &[u8],
-    version: u64,
+    what: KeyAt<'_>,
     out: &mut [u8],
     len: &mut usize,
 ) -> u32
     ensures same { part.new ≡ part.old }
     ensures ok { result ≡ 0 → IfStorage part.old
-        (λ s. IfFound (value_undone s.store version key.now) (λ value. IsGiven value out.new len.new)) }
+        (λ s. IfFound (value_undone s.store what.entry.version what.entry.key.now) (λ value. IsGiven value out.new len.new)) }
     ensures short { result ≡ 3 → IfStorage part.old
-        (λ s. IfFound (value_undone s.store version key.now) (λ value. IsShort value out.new len.new)) }
-    ensures none { result ≡ 11 → IfStorage part.old (λ s. value_undone s.store version key.now ≡ None) }
-    ensures not_mine { result ≡ 12 → unread_of part.old (shard_from begin.now end.now) key.now version ≡ Some unread.NotMine }
-    ensures too_old { result ≡ 13 → unread_of part.old (shard_from begin.now end.now) key.now version ≡ Some unread.TooOld }
+        (λ s. IfFound (value_undone s.store what.entry.version what.entry.key.now) (λ value. IsShort value out.new len.new)) }
+    ensures none { result ≡ 11 → IfStorage part.old (λ s. value_undone s.store what.entry.version what.entry.key.now ≡ None) }
+    ensures not_mine { result ≡ 12 → unread_of part.old (shard_from what.entry.begin.now what.entry.end.now) what.entry.key.now what.entry.version ≡ Some unread.NotMine }
+    ensures too_old { result ≡ 13 → unread_of part.old (shard_from what.entry.begin.now what.entry.end.now) what.entry.key.now what.entry.version ≡ Some unread.TooOld }
     ensures future_version { result ≡ 14
-        → unread_of part.old (shard_from begin.now end.now) key.now version ≡ Some unread.FutureVersion }
+        → unread_of part.old (shard_from what.entry.begin.now what.entry.end.now) what.entry.key.now what.entry.version ≡ Some unread.FutureVersion }
+    ensures limit { (result ≡ 6) ↔ IsPast what.entry.begin.now what.entry.end.now what.entry.version }
+    ensures kind { result ≡ 4 → unread_of part.old (shard_from what.entry.begin.now what.entry.end.now) what.entry.key.now what.entry.version ≡ Some unread.Kind }
+    ensures part { result ≡ 9 → unread_of part.old (shard_from what.entry.begin.now what.entry.end.now) what.entry.key.now what.entry.version ≡ Some unread.Part }
+    ensures refused { result ≢ 1 → result ≢ 6 → unread_said result
+        ≡ option_map unread_status (unread_of part.old (shard_from what.entry.begin.now what.entry.end.now) what.entry.key.now what.entry.version) }
 {
+    let KeyAt {
+        begin,
+        end,
+        key,
+        version,
+    } = what;
     let Some(version) = Version::new(version) else {
         return LIMIT;
     };
@@ -76,15 +93,15 @@ fn shard_from(alloc: Global, begin: &[u8], end: &[u8]) -> Result<Shard, Memory>
 }
 
 /// The status of a read that is not answered.
-fn unread_status(fault: Unread) -> u32
+fn unread_status(fault: ReadRefusal) -> u32
     ensures { result ≡ unread_status fault }
 {
     match fault {
-        Unread::Kind => KIND,
-        Unread::Part => PART,
-        Unread::NotMine => NOT_MINE,
-        Unread::TooOld => TOO_OLD,
-        Unread::FutureVersion => FUTURE_VERSION,
-        Unread::Memory => MEMORY,
+        ReadRefusal::Kind => KIND,
+        ReadRefusal::Part => PART,
+        ReadRefusal::NotMine => NOT_MINE,
+        ReadRefusal::TooOld => TOO_OLD,
+        ReadRefusal::FutureVersion => FUTURE_VERSION,
+        ReadRefusal::Memory => MEMORY,
     }
 }

@@ -1,10 +1,10 @@
 //! The script of `simulate`: a config and steps, read from JSON text.
 #![tactic(auto)]
 
-mod fields;
-mod pieces;
+mod config;
 mod script;
-mod setting;
 mod step;
 
-pub use script::{Act, Commit, Pull, Push, Read, Recover, Script, read_script};
+pub use config::{config_of, read_config};
+pub use script::{Script, read_script};
+pub use step::{Commit, Pull, Read, Recover, Resend, ScriptStep};

@@ -1,122 +1,122 @@
 //! The steps of a script.
-ghost use Rattle.std.specs.Prelude.{◌≡◌, ◌⊎◌, IfErr};
-
-use crate::fields::{Fields, LAST_CELL, LAST_LOG};
-use crate::script::{Act, Commit, Pull, Push, Read, Recover};
-use fr_base::{Ballot, Shape, Step};
-use fr_cli_json::CliFault;
-use fr_cli_json::tree::{
-    into_one_member, member_of, read_batch, read_bytes, read_version, take_member,
-};
-use serde_json::Value;
+use fr_base::{Ballot, Bytes, Epoch, LogId, Shape, Step, Tag, Version};
+use fr_cli_json::tokens::Unread;
+use fr_forms::{Formed, Row, kind, table};
+use fr_mutation::Mutation;
 use std::alloc::Global;
 
-/// How many members a step `recover` has.
-const RECOVER: usize = 5;
+/// A step of a script.
+#[derive(Drop)]
+pub enum ScriptStep {
+    /// A proxy takes a batch.
+    Commit(Commit),
+    /// A proxy pushes its open batch again.
+    Push(Resend),
+    /// A storage server pulls from a log.
+    Pull(Pull),
+    /// A storage server asks a log for the mark.
+    Mark(Pull),
+    /// A storage server has a log let go of what it has for good.
+    Pop(Pull),
+    /// A storage server answers a read.
+    Read(Read),
+    /// A recoverer begins, or goes on.
+    Recover(Recover),
+    /// A log is lost.
+    Lose(LogId),
+}
 
-/// How many it has with a shape, which is two of them.
-const RECOVER_SHAPED: usize = RECOVER + 2;
+/// A batch for a proxy, perhaps beyond the limits of batches, the step of its version, and the logs that get its push.
+#[derive(Drop)]
+pub struct Commit {
+    pub epoch: Epoch,
+    pub proxy: u8,
+    pub step: Step,
+    pub batch: Vec<Mutation>,
+    pub logs: Vec<u8>,
+}
 
-/// Reads a step: an object of one member, which names it.
-pub(crate) fn read_step(alloc: Global, value: Value) -> Result<Act, CliFault>
-    ensures fault { IfErr result (λ e. (e ≡ CliFault.BadScript) ⊎ (e ≡ CliFault.Memory)) }
-{
-    let (name, fields) = into_one_member(value).ok_or(CliFault::BadScript)?;
-    match name.as_str() {
-        "commit" => Ok(Act::Commit(read_commit(alloc, fields)?)),
-        "push" => Ok(Act::Push(read_push(alloc, &fields)?)),
-        "pull" => Ok(Act::Pull(read_pull(&fields)?)),
-        "mark" => Ok(Act::Mark(read_pull(&fields)?)),
-        "pop" => Ok(Act::Pop(read_pull(&fields)?)),
-        "read" => Ok(Act::Read(read_read(alloc, &fields)?)),
-        "recover" => Ok(Act::Recover(read_recover(alloc, &fields)?)),
-        "lose" => Ok(Act::Lose(Fields::new(&fields, 2).log()?)),
-        _ => Err(CliFault::BadScript),
+/// A proxy, and the logs that get its push.
+#[derive(Drop)]
+pub struct Resend {
+    pub epoch: Epoch,
+    pub proxy: u8,
+    pub logs: Vec<u8>,
+}
+
+/// A storage server, and the log that it asks.
+#[derive(Drop)]
+pub struct Pull {
+    pub storage: Tag,
+    pub log: LogId,
+}
+
+/// A storage server, and a key with the version at which it is read.
+#[derive(Drop)]
+pub struct Read {
+    pub storage: Tag,
+    pub key: Bytes,
+    pub version: Version,
+}
+
+/// A recoverer, by its ballot, with the shape of the generation that it is to open, if it begins now and one is given.
+/// Behind that are the cells that it reads, the logs that it locks, the cells that it writes to, and the logs that get
+/// its mark.
+#[derive(Drop)]
+pub struct Recover {
+    pub ballot: Ballot,
+    pub shape: Option<Shape>,
+    pub read: Vec<u8>,
+    pub lock: Vec<u8>,
+    pub write: Vec<u8>,
+    pub mark: Vec<u8>,
+}
+
+pub(crate) fn step_of(alloc: Global, row: Row<'_>) -> Result<ScriptStep, Unread> {
+    let (name, fields) = row.named_in(&table::SIMULATE_STEP);
+    match name {
+        "commit" => Ok(ScriptStep::Commit(commit_of(alloc, fields)?)),
+        "push" => Ok(ScriptStep::Push(resend_of(alloc, fields)?)),
+        "pull" => Ok(ScriptStep::Pull(pull_of(alloc, fields)?)),
+        "mark" => Ok(ScriptStep::Mark(pull_of(alloc, fields)?)),
+        "pop" => Ok(ScriptStep::Pop(pull_of(alloc, fields)?)),
+        "read" => Ok(ScriptStep::Read(read_of(alloc, fields)?)),
+        "recover" => Ok(ScriptStep::Recover(recover_of(alloc, fields)?)),
+        _ => Ok(ScriptStep::Lose(LogId::from_row(alloc, fields)?)),
     }
 }
 
-/// Reads a commit. Its batch may be beyond the limits of batches.
-fn read_commit(alloc: Global, mut value: Value) -> Result<Commit, CliFault>
-    ensures fault { IfErr result (λ e. (e ≡ CliFault.BadScript) ⊎ (e ≡ CliFault.Memory)) }
-{
-    let batch = take_member(&mut value, 5, "batch").ok_or(CliFault::BadScript)?;
-    let fields = Fields::new(&value, 5);
-    let epoch = fields.epoch()?;
-    let proxy = fields.proxy()?;
-    let step = Step::new(fields.number("step")?).ok_or(CliFault::BadScript)?;
-    let logs = fields.indexes(alloc, "logs", LAST_LOG)?;
-    let batch = read_batch(alloc, batch)?;
-    Ok(Commit {
-        epoch,
-        proxy,
-        step,
-        batch,
-        logs,
-    })
+fn commit_of(alloc: Global, row: Row<'_>) -> Result<Commit, Unread> {
+    kind!(Commit read alloc row)
 }
 
-fn read_push(alloc: Global, value: &Value) -> Result<Push, CliFault>
-    ensures fault { IfErr result (λ e. (e ≡ CliFault.BadScript) ⊎ (e ≡ CliFault.Memory)) }
-{
-    let fields = Fields::new(value, 3);
-    Ok(Push {
-        epoch: fields.epoch()?,
-        proxy: fields.proxy()?,
-        logs: fields.indexes(alloc, "logs", LAST_LOG)?,
-    })
+fn resend_of(alloc: Global, row: Row<'_>) -> Result<Resend, Unread> {
+    kind!(Resend read alloc row)
 }
 
-/// Reads a storage server, and the log that it asks.
-fn read_pull(value: &Value) -> Result<Pull, CliFault>
-    ensures fault { IfErr result (λ e. (e ≡ CliFault.BadScript) ⊎ (e ≡ CliFault.Memory)) }
-{
-    let fields = Fields::new(value, 3);
-    Ok(Pull {
-        storage: fields.storage()?,
-        log: fields.log()?,
-    })
+fn read_of(alloc: Global, row: Row<'_>) -> Result<Read, Unread> {
+    kind!(Read read alloc row)
 }
 
-/// Reads a storage server, and a key with a version.
-fn read_read(alloc: Global, value: &Value) -> Result<Read, CliFault>
-    ensures fault { IfErr result (λ e. (e ≡ CliFault.BadScript) ⊎ (e ≡ CliFault.Memory)) }
-{
-    let fields = Fields::new(value, 3);
-    Ok(Read {
-        storage: fields.storage()?,
-        key: read_bytes(alloc, Some(fields.value("key")?))?,
-        version: read_version(fields.value("version")?).ok_or(CliFault::BadScript)?,
-    })
+fn pull_of(alloc: Global, row: Row<'_>) -> Result<Pull, Unread> {
+    let log = LogId::from_row(alloc, row)?;
+    let storage = Tag::from_row(alloc, row.part(2))?;
+    Ok(Pull { storage, log })
 }
 
-/// Reads a step of a recoverer, with the members `logs` and `degree` or with neither.
-fn read_recover(alloc: Global, value: &Value) -> Result<Recover, CliFault>
-    ensures fault { IfErr result (λ e. (e ≡ CliFault.BadScript) ⊎ (e ≡ CliFault.Memory)) }
-{
-    if member_of(value, RECOVER_SHAPED, "logs").is_none() {
-        return read_members(alloc, Fields::new(value, RECOVER), None);
-    }
-    let fields = Fields::new(value, RECOVER_SHAPED);
-    let logs = fields.index("logs", u8::MAX)?;
-    let degree = fields.index("degree", u8::MAX)?;
-    let shape = Shape::new(logs, degree).ok_or(CliFault::BadScript)?;
-    read_members(alloc, fields, Some(shape))
-}
-
-/// Reads the other members of a step of a recoverer.
-fn read_members(
-    alloc: Global,
-    fields: Fields<'_>,
-    shape: Option<Shape>,
-) -> Result<Recover, CliFault>
-    ensures fault { IfErr result (λ e. (e ≡ CliFault.BadScript) ⊎ (e ≡ CliFault.Memory)) }
-{
+fn recover_of(alloc: Global, row: Row<'_>) -> Result<Recover, Unread> {
+    let (logs, degree) = (row.part(3), row.part(1));
+    let shape = if logs.is_none() && degree.is_none() {
+        None
+    } else {
+        Some(Shape::new(logs.byte(), degree.byte()).ok_or(Unread::Unusual)?)
+    };
     Ok(Recover {
-        ballot: Ballot::new(fields.number("ballot")?).ok_or(CliFault::BadScript)?,
+        ballot: Ballot::from_row(alloc, row.part(0))?,
         shape,
-        read: fields.indexes(alloc, "read", LAST_CELL)?,
-        lock: fields.indexes(alloc, "lock", LAST_LOG)?,
-        write: fields.indexes(alloc, "write", LAST_CELL)?,
-        mark: fields.indexes(alloc, "mark", LAST_LOG)?,
+        read: Vec::from_row(alloc, row.part(5))?,
+        lock: Vec::from_row(alloc, row.part(2))?,
+        write: Vec::from_row(alloc, row.part(6))?,
+        mark: Vec::from_row(alloc, row.part(4))?,
     })
 }

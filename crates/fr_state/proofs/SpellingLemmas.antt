@@ -6,8 +6,8 @@ use Rattle.std.specs.Int.{w64, to_be_bytes}
 use Rattle.std.proofs.lemmas.Bool.{and_parts, and_from, eqb-true, leb-true, ltb-false, le-leb, le-ltb, lt-ltb}
 use Rattle.std.proofs.lemmas.List.{take-append-drop, drop-drop, drop_more, length-append, length-drop, nil_from_length, append-nil, take_all}
 use Rattle.std.proofs.lemmas.List.Elements.{All-drop, All-head, All-tail, recursion_from_All}
-use Rattle.fr_state.specs.declared.fault.DecodeFault.{DecodeFault}
-use Rattle.fr_state.specs.declared.fault.DecodeFault.TheVariants.{Short, BadForm, Trailing}
+use Rattle.fr_state.specs.declared.fault.StateDecodeFault.{StateDecodeFault}
+use Rattle.fr_state.specs.declared.fault.StateDecodeFault.TheVariants.{Short, BadForm, Trailing}
 use Rattle.fr_state.specs.BigEndian.{AreBytes, number_at}
 use Rattle.fr_state.specs.Generations.{LogGeneration, CoordinatedState, IsGeneration, IsCoordinatedState, first_epoch_of}
 use Rattle.fr_state.specs.Reading.{◌>>=◌, dropped_at, start_at, count_at, generation_at, generations_at, is_list, are_left, state_at, reading}
@@ -96,7 +96,7 @@ dropped_again d rest fits some =
     by (ltb (length (to_be_bytes w64 d ++ rest)) 8) (eqb (number_at w64 0 (to_be_bytes w64 d ++ rest)) 0) (number_at w64 0 (to_be_bytes w64 d ++ rest)) long zero_not read
   where
     by : (short none : Bool) (n : ℕ) → short ≡ false → none ≡ false → n ≡ d
-        → ◌≡◌ {A = Result (ℕ × List ℕ) DecodeFault} (cond short (Err Short) (cond none (Err BadForm) (Ok (n, rest)))) (Ok (d, rest))
+        → ◌≡◌ {A = Result (ℕ × List ℕ) StateDecodeFault} (cond short (Err Short) (cond none (Err BadForm) (Ok (n, rest)))) (Ok (d, rest))
     by short none n p q r = rw (p, q, r) refl
 
 start_again : (d : ℕ) (rest : List ℕ) → d < 2 ^ 64 → start_at (spelled_start d ++ rest) ≡ Ok (d, rest)
@@ -123,15 +123,15 @@ state_again s sound =
 pub reading_again : (s : CoordinatedState) → IsCoordinatedState s → reading (spelling s) ≡ Ok s
 reading_again s sound =
     let rest : List ℕ = length s.gens ∷ flat_map row s.gens in
-    ap (λ (r : Result (ℕ × List ℕ) DecodeFault). r >>= (λ start. count_at start.1 >>= (λ count. state_at start.0 count.0 count.1))) (start_again s.dropped rest (start_fits s sound))
-    ∙ ap (λ (r : Result (ℕ × List ℕ) DecodeFault). r >>= (λ count. state_at s.dropped count.0 count.1)) (count_again (length s.gens) (flat_map row s.gens) sound.some sound.few)
+    ap (λ (r : Result (ℕ × List ℕ) StateDecodeFault). r >>= (λ start. count_at start.1 >>= (λ count. state_at start.0 count.0 count.1))) (start_again s.dropped rest (start_fits s sound))
+    ∙ ap (λ (r : Result (ℕ × List ℕ) StateDecodeFault). r >>= (λ count. state_at s.dropped count.0 count.1)) (count_again (length s.gens) (flat_map row s.gens) sound.some sound.few)
     ∙ state_again s sound
 
-bind_ok : {A B : Type 0} (r : Result A DecodeFault) (f : A → Result B DecodeFault) (y : B) → (r >>= f) ≡ Ok y → (x : A) × (r ≡ Ok x) × (f x ≡ Ok y)
+bind_ok : {A B : Type 0} (r : Result A StateDecodeFault) (f : A → Result B StateDecodeFault) (y : B) → (r >>= f) ≡ Ok y → (x : A) × (r ≡ Ok x) × (f x ≡ Ok y)
 bind_ok (Ok x) f y e = (x, refl, e)
 bind_ok (Err fault) f y e = absurd cc
 
-taken : {A : Type 0} (b : Bool) (x y : A) (fault : DecodeFault) → cond b (Ok x) (Err fault) ≡ Ok y → (b ≡ true) × (x ≡ y)
+taken : {A : Type 0} (b : Bool) (x y : A) (fault : StateDecodeFault) → cond b (Ok x) (Err fault) ≡ Ok y → (b ≡ true) × (x ≡ y)
 taken true x y fault e = (refl, cc)
 taken false x y fault e = absurd cc
 
@@ -139,7 +139,7 @@ dropped_parts : (bytes : List ℕ) (h : ℕ × List ℕ) → AreBytes bytes → 
 dropped_parts bytes h are e = go (ltb (length bytes) 8) refl (eqb (number_at w64 0 bytes) 0) refl e
   where
     go : (short : Bool) → ltb (length bytes) 8 ≡ short → (none : Bool) → eqb (number_at w64 0 bytes) 0 ≡ none
-        → ◌≡◌ {A = Result (ℕ × List ℕ) DecodeFault} (cond short (Err Short) (cond none (Err BadForm) (Ok (number_at w64 0 bytes, drop 8 bytes)))) (Ok h)
+        → ◌≡◌ {A = Result (ℕ × List ℕ) StateDecodeFault} (cond short (Err Short) (cond none (Err BadForm) (Ok (number_at w64 0 bytes, drop 8 bytes)))) (Ok h)
         → 2 ∷ bytes ≡ spelled_start h.0 ++ h.1
     go true p none q k = absurd cc
     go false p true q k = absurd cc
@@ -156,7 +156,7 @@ start_parts [] h are e = absurd cc
 start_parts (format ∷ bytes) h are e = go (eqb format 1) refl (eqb format 2) refl e
   where
     go : (one : Bool) → eqb format 1 ≡ one → (two : Bool) → eqb format 2 ≡ two
-        → ◌≡◌ {A = Result (ℕ × List ℕ) DecodeFault} (cond one (Ok (0, bytes)) (cond two (dropped_at bytes) (Err BadForm))) (Ok h) → format ∷ bytes ≡ spelled_start h.0 ++ h.1
+        → ◌≡◌ {A = Result (ℕ × List ℕ) StateDecodeFault} (cond one (Ok (0, bytes)) (cond two (dropped_at bytes) (Err BadForm))) (Ok h) → format ∷ bytes ≡ spelled_start h.0 ++ h.1
     go true p two q k =
         let is : (0, bytes) ≡ h = cc in
         subst (λ (x : ℕ × List ℕ). format ∷ bytes ≡ spelled_start x.0 ++ x.1) is (ap (λ (f : ℕ). f ∷ bytes) (eqb-true format 1 p))

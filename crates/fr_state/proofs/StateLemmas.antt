@@ -4,8 +4,8 @@ use Rattle.std.specs.Prelude.{All}
 use Rattle.std.specs.List.{list_all}
 use Rattle.std.proofs.lemmas.Bool.{and_parts, and_from, ltb-true, leb-true, lt-ltb, le-leb}
 use Rattle.std.proofs.lemmas.List.Elements.{All-nil, All-cons, All-head, All-tail}
-use Rattle.fr_state.specs.declared.fault.DecodeFault.{DecodeFault}
-use Rattle.fr_state.specs.declared.fault.DecodeFault.TheVariants.{BadForm}
+use Rattle.fr_state.specs.declared.fault.StateDecodeFault.{StateDecodeFault}
+use Rattle.fr_state.specs.declared.fault.StateDecodeFault.TheVariants.{BadForm}
 use Rattle.std.specs.Int.{w64}
 use Rattle.fr_state.specs.BigEndian.{number_at}
 use Rattle.fr_state.specs.Generations.{LogGeneration, IsGeneration, IsCoordinatedState, first_epoch_of}
@@ -81,7 +81,7 @@ list_sound dropped n bytes count e =
 pub left_first : (dropped n : ℕ) (bytes : List ℕ) → 1 ≤ n → is_list (generations_at n bytes) ≡ true → ltb dropped (number_at w64 0 bytes) ≡ are_left dropped (generations_at n bytes)
 left_first dropped n bytes some listed = rw (listed, first_epoch_at n bytes some) refl
 
-taken : {A : Type 0} (b : Bool) (x y : A) (fault : DecodeFault) → cond b (Ok x) (Err fault) ≡ Ok y → (b ≡ true) × (x ≡ y)
+taken : {A : Type 0} (b : Bool) (x y : A) (fault : StateDecodeFault) → cond b (Ok x) (Err fault) ≡ Ok y → (b ≡ true) × (x ≡ y)
 taken true x y fault e = (refl, cc)
 taken false x y fault e = absurd cc
 

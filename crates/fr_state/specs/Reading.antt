@@ -2,31 +2,31 @@
 use Rattle.std.specs.Prelude.{ℕ, zero, suc, ◌+◌, ◌*◌, ◌^◌, Bool, ◌&&◌, nat_lt, nat_le, ◌==◌, List, [], ◌∷◌, length, drop, slice_index, Result, Ok, Err, if◌then◌else◌}
 use Rattle.std.specs.List.{list_all}
 use Rattle.std.specs.Int.{w64}
-use Rattle.fr_state.specs.declared.fault.DecodeFault.{DecodeFault}
-use Rattle.fr_state.specs.declared.fault.DecodeFault.TheVariants.{Short, BadForm, Trailing}
+use Rattle.fr_state.specs.declared.fault.StateDecodeFault.{StateDecodeFault}
+use Rattle.fr_state.specs.declared.fault.StateDecodeFault.TheVariants.{Short, BadForm, Trailing}
 use Rattle.fr_state.specs.BigEndian.{number_at}
 use Rattle.fr_state.specs.Generations.{LogGeneration, CoordinatedState, first_epoch_of}
 use Rattle.fr_state.specs.Order.{is_ordered}
 
 -- one step of reading after another: the first fault is the answer
 infixl 10 ◌>>=◌
-abbrev pub ◌>>=◌ : {A B : Type 0} → Result A DecodeFault → (A → Result B DecodeFault) → Result B DecodeFault
+abbrev pub ◌>>=◌ : {A B : Type 0} → Result A StateDecodeFault → (A → Result B StateDecodeFault) → Result B StateDecodeFault
 (Ok x) >>= f = f x
 (Err fault) >>= f = Err fault
 
 -- how many generations were dropped, which is some in format 2, and the bytes after that number
-abbrev pub dropped_at : List ℕ → Result (ℕ × List ℕ) DecodeFault
+abbrev pub dropped_at : List ℕ → Result (ℕ × List ℕ) StateDecodeFault
 dropped_at bytes =
     if nat_lt (length bytes) 8 then Err Short
     else (if number_at w64 0 bytes == 0 then Err BadForm else Ok (number_at w64 0 bytes, drop 8 bytes))
 
 -- how many generations were dropped, by the format, and the bytes after that
-abbrev pub start_at : List ℕ → Result (ℕ × List ℕ) DecodeFault
+abbrev pub start_at : List ℕ → Result (ℕ × List ℕ) StateDecodeFault
 start_at [] = Err Short
 start_at (format ∷ bytes) = if format == 1 then Ok (0, bytes) else (if format == 2 then dropped_at bytes else Err BadForm)
 
 -- how many generations there are, and the bytes after that number
-abbrev pub count_at : List ℕ → Result (ℕ × List ℕ) DecodeFault
+abbrev pub count_at : List ℕ → Result (ℕ × List ℕ) StateDecodeFault
 count_at [] = Err Short
 count_at (n ∷ bytes) = if nat_le 1 n && nat_le n 64 then Ok (n, bytes) else Err BadForm
 
@@ -60,7 +60,7 @@ abbrev pub are_left : ℕ → List LogGeneration → Bool
 are_left dropped gens = is_list gens && nat_lt dropped (first_epoch_of gens)
 
 -- the state of n generations that all of the bytes spell, after so many that were dropped
-abbrev pub state_at : ℕ → ℕ → List ℕ → Result CoordinatedState DecodeFault
+abbrev pub state_at : ℕ → ℕ → List ℕ → Result CoordinatedState StateDecodeFault
 state_at dropped n bytes =
     if nat_lt (length bytes) (26 * n) then Err Short
     else (if are_left dropped (generations_at n bytes)
@@ -68,7 +68,7 @@ state_at dropped n bytes =
     else Err BadForm)
 
 -- all of the bytes
-abbrev pub reading : List ℕ → Result CoordinatedState DecodeFault
+abbrev pub reading : List ℕ → Result CoordinatedState StateDecodeFault
 reading bytes = do
   start ← start_at bytes
   count ← count_at start.1

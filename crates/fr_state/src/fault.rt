@@ -30,7 +30,7 @@ impl<T: Drop> From<AllocFailed<T>> for StateFault {
 
 /// Why bytes are no state: the first fault that [`decode`](crate::decode) meets.
 #[derive(Clone, Copy, Debug, PartialEq, Eq, Error)]
-pub enum DecodeFault {
+pub enum StateDecodeFault {
     /// Bytes are missing.
     #[error("bytes are missing")]
     Short,
@@ -46,13 +46,13 @@ pub enum DecodeFault {
     Memory,
 }
 
-impl From<NoMemory> for DecodeFault {
+impl From<NoMemory> for StateDecodeFault {
     ghost use Rattle.std.specs.Prelude.{◌≡◌};
-    ghost use Rattle.fr_state.specs.declared.fault.DecodeFault.TheVariants.{Memory};
+    ghost use Rattle.fr_state.specs.declared.fault.StateDecodeFault.TheVariants.{Memory};
 
     ghost from_gives = { λ _ fault. fault ≡ Memory };
 
-    fn from(_: NoMemory) -> DecodeFault {
-        DecodeFault::Memory
+    fn from(_: NoMemory) -> StateDecodeFault {
+        StateDecodeFault::Memory
     }
 }

@@ -9,7 +9,7 @@ mod reading;
 mod spelling;
 mod state;
 
-pub use fault::{DecodeFault, StateFault};
+pub use fault::{StateDecodeFault, StateFault};
 pub use generation::Generation;
 pub use laws::{
     cut_law, drop_law, equal_law, extend_law, front_law, going_law, left_law, next_law, order_law,

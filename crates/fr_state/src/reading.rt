@@ -8,7 +8,7 @@ ghost use Rattle.fr_state.specs.Order.{may_follow};
 ghost use Rattle.fr_state.specs.Reading.{dropped_at, start_at, count_at, generation_at, generations_at, is_within, is_list, are_left, state_at, reading};
 ghost use Rattle.fr_state.specs.Spelling.{spelling};
 
-use crate::fault::DecodeFault;
+use crate::fault::StateDecodeFault;
 use crate::generation::Generation;
 use crate::spelling::{ROW, SHORTENED, WHOLE};
 use crate::state::{CoordState, MOST_GENERATIONS};
@@ -24,78 +24,78 @@ use std::alloc::Global;
 /// 5. their limits and order, and that fewer were dropped than the first epoch says: else `BadForm`;
 /// 6. bytes behind them: `Trailing`;
 /// 7. `Memory`.
-pub fn decode(alloc: Global, bytes: &[u8]) -> Result<CoordState, DecodeFault>
+pub fn decode(alloc: Global, bytes: &[u8]) -> Result<CoordState, StateDecodeFault>
     ensures ok { IfOk result (λ s. reading bytes.now ≡ Ok s) }
-    ensures refused { IfErr result (λ fault. fault ≢ DecodeFault.Memory → reading bytes.now ≡ Err fault) }
-    ensures memory { result ≡ Err DecodeFault.Memory → IsOk (reading bytes.now) }
+    ensures refused { IfErr result (λ fault. fault ≢ StateDecodeFault.Memory → reading bytes.now ≡ Err fault) }
+    ensures memory { result ≡ Err StateDecodeFault.Memory → IsOk (reading bytes.now) }
 
     // What is read is a state, and is spelled so; what is spelled so is read, unless memory runs out.
     ensures found { IfOk result (λ s. IsCoordinatedState s × (bytes.now ≡ spelling s)) }
     ensures only { (s : CoordinatedState) → IsCoordinatedState s → bytes.now ≡ spelling s
-        → MatchResult result (λ t. t ≡ s) (λ fault. fault ≡ DecodeFault.Memory) }
+        → MatchResult result (λ t. t ≡ s) (λ fault. fault ≡ StateDecodeFault.Memory) }
 {
     state_of(alloc, bytes)
 }
 
 /// The state that the bytes spell, or the first fault.
-fn state_of(alloc: Global, bytes: &[u8]) -> Result<CoordState, DecodeFault>
+fn state_of(alloc: Global, bytes: &[u8]) -> Result<CoordState, StateDecodeFault>
     ensures ok { IfOk result (λ s. reading bytes.now ≡ Ok s) }
-    ensures refused { IfErr result (λ fault. fault ≢ DecodeFault.Memory → reading bytes.now ≡ Err fault) }
-    ensures memory { result ≡ Err DecodeFault.Memory → IsOk (reading bytes.now) }
+    ensures refused { IfErr result (λ fault. fault ≢ StateDecodeFault.Memory → reading bytes.now ≡ Err fault) }
+    ensures memory { result ≡ Err StateDecodeFault.Memory → IsOk (reading bytes.now) }
 {
     let (dropped, counted) = start(bytes)?;
     let (count, rest) = count(counted)?;
     let end = ROW * count;
     if rest.len() < end {
-        return Err(DecodeFault::Short);
+        return Err(StateDecodeFault::Short);
     }
     if !are_left(dropped, count, rest) {
-        return Err(DecodeFault::BadForm);
+        return Err(StateDecodeFault::BadForm);
     }
     if rest.len() > end {
-        return Err(DecodeFault::Trailing);
+        return Err(StateDecodeFault::Trailing);
     }
     Ok(CoordState::from_ordered(dropped, generations(alloc, count, rest)?))
 }
 
 /// How many generations were dropped, by the format, and the bytes after that.
-fn start(bytes: &[u8]) -> Result<(u64, &[u8]), DecodeFault>
+fn start(bytes: &[u8]) -> Result<(u64, &[u8]), StateDecodeFault>
     ensures ok { IfOk result (λ h. start_at bytes.now ≡ Ok (h.0, h.1.now)) }
     ensures err { IfErr result (λ fault. start_at bytes.now ≡ Err fault) }
 {
     match bytes {
-        [] => Err(DecodeFault::Short),
+        [] => Err(StateDecodeFault::Short),
         [WHOLE, rest @ ..] => Ok((0, rest)),
         [SHORTENED, rest @ ..] => dropped(rest),
-        _ => Err(DecodeFault::BadForm),
+        _ => Err(StateDecodeFault::BadForm),
     }
 }
 
 /// How many generations were dropped, which is some, and the bytes after that number.
-fn dropped(bytes: &[u8]) -> Result<(u64, &[u8]), DecodeFault>
+fn dropped(bytes: &[u8]) -> Result<(u64, &[u8]), StateDecodeFault>
     ensures ok { IfOk result (λ h. dropped_at bytes.now ≡ Ok (h.0, h.1.now)) }
     ensures err { IfErr result (λ fault. dropped_at bytes.now ≡ Err fault) }
 {
     if bytes.len() < 8 {
-        return Err(DecodeFault::Short);
+        return Err(StateDecodeFault::Short);
     }
     match number(bytes, 0) {
-        0 => Err(DecodeFault::BadForm),
+        0 => Err(StateDecodeFault::BadForm),
         dropped => Ok((dropped, &bytes[8..])),
     }
 }
 
 /// How many generations there are, and the bytes after that number.
-fn count(bytes: &[u8]) -> Result<(usize, &[u8]), DecodeFault>
+fn count(bytes: &[u8]) -> Result<(usize, &[u8]), StateDecodeFault>
     ensures ok { IfOk result (λ h. count_at bytes.now ≡ Ok (h.0, h.1.now)) }
     ensures err { IfErr result (λ fault. count_at bytes.now ≡ Err fault) }
 {
     match bytes {
-        [] => Err(DecodeFault::Short),
+        [] => Err(StateDecodeFault::Short),
         [count, rest @ ..] if 1 <= *count && *count as usize <= MOST_GENERATIONS => {
             Ok((*count as usize, rest))
         }
-        _ => Err(DecodeFault::BadForm),
+        _ => Err(StateDecodeFault::BadForm),
     }
 }
 

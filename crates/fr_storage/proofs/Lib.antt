@@ -18,3 +18,8 @@ pub mod Servers
 pub mod Shards
 pub mod Stops
 pub mod Standing
+mod Climbs
+mod Found
+mod Marks
+mod Opened
+mod TakenPeeks

@@ -6,7 +6,7 @@ use Rattle.fr_undo.specs.State.{StoreState}
 use Rattle.fr_undo.specs.Calls.{LeavesNoMore}
 use Rattle.fr_state.specs.Generations.{CoordinatedState, IsCoordinatedState}
 use Rattle.fr_state.specs.Spelling.{spelling}
-use Rattle.fr_storage.specs.declared.answer.Answer.{Answer}
+use Rattle.fr_storage.specs.declared.answer.LogAnswer.{LogAnswer}
 use Rattle.fr_storage.specs.declared.fault.StorageFault.{StorageFault}
 use Rattle.fr_storage.specs.declared.fault.StorageFault.TheVariants.{Older, Stranger, BelowFloor, NotMyGeneration, Hole, Store, BadState}
 use Rattle.fr_storage.specs.Storage.{StorageState}
@@ -148,9 +148,9 @@ refused_stays s (Mark x) fault e = marked_refused s x fault e
 refused_stays s (Records epoch peeked) fault e = peeked_refused s epoch peeked fault e
 refused_stays s Nothing fault e = absurd cc
 
-module _ {S : Type 0} (state_of : S → StoreState) (MayLeave : S → StoreState → Type 0) (first mid new : Server S) (answers rest more : List Answer) (answer : Answer) (result : Result (Unit {0}) StorageFault) (is : rest ≡ answer ∷ more) where
+module _ {S : Type 0} (state_of : S → StoreState) (MayLeave : S → StoreState → Type 0) (first mid new : Server S) (answers rest more : List LogAnswer) (answer : LogAnswer) (result : Result (Unit {0}) StorageFault) (is : rest ≡ answer ∷ more) where
   -- what is left of the answers, heard whole by the server so far
-  abbrev pub Whole : Server S → List Answer → Type 0
+  abbrev pub Whole : Server S → List LogAnswer → Type 0
   Whole s left = after_hears (storage_of state_of first) answers ≡ after_hears (storage_of state_of s) left
 
   pub on_whole : Whole mid rest → storage_of state_of new ≡ after_hear (storage_of state_of mid) (heard_of answer) → Whole new more
@@ -161,39 +161,39 @@ module _ {S : Type 0} (state_of : S → StoreState) (MayLeave : S → StoreState
   on_refused fault h fine same refused e =
       on_whole h (ap (storage_of state_of) same ∙ sym (refused_stays (storage_of state_of mid) (heard_of answer) fault (sym (refused fine) ∙ e)))
 
-  abbrev pub Course : Server S → List Answer → Type 0
+  abbrev pub Course : Server S → List LogAnswer → Type 0
   Course s left = (n : StorageState) → LeadTo (storage_of state_of s) left n → LeadTo (storage_of state_of first) answers n
 
   pub on_course : Course mid rest → IsAfter (storage_of state_of mid) (heard_of answer) (storage_of state_of new) → refusal_of result ≡ fault_of (storage_of state_of mid) (heard_of answer)
       → (refusal : Option StorageFault) → refusal_of result ≡ refusal → IfSome refusal (λ fault. IsTrue (is_untimely fault)) → Course new more
   on_course h after told refusal e passed n lead =
-      h n (subst (λ (xs : List Answer). LeadTo (storage_of state_of mid) xs n) (sym is)
+      h n (subst (λ (xs : List LogAnswer). LeadTo (storage_of state_of mid) xs n) (sym is)
       (storage_of state_of new, after, subst (λ (o : Option StorageFault). IfSome o (λ fault. IsTrue (is_untimely fault))) (sym e ∙ told) passed, lead))
 
-  abbrev pub Among : List Answer → Type 0
-  Among left = (a : Answer) → Contains left a → Contains answers a
+  abbrev pub Among : List LogAnswer → Type 0
+  Among left = (a : LogAnswer) → Contains left a → Contains answers a
 
   pub on_among : Among rest → Among more
-  on_among h a (n, lt, e) = h a (subst (λ (xs : List Answer). Contains xs a) (sym is) (suc n, omega arith, e))
+  on_among h a (n, lt, e) = h a (subst (λ (xs : List LogAnswer). Contains xs a) (sym is) (suc n, omega arith, e))
 
   -- the answer is one of the answers, and it is refused
   pub refuses : (fault : StorageFault) → Among rest → mid.failed ≡ false → new ≡ mid → (mid.failed ≡ false → refusal_of result ≡ fault_of (storage_of state_of mid) (heard_of answer)) → refusal_of result ≡ Some fault
       → RefusesOne (storage_of state_of new) answers fault
   refuses fault h fine same refused e = (
     answer,
-    h answer (subst (λ (xs : List Answer). Contains xs answer) (sym is) (0, omega arith, refl)),
+    h answer (subst (λ (xs : List LogAnswer). Contains xs answer) (sym is) (0, omega arith, refl)),
     ap (λ (s : Server S). fault_of (storage_of state_of s) (heard_of answer)) same ∙ sym (refused fine) ∙ e,
   )
 
   module _ (pieces : Pieces) (is_chosen : CoordinatedState → Bool) (are : ArePieces pieces) (one : AreOneChain pieces (IsChosenBy is_chosen)) where
-    abbrev pub Trues : List Answer → Server S → Type 0
+    abbrev pub Trues : List LogAnswer → Server S → Type 0
     Trues left = AreTrueTo state_of MayLeave pieces (IsChosenBy is_chosen) (map heard_of left)
 
-    abbrev pub Standing : Server S → List Answer → Type 0
+    abbrev pub Standing : Server S → List LogAnswer → Type 0
     Standing s left = IsStanding state_of MayLeave pieces (IsChosenBy is_chosen) s × Trues left s
 
     ahead : Trues rest mid → mid.failed ≡ false → AreTrueAhead pieces (IsChosenBy is_chosen) (storage_of state_of mid) (heard_of answer ∷ map heard_of more)
-    ahead trues fine = subst (λ (xs : List Answer). AreTrueAhead pieces (IsChosenBy is_chosen) (storage_of state_of mid) (map heard_of xs)) is (trues.works fine)
+    ahead trues fine = subst (λ (xs : List LogAnswer). AreTrueAhead pieces (IsChosenBy is_chosen) (storage_of state_of mid) (map heard_of xs)) is (trues.works fine)
 
     pub on_standing : Standing mid rest → StaysStanding state_of MayLeave (heard_of answer ∷ []) mid new (refusal_of result)
         → IsStanding state_of MayLeave pieces (IsChosenBy is_chosen) new × (refusal_of result ≢ Some Stranger) × (refusal_of result ≢ Some BelowFloor)
@@ -205,7 +205,7 @@ module _ {S : Type 0} (state_of : S → StoreState) (MayLeave : S → StoreState
     on_trues trues works after found = record { works = λ f. go mid.failed refl; found = λ f. absurd (not_both new.failed f works) }
       where
         go : (b : Bool) → mid.failed ≡ b → AreTrueAhead pieces (IsChosenBy is_chosen) (storage_of state_of new) (map heard_of more)
-        go true failed = subst (λ (xs : List Answer). AreTrueAhead pieces (IsChosenBy is_chosen) (storage_of state_of new) (drop 1 (map heard_of xs))) is (trues.found failed (storage_of state_of new) (found failed))
+        go true failed = subst (λ (xs : List LogAnswer). AreTrueAhead pieces (IsChosenBy is_chosen) (storage_of state_of new) (drop 1 (map heard_of xs))) is (trues.found failed (storage_of state_of new) (found failed))
         go false fine = (ahead trues fine).1 (storage_of state_of new) (after fine)
 
     -- and that server stands

@@ -9,3 +9,4 @@ pub mod Reads
 pub mod Server
 pub mod Standing
 pub mod Storage
+pub mod Taken

@@ -3,8 +3,8 @@ use Rattle.std.specs.Prelude.{◌≡◌, ◌≢◌, Bool, true, false, IsTrue, L
 use Rattle.fr_undo.specs.State.{StoreState}
 use Rattle.fr_state.specs.Generations.{CoordinatedState, IsCoordinatedState}
 use Rattle.fr_state.specs.Spelling.{spelling}
-use Rattle.fr_storage.specs.declared.answer.Answer.{Answer}
-use Rattle.fr_storage.specs.declared.answer.Answer.TheVariants as answer
+use Rattle.fr_storage.specs.declared.answer.LogAnswer.{LogAnswer}
+use Rattle.fr_storage.specs.declared.answer.LogAnswer.TheVariants as answer
 use Rattle.fr_storage.specs.declared.fault.StorageFault.{StorageFault}
 use Rattle.fr_storage.specs.declared.fault.StorageFault.TheVariants.{Older, Stranger, BelowFloor, NotMyGeneration, Hole, Store, BadState}
 use Rattle.fr_storage.specs.Storage.{StorageState}
@@ -13,12 +13,12 @@ use Rattle.fr_storage.specs.Follows.{Pieces, ArePieces}
 use Rattle.fr_storage.specs.Course.{Heard, Mark, Records, fault_of, after_hear, IsAfter, AreOneChain, AreTrueAhead, Stands, IsChosenBy}
 
 -- what is heard of an answer
-abbrev pub heard_of : Answer → Heard
+abbrev pub heard_of : LogAnswer → Heard
 heard_of (answer.Marked x) = Mark x
 heard_of (answer.Peeked epoch peeked) = Records epoch peeked
 
 -- a server after answers that are all heard whole
-abbrev pub after_hears : StorageState → List Answer → StorageState
+abbrev pub after_hears : StorageState → List LogAnswer → StorageState
 after_hears s answers = fold after_hear s (map heard_of answers)
 
 -- whether an answer is refused since it came late or too early
@@ -33,13 +33,13 @@ is_untimely BadState = false
 
 -- answers lead from one server to another: each is heard whole, or broken off and opened again, and if it is refused it
 -- is untimely
-abbrev pub LeadTo : StorageState → List Answer → StorageState → Type 0
+abbrev pub LeadTo : StorageState → List LogAnswer → StorageState → Type 0
 LeadTo s [] n = n ≡ s
 LeadTo s (answer ∷ answers) n = (mid : StorageState) × IsAfter s (heard_of answer) mid × IfSome (fault_of s (heard_of answer)) (λ fault. IsTrue (is_untimely fault)) × LeadTo mid answers n
 
 -- a server refuses one of these answers so
-abbrev pub RefusesOne : StorageState → List Answer → StorageFault → Type 0
-RefusesOne s answers fault = (answer : Answer) × Contains answers answer × (fault_of s (heard_of answer) ≡ Some fault)
+abbrev pub RefusesOne : StorageState → List LogAnswer → StorageFault → Type 0
+RefusesOne s answers fault = (answer : LogAnswer) × Contains answers answer × (fault_of s (heard_of answer) ≡ Some fault)
 
 -- a server stands: while it works as it is, and once it failed in each state that opening it again may find
 pub record IsStanding {S : Type 0} (state_of : S → StoreState) (MayLeave : S → StoreState → Type 0) (pieces : Pieces) (Chosen : CoordinatedState → Type 0) (s : Server S) : Type 0 where

@@ -5,7 +5,7 @@ use fr_state::CoordState;
 
 /// What a log answers a storage server.
 #[derive(Drop)]
-pub enum Answer {
+pub enum LogAnswer {
     /// The coordinated state of the mark of its epoch.
     Marked(CoordState),
     /// Its epoch, and what it has of the server's tag.

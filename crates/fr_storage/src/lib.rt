@@ -5,8 +5,10 @@ mod answer;
 mod fault;
 mod laws;
 mod storage;
+mod taking;
 
-pub use answer::Answer;
+pub use answer::LogAnswer;
 pub use fault::{ReadFault, StorageFault};
-pub use laws::{follow_law, piece_law, position_law, storage_law};
+pub use laws::{follow_law, piece_law, position_law, storage_law, store_laws};
 pub use storage::Storage;
+pub use taking::{take_marked, take_peeked};

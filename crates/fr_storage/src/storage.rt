@@ -13,7 +13,7 @@ mod peeked;
 mod reading;
 
 use crate::fault::StorageFault;
-use crate::laws::lower_laws;
+use crate::laws::store_laws;
 use fr_base::{Bytes, Epoch, Memory, Tag, Version};
 use fr_log::{LogAsk, Most};
 use fr_state::CoordState;
@@ -140,7 +140,7 @@ impl<S: ShardStore> Storage<S> {
         ensures leaves { LeavesNoMore (S.MayLeave self.old.store) (S.MayLeave self.new.store) }
         ensures stands { StaysStanding S.state S.MayLeave [] self.old self.new (refusal_of result) }
     {
-        lower_laws();
+        store_laws();
         if self.failed {
             return Err(StorageFault::Store(StoreFault::Failed));
         }

@@ -10,5 +10,5 @@ mod split;
 
 pub use body::Body;
 pub use fault::ShardFault;
-pub use map::{MAX_SHARDS, ShardMap};
+pub use map::{MAX_SHARDS, ShardMap, tag_at};
 pub use placement::{MAX_LOGS, covers, holders, is_held};

@@ -223,7 +223,7 @@ fn shard_with(begins: &[Bytes], key: &Bytes) -> Range<usize>
 }
 
 /// The tag of this number.
-pub(crate) fn tag_at(number: usize) -> Tag
+pub fn tag_at(number: usize) -> Tag
     requires { number < MAX_SHARDS }
     ensures { result ≡ number }
 {

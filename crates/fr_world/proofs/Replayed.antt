@@ -1,13 +1,13 @@
 -- Of a list of events, one more happens.
-use Rattle.std.proofs.Common.{◌≡◌, ℕ, ◌+◌, ◌<◌, List, [], ◌∷◌, ◌++◌, length, take, drop, get_or, refl, sym, ◌∙◌, ap}
-use Rattle.std.specs.Prelude.{Result, Ok, Err}
-use Rattle.std.proofs.lemmas.List.{drop_more, take_more}
+use Rattle.std.proofs.Common.{◌≡◌, ℕ, zero, suc, ◌+◌, List, [], ◌∷◌, ◌++◌, take, drop, slice_get, Some, sym, ◌∙◌, ap, subst, arith}
+use Rattle.std.specs.Prelude.{Result, Ok, Err, IsOk}
 use Rattle.fr_run.specs.Config.{Config}
 use Rattle.fr_run.specs.Turn.{Turn}
 use Rattle.fr_run_event.specs.declared.answer.Answer.{Answer}
 use Rattle.fr_run_event.specs.declared.event.Event.{Event}
 use Rattle.fr_run_event.specs.declared.not_enabled.NotEnabled.{NotEnabled}
 use Rattle.fr_run_event.specs.Step.{turn_of, answer_of, next_result, replay_from, replay}
+use Rattle.fr_world.specs.Replaying.{CanHappenAt}
 use Rattle.fr_world.specs.World.{next_turn, stepped_by}
 use Rattle.fr_world_kept.specs.Kept.{WorldState, with_turn}
 
@@ -26,26 +26,53 @@ then_one c g h n (x ∷ front) event t e is = go (λ u l. then_one c (u ∷ g) h
     go rest (Ok u) l = rest u l
     go rest (Err why) l = absurd (cc)
 
-module _ (config : Config) (events : List Event) (n : ℕ) (event : Event) (within : n < length events) (is : event ≡ get_or events n event) where
-  left : drop n events ≡ event ∷ drop (n + 1) events
-  left = drop_more events n event within ∙ ap (λ x. x ∷ drop (n + 1) events) (sym is)
+-- what is left at an event begins with it: those before it, with it, are taken then
+cut : (n : ℕ) (events rest : List Event) (event : Event) → drop n events ≡ event ∷ rest → (take (suc n) events ≡ take n events ++ (event ∷ [])) × (drop (suc n) events ≡ rest)
+cut zero [] rest event k = absurd (cc)
+cut zero (x ∷ xs) rest event k = (cc, cc)
+cut (suc n) [] rest event k = absurd (cc)
+cut (suc n) (x ∷ xs) rest event k = let c = cut n xs rest event k in (ap (λ ys. x ∷ ys) c.0, c.1)
 
-  taken : take (n + 1) events ≡ take n events ++ (event ∷ [])
-  taken = take_more events n event within ∙ ap (λ x. take n events ++ (x ∷ [])) (sym is)
+-- and it is the one of that number
+there : (n : ℕ) (events rest : List Event) (event : Event) → drop n events ≡ event ∷ rest → slice_get events n ≡ Some event
+there zero [] rest event k = absurd (cc)
+there zero (x ∷ xs) rest event k = cc
+there (suc n) [] rest event k = absurd (cc)
+there (suc n) (x ∷ xs) rest event k = there n xs rest event k
 
-  -- what is known of a world while a list is replayed is known after the next event, where that happens
-  pub goes_on : (old new : WorldState) (answer : Answer) (o : Result Turn NotEnabled) → next_turn old event ≡ o → stepped_by old o ≡ Ok (new, answer) → old.config ≡ config
-      → replay config events ≡ replay_from config old.turns n (drop n events) → replay config (take n events) ≡ Ok old.turns
-      → (new.config ≡ config) × (replay config events ≡ replay_from config new.turns (n + 1) (drop (n + 1) events)) × (replay config (take (n + 1) events) ≡ Ok new.turns)
-  goes_on old new answer (Err why) e k same so_far before = absurd (cc)
-  goes_on old new answer (Ok t) e k same so_far before =
-      let p : ◌≡◌ {A = WorldState × Answer} (with_turn old t, answer_of t) (new, answer) = cc in
-      let w : with_turn old t ≡ new = ap (λ x. x.0) p in
-      let turns : t ∷ old.turns ≡ new.turns = ap (λ (x : WorldState). x.turns) w in
-      let turn : turn_of config old.turns event ≡ Ok t = ap (λ x. turn_of x old.turns event) (sym same) ∙ e in (
-        sym (ap (λ (x : WorldState). x.config) w) ∙ same,
-        so_far
-            ∙ (ap (replay_from config old.turns n) left
-            ∙ (ap (next_result (λ later. replay_from config later (n + 1) (drop (n + 1) events)) old.turns n) turn ∙ ap (λ h. replay_from config h (n + 1) (drop (n + 1) events)) turns)),
-        ap (replay config) taken ∙ (then_one config [] old.turns 0 (take n events) event t before turn ∙ ap done turns),
-      )
+-- what is known of a world while a list is replayed
+pub record IsReplayed (config : Config) (events : List Event) (w : WorldState) (n : ℕ) (rest : List Event) : Type 0 where
+  pub config_is : w.config ≡ config
+  pub so_far : replay config events ≡ replay_from config w.turns n rest
+  pub before : replay config (take n events) ≡ Ok w.turns
+  pub left : drop n events ≡ rest
+
+-- it is known after the next event, where that happens
+pub goes_on : (config : Config) (events rest : List Event) (n : ℕ) (event : Event) (old new : WorldState) (answer : Answer) (o : Result Turn NotEnabled) → next_turn old event ≡ o → stepped_by old o ≡ Ok (new, answer) → IsReplayed config events old n (event ∷ rest)
+    → (k : ℕ) → k ≡ n + 1 → IsReplayed config events new k rest
+goes_on config events rest n event old new answer (Err why) e made r k next = absurd (cc)
+goes_on config events rest n event old new answer (Ok t) e made r k next =
+    let p : ◌≡◌ {A = WorldState × Answer} (with_turn old t, answer_of t) (new, answer) = cc in
+    let w : with_turn old t ≡ new = ap (λ x. x.0) p in
+    let turns : t ∷ old.turns ≡ new.turns = ap (λ (x : WorldState). x.turns) w in
+    let turn : turn_of config old.turns event ≡ Ok t = ap (λ x. turn_of x old.turns event) (sym r.config_is) ∙ e in
+    let c = cut n events rest event r.left in
+    let one : n + 1 ≡ suc n = omega arith in
+    record {
+      config_is = sym (ap (λ (x : WorldState). x.config) w) ∙ r.config_is;
+      so_far = r.so_far
+          ∙ (ap (next_result (λ later. replay_from config later (n + 1) rest) old.turns n) turn
+          ∙ (ap (λ h. replay_from config h (n + 1) rest) turns ∙ ap (λ i. replay_from config new.turns i rest) (sym next)));
+      before = ap (λ i. replay config (take i events)) (next ∙ one) ∙ (ap (replay config) c.0 ∙ (then_one config [] old.turns 0 (take n events) event t r.before turn ∙ ap done turns));
+      left = ap (λ i. drop i events) (next ∙ one) ∙ c.1;
+    }
+
+-- of an event that can happen it is known that it can
+pub can_happen : (config : Config) (events rest : List Event) (n : ℕ) (event : Event) (w : WorldState) → IsReplayed config events w n (event ∷ rest) → IsOk (next_turn w event) → (k : ℕ) → k ≡ n → CanHappenAt config events k
+can_happen config events rest n event w r ok k is = record {
+  turns = w.turns;
+  before = ap (λ i. replay config (take i events)) is ∙ r.before;
+  event = event;
+  there = ap (slice_get events) is ∙ there n events rest event r.left;
+  turn = subst (λ x. IsOk (turn_of x w.turns event)) r.config_is ok;
+}

@@ -1,6 +1,6 @@
 -- A node that nothing stands in the way of has its turn, and one that is not up is refused.
-use Rattle.std.proofs.Common.{◌≡◌, Bool, true, false, cond, not, Option, None, Some, refl, ap}
-use Rattle.std.specs.Prelude.{Result, Err}
+use Rattle.std.proofs.Common.{◌≡◌, ◌≢◌, Bool, true, false, cond, not, Option, None, Some, refl, ap}
+use Rattle.std.specs.Prelude.{Result, Err, IsOk}
 use Rattle.fr_base.specs.declared.place.NodeId.{NodeId}
 use Rattle.fr_run.specs.Turn.{Turn}
 use Rattle.fr_run.specs.Nodes.{is_there}
@@ -35,3 +35,16 @@ not_up w who o why e = go (not (is_there w.config w.turns who)) (is_gone w.turns
     go true b k = let d : not_enabled.NoSuchNode ≡ why = cc in ap err d
     go false true k = let d : not_enabled.Gone ≡ why = cc in ap err d
     go false false k = absurd (cc)
+
+-- that refuses its event, and not for want of memory
+pub refused_up : (w : WorldState) (who : NodeId) (o : Result Turn NotEnabled) (why : NotEnabled) → why_not_up w who ≡ Some why
+    → (why ≢ not_enabled.Memory → if_up w.config w.turns who o ≡ Err why) × (why ≡ not_enabled.Memory → IsOk (if_up w.config w.turns who o))
+refused_up w who o why e = (λ no. not_up w who o why e, go (not (is_there w.config w.turns who)) (is_gone w.turns who) e)
+  where
+    none : Option NotEnabled
+    none = None
+
+    go : (a b : Bool) → cond a (Some not_enabled.NoSuchNode) (cond b (Some not_enabled.Gone) none) ≡ Some why → why ≡ not_enabled.Memory → IsOk (if_up w.config w.turns who o)
+    go true b k memory = let d : not_enabled.NoSuchNode ≡ not_enabled.Memory = cc in absurd (cc)
+    go false true k memory = let d : not_enabled.Gone ≡ not_enabled.Memory = cc in absurd (cc)
+    go false false k memory = absurd (cc)

@@ -18,19 +18,19 @@ impl World {
     pub fn replay(
         alloc: Global,
         config: Config,
-        events: &[Event],
+        events: Vec<Event>,
     ) -> Result<World, (usize, NotEnabled)>
         ensures config { IfOk result (λ world. world.config ≡ config) }
-        ensures turns { IfOk result (λ world. replay config events.now ≡ Ok world.turns) }
+        ensures turns { IfOk result (λ world. replay config events.items ≡ Ok world.turns) }
         ensures headline { IfOk result (λ world. RolledBackIsExact world.config world.turns × AcknowledgedIsNeverUndone world.config world.turns) }
         ensures safe { IfOk result (λ world. IsSafe world.config world.turns) }
-        ensures refused { IfErr result (λ first. first.1 ≢ NotEnabled.Memory → replay config events.now ≡ Err first) }
-        ensures memory { IfErr result (λ first. first.1 ≡ NotEnabled.Memory → IsAtStartOrCanHappen config events.now first.0) }
+        ensures refused { IfErr result (λ first. first.1 ≢ NotEnabled.Memory → replay config events.items ≡ Err first) }
+        ensures memory { IfErr result (λ first. first.1 ≡ NotEnabled.Memory → IsAtStartOrCanHappen config events.items first.0) }
     {
         let Ok(mut world) = World::start(alloc, config) else {
             return Err((0, NotEnabled::Memory));
         };
-        for (number, event) in events.iter().enumerate() {
+        for (number, event) in events.into_iter().enumerate() {
             match world.step_owned(alloc, event) {
                 Ok((next, _)) => world = next,
                 Err(why) => return Err((number, why)),

@@ -1,6 +1,9 @@
 //! One event.
 ghost use Rattle.std.specs.Prelude.{◌≡◌, OnErr, OnOk};
 ghost use Rattle.fr_run_event.specs.declared.event.Event.TheVariants as event;
+ghost use Rattle.fr_run.specs.Run.{IsRun};
+ghost use Rattle.fr_run_headline.specs.Committed.{AcknowledgedIsNeverUndone, RolledBackIsExact};
+ghost use Rattle.fr_run_headline.specs.Safety.{IsGrownFrom, IsSafe};
 ghost use Rattle.fr_world.specs.Stepping.{Steps, Refuses, why_unheard};
 ghost use Rattle.fr_world_kept.specs.Kept.{state_of, IsKept};
 
@@ -13,15 +16,16 @@ use crate::events::why_not_up;
 use fr_ask::Tell;
 use fr_base::{NodeId, Version};
 use fr_run_event::{Answer, Event, NotEnabled};
+use fr_run_headline::laws::safety_law;
 use fr_world_kept::Nodes;
 use std::alloc::Global;
 
 /// Makes the turn that an event is, or says why it cannot happen, which changes nothing. The turn is then entered,
 /// so that what a later event needs of it is found without a walk over the turns.
-pub(crate) fn step(alloc: Global, nodes: &mut Nodes, event: &Event) -> Result<Answer, NotEnabled>
+pub(crate) fn step(alloc: Global, nodes: &mut Nodes, event: Event) -> Result<Answer, NotEnabled>
     requires kept { IsKept nodes.old }
-    ensures turn { Steps (state_of nodes.old) (state_of nodes.new) event.now result }
-    ensures refused { Refuses (state_of nodes.old) event.now result }
+    ensures turn { Steps (state_of nodes.old) (state_of nodes.new) event result }
+    ensures refused { Refuses (state_of nodes.old) event result }
     ensures err { OnErr result (state_of nodes.new ≡ state_of nodes.old) }
     ensures stays { IsKept nodes.new }
 {
@@ -30,16 +34,37 @@ pub(crate) fn step(alloc: Global, nodes: &mut Nodes, event: &Event) -> Result<An
     answer
 }
 
+/// As [`step`], and says what is promised of the nodes that it leaves.
+pub(crate) fn step_safely(
+    alloc: Global,
+    nodes: &mut Nodes,
+    event: Event,
+) -> Result<Answer, NotEnabled>
+    requires kept { IsKept nodes.old }
+    ensures turn { Steps (state_of nodes.old) (state_of nodes.new) event result }
+    ensures refused { Refuses (state_of nodes.old) event result }
+    ensures err { OnErr result (state_of nodes.new ≡ state_of nodes.old) }
+    ensures stays { IsKept nodes.new }
+    ensures run { IsRun (state_of nodes.new).config (state_of nodes.new).turns }
+    ensures headline { RolledBackIsExact (state_of nodes.new).config (state_of nodes.new).turns
+        × AcknowledgedIsNeverUndone (state_of nodes.new).config (state_of nodes.new).turns }
+    ensures safe { IsSafe (state_of nodes.new).config (state_of nodes.new).turns }
+    ensures grows { IsGrownFrom (state_of nodes.new).config (state_of nodes.old).turns (state_of nodes.new).turns }
+{
+    safety_law();
+    step(alloc, nodes, event)
+}
+
 /// As [`step`], with no copy of a storage server: if the event cannot happen or memory runs out the nodes are given
 /// up.
 pub(crate) fn step_owned(
     alloc: Global,
     nodes: &mut Nodes,
-    event: &Event,
+    event: Event,
 ) -> Result<Answer, NotEnabled>
     requires kept { IsKept nodes.old }
-    ensures turn { Steps (state_of nodes.old) (state_of nodes.new) event.now result }
-    ensures refused { Refuses (state_of nodes.old) event.now result }
+    ensures turn { Steps (state_of nodes.old) (state_of nodes.new) event result }
+    ensures refused { Refuses (state_of nodes.old) event result }
     ensures stays { OnOk result (IsKept nodes.new) }
 {
     let answer = happen_owned(alloc, nodes, event)?;
@@ -48,10 +73,10 @@ pub(crate) fn step_owned(
 }
 
 /// Makes the turn that an event is, with no copy of a storage server.
-fn happen_owned(alloc: Global, nodes: &mut Nodes, event: &Event) -> Result<Answer, NotEnabled>
+fn happen_owned(alloc: Global, nodes: &mut Nodes, event: Event) -> Result<Answer, NotEnabled>
     requires kept { IsKept nodes.old }
-    ensures turn { Steps (state_of nodes.old) (state_of nodes.new) event.now result }
-    ensures refused { Refuses (state_of nodes.old) event.now result }
+    ensures turn { Steps (state_of nodes.old) (state_of nodes.new) event result }
+    ensures refused { Refuses (state_of nodes.old) event result }
     ensures stays { OnOk result (IsKept nodes.new) }
 {
     match event {
@@ -60,7 +85,7 @@ fn happen_owned(alloc: Global, nodes: &mut Nodes, event: &Event) -> Result<Answe
             from,
             tell,
             taken,
-        } => heard_owned(alloc, nodes, by, from, tell, *taken),
+        } => heard_owned(alloc, nodes, by, from, tell, taken),
         _ => happen(alloc, nodes, event),
     }
 }
@@ -69,18 +94,18 @@ fn happen_owned(alloc: Global, nodes: &mut Nodes, event: &Event) -> Result<Answe
 fn heard_owned(
     alloc: Global,
     nodes: &mut Nodes,
-    by: &NodeId,
-    from: &NodeId,
-    tell: &Tell,
+    by: NodeId,
+    from: NodeId,
+    tell: Tell,
     taken: Option<Version>,
 ) -> Result<Answer, NotEnabled>
     requires kept { IsKept nodes.old }
-    ensures turn { Steps (state_of nodes.old) (state_of nodes.new) (event.Hear by.now from.now tell.now taken) result }
-    ensures refused { Refuses (state_of nodes.old) (event.Hear by.now from.now tell.now taken) result }
+    ensures turn { Steps (state_of nodes.old) (state_of nodes.new) (event.Hear by from tell taken) result }
+    ensures refused { Refuses (state_of nodes.old) (event.Hear by from tell taken) result }
     ensures stays { OnOk result (IsKept nodes.new) }
 {
     match by {
-        NodeId::Storage { tag } => heard_in_place(alloc, nodes, *tag, *from, tell, taken),
+        NodeId::Storage { tag } => heard_in_place(alloc, nodes, tag, from, tell, taken),
         _ => heard(alloc, nodes, by, from, tell, taken),
     }
 }
@@ -96,31 +121,31 @@ fn catch_up(alloc: Global, nodes: &mut Nodes)
 }
 
 /// Makes the turn that an event is.
-fn happen(alloc: Global, nodes: &mut Nodes, event: &Event) -> Result<Answer, NotEnabled>
+fn happen(alloc: Global, nodes: &mut Nodes, event: Event) -> Result<Answer, NotEnabled>
     requires kept { IsKept nodes.old }
-    ensures turn { Steps (state_of nodes.old) (state_of nodes.new) event.now result }
-    ensures refused { Refuses (state_of nodes.old) event.now result }
+    ensures turn { Steps (state_of nodes.old) (state_of nodes.new) event result }
+    ensures refused { Refuses (state_of nodes.old) event result }
     ensures err { OnErr result (state_of nodes.new ≡ state_of nodes.old) }
     ensures stays { IsKept nodes.new }
 {
     let _within = event.node();
     match event {
-        Event::Begin { ballot, shape } => begun(alloc, nodes, *ballot, *shape),
-        Event::Deliver { from, to, ask } => delivered(alloc, nodes, *from, *to, ask),
+        Event::Begin { ballot, shape } => begun(alloc, nodes, ballot, shape),
+        Event::Deliver { from, to, ask } => delivered(alloc, nodes, from, to, ask),
         Event::Hear {
             by,
             from,
             tell,
             taken,
-        } => heard(alloc, nodes, by, from, tell, *taken),
+        } => heard(alloc, nodes, by, from, tell, taken),
         Event::Submit {
             epoch,
             proxy,
             step,
             batch,
-        } => submitted(alloc, nodes, *epoch, *proxy, *step, batch),
-        Event::Crash { node } => crashed(nodes, *node),
-        Event::Lose { log } => lost(nodes, *log),
+        } => submitted(alloc, nodes, epoch, proxy, step, batch),
+        Event::Crash { node } => crashed(nodes, node),
+        Event::Lose { log } => lost(nodes, log),
     }
 }
 
@@ -128,26 +153,26 @@ fn happen(alloc: Global, nodes: &mut Nodes, event: &Event) -> Result<Answer, Not
 fn heard(
     alloc: Global,
     nodes: &mut Nodes,
-    by: &NodeId,
-    from: &NodeId,
-    tell: &Tell,
+    by: NodeId,
+    from: NodeId,
+    tell: Tell,
     taken: Option<Version>,
 ) -> Result<Answer, NotEnabled>
     requires kept { IsKept nodes.old }
-    ensures turn { Steps (state_of nodes.old) (state_of nodes.new) (event.Hear by.now from.now tell.now taken) result }
-    ensures refused { Refuses (state_of nodes.old) (event.Hear by.now from.now tell.now taken) result }
+    ensures turn { Steps (state_of nodes.old) (state_of nodes.new) (event.Hear by from tell taken) result }
+    ensures refused { Refuses (state_of nodes.old) (event.Hear by from tell taken) result }
     ensures err { OnErr result (state_of nodes.new ≡ state_of nodes.old) }
     ensures stays { IsKept nodes.new }
 {
     match by {
         NodeId::Proxy { epoch, number } => {
-            heard_by_proxy(alloc, nodes, *epoch, *number, *from, tell, taken)
+            heard_by_proxy(alloc, nodes, epoch, number, from, tell, taken)
         }
         NodeId::Recoverer { ballot } => {
-            heard_by_recoverer(alloc, nodes, *ballot, *from, tell, taken)
+            heard_by_recoverer(alloc, nodes, ballot, from, tell, taken)
         }
-        NodeId::Storage { tag } => heard_by_storage(alloc, nodes, *tag, *from, tell, taken),
-        _ => Err(why_unheard(nodes, by)),
+        NodeId::Storage { tag } => heard_by_storage(alloc, nodes, tag, from, tell, taken),
+        _ => Err(why_unheard(nodes, &by)),
     }
 }
 

@@ -14,7 +14,7 @@ ghost use Rattle.fr_world_nodes.specs.Parts.{server_of};
 ghost use Rattle.fr_world_nodes.specs.Reads.{IsReadAt};
 ghost use Rattle.fr_world_turns.specs.Turns.{history_of};
 
-use crate::step::{step, step_owned};
+use crate::step::{step_owned, step_safely};
 use fr_ask::{Ask, Last, Tell};
 use fr_base::{Ballot, Bytes, Epoch, Memory, NodeId, Tag, Version};
 use fr_epoch::Recoverer;
@@ -30,9 +30,11 @@ use std::marker::Model;
 
 /// All nodes of a system, and what they did, turn by turn: one exact run. An event is one turn of one node, and
 /// changes no other; an event that cannot happen is refused and changes nothing.
+///
+/// The nodes stand in a box, so that a world that is handed on by value costs no copy of all its fields.
 #[derive(Drop)]
 pub struct World {
-    nodes: Nodes,
+    nodes: Box<Nodes>,
 }
 
 impl Model for World {
@@ -40,9 +42,9 @@ impl Model for World {
 
     ghost Value = { WorldState };
 
-    ghost view = { λ w. record { config = w.nodes.config; turns = w.nodes.turns.turns } };
+    ghost view = { λ w. record { config = w.nodes.value.config; turns = w.nodes.value.turns.turns } };
 
-    ghost invariant = { λ w. IsKept w.nodes };
+    ghost invariant = { λ w. IsKept w.nodes.value };
 }
 
 /// Says what is promised of the nodes, and does nothing.
@@ -59,8 +61,9 @@ impl World {
         ensures config { IfOk result (λ world. world.config ≡ config) }
         ensures turns { IfOk result (λ world. world.turns ≡ []) }
     {
+        let nodes = Nodes::start(alloc, config)?;
         Ok(World {
-            nodes: Nodes::start(alloc, config)?,
+            nodes: Box::new(alloc, nodes)?,
         })
     }
 
@@ -68,25 +71,24 @@ impl World {
     /// happen is refused, for the first reason in the order of `NotEnabled`, and changes nothing. Out of memory it
     /// changes nothing either; that is answered only for an event that can happen. [`World::is_safe`] says what is
     /// promised of the world that it leaves, whose committed list begins with that of the world before.
-    pub fn step(&mut self, alloc: Global, event: &Event) -> Result<Answer, NotEnabled>
-        ensures turn { Steps self.old self.new event.now result }
-        ensures refused { Refuses self.old event.now result }
+    pub fn step(&mut self, alloc: Global, event: Event) -> Result<Answer, NotEnabled>
+        ensures turn { Steps self.old self.new event result }
+        ensures refused { Refuses self.old event result }
         ensures err { OnErr result (self.new ≡ self.old) }
         ensures run { IsRun self.new.config self.new.turns }
         ensures headline { RolledBackIsExact self.new.config self.new.turns × AcknowledgedIsNeverUndone self.new.config self.new.turns }
         ensures safe { IsSafe self.new.config self.new.turns }
         ensures grows { IsGrownFrom self.new.config self.old.turns self.new.turns }
     {
-        safety_law();
-        step(alloc, &mut self.nodes, event)
+        step_safely(alloc, &mut self.nodes, event)
     }
 
     /// As [`World::step`], of a world that is given up if the event cannot happen or memory runs out. So no hear of a
     /// storage server needs a copy of it, and an event costs what it touches. What [`World::is_safe`] says holds of
     /// the world that it answers, as of every other.
-    pub fn step_owned(self, alloc: Global, event: &Event) -> Result<(World, Answer), NotEnabled>
-        ensures turn { IfOk result (λ next. stepped self event.now ≡ Ok (next.0, next.1)) }
-        ensures refused { RefusesTurn (next_turn self event.now) result }
+    pub fn step_owned(self, alloc: Global, event: Event) -> Result<(World, Answer), NotEnabled>
+        ensures turn { IfOk result (λ next. stepped self event ≡ Ok (next.0, next.1)) }
+        ensures refused { RefusesTurn (next_turn self event) result }
     {
         let mut nodes = self.nodes;
         let answer = step_owned(alloc, &mut nodes, event)?;

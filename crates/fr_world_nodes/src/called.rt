@@ -45,9 +45,7 @@ pub fn room(alloc: Global) -> Result<Vec<(NodeId, Ask)>, Memory>
     ensures empty { IfOk result (λ asks. asks.items ≡ []) }
     ensures room { IfOk result (λ asks. vec_len asks < vec_capacity asks) }
 {
-    let mut asks = Vec::new(alloc);
-    asks.reserve(1)?;
-    Ok(asks)
+    Ok(Vec::with_capacity(alloc, 1)?)
 }
 
 /// The turn in which a proxy took a batch and asked its sequencer.

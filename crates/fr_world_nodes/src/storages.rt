@@ -24,7 +24,7 @@ use std::alloc::Global;
 
 /// A server after a hear, and why it refused what it heard.
 #[derive(Drop)]
-pub struct Heard {
+pub struct ServerHeard {
     pub server: Storage<MapStore>,
     pub fault: Option<StorageFault>,
 }
@@ -35,7 +35,7 @@ pub fn tell_server(
     server: &Storage<MapStore>,
     from: &NodeId,
     tell: &Tell,
-) -> Result<Heard, Memory>
+) -> Result<ServerHeard, Memory>
     requires { server.now.failed ≡ false }
     ensures fault { IfOk result (λ heard. heard.fault ≡ fault_of (server_of server.now) from.now tell.now) }
     ensures state { IfOk result (λ heard. server_of heard.server ≡ storage_hear None (server_of server.now) from.now tell.now) }
@@ -43,7 +43,7 @@ pub fn tell_server(
 {
     let mut server = server.copy(alloc)?;
     let fault = tell_in_place(alloc, &mut server, from, tell)?;
-    Ok(Heard { server, fault })
+    Ok(ServerHeard { server, fault })
 }
 
 /// As [`tell_server`], with no copy of the server: out of memory it may be left failed, with a part of what it heard.

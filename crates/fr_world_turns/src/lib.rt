@@ -2,7 +2,6 @@
 //! logarithm of how much happened.
 #![tactic(auto)]
 
-mod copying;
 mod entering;
 mod finding;
 mod keys;

@@ -1,18 +1,16 @@
 //! What happened: turns of nodes, each with what it gave.
-ghost use Rattle.std.specs.Prelude.{◌≡◌, IfOk};
+ghost use Rattle.std.specs.Prelude.{◌≡◌};
 ghost use Rattle.std.specs.List.{list_any};
-ghost use Rattle.fr_run_event.specs.Step.{answer_of};
 ghost use Rattle.fr_run_event.specs.Tests as tests;
 ghost use Rattle.fr_run.specs.Turn as history;
 ghost use Rattle.fr_world_turns.specs.Turns.{retells, turn_of};
 
 use fr_ask::{Ask, SeqAsk, SeqTell, Tell};
-use fr_base::{Ballot, Epoch, LogId, Memory, NodeId, Shape, Step, Tag, Version};
+use fr_base::{Ballot, Epoch, LogId, NodeId, Shape, Step, Tag, Version};
 use fr_log::{LogAsk, LogTell};
 use fr_mutation::Batch;
 use fr_proxy::Outcome;
 use fr_register::{CellAsk, CellTell};
-use fr_run_event::Answer;
 use fr_storage::StorageFault;
 
 /// One turn of one node, with what it gave.
@@ -177,71 +175,75 @@ impl Turn {
         }
     }
 
-    /// What it answered.
-    pub fn answer(&self) -> Result<Answer, Memory>
-        ensures { IfOk result (λ answer. answer ≡ answer_of (turn_of self.now)) }
-    {
-        Ok(match self {
-            Turn::Cell { tell, .. } => Answer::Told(Tell::Cell(tell.copy()?)),
-            Turn::Log { tell, .. } => Answer::Told(Tell::Log(tell.copy()?)),
-            Turn::Sequencer { tell, .. } => Answer::Told(Tell::Seq(*tell)),
-            Turn::Proxy { outcome, .. } => Answer::Heard(*outcome),
-            Turn::Storage {
-                fault: Some(fault),
-                ..
-            } => Answer::Refused(*fault),
-            _ => Answer::Done,
-        })
-    }
-
     /// Whether its node told in it what a node told in another turn, if the two turns are of one node and both tells
     /// went to one.
     pub(crate) fn retells(&self, other: &Turn) -> bool
         ensures { result ≡ retells (turn_of self.now) (turn_of other.now) }
     {
-        match (self, other) {
-            (
-                Turn::Cell {
-                    from,
-                    index,
-                    tell,
-                    ..
-                },
-                Turn::Cell {
-                    from: asker,
-                    index: number,
-                    tell: told,
-                    ..
-                },
-            ) => { index == number && (from.is_same(*asker) && tell == told) }
-            (
-                Turn::Log {
-                    from,
-                    log,
-                    tell,
-                    ..
-                },
-                Turn::Log {
-                    from: asker,
-                    log: place,
-                    tell: told,
-                    ..
-                },
-            ) => { log.is_same(*place) && (from.is_same(*asker) && tell == told) }
-            (
-                Turn::Sequencer {
-                    from,
-                    epoch,
-                    tell,
-                    ..
-                },
-                Turn::Sequencer {
-                    from: asker,
-                    epoch: number,
-                    tell: told,
-                    ..
-                },
-            ) => { epoch == number && (from.is_same(*asker) && tell == told) }
+        match self {
+            Turn::Cell {
+                from,
+                index,
+                tell,
+                ..
+            } => other.repeats_cell(from, *index, tell),
+            Turn::Log {
+                from,
+                log,
+                tell,
+                ..
+            } => other.repeats_log(from, log, tell),
+            Turn::Sequencer {
+                from,
+                epoch,
+                tell,
+                ..
+            } => other.repeats_sequencer(from, *epoch, tell),
+            _ => false,
+        }
+    }
+
+    /// Whether the cell of this index told this to the same node in it.
+    fn repeats_cell(&self, from: &NodeId, index: u8, tell: &CellTell) -> bool
+        ensures { (ask : _) → result ≡ retells (history.CellTurn from.now index ask tell.now) (turn_of self.now) }
+    {
+        match self {
+            Turn::Cell {
+                from: asker,
+                index: number,
+                tell: told,
+                ..
+            } => { index == *number && (from.is_same(*asker) && tell == told) }
+            _ => false,
+        }
+    }
+
+    /// Whether this log told this to the same node in it.
+    fn repeats_log(&self, from: &NodeId, log: &LogId, tell: &LogTell) -> bool
+        ensures { (ask : _) → result ≡ retells (history.LogTurn from.now log.now.epoch log.now.index ask tell.now) (turn_of self.now) }
+    {
+        match self {
+            Turn::Log {
+                from: asker,
+                log: place,
+                tell: told,
+                ..
+            } => { log.is_same(*place) && (from.is_same(*asker) && tell == told) }
+            _ => false,
+        }
+    }
+
+    /// Whether the sequencer of this epoch told this to the same node in it.
+    fn repeats_sequencer(&self, from: &NodeId, epoch: Epoch, tell: &SeqTell) -> bool
+        ensures { (ask : _) → result ≡ retells (history.SeqTurn from.now epoch ask tell.now) (turn_of self.now) }
+    {
+        match self {
+            Turn::Sequencer {
+                from: asker,
+                epoch: number,
+                tell: told,
+                ..
+            } => { epoch == *number && (from.is_same(*asker) && tell == told) }
             _ => false,
         }
     }

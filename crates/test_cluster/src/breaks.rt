@@ -6,7 +6,7 @@ use fr_register::Cell;
 use fr_runtime::Rack;
 use fr_undo::StoreFault;
 use std::alloc::Global;
-use test_store_failing::FailsOnce;
+use test_stores::FailsOnce;
 
 /// All in memory, with stores whose device fails in one call. A storage server makes no call of its store but those
 /// that write, until its turns are over, and the first of them sets the state with which it starts. So the device fails

@@ -1,5 +1,4 @@
-//! Clusters over record files and tables, and nodes and stores that fail while threads run.
+//! Nodes and stores over record files and tables that fail while threads run.
 mod breaking;
 mod devices;
-mod printed;
-mod runs;
+mod frail;

@@ -4,7 +4,7 @@ use fr_audit_journal::Journal;
 use fr_base::{Ballot, Epoch, NodeId, Tag};
 use fr_log::{LogAsk, Push};
 use fr_runtime::{Orders, PlainRack, Report};
-use fr_runtime_station::{Faults, Verdict};
+use fr_runtime_station::{Blow, Chosen, Faults, Verdict};
 use fr_state::decode;
 use std::alloc::Global;
 use std::test::Fail;
@@ -107,8 +107,12 @@ impl Faults for Chain {
         }
     }
 
-    fn crash(&self, _turn: u32) -> Option<NodeId> {
+    fn strikes(&self, _turn: u32, _chosen: &[Chosen]) -> Option<Blow> {
         None
+    }
+
+    fn ends(&self, _node: NodeId, _turn: u32) -> bool {
+        false
     }
 
     fn begins(&self, ballot: Ballot, turn: u32) -> bool {

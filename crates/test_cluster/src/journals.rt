@@ -1,13 +1,14 @@
-//! What the command `cluster` prints.
+//! What the command `cluster` prints: of a cluster in memory, and of one over files and tables.
 use fr_audit::audit;
 use fr_audit_journal::Journal;
 use fr_audit_script::{read_script, write_script};
 use fr_cli_cluster::{
-    ClusterOptions, ClusterWords, DEFAULTS, NoFaults, PlainRack, Progress, cluster_counted,
-    run_cluster,
+    ClusterOptions, ClusterPlan, ClusterWords, DEFAULTS, NoFaults, PlainRack, ProgressLine,
+    cluster_counted, run_cluster, run_cluster_on,
 };
 use fr_cli_json::CallCounts;
 use fr_run_event::Config;
+use fr_runtime_disks::DiskRack;
 use std::alloc::Global;
 use std::fmt::{Display, Write as _};
 use std::io::{Eprint, Write};
@@ -17,31 +18,50 @@ use std::test::Fail;
 use std::thread::Threads;
 use std::{fmt, io};
 
+/// What the nodes of a cluster are over.
+#[derive(Clone, Copy)]
+enum Over {
+    Memory,
+    Files,
+}
+
 /// Runs the command, and whether it ends well.
 fn runs<R: Threads + Wait + Sync>(
     rt: &R,
     alloc: Global,
+    over: Over,
     options: ClusterOptions,
     writer: &mut Vec<u8>,
 ) -> Result<bool, Fail> {
-    Ok(run_cluster(rt, alloc, options, writer)? == 0)
+    let status = match over {
+        Over::Memory => run_cluster(rt, alloc, options, writer)?,
+        Over::Files => run_cluster_on(rt, alloc, options, DiskRack::new(), writer)?,
+    };
+    Ok(status == 0)
 }
 
 /// Whether a cluster of these words ends well and prints that its audit does.
 fn is_run<R: Threads + Wait + Sync>(
     rt: &R,
     alloc: Global,
+    over: Over,
     words: ClusterWords,
 ) -> Result<bool, Fail> {
     let options = ClusterOptions::new(words).ok_or("options")?;
     let mut writer = Vec::new(alloc);
-    let is_well = runs(rt, alloc, options, &mut writer)?;
+    let is_well = runs(rt, alloc, over, options, &mut writer)?;
     Ok(is_well && writer.as_slice() == b"audit ok\n".as_slice())
 }
 
 #[test]
 fn the_defaults_are_a_run(rt: HostRuntime) -> Result<(), Fail> {
-    assert!(rt; is_run(&rt, rt.alloc(), DEFAULTS)?);
+    assert!(rt; is_run(&rt, rt.alloc(), Over::Memory, DEFAULTS)?);
+    Ok(())
+}
+
+#[test]
+fn the_defaults_over_files_are_a_run(rt: HostRuntime) -> Result<(), Fail> {
+    assert!(rt; is_run(&rt, rt.alloc(), Over::Files, DEFAULTS)?);
     Ok(())
 }
 
@@ -55,13 +75,18 @@ const GREATEST: ClusterWords = ClusterWords {
     recoveries: 2,
     turns: 120,
     storm: 0,
+    late: 0,
+    crash: 0,
+    lose: 0,
+    refuse: 0,
     seed: 1,
     journal: false,
+    counts: false,
 };
 
 #[test]
 fn the_greatest_cluster_is_a_run(rt: HostRuntime) -> Result<(), Fail> {
-    assert!(rt; is_run(&rt, rt.alloc(), GREATEST)?);
+    assert!(rt; is_run(&rt, rt.alloc(), Over::Memory, GREATEST)?);
     Ok(())
 }
 
@@ -95,7 +120,7 @@ fn is_audited(alloc: Global, config: Config, journals: &[Journal]) -> bool {
 
 /// Whether a text is a line with the script of journals of the defaults, which are a run.
 fn is_read_back(alloc: Global, text: &[u8]) -> Result<bool, Fail> {
-    let (config, journals) = read_script(alloc, text)?;
+    let (config, journals) = read_script(alloc, text, &mut String::new(alloc))?;
     let is_same = is_line(alloc, &config, journals.as_slice(), text)?;
     Ok(is_same && has_numbers(&config) && is_audited(alloc, config, journals.as_slice()))
 }
@@ -106,16 +131,27 @@ const SHOWN: ClusterWords = ClusterWords {
     ..DEFAULTS
 };
 
+/// Whether what is printed is read back and is a run.
+fn is_shown<R: Threads + Wait + Sync>(rt: &R, alloc: Global, over: Over) -> Result<bool, Fail> {
+    let options = ClusterOptions::new(SHOWN).ok_or("options")?;
+    let mut writer = Vec::new(alloc);
+    let is_well = runs(rt, alloc, over, options, &mut writer)?;
+    Ok(is_well && is_read_back(alloc, writer.as_slice())?)
+}
+
 #[test]
 fn what_is_printed_is_read_back_and_is_a_run(rt: HostRuntime) -> Result<(), Fail> {
-    let options = ClusterOptions::new(SHOWN).ok_or("options")?;
-    let mut writer = Vec::new(rt.alloc());
-    let is_well = runs(&rt, rt.alloc(), options, &mut writer)?;
-    assert!(rt; is_well && is_read_back(rt.alloc(), writer.as_slice())?);
+    assert!(rt; is_shown(&rt, rt.alloc(), Over::Memory)?);
     Ok(())
 }
 
-static OTHERS: [ClusterWords; 5] = [
+#[test]
+fn what_is_printed_over_files_is_read_back_and_is_a_run(rt: HostRuntime) -> Result<(), Fail> {
+    assert!(rt; is_shown(&rt, rt.alloc(), Over::Files)?);
+    Ok(())
+}
+
+static OTHERS: [ClusterWords; 9] = [
     ClusterWords {
         coordinators: 4,
         ..DEFAULTS
@@ -134,6 +170,22 @@ static OTHERS: [ClusterWords; 5] = [
     },
     ClusterWords {
         storm: 257,
+        ..DEFAULTS
+    },
+    ClusterWords {
+        late: 257,
+        ..DEFAULTS
+    },
+    ClusterWords {
+        crash: 257,
+        ..DEFAULTS
+    },
+    ClusterWords {
+        lose: 257,
+        ..DEFAULTS
+    },
+    ClusterWords {
+        refuse: 15,
         ..DEFAULTS
     },
 ];
@@ -239,11 +291,15 @@ fn is_told<R: Threads + Wait + Sync>(
         terminal,
         first: None,
     };
-    let progress = Progress::new(terminal, &NoFaults, options);
+    let progress = ProgressLine::new(terminal, &NoFaults, options);
+    let plan = ClusterPlan {
+        options,
+        shapes: &[],
+    };
     let status = cluster_counted(
         rt,
         alloc,
-        options,
+        plan,
         PlainRack,
         &progress,
         &mut calls,

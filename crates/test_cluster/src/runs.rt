@@ -1,14 +1,16 @@
-//! Runs in memory: without faults, with faults that are written down, with logs that are watched, and of other shapes.
+//! Runs in memory, and over files and tables: without faults, with faults that are written down, with logs that are
+//! watched, and of other shapes.
 use fr_runtime::PlainRack;
+use fr_runtime_disks::DiskRack;
 use std::alloc::Global;
 use std::sync::Wait;
 use std::test::Fail;
 use std::thread::Threads;
 use test_cluster_scene::{Run, passes};
 
-/// Whether a cluster in memory passes a run.
+/// Whether a cluster in memory passes a run, and one over files and tables.
 fn is_passed<R: Threads + Wait + Sync>(rt: &R, alloc: Global, run: Run) -> Result<bool, Fail> {
-    passes(rt, alloc, PlainRack, run)
+    Ok(passes(rt, alloc, PlainRack, run)? && passes(rt, alloc, DiskRack::new(), run)?)
 }
 
 #[test]

@@ -1,5 +1,7 @@
-//! Storms: what is drawn, clusters in storms, and clusters whose stores fail once in a hear.
+//! Storms: what is drawn, clusters in storms, late messages, lost logs, and clusters whose stores fail once in a hear.
 mod broken;
 mod draws;
+mod late;
 mod orders;
 mod runs;
+mod struck;

@@ -5,7 +5,7 @@ use crate::flag::Flag;
 use fr_ask::Ask;
 use fr_base::{Ballot, Memory, NodeId};
 use fr_log::LogAsk;
-use fr_runtime_station::{Faults, Verdict};
+use fr_runtime_station::{Blow, Chosen, Faults, Verdict};
 use std::alloc::Global;
 
 /// No ask is lost and nothing crashes or begins; but each peek at a log of the first epoch waits until that log has
@@ -75,8 +75,12 @@ impl Faults for Fed {
         }
     }
 
-    fn crash(&self, _turn: u32) -> Option<NodeId> {
+    fn strikes(&self, _turn: u32, _chosen: &[Chosen]) -> Option<Blow> {
         None
+    }
+
+    fn ends(&self, _node: NodeId, _turn: u32) -> bool {
+        false
     }
 
     fn begins(&self, _ballot: Ballot, _turn: u32) -> bool {

@@ -107,8 +107,12 @@ pub fn ran_on<K: Rack + Sync + Drop, F: Faults + Sync, R: Threads + Wait + Sync>
     faults: &F,
 ) -> Result<(Report, Vec<Orders>), Fail> {
     let (config, works) = made(alloc, numbers)?;
-    let turns = numbers.turns;
-    Ok(Cluster::run(rt, alloc, config, ballots, turns, rack, works, faults)?)
+    let cluster = Cluster {
+        config,
+        ballots,
+        turns: numbers.turns,
+    };
+    Ok(cluster.run(rt, alloc, rack, works, faults)?)
 }
 
 /// Runs a cluster over the nodes of a rack, with a recoverer for each of these ballots; whether this is so of it.
@@ -137,8 +141,12 @@ pub fn fault_of<K: Rack + Sync + Drop, F: Faults + Sync, R: Threads + Wait + Syn
 ) -> Result<Option<RunFault>, Fail> {
     let config = config(alloc, numbers)?;
     let works = works(alloc, numbers, many)?;
-    let turns = numbers.turns;
-    let ran = Cluster::run(rt, alloc, config, ballots, turns, rack, works, faults);
+    let cluster = Cluster {
+        config,
+        ballots,
+        turns: numbers.turns,
+    };
+    let ran = cluster.run(rt, alloc, rack, works, faults);
     match &ran {
         Ok(_) => Ok(None),
         Err(fault) => Ok(Some(*fault)),

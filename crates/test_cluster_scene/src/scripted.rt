@@ -5,7 +5,7 @@ use crate::flag::Flag;
 use fr_ask::Ask;
 use fr_base::{Ballot, NodeId};
 use fr_log::{LogAsk, Push};
-use fr_runtime_station::{Faults, Verdict};
+use fr_runtime_station::{Blow, Chosen, Faults, Verdict};
 
 /// Whether a node is this log of the first epoch.
 pub fn is_log(node: &NodeId, number: u8) -> bool {
@@ -49,11 +49,21 @@ impl Faults for Pushes {
 
     fn answered(&self, _to: NodeId, _ask: &Ask) {}
 
-    fn crash(&self, turn: u32) -> Option<NodeId> {
+    fn strikes(&self, turn: u32, _chosen: &[Chosen]) -> Option<Blow> {
         match &self.crash {
-            Some((at, node)) => { if *at == turn { Some(*node) } else { None } }
+            Some((at, node)) => {
+                if *at == turn {
+                    Some(Blow::Crash { node: *node })
+                } else {
+                    None
+                }
+            }
             None => None,
         }
+    }
+
+    fn ends(&self, _node: NodeId, _turn: u32) -> bool {
+        false
     }
 
     fn begins(&self, _ballot: Ballot, _turn: u32) -> bool {
@@ -142,8 +152,12 @@ impl Faults for Overtaken {
         }
     }
 
-    fn crash(&self, _turn: u32) -> Option<NodeId> {
+    fn strikes(&self, _turn: u32, _chosen: &[Chosen]) -> Option<Blow> {
         None
+    }
+
+    fn ends(&self, _node: NodeId, _turn: u32) -> bool {
+        false
     }
 
     fn begins(&self, _ballot: Ballot, turn: u32) -> bool {

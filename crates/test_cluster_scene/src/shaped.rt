@@ -8,7 +8,7 @@ use fr_log::{LogAsk, Push};
 use fr_mutation::Batch;
 use fr_proxy::Outcome;
 use fr_runtime::{Orders, Rack, Workload};
-use fr_runtime_station::{Faults, Verdict};
+use fr_runtime_station::{Blow, Chosen, Faults, Verdict};
 use fr_undo::StoreFault;
 use std::alloc::Global;
 use std::sync::atomic::{AtomicU64, Ordering};
@@ -160,8 +160,12 @@ impl Faults for Stages {
         }
     }
 
-    fn crash(&self, _turn: u32) -> Option<NodeId> {
+    fn strikes(&self, _turn: u32, _chosen: &[Chosen]) -> Option<Blow> {
         None
+    }
+
+    fn ends(&self, _node: NodeId, _turn: u32) -> bool {
+        false
     }
 
     fn begins(&self, ballot: Ballot, turn: u32) -> bool {

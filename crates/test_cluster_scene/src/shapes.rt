@@ -14,7 +14,7 @@ use std::thread::Threads;
 /// and how many logs are made. Of each storage server it has the epoch and the version at which it ends, and the number
 /// of the last batch that it has.
 #[derive(Clone, Copy)]
-pub struct Row {
+pub struct ShapedRun {
     pub start: Numbers,
     pub planned: &'static [Planned],
     pub told: &'static [u64],
@@ -24,7 +24,7 @@ pub struct Row {
 
 /// From 4 logs, two of which hold each tag, to 5, three of which do, and to a single one. The first mark is at version 1.
 /// Batches 4 and 9 come to proxies whose logs are locked; the marks of the next generations are at 6 and 11.
-pub const TO_MORE_AND_ONE: Row = Row {
+pub const TO_MORE_AND_ONE: ShapedRun = ShapedRun {
     start: Numbers {
         coordinators: 3,
         logs: 4,
@@ -55,7 +55,7 @@ pub const TO_MORE_AND_ONE: Row = Row {
 
 /// From 16 logs, three of which hold each of two tags, to a single one. Batch 3 comes to a proxy whose logs are locked;
 /// the next mark is at version 5.
-pub const FROM_SIXTEEN_TO_ONE: Row = Row {
+pub const FROM_SIXTEEN_TO_ONE: ShapedRun = ShapedRun {
     start: Numbers {
         coordinators: 1,
         logs: 16,
@@ -104,7 +104,7 @@ fn run<K: Rack + Sync + Drop, R: Threads + Wait + Sync>(
     rt: &R,
     alloc: Global,
     rack: K,
-    row: &Row,
+    row: &ShapedRun,
     stages: &Stages,
 ) -> Result<Report, Fail> {
     let config = config(alloc, row.start)?;
@@ -115,16 +115,13 @@ fn run<K: Rack + Sync + Drop, R: Threads + Wait + Sync>(
     let mut works = Vec::new(alloc);
     let orders = Orders::new(alloc, 0, row.start.storages, row.start.batches);
     works.push(Staged::new(orders, stages))?;
-    let (report, _works) = Cluster::run(
-        rt,
-        alloc,
+    let cluster = Cluster {
         config,
-        ballots.as_slice(),
-        row.start.turns,
-        CountedRack::new(rack, stages),
-        works,
-        stages,
-    )?;
+        ballots: ballots.as_slice(),
+        turns: row.start.turns,
+    };
+    let rack = CountedRack::new(rack, stages);
+    let (report, _works) = cluster.run(rt, alloc, rack, works, stages)?;
     Ok(report)
 }
 
@@ -174,7 +171,7 @@ pub fn goes<K: Rack + Sync + Drop, R: Threads + Wait + Sync>(
     rt: &R,
     alloc: Global,
     rack: K,
-    row: &Row,
+    row: &ShapedRun,
 ) -> Result<bool, Fail> {
     let (m, k) = (row.start.logs, row.start.degree);
     let stages = Stages::new(alloc, m, k, row.planned, row.start.batches)?;

@@ -4,7 +4,7 @@ use rand_pcg::Pcg32;
 use std::alloc::Global;
 use std::process::Abort;
 use std::test::Fail;
-use test_store_plain::{SlowStore, agree, agrees, version};
+use test_stores::{SlowStore, agree, agrees, version};
 
 /// Whether a version can be undone to, and gives the same in both.
 fn agree_at(

@@ -2,14 +2,14 @@
 use crate::subjects::Nodes;
 use fr_base::{Bytes, Memory};
 use fr_cli_json::tree::read_bytes;
-use fr_forms::fields::Fields;
-use fr_forms::lists::write_all;
-use fr_forms::object::{Object, hex_value};
-use fr_forms::{read_batch, write_batch};
+use fr_forms::write_all;
 use fr_mutation::{Batch, MAX_KEY, Shard, apply, clip};
 use serde_json::Value;
 use std::alloc::Global;
 use std::collections::BTreeMap;
+use test_rows::fields::Fields;
+use test_rows::json::{read_batch, value_of};
+use test_rows::object::{Members, hex_value};
 use test_rows::{NO_FORM, Plays, Scene, Wrong, no_such_word, of_nothing, said};
 
 /// Keys and their values.
@@ -108,7 +108,7 @@ fn cut(alloc: Global, shard: &Shard, given: Value) -> Result<Value, Wrong> {
 }
 
 fn write_part(alloc: Global, part: Result<Batch, Memory>) -> Result<Value, Wrong> {
-    Ok(write_batch(alloc, &part?)?)
+    Ok(value_of(alloc, &part?)?)
 }
 
 fn write_shard(alloc: Global, shard: &Shard) -> Result<Value, Wrong> {
@@ -116,7 +116,7 @@ fn write_shard(alloc: Global, shard: &Shard) -> Result<Value, Wrong> {
         Some(end) => hex_value(alloc, end.as_slice())?,
         None => Value::Null,
     };
-    let object = Object::new(alloc)
+    let object = Members::new(alloc)
         .bytes("begin", shard.begin.as_slice())?
         .with("end", end)?;
     Ok(object.value())

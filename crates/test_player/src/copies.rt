@@ -2,15 +2,13 @@
 use crate::subjects::Nodes;
 use fr_ask::{Ask, Last, Tell};
 use fr_base::Memory;
-use fr_forms::fields::{Fields, items};
-use fr_forms::lists::WriteItem;
-use fr_forms::{
-    ScriptFault, read_ask, read_last, read_tell, write_ask, write_bodies, write_last, write_tell,
-};
+use fr_forms::Formed;
 use fr_log::{LogAsk, LogTell, Peeked, PeekedRecord, Push, Seed, SeedRecord};
 use serde_json::Value;
 use std::alloc::Global;
-use test_rows::{NO_FORM, Plays, Scene, Wrong, no_such_word};
+use test_rows::fields::{Fields, items};
+use test_rows::json::{read_ask, read_last, read_tell, value_of, write_all};
+use test_rows::{NO_FORM, Plays, Scene, ScriptFault, Wrong, no_such_word};
 
 /// What is copied and has a form.
 pub(crate) trait Copied: Sized + Drop {
@@ -129,7 +127,7 @@ impl Copied for Ask {
     }
 
     fn form(&self, alloc: Global) -> Result<Value, Memory> {
-        write_ask(alloc, self)
+        value_of(alloc, self)
     }
 }
 
@@ -153,7 +151,7 @@ impl Kind for Ask {
 
 fn write_pushed(alloc: Global, push: Result<Push, Memory>) -> Result<Value, Wrong> {
     let bodies = push?.into_bodies();
-    Ok(write_bodies(alloc, bodies.as_slice())?)
+    Ok(write_all(alloc, bodies.as_slice())?)
 }
 
 fn write_seeded(alloc: Global, seed: Result<Seed, Memory>) -> Result<Value, Wrong> {
@@ -167,7 +165,7 @@ impl Copied for SeedRecord {
     }
 
     fn form(&self, alloc: Global) -> Result<Value, Memory> {
-        self.write(alloc)
+        self.to_value(alloc)
     }
 }
 
@@ -177,7 +175,7 @@ impl Copied for Tell {
     }
 
     fn form(&self, alloc: Global) -> Result<Value, Memory> {
-        write_tell(alloc, self)
+        value_of(alloc, self)
     }
 }
 
@@ -209,7 +207,7 @@ impl Copied for PeekedRecord {
     }
 
     fn form(&self, alloc: Global) -> Result<Value, Memory> {
-        self.write(alloc)
+        self.to_value(alloc)
     }
 }
 
@@ -219,13 +217,13 @@ impl Copied for Last {
     }
 
     fn form(&self, alloc: Global) -> Result<Value, Memory> {
-        write_last(alloc, self)
+        value_of(alloc, self)
     }
 }
 
 impl Kind for Last {
     fn read(alloc: Global, given: Value) -> Result<Self, ScriptFault> {
-        read_last(alloc, given)?.ok_or(ScriptFault::BadScript)
+        read_last(alloc, given)
     }
 
     fn is_one_with(&self, other: &Self) -> bool {

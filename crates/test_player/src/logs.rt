@@ -3,18 +3,19 @@ ghost use Rattle.std.specs.Prelude.{◌≡◌, OnOk};
 
 use crate::subjects::Nodes;
 use fr_base::{LogId, Machine, Memory};
-use fr_forms::fields::Fields;
-use fr_forms::lists::WriteItem;
-use fr_forms::object::Object;
-use fr_forms::{ScriptFault, read_cell_ask, read_log_ask, read_seq_ask};
+use fr_forms::Formed;
 use fr_log::laws::place_law;
 use fr_log::{Log, LogAsk, LogTell};
 use fr_proxy::Sequencer;
 use fr_register::Cell;
 use serde_json::Value;
 use std::alloc::Global;
+use test_rows::fields::Fields;
+use test_rows::json::{read_cell_ask, read_log_ask, read_seq_ask};
+use test_rows::object::Members;
 use test_rows::{
-    NO_FORM, Plays, Scene, Wrong, no_such_word, of_nothing, read_sizes, told, write_state_of,
+    NO_FORM, Plays, Scene, ScriptFault, Wrong, no_such_word, of_nothing, read_sizes, told,
+    write_state_of,
 };
 
 /// Plays rows with a cell that was never asked.
@@ -47,7 +48,7 @@ fn ask<M: Machine>(
 ) -> Result<Value, Wrong>
 where
     M::Ask: Drop,
-    M::Tell: WriteItem + Drop,
+    M::Tell: Formed + Drop,
 {
     let tell = machine.step(alloc, given?)?;
     told(alloc, &tell)
@@ -101,7 +102,7 @@ fn write_place(alloc: Global, log: &Log) -> Result<Value, Memory> {
         ("m", u64::from(log.m())),
         ("k", u64::from(log.k())),
     ];
-    Ok(Object::of(alloc, &numbers)?.value())
+    Ok(Members::of(alloc, &numbers)?.value())
 }
 
 /// What a log tells, which then goes back to where it stood, as one does whose records could not be kept.
@@ -143,7 +144,7 @@ impl Plays<Sequencer> for Nodes {
         given: &mut Fields,
     ) -> Result<Value, Wrong> {
         match word {
-            "ask" => ask(alloc, sequencer, read_seq_ask(given.take_all())),
+            "ask" => ask(alloc, sequencer, read_seq_ask(alloc, given.take_all())),
             "state" => write_state_of(alloc, sequencer.copy()),
             _ => no_such_word("rows of a sequencer: ask, state"),
         }

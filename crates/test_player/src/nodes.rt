@@ -1,13 +1,13 @@
 //! What several subjects are made of, hear and ask.
 use fr_ask::{Ask, Tell};
 use fr_base::{Bytes, Memory, NodeId};
-use fr_forms::fields::{Fields, index_of, items};
-use fr_forms::lists::write_all;
-use fr_forms::{read_node, read_shards, read_tell};
+use fr_forms::write_all;
 use fr_tags::{ShardFault, ShardMap};
 use serde_json::Value;
 use std::alloc::Global;
 use test_rows::Wrong;
+use test_rows::fields::{Fields, index_of, items};
+use test_rows::json::{read_node, read_shards, read_tell};
 
 /// Numbers of logs.
 pub(crate) fn read_logs(alloc: Global, given: Value) -> Result<Vec<u8>, Wrong> {
@@ -34,7 +34,7 @@ pub(crate) fn map_of(begins: Vec<Bytes>) -> Result<ShardMap, Wrong> {
 
 /// What a node tells, and which one.
 pub(crate) fn read_told(alloc: Global, fields: &mut Fields) -> Result<(NodeId, Tell), Wrong> {
-    let from = read_node(fields.take("from")?)?;
+    let from = read_node(alloc, fields.take("from")?)?;
     let tell = read_tell(alloc, fields.take("tell")?)?;
     Ok((from, tell))
 }

@@ -2,12 +2,12 @@
 use crate::subjects::Nodes;
 use fr_ask::Tell;
 use fr_base::Memory;
-use fr_forms::fields::{Fields, index_of};
-use fr_forms::object::{Object, numbered, write_text};
-use fr_forms::read_tell;
 use fr_register::{CellTell, Progress, ReadTally, WriteTally};
 use serde_json::Value;
 use std::alloc::Global;
+use test_rows::fields::{Fields, index_of};
+use test_rows::json::read_tell;
+use test_rows::object::{Members, numbered, write_text};
 use test_rows::{NO_FORM, Plays, Scene, Wrong, no_such_word, said};
 
 /// Plays rows with a tally of reads that no cell answered.
@@ -78,7 +78,7 @@ impl Plays<WriteTally> for Nodes {
 
 fn write_made(alloc: Global, cells: u8, ballot: u64) -> Result<Value, Wrong> {
     let numbers = [("cells", u64::from(cells)), ("ballot", ballot)];
-    Ok(Object::of(alloc, &numbers)?.value())
+    Ok(Members::of(alloc, &numbers)?.value())
 }
 
 /// How far the tally has come after an answer. If there is no memory to say it, it is said once more, since the answer
@@ -116,7 +116,7 @@ fn write_progress(alloc: Global, progress: Progress) -> Result<Value, Wrong> {
 /// The same, and the greatest ballot that a cell wrote, with its value.
 fn write_read(alloc: Global, progress: Progress, tally: &ReadTally) -> Result<Value, Wrong> {
     let (written, value) = tally.greatest();
-    let object = Object::of(alloc, &[("written", written.get())])?
+    let object = Members::of(alloc, &[("written", written.get())])?
         .bytes("value", value.as_slice())?
         .with("progress", write_progress(alloc, progress)?)?;
     Ok(object.value())

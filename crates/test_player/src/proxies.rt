@@ -3,13 +3,12 @@ use crate::nodes::{read_map, read_told, write_asks};
 use crate::subjects::Nodes;
 use fr_ask::{Ask, Last};
 use fr_base::{Memory, NodeId};
-use fr_forms::fields::Fields;
-use fr_forms::lists::write_all;
-use fr_forms::object::Object;
-use fr_forms::{read_batch, read_step, write_outcome, write_shards};
 use fr_proxy::{Outcome, Proxy, SubmitFault};
 use serde_json::Value;
 use std::alloc::Global;
+use test_rows::fields::Fields;
+use test_rows::json::{read_batch, read_step, value_of, write_all};
+use test_rows::object::Members;
 use test_rows::{
     Plays, Scene, Wrong, no_such_word, read_sizes, said, told, write_last_state, write_name,
 };
@@ -56,9 +55,9 @@ fn hear(alloc: Global, proxy: &mut Proxy, fields: &mut Fields) -> Result<Value, 
 }
 
 fn write_heard(alloc: Global, outcome: Outcome, asks: &[(NodeId, Ask)]) -> Result<Value, Wrong> {
-    let heard = Object::new(alloc)
+    let heard = Members::new(alloc)
         .and("asks", write_all(alloc, asks))?
-        .and("outcome", write_outcome(alloc, &Some(outcome)))?;
+        .and("outcome", value_of(alloc, &Some(outcome)))?;
     Ok(heard.value())
 }
 
@@ -77,9 +76,9 @@ fn write_made(alloc: Global, proxy: &Proxy) -> Result<Value, Wrong> {
         ("k", u64::from(proxy.k())),
         ("known", proxy.known().get()),
     ];
-    let made = Object::of(alloc, &numbers)?;
+    let made = Members::of(alloc, &numbers)?;
     Ok(
-        made.and("shards", write_shards(alloc, proxy.map().begins()))?
+        made.and("shards", write_all(alloc, proxy.map().begins()))?
             .value(),
     )
 }

@@ -4,12 +4,12 @@ use crate::subjects::Nodes;
 use fr_ask::{Ask, Last};
 use fr_base::{Bytes, Memory, NodeId, Shape};
 use fr_epoch::{Phase, Recoverer};
-use fr_forms::fields::Fields;
-use fr_forms::object::Object;
-use fr_forms::{write_shards, write_state};
 use fr_state::CoordState;
 use serde_json::Value;
 use std::alloc::{AllocError, Global};
+use test_rows::fields::Fields;
+use test_rows::json::{value_of, write_all};
+use test_rows::object::Members;
 use test_rows::{NO_FORM, Plays, Scene, Wrong, no_such_word, told_all, write_last_state};
 
 /// Plays rows with a recoverer that heard nothing.
@@ -94,7 +94,7 @@ fn generation(alloc: Global, recoverer: &Recoverer) -> Result<Value, Wrong> {
 }
 
 fn write_one(alloc: Global, state: Result<CoordState, Memory>) -> Result<Value, Wrong> {
-    Ok(write_state(alloc, &state?)?)
+    Ok(value_of(alloc, &state?)?)
 }
 
 /// What a recoverer was made with, but for the shape.
@@ -103,9 +103,9 @@ fn write_made(alloc: Global, recoverer: &Recoverer) -> Result<Value, Wrong> {
         ("ballot", recoverer.ballot().get()),
         ("coordinators", u64::from(recoverer.coordinators())),
     ];
-    let made = Object::of(alloc, &numbers)?;
+    let made = Members::of(alloc, &numbers)?;
     Ok(
-        made.and("shards", write_shards(alloc, recoverer.map().begins()))?
+        made.and("shards", write_all(alloc, recoverer.map().begins()))?
             .value(),
     )
 }

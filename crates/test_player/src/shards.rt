@@ -3,13 +3,13 @@ use crate::nodes::{map_of, read_logs};
 use crate::subjects::Nodes;
 use fr_base::{Bytes, Memory, Tag};
 use fr_cli_json::tree::read_bytes;
-use fr_forms::fields::{Fields, tag_of};
-use fr_forms::object::{Object, hex_value};
-use fr_forms::{read_batch, read_shards, write_bodies, write_shards};
 use fr_mutation::Shard;
 use fr_tags::{Body, ShardFault, ShardMap, covers, holders, is_held};
 use serde_json::Value;
 use std::alloc::Global;
+use test_rows::fields::{Fields, tag_of};
+use test_rows::json::{read_batch, read_shards, write_all};
+use test_rows::object::{Members, hex_value};
 use test_rows::{Plays, Scene, Wrong, no_such_word, read_sizes, write_name};
 
 /// Plays rows with a map of shards that begin at these keys.
@@ -55,7 +55,7 @@ fn write_logs(alloc: Global, logs: Result<Vec<Vec<Body>>, Memory>) -> Result<Val
     let logs = logs?;
     let mut made = Vec::new(alloc);
     for bodies in &logs {
-        made.push(write_bodies(alloc, bodies.as_slice())?)?;
+        made.push(write_all(alloc, bodies.as_slice())?)?;
     }
     Ok(Value::Array(made))
 }
@@ -85,7 +85,7 @@ fn tag_at(alloc: Global, map: &ShardMap, given: &Value) -> Result<Value, Wrong> 
 }
 
 fn write_map(alloc: Global, map: Result<ShardMap, Memory>) -> Result<Value, Wrong> {
-    Ok(write_shards(alloc, map?.begins())?)
+    Ok(write_all(alloc, map?.begins())?)
 }
 
 /// Where a shard begins and ends, with null for no end; null if there is no such shard.
@@ -97,7 +97,7 @@ fn write_shard(alloc: Global, shard: Result<Option<Shard>, Memory>) -> Result<Va
 }
 
 fn write_range(alloc: Global, shard: &Shard) -> Result<Value, Memory> {
-    let object = Object::new(alloc)
+    let object = Members::new(alloc)
         .bytes("begin", shard.begin.as_slice())?
         .and("end", write_end(alloc, &shard.end))?;
     Ok(object.value())

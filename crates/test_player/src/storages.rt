@@ -4,16 +4,16 @@ use crate::stores::read_failing;
 use crate::subjects::Nodes;
 use fr_ask::{Ask, Tell};
 use fr_base::{Bytes, Epoch, Memory, Version};
-use fr_forms::fields::{Fields, items};
-use fr_forms::lists::write_all;
-use fr_forms::object::{Object, hex_value, write_text};
-use fr_forms::{ScriptFault, read_state, read_tell, write_ask, write_state};
+use fr_forms::write_all;
 use fr_log::LogTell;
-use fr_storage::{Answer, ReadFault, Storage, StorageFault};
+use fr_storage::{LogAnswer, ReadFault, Storage, StorageFault};
 use fr_undo::{MapStore, ShardStore, StoreFault};
 use serde_json::Value;
 use std::alloc::Global;
-use test_rows::{NO_FORM, Plays, Scene, Wrong, no_such_word, said, write_name};
+use test_rows::fields::{Fields, items};
+use test_rows::json::{read_state, read_tell, value_of};
+use test_rows::object::{Members, hex_value, write_text};
+use test_rows::{NO_FORM, Plays, Scene, ScriptFault, Wrong, no_such_word, said, write_name};
 
 /// Plays rows with a storage server that applied nothing yet.
 pub(crate) fn play_storage(alloc: Global, scene: Scene, at: &mut usize) -> Result<(), Wrong> {
@@ -142,20 +142,20 @@ fn follow_all<S: ShardStore + Drop>(
 }
 
 /// What a log of an epoch tells a storage server.
-fn read_answer(alloc: Global, fields: &mut Fields) -> Result<Answer, Wrong> {
+fn read_answer(alloc: Global, fields: &mut Fields) -> Result<LogAnswer, Wrong> {
     let epoch = fields.epoch("epoch")?;
     answer_of(epoch, read_tell(alloc, fields.take("tell")?))
 }
 
-fn answer_of(epoch: Epoch, tell: Result<Tell, ScriptFault>) -> Result<Answer, Wrong> {
+fn answer_of(epoch: Epoch, tell: Result<Tell, ScriptFault>) -> Result<LogAnswer, Wrong> {
     match tell? {
-        Tell::Log(LogTell::Marked { state }) => Ok(Answer::Marked(state)),
-        Tell::Log(LogTell::Peeked(peeked)) => Ok(Answer::Peeked(epoch, peeked)),
+        Tell::Log(LogTell::Marked { state }) => Ok(LogAnswer::Marked(state)),
+        Tell::Log(LogTell::Peeked(peeked)) => Ok(LogAnswer::Peeked(epoch, peeked)),
         _ => Err(NO_FORM),
     }
 }
 
-fn read_answers(alloc: Global, given: Value) -> Result<Vec<Answer>, Wrong> {
+fn read_answers(alloc: Global, given: Value) -> Result<Vec<LogAnswer>, Wrong> {
     let mut answers = Vec::new(alloc);
     for item in items(given)? {
         answers.push(read_answer(alloc, &mut Fields::new(item, 2))?)?;
@@ -184,12 +184,14 @@ fn write_broken_off(alloc: Global, is_there: Result<bool, StorageFault>) -> Resu
 fn break_off_at<S: ShardStore + Drop>(
     alloc: Global,
     storage: &mut Storage<S>,
-    answer: &Answer,
+    answer: &LogAnswer,
     version: Version,
 ) -> Result<bool, StorageFault> {
     match answer {
-        Answer::Marked(state) => storage.break_off_marked(alloc, state, version),
-        Answer::Peeked(epoch, peeked) => storage.break_off_peeked(alloc, *epoch, peeked, version),
+        LogAnswer::Marked(state) => storage.break_off_marked(alloc, state, version),
+        LogAnswer::Peeked(epoch, peeked) => storage.break_off_peeked(
+            alloc, *epoch, peeked, version,
+        ),
     }
 }
 
@@ -230,7 +232,7 @@ fn write_store_fault(alloc: Global, name: &str, fault: StoreFault) -> Result<Val
     if fault == StoreFault::Memory {
         return Err(Wrong::Memory);
     }
-    let object = Object::new(alloc);
+    let object = Members::new(alloc);
     Ok(object.and(name, write_text(alloc, fault.name()))?.value())
 }
 
@@ -260,11 +262,11 @@ pub fn write_read(alloc: Global, read: Result<Option<Bytes>, ReadFault>) -> Resu
 
 /// What the server asks next.
 fn write_next<S: ShardStore + Drop>(alloc: Global, storage: &Storage<S>) -> Result<Value, Wrong> {
-    Ok(write_ask(alloc, &Ask::Log(storage.next_ask().1))?)
+    Ok(value_of(alloc, &Ask::Log(storage.next_ask().1))?)
 }
 
 fn generations<S: ShardStore + Drop>(alloc: Global, storage: &Storage<S>) -> Result<Value, Wrong> {
-    Ok(write_state(alloc, storage.state())?)
+    Ok(value_of(alloc, storage.state())?)
 }
 
 /// The state of the server.
@@ -272,14 +274,14 @@ fn position<S: ShardStore + Drop>(alloc: Global, storage: &Storage<S>) -> Result
     Ok(place_of(alloc, storage)?.value())
 }
 
-fn place_of<S: ShardStore + Drop>(alloc: Global, storage: &Storage<S>) -> Result<Object, Memory> {
+fn place_of<S: ShardStore + Drop>(alloc: Global, storage: &Storage<S>) -> Result<Members, Memory> {
     let (epoch, version) = storage.position();
     let numbers = [
         ("epoch", epoch.get()),
         ("version", version.get()),
         ("floor", storage.floor().get()),
     ];
-    Object::of(alloc, &numbers)
+    Members::of(alloc, &numbers)
 }
 
 /// The copy of a server: its place and its state.
@@ -292,7 +294,7 @@ fn standing_of(alloc: Global, storage: &Storage<MapStore>) -> Result<Value, Memo
     let place = place_of(alloc, storage)?;
     Ok(
         place
-            .and("state", write_state(alloc, storage.state()))?
+            .and("state", value_of(alloc, storage.state()))?
             .value(),
     )
 }

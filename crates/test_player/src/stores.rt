@@ -3,17 +3,17 @@ use crate::storages::{write_fault, write_standing};
 use crate::subjects::Nodes;
 use fr_base::{Bytes, Memory};
 use fr_cli_json::tree::read_bytes;
-use fr_forms::fields::{Fields, tag_of, version_of};
-use fr_forms::lists::write_all;
-use fr_forms::object::{Object, hex_value};
-use fr_forms::read_batch;
+use fr_forms::write_all;
 use fr_mutation::Shard;
 use fr_storage::Storage;
 use fr_undo::{MapStore, ShardStore, StoreFault};
 use serde_json::Value;
 use std::alloc::Global;
+use test_rows::fields::{Fields, tag_of, version_of};
+use test_rows::json::read_batch;
+use test_rows::object::{Members, hex_value};
 use test_rows::{Plays, Scene, Wrong, no_such_word, of_nothing, write_name};
-use test_store_failing::FailsOnce;
+use test_stores::FailsOnce;
 
 /// Plays rows with a store in which nothing was applied.
 pub(crate) fn play_store(alloc: Global, scene: Scene, at: &mut usize) -> Result<(), Wrong> {
@@ -221,7 +221,7 @@ fn copied_place(alloc: Global, store: Result<MapStore, Memory>) -> Result<Value,
 fn copied_contents(alloc: Global, store: Result<MapStore, Memory>) -> Result<Value, Wrong> {
     let mut copy = store?;
     let reopened = write_done(alloc, copy.reopen(alloc))?;
-    let object = Object::new(alloc)
+    let object = Members::new(alloc)
         .with("reopened", reopened)?
         .with("rows", rows_of(alloc, copy.dump(alloc))?)?
         .with("kept", write_kept(alloc, copy.state_bytes(alloc))?)?;
@@ -235,6 +235,6 @@ fn write_place<S: ShardStore>(alloc: Global, store: &S) -> Result<Value, Wrong> 
         ("floor", store.floor().get()),
     ];
     let undo_rows = Value::from(store.undo_rows());
-    let object = Object::of(alloc, &place)?;
+    let object = Members::of(alloc, &place)?;
     Ok(object.with("undo_rows", undo_rows)?.value())
 }

@@ -5,15 +5,15 @@ use crate::nodes::read_logs;
 use crate::subjects::Nodes;
 use fr_ask::{Ask, Tell};
 use fr_base::{LogId, Memory, Version};
-use fr_forms::fields::{Fields, tag_of};
-use fr_forms::object::Object;
-use fr_forms::{ScriptFault, read_tell, write_ask};
 use fr_log::{LogAsk, LogTell, Peeked, Seed};
 use fr_tags::MAX_SHARDS;
 use fr_tail::{Tail, TailFault};
 use serde_json::Value;
 use std::alloc::Global;
-use test_rows::{NO_FORM, Plays, Scene, Wrong, no_such_word, read_sizes, write_name};
+use test_rows::fields::{Fields, tag_of};
+use test_rows::json::{read_tell, value_of};
+use test_rows::object::Members;
+use test_rows::{NO_FORM, Plays, Scene, ScriptFault, Wrong, no_such_word, read_sizes, write_name};
 
 /// Plays rows with a copy that heard nothing.
 pub(crate) fn play_tail(alloc: Global, scene: Scene, at: &mut usize) -> Result<(), Wrong> {
@@ -111,10 +111,10 @@ fn seed(alloc: Global, tail: &Tail, fields: &Fields) -> Result<Value, Wrong> {
 }
 
 fn write_seed(alloc: Global, seed: Result<Seed, Memory>) -> Result<Value, Wrong> {
-    Ok(write_ask(alloc, &Ask::Log(LogAsk::Seed(seed?)))?)
+    Ok(value_of(alloc, &Ask::Log(LogAsk::Seed(seed?)))?)
 }
 
 fn write_complete(alloc: Global, tail: Result<Tail, Memory>) -> Result<Value, Wrong> {
     let complete = Value::from(tail?.complete());
-    Ok(Object::new(alloc).with("complete", complete)?.value())
+    Ok(Members::new(alloc).with("complete", complete)?.value())
 }

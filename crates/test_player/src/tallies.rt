@@ -1,10 +1,10 @@
 //! The end of an epoch, as the replies of its logs tell it.
 use crate::subjects::Nodes;
 use fr_epoch::{EndTally, EpochEnd, Inconsistent, ReplyFault};
-use fr_forms::fields::Fields;
-use fr_forms::object::Object;
 use serde_json::Value;
 use std::alloc::Global;
+use test_rows::fields::Fields;
+use test_rows::object::Members;
 use test_rows::{Plays, Scene, Wrong, no_such_word, read_sizes, said, write_name};
 
 /// Plays rows with a tally that no log replied to.
@@ -61,7 +61,7 @@ fn write_end(alloc: Global, end: Result<Option<EpochEnd>, Inconsistent>) -> Resu
         Ok(None) => Ok(Value::Null),
         Ok(Some(EpochEnd { pev, rv })) => {
             let numbers = [("pev", pev.get()), ("rv", rv.get())];
-            Ok(Object::of(alloc, &numbers)?.value())
+            Ok(Members::of(alloc, &numbers)?.value())
         }
         Err(Inconsistent) => write_name(alloc, "Inconsistent"),
     }

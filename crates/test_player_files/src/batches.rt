@@ -4,12 +4,12 @@ use crate::states::write_bytes;
 use crate::subjects::Files;
 use fr_base::Memory;
 use fr_cli_json::tree::read_bytes;
-use fr_forms::fields::Fields;
-use fr_forms::object::Object;
-use fr_forms::{read_batch, write_batch};
 use fr_mutation::{Batch, DecodeFault, decode, encode};
 use serde_json::Value;
 use std::alloc::Global;
+use test_rows::fields::Fields;
+use test_rows::json::{read_batch, value_of};
+use test_rows::object::Members;
 use test_rows::{Plays, Scene, Wrong, no_such_word, write_name};
 
 /// Plays rows with a batch.
@@ -37,7 +37,7 @@ impl Plays<Batch> for Files {
 }
 
 fn write_copy(alloc: Global, batch: Result<Batch, Memory>) -> Result<Value, Wrong> {
-    Ok(write_batch(alloc, &batch?)?)
+    Ok(value_of(alloc, &batch?)?)
 }
 
 /// The batch with which bytes begin, and how many it takes; or why there is none.
@@ -51,9 +51,9 @@ fn read(alloc: Global, given: &Value) -> Result<Value, Wrong> {
 }
 
 fn write_read(alloc: Global, batch: &Batch, used: usize) -> Result<Value, Memory> {
-    let read = Object::new(alloc)
+    let read = Members::new(alloc)
         .with("used", Value::from(used))?
-        .and("batch", write_batch(alloc, batch))?;
+        .and("batch", value_of(alloc, batch))?;
     Ok(read.value())
 }
 

@@ -3,12 +3,12 @@ use crate::place::{Disk, Kept, Place, read_room, write_node_fault};
 use crate::subjects::Files;
 use fr_ask::Named;
 use fr_base::{Node, NodeFault, Reopened};
-use fr_forms::fields::{Fields, items};
-use fr_forms::read_cell_ask;
 use fr_record_node::FileNode;
 use fr_register::{Cell, CellAsk};
 use serde_json::Value;
 use std::alloc::Global;
+use test_rows::fields::{Fields, items};
+use test_rows::json::read_cell_ask;
 use test_rows::{Scene, Wrong, no_such_word, said, told, told_all, write_last_state, write_name};
 
 /// Plays rows with a cell over a file that is not there yet.

@@ -4,11 +4,6 @@ use crate::subjects::Files;
 use fr_audit_journal::{Act, Entry, Journal};
 use fr_base::{InMemory, Machine, Memory, Node, Stamp};
 use fr_device::{FaultyDevice, MemoryDevice};
-use fr_forms::fields::{Fields, items};
-use fr_forms::object::Object;
-use fr_forms::{
-    read_cell_ask, read_log_ask, read_node, read_seq_ask, write_ask, write_node, write_tell,
-};
 use fr_log::Log;
 use fr_proxy::Sequencer;
 use fr_record_log::LogNode;
@@ -17,6 +12,9 @@ use fr_register::Cell;
 use fr_runtime_housing::{CallFault, Housable, Housed};
 use serde_json::Value;
 use std::alloc::Global;
+use test_rows::fields::{Fields, items};
+use test_rows::json::{read_cell_ask, read_log_ask, read_node, read_seq_ask, value_of};
+use test_rows::object::Members;
 use test_rows::{NO_FORM, Plays, Wrong, no_such_word, write_name};
 
 /// A machine whose asks are read.
@@ -38,8 +36,8 @@ impl Asked for Log {
 }
 
 impl Asked for Sequencer {
-    fn read_ask(_alloc: Global, given: Value) -> Result<Self::Ask, Wrong> {
-        Ok(read_seq_ask(given)?)
+    fn read_ask(alloc: Global, given: Value) -> Result<Self::Ask, Wrong> {
+        Ok(read_seq_ask(alloc, given)?)
     }
 }
 
@@ -148,7 +146,7 @@ where
         "ask" => {
             let fields = given.of(3);
             let stamp = stamp_of(fields.value("stamp")?)?;
-            let from = read_node(fields.take("from")?)?;
+            let from = read_node(alloc, fields.take("from")?)?;
             let ask = <N::Plain as Asked>::read_ask(alloc, fields.take("ask")?)?;
             write_told(alloc, housed.ask(alloc, stamp, from, ask))
         }
@@ -189,8 +187,8 @@ fn write_copy(alloc: Global, journal: Result<Journal, Memory>) -> Result<Value, 
     for entry in journal.entries() {
         entries.push(write_entry(alloc, entry)?)?;
     }
-    let object = Object::new(alloc)
-        .and("node", write_node(alloc, &journal.node()))?
+    let object = Members::new(alloc)
+        .and("node", value_of(alloc, &journal.node()))?
         .with("entries", Value::Array(entries))?;
     Ok(object.value())
 }
@@ -200,15 +198,15 @@ fn write_entry(alloc: Global, entry: &Entry) -> Result<Value, Wrong> {
     let stamp = entry.stamp.get();
     match &entry.act {
         Act::Asked { from, ask, tell } => {
-            let object = Object::new(alloc)
+            let object = Members::new(alloc)
                 .with("at", Value::from(stamp))?
-                .and("from", write_node(alloc, from))?
-                .and("ask", write_ask(alloc, ask))?
-                .and("tell", write_tell(alloc, tell))?;
+                .and("from", value_of(alloc, from))?
+                .and("ask", value_of(alloc, ask))?
+                .and("tell", value_of(alloc, tell))?;
             Ok(object.value())
         }
-        Act::Crashed => Ok(Object::of(alloc, &[("crashed", stamp)])?.value()),
-        Act::Lost => Ok(Object::of(alloc, &[("lost", stamp)])?.value()),
+        Act::Crashed => Ok(Members::of(alloc, &[("crashed", stamp)])?.value()),
+        Act::Lost => Ok(Members::of(alloc, &[("lost", stamp)])?.value()),
         _ => Err(NO_FORM),
     }
 }

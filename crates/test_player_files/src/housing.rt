@@ -5,7 +5,6 @@ use crate::housed::serve_before;
 use crate::subjects::Files;
 use fr_base::{InMemory, LogId, Node, NodeFault, NodeId};
 use fr_device::{FaultyDevice, MemoryDevice};
-use fr_forms::fields::Fields;
 use fr_log::Log;
 use fr_proxy::Sequencer;
 use fr_record_log::LogNode;
@@ -14,6 +13,7 @@ use fr_register::Cell;
 use fr_runtime_housing::Housed;
 use serde_json::Value;
 use std::alloc::Global;
+use test_rows::fields::Fields;
 use test_rows::{Scene, Wrong, read_sizes};
 
 /// How many bytes the device of a file has room for.

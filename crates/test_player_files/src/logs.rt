@@ -4,12 +4,12 @@ use crate::place::{Disk, Kept, Place, read_room, write_node_fault};
 use crate::subjects::Files;
 use fr_ask::Named;
 use fr_base::{LogId, Node, NodeFault};
-use fr_forms::fields::{Fields, items};
-use fr_forms::read_log_ask;
 use fr_log::{Log, LogAsk};
 use fr_record_log::LogNode;
 use serde_json::Value;
 use std::alloc::Global;
+use test_rows::fields::{Fields, items};
+use test_rows::json::read_log_ask;
 use test_rows::{
     NO_FORM, Scene, Wrong, no_such_word, read_sizes, told, told_all, write_last_state,
 };

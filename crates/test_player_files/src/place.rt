@@ -5,10 +5,10 @@ use crate::sweeping::sweep;
 use fr_base::NodeFault;
 use fr_cli_json::tree::read_bytes;
 use fr_device::{Device, DeviceFault, FaultyDevice, MemoryDevice};
-use fr_forms::fields::{Fields, index_of, variant};
-use fr_forms::object::hex_value;
 use serde_json::Value;
 use std::alloc::Global;
+use test_rows::fields::{Fields, index_of, variant};
+use test_rows::object::hex_value;
 use test_rows::{NO_FORM, Plays, Wrong, no_such_word, said, write_name};
 
 /// A device under a file: it can fail in a call, and its calls and syncs are counted.

@@ -5,11 +5,11 @@ use crate::place::{Disk, Kept, Place, read_room, write_node_fault};
 use crate::subjects::Files;
 use fr_base::{Bytes, NodeFault};
 use fr_cli_json::tree::read_bytes;
-use fr_forms::fields::{Fields, index_of, items};
-use fr_forms::object::hex_value;
 use fr_record::{RecordFault, Records};
 use serde_json::Value;
 use std::alloc::Global;
+use test_rows::fields::{Fields, index_of, items};
+use test_rows::object::hex_value;
 use test_rows::{NO_FORM, Scene, Wrong, no_such_word};
 
 /// Plays rows with a record file that is not there yet.

@@ -6,10 +6,10 @@ use fr_cli_apply::{ApplyOptions, StoreKind, run_apply};
 use fr_cli_end::{EndOptions, run_end};
 use fr_cli_json::CliFault;
 use fr_cli_json::tree::read_bytes;
-use fr_forms::fields::Fields;
-use fr_forms::object::write_text;
 use serde_json::Value;
 use std::alloc::{AllocError, Global};
+use test_rows::fields::Fields;
+use test_rows::object::write_text;
 use test_rows::{NO_FORM, Plays, Scene, Wrong, no_such_word, of_nothing, read_sizes};
 
 /// A command.

@@ -3,12 +3,12 @@ use crate::changing::{Spelled, change_each};
 use crate::subjects::Files;
 use fr_base::{Memory, Version};
 use fr_cli_json::tree::read_bytes;
-use fr_forms::fields::{Fields, epoch_of, version_of};
-use fr_forms::object::hex_value;
-use fr_forms::{read_state, write_state};
-use fr_state::{CoordState, DecodeFault, Generation, StateFault, decode, encode};
+use fr_state::{CoordState, Generation, StateDecodeFault, StateFault, decode, encode};
 use serde_json::Value;
 use std::alloc::Global;
+use test_rows::fields::{Fields, epoch_of, version_of};
+use test_rows::json::{read_state, value_of};
+use test_rows::object::hex_value;
 use test_rows::{Plays, Scene, Wrong, no_such_word, write_name};
 
 /// Plays rows with a coordinated state.
@@ -61,7 +61,7 @@ pub(crate) fn write_bytes(alloc: Global, bytes: Result<Vec<u8>, Memory>) -> Resu
 }
 
 fn write_copy(alloc: Global, state: Result<CoordState, Memory>) -> Result<Value, Wrong> {
-    Ok(write_state(alloc, &state?)?)
+    Ok(value_of(alloc, &state?)?)
 }
 
 /// Whether the state begins with another one.
@@ -76,13 +76,13 @@ fn read(alloc: Global, given: &Value) -> Result<Value, Wrong> {
     write_read(alloc, decode(alloc, bytes.as_slice()))
 }
 
-fn write_read(alloc: Global, state: Result<CoordState, DecodeFault>) -> Result<Value, Wrong> {
+fn write_read(alloc: Global, state: Result<CoordState, StateDecodeFault>) -> Result<Value, Wrong> {
     match state {
-        Ok(state) => Ok(write_state(alloc, &state)?),
-        Err(DecodeFault::Short) => write_name(alloc, "Short"),
-        Err(DecodeFault::BadForm) => write_name(alloc, "BadForm"),
-        Err(DecodeFault::Trailing) => write_name(alloc, "Trailing"),
-        Err(DecodeFault::Memory) => Err(Wrong::Memory),
+        Ok(state) => Ok(value_of(alloc, &state)?),
+        Err(StateDecodeFault::Short) => write_name(alloc, "Short"),
+        Err(StateDecodeFault::BadForm) => write_name(alloc, "BadForm"),
+        Err(StateDecodeFault::Trailing) => write_name(alloc, "Trailing"),
+        Err(StateDecodeFault::Memory) => Err(Wrong::Memory),
     }
 }
 
@@ -108,7 +108,7 @@ impl Spelled for StateBytes {
     fn is_one_or_none(&self, alloc: Global, bytes: &[u8]) -> Result<bool, Wrong> {
         match decode(alloc, bytes) {
             Ok(state) => Ok(encode(alloc, &state)?.as_slice() == bytes),
-            Err(DecodeFault::Memory) => Err(Wrong::Memory),
+            Err(StateDecodeFault::Memory) => Err(Wrong::Memory),
             Err(_) => Ok(true),
         }
     }

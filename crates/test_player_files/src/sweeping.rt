@@ -3,9 +3,9 @@ use crate::counting::Counting;
 use crate::place::{Kept, Plan};
 use fr_base::NodeFault;
 use fr_device::{FaultyDevice, MemoryDevice};
-use fr_forms::fields::{Fields, items};
 use serde_json::Value;
 use std::alloc::Global;
+use test_rows::fields::{Fields, items};
 use test_rows::{NO_FORM, Wrong};
 
 /// What a file is asked, and what it tells, as text. Asked again, it tells the same.

@@ -1,14 +1,14 @@
 //! Forms that several players read and write.
 ghost use Rattle.std.specs.Prelude.{◌≤◌, IfOk};
 
+use crate::fields::Fields;
+use crate::json::value_of;
+use crate::object::write_text;
 use crate::subject::Scene;
 use crate::wrong::{NO_FORM, Wrong};
 use fr_ask::{Last, Named};
 use fr_base::Memory;
 use fr_cli_json::tree::into_one_member;
-use fr_forms::fields::Fields;
-use fr_forms::object::write_text;
-use fr_forms::write_last;
 use fr_tags::MAX_LOGS;
 use serde_json::Value;
 use std::alloc::Global;
@@ -38,7 +38,7 @@ pub fn write_state_of<N: Named + Drop>(
 
 /// A last state, without the name of its kind.
 pub fn write_last_state(alloc: Global, last: Result<Last, Memory>) -> Result<Value, Wrong> {
-    match into_one_member(write_last(alloc, &last?)?) {
+    match into_one_member(value_of(alloc, &last?)?) {
         Some((_, content)) => Ok(content),
         None => Err(NO_FORM),
     }

@@ -2,9 +2,12 @@
 //! a player makes of the first one.
 #![tactic(auto)]
 
+pub mod fields;
 mod forms;
+pub mod json;
 mod lines;
 mod names;
+pub mod object;
 mod play;
 mod report;
 mod rows;
@@ -12,7 +15,8 @@ mod subject;
 mod wrong;
 
 pub use forms::{of_nothing, played, read_sizes, write_last_state, write_name, write_state_of};
+pub use fr_forms::ScriptFault;
 pub use play::{Player, play_file};
-pub use report::Report;
+pub use report::ScenarioReport;
 pub use subject::{Plays, Scene, no_such_word};
 pub use wrong::{NO_FORM, Wrong, said, told, told_all};

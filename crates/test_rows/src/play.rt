@@ -3,7 +3,7 @@ ghost use Rattle.std.specs.Prelude.{IsTrue};
 
 use crate::lines::{Line, line_of};
 use crate::names::Names;
-use crate::report::Report;
+use crate::report::ScenarioReport;
 use crate::rows::{Row, Scenario};
 use crate::subject::Scene;
 use crate::wrong::Wrong;
@@ -22,7 +22,7 @@ pub fn play_file<P: Player>(
     player: &P,
     file: &str,
     text: &str,
-    report: &mut Report,
+    report: &mut ScenarioReport,
 ) -> Result<(), Memory>
     ensures { IsTrue report.new → IsTrue report.old }
 {
@@ -63,7 +63,7 @@ fn end<P: Player>(
     file: &str,
     scenario: &Scenario,
     names: &mut Names,
-    report: &mut Report,
+    report: &mut ScenarioReport,
 ) -> Result<(), Memory>
     ensures { IsTrue report.new → IsTrue report.old }
 {
@@ -80,7 +80,7 @@ fn define_all(
     file: &str,
     rows: &[Row],
     names: &mut Names,
-    report: &mut Report,
+    report: &mut ScenarioReport,
 ) -> Result<(), Memory>
     ensures { IsTrue report.new → IsTrue report.old }
 {
@@ -98,7 +98,7 @@ fn play_whole<P: Player>(
     player: &P,
     file: &str,
     scenario: &Scenario,
-    report: &mut Report,
+    report: &mut ScenarioReport,
 ) -> Result<(), Memory>
     ensures { IsTrue report.new → IsTrue report.old }
 {

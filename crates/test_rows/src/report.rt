@@ -7,12 +7,12 @@ use std::marker::Model;
 
 /// What is printed of scenarios that were played, and whether all of them hold; a contract sees the latter.
 #[derive(Drop)]
-pub struct Report {
+pub struct ScenarioReport {
     text: String,
     holds: bool,
 }
 
-impl Model for Report {
+impl Model for ScenarioReport {
     ghost use Rattle.std.specs.Prelude.{Bool};
 
     ghost Value = { Bool };
@@ -20,12 +20,12 @@ impl Model for Report {
     ghost view = { λ r. r.holds };
 }
 
-impl Report {
+impl ScenarioReport {
     /// Of no scenario.
     pub fn new(alloc: Global) -> Self
         ensures { result ≡ true }
     {
-        Report {
+        ScenarioReport {
             text: String::new(alloc),
             holds: true,
         }

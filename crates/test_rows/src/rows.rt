@@ -1,7 +1,7 @@
 //! Scenarios and their rows.
 use crate::names::Names;
+use crate::object::write_text;
 use crate::wrong::Wrong;
-use fr_forms::object::write_text;
 use serde_json::Value;
 use std::alloc::{AllocError, Global};
 

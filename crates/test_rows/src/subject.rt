@@ -1,9 +1,9 @@
 //! What scenarios are about, and how their rows are played.
 ghost use Rattle.std.specs.Prelude.{◌≡◌, ◌↔◌, IsOk};
 
+use crate::fields::Fields;
 use crate::rows::{Parts, Row, json_of, json_or_null};
 use crate::wrong::{Wrong, said};
-use fr_forms::fields::Fields;
 use serde_json::Value;
 use std::alloc::Global;
 

@@ -1,8 +1,7 @@
 //! Why a row does not hold.
 use fr_base::{Memory, NodeFault};
 use fr_cli_json::CliFault;
-use fr_forms::ScriptFault;
-use fr_forms::lists::{WriteItem, write_all};
+use fr_forms::{Formed, ScriptFault, write_all};
 use serde_json::Value;
 use std::alloc::{AllocError, AllocFailed, Global};
 
@@ -31,15 +30,15 @@ pub fn said<T: Drop>(value: Result<T, Wrong>) -> Result<T, Wrong> {
 
 /// What is told of something that was done, in its form. If there is no memory for the form it is made once more, since
 /// the row is not to be played again.
-pub fn told<T: WriteItem>(alloc: Global, told: &T) -> Result<Value, Wrong> {
-    match told.write(alloc) {
+pub fn told<T: Formed>(alloc: Global, told: &T) -> Result<Value, Wrong> {
+    match told.to_value(alloc) {
         Ok(value) => Ok(value),
-        Err(_) => said(written(told.write(alloc))),
+        Err(_) => said(written(told.to_value(alloc))),
     }
 }
 
 /// The same of a list.
-pub fn told_all<T: WriteItem>(alloc: Global, told: &[T]) -> Result<Value, Wrong> {
+pub fn told_all<T: Formed>(alloc: Global, told: &[T]) -> Result<Value, Wrong> {
     match write_all(alloc, told) {
         Ok(value) => Ok(value),
         Err(_) => said(written(write_all(alloc, told))),

@@ -1,19 +1,19 @@
 //! What comes of events.
-use fr_forms::object::{Object, write_text};
-use fr_forms::{write_outcome, write_tell};
 use fr_storage::StorageFault;
 use fr_undo::StoreFault;
 use fr_world::{Answer, NotEnabled};
 use serde_json::Value;
 use std::alloc::Global;
+use test_rows::json::value_of;
+use test_rows::object::{Members, write_text};
 use test_rows::{Wrong, write_name};
 
 /// What an event answers: null if there is nothing to tell.
 pub(crate) fn write_answer(alloc: Global, answer: &Answer) -> Result<Value, Wrong> {
     match answer {
         Answer::Done => Ok(Value::Null),
-        Answer::Told(tell) => Ok(write_tell(alloc, tell)?),
-        Answer::Heard(outcome) => Ok(write_outcome(alloc, &Some(*outcome))?),
+        Answer::Told(tell) => Ok(value_of(alloc, tell)?),
+        Answer::Heard(outcome) => Ok(value_of(alloc, &Some(*outcome))?),
         Answer::Refused(fault) => write_refused(alloc, *fault),
     }
 }
@@ -23,7 +23,7 @@ fn write_refused(alloc: Global, fault: StorageFault) -> Result<Value, Wrong> {
     if fault == StorageFault::Store(StoreFault::Memory) {
         return Err(Wrong::Memory);
     }
-    let object = Object::new(alloc);
+    let object = Members::new(alloc);
     Ok(
         object
             .and("refused", write_text(alloc, name_of(fault)))?

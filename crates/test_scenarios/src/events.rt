@@ -2,11 +2,11 @@
 use crate::found;
 use fr_ask::{Ask, Tell};
 use fr_base::{LogId, NodeId, Shape, Version};
-use fr_forms::fields::Fields;
-use fr_forms::{read_ask, read_batch, read_node, read_shards, read_step, read_tell};
 use fr_world::{Config, ConfigFault, Event, World};
 use serde_json::Value;
 use std::alloc::Global;
+use test_rows::fields::Fields;
+use test_rows::json::{read_ask, read_batch, read_node, read_shards, read_step, read_tell};
 use test_rows::{NO_FORM, Wrong};
 
 /// What a world starts from.
@@ -35,7 +35,7 @@ pub(crate) fn read_event(
         "deliver" => some(read_deliver(alloc, world, given.of(3))),
         "hear" => some(read_hear(alloc, world, given)),
         "submit" => some(read_submit(alloc, given.of(4))),
-        "crash" => some(read_crash(given)),
+        "crash" => some(read_crash(alloc, given)),
         "lose" => some(read_lose(given.of(2))),
         _ => Ok(None),
     }
@@ -68,14 +68,14 @@ fn read_shape(fields: &Fields) -> Result<Shape, Wrong> {
     Shape::new(m, k).ok_or(NO_FORM)
 }
 
-fn read_crash(given: &mut Fields) -> Result<Event, Wrong> {
-    let node = read_node(given.take_all())?;
+fn read_crash(alloc: Global, given: &mut Fields) -> Result<Event, Wrong> {
+    let node = read_node(alloc, given.take_all())?;
     Ok(Event::Crash { node })
 }
 
 fn read_deliver(alloc: Global, world: &World, fields: &mut Fields) -> Result<Event, Wrong> {
-    let from = read_node(fields.take("from")?)?;
-    let to = read_node(fields.take("to")?)?;
+    let from = read_node(alloc, fields.take("from")?)?;
+    let to = read_node(alloc, fields.take("to")?)?;
     let ask = read_asked(alloc, world, &from, &to, fields.take("ask")?)?;
     Ok(Event::Deliver { from, to, ask })
 }
@@ -96,24 +96,24 @@ fn read_asked(
 
 /// Whether a node gave an ask to another.
 pub(crate) fn was_sent(alloc: Global, world: &World, fields: &mut Fields) -> Result<Value, Wrong> {
-    let from = read_node(fields.take("from")?)?;
-    let to = read_node(fields.take("to")?)?;
+    let from = read_node(alloc, fields.take("from")?)?;
+    let to = read_node(alloc, fields.take("to")?)?;
     let ask = read_ask(alloc, fields.take("ask")?)?;
     Ok(Value::from(world.was_sent(from, to, &ask)))
 }
 
 /// Whether a node told this to another.
 pub(crate) fn was_told(alloc: Global, world: &World, fields: &mut Fields) -> Result<Value, Wrong> {
-    let by = read_node(fields.take("by")?)?;
-    let to = read_node(fields.take("to")?)?;
+    let by = read_node(alloc, fields.take("by")?)?;
+    let to = read_node(alloc, fields.take("to")?)?;
     let tell = read_tell(alloc, fields.take("tell")?)?;
     Ok(Value::from(world.was_told(by, to, &tell)))
 }
 
 fn read_hear(alloc: Global, world: &World, given: &mut Fields) -> Result<Event, Wrong> {
     let taken = read_taken(given)?;
-    let by = read_node(given.take("by")?)?;
-    let from = read_node(given.take("from")?)?;
+    let by = read_node(alloc, given.take("by")?)?;
+    let from = read_node(alloc, given.take("from")?)?;
     let tell = read_told(alloc, world, &by, &from, given.take("tell")?)?;
     Ok(Event::Hear {
         by,

@@ -29,13 +29,13 @@ fn ask_at(turn: &Turn, place: usize) -> Result<Ask, Wrong> {
     }
 }
 
-/// The ask of this number, from 0, that a node gave to another: as a copy of its turn has it.
+/// The ask of this number, from 0, that a node gave to another.
 pub(crate) fn ask(world: &World, from: &NodeId, to: &NodeId, number: usize) -> Result<Ask, Wrong> {
     let mut left = number;
     for turn in world.turns() {
         if let Some(place) = place_in(turn, from, to) {
             if left == 0 {
-                return ask_at(&turn.copy()?, place);
+                return ask_at(turn, place);
             }
             left = left.saturating_sub(1);
         }
@@ -66,13 +66,13 @@ fn told_in(turn: &Turn) -> Result<Tell, Wrong> {
     }
 }
 
-/// The tell of this number, from 0, that a node gave to another: as a copy of its turn has it.
+/// The tell of this number, from 0, that a node gave to another.
 pub(crate) fn tell(world: &World, by: &NodeId, to: &NodeId, number: usize) -> Result<Tell, Wrong> {
     let mut left = number;
     for turn in world.turns() {
         if has_told(turn, by, to) {
             if left == 0 {
-                return told_in(&turn.copy()?);
+                return told_in(turn);
             }
             left = left.saturating_sub(1);
         }

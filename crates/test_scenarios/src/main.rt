@@ -11,7 +11,7 @@ mod worlds;
 use std::alloc::Global;
 use std::process::ExitCode;
 use std::{fs, io};
-use test_rows::{Player, Report, Scene, Wrong, play_file};
+use test_rows::{Player, ScenarioReport, Scene, Wrong, play_file};
 
 /// The players of all subjects.
 struct Players;
@@ -48,7 +48,7 @@ fn main(rt: HostRuntime) -> anyhow::Result<ExitCode> {
 /// Plays the scenarios: whether all of them hold.
 fn scenarios(rt: &HostRuntime) -> anyhow::Result<bool> {
     let alloc = rt.alloc();
-    let mut report = Report::new(alloc);
+    let mut report = ScenarioReport::new(alloc);
     for name in &names_of(rt, alloc)? {
         let text = fs::read_to_string(rt, name.as_str())?;
         play_file(alloc, &Players, name.as_str(), text.as_str(), &mut report)?;

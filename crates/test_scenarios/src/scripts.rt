@@ -1,9 +1,9 @@
 //! Scripts of audits: what is written of one that was read.
 use fr_audit_script::{ScriptFault, read_script, write_script};
-use fr_forms::fields::Fields;
-use fr_forms::object::write_text;
 use serde_json::Value;
 use std::alloc::{AllocError, Global};
+use test_rows::fields::Fields;
+use test_rows::object::write_text;
 use test_rows::{NO_FORM, Plays, Scene, Wrong, no_such_word, played};
 
 /// What stands before a form in a script, and behind it.
@@ -146,7 +146,7 @@ fn script_in(alloc: Global, place: Place, form: &[u8]) -> Result<Vec<u8>, AllocE
 
 /// What is written of a script once it was read, if it is one.
 fn written(alloc: Global, script: &[u8]) -> Result<Option<Vec<u8>>, Wrong> {
-    match read_script(alloc, script) {
+    match read_script(alloc, script, &mut String::new(alloc)) {
         Ok((config, journals)) => Ok(Some(write_script(alloc, &config, journals.as_slice())?)),
         Err(ScriptFault::Memory) => Err(Wrong::Memory),
         Err(ScriptFault::BadScript) => Ok(None),

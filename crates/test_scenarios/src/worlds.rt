@@ -2,13 +2,13 @@
 use crate::answers::{write_answer, write_why};
 use crate::events::{read_config, read_event, was_sent, was_told};
 use fr_base::Memory;
-use fr_forms::fields::Fields;
-use fr_forms::object::Object;
-use fr_forms::read_node;
 use fr_world::{Answer, Event, NotEnabled, World};
 use serde_json::Value;
 use std::alloc::Global;
 use test_player::write_read;
+use test_rows::fields::Fields;
+use test_rows::json::read_node;
+use test_rows::object::Members;
 use test_rows::{Plays, Scene, Wrong, no_such_word, played, said, write_last_state};
 
 /// The player of worlds.
@@ -49,8 +49,8 @@ impl Plays<Played> for Worlds {
     ) -> Result<Value, Wrong> {
         match word {
             "state" => state(alloc, &played.world, given),
-            "there" => there(&played.world, given),
-            "gone" => gone(&played.world, given),
+            "there" => there(alloc, &played.world, given),
+            "gone" => gone(alloc, &played.world, given),
             "sent" => was_sent(alloc, &played.world, given.of(3)),
             "told" => was_told(alloc, &played.world, given.of(3)),
             "turns" => Ok(Value::from(played.world.turns().len())),
@@ -80,23 +80,23 @@ fn happen(
 /// What comes of an event. If memory runs out the world is as it was, and the event is tried again.
 fn take(alloc: Global, played: &mut Played, event: Event) -> Result<Value, Wrong> {
     let turns = played.world.turns().len();
-    let given = match played.world.step(alloc, &event) {
+    let given = match played.world.step(alloc, event.copy()?) {
         Err(NotEnabled::Memory) if played.world.turns().len() == turns => {
-            played.world.step(alloc, &event)
+            played.world.step(alloc, event.copy()?)
         }
         given => given,
     };
-    said(write_happened(alloc, &mut played.events, &event, given))
+    said(write_happened(alloc, &mut played.events, event, given))
 }
 
-/// Keeps a copy of an event, and says a copy of what came of it.
+/// Keeps an event, and says a copy of what came of it.
 fn write_happened(
     alloc: Global,
     events: &mut Vec<Event>,
-    event: &Event,
+    event: Event,
     given: Result<Answer, NotEnabled>,
 ) -> Result<Value, Wrong> {
-    events.push(event.copy()?)?;
+    events.push(event)?;
     match given {
         Ok(answer) => write_copy(alloc, answer.copy()),
         Err(why) => write_why(alloc, why),
@@ -109,19 +109,19 @@ fn write_copy(alloc: Global, answer: Result<Answer, Memory>) -> Result<Value, Wr
 
 /// What others see of a node's last state; null if it is not there.
 fn state(alloc: Global, world: &World, given: &mut Fields) -> Result<Value, Wrong> {
-    let node = read_node(given.take_all())?;
+    let node = read_node(alloc, given.take_all())?;
     match world.last_of(alloc, node)? {
         Some(last) => write_last_state(alloc, Ok(last)),
         None => Ok(Value::Null),
     }
 }
 
-fn there(world: &World, given: &mut Fields) -> Result<Value, Wrong> {
-    Ok(Value::from(world.is_there(read_node(given.take_all())?)))
+fn there(alloc: Global, world: &World, given: &mut Fields) -> Result<Value, Wrong> {
+    Ok(Value::from(world.is_there(read_node(alloc, given.take_all())?)))
 }
 
-fn gone(world: &World, given: &mut Fields) -> Result<Value, Wrong> {
-    Ok(Value::from(world.is_gone(read_node(given.take_all())?)))
+fn gone(alloc: Global, world: &World, given: &mut Fields) -> Result<Value, Wrong> {
+    Ok(Value::from(world.is_gone(read_node(alloc, given.take_all())?)))
 }
 
 /// What the storage server of a tag answers a read of a key at a version.
@@ -139,14 +139,23 @@ fn read(alloc: Global, world: &mut World, fields: &Fields) -> Result<Value, Wron
 /// of that one, from 0, with why.
 fn replay(alloc: Global, played: &Played) -> Result<Value, Wrong> {
     let config = played.world.config().copy()?;
-    match World::replay(alloc, config, played.events.as_slice()) {
+    let events = copies(alloc, played.events.as_slice())?;
+    match World::replay(alloc, config, events) {
         Ok(world) => Ok(Value::from(world.turns().len())),
         Err((number, why)) => write_stop(alloc, number, write_why(alloc, why)?),
     }
 }
 
+fn copies(alloc: Global, events: &[Event]) -> Result<Vec<Event>, Memory> {
+    let mut copies = Vec::new(alloc);
+    for event in events {
+        copies.push(event.copy()?)?;
+    }
+    Ok(copies)
+}
+
 fn write_stop(alloc: Global, number: usize, why: Value) -> Result<Value, Wrong> {
-    let stop = Object::new(alloc)
+    let stop = Members::new(alloc)
         .with("event", Value::from(number))?
         .with("why", why)?;
     Ok(stop.value())

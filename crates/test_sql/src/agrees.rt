@@ -4,7 +4,7 @@ use fr_undo::{MapStore, ShardStore};
 use rand_pcg::Pcg32;
 use std::alloc::Global;
 use std::test::Fail;
-use test_store_plain::{SlowStore, agrees, goes_back};
+use test_stores::{SlowStore, agrees, goes_back};
 
 /// Whether a store and lists do the same at each of 40 calls, and then on the way back.
 fn follows<S: ShardStore + Drop>(alloc: Global, seed: u64, mut store: S) -> Result<bool, Fail> {

@@ -27,6 +27,10 @@ impl<D: Disk> Gap<D> {
             sync_refused: false,
         }
     }
+
+    pub(crate) fn inner(&self) -> &D {
+        &self.inner
+    }
 }
 
 /// Whether a call is passed on.

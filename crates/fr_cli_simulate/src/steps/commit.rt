@@ -4,8 +4,7 @@ use crate::names::event_name;
 use crate::steps::push::{Said, push_to};
 use fr_ask::{Ask, SeqAsk};
 use fr_base::{Epoch, Memory, NodeId, Step, Version};
-use fr_cli_json::Mutations;
-use fr_mutation::{Batch, BatchFault};
+use fr_mutation::{Batch, BatchFault, Mutation};
 use fr_run_event::{Event, NotEnabled};
 use fr_simulate_script::Commit;
 use fr_world::World;
@@ -62,9 +61,9 @@ fn submit(
     epoch: Epoch,
     proxy: u8,
     step: Step,
-    batch: Mutations,
+    batch: Vec<Mutation>,
 ) -> Result<Option<Became>, Memory> {
-    match Batch::new(batch.into_vec()) {
+    match Batch::new(batch) {
         Ok(batch) => submit_batch(alloc, world, epoch, proxy, step, batch),
         Err(BatchFault::Memory) => Err(Memory),
         Err(fault) => Ok(Some(Became::Beyond(fault))),

@@ -5,7 +5,7 @@ use fr_ask::Ask;
 use fr_base::{Epoch, Memory, NodeId, Version};
 use fr_log::LogAsk;
 use fr_proxy::Outcome;
-use fr_simulate_script::Push;
+use fr_simulate_script::Resend;
 use fr_world::World;
 use std::alloc::Global;
 
@@ -29,7 +29,7 @@ impl Said {
 }
 
 /// Pushes the open batch of a proxy to the listed logs that are not known to hold it.
-pub(crate) fn line_of(alloc: Global, world: &mut World, push: &Push) -> Result<String, Memory> {
+pub(crate) fn line_of(alloc: Global, world: &mut World, push: &Resend) -> Result<String, Memory> {
     let said = push_open(alloc, world, push)?;
     line_after(alloc, push.epoch.get(), push.proxy, said)
 }
@@ -55,7 +55,7 @@ fn line_after(
 fn push_open(
     alloc: Global,
     world: &mut World,
-    push: &Push,
+    push: &Resend,
 ) -> Result<Option<(Version, Said)>, Memory> {
     let by = NodeId::Proxy {
         epoch: push.epoch,

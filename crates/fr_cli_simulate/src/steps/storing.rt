@@ -262,7 +262,7 @@ fn hear_in_place(
         tell,
         taken: None,
     };
-    match world.step_owned(alloc, &heard) {
+    match world.step_owned(alloc, heard) {
         Ok((world, answer)) => Ok((world, asked_in(told, &answer))),
         Err(why) => Err(memory_in(why)),
     }

@@ -3,7 +3,7 @@ ghost use Rattle.std.specs.Prelude.{◌≡◌, ◌≢◌, ◌+◌, ◌-◌, ◌^
 ghost use Rattle.fr_record_node.specs.Replay.{replayed};
 ghost use Rattle.fr_record_node.specs.Reading.{IsRead};
 
-use crate::fault::{ReadFault, node_fault};
+use crate::fault::{RecordReadFault, node_fault};
 use crate::recorded::Recorded;
 use fr_base::NodeFault;
 use fr_device::Device;
@@ -38,8 +38,8 @@ pub(super) fn read_all<M: Recorded, D: Device>(
         };
         match machine.read(alloc, change.as_slice()) {
             Ok(()) => {}
-            Err(ReadFault::Broken) => return Err(NodeFault::Broken),
-            Err(ReadFault::Memory) => return Err(NodeFault::Memory),
+            Err(RecordReadFault::Broken) => return Err(NodeFault::Broken),
+            Err(RecordReadFault::Memory) => return Err(NodeFault::Memory),
         }
     }
     Ok(())

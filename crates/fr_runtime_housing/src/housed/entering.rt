@@ -7,7 +7,7 @@ ghost use Rattle.fr_runtime_housing.specs.Housing.{Works, is_gone};
 
 use super::Housed;
 use crate::housable::{Housable, repeat_law};
-use crate::kept::Kept;
+use crate::kept::AskInDoubt;
 use crate::served::{ends_by_crash, served};
 use fr_ask::{Named, Tell};
 use fr_audit_journal::{Act, Entry};
@@ -72,7 +72,7 @@ where
             Err(fault) => {
                 if fault == NodeFault::Device {
                     self.is_failed = true;
-                    self.kept = Some(Kept {
+                    self.kept = Some(AskInDoubt {
                         stamp,
                         from,
                         ask,

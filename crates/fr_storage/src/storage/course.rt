@@ -5,7 +5,7 @@ ghost use Rattle.fr_storage.specs.Course.{fault_of, calls_of, after_hear, IsAfte
 ghost use Rattle.fr_storage.specs.Standing.{heard_of, after_hears, is_untimely, LeadTo, RefusesOne, IsFound, StaysStanding};
 
 use super::Storage;
-use crate::answer::Answer;
+use crate::answer::LogAnswer;
 use crate::fault::StorageFault;
 use crate::laws::storage_law;
 use fr_undo::{ShardStore, StoreFault};
@@ -15,7 +15,7 @@ impl<S: ShardStore> Storage<S> {
     /// Hears an answer, as [`hear_marked`](Storage::hear_marked) or [`hear_peeked`](Storage::hear_peeked) does. A
     /// server that stands ([`storage_law`](crate::storage_law)) is left standing by each answer that is true to it,
     /// and does not refuse it as `Stranger` or `BelowFloor`.
-    pub fn hear(&mut self, alloc: Global, answer: Answer) -> Result<(), StorageFault>
+    pub fn hear(&mut self, alloc: Global, answer: LogAnswer) -> Result<(), StorageFault>
         ensures ok { OnOk result (storage_of S.state self.new ≡ after_hear (storage_of S.state self.old) (heard_of answer)) }
         ensures failed { (result ≡ Err (StorageFault.Store StoreFault.Failed)) ↔ IsTrue self.old.failed }
         ensures refused { self.old.failed ≡ false → refusal_of result ≡ fault_of (storage_of S.state self.old) (heard_of answer) }
@@ -33,8 +33,8 @@ impl<S: ShardStore> Storage<S> {
     {
         storage_law();
         match answer {
-            Answer::Marked(state) => self.hear_marked(alloc, state),
-            Answer::Peeked(epoch, peeked) => self.hear_peeked(alloc, epoch, &peeked),
+            LogAnswer::Marked(state) => self.hear_marked(alloc, state),
+            LogAnswer::Peeked(epoch, peeked) => self.hear_peeked(alloc, epoch, &peeked),
         }
     }
 
@@ -44,7 +44,7 @@ impl<S: ShardStore> Storage<S> {
     ///
     /// A server that stands ([`storage_law`](crate::storage_law)) is left standing by each answer that is true to
     /// it, whatever its store refuses, and does not refuse it as `Stranger` or `BelowFloor`.
-    pub fn follow(&mut self, alloc: Global, answer: Answer) -> Result<(), StorageFault>
+    pub fn follow(&mut self, alloc: Global, answer: LogAnswer) -> Result<(), StorageFault>
         ensures ok { OnOk result (storage_of S.state self.new ≡ after_hear (storage_of S.state self.old) (heard_of answer)) }
         ensures refused { self.old.failed ≡ false → refusal_of result ≡ fault_of (storage_of S.state self.old) (heard_of answer) }
         ensures same { met_store result ≡ false → OnErr result (self.new ≡ self.old) }
@@ -79,7 +79,7 @@ impl<S: ShardStore> Storage<S> {
     pub fn follow_all(
         &mut self,
         alloc: Global,
-        answers: Vec<Answer>,
+        answers: Vec<LogAnswer>,
     ) -> Result<Option<StoreFault>, StorageFault>
         ensures whole { (result ≡ Ok None) → storage_of S.state self.new ≡ after_hears (storage_of S.state self.old) answers.items }
         ensures course { self.old.failed ≡ false → OnOk result (LeadTo (storage_of S.state self.old) answers.items (storage_of S.state self.new)) }

@@ -13,9 +13,9 @@ ghost use Rattle.fr_storage.specs.Server.{storage_of, kept_of, refusal_of, store
 
 use super::Storage;
 use crate::fault::StorageFault;
-use crate::laws::{lower_laws, storage_law};
+use crate::laws::{storage_law, store_laws};
 use fr_base::{Bytes, Tag};
-use fr_state::{CoordState, DecodeFault, decode, encode};
+use fr_state::{CoordState, StateDecodeFault, decode, encode};
 use fr_undo::{ShardStore, StoreFault};
 use std::alloc::Global;
 
@@ -98,7 +98,7 @@ impl<S: ShardStore> Storage<S> {
         ensures leaves { LeavesNoMore (S.MayLeave self.old.store) (S.MayLeave self.new.store) }
         ensures stands { StaysStanding S.state S.MayLeave [] self.old self.new (refusal_of result) }
     {
-        lower_laws();
+        store_laws();
         self.failed = true;
         self.store.reopen(alloc)?;
         let state = kept_state(alloc, &mut self.store)?;
@@ -126,9 +126,9 @@ fn kept_state<S: ShardStore>(alloc: Global, store: &mut S) -> Result<CoordState,
     let bytes = store.state_bytes(alloc)?;
     match decode(alloc, bytes.as_slice()) {
         Ok(state) => Ok(state),
-        Err(DecodeFault::Memory) => Err(StorageFault::Store(StoreFault::Memory)),
-        Err(DecodeFault::Short) => Err(StorageFault::BadState),
-        Err(DecodeFault::BadForm) => Err(StorageFault::BadState),
-        Err(DecodeFault::Trailing) => Err(StorageFault::BadState),
+        Err(StateDecodeFault::Memory) => Err(StorageFault::Store(StoreFault::Memory)),
+        Err(StateDecodeFault::Short) => Err(StorageFault::BadState),
+        Err(StateDecodeFault::BadForm) => Err(StorageFault::BadState),
+        Err(StateDecodeFault::Trailing) => Err(StorageFault::BadState),
     }
 }

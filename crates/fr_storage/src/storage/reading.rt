@@ -8,7 +8,7 @@ ghost use Rattle.fr_storage.specs.Standing.{StaysStanding};
 
 use super::Storage;
 use crate::fault::ReadFault;
-use crate::laws::lower_laws;
+use crate::laws::store_laws;
 use fr_base::{Bytes, Version};
 use fr_mutation::Shard;
 use fr_undo::{ShardStore, StoreFault};
@@ -43,7 +43,7 @@ impl<S: ShardStore> Storage<S> {
         ensures stands { StaysStanding S.state S.MayLeave [] self.old self.new None }
         ensures sound { IsServer S.state S.is_failed S.MayLeave self.old }
     {
-        lower_laws();
+        store_laws();
         if self.failed {
             return Err(ReadFault::Store(StoreFault::Failed));
         }

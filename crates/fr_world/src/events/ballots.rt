@@ -53,12 +53,12 @@ pub(crate) fn heard_by_recoverer(
     nodes: &mut Nodes,
     ballot: Ballot,
     from: NodeId,
-    tell: &Tell,
+    tell: Tell,
     taken: Option<Version>,
 ) -> Result<Answer, NotEnabled>
     requires kept { IsKept nodes.old }
-    ensures turn { Steps (state_of nodes.old) (state_of nodes.new) (event.Hear (node.Recoverer ballot) from tell.now taken) result }
-    ensures refused { Refuses (state_of nodes.old) (event.Hear (node.Recoverer ballot) from tell.now taken) result }
+    ensures turn { Steps (state_of nodes.old) (state_of nodes.new) (event.Hear (node.Recoverer ballot) from tell taken) result }
+    ensures refused { Refuses (state_of nodes.old) (event.Hear (node.Recoverer ballot) from tell taken) result }
     ensures err { OnErr result (state_of nodes.new ≡ state_of nodes.old) }
     ensures stays { IsKept nodes.new }
 {
@@ -67,7 +67,7 @@ pub(crate) fn heard_by_recoverer(
     if let Some(why) = why_not_up(nodes, &by) {
         return Err(why);
     }
-    let told = nodes.turns.was_told(&from, &by, tell);
+    let told = nodes.turns.was_told(&from, &by, &tell);
     if !told || taken.is_some() {
         return Err(NotEnabled::NeverSent);
     }

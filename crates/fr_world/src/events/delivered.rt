@@ -30,12 +30,12 @@ pub(crate) fn delivered(
     nodes: &mut Nodes,
     from: NodeId,
     to: NodeId,
-    ask: &Ask,
+    ask: Ask,
 ) -> Result<Answer, NotEnabled>
     requires kept { IsKept nodes.old }
-    requires limits { AskHasLimits ask.now }
-    ensures turn { Steps (state_of nodes.old) (state_of nodes.new) (event.Deliver from to ask.now) result }
-    ensures refused { Refuses (state_of nodes.old) (event.Deliver from to ask.now) result }
+    requires limits { AskHasLimits ask }
+    ensures turn { Steps (state_of nodes.old) (state_of nodes.new) (event.Deliver from to ask) result }
+    ensures refused { Refuses (state_of nodes.old) (event.Deliver from to ask) result }
     ensures err { OnErr result (state_of nodes.new ≡ state_of nodes.old) }
     ensures stays { IsKept nodes.new }
 {
@@ -43,7 +43,7 @@ pub(crate) fn delivered(
     if let Some(why) = why_not_up(nodes, &to) {
         return Err(why);
     }
-    let sent = nodes.turns.was_sent(&from, &to, ask);
+    let sent = nodes.turns.was_sent(&from, &to, &ask);
     match ask {
         Ask::Cell(ask) => match to {
             NodeId::Cell { index } => to_cell(alloc, nodes, from, index, ask, sent),
@@ -51,13 +51,13 @@ pub(crate) fn delivered(
         },
         Ask::Log(ask) => match to {
             NodeId::Log { epoch, index } => {
-                let may = sent || storage_may_ask(&nodes.config, &nodes.storages, &from, ask);
+                let may = sent || storage_may_ask(&nodes.config, &nodes.storages, &from, &ask);
                 to_log(alloc, nodes, from, LogId { epoch, index }, ask, may)
             }
             _ => Err(NotEnabled::NeverSent),
         },
         Ask::Seq(ask) => match to {
-            NodeId::Sequencer { epoch } => to_sequencer(alloc, nodes, from, epoch, *ask, sent),
+            NodeId::Sequencer { epoch } => to_sequencer(alloc, nodes, from, epoch, ask, sent),
             _ => Err(NotEnabled::NeverSent),
         },
     }
@@ -69,19 +69,19 @@ fn to_cell(
     nodes: &mut Nodes,
     from: NodeId,
     index: u8,
-    ask: &CellAsk,
+    ask: CellAsk,
     sent: bool,
 ) -> Result<Answer, NotEnabled>
     requires kept { IsKept nodes.old }
     requires turn { sent ≡ true → IsTurn (state_of nodes.old).config (state_of nodes.old).turns
-        (history.CellTurn from index ask.now
-        (cell.answer_of (cell_at (state_of nodes.old).config (state_of nodes.old).turns index) ask.now)) }
+        (history.CellTurn from index ask
+        (cell.answer_of (cell_at (state_of nodes.old).config (state_of nodes.old).turns index) ask)) }
     ensures turn { IfOk result (λ answer. stepped_by (state_of nodes.old)
-        (if_sent sent (history.CellTurn from index ask.now
-        (cell.answer_of (cell_at (state_of nodes.old).config (state_of nodes.old).turns index) ask.now)))
+        (if_sent sent (history.CellTurn from index ask
+        (cell.answer_of (cell_at (state_of nodes.old).config (state_of nodes.old).turns index) ask)))
         ≡ Ok (state_of nodes.new, answer)) }
-    ensures refused { RefusesTurn (if_sent sent (history.CellTurn from index ask.now
-        (cell.answer_of (cell_at (state_of nodes.old).config (state_of nodes.old).turns index) ask.now)))
+    ensures refused { RefusesTurn (if_sent sent (history.CellTurn from index ask
+        (cell.answer_of (cell_at (state_of nodes.old).config (state_of nodes.old).turns index) ask)))
         result }
     ensures err { OnErr result (state_of nodes.new ≡ state_of nodes.old) }
     ensures stays { IsKept nodes.new }
@@ -99,21 +99,21 @@ fn to_log(
     nodes: &mut Nodes,
     from: NodeId,
     id: LogId,
-    ask: &LogAsk,
+    ask: LogAsk,
     sent: bool,
 ) -> Result<Answer, NotEnabled>
     requires kept { IsKept nodes.old }
     requires turn { sent ≡ true → IsTurn (state_of nodes.old).config (state_of nodes.old).turns
-        (history.LogTurn from id.epoch id.index ask.now
+        (history.LogTurn from id.epoch id.index ask
         (log.answer_of (log_at (state_of nodes.old).config (state_of nodes.old).turns id.epoch id.index)
-        ask.now)) }
+        ask)) }
     ensures turn { IfOk result (λ answer. stepped_by (state_of nodes.old)
-        (if_sent sent (history.LogTurn from id.epoch id.index ask.now
+        (if_sent sent (history.LogTurn from id.epoch id.index ask
         (log.answer_of (log_at (state_of nodes.old).config (state_of nodes.old).turns id.epoch id.index)
-        ask.now))) ≡ Ok (state_of nodes.new, answer)) }
-    ensures refused { RefusesTurn (if_sent sent (history.LogTurn from id.epoch id.index ask.now
+        ask))) ≡ Ok (state_of nodes.new, answer)) }
+    ensures refused { RefusesTurn (if_sent sent (history.LogTurn from id.epoch id.index ask
         (log.answer_of (log_at (state_of nodes.old).config (state_of nodes.old).turns id.epoch id.index)
-        ask.now))) result }
+        ask))) result }
     ensures err { OnErr result (state_of nodes.new ≡ state_of nodes.old) }
     ensures stays { IsKept nodes.new }
 {

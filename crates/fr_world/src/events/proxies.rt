@@ -22,11 +22,11 @@ pub(crate) fn submitted(
     epoch: Epoch,
     proxy: u8,
     step: Step,
-    batch: &Batch,
+    batch: Batch,
 ) -> Result<Answer, NotEnabled>
     requires kept { IsKept nodes.old }
-    ensures turn { Steps (state_of nodes.old) (state_of nodes.new) (event.Submit epoch proxy step batch.now) result }
-    ensures refused { Refuses (state_of nodes.old) (event.Submit epoch proxy step batch.now) result }
+    ensures turn { Steps (state_of nodes.old) (state_of nodes.new) (event.Submit epoch proxy step batch) result }
+    ensures refused { Refuses (state_of nodes.old) (event.Submit epoch proxy step batch) result }
     ensures err { OnErr result (state_of nodes.new ≡ state_of nodes.old) }
     ensures stays { IsKept nodes.new }
 {
@@ -53,12 +53,12 @@ pub(crate) fn heard_by_proxy(
     epoch: Epoch,
     proxy: u8,
     from: NodeId,
-    tell: &Tell,
+    tell: Tell,
     taken: Option<Version>,
 ) -> Result<Answer, NotEnabled>
     requires kept { IsKept nodes.old }
-    ensures turn { Steps (state_of nodes.old) (state_of nodes.new) (event.Hear (node.Proxy epoch proxy) from tell.now taken) result }
-    ensures refused { Refuses (state_of nodes.old) (event.Hear (node.Proxy epoch proxy) from tell.now taken) result }
+    ensures turn { Steps (state_of nodes.old) (state_of nodes.new) (event.Hear (node.Proxy epoch proxy) from tell taken) result }
+    ensures refused { Refuses (state_of nodes.old) (event.Hear (node.Proxy epoch proxy) from tell taken) result }
     ensures err { OnErr result (state_of nodes.new ≡ state_of nodes.old) }
     ensures stays { IsKept nodes.new }
 {
@@ -70,7 +70,7 @@ pub(crate) fn heard_by_proxy(
     if let Some(why) = why_not_up(nodes, &by) {
         return Err(why);
     }
-    let told = nodes.turns.was_told(&from, &by, tell);
+    let told = nodes.turns.was_told(&from, &by, &tell);
     if !told || taken.is_some() {
         return Err(NotEnabled::NeverSent);
     }

@@ -24,12 +24,12 @@ pub(crate) fn heard_by_storage(
     nodes: &mut Nodes,
     tag: Tag,
     from: NodeId,
-    tell: &Tell,
+    tell: Tell,
     taken: Option<Version>,
 ) -> Result<Answer, NotEnabled>
     requires kept { IsKept nodes.old }
-    ensures turn { Steps (state_of nodes.old) (state_of nodes.new) (event.Hear (node.Storage tag) from tell.now taken) result }
-    ensures refused { Refuses (state_of nodes.old) (event.Hear (node.Storage tag) from tell.now taken) result }
+    ensures turn { Steps (state_of nodes.old) (state_of nodes.new) (event.Hear (node.Storage tag) from tell taken) result }
+    ensures refused { Refuses (state_of nodes.old) (event.Hear (node.Storage tag) from tell taken) result }
     ensures err { OnErr result (state_of nodes.new ≡ state_of nodes.old) }
     ensures stays { IsKept nodes.new }
 {
@@ -39,7 +39,7 @@ pub(crate) fn heard_by_storage(
         return Err(why);
     }
     let teller = from;
-    if !nodes.was_told(teller, by, tell) {
+    if !nodes.was_told(teller, by, &tell) {
         return Err(NotEnabled::NeverSent);
     }
     match taken {
@@ -54,13 +54,13 @@ fn hear_whole(
     nodes: &mut Nodes,
     tag: Tag,
     from: NodeId,
-    tell: &Tell,
+    tell: Tell,
 ) -> Result<Answer, NotEnabled>
     requires kept { IsKept nodes.old }
-    requires heard { IsHeardBy (state_of nodes.old).config (state_of nodes.old).turns (node.Storage tag) from tell.now }
+    requires heard { IsHeardBy (state_of nodes.old).config (state_of nodes.old).turns (node.Storage tag) from tell }
     ensures turn { IfOk result (λ answer. stepped_by (state_of nodes.old)
         (heard_by_storage (storage_at (state_of nodes.old).config (state_of nodes.old).turns tag) tag from
-        tell.now None) ≡ Ok (state_of nodes.new, answer)) }
+        tell None) ≡ Ok (state_of nodes.new, answer)) }
     ensures refused { IfErr result (λ why. why ≡ not_enabled.Memory) }
     ensures err { OnErr result (state_of nodes.new ≡ state_of nodes.old) }
     ensures stays { IsKept nodes.new }
@@ -77,21 +77,21 @@ fn hear_in_part(
     nodes: &mut Nodes,
     tag: Tag,
     from: NodeId,
-    tell: &Tell,
+    tell: Tell,
     version: Version,
 ) -> Result<Answer, NotEnabled>
     requires kept { IsKept nodes.old }
-    requires heard { IsHeardBy (state_of nodes.old).config (state_of nodes.old).turns (node.Storage tag) from tell.now }
+    requires heard { IsHeardBy (state_of nodes.old).config (state_of nodes.old).turns (node.Storage tag) from tell }
     ensures turn { IfOk result (λ answer. stepped_by (state_of nodes.old)
         (heard_by_storage (storage_at (state_of nodes.old).config (state_of nodes.old).turns tag) tag from
-        tell.now (Some version)) ≡ Ok (state_of nodes.new, answer)) }
+        tell (Some version)) ≡ Ok (state_of nodes.new, answer)) }
     ensures refused { RefusesTurn (heard_by_storage
-        (storage_at (state_of nodes.old).config (state_of nodes.old).turns tag) tag from tell.now
+        (storage_at (state_of nodes.old).config (state_of nodes.old).turns tag) tag from tell
         (Some version)) result }
     ensures err { OnErr result (state_of nodes.new ≡ state_of nodes.old) }
     ensures stays { IsKept nodes.new }
 {
-    if !nodes.may_break(tag, &from, tell, version) {
+    if !nodes.may_break(tag, &from, &tell, version) {
         return Err(NotEnabled::NeverSent);
     }
     nodes.break_storage(alloc, tag, from, tell, version)?;
@@ -104,12 +104,12 @@ pub(crate) fn heard_in_place(
     nodes: &mut Nodes,
     tag: Tag,
     from: NodeId,
-    tell: &Tell,
+    tell: Tell,
     taken: Option<Version>,
 ) -> Result<Answer, NotEnabled>
     requires kept { IsKept nodes.old }
-    ensures turn { Steps (state_of nodes.old) (state_of nodes.new) (event.Hear (node.Storage tag) from tell.now taken) result }
-    ensures refused { Refuses (state_of nodes.old) (event.Hear (node.Storage tag) from tell.now taken) result }
+    ensures turn { Steps (state_of nodes.old) (state_of nodes.new) (event.Hear (node.Storage tag) from tell taken) result }
+    ensures refused { Refuses (state_of nodes.old) (event.Hear (node.Storage tag) from tell taken) result }
     ensures stays { OnOk result (IsKept nodes.new) }
 {
     step_law();
@@ -118,7 +118,7 @@ pub(crate) fn heard_in_place(
         return Err(why);
     }
     let told_by = from;
-    if !nodes.was_told(told_by, by, tell) {
+    if !nodes.was_told(told_by, by, &tell) {
         return Err(NotEnabled::NeverSent);
     }
     match taken {
@@ -133,13 +133,13 @@ fn hear_whole_in_place(
     nodes: &mut Nodes,
     tag: Tag,
     from: NodeId,
-    tell: &Tell,
+    tell: Tell,
 ) -> Result<Answer, NotEnabled>
     requires kept { IsKept nodes.old }
-    requires heard { IsHeardBy (state_of nodes.old).config (state_of nodes.old).turns (node.Storage tag) from tell.now }
+    requires heard { IsHeardBy (state_of nodes.old).config (state_of nodes.old).turns (node.Storage tag) from tell }
     ensures turn { IfOk result (λ answer. stepped_by (state_of nodes.old)
         (heard_by_storage (storage_at (state_of nodes.old).config (state_of nodes.old).turns tag) tag from
-        tell.now None) ≡ Ok (state_of nodes.new, answer)) }
+        tell None) ≡ Ok (state_of nodes.new, answer)) }
     ensures refused { IfErr result (λ why. why ≡ not_enabled.Memory) }
     ensures stays { OnOk result (IsKept nodes.new) }
 {
@@ -155,20 +155,20 @@ fn hear_in_part_in_place(
     nodes: &mut Nodes,
     tag: Tag,
     from: NodeId,
-    tell: &Tell,
+    tell: Tell,
     version: Version,
 ) -> Result<Answer, NotEnabled>
     requires kept { IsKept nodes.old }
-    requires heard { IsHeardBy (state_of nodes.old).config (state_of nodes.old).turns (node.Storage tag) from tell.now }
+    requires heard { IsHeardBy (state_of nodes.old).config (state_of nodes.old).turns (node.Storage tag) from tell }
     ensures turn { IfOk result (λ answer. stepped_by (state_of nodes.old)
         (heard_by_storage (storage_at (state_of nodes.old).config (state_of nodes.old).turns tag) tag from
-        tell.now (Some version)) ≡ Ok (state_of nodes.new, answer)) }
+        tell (Some version)) ≡ Ok (state_of nodes.new, answer)) }
     ensures refused { RefusesTurn (heard_by_storage
-        (storage_at (state_of nodes.old).config (state_of nodes.old).turns tag) tag from tell.now
+        (storage_at (state_of nodes.old).config (state_of nodes.old).turns tag) tag from tell
         (Some version)) result }
     ensures stays { OnOk result (IsKept nodes.new) }
 {
-    if !nodes.may_break(tag, &from, tell, version) {
+    if !nodes.may_break(tag, &from, &tell, version) {
         return Err(NotEnabled::NeverSent);
     }
     nodes.break_storage_in_place(alloc, tag, from, tell, version)?;

@@ -32,28 +32,27 @@ impl Nodes {
         alloc: Global,
         from: NodeId,
         index: u8,
-        ask: &CellAsk,
+        ask: CellAsk,
     ) -> Result<CellTell, Memory>
         requires kept { IsKept self.old }
         requires turn { IsTurn (state_of self.old).config (state_of self.old).turns
-            (history.CellTurn from index ask.now
-            (cell.answer_of (nodes.cell_at (state_of self.old).config (state_of self.old).turns index) ask.now)) }
-        ensures told { IfOk result (λ told. told ≡ cell.answer_of (nodes.cell_at (state_of self.old).config (state_of self.old).turns index) ask.now) }
+            (history.CellTurn from index ask
+            (cell.answer_of (nodes.cell_at (state_of self.old).config (state_of self.old).turns index) ask)) }
+        ensures told { IfOk result (λ told. told ≡ cell.answer_of (nodes.cell_at (state_of self.old).config (state_of self.old).turns index) ask) }
         ensures world { OnOk result (state_of self.new
             ≡ with_turn (state_of self.old)
-            (history.CellTurn from index ask.now
-            (cell.answer_of (nodes.cell_at (state_of self.old).config (state_of self.old).turns index) ask.now))) }
+            (history.CellTurn from index ask
+            (cell.answer_of (nodes.cell_at (state_of self.old).config (state_of self.old).turns index) ask))) }
         ensures err { OnErr result (state_of self.new ≡ state_of self.old) }
         ensures stays { IsKept self.new }
     {
         node_laws();
         self.turns.reserve()?;
-        let kept = ask.copy()?;
         let told = ask_cell(alloc, &mut self.cells, usize::from(index), ask.copy()?)?;
         self.turns.push_reserved(Turn::Cell {
             from,
             index,
-            ask: kept,
+            ask,
             tell: told.kept,
         });
         Ok(told.handed)
@@ -65,32 +64,31 @@ impl Nodes {
         alloc: Global,
         from: NodeId,
         id: LogId,
-        ask: &LogAsk,
+        ask: LogAsk,
     ) -> Result<LogTell, Memory>
         requires kept { IsKept self.old }
         requires turn { IsTurn (state_of self.old).config (state_of self.old).turns
-            (history.LogTurn from id.epoch id.index ask.now
+            (history.LogTurn from id.epoch id.index ask
             (log.answer_of (nodes.log_at (state_of self.old).config (state_of self.old).turns id.epoch id.index)
-            ask.now)) }
+            ask)) }
         ensures told { IfOk result (λ told. told
             ≡ log.answer_of (nodes.log_at (state_of self.old).config (state_of self.old).turns id.epoch id.index)
-            ask.now) }
+            ask) }
         ensures world { OnOk result (state_of self.new
-            ≡ with_turn (state_of self.old) (history.LogTurn from id.epoch id.index ask.now
+            ≡ with_turn (state_of self.old) (history.LogTurn from id.epoch id.index ask
             (log.answer_of (nodes.log_at (state_of self.old).config (state_of self.old).turns id.epoch id.index)
-            ask.now))) }
+            ask))) }
         ensures err { OnErr result (state_of self.new ≡ state_of self.old) }
         ensures stays { IsKept self.new }
     {
         node_laws();
         self.make_log(alloc, id)?;
         self.turns.reserve()?;
-        let kept = ask.copy()?;
         let told = ask_log(alloc, &mut self.logs, (id.epoch, id.index), ask.copy()?)?;
         self.turns.push_reserved(Turn::Log {
             from,
             log: id,
-            ask: kept,
+            ask,
             tell: told.kept,
         });
         Ok(told.handed)

@@ -30,33 +30,32 @@ impl Nodes {
         epoch: Epoch,
         proxy: u8,
         from: NodeId,
-        tell: &Tell,
+        tell: Tell,
     ) -> Result<Outcome, Memory>
         requires kept { IsKept self.old }
         requires turn { IsTurn (state_of self.old).config (state_of self.old).turns
-            (history.ProxyHeard epoch proxy from tell.now
+            (history.ProxyHeard epoch proxy from tell
             (outcome_of (nodes.proxy_at (state_of self.old).config (state_of self.old).turns epoch proxy) from
-            tell.now) (new_asks (nodes.proxy_at (state_of self.old).config (state_of self.old).turns epoch proxy)
-            from tell.now)) }
+            tell) (new_asks (nodes.proxy_at (state_of self.old).config (state_of self.old).turns epoch proxy)
+            from tell)) }
         ensures outcome { IfOk result (λ outcome. outcome
             ≡ outcome_of (nodes.proxy_at (state_of self.old).config (state_of self.old).turns epoch proxy) from
-            tell.now) }
+            tell) }
         ensures world { OnOk result (state_of self.new
-            ≡ with_turn (state_of self.old) (history.ProxyHeard epoch proxy from tell.now
+            ≡ with_turn (state_of self.old) (history.ProxyHeard epoch proxy from tell
             (outcome_of (nodes.proxy_at (state_of self.old).config (state_of self.old).turns epoch proxy) from
-            tell.now) (new_asks (nodes.proxy_at (state_of self.old).config (state_of self.old).turns epoch proxy)
-            from tell.now))) }
+            tell) (new_asks (nodes.proxy_at (state_of self.old).config (state_of self.old).turns epoch proxy)
+            from tell))) }
         ensures err { OnErr result (state_of self.new ≡ state_of self.old) }
         ensures stays { IsKept self.new }
     {
         node_laws();
         self.keep_proxy_of(epoch, proxy)?;
         self.turns.reserve()?;
-        let kept = tell.copy()?;
         let by = again(&from);
-        let (outcome, asks) = tell_proxy(alloc, &mut self.proxies, (epoch, proxy), by, tell)?;
+        let (outcome, asks) = tell_proxy(alloc, &mut self.proxies, (epoch, proxy), by, &tell)?;
         self.turns
-            .push_reserved(heard(epoch, proxy, from, kept, &outcome, asks));
+            .push_reserved(heard(epoch, proxy, from, tell, &outcome, asks));
         Ok(outcome)
     }
 
@@ -79,16 +78,16 @@ impl Nodes {
         epoch: Epoch,
         proxy: u8,
         step: Step,
-        batch: &Batch,
+        batch: Batch,
     ) -> Result<(), Memory>
         requires kept { IsKept self.old }
         requires up { IsUp (state_of self.old).config (state_of self.old).turns (node.Proxy epoch proxy) }
         requires takes { submit_fault (nodes.proxy_at (state_of self.old).config (state_of self.old).turns epoch proxy) ≡ None }
         requires step { 1 ≤ step }
         ensures world { OnOk result (state_of self.new
-            ≡ with_turn (state_of self.old) (history.Submitted epoch proxy step batch.now
+            ≡ with_turn (state_of self.old) (history.Submitted epoch proxy step batch
             (number_ask (nodes.proxy_at (state_of self.old).config (state_of self.old).turns epoch proxy)
-            (opened (nodes.proxy_at (state_of self.old).config (state_of self.old).turns epoch proxy) step batch.now)
+            (opened (nodes.proxy_at (state_of self.old).config (state_of self.old).turns epoch proxy) step batch)
             ∷ []))) }
         ensures err { OnErr result (state_of self.new ≡ state_of self.old) }
         ensures stays { IsKept self.new }
@@ -97,9 +96,8 @@ impl Nodes {
         self.keep_proxy_of(epoch, proxy)?;
         self.turns.reserve()?;
         let kept = batch.copy()?;
-        let given = batch.copy()?;
         let room = room(alloc)?;
-        let ask = submit(&mut self.proxies, (epoch, proxy), step, given);
+        let ask = submit(&mut self.proxies, (epoch, proxy), step, batch);
         self.turns
             .push_reserved(taken(epoch, proxy, step, kept, ask, room));
         Ok(())

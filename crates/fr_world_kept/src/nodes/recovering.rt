@@ -55,27 +55,26 @@ impl Nodes {
         alloc: Global,
         ballot: Ballot,
         from: NodeId,
-        tell: &Tell,
+        tell: Tell,
     ) -> Result<(), Memory>
         requires kept { IsKept self.old }
         requires there { IsSome (rec_at (state_of self.old).config (state_of self.old).turns ballot) }
         requires turn { IfSome (rec_at (state_of self.old).config (state_of self.old).turns ballot)
             (λ r. IsTurn (state_of self.old).config (state_of self.old).turns
-            (history.RecHeard ballot from tell.now (new_asks r from tell.now))) }
+            (history.RecHeard ballot from tell (new_asks r from tell))) }
         ensures world { OnOk result (IfSome (rec_at (state_of self.old).config (state_of self.old).turns ballot)
             (λ r. state_of self.new
-            ≡ with_turn (state_of self.old) (history.RecHeard ballot from tell.now (new_asks r from tell.now)))) }
+            ≡ with_turn (state_of self.old) (history.RecHeard ballot from tell (new_asks r from tell)))) }
         ensures err { OnErr result (state_of self.new ≡ state_of self.old) }
         ensures stays { IsKept self.new }
     {
         node_laws();
         self.turns.reserve()?;
-        let kept = tell.copy()?;
         let asks = tell_recoverer(alloc, &mut self.recoverers, ballot, from, tell.copy()?)?;
         self.turns.push_reserved(Turn::Recoverer {
             ballot,
             from,
-            tell: kept,
+            tell,
             asks,
         });
         Ok(())

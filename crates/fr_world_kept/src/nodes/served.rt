@@ -13,7 +13,7 @@ use fr_base::{Memory, NodeId, Tag, Version};
 use fr_run::laws::node_laws;
 use fr_storage::StorageFault;
 use fr_world_nodes::storages::{
-    Heard, break_in_place, break_server, may_break, tell_in_place, tell_server,
+    ServerHeard, break_in_place, break_server, may_break, tell_in_place, tell_server,
 };
 use fr_world_turns::Turn;
 use std::alloc::Global;
@@ -25,29 +25,33 @@ impl Nodes {
         alloc: Global,
         tag: Tag,
         from: NodeId,
-        tell: &Tell,
+        tell: Tell,
     ) -> Result<Option<StorageFault>, Memory>
         requires kept { IsKept self.old }
         requires turn { IsTurn (state_of self.old).config (state_of self.old).turns
-            (history.StorageHeard tag from tell.now None
-            (fault_of (nodes.storage_at (state_of self.old).config (state_of self.old).turns tag) from tell.now)) }
-        ensures fault { IfOk result (λ fault. fault ≡ fault_of (nodes.storage_at (state_of self.old).config (state_of self.old).turns tag) from tell.now) }
+            (history.StorageHeard tag from tell None
+            (fault_of (nodes.storage_at (state_of self.old).config (state_of self.old).turns tag) from tell)) }
+        ensures fault { IfOk result (λ fault. fault ≡ fault_of (nodes.storage_at (state_of self.old).config (state_of self.old).turns tag) from tell) }
         ensures world { OnOk result (state_of self.new
-            ≡ with_turn (state_of self.old) (history.StorageHeard tag from tell.now None
-            (fault_of (nodes.storage_at (state_of self.old).config (state_of self.old).turns tag) from tell.now))) }
+            ≡ with_turn (state_of self.old) (history.StorageHeard tag from tell None
+            (fault_of (nodes.storage_at (state_of self.old).config (state_of self.old).turns tag) from tell))) }
         ensures err { OnErr result (state_of self.new ≡ state_of self.old) }
         ensures stays { IsKept self.new }
     {
         node_laws();
         self.turns.reserve()?;
-        let kept = tell.copy()?;
         let number = usize::from(tag.get());
-        let Heard { server, fault } = tell_server(alloc, &self.storages[number], &from, tell)?;
+        let ServerHeard { server, fault } = tell_server(
+            alloc,
+            &self.storages[number],
+            &from,
+            &tell,
+        )?;
         self.storages[number] = server;
         self.turns.push_reserved(Turn::Storage {
             tag,
             from,
-            tell: kept,
+            tell,
             taken: None,
             fault,
         });
@@ -60,27 +64,26 @@ impl Nodes {
         alloc: Global,
         tag: Tag,
         from: NodeId,
-        tell: &Tell,
+        tell: Tell,
     ) -> Result<Option<StorageFault>, Memory>
         requires kept { IsKept self.old }
         requires turn { IsTurn (state_of self.old).config (state_of self.old).turns
-            (history.StorageHeard tag from tell.now None
-            (fault_of (nodes.storage_at (state_of self.old).config (state_of self.old).turns tag) from tell.now)) }
-        ensures fault { IfOk result (λ fault. fault ≡ fault_of (nodes.storage_at (state_of self.old).config (state_of self.old).turns tag) from tell.now) }
+            (history.StorageHeard tag from tell None
+            (fault_of (nodes.storage_at (state_of self.old).config (state_of self.old).turns tag) from tell)) }
+        ensures fault { IfOk result (λ fault. fault ≡ fault_of (nodes.storage_at (state_of self.old).config (state_of self.old).turns tag) from tell) }
         ensures world { OnOk result (state_of self.new
-            ≡ with_turn (state_of self.old) (history.StorageHeard tag from tell.now None
-            (fault_of (nodes.storage_at (state_of self.old).config (state_of self.old).turns tag) from tell.now))) }
+            ≡ with_turn (state_of self.old) (history.StorageHeard tag from tell None
+            (fault_of (nodes.storage_at (state_of self.old).config (state_of self.old).turns tag) from tell))) }
         ensures stays { OnOk result (IsKept self.new) }
     {
         node_laws();
         self.turns.reserve()?;
-        let kept = tell.copy()?;
         let number = usize::from(tag.get());
-        let fault = tell_in_place(alloc, &mut self.storages[number], &from, tell)?;
+        let fault = tell_in_place(alloc, &mut self.storages[number], &from, &tell)?;
         self.turns.push_reserved(Turn::Storage {
             tag,
             from,
-            tell: kept,
+            tell,
             taken: None,
             fault,
         });
@@ -103,28 +106,27 @@ impl Nodes {
         alloc: Global,
         tag: Tag,
         from: NodeId,
-        tell: &Tell,
+        tell: Tell,
         version: Version,
     ) -> Result<(), Memory>
         requires kept { IsKept self.old }
-        requires heard { IsHeardBy (state_of self.old).config (state_of self.old).turns (node.Storage tag) from tell.now }
-        requires breaks { may_break (nodes.storage_at (state_of self.old).config (state_of self.old).turns tag) from tell.now version ≡ true }
+        requires heard { IsHeardBy (state_of self.old).config (state_of self.old).turns (node.Storage tag) from tell }
+        requires breaks { may_break (nodes.storage_at (state_of self.old).config (state_of self.old).turns tag) from tell version ≡ true }
         ensures world { OnOk result (state_of self.new
-            ≡ with_turn (state_of self.old) (history.StorageHeard tag from tell.now (Some version)
-            (fault_of (nodes.storage_at (state_of self.old).config (state_of self.old).turns tag) from tell.now))) }
+            ≡ with_turn (state_of self.old) (history.StorageHeard tag from tell (Some version)
+            (fault_of (nodes.storage_at (state_of self.old).config (state_of self.old).turns tag) from tell))) }
         ensures err { OnErr result (state_of self.new ≡ state_of self.old) }
         ensures stays { IsKept self.new }
     {
         node_laws();
         self.turns.reserve()?;
-        let kept = tell.copy()?;
         let number = usize::from(tag.get());
-        let server = break_server(alloc, &self.storages[number], &from, tell, version)?;
+        let server = break_server(alloc, &self.storages[number], &from, &tell, version)?;
         self.storages[number] = server;
         self.turns.push_reserved(Turn::Storage {
             tag,
             from,
-            tell: kept,
+            tell,
             taken: Some(version),
             fault: None,
         });
@@ -137,26 +139,25 @@ impl Nodes {
         alloc: Global,
         tag: Tag,
         from: NodeId,
-        tell: &Tell,
+        tell: Tell,
         version: Version,
     ) -> Result<(), Memory>
         requires kept { IsKept self.old }
-        requires heard { IsHeardBy (state_of self.old).config (state_of self.old).turns (node.Storage tag) from tell.now }
-        requires breaks { may_break (nodes.storage_at (state_of self.old).config (state_of self.old).turns tag) from tell.now version ≡ true }
+        requires heard { IsHeardBy (state_of self.old).config (state_of self.old).turns (node.Storage tag) from tell }
+        requires breaks { may_break (nodes.storage_at (state_of self.old).config (state_of self.old).turns tag) from tell version ≡ true }
         ensures world { OnOk result (state_of self.new
-            ≡ with_turn (state_of self.old) (history.StorageHeard tag from tell.now (Some version)
-            (fault_of (nodes.storage_at (state_of self.old).config (state_of self.old).turns tag) from tell.now))) }
+            ≡ with_turn (state_of self.old) (history.StorageHeard tag from tell (Some version)
+            (fault_of (nodes.storage_at (state_of self.old).config (state_of self.old).turns tag) from tell))) }
         ensures stays { OnOk result (IsKept self.new) }
     {
         node_laws();
         self.turns.reserve()?;
-        let kept = tell.copy()?;
         let number = usize::from(tag.get());
-        break_in_place(alloc, &mut self.storages[number], &from, tell, version)?;
+        break_in_place(alloc, &mut self.storages[number], &from, &tell, version)?;
         self.turns.push_reserved(Turn::Storage {
             tag,
             from,
-            tell: kept,
+            tell,
             taken: Some(version),
             fault: None,
         });

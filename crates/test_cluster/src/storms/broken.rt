@@ -49,6 +49,9 @@ fn broken_off<R: Threads + Wait + Sync>(
     let storm = Storm::new(Draws {
         seed,
         strength: 32,
+        late: 0,
+        crashes: 0,
+        losses: 0,
         coordinators: 3,
         logs: 4,
     });
@@ -56,7 +59,12 @@ fn broken_off<R: Threads + Wait + Sync>(
         tag: Tag::new(0).ok_or("a tag")?,
     };
     let (config, works, ballots) = (config(alloc)?, works(alloc, seed)?, ballots()?);
-    let (report, _works) = Cluster::run(rt, alloc, config, &ballots, 300, rack, works, &storm)?;
+    let cluster = Cluster {
+        config,
+        ballots: &ballots,
+        turns: 300,
+    };
+    let (report, _works) = cluster.run(rt, alloc, rack, works, &storm)?;
     Ok(parts_of(&report, server))
 }
 

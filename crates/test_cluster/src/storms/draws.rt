@@ -4,7 +4,7 @@ ghost use Rattle.std.specs.Prelude.{◌≡◌};
 use fr_ask::Ask;
 use fr_base::{Epoch, NodeId};
 use fr_register::CellAsk;
-use fr_runtime_station::{Faults, Verdict};
+use fr_runtime_station::{Blow, Faults, Verdict};
 use fr_runtime_storm::{Draws, Storm, word_of};
 use std::process::Abort;
 use std::test::Fail;
@@ -37,6 +37,9 @@ fn draws(seed: u64, strength: u16) -> Draws
     Draws {
         seed,
         strength,
+        late: 0,
+        crashes: 0,
+        losses: 0,
         coordinators: 5,
         logs: 6,
     }
@@ -71,7 +74,7 @@ static VERDICTS: [Verdict; 24] = [
 ];
 
 /// What happens to the next ask.
-fn next(storm: &Storm) -> Result<Verdict, Fail> {
+pub(crate) fn next(storm: &Storm) -> Result<Verdict, Fail> {
     let epoch = Epoch::new(513).ok_or("an epoch")?;
     let ask = Ask::Cell(CellAsk::Read {
         ballot: epoch.ballot(),
@@ -120,13 +123,17 @@ enum Crashed {
     Nothing,
 }
 
-/// The node that crashes, if there is one. A log is one of the first generation.
-fn node(crashed: Crashed) -> Result<Option<NodeId>, Fail> {
+/// What befalls a node, if something does: a crash. A log is one of the first generation.
+fn blow(crashed: Crashed) -> Result<Option<Blow>, Fail> {
     match crashed {
-        Crashed::Cell(index) => Ok(Some(NodeId::Cell { index })),
+        Crashed::Cell(index) => Ok(Some(Blow::Crash {
+            node: NodeId::Cell { index },
+        })),
         Crashed::Log(index) => {
             let epoch = Epoch::new(257).ok_or("an epoch")?;
-            Ok(Some(NodeId::Log { epoch, index }))
+            Ok(Some(Blow::Crash {
+                node: NodeId::Log { epoch, index },
+            }))
         }
         Crashed::Nothing => Ok(None),
     }
@@ -175,11 +182,11 @@ fn crash(rt: &impl Abort, storm: &Storm, crashes: &[Crashed]) -> Result<(), Fail
     for (number, crashed) in crashes.iter().enumerate() {
         for _ in 0..63u32 {
             turn = turn.wrapping_add(1);
-            assert!(rt; storm.crash(turn).is_none(), "{turn}");
+            assert!(rt; storm.strikes(turn, &[]).is_none(), "{turn}");
         }
         turn = turn.wrapping_add(1);
-        let wanted = node(*crashed)?;
-        assert!(rt; storm.crash(turn) == wanted, "{number}");
+        let wanted = blow(*crashed)?;
+        assert!(rt; storm.strikes(turn, &[]) == wanted, "{number}");
     }
     Ok(())
 }

@@ -1,5 +1,5 @@
 //! What two ballots that contend over three cells come to.
-use example_ballots::{Outcome, in_turn, overtaken};
+use example_ballots::{SceneEnd, in_turn, overtaken};
 use fr_register::{Cell, CellValue, Progress};
 use std::alloc::Global;
 use std::test::Fail;
@@ -16,14 +16,14 @@ fn holds(cell: &Cell, ballot: u64, value: &CellValue) -> bool {
 }
 
 /// Whether the second ballot found nothing and has its value in a majority.
-fn has_overtaken(end: &Outcome, second_value: &CellValue) -> bool {
+fn has_overtaken(end: &SceneEnd, second_value: &CellValue) -> bool {
     matches!(end.second.wrote, Progress::Majority)
         && end.second.found.value.len() == 0
         && holds(&end.cells.middle, 512, second_value)
 }
 
 /// Whether the first ballot has its value in a majority, and the second found it.
-fn has_followed(end: &Outcome, first_value: &CellValue) -> bool {
+fn has_followed(end: &SceneEnd, first_value: &CellValue) -> bool {
     matches!(end.first.wrote, Progress::Majority)
         && end.second.found.value.as_slice() == first_value.as_slice()
         && holds(&end.cells.left, 256, first_value)

@@ -11,4 +11,4 @@ returns-clause-fault g c =
     let ballots = c.as_slice.result.now in
     let told = c.in_ok-audit_fault-in-Err.ensures in
     let h = subst (λ (fault : RunFault). IsExplained g.W.Workload.given g.W.Workload.heard (g.F.Faults.begun c.args.faults.now) c.args.words.now.turns config c.args.works.items ballots fault) told.0 c.in-Err.ensures.fault told.1 in
-    bad-of (g.F.Faults.begun c.args.faults.now) c.args.words.now config ballots h.journals _ h.found h.have_begun (search rules) (search rules)
+    bad-of (g.F.Faults.begun c.args.faults.now) c.args.words.now c.args.shapes.now config ballots h.journals _ h.found h.have_begun (search rules) (search rules)

@@ -1,6 +1,6 @@
 use Rattle.std.proofs.Common.{subst, ◌≡◌}
 use Rattle.std.specs.Prelude.{IfOk}
-use Rattle.fr_runtime_spawn.specs.Sworn.{AllDone}
+use Rattle.fr_runtime.specs.Sworn.{AllDone}
 use Rattle.fr_runtime.specs.Job.{AllDid, Did, oks}
 use Rattle.fr_runtime.proofs.Heards.{all-did}
 use Rattle.fr_runtime.proofs.job.run_threads.Goals as goal

@@ -8,4 +8,4 @@ use Rattle.fr_world.proofs.step.heard_owned.Goals as goal
 -- the node that hears is the one that its kind's own function has
 pub returns-in-Storage-clause-refused : goal.returns-in-Storage-clause-refused
 returns-in-Storage-clause-refused c =
-    subst (λ (by : NodeId). Refuses (state_of c.args.nodes.now) (event.Hear by c.args.from.now c.args.tell.now c.args.taken) c.heard_in_place.result) (sym c.in-Storage.is) c.heard_in_place.ensures.refused
+    subst (λ (by : NodeId). Refuses (state_of c.args.nodes.now) (event.Hear by c.args.from c.args.tell c.args.taken) c.heard_in_place.result) (sym c.in-Storage.is) c.heard_in_place.ensures.refused

@@ -2,7 +2,7 @@ use Rattle.std.proofs.Common.{◌≡◌, Bool, false, map, None}
 use Rattle.std.specs.Prelude.{◌≢◌, Contains, IfSome}
 use Rattle.fr_undo.specs.declared.fault.StoreFault.TheVariants.{Failed}
 use Rattle.fr_state.specs.Generations.{CoordinatedState}
-use Rattle.fr_storage.specs.declared.answer.Answer.{Answer}
+use Rattle.fr_storage.specs.declared.answer.LogAnswer.{LogAnswer}
 use Rattle.fr_storage.specs.Storage.{StorageState}
 use Rattle.fr_storage.specs.Server.{storage_of, IsMarkTrouble}
 use Rattle.fr_storage.specs.Follows.{Pieces, ArePieces}
@@ -19,6 +19,6 @@ invariant-loop-answer g l = record {
   met : IfSome l.met (λ fault. fault ≢ Failed → IsMarkTrouble g.S.ShardStore.CanMeet g.S.ShardStore.CanMeetInPlace fault);
   works : l.fn.self.failed ≡ false → l.self.failed ≡ false;
   course : l.fn.self.failed ≡ false → (n : StorageState) → LeadTo (storage_of g.S.ShardStore.state l.self) l.answer-iterator.rest.items n → LeadTo (storage_of g.S.ShardStore.state l.fn.self) l.fn.answers.items n;
-  among : (a : Answer) → Contains l.answer-iterator.rest.items a → Contains l.fn.answers.items a;
+  among : (a : LogAnswer) → Contains l.answer-iterator.rest.items a → Contains l.fn.answers.items a;
   standing : (pieces : Pieces) (is_chosen : CoordinatedState → Bool) → ArePieces pieces → AreOneChain pieces (IsChosenBy is_chosen) → AreTrueTo g.S.ShardStore.state g.S.ShardStore.MayLeave pieces (IsChosenBy is_chosen) (map heard_of l.fn.answers.items) l.fn.self → IsStanding g.S.ShardStore.state g.S.ShardStore.MayLeave pieces (IsChosenBy is_chosen) l.fn.self → IsStanding g.S.ShardStore.state g.S.ShardStore.MayLeave pieces (IsChosenBy is_chosen) l.self × AreTrueTo g.S.ShardStore.state g.S.ShardStore.MayLeave pieces (IsChosenBy is_chosen) (map heard_of l.answer-iterator.rest.items) l.self;
 }

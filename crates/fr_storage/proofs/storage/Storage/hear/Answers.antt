@@ -1,5 +1,5 @@
 use Rattle.std.proofs.Common.{sym, subst}
-use Rattle.fr_storage.specs.declared.answer.Answer.{Answer}
+use Rattle.fr_storage.specs.declared.answer.LogAnswer.{LogAnswer}
 use Rattle.fr_storage.specs.Course.{Mark, Records, calls_of, IsTrueHeard, IsChosenBy}
 use Rattle.fr_storage.specs.Server.{storage_of, LeavesStages}
 use Rattle.fr_storage.specs.Standing.{heard_of}
@@ -12,7 +12,7 @@ returns-in-Marked-clause-stands g c pieces is_chosen are one trues standing =
     let h = c.hear_marked.ensures in
     heard_stands store.state store.MayLeave c.storage_law.ensures.hear c.args.self.now c.hear_marked.new.self (Mark c.in-Marked.state) c.hear_marked.result
     (record { ok = h.ok; failed = h.failed; refused = h.refused; same = h.same; err = h.err; fails = h.fails; leaves = h.leaves; still = h.still })
-    pieces is_chosen are one (λ fine. subst (λ (answer : Answer). IsTrueHeard pieces (IsChosenBy is_chosen) (storage_of store.state c.args.self.now) (heard_of answer)) c.in-Marked.is (trues.works fine).0) standing
+    pieces is_chosen are one (λ fine. subst (λ (answer : LogAnswer). IsTrueHeard pieces (IsChosenBy is_chosen) (storage_of store.state c.args.self.now) (heard_of answer)) c.in-Marked.is (trues.works fine).0) standing
 
 pub returns-in-Peeked-clause-stands : goal.returns-in-Peeked-clause-stands
 returns-in-Peeked-clause-stands g c pieces is_chosen are one trues standing =
@@ -20,10 +20,10 @@ returns-in-Peeked-clause-stands g c pieces is_chosen are one trues standing =
     let h = c.hear_peeked.ensures in
     heard_stands store.state store.MayLeave c.storage_law.ensures.hear c.args.self.now c.hear_peeked.new.self (Records c.in-Peeked.epoch c.in-Peeked.peeked) c.hear_peeked.result
     (record { ok = h.ok; failed = h.failed; refused = h.refused; same = h.same; err = h.err; fails = h.fails; leaves = h.leaves; still = h.still })
-    pieces is_chosen are one (λ fine. subst (λ (answer : Answer). IsTrueHeard pieces (IsChosenBy is_chosen) (storage_of store.state c.args.self.now) (heard_of answer)) c.in-Peeked.is (trues.works fine).0) standing
+    pieces is_chosen are one (λ fine. subst (λ (answer : LogAnswer). IsTrueHeard pieces (IsChosenBy is_chosen) (storage_of store.state c.args.self.now) (heard_of answer)) c.in-Peeked.is (trues.works fine).0) standing
 
 pub returns-in-Marked-clause-leaves : goal.returns-in-Marked-clause-leaves
 returns-in-Marked-clause-leaves g c fine =
     let store = g.S.ShardStore in
-    subst (λ (answer : Answer). LeavesStages (store.MayLeave c.hear_marked.new.self.store) (store.state c.args.self.now.store) (calls_of (storage_of store.state c.args.self.now) (heard_of answer))) (sym c.in-Marked.is)
+    subst (λ (answer : LogAnswer). LeavesStages (store.MayLeave c.hear_marked.new.self.store) (store.state c.args.self.now.store) (calls_of (storage_of store.state c.args.self.now) (heard_of answer))) (sym c.in-Marked.is)
     (c.hear_marked.ensures.leaves fine)

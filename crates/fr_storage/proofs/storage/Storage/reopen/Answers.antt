@@ -14,7 +14,7 @@ returns-in_err-reopen-clause-stands g c pieces is_chosen are one trues standing 
     let is : IsServer store.state store.is_failed store.MayLeave old = subst (IsServer store.state store.is_failed store.MayLeave) c.self.view_is c.self.invariant in
     let none : refusal_of c.from_residual.result ≡ None = search rules in (
       failed_stands store.state store.is_failed store.MayLeave pieces (IsChosenBy is_chosen) old new
-          (finds store.state store.is_failed store.MayLeave pieces (IsChosenBy is_chosen) c.lower_laws.ensures old is standing)
+          (finds store.state store.is_failed store.MayLeave pieces (IsChosenBy is_chosen) c.store_laws.ensures old is standing)
           (ap (λ (v : Server g.row.S.Denot). v.tag) c.self.view_is) refl
           (λ x may. subst (λ (v : Server g.row.S.Denot). store.MayLeave v.store x) c.self.view_is (c.reopen.ensures.leaves x may)),
       not_some (refusal_of c.from_residual.result) Stranger none,
@@ -29,7 +29,7 @@ returns-in_err-state-clause-stands g c pieces is_chosen are one trues standing =
     let is : IsServer store.state store.is_failed store.MayLeave old = subst (IsServer store.state store.is_failed store.MayLeave) c.self.view_is c.self.invariant in
     let none : refusal_of c.from_residual-in_err-state.result ≡ None = search rules in (
       failed_stands store.state store.is_failed store.MayLeave pieces (IsChosenBy is_chosen) old new
-          (finds store.state store.is_failed store.MayLeave pieces (IsChosenBy is_chosen) c.lower_laws.ensures old is standing)
+          (finds store.state store.is_failed store.MayLeave pieces (IsChosenBy is_chosen) c.store_laws.ensures old is standing)
           (ap (λ (v : Server g.row.S.Denot). v.tag) c.self.view_is) refl
           (λ x may. subst (λ (v : Server g.row.S.Denot). store.MayLeave v.store x) c.self.view_is (c.reopen.ensures.leaves x (c.kept_state.ensures.leaves x may))),
       not_some (refusal_of c.from_residual-in_err-state.result) Stranger none,
@@ -45,7 +45,7 @@ returns-clause-stands g c pieces is_chosen are one trues standing =
     let is : IsServer store.state store.is_failed store.MayLeave old = subst (IsServer store.state store.is_failed store.MayLeave) c.self.view_is c.self.invariant in
     let same : store.state c.kept_state.new.store ≡ store.state c.reopen.new.self = c.in_ok-state.ensures.same in (
       opened_stands store.state store.is_failed store.MayLeave pieces (IsChosenBy is_chosen) old new
-          (finds store.state store.is_failed store.MayLeave pieces (IsChosenBy is_chosen) c.lower_laws.ensures old is standing)
+          (finds store.state store.is_failed store.MayLeave pieces (IsChosenBy is_chosen) c.store_laws.ensures old is standing)
           (ap (λ (v : Server g.row.S.Denot). v.tag) c.self.view_is) refl
           (subst (λ (v : Server g.row.S.Denot). store.MayLeave v.store (store.state c.kept_state.new.store)) c.self.view_is (subst (store.MayLeave c.self.inside.store) (sym same) c.in_ok-reopen.ensures.ok))
           c.in_ok-state.ensures.spelled.0 (ap (λ (t : StoreState). t.bytes) same ∙ c.in_ok-state.ensures.spelled.1),

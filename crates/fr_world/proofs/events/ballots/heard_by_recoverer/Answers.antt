@@ -7,6 +7,6 @@ use Rattle.fr_world.proofs.events.ballots.heard_by_recoverer.Goals as goal
 
 pub tell_recoverer-requires-clause-turn : goal.tell_recoverer-requires-clause-turn
 tell_recoverer-requires-clause-turn c =
-    let told : was_told c.args.nodes.now.turns.turns c.args.from (node.Recoverer c.args.ballot) c.args.tell.now ≡ true =
+    let told : was_told c.args.nodes.now.turns.turns c.args.from (node.Recoverer c.args.ballot) c.args.tell ≡ true =
     sym c.was_told-told.ensures ∙ c.if-not-told.false in
-    heard_may c.step_law.ensures.turn (state_of c.args.nodes.now) c.args.ballot c.args.from c.args.tell.now c.args.taken (sym c.in_default.ensures) told (sym c.is_some.ensures ∙ c.if-is_some.false)
+    heard_may c.step_law.ensures.turn (state_of c.args.nodes.now) c.args.ballot c.args.from c.args.tell c.args.taken (sym c.in_default.ensures) told (sym c.is_some.ensures ∙ c.if-is_some.false)

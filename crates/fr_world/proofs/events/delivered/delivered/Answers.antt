@@ -16,14 +16,14 @@ to_cell-requires-clause-turn c sent =
     let to = node.Cell c.in-Cell-to.index in
     let a = ask.Cell c.in-Cell.ask in
     cell_may c.step_law.ensures.turn w c.args.from c.in-Cell-to.index c.in-Cell.ask (up_of w c.args.to to c.in-Cell-to.is (sym c.why_not_up.ensures ∙ c.in_default.is))
-    (sym (sent_of c.args.nodes.now.turns.turns c.args.from c.args.to to c.args.ask.now a c.was_sent-sent.result c.in-Cell-to.is c.in-Cell.is c.was_sent-sent.ensures) ∙ sent)
+    (sym (sent_of c.args.nodes.now.turns.turns c.args.from c.args.to to c.args.ask a c.was_sent-sent.result c.in-Cell-to.is c.in-Cell.is c.was_sent-sent.ensures) ∙ sent)
 
 pub to_log-requires-clause-turn : goal.to_log-requires-clause-turn
 to_log-requires-clause-turn c may =
     let w = state_of c.args.nodes.now in
     let to = node.Log c.in-Log-to.epoch c.in-Log-to.index in
     let a = ask.Log c.in-Log.ask in
-    let sent = sent_of c.args.nodes.now.turns.turns c.args.from c.args.to to c.args.ask.now a c.was_sent-sent.result c.in-Log-to.is c.in-Log.is c.was_sent-sent.ensures in
+    let sent = sent_of c.args.nodes.now.turns.turns c.args.from c.args.to to c.args.ask a c.was_sent-sent.result c.in-Log-to.is c.in-Log.is c.was_sent-sent.ensures in
     let tests : c.if-sent.may ≡ (was_sent c.args.nodes.now.turns.turns c.args.from to a || storage_may_ask c.args.nodes.now.config c.args.nodes.now.turns.turns c.args.from c.in-Log.ask) =
     elim c.if-sent.branch [
       | then-sent b ↦ or_first c.if-sent.may c.was_sent-sent.result (was_sent c.args.nodes.now.turns.turns c.args.from to a) (storage_may_ask c.args.nodes.now.config c.args.nodes.now.turns.turns c.args.from c.in-Log.ask) sent b.if-sent.true b.may-is
@@ -38,4 +38,4 @@ to_sequencer-requires-clause-turn c sent =
     let to = node.Sequencer c.in-Sequencer.epoch in
     let a = ask.Seq c.in-Seq.ask in
     sequencer_may c.step_law.ensures.turn w c.args.from c.in-Sequencer.epoch c.in-Seq.ask (up_of w c.args.to to c.in-Sequencer.is (sym c.why_not_up.ensures ∙ c.in_default.is))
-    (sym (sent_of c.args.nodes.now.turns.turns c.args.from c.args.to to c.args.ask.now a c.was_sent-sent.result c.in-Sequencer.is c.in-Seq.is c.was_sent-sent.ensures) ∙ sent)
+    (sym (sent_of c.args.nodes.now.turns.turns c.args.from c.args.to to c.args.ask a c.was_sent-sent.result c.in-Sequencer.is c.in-Seq.is c.was_sent-sent.ensures) ∙ sent)

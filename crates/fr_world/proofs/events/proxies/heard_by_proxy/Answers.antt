@@ -7,6 +7,6 @@ use Rattle.fr_world.proofs.events.proxies.heard_by_proxy.Goals as goal
 
 pub tell_proxy-requires-clause-turn : goal.tell_proxy-requires-clause-turn
 tell_proxy-requires-clause-turn c =
-    let told : was_told c.args.nodes.now.turns.turns c.args.from (node.Proxy c.args.epoch c.args.proxy) c.args.tell.now ≡ true =
+    let told : was_told c.args.nodes.now.turns.turns c.args.from (node.Proxy c.args.epoch c.args.proxy) c.args.tell ≡ true =
     sym c.was_told-told.ensures ∙ c.if-not-told.false in
-    proxy_may_hear c.step_law.ensures.turn (state_of c.args.nodes.now) c.args.epoch c.args.proxy c.args.from c.args.tell.now c.args.taken (sym c.in_default.ensures) told (sym c.is_some.ensures ∙ c.if-is_some.false)
+    proxy_may_hear c.step_law.ensures.turn (state_of c.args.nodes.now) c.args.epoch c.args.proxy c.args.from c.args.tell c.args.taken (sym c.in_default.ensures) told (sym c.is_some.ensures ∙ c.if-is_some.false)

@@ -6,10 +6,10 @@ use Rattle.fr_world.proofs.events.served.heard_by_storage.Goals as goal
 -- nothing stands in the way of the server, and it was told
 pub hear_whole-requires-clause-heard : goal.hear_whole-requires-clause-heard
 hear_whole-requires-clause-heard c =
-    storage_may_hear c.step_law.ensures.turn (state_of c.args.nodes.now) c.args.tag c.args.from c.args.tell.now
+    storage_may_hear c.step_law.ensures.turn (state_of c.args.nodes.now) c.args.tag c.args.from c.args.tell
     (sym c.why_not_up.ensures ∙ c.in_default.is) (sym c.was_told.ensures ∙ c.if-not-was_told.false)
 
 pub hear_in_part-requires-clause-heard : goal.hear_in_part-requires-clause-heard
 hear_in_part-requires-clause-heard c =
-    storage_may_hear c.step_law.ensures.turn (state_of c.args.nodes.now) c.args.tag c.args.from c.args.tell.now
+    storage_may_hear c.step_law.ensures.turn (state_of c.args.nodes.now) c.args.tag c.args.from c.args.tell
     (sym c.why_not_up.ensures ∙ c.in_default.is) (sym c.was_told.ensures ∙ c.if-not-was_told.false)

@@ -1,25 +1,10 @@
-use Rattle.std.proofs.Common.{subst}
-use Rattle.fr_run_headline.specs.Safety.{IsGrownFrom, IsSafe}
+use Rattle.std.proofs.Common.{ap, subst, ◌∙◌}
+use Rattle.fr_run_headline.specs.Safety.{IsGrownFrom}
 use Rattle.fr_world_kept.specs.Kept.{WorldState, state_of}
-use Rattle.fr_world.proofs.Grows.{is_config, grown}
 use Rattle.fr_world.proofs.world.World.step.Goals as goal
 
-pub returns-clause-safe : goal.returns-clause-safe
-returns-clause-safe c =
-    let k = c.step.ensures.stays in
-    let w = state_of c.step.new.nodes in
-    c.safety_law.ensures.safe w.config w.turns (is_config k.within) k.run
-
-pub returns-clause-headline : goal.returns-clause-headline
-returns-clause-headline c =
-    let k = c.step.ensures.stays in
-    let w = state_of c.step.new.nodes in
-    let s : IsSafe w.config w.turns = c.safety_law.ensures.safe w.config w.turns (is_config k.within) k.run in
-    (s.rolled_back, s.acknowledged)
-
+-- the nodes in the box are those of the world
 pub returns-clause-grows : goal.returns-clause-grows
 returns-clause-grows c =
-    let k = c.step.ensures.stays in
-    let new = state_of c.step.new.nodes in
-    subst (λ (old : WorldState). IsGrownFrom new.config old.turns new.turns) c.self.view_is
-    (grown c.safety_law.ensures.turns c.safety_law.ensures.stands (state_of c.self.inside.nodes) new c.args.event.now c.step.result c.step.ensures.turn c.step.ensures.err (is_config k.within) k.run)
+    let new = state_of c.step_safely.new.nodes in
+    subst (λ (old : WorldState). IsGrownFrom new.config old.turns new.turns) (ap state_of c.deref_mut.ensures.value ∙ c.self.view_is) c.step_safely.ensures.grows

@@ -1,4 +1,4 @@
-use Rattle.std.proofs.Common.{◌≡◌, ap, ◌∙◌, slice_index_or, slice_set, ◌∷◌}
+use Rattle.std.proofs.Common.{refl, ◌≡◌, ap, ◌∙◌, slice_index_or, slice_set, ◌∷◌}
 use Rattle.fr_register.specs.CellState.{fresh_cell}
 use Rattle.fr_register.specs.Cell as cell
 use Rattle.fr_run.specs.Nodes as nodes
@@ -14,20 +14,20 @@ pub returns-clause-told : goal.returns-clause-told
 returns-clause-told c =
     let n = c.args.self.now in
     let e : c.from.result ≡ c.args.index = c.from.ensures in
-    cell_told n.config n.turns.turns c.args.index c.args.ask.now c.in_ok-copy.field-0 c.in_ok-told.told.handed n.cells.items c.requires.kept.cells_are c.requires.turn.0 c.in_ok-copy.ensures.ok
+    cell_told n.config n.turns.turns c.args.index c.args.ask c.in_ok-copy.field-0 c.in_ok-told.told.handed n.cells.items c.requires.kept.cells_are c.requires.turn.0 c.in_ok-copy.ensures.ok
     (c.in_ok-told.ensures.handed ∙ ap (λ j. cell.answer_of (slice_index_or n.cells.items j fresh_cell) c.in_ok-copy.field-0) e)
 
 -- the turn is entered
 later : (c : goal.After-push_reserved) → c.push_reserved.new.self.turns
-    ≡ history.CellTurn c.args.from c.args.index c.args.ask.now (cell.answer_of (nodes.cell_at c.args.self.now.config c.args.self.now.turns.turns c.args.index) c.args.ask.now) ∷ c.args.self.now.turns.turns
+    ≡ history.CellTurn c.args.from c.args.index c.args.ask (cell.answer_of (nodes.cell_at c.args.self.now.config c.args.self.now.turns.turns c.args.index) c.args.ask) ∷ c.args.self.now.turns.turns
 later c =
     let n = c.args.self.now in
     let e : c.from.result ≡ c.args.index = c.from.ensures in
-    let a = c.args.ask.now in
+    let a = c.args.ask in
     let h = n.turns.turns in
-    let x = code.Cell c.args.from c.args.index c.in_ok-kept.kept c.in_ok-told.told.kept in
+    let x = code.Cell c.args.from c.args.index c.args.ask c.in_ok-told.told.kept in
     let told = c.in_ok-told.ensures.kept ∙ ap (λ j. cell.answer_of (slice_index_or n.cells.items j fresh_cell) c.in_ok-copy.field-0) e in
-    let entered = cell_entered n.config h c.args.from c.args.index a c.in_ok-kept.kept c.in_ok-copy.field-0 c.in_ok-told.told.kept n.cells.items c.requires.kept.cells_are c.requires.turn.0 c.in_ok-kept.ensures.ok c.in_ok-copy.ensures.ok told in
+    let entered = cell_entered n.config h c.args.from c.args.index a c.args.ask c.in_ok-copy.field-0 c.in_ok-told.told.kept n.cells.items c.requires.kept.cells_are c.requires.turn.0 refl c.in_ok-copy.ensures.ok told in
     history_push n.turns.turns c.push_reserved.new.self.turns x (history.CellTurn c.args.from c.args.index a (cell.answer_of (nodes.cell_at n.config h c.args.index) a))
     (c.push_reserved.ensures ∙ ap (λ xs. turn_of x ∷ xs) c.in_ok-reserve.ensures.turns) entered
 
@@ -38,7 +38,7 @@ pub returns-clause-stays : goal.returns-clause-stays
 returns-clause-stays c =
     let n = c.args.self.now in
     let e : c.from.result ≡ c.args.index = c.from.ensures in
-    let a = c.args.ask.now in
+    let a = c.args.ask in
     let h = n.turns.turns in
     cell_world c.node_laws.ensures n.config h c.push_reserved.new.self.turns c.args.from c.args.index a c.in_ok-copy.field-0 (cell.answer_of (nodes.cell_at n.config h c.args.index) a) n.cells.items c.ask_cell.new.cells.items
     n.logs n.sequencers n.proxies n.recoverers n.storages.items c.requires.kept c.requires.turn c.in_ok-copy.ensures.ok

@@ -1,4 +1,4 @@
-use Rattle.std.proofs.Common.{◌≡◌, true, None, Some, sym, ap, subst, ◌∙◌, length, ◌∷◌}
+use Rattle.std.proofs.Common.{refl, ◌≡◌, true, None, Some, sym, ap, subst, ◌∙◌, length, ◌∷◌}
 use Rattle.std.proofs.lemmas.Bool.{ltb-true}
 use Rattle.fr_run_event.specs.Step.{may_break}
 use Rattle.fr_run.specs.Nodes as nodes
@@ -30,7 +30,7 @@ break_in_place-requires-clause-breaks c =
     let l = ltb-true c.args.tag (length n.config.begins) c.requires.heard.actor.there in
     let is = c.requires.kept.storages_are.each c.args.tag c.index_mut.result.now
     (server_there n.config n.turns.turns n.storages.items c.requires.kept.storages_are c.args.tag c.from-number.result same l c.index_mut.result.now c.index_mut.ensures.value) in
-    subst (λ (s : StorageState). may_break s c.args.from c.args.tell.now c.args.version ≡ true) (sym is) c.requires.breaks
+    subst (λ (s : StorageState). may_break s c.args.from c.args.tell c.args.version ≡ true) (sym is) c.requires.breaks
 
 old : (c : goal.After-push_reserved) → server_of c.index_mut.result.now ≡ nodes.storage_at c.args.self.now.config c.args.self.now.turns.turns c.args.tag
 old c =
@@ -42,15 +42,15 @@ old c =
 
 -- the turn is entered
 later : (c : goal.After-push_reserved) → c.push_reserved.new.self.turns
-    ≡ history.StorageHeard c.args.tag c.args.from c.args.tell.now (Some c.args.version) (fault_of (nodes.storage_at c.args.self.now.config c.args.self.now.turns.turns c.args.tag) c.args.from c.args.tell.now) ∷ c.args.self.now.turns.turns
+    ≡ history.StorageHeard c.args.tag c.args.from c.args.tell (Some c.args.version) (fault_of (nodes.storage_at c.args.self.now.config c.args.self.now.turns.turns c.args.tag) c.args.from c.args.tell) ∷ c.args.self.now.turns.turns
 later c =
     let n = c.args.self.now in
     let h = n.turns.turns in
     let s = nodes.storage_at n.config h c.args.tag in
-    let fault = fault_of s c.args.from c.args.tell.now in
-    let x = code.Storage c.args.tag c.args.from c.in_ok-kept.kept (Some c.args.version) None in
-    let entered = storage_entered c.args.tag c.args.from c.args.tell.now c.in_ok-kept.kept (Some c.args.version) fault None c.in_ok-kept.ensures.equal (sym (may_break_off s c.args.from c.args.tell.now c.args.version c.requires.breaks).0) in
-    history_push n.turns.turns c.push_reserved.new.self.turns x (history.StorageHeard c.args.tag c.args.from c.args.tell.now (Some c.args.version) fault)
+    let fault = fault_of s c.args.from c.args.tell in
+    let x = code.Storage c.args.tag c.args.from c.args.tell (Some c.args.version) None in
+    let entered = storage_entered c.args.tag c.args.from c.args.tell c.args.tell (Some c.args.version) fault None refl (sym (may_break_off s c.args.from c.args.tell c.args.version c.requires.breaks).0) in
+    history_push n.turns.turns c.push_reserved.new.self.turns x (history.StorageHeard c.args.tag c.args.from c.args.tell (Some c.args.version) fault)
     (c.push_reserved.ensures ∙ ap (λ xs. turn_of x ∷ xs) c.in_ok-reserve.ensures.turns) entered
 
 pub returns-clause-world : goal.returns-clause-world
@@ -61,7 +61,7 @@ returns-clause-stays c =
     let n = c.args.self.now in
     let h = n.turns.turns in
     let same : c.from-number.result ≡ c.args.tag = c.from-number.ensures ∙ c.get.ensures.value in
-    let turn = break_turn n.config h c.args.tag c.args.from c.args.tell.now c.args.version c.requires.heard c.requires.breaks in
-    storage_world c.node_laws.ensures n.config h c.push_reserved.new.self.turns c.args.tag c.from-number.result c.args.from c.args.tell.now (Some c.args.version)
-    (fault_of (nodes.storage_at n.config h c.args.tag) c.args.from c.args.tell.now) n.cells.items n.logs n.sequencers n.proxies n.recoverers n.storages.items
+    let turn = break_turn n.config h c.args.tag c.args.from c.args.tell c.args.version c.requires.heard c.requires.breaks in
+    storage_world c.node_laws.ensures n.config h c.push_reserved.new.self.turns c.args.tag c.from-number.result c.args.from c.args.tell (Some c.args.version)
+    (fault_of (nodes.storage_at n.config h c.args.tag) c.args.from c.args.tell) n.cells.items n.logs n.sequencers n.proxies n.recoverers n.storages.items
     c.index_mut.result.now c.break_in_place.new.server c.requires.kept turn same (old c) c.in_ok-break_in_place.ensures.state c.in_ok-break_in_place.ensures.works (later c)

@@ -27,7 +27,7 @@ returns-clause-world c =
     let e = c.args.epoch in
     let p = c.args.proxy in
     let step = c.args.step in
-    let batch = c.args.batch.now in
+    let batch = c.args.batch in
     let w = state_of m in
     let same = c.keep_proxy_of.ensures.state in
     let kept = c.keep_proxy_of.ensures.stays in
@@ -35,7 +35,7 @@ returns-clause-world c =
     let up = up_same (state_of m) (state_of n) same (node.Proxy e p) c.requires.up in
     let open' = up_open m.config h e p up in
     let taken : turn_of c.taken.result ≡ Submitted e p step c.in_ok-kept.kept ((node.Sequencer e, c.submit-ask.result) ∷ []) = c.taken.ensures in
-    let entered = taken ∙ taken_entered c.node_laws.ensures m.config h e p step batch c.in_ok-kept.kept c.in_ok-given.given c.submit-ask.result m.proxies kept.proxies_are open' there c.in_ok-kept.ensures c.in_ok-given.ensures c.submit-ask.ensures.ask in
+    let entered = taken ∙ taken_entered c.node_laws.ensures m.config h e p step batch c.in_ok-kept.kept c.args.batch c.submit-ask.result m.proxies kept.proxies_are open' there c.in_ok-kept.ensures refl c.submit-ask.ensures.ask in
     let later = history_push m.turns.turns c.push_reserved.new.self.turns c.taken.result (taken_in w e p step batch) (c.push_reserved.ensures ∙ ap (λ xs. turn_of c.taken.result ∷ xs) c.in_ok-reserve.ensures.turns) entered in
     ap (λ x. let y : WorldState = record { config = m.config; turns = x } in y) later ∙ ap (λ x. with_turn x (taken_in x e p step batch)) same
 
@@ -47,7 +47,7 @@ returns-clause-stays c =
     let e = c.args.epoch in
     let p = c.args.proxy in
     let step = c.args.step in
-    let batch = c.args.batch.now in
+    let batch = c.args.batch in
     let w = state_of m in
     let same = c.keep_proxy_of.ensures.state in
     let kept = c.keep_proxy_of.ensures.stays in
@@ -55,9 +55,9 @@ returns-clause-stays c =
     let up = up_same (state_of m) (state_of n) same (node.Proxy e p) c.requires.up in
     let open' = up_open m.config h e p up in
     let taken : turn_of c.taken.result ≡ Submitted e p step c.in_ok-kept.kept ((node.Sequencer e, c.submit-ask.result) ∷ []) = c.taken.ensures in
-    let entered = taken ∙ taken_entered c.node_laws.ensures m.config h e p step batch c.in_ok-kept.kept c.in_ok-given.given c.submit-ask.result m.proxies kept.proxies_are open' there c.in_ok-kept.ensures c.in_ok-given.ensures c.submit-ask.ensures.ask in
+    let entered = taken ∙ taken_entered c.node_laws.ensures m.config h e p step batch c.in_ok-kept.kept c.args.batch c.submit-ask.result m.proxies kept.proxies_are open' there c.in_ok-kept.ensures refl c.submit-ask.ensures.ask in
     let later = history_push m.turns.turns c.push_reserved.new.self.turns c.taken.result (taken_in w e p step batch) (c.push_reserved.ensures ∙ ap (λ xs. turn_of c.taken.result ∷ xs) c.in_ok-reserve.ensures.turns) entered in
     let s = proxy_at m.config h e p in
     let none : proxy.submit_fault s ≡ None = takes_same (state_of m) (state_of n) same e p c.requires.takes in
-    taken_world c.node_laws.ensures m.config h c.push_reserved.new.self.turns e p step batch c.in_ok-given.given (proxy.number_ask s (proxy.opened s step batch) ∷ []) m.cells.items m.logs m.sequencers m.proxies c.submit-ask.new.proxies m.recoverers
-    m.storages.items kept (up, (may_take s none, c.requires.step), refl) there c.in_ok-given.ensures c.submit-ask.ensures.after later
+    taken_world c.node_laws.ensures m.config h c.push_reserved.new.self.turns e p step batch c.args.batch (proxy.number_ask s (proxy.opened s step batch) ∷ []) m.cells.items m.logs m.sequencers m.proxies c.submit-ask.new.proxies m.recoverers
+    m.storages.items kept (up, (may_take s none, c.requires.step), refl) there refl c.submit-ask.ensures.after later

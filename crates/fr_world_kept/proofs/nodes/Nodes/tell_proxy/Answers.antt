@@ -1,4 +1,4 @@
-use Rattle.std.proofs.Common.{◌≡◌, ap, ◌∙◌, ◌∷◌}
+use Rattle.std.proofs.Common.{refl, ◌≡◌, ap, ◌∙◌, ◌∷◌}
 use Rattle.fr_proxy.specs.Proxy as proxy
 use Rattle.fr_run.specs.Nodes.{proxy_at}
 use Rattle.fr_run.specs.Turn.{ProxyHeard}
@@ -16,7 +16,7 @@ returns-clause-outcome c =
     let e = c.args.epoch in
     let p = c.args.proxy in
     let from = c.args.from in
-    let t = c.args.tell.now in
+    let t = c.args.tell in
     let same = c.keep_proxy_of.ensures.state in
     let kept = c.keep_proxy_of.ensures.stays in
     let there = c.in_ok-keep_proxy_of.ensures.there in
@@ -34,7 +34,7 @@ returns-clause-world c =
     let e = c.args.epoch in
     let p = c.args.proxy in
     let from = c.args.from in
-    let t = c.args.tell.now in
+    let t = c.args.tell in
     let same = c.keep_proxy_of.ensures.state in
     let kept = c.keep_proxy_of.ensures.stays in
     let there = c.in_ok-keep_proxy_of.ensures.there in
@@ -42,9 +42,9 @@ returns-clause-world c =
     let turn = heard_same (state_of m) (state_of n) same e p from t c.requires.turn in
     let w = state_of m in
     let open' = heard_open m.config h e p from t (proxy.outcome_of (proxy_at m.config h e p) from t) (proxy.new_asks (proxy_at m.config h e p) from t) turn in
-    let heard : turn_of c.heard.result ≡ ProxyHeard e p from c.in_ok-kept.kept c.in_ok-outcome.outcome c.in_ok-outcome.asks.items = c.heard.ensures in
+    let heard : turn_of c.heard.result ≡ ProxyHeard e p from c.args.tell c.in_ok-outcome.outcome c.in_ok-outcome.asks.items = c.heard.ensures in
     let entered =
-    heard ∙ heard_entered m.config h e p c.again-by.result from t c.in_ok-kept.kept c.in_ok-outcome.outcome c.in_ok-outcome.asks.items m.proxies kept.proxies_are open' there named c.in_ok-kept.ensures.equal c.in_ok-outcome.ensures.outcome
+    heard ∙ heard_entered m.config h e p c.again-by.result from t c.args.tell c.in_ok-outcome.outcome c.in_ok-outcome.asks.items m.proxies kept.proxies_are open' there named refl c.in_ok-outcome.ensures.outcome
     c.in_ok-outcome.ensures.asks in
     let later = history_push m.turns.turns c.push_reserved.new.self.turns c.heard.result (heard_in w e p from t) (c.push_reserved.ensures ∙ ap (λ xs. turn_of c.heard.result ∷ xs) c.in_ok-reserve.ensures.turns) entered in
     ap (λ x. let y : WorldState = record { config = m.config; turns = x } in y) later ∙ ap (λ x. with_turn x (heard_in x e p from t)) same
@@ -57,7 +57,7 @@ returns-clause-stays c =
     let e = c.args.epoch in
     let p = c.args.proxy in
     let from = c.args.from in
-    let t = c.args.tell.now in
+    let t = c.args.tell in
     let same = c.keep_proxy_of.ensures.state in
     let kept = c.keep_proxy_of.ensures.stays in
     let there = c.in_ok-keep_proxy_of.ensures.there in
@@ -65,9 +65,9 @@ returns-clause-stays c =
     let turn = heard_same (state_of m) (state_of n) same e p from t c.requires.turn in
     let w = state_of m in
     let open' = heard_open m.config h e p from t (proxy.outcome_of (proxy_at m.config h e p) from t) (proxy.new_asks (proxy_at m.config h e p) from t) turn in
-    let heard : turn_of c.heard.result ≡ ProxyHeard e p from c.in_ok-kept.kept c.in_ok-outcome.outcome c.in_ok-outcome.asks.items = c.heard.ensures in
+    let heard : turn_of c.heard.result ≡ ProxyHeard e p from c.args.tell c.in_ok-outcome.outcome c.in_ok-outcome.asks.items = c.heard.ensures in
     let entered =
-    heard ∙ heard_entered m.config h e p c.again-by.result from t c.in_ok-kept.kept c.in_ok-outcome.outcome c.in_ok-outcome.asks.items m.proxies kept.proxies_are open' there named c.in_ok-kept.ensures.equal c.in_ok-outcome.ensures.outcome
+    heard ∙ heard_entered m.config h e p c.again-by.result from t c.args.tell c.in_ok-outcome.outcome c.in_ok-outcome.asks.items m.proxies kept.proxies_are open' there named refl c.in_ok-outcome.ensures.outcome
     c.in_ok-outcome.ensures.asks in
     let later = history_push m.turns.turns c.push_reserved.new.self.turns c.heard.result (heard_in w e p from t) (c.push_reserved.ensures ∙ ap (λ xs. turn_of c.heard.result ∷ xs) c.in_ok-reserve.ensures.turns) entered in
     heard_world c.node_laws.ensures m.config h c.push_reserved.new.self.turns e p c.again-by.result from t (proxy.outcome_of (proxy_at m.config h e p) from t) (proxy.new_asks (proxy_at m.config h e p) from t) m.cells.items m.logs m.sequencers

@@ -1,8 +1,0 @@
-use Rattle.fr_form_tokens.proofs.FitLemmas.{variant_closed}
-use Rattle.fr_form_tokens.proofs.asks.read_log_ask.Goals as goal
-
-pub returns : goal.returns
-returns c =
-    let made = c.read_log_ask_named-ask in
-    variant_closed 6 c.args.reader.now c.open_variant.new.reader made.new.reader c.closed.new.reader made.result c.closed.result
-    c.in_ok-name.ensures made.ensures c.closed.ensures.made c.closed.ensures.over

@@ -1,6 +1,0 @@
-use Rattle.serde_json.specs.View.{view}
-use Rattle.fr_form_tokens.proofs.FitLemmas.{tree_fits, whatever}
-use Rattle.fr_form_tokens.proofs.trees.read_variant.Goals as goal
-
-pub returns : goal.returns
-returns c = whatever c.of_tree.result (tree_fits 6 c.args.reader.now c.read_tree.new.reader (view c.in_ok-content.content) c.in_ok-content.ensures.value c.in_ok-content.ensures.shorter)

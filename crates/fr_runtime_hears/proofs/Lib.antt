@@ -1,5 +1,0 @@
-mod Climbs
-mod Found
-mod Marks
-mod Opened
-mod Peeks

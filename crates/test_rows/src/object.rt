@@ -1,0 +1,94 @@
+//! Objects of JSON, made member by member.
+use fr_base::Memory;
+use fr_forms::Object;
+use serde_json::Value;
+use std::alloc::Global;
+
+/// The members of an object under way, of values that are there.
+#[derive(Drop)]
+pub struct Members {
+    alloc: Global,
+    object: Object,
+}
+
+impl Members {
+    /// None yet.
+    pub fn new(alloc: Global) -> Self {
+        Members {
+            alloc,
+            object: Object::new(alloc),
+        }
+    }
+
+    /// With one member more.
+    pub fn with(self, name: &str, value: Value) -> Result<Self, Memory> {
+        self.and(name, Ok(value))
+    }
+
+    /// With one member more, where there was memory for its value.
+    pub fn and(self, name: &str, value: Result<Value, Memory>) -> Result<Self, Memory> {
+        let Members { alloc, object } = self;
+        let object = object.put(name, value)?;
+        Ok(Members { alloc, object })
+    }
+
+    /// With these numbers.
+    pub fn of(alloc: Global, numbers: &[(&str, u64)]) -> Result<Self, Memory> {
+        let mut members = Members::new(alloc);
+        for (name, number) in numbers {
+            members = members.with(name, Value::from(*number))?;
+        }
+        Ok(members)
+    }
+
+    /// With bytes more, as a text of lower case hex.
+    pub fn bytes(self, name: &str, bytes: &[u8]) -> Result<Self, Memory> {
+        let alloc = self.alloc;
+        self.with(name, hex_value(alloc, bytes)?)
+    }
+
+    /// The object.
+    pub fn value(self) -> Value {
+        self.object.into_value()
+    }
+
+    /// The object as the content of a variant.
+    pub fn named(self, name: &str) -> Result<Value, Memory> {
+        self.object.named(name)
+    }
+}
+
+/// A variant that has these numbers alone.
+pub fn numbered(alloc: Global, name: &str, numbers: &[(&str, u64)]) -> Result<Value, Memory> {
+    Members::of(alloc, numbers)?.named(name)
+}
+
+/// A variant that has one member.
+pub fn with_one(
+    alloc: Global,
+    name: &str,
+    member: &str,
+    value: Result<Value, Memory>,
+) -> Result<Value, Memory> {
+    Members::new(alloc).and(member, value)?.named(name)
+}
+
+/// A variant without content.
+pub fn bare_named(alloc: Global, name: &str) -> Result<Value, Memory> {
+    Members::new(alloc).named(name)
+}
+
+/// A variant with its content.
+pub fn named(alloc: Global, name: &str, content: Result<Value, Memory>) -> Result<Value, Memory> {
+    Ok(Members::new(alloc).and(name, content)?.value())
+}
+
+/// Bytes as a text of lower case hex.
+pub fn hex_value(alloc: Global, bytes: &[u8]) -> Result<Value, Memory> {
+    Ok(Value::String(hex::encode(alloc, bytes)?))
+}
+
+/// A text.
+pub fn write_text(alloc: Global, text: &str) -> Result<Value, Memory> {
+    Ok(Value::try_from_str(alloc, text)?)
+}
