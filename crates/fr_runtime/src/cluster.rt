@@ -81,7 +81,8 @@ impl Cluster<'_> {
         ensures handed { IfOk result (λ done. IsHanded self.entry.config done.0.journals.items done.0.world.turns) }
         ensures heard { IfOk result (λ done. AreHeard W.given W.heard done.0.journals.items 0 workloads.items done.1.items done.0.told.items) }
         ensures begun { IfOk result (λ done. AllBegin (F.begun faults.now) self.entry.turns done.0.journals.items self.entry.ballots.now) }
-        ensures fault { IfErr result (λ fault. IsExplained W.given W.heard (F.begun faults.now) self.entry.turns self.entry.config workloads.items self.entry.ballots.now fault) }
+        ensures fault { IfErr result
+            (λ fault. IsExplained W.given W.heard (F.begun faults.now) self.entry.turns self.entry.config workloads.items self.entry.ballots.now fault) }
     {
         let Cluster {
             config,

@@ -40,13 +40,17 @@ pub fn read_in(
     ensures short { result ≡ 3 → IfStorage part.old
         (λ s. IfFound (value_undone s.store what.entry.version what.entry.key.now) (λ value. IsShort value out.new len.new)) }
     ensures none { result ≡ 11 → IfStorage part.old (λ s. value_undone s.store what.entry.version what.entry.key.now ≡ None) }
-    ensures not_mine { result ≡ 12 → unread_of part.old (shard_from what.entry.begin.now what.entry.end.now) what.entry.key.now what.entry.version ≡ Some unread.NotMine }
-    ensures too_old { result ≡ 13 → unread_of part.old (shard_from what.entry.begin.now what.entry.end.now) what.entry.key.now what.entry.version ≡ Some unread.TooOld }
+    ensures not_mine { result ≡ 12
+        → unread_of part.old (shard_from what.entry.begin.now what.entry.end.now) what.entry.key.now what.entry.version ≡ Some unread.NotMine }
+    ensures too_old { result ≡ 13
+        → unread_of part.old (shard_from what.entry.begin.now what.entry.end.now) what.entry.key.now what.entry.version ≡ Some unread.TooOld }
     ensures future_version { result ≡ 14
         → unread_of part.old (shard_from what.entry.begin.now what.entry.end.now) what.entry.key.now what.entry.version ≡ Some unread.FutureVersion }
     ensures limit { (result ≡ 6) ↔ IsPast what.entry.begin.now what.entry.end.now what.entry.version }
-    ensures kind { result ≡ 4 → unread_of part.old (shard_from what.entry.begin.now what.entry.end.now) what.entry.key.now what.entry.version ≡ Some unread.Kind }
-    ensures part { result ≡ 9 → unread_of part.old (shard_from what.entry.begin.now what.entry.end.now) what.entry.key.now what.entry.version ≡ Some unread.Part }
+    ensures kind { result ≡ 4
+        → unread_of part.old (shard_from what.entry.begin.now what.entry.end.now) what.entry.key.now what.entry.version ≡ Some unread.Kind }
+    ensures part { result ≡ 9
+        → unread_of part.old (shard_from what.entry.begin.now what.entry.end.now) what.entry.key.now what.entry.version ≡ Some unread.Part }
     ensures refused { result ≢ 1 → result ≢ 6 → unread_said result
         ≡ option_map unread_status (unread_of part.old (shard_from what.entry.begin.now what.entry.end.now) what.entry.key.now what.entry.version) }
 {
