@@ -2,6 +2,7 @@
 mod broken;
 mod draws;
 mod late;
+mod lost;
 mod orders;
 mod runs;
 mod struck;

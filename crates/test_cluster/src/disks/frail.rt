@@ -66,12 +66,12 @@ fn each_third_write_or_sync_is_refused(rt: HostRuntime) -> Result<(), Fail> {
     Ok(())
 }
 
-/// Enough batches that each device and each database refuses calls.
-const LONG: ClusterWords = ClusterWords {
-    batches: 600,
+/// Of each device and each database one call is refused in 16 to 31: in far fewer than 40 batches take.
+const OFTEN: ClusterWords = ClusterWords {
+    batches: 40,
     turns: 1_000,
     recoveries: 2,
-    refuse: 256,
+    refuse: 16,
     ..DEFAULTS
 };
 
@@ -81,7 +81,7 @@ fn is_run<R: Threads + Wait + Sync>(
     alloc: Global,
     rack: FrailRack<'_>,
 ) -> Result<bool, Fail> {
-    let options = ClusterOptions::new(LONG).ok_or("options")?;
+    let options = ClusterOptions::new(OFTEN).ok_or("options")?;
     let mut said = Vec::new(alloc);
     let status = run_cluster_on(rt, alloc, options, rack, &mut said)?;
     Ok(status == 0 && said.as_slice() == b"audit ok\n".as_slice())
@@ -92,7 +92,7 @@ fn what_refused_a_call_is_opened_again(rt: HostRuntime) -> Result<(), Fail> {
     let refusals = RefusedCalls::new();
     let frailty = Frailty {
         seed: 1,
-        every: 256,
+        every: 16,
     };
     let rack = FrailRack::new(frailty, &refusals);
     assert!(rt; is_run(&rt, rt.alloc(), rack)?);

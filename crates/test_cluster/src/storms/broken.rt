@@ -1,13 +1,67 @@
 //! Clusters in a storm whose stores fail once, each at a call that writes.
+ghost use Rattle.std.specs.Prelude.{◌≡◌};
+
 use crate::breaks::{BreakingRack, parts};
+use fr_ask::Ask;
 use fr_base::{Ballot, Bytes, NodeId, Shape, Tag};
+use fr_log::LogAsk;
 use fr_run_event::Config;
 use fr_runtime::{Cluster, Report};
+use fr_runtime_station::{Blow, Chosen, Faults, Verdict};
 use fr_runtime_storm::{DrawnOrders, Draws, Storm};
 use std::alloc::Global;
 use std::sync::Wait;
+use std::sync::atomic::{AtomicU64, Ordering};
 use std::test::Fail;
 use std::thread::Threads;
+use test_cluster_scene::Flag;
+
+/// A storm in which a storage server waits, after its first turn, until logs were asked 200 pushes. So there is much to
+/// hear however late the threads of the proxies come to the processors.
+#[derive(Drop)]
+struct Paced {
+    storm: Storm,
+    pushes: AtomicU64,
+    pushed: Flag,
+}
+
+impl Faults for Paced {
+    ghost use Rattle.std.specs.Prelude.{◌≡◌, ◌+◌, ◌*◌, ◌/◌, ◌==◌};
+
+    ghost begun = { λ f ballot turn. turn + 100 == 100 * (ballot / 256) };
+
+    fn verdict(&self, to: NodeId, ask: &Ask) -> Verdict {
+        self.storm.verdict(to, ask)
+    }
+
+    fn answered(&self, to: NodeId, ask: &Ask) {
+        self.storm.answered(to, ask);
+        if matches!(ask, Ask::Log(LogAsk::Push(_))) {
+            let before = self.pushes.fetch_add(1, Ordering::SeqCst);
+            if before >= 199 {
+                self.pushed.raise();
+            }
+        }
+    }
+
+    fn strikes(&self, turn: u32, chosen: &[Chosen]) -> Option<Blow> {
+        self.storm.strikes(turn, chosen)
+    }
+
+    fn ends(&self, node: NodeId, turn: u32) -> bool {
+        self.storm.ends(node, turn)
+    }
+
+    fn begins(&self, ballot: Ballot, turn: u32) -> bool {
+        self.storm.begins(ballot, turn)
+    }
+
+    fn pulled(&self, _tag: Tag, turn: u32) {
+        if turn == 1 {
+            let _is_pushed = self.pushed.wait();
+        }
+    }
+}
 
 /// Three coordinators, four logs with each tag on two, one storage server and two proxies.
 fn config(alloc: Global) -> Result<Config, Fail> {
@@ -55,6 +109,11 @@ fn broken_off<R: Threads + Wait + Sync>(
         coordinators: 3,
         logs: 4,
     });
+    let paced = Paced {
+        storm,
+        pushes: AtomicU64::new(0),
+        pushed: Flag::new(),
+    };
     let server = NodeId::Storage {
         tag: Tag::new(0).ok_or("a tag")?,
     };
@@ -64,7 +123,7 @@ fn broken_off<R: Threads + Wait + Sync>(
         ballots: &ballots,
         turns: 300,
     };
-    let (report, _works) = cluster.run(rt, alloc, rack, works, &storm)?;
+    let (report, _works) = cluster.run(rt, alloc, rack, works, &paced)?;
     Ok(parts_of(&report, server))
 }
 
@@ -88,10 +147,10 @@ fn broken_at<R: Threads + Wait + Sync>(
     Ok(Some(all))
 }
 
-/// Of 20 runs in which the call that fails is not done five and more enter a hear in part: in the others the server is
-/// through with its turns before that call, or nothing of the hear is missing.
+/// Of 20 runs in which the call that fails is not done ten and more enter a hear in part: in the others nothing of the
+/// hear is missing.
 fn is_many(parts: Option<usize>) -> bool {
-    matches!(parts, Some(parts) if parts >= 5)
+    matches!(parts, Some(parts) if parts >= 10)
 }
 
 #[test]

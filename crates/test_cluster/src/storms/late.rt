@@ -1,19 +1,20 @@
-//! Clusters whose messages come late, whose nodes are gone and whose logs are lost.
+//! Clusters whose messages come late, whose nodes are gone and whose logs are lost, as drawn, and a tell that a
+//! recovery overtakes.
 ghost use Rattle.std.specs.Prelude.{◌≡◌};
 
 use fr_ask::{Ask, Tell};
-use fr_audit_journal::{Act, Entry, Journal};
-use fr_base::{Ballot, Bytes, Epoch, NodeId, Shape, Tag};
+use fr_audit_journal::{Act, Entry};
+use fr_base::{Ballot, NodeId, Tag};
 use fr_cli_cluster::{ClusterOptions, ClusterWords, DEFAULTS, run_cluster, run_cluster_on};
 use fr_log::{LogAsk, LogTell};
-use fr_run_event::Config;
-use fr_runtime::{Cluster, Orders, PlainRack, Report};
+use fr_runtime::PlainRack;
 use fr_runtime_disks::DiskRack;
 use fr_runtime_station::{Blow, Chosen, Faults, NoFaults, Verdict};
 use std::alloc::Global;
 use std::sync::Wait;
 use std::test::Fail;
 use std::thread::Threads;
+use test_cluster_scene::{DEFAULTS as SCENE, Flag, Numbers, alike, ballot, entries_of, ran_on};
 
 /// No storm, and three recoveries.
 const PLAIN: ClusterWords = ClusterWords {
@@ -61,19 +62,11 @@ fn each_kind_alone_is_a_run_on_both_racks(rt: HostRuntime) -> Result<(), Fail> {
     Ok(())
 }
 
-/// Tells of what logs of the first epoch have come 64 turns late to storage servers.
-#[derive(Clone, Copy)]
-struct Overtaken;
-
-impl Overtaken {
-    /// Whether it is a peek of a log of the first epoch, and what is told of such comes late.
-    fn tells_late(&self, to: NodeId, ask: &Ask) -> bool {
-        let NodeId::Log { epoch, .. } = to else {
-            return false;
-        };
-        let is_peek = matches!(ask, Ask::Log(LogAsk::Peek { .. }));
-        is_peek && epoch.get() == 257
-    }
+/// What logs of the first epoch tell of their records comes 64 turns late to the storage server, which waits after its
+/// turn 100 until a log of the next epoch has the mark.
+#[derive(Drop)]
+struct Overtaken {
+    marked: Flag,
 }
 
 impl Faults for Overtaken {
@@ -82,14 +75,21 @@ impl Faults for Overtaken {
     ghost begun = { λ f ballot turn. turn + 100 == 100 * (ballot / 256) };
 
     fn verdict(&self, to: NodeId, ask: &Ask) -> Verdict {
-        if self.tells_late(to, ask) {
+        let is_peek = matches!(ask, Ask::Log(LogAsk::Peek { .. }));
+        if is_peek && is_first(to) {
             Verdict::LateTell { turns: 64 }
         } else {
             Verdict::Pass
         }
     }
 
-    fn answered(&self, _to: NodeId, _ask: &Ask) {}
+    fn answered(&self, _to: NodeId, ask: &Ask) {
+        if let Ask::Log(LogAsk::Push(push)) = ask {
+            if push.marked().is_some() {
+                self.marked.raise();
+            }
+        }
+    }
 
     fn strikes(&self, _turn: u32, _chosen: &[Chosen]) -> Option<Blow> {
         None
@@ -102,33 +102,17 @@ impl Faults for Overtaken {
     fn begins(&self, ballot: Ballot, turn: u32) -> bool {
         NoFaults.begins(ballot, turn)
     }
-}
 
-/// Three coordinators, four logs with each tag on two, one storage server and one proxy with 200 batches, and a recovery.
-fn run<R: Threads + Wait + Sync>(rt: &R, alloc: Global, faults: Overtaken) -> Result<Report, Fail> {
-    let mut begins = Vec::new(alloc);
-    begins.push(Bytes::empty(alloc))?;
-    let config = Config::new(3, 4, 2, begins, 1)?;
-    let mut works = Vec::new(alloc);
-    works.push(Orders::new(alloc, 0, 1, 200))?;
-    let ballots: [(Ballot, Option<Shape>); 1] = [(Ballot::new(513).ok_or("a ballot")?, None)];
-    let cluster = Cluster {
-        config,
-        ballots: &ballots,
-        turns: 1_000,
-    };
-    let (report, _works) = cluster.run(rt, alloc, PlainRack, works, &faults)?;
-    Ok(report)
-}
-
-/// What is entered of a node.
-fn entries(journals: &[Journal], node: NodeId) -> Result<&[Entry], Fail> {
-    for journal in journals {
-        if journal.node() == node {
-            return Ok(journal.entries());
+    fn pulled(&self, _tag: Tag, turn: u32) {
+        if turn == 100 {
+            let _is_marked = self.marked.wait();
         }
     }
-    Err(Fail::from("no journal"))
+}
+
+/// Whether it is a log of the first epoch.
+fn is_first(node: NodeId) -> bool {
+    matches!(node, NodeId::Log { epoch, .. } if epoch.get() == 257)
 }
 
 /// Whether what a log of the first epoch has was heard after the mark of a later one.
@@ -136,15 +120,15 @@ fn is_overtaken(entries: &[Entry]) -> bool {
     let mut is_later = false;
     for entry in entries {
         if let Act::Heard {
-            from: NodeId::Log { epoch, .. },
+            from,
             tell: Tell::Log(tell),
             ..
         } = &entry.act
         {
             match tell {
-                LogTell::Marked { .. } => is_later = is_later || epoch.get() > 257,
+                LogTell::Marked { .. } => is_later = is_later || !is_first(*from),
                 LogTell::Peeked(_) => {
-                    if is_later && epoch.get() == 257 {
+                    if is_later && is_first(*from) {
                         return true;
                     }
                 }
@@ -155,15 +139,23 @@ fn is_overtaken(entries: &[Entry]) -> bool {
     false
 }
 
-fn server() -> Result<NodeId, Fail> {
-    Ok(NodeId::Storage {
-        tag: Tag::new(0).ok_or("a tag")?,
-    })
-}
+/// Four logs with each tag on two, one storage server and one proxy.
+const FOUR: Numbers = Numbers {
+    storages: 1,
+    proxies: 1,
+    batches: 200,
+    turns: 1_000,
+    ..SCENE
+};
 
 #[test]
 fn a_tell_late_by_64_turns_is_overtaken_by_a_recovery(rt: HostRuntime) -> Result<(), Fail> {
-    let report = run(&rt, rt.alloc(), Overtaken)?;
-    assert!(rt; is_overtaken(entries(report.journals.as_slice(), server()?)?));
+    let overtaken = Overtaken {
+        marked: Flag::new(),
+    };
+    let ballots = [alike(ballot()?)];
+    let (report, _works) = ran_on(&rt, rt.alloc(), FOUR, &ballots, PlainRack, &overtaken)?;
+    let tag = Tag::new(0).ok_or("a tag")?;
+    assert!(rt; is_overtaken(entries_of(&report, NodeId::Storage { tag })));
     Ok(())
 }
