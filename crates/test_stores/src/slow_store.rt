@@ -4,7 +4,7 @@ use fr_undo::StoreFault;
 use std::alloc::{AllocError, Global};
 
 /// What a key held before a version: a value, or none.
-#[derive(Debug, Drop)]
+#[derive(Drop)]
 struct Row {
     version: u64,
     key: Vec<u8>,
@@ -13,7 +13,7 @@ struct Row {
 
 /// Keys with values in no order, undo rows in no order, and all that the keys held at each version that was applied,
 /// the last one first.
-#[derive(Debug, Drop)]
+#[derive(Drop)]
 pub struct SlowStore {
     data: Vec<(Vec<u8>, Vec<u8>)>,
     undo: Vec<Row>,
