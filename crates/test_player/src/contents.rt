@@ -10,7 +10,7 @@ use std::collections::BTreeMap;
 use test_rows::fields::Fields;
 use test_rows::json::{read_batch, value_of};
 use test_rows::object::{Members, hex_value};
-use test_rows::{NO_FORM, Plays, Scene, Wrong, no_such_word, of_nothing, said};
+use test_rows::{NO_FORM, Plays, RowAsk, Scene, Wrong, no_such_word, of_nothing};
 
 /// Keys and their values.
 type Rows = BTreeMap<Bytes, Bytes>;
@@ -22,19 +22,17 @@ pub(crate) fn play_rows(alloc: Global, scene: Scene, at: &mut usize) -> Result<(
 }
 
 impl Plays<Rows> for Nodes {
-    fn play_row(
-        &self,
-        alloc: Global,
-        rows: &mut Rows,
-        word: &str,
-        given: &mut Fields,
-    ) -> Result<Value, Wrong> {
-        match word {
+    fn play_row(&self, rows: &mut Rows, row: &mut RowAsk) -> Result<Value, Wrong> {
+        match row.word {
             "apply" => {
-                act(alloc, rows, read_batch(alloc, given.take_all())?.copy())?;
-                write_rows(alloc, rows)
+                act(
+                    row.alloc,
+                    rows,
+                    read_batch(row.alloc, row.take_all())?.copy(),
+                )?;
+                write_rows(row.alloc, rows)
             }
-            "state" => write_rows(alloc, rows),
+            "state" => write_rows(row.alloc, rows),
             _ => no_such_word("rows of rows: apply, state"),
         }
     }
@@ -69,17 +67,11 @@ pub(crate) fn read_shard(alloc: Global, fields: &Fields) -> Result<Shard, Wrong>
 }
 
 impl Plays<Shard> for Nodes {
-    fn play_row(
-        &self,
-        alloc: Global,
-        shard: &mut Shard,
-        word: &str,
-        given: &mut Fields,
-    ) -> Result<Value, Wrong> {
-        match word {
-            "has" => has(shard.copy(), &read_bytes(alloc, Some(given.all()))?),
-            "clip" => cut(alloc, shard, given.take_all()),
-            "state" => write_shard(alloc, shard),
+    fn play_row(&self, shard: &mut Shard, row: &mut RowAsk) -> Result<Value, Wrong> {
+        match row.word {
+            "has" => has(shard.copy(), &read_bytes(row.alloc, Some(row.all()))?),
+            "clip" => cut(row.alloc, shard, row.take_all()),
+            "state" => write_shard(row.alloc, shard),
             _ => no_such_word("rows of a shard: has, clip, state"),
         }
     }

@@ -6,26 +6,20 @@ use fr_forms::Formed;
 use fr_log::{LogAsk, LogTell, Peeked, PeekedRecord, Push, Seed, SeedRecord};
 use serde_json::Value;
 use std::alloc::Global;
-use test_rows::fields::{Fields, items};
-use test_rows::json::{read_ask, read_last, read_tell, value_of, write_all};
-use test_rows::{NO_FORM, Plays, Scene, ScriptFault, Wrong, no_such_word};
+use test_rows::fields::items;
+use test_rows::json::{read_ask, read_last, read_tell, write_all};
+use test_rows::{NO_FORM, Plays, RowAsk, Scene, ScriptFault, Wrong, no_such_word};
 
 /// What is copied and has a form.
-pub(crate) trait Copied: Sized + Drop {
+pub(crate) trait Copied: Formed {
     /// A copy.
     fn copied(&self) -> Result<Self, Memory>;
-
-    /// Its form.
-    fn form(&self, alloc: Global) -> Result<Value, Memory>;
 }
 
 /// What is read and told apart too.
-pub(crate) trait Kind: Copied {
+pub(crate) trait Kind: Copied + PartialEq {
     /// Reads one.
     fn read(alloc: Global, given: Value) -> Result<Self, ScriptFault>;
-
-    /// Whether it is another one, also by what says that they differ.
-    fn is_one_with(&self, other: &Self) -> bool;
 
     /// What a copy of it gives back: the bodies of a push, the records of a seed or of what is peeked, each copied.
     fn parts(&self, _alloc: Global) -> Result<Value, Wrong> {
@@ -58,19 +52,13 @@ fn read_several<K: Kind>(alloc: Global, given: Value) -> Result<Several<K>, Wron
 }
 
 impl<K: Kind> Plays<Several<K>> for Nodes {
-    fn play_row(
-        &self,
-        alloc: Global,
-        several: &mut Several<K>,
-        word: &str,
-        given: &mut Fields,
-    ) -> Result<Value, Wrong> {
+    fn play_row(&self, several: &mut Several<K>, row: &mut RowAsk) -> Result<Value, Wrong> {
         let all = several.all.as_slice();
-        match word {
-            "same" => same(alloc, all, K::read(alloc, given.take_all())),
-            "make" => write_made(K::read(alloc, given.take_all())),
-            "parts" => write_parts(alloc, K::read(alloc, given.take_all())),
-            "state" => write_copies(alloc, all),
+        match row.word {
+            "same" => same(row.alloc, all, K::read(row.alloc, row.take_all())),
+            "make" => write_made(K::read(row.alloc, row.take_all())),
+            "parts" => write_parts(row.alloc, K::read(row.alloc, row.take_all())),
+            "state" => write_copies(row.alloc, all),
             _ => no_such_word("rows of asks, tells or lasts: same, make, parts, state"),
         }
     }
@@ -91,8 +79,10 @@ fn write_same<K: Kind>(alloc: Global, all: &[K], other: &K) -> Result<Value, Wro
     Ok(Value::Array(numbers))
 }
 
+/// Whether a copy is another one, also by what says that they differ.
 fn is_same<K: Kind>(copy: Result<K, Memory>, other: &K) -> Result<bool, Wrong> {
-    Ok(copy?.is_one_with(other))
+    let copy = copy?;
+    Ok(copy == *other && !(copy != *other))
 }
 
 /// Whether there is such a one.
@@ -118,26 +108,18 @@ fn write_copies<C: Copied>(alloc: Global, all: &[C]) -> Result<Value, Wrong> {
 }
 
 fn form_of<C: Copied>(alloc: Global, copy: Result<C, Memory>) -> Result<Value, Wrong> {
-    Ok(copy?.form(alloc)?)
+    Ok(copy?.to_value(alloc)?)
 }
 
 impl Copied for Ask {
     fn copied(&self) -> Result<Self, Memory> {
         self.copy()
     }
-
-    fn form(&self, alloc: Global) -> Result<Value, Memory> {
-        value_of(alloc, self)
-    }
 }
 
 impl Kind for Ask {
     fn read(alloc: Global, given: Value) -> Result<Self, ScriptFault> {
         read_ask(alloc, given)
-    }
-
-    fn is_one_with(&self, other: &Self) -> bool {
-        *self == *other && !(*self != *other)
     }
 
     fn parts(&self, alloc: Global) -> Result<Value, Wrong> {
@@ -163,29 +145,17 @@ impl Copied for SeedRecord {
     fn copied(&self) -> Result<Self, Memory> {
         self.copy()
     }
-
-    fn form(&self, alloc: Global) -> Result<Value, Memory> {
-        self.to_value(alloc)
-    }
 }
 
 impl Copied for Tell {
     fn copied(&self) -> Result<Self, Memory> {
         self.copy()
     }
-
-    fn form(&self, alloc: Global) -> Result<Value, Memory> {
-        value_of(alloc, self)
-    }
 }
 
 impl Kind for Tell {
     fn read(alloc: Global, given: Value) -> Result<Self, ScriptFault> {
         read_tell(alloc, given)
-    }
-
-    fn is_one_with(&self, other: &Self) -> bool {
-        *self == *other && !(*self != *other)
     }
 
     fn parts(&self, alloc: Global) -> Result<Value, Wrong> {
@@ -205,28 +175,16 @@ impl Copied for PeekedRecord {
     fn copied(&self) -> Result<Self, Memory> {
         self.copy()
     }
-
-    fn form(&self, alloc: Global) -> Result<Value, Memory> {
-        self.to_value(alloc)
-    }
 }
 
 impl Copied for Last {
     fn copied(&self) -> Result<Self, Memory> {
         self.copy()
     }
-
-    fn form(&self, alloc: Global) -> Result<Value, Memory> {
-        value_of(alloc, self)
-    }
 }
 
 impl Kind for Last {
     fn read(alloc: Global, given: Value) -> Result<Self, ScriptFault> {
         read_last(alloc, given)
-    }
-
-    fn is_one_with(&self, other: &Self) -> bool {
-        *self == *other && !(*self != *other)
     }
 }

@@ -14,7 +14,7 @@ use test_rows::fields::Fields;
 use test_rows::json::{read_cell_ask, read_log_ask, read_seq_ask};
 use test_rows::object::Members;
 use test_rows::{
-    NO_FORM, Plays, Scene, ScriptFault, Wrong, no_such_word, of_nothing, read_sizes, told,
+    NO_FORM, Plays, RowAsk, Scene, ScriptFault, Wrong, no_such_word, of_nothing, read_sizes, told,
     write_state_of,
 };
 
@@ -25,16 +25,10 @@ pub(crate) fn play_cell(alloc: Global, scene: Scene, at: &mut usize) -> Result<(
 }
 
 impl Plays<Cell> for Nodes {
-    fn play_row(
-        &self,
-        alloc: Global,
-        cell: &mut Cell,
-        word: &str,
-        given: &mut Fields,
-    ) -> Result<Value, Wrong> {
-        match word {
-            "ask" => ask(alloc, cell, read_cell_ask(alloc, given.take_all())),
-            "state" => write_state_of(alloc, cell.copy()),
+    fn play_row(&self, cell: &mut Cell, row: &mut RowAsk) -> Result<Value, Wrong> {
+        match row.word {
+            "ask" => ask(row.alloc, cell, read_cell_ask(row.alloc, row.take_all())),
+            "state" => write_state_of(row.alloc, cell.copy()),
             _ => no_such_word("rows of a cell: ask, state"),
         }
     }
@@ -72,18 +66,12 @@ fn read_log(alloc: Global, fields: &Fields) -> Result<Log, Wrong> {
 }
 
 impl Plays<Log> for Nodes {
-    fn play_row(
-        &self,
-        alloc: Global,
-        log: &mut Log,
-        word: &str,
-        given: &mut Fields,
-    ) -> Result<Value, Wrong> {
-        match word {
-            "ask" => ask(alloc, log, read_log_ask(alloc, given.take_all())),
-            "take_back" => take_back(alloc, log, given),
-            "state" => write_state_of(alloc, log.copy()),
-            "made" => write_made(alloc, log.copy()),
+    fn play_row(&self, log: &mut Log, row: &mut RowAsk) -> Result<Value, Wrong> {
+        match row.word {
+            "ask" => ask(row.alloc, log, read_log_ask(row.alloc, row.take_all())),
+            "take_back" => take_back(row.alloc, log, row.take_all()),
+            "state" => write_state_of(row.alloc, log.copy()),
+            "made" => write_made(row.alloc, log.copy()),
             _ => no_such_word("rows of a log: ask, take_back, state, made"),
         }
     }
@@ -106,10 +94,10 @@ fn write_place(alloc: Global, log: &Log) -> Result<Value, Memory> {
 }
 
 /// What a log tells, which then goes back to where it stood, as one does whose records could not be kept.
-fn take_back(alloc: Global, log: &mut Log, given: &mut Fields) -> Result<Value, Wrong>
+fn take_back(alloc: Global, log: &mut Log, given: Value) -> Result<Value, Wrong>
     ensures { OnOk result (log.new ≡ log.old) }
 {
-    let ask = read_log_ask(alloc, given.take_all())?;
+    let ask = read_log_ask(alloc, given)?;
     told(alloc, &ask_and_go_back(alloc, log, ask)?)
 }
 
@@ -136,16 +124,14 @@ fn read_sequencer(alloc: Global, fields: &Fields) -> Result<Sequencer, Wrong> {
 }
 
 impl Plays<Sequencer> for Nodes {
-    fn play_row(
-        &self,
-        alloc: Global,
-        sequencer: &mut Sequencer,
-        word: &str,
-        given: &mut Fields,
-    ) -> Result<Value, Wrong> {
-        match word {
-            "ask" => ask(alloc, sequencer, read_seq_ask(alloc, given.take_all())),
-            "state" => write_state_of(alloc, sequencer.copy()),
+    fn play_row(&self, sequencer: &mut Sequencer, row: &mut RowAsk) -> Result<Value, Wrong> {
+        match row.word {
+            "ask" => ask(
+                row.alloc,
+                sequencer,
+                read_seq_ask(row.alloc, row.take_all()),
+            ),
+            "state" => write_state_of(row.alloc, sequencer.copy()),
             _ => no_such_word("rows of a sequencer: ask, state"),
         }
     }

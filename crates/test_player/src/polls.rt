@@ -8,7 +8,7 @@ use std::alloc::Global;
 use test_rows::fields::{Fields, index_of};
 use test_rows::json::read_tell;
 use test_rows::object::{Members, numbered, write_text};
-use test_rows::{NO_FORM, Plays, Scene, Wrong, no_such_word, said};
+use test_rows::{NO_FORM, Plays, RowAsk, Scene, Wrong, no_such_word, said};
 
 /// Plays rows with a tally of reads that no cell answered.
 pub(crate) fn play_read_tally(alloc: Global, scene: Scene, at: &mut usize) -> Result<(), Wrong> {
@@ -41,36 +41,24 @@ fn read_cell_tell(alloc: Global, given: Value) -> Result<CellTell, Wrong> {
 }
 
 impl Plays<ReadTally> for Nodes {
-    fn play_row(
-        &self,
-        alloc: Global,
-        tally: &mut ReadTally,
-        word: &str,
-        given: &mut Fields,
-    ) -> Result<Value, Wrong> {
-        match word {
-            "hear" => hear_read(alloc, tally, given.of(2)),
-            "heard" => Ok(Value::from(tally.has_heard(index_of(given.all(), u8::MAX)?))),
-            "made" => write_made(alloc, tally.cells(), tally.ballot().get()),
-            "state" => write_copied_read(alloc, tally.copy()),
+    fn play_row(&self, tally: &mut ReadTally, row: &mut RowAsk) -> Result<Value, Wrong> {
+        match row.word {
+            "hear" => hear_read(row.alloc, tally, row.of(2)),
+            "heard" => Ok(Value::from(tally.has_heard(index_of(row.all(), u8::MAX)?))),
+            "made" => write_made(row.alloc, tally.cells(), tally.ballot().get()),
+            "state" => write_copied_read(row.alloc, tally.copy()),
             _ => no_such_word("rows of a read_tally: hear, heard, made, state"),
         }
     }
 }
 
 impl Plays<WriteTally> for Nodes {
-    fn play_row(
-        &self,
-        alloc: Global,
-        tally: &mut WriteTally,
-        word: &str,
-        given: &mut Fields,
-    ) -> Result<Value, Wrong> {
-        match word {
-            "hear" => hear_write(alloc, tally, given.of(2)),
-            "heard" => Ok(Value::from(tally.has_heard(index_of(given.all(), u8::MAX)?))),
-            "made" => write_made(alloc, tally.cells(), tally.ballot().get()),
-            "state" => write_copied_write(alloc, tally.copy()),
+    fn play_row(&self, tally: &mut WriteTally, row: &mut RowAsk) -> Result<Value, Wrong> {
+        match row.word {
+            "hear" => hear_write(row.alloc, tally, row.of(2)),
+            "heard" => Ok(Value::from(tally.has_heard(index_of(row.all(), u8::MAX)?))),
+            "made" => write_made(row.alloc, tally.cells(), tally.ballot().get()),
+            "state" => write_copied_write(row.alloc, tally.copy()),
             _ => no_such_word("rows of a write_tally: hear, heard, made, state"),
         }
     }

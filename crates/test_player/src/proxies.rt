@@ -10,7 +10,7 @@ use test_rows::fields::Fields;
 use test_rows::json::{read_batch, read_step, value_of, write_all};
 use test_rows::object::Members;
 use test_rows::{
-    Plays, Scene, Wrong, no_such_word, read_sizes, said, told, write_last_state, write_name,
+    Plays, RowAsk, Scene, Wrong, no_such_word, read_sizes, said, told, write_last_state, write_name,
 };
 
 /// Plays rows with a proxy that took nothing yet.
@@ -29,19 +29,13 @@ fn read_proxy(alloc: Global, fields: &mut Fields) -> Result<Proxy, Wrong> {
 }
 
 impl Plays<Proxy> for Nodes {
-    fn play_row(
-        &self,
-        alloc: Global,
-        proxy: &mut Proxy,
-        word: &str,
-        given: &mut Fields,
-    ) -> Result<Value, Wrong> {
-        match word {
-            "submit" => submit(alloc, proxy, given.of(2)),
-            "hear" => hear(alloc, proxy, given.of(2)),
-            "pending" => write_asks(alloc, proxy.pending(alloc)),
-            "state" => write_known(alloc, proxy.copy()),
-            "made" => write_made(alloc, proxy),
+    fn play_row(&self, proxy: &mut Proxy, row: &mut RowAsk) -> Result<Value, Wrong> {
+        match row.word {
+            "submit" => submit(row.alloc, proxy, row.of(2)),
+            "hear" => hear(row.alloc, proxy, row.of(2)),
+            "pending" => write_asks(row.alloc, proxy.pending(row.alloc)),
+            "state" => write_known(row.alloc, proxy.copy()),
+            "made" => write_made(row.alloc, proxy),
             _ => no_such_word("rows of a proxy: submit, hear, pending, state, made"),
         }
     }

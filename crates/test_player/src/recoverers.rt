@@ -10,7 +10,7 @@ use std::alloc::{AllocError, Global};
 use test_rows::fields::Fields;
 use test_rows::json::{value_of, write_all};
 use test_rows::object::Members;
-use test_rows::{NO_FORM, Plays, Scene, Wrong, no_such_word, told_all, write_last_state};
+use test_rows::{NO_FORM, Plays, RowAsk, Scene, Wrong, no_such_word, told_all, write_last_state};
 
 /// Plays rows with a recoverer that heard nothing.
 pub(crate) fn play_recoverer(alloc: Global, scene: Scene, at: &mut usize) -> Result<(), Wrong> {
@@ -44,20 +44,14 @@ fn read_recoverer(alloc: Global, fields: &mut Fields) -> Result<Recoverer, Wrong
 }
 
 impl Plays<Recoverer> for Nodes {
-    fn play_row(
-        &self,
-        alloc: Global,
-        recoverer: &mut Recoverer,
-        word: &str,
-        given: &mut Fields,
-    ) -> Result<Value, Wrong> {
-        match word {
-            "hear" => hear(alloc, recoverer, given.of(2)),
-            "pending" => write_asks(alloc, recoverer.pending(alloc)),
-            "state" => write_phase(alloc, phase_of(recoverer.copy(alloc))),
-            "generation" => generation(alloc, recoverer),
+    fn play_row(&self, recoverer: &mut Recoverer, row: &mut RowAsk) -> Result<Value, Wrong> {
+        match row.word {
+            "hear" => hear(row.alloc, recoverer, row.of(2)),
+            "pending" => write_asks(row.alloc, recoverer.pending(row.alloc)),
+            "state" => write_phase(row.alloc, phase_of(recoverer.copy(row.alloc))),
+            "generation" => generation(row.alloc, recoverer),
             "copied" => Ok(Value::from(recoverer.is_copied())),
-            "made" => write_made(alloc, recoverer),
+            "made" => write_made(row.alloc, recoverer),
             _ => no_such_word(
                 "rows of a recoverer: hear, pending, state, generation, copied, made",
             ),

@@ -10,7 +10,7 @@ use std::alloc::Global;
 use test_rows::fields::{Fields, tag_of};
 use test_rows::json::{read_batch, read_shards, write_all};
 use test_rows::object::{Members, hex_value};
-use test_rows::{Plays, Scene, Wrong, no_such_word, read_sizes, write_name};
+use test_rows::{Plays, RowAsk, Scene, Wrong, no_such_word, read_sizes, write_name};
 
 /// Plays rows with a map of shards that begin at these keys.
 pub(crate) fn play_shards(alloc: Global, scene: Scene, at: &mut usize) -> Result<(), Wrong> {
@@ -19,23 +19,17 @@ pub(crate) fn play_shards(alloc: Global, scene: Scene, at: &mut usize) -> Result
 }
 
 impl Plays<ShardMap> for Nodes {
-    fn play_row(
-        &self,
-        alloc: Global,
-        map: &mut ShardMap,
-        word: &str,
-        given: &mut Fields,
-    ) -> Result<Value, Wrong> {
-        match word {
-            "split" => split(alloc, map, given.of(3)),
-            "tags_of" => tags(alloc, map, given.take_all()),
-            "tag_of" => tag_at(alloc, map, given.all()),
-            "shard_of" => write_shard(alloc, map.shard_of(alloc, tag_of(given.all())?)),
-            "holders" => held_by(alloc, given.of(3)),
-            "is_held" => is_held_by(given.of(4)),
-            "covers" => do_cover(alloc, given.of(3)),
-            "make" => make(alloc, given.take_all()),
-            "state" => write_map(alloc, map.copy()),
+    fn play_row(&self, map: &mut ShardMap, row: &mut RowAsk) -> Result<Value, Wrong> {
+        match row.word {
+            "split" => split(row.alloc, map, row.of(3)),
+            "tags_of" => tags(row.alloc, map, row.take_all()),
+            "tag_of" => tag_at(row.alloc, map, row.all()),
+            "shard_of" => write_shard(row.alloc, map.shard_of(row.alloc, tag_of(row.all())?)),
+            "holders" => held_by(row.alloc, row.of(3)),
+            "is_held" => is_held_by(row.of(4)),
+            "covers" => do_cover(row.alloc, row.of(3)),
+            "make" => make(row.alloc, row.take_all()),
+            "state" => write_map(row.alloc, map.copy()),
             _ => no_such_word(
                 "rows of shards: split, tags_of, tag_of, shard_of, holders, is_held, covers, make, \
                  state",

@@ -13,7 +13,9 @@ use std::alloc::Global;
 use test_rows::fields::{Fields, items};
 use test_rows::json::{read_state, read_tell, value_of};
 use test_rows::object::{Members, hex_value, write_text};
-use test_rows::{NO_FORM, Plays, Scene, ScriptFault, Wrong, no_such_word, said, write_name};
+use test_rows::{
+    NO_FORM, Plays, RowAsk, Scene, ScriptFault, Wrong, no_such_word, said, write_name,
+};
 
 /// Plays rows with a storage server that applied nothing yet.
 pub(crate) fn play_storage(alloc: Global, scene: Scene, at: &mut usize) -> Result<(), Wrong> {
@@ -65,17 +67,11 @@ fn start<S: ShardStore + Drop>(
 }
 
 impl<S: ShardStore + Drop> Plays<Storage<S>> for Nodes {
-    fn play_row(
-        &self,
-        alloc: Global,
-        storage: &mut Storage<S>,
-        word: &str,
-        given: &mut Fields,
-    ) -> Result<Value, Wrong> {
+    fn play_row(&self, storage: &mut Storage<S>, row: &mut RowAsk) -> Result<Value, Wrong> {
         let had_failed = storage.is_failed();
-        match do_row(alloc, storage, word, given) {
-            Err(Wrong::Memory) if storage.is_failed() && !had_failed => reopen(alloc, storage),
-            Err(Wrong::Memory) if word == "follow_all" => Err(Wrong::InPart),
+        match do_row(storage, row) {
+            Err(Wrong::Memory) if storage.is_failed() && !had_failed => reopen(row.alloc, storage),
+            Err(Wrong::Memory) if row.word == "follow_all" => Err(Wrong::InPart),
             done => done,
         }
     }
@@ -90,23 +86,22 @@ fn reopen<S: ShardStore + Drop>(alloc: Global, storage: &mut Storage<S>) -> Resu
 }
 
 fn do_row<S: ShardStore + Drop>(
-    alloc: Global,
     storage: &mut Storage<S>,
-    word: &str,
-    given: &mut Fields,
+    row: &mut RowAsk,
 ) -> Result<Value, Wrong> {
-    match word {
-        "hear" => hear(alloc, storage, given.of(2)),
-        "follow" => follow(alloc, storage, given.of(2)),
-        "follow_all" => follow_all(alloc, storage, given),
-        "break_off" => break_off(alloc, storage, given.of(3)),
+    let alloc = row.alloc;
+    match row.word {
+        "hear" => hear(alloc, storage, row.of(2)),
+        "follow" => follow(alloc, storage, row.of(2)),
+        "follow_all" => follow_all(alloc, storage, row.take_all()),
+        "break_off" => break_off(alloc, storage, row.of(3)),
         "reopen" => write_done(alloc, storage.reopen(alloc)),
         "failed" => Ok(Value::from(storage.is_failed())),
         "next" => write_next(alloc, storage),
         "generations" => generations(alloc, storage),
         "position" => position(alloc, storage),
         "rows" => rows_of(alloc, storage.dump(alloc)),
-        "read" => read(alloc, storage, given.of(3)),
+        "read" => read(alloc, storage, row.of(3)),
         _ => no_such_word(
             "rows of a storage server: hear, follow, follow_all, break_off, reopen, failed, next, \
              generations, position, rows, read",
@@ -135,9 +130,9 @@ fn follow<S: ShardStore + Drop>(
 fn follow_all<S: ShardStore + Drop>(
     alloc: Global,
     storage: &mut Storage<S>,
-    given: &mut Fields,
+    given: Value,
 ) -> Result<Value, Wrong> {
-    let answers = read_answers(alloc, given.take_all())?;
+    let answers = read_answers(alloc, given)?;
     write_followed(alloc, storage.follow_all(alloc, answers))
 }
 

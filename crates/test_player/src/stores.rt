@@ -12,7 +12,7 @@ use std::alloc::Global;
 use test_rows::fields::{Fields, tag_of, version_of};
 use test_rows::json::read_batch;
 use test_rows::object::{Members, hex_value};
-use test_rows::{Plays, Scene, Wrong, no_such_word, of_nothing, write_name};
+use test_rows::{Plays, RowAsk, Scene, Wrong, no_such_word, of_nothing, write_name};
 use test_stores::FailsOnce;
 
 /// Plays rows with a store in which nothing was applied.
@@ -35,58 +35,42 @@ pub(crate) fn read_failing(alloc: Global, fields: &Fields) -> Result<FailsOnce, 
 }
 
 impl Plays<MapStore> for Nodes {
-    fn play_row(
-        &self,
-        alloc: Global,
-        store: &mut MapStore,
-        word: &str,
-        given: &mut Fields,
-    ) -> Result<Value, Wrong> {
-        match word {
-            "state" => copied_place(alloc, store.copy(alloc)),
-            "adopt" => adopt(alloc, store, given.all()),
-            "copied" => copied_contents(alloc, store.copy(alloc)),
-            "lent" => lent(alloc, store, given.all()),
+    fn play_row(&self, store: &mut MapStore, row: &mut RowAsk) -> Result<Value, Wrong> {
+        match row.word {
+            "state" => copied_place(row.alloc, store.copy(row.alloc)),
+            "adopt" => adopt(row.alloc, store, row.all()),
+            "copied" => copied_contents(row.alloc, store.copy(row.alloc)),
+            "lent" => lent(row.alloc, store, row.all()),
             "lent_rows" => Ok(Value::from(store.rows().len())),
-            "lent_bytes" => Ok(hex_value(alloc, store.bytes().as_slice())?),
-            _ => play_word(alloc, store, word, given),
+            "lent_bytes" => Ok(hex_value(row.alloc, store.bytes().as_slice())?),
+            _ => play_word(store, row),
         }
     }
 }
 
 impl Plays<FailsOnce> for Nodes {
-    fn play_row(
-        &self,
-        alloc: Global,
-        store: &mut FailsOnce,
-        word: &str,
-        given: &mut Fields,
-    ) -> Result<Value, Wrong> {
-        match word {
-            "state" => write_place(alloc, store),
-            _ => play_word(alloc, store, word, given),
+    fn play_row(&self, store: &mut FailsOnce, row: &mut RowAsk) -> Result<Value, Wrong> {
+        match row.word {
+            "state" => write_place(row.alloc, store),
+            _ => play_word(store, row),
         }
     }
 }
 
 /// What comes of a row of any store.
-fn play_word<S: ShardStore>(
-    alloc: Global,
-    store: &mut S,
-    word: &str,
-    given: &mut Fields,
-) -> Result<Value, Wrong> {
-    match word {
-        "apply" => apply(alloc, store, given.of(2)),
-        "undo" => undo(alloc, store, given.all()),
-        "forget" => forget(alloc, store, given.all()),
-        "advance" => advance(alloc, store, given.all()),
-        "keep" => keep(alloc, store, given.all()),
+fn play_word<S: ShardStore>(store: &mut S, row: &mut RowAsk) -> Result<Value, Wrong> {
+    let alloc = row.alloc;
+    match row.word {
+        "apply" => apply(alloc, store, row.of(2)),
+        "undo" => write_done(alloc, store.undo_to(alloc, version_of(row.all())?)),
+        "forget" => write_done(alloc, store.forget_through(alloc, version_of(row.all())?)),
+        "advance" => write_done(alloc, store.advance(version_of(row.all())?)),
+        "keep" => keep(alloc, store, row.all()),
         "kept" => write_kept(alloc, store.state_bytes(alloc)),
-        "get" => get(alloc, store, given.all()),
-        "get_at" => get_at(alloc, store, given.of(2)),
+        "get" => get(alloc, store, row.all()),
+        "get_at" => get_at(alloc, store, row.of(2)),
         "rows" => rows_of(alloc, store.dump(alloc)),
-        "below" => below(alloc, store, given.all()),
+        "below" => below(alloc, store, row.all()),
         "failed" => Ok(Value::from(store.is_failed())),
         "reopen" => write_done(alloc, store.reopen(alloc)),
         _ => no_such_word(
@@ -101,21 +85,6 @@ fn apply<S: ShardStore>(alloc: Global, store: &mut S, fields: &mut Fields) -> Re
     let version = fields.version("version")?;
     let batch = read_batch(alloc, fields.take("batch")?)?;
     write_done(alloc, store.apply(alloc, version, &batch))
-}
-
-fn undo<S: ShardStore>(alloc: Global, store: &mut S, given: &Value) -> Result<Value, Wrong> {
-    let version = version_of(given)?;
-    write_done(alloc, store.undo_to(alloc, version))
-}
-
-fn forget<S: ShardStore>(alloc: Global, store: &mut S, given: &Value) -> Result<Value, Wrong> {
-    let version = version_of(given)?;
-    write_done(alloc, store.forget_through(alloc, version))
-}
-
-fn advance<S: ShardStore>(alloc: Global, store: &mut S, given: &Value) -> Result<Value, Wrong> {
-    let version = version_of(given)?;
-    write_done(alloc, store.advance(version))
 }
 
 fn keep<S: ShardStore>(alloc: Global, store: &mut S, given: &Value) -> Result<Value, Wrong> {

@@ -13,7 +13,9 @@ use std::alloc::Global;
 use test_rows::fields::{Fields, tag_of};
 use test_rows::json::{read_tell, value_of};
 use test_rows::object::Members;
-use test_rows::{NO_FORM, Plays, Scene, ScriptFault, Wrong, no_such_word, read_sizes, write_name};
+use test_rows::{
+    NO_FORM, Plays, RowAsk, Scene, ScriptFault, Wrong, no_such_word, read_sizes, write_name,
+};
 
 /// Plays rows with a copy that heard nothing.
 pub(crate) fn play_tail(alloc: Global, scene: Scene, at: &mut usize) -> Result<(), Wrong> {
@@ -56,18 +58,12 @@ fn read_range(fields: &Fields) -> Result<(Version, Version), Wrong>
 }
 
 impl Plays<Tail> for Nodes {
-    fn play_row(
-        &self,
-        alloc: Global,
-        tail: &mut Tail,
-        word: &str,
-        given: &mut Fields,
-    ) -> Result<Value, Wrong> {
-        match word {
-            "hear" => hear(alloc, tail, given.of(2)),
-            "seed" => seed(alloc, tail, given.of(4)),
-            "reached" => reached(tail, given),
-            "state" => write_complete(alloc, tail.copy(alloc)),
+    fn play_row(&self, tail: &mut Tail, row: &mut RowAsk) -> Result<Value, Wrong> {
+        match row.word {
+            "hear" => hear(row.alloc, tail, row.of(2)),
+            "seed" => seed(row.alloc, tail, row.of(4)),
+            "reached" => Ok(Value::from(tail.reached(tag_of(row.all())?).get())),
+            "state" => write_complete(row.alloc, tail.copy(row.alloc)),
             _ => no_such_word("rows of a tail: hear, seed, reached, state"),
         }
     }
@@ -92,11 +88,6 @@ fn read_peeked(tell: Result<Tell, ScriptFault>) -> Result<Peeked, Wrong> {
         Tell::Log(LogTell::Peeked(peeked)) => Ok(peeked),
         _ => Err(NO_FORM),
     }
-}
-
-/// The version through which a tag is copied.
-fn reached(tail: &Tail, given: &Fields) -> Result<Value, Wrong> {
-    Ok(Value::from(tail.reached(tag_of(given.all())?).get()))
 }
 
 /// What a new log is seeded with; null if the copy is not complete.

@@ -5,7 +5,7 @@ use serde_json::Value;
 use std::alloc::Global;
 use test_rows::fields::Fields;
 use test_rows::object::Members;
-use test_rows::{Plays, Scene, Wrong, no_such_word, read_sizes, said, write_name};
+use test_rows::{Plays, RowAsk, Scene, Wrong, no_such_word, read_sizes, said, write_name};
 
 /// Plays rows with a tally that no log replied to.
 pub(crate) fn play_tally(alloc: Global, scene: Scene, at: &mut usize) -> Result<(), Wrong> {
@@ -19,16 +19,10 @@ fn read_tally(fields: &Fields) -> Result<EndTally, Wrong> {
 }
 
 impl Plays<EndTally> for Nodes {
-    fn play_row(
-        &self,
-        alloc: Global,
-        tally: &mut EndTally,
-        word: &str,
-        given: &mut Fields,
-    ) -> Result<Value, Wrong> {
-        match word {
-            "reply" => reply(alloc, tally, given.of(3)),
-            "state" => write_end(alloc, tally.copy().end()),
+    fn play_row(&self, tally: &mut EndTally, row: &mut RowAsk) -> Result<Value, Wrong> {
+        match row.word {
+            "reply" => reply(row.alloc, tally, row.of(3)),
+            "state" => write_end(row.alloc, tally.copy().end()),
             _ => no_such_word("rows of an end_tally: reply, state"),
         }
     }

@@ -7,10 +7,9 @@ use fr_cli_json::tree::read_bytes;
 use fr_mutation::{Batch, DecodeFault, decode, encode};
 use serde_json::Value;
 use std::alloc::Global;
-use test_rows::fields::Fields;
 use test_rows::json::{read_batch, value_of};
 use test_rows::object::Members;
-use test_rows::{Plays, Scene, Wrong, no_such_word, write_name};
+use test_rows::{Plays, RowAsk, Scene, Wrong, no_such_word, write_name};
 
 /// Plays rows with a batch.
 pub(crate) fn play_batch(alloc: Global, scene: Scene, at: &mut usize) -> Result<(), Wrong> {
@@ -19,18 +18,12 @@ pub(crate) fn play_batch(alloc: Global, scene: Scene, at: &mut usize) -> Result<
 }
 
 impl Plays<Batch> for Files {
-    fn play_row(
-        &self,
-        alloc: Global,
-        batch: &mut Batch,
-        word: &str,
-        given: &mut Fields,
-    ) -> Result<Value, Wrong> {
-        match word {
-            "bytes" => write_bytes(alloc, encode(alloc, batch)),
-            "read" => read(alloc, given.all()),
-            "changed" => change_each(alloc, &BatchBytes, given.all()),
-            "state" => write_copy(alloc, batch.copy()),
+    fn play_row(&self, batch: &mut Batch, row: &mut RowAsk) -> Result<Value, Wrong> {
+        match row.word {
+            "bytes" => write_bytes(row.alloc, encode(row.alloc, batch)),
+            "read" => read(row.alloc, row.all()),
+            "changed" => change_each(row.alloc, &BatchBytes, row.all()),
+            "state" => write_copy(row.alloc, batch.copy()),
             _ => no_such_word("rows of a batch: bytes, read, changed, state"),
         }
     }

@@ -7,9 +7,11 @@ use fr_record_node::FileNode;
 use fr_register::{Cell, CellAsk};
 use serde_json::Value;
 use std::alloc::Global;
-use test_rows::fields::{Fields, items};
+use test_rows::fields::items;
 use test_rows::json::read_cell_ask;
-use test_rows::{Scene, Wrong, no_such_word, said, told, told_all, write_last_state, write_name};
+use test_rows::{
+    RowAsk, Scene, Wrong, no_such_word, said, told, told_all, write_last_state, write_name,
+};
 
 /// Plays rows with a cell over a file that is not there yet.
 pub(crate) fn play_cell(alloc: Global, scene: Scene, at: &mut usize) -> Result<(), Wrong> {
@@ -39,18 +41,12 @@ impl Kept for CellFile {
         file.into_device()
     }
 
-    fn play(
-        &self,
-        alloc: Global,
-        file: &mut CellNode,
-        word: &str,
-        given: &mut Fields,
-    ) -> Result<Value, Wrong> {
-        match word {
-            "ask" => ask(alloc, file, given),
-            "ask_all" => ask_all(alloc, file, given),
-            "reopen" => write_reopened(alloc, file.reopen(alloc)),
-            "state" => write_last_state(alloc, file.plain().last(alloc)),
+    fn play(&self, file: &mut CellNode, row: &mut RowAsk) -> Result<Value, Wrong> {
+        match row.word {
+            "ask" => ask(row.alloc, file, row.take_all()),
+            "ask_all" => ask_all(row.alloc, file, row.take_all()),
+            "reopen" => write_reopened(row.alloc, file.reopen(row.alloc)),
+            "state" => write_last_state(row.alloc, file.plain().last(row.alloc)),
             _ => no_such_word(
                 "rows of a cell over a file: ask, ask_all, reopen, state, close, read, calls, syncs",
             ),
@@ -58,16 +54,16 @@ impl Kept for CellFile {
     }
 }
 
-fn ask(alloc: Global, file: &mut CellNode, given: &mut Fields) -> Result<Value, Wrong> {
-    let ask = read_cell_ask(alloc, given.take_all())?;
+fn ask(alloc: Global, file: &mut CellNode, given: Value) -> Result<Value, Wrong> {
+    let ask = read_cell_ask(alloc, given)?;
     match file.serve(alloc, ask) {
         Ok(tell) => told(alloc, &tell),
         Err(fault) => write_node_fault(alloc, fault),
     }
 }
 
-fn ask_all(alloc: Global, file: &mut CellNode, given: &mut Fields) -> Result<Value, Wrong> {
-    let asks = read_asks(alloc, given.take_all())?;
+fn ask_all(alloc: Global, file: &mut CellNode, given: Value) -> Result<Value, Wrong> {
+    let asks = read_asks(alloc, given)?;
     match file.serve_all(alloc, asks) {
         Ok(tells) => told_all(alloc, tells.as_slice()),
         Err(fault) => write_node_fault(alloc, fault),

@@ -12,10 +12,10 @@ use fr_register::Cell;
 use fr_runtime_housing::{CallFault, Housable, Housed};
 use serde_json::Value;
 use std::alloc::Global;
-use test_rows::fields::{Fields, items};
+use test_rows::fields::items;
 use test_rows::json::{read_cell_ask, read_log_ask, read_node, read_seq_ask, value_of};
 use test_rows::object::Members;
-use test_rows::{NO_FORM, Plays, Wrong, no_such_word, write_name};
+use test_rows::{NO_FORM, Plays, RowAsk, Wrong, no_such_word, write_name};
 
 /// A machine whose asks are read.
 pub(crate) trait Asked: Housable {
@@ -59,100 +59,70 @@ where
     Ok(())
 }
 
-impl Plays<Housed<InMemory<Cell>>> for Files {
-    fn play_row(
-        &self,
-        alloc: Global,
-        housed: &mut Housed<InMemory<Cell>>,
-        word: &str,
-        given: &mut Fields,
-    ) -> Result<Value, Wrong> {
-        play_housed(alloc, housed, word, given)
+type CellInMemory = Housed<InMemory<Cell>>;
+
+type CellOverFile = Housed<CellNode<MemoryDevice>>;
+
+type LogInMemory = Housed<InMemory<Log>>;
+
+type LogOverFile = Housed<LogNode<MemoryDevice>>;
+
+type LogThatFails = Housed<LogNode<FaultyDevice<MemoryDevice>>>;
+
+type SequencerInMemory = Housed<InMemory<Sequencer>>;
+
+impl Plays<CellInMemory> for Files {
+    fn play_row(&self, housed: &mut CellInMemory, row: &mut RowAsk) -> Result<Value, Wrong> {
+        play_housed(housed, row)
     }
 }
 
-impl Plays<Housed<CellNode<MemoryDevice>>> for Files {
-    fn play_row(
-        &self,
-        alloc: Global,
-        housed: &mut Housed<CellNode<MemoryDevice>>,
-        word: &str,
-        given: &mut Fields,
-    ) -> Result<Value, Wrong> {
-        play_housed(alloc, housed, word, given)
+impl Plays<CellOverFile> for Files {
+    fn play_row(&self, housed: &mut CellOverFile, row: &mut RowAsk) -> Result<Value, Wrong> {
+        play_housed(housed, row)
     }
 }
 
-impl Plays<Housed<InMemory<Log>>> for Files {
-    fn play_row(
-        &self,
-        alloc: Global,
-        housed: &mut Housed<InMemory<Log>>,
-        word: &str,
-        given: &mut Fields,
-    ) -> Result<Value, Wrong> {
-        play_housed(alloc, housed, word, given)
+impl Plays<LogInMemory> for Files {
+    fn play_row(&self, housed: &mut LogInMemory, row: &mut RowAsk) -> Result<Value, Wrong> {
+        play_housed(housed, row)
     }
 }
 
-impl Plays<Housed<LogNode<MemoryDevice>>> for Files {
-    fn play_row(
-        &self,
-        alloc: Global,
-        housed: &mut Housed<LogNode<MemoryDevice>>,
-        word: &str,
-        given: &mut Fields,
-    ) -> Result<Value, Wrong> {
-        play_housed(alloc, housed, word, given)
+impl Plays<LogOverFile> for Files {
+    fn play_row(&self, housed: &mut LogOverFile, row: &mut RowAsk) -> Result<Value, Wrong> {
+        play_housed(housed, row)
     }
 }
 
-impl Plays<Housed<LogNode<FaultyDevice<MemoryDevice>>>> for Files {
-    fn play_row(
-        &self,
-        alloc: Global,
-        housed: &mut Housed<LogNode<FaultyDevice<MemoryDevice>>>,
-        word: &str,
-        given: &mut Fields,
-    ) -> Result<Value, Wrong> {
-        play_housed(alloc, housed, word, given)
+impl Plays<LogThatFails> for Files {
+    fn play_row(&self, housed: &mut LogThatFails, row: &mut RowAsk) -> Result<Value, Wrong> {
+        play_housed(housed, row)
     }
 }
 
-impl Plays<Housed<InMemory<Sequencer>>> for Files {
-    fn play_row(
-        &self,
-        alloc: Global,
-        housed: &mut Housed<InMemory<Sequencer>>,
-        word: &str,
-        given: &mut Fields,
-    ) -> Result<Value, Wrong> {
-        play_housed(alloc, housed, word, given)
+impl Plays<SequencerInMemory> for Files {
+    fn play_row(&self, housed: &mut SequencerInMemory, row: &mut RowAsk) -> Result<Value, Wrong> {
+        play_housed(housed, row)
     }
 }
 
 /// A row of a node with its journal.
-fn play_housed<N: Node + Drop>(
-    alloc: Global,
-    housed: &mut Housed<N>,
-    word: &str,
-    given: &mut Fields,
-) -> Result<Value, Wrong>
+fn play_housed<N: Node + Drop>(housed: &mut Housed<N>, row: &mut RowAsk) -> Result<Value, Wrong>
 where
     N::Plain: Asked,
     <N::Plain as Machine>::Ask: Drop,
 {
-    match word {
+    match row.word {
         "ask" => {
-            let fields = given.of(3);
-            let stamp = stamp_of(fields.value("stamp")?)?;
-            let from = read_node(alloc, fields.take("from")?)?;
-            let ask = <N::Plain as Asked>::read_ask(alloc, fields.take("ask")?)?;
-            write_told(alloc, housed.ask(alloc, stamp, from, ask))
+            let stamp = stamp_of(row.of(3).value("stamp")?)?;
+            let from = read_node(row.alloc, row.given.take("from")?)?;
+            let ask = <N::Plain as Asked>::read_ask(row.alloc, row.given.take("ask")?)?;
+            write_told(row.alloc, housed.ask(row.alloc, stamp, from, ask))
         }
-        "crash" => write_stamp(alloc, housed.crash(alloc, stamp_of(given.all())?)),
-        "lose" => write_stamp(alloc, housed.lose(alloc, stamp_of(given.all())?)),
-        "journal" => write_copy(alloc, housed.journal().copy()),
+        "crash" => write_stamp(row.alloc, housed.crash(row.alloc, stamp_of(row.all())?)),
+        "lose" => write_stamp(row.alloc, housed.lose(row.alloc, stamp_of(row.all())?)),
+        "journal" => write_copy(row.alloc, housed.journal().copy()),
         "count" => Ok(Value::from(housed.journal().entries().len())),
         _ => no_such_word("rows of a node with its journal: ask, crash, lose, journal, count"),
     }

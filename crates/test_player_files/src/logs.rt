@@ -11,7 +11,7 @@ use std::alloc::Global;
 use test_rows::fields::{Fields, items};
 use test_rows::json::read_log_ask;
 use test_rows::{
-    NO_FORM, Scene, Wrong, no_such_word, read_sizes, told, told_all, write_last_state,
+    NO_FORM, RowAsk, Scene, Wrong, no_such_word, read_sizes, told, told_all, write_last_state,
 };
 
 /// Plays rows with a log over a file that is not there yet.
@@ -59,18 +59,12 @@ impl Kept for LogFile {
         file.into_device()
     }
 
-    fn play(
-        &self,
-        alloc: Global,
-        file: &mut LogNode<Disk>,
-        word: &str,
-        given: &mut Fields,
-    ) -> Result<Value, Wrong> {
-        match word {
-            "ask" => ask(alloc, file, given),
-            "ask_all" => ask_all(alloc, file, given),
-            "reopen" => write_reopened(alloc, file.reopen(alloc)),
-            "state" => write_last_state(alloc, file.plain().last(alloc)),
+    fn play(&self, file: &mut LogNode<Disk>, row: &mut RowAsk) -> Result<Value, Wrong> {
+        match row.word {
+            "ask" => ask(row.alloc, file, row.take_all()),
+            "ask_all" => ask_all(row.alloc, file, row.take_all()),
+            "reopen" => write_reopened(row.alloc, file.reopen(row.alloc)),
+            "state" => write_last_state(row.alloc, file.plain().last(row.alloc)),
             _ => no_such_word(
                 "rows of a log over a file: ask, ask_all, reopen, state, close, read, calls, syncs",
             ),
@@ -78,16 +72,16 @@ impl Kept for LogFile {
     }
 }
 
-fn ask(alloc: Global, file: &mut LogNode<Disk>, given: &mut Fields) -> Result<Value, Wrong> {
-    let ask = read_log_ask(alloc, given.take_all())?;
+fn ask(alloc: Global, file: &mut LogNode<Disk>, given: Value) -> Result<Value, Wrong> {
+    let ask = read_log_ask(alloc, given)?;
     match file.serve(alloc, ask) {
         Ok(tell) => told(alloc, &tell),
         Err(fault) => write_node_fault(alloc, fault),
     }
 }
 
-fn ask_all(alloc: Global, file: &mut LogNode<Disk>, given: &mut Fields) -> Result<Value, Wrong> {
-    let asks = read_asks(alloc, given.take_all())?;
+fn ask_all(alloc: Global, file: &mut LogNode<Disk>, given: Value) -> Result<Value, Wrong> {
+    let asks = read_asks(alloc, given)?;
     match file.serve_all(alloc, asks) {
         Ok(tells) => told_all(alloc, tells.as_slice()),
         Err(fault) => write_node_fault(alloc, fault),

@@ -9,7 +9,7 @@ use serde_json::Value;
 use std::alloc::Global;
 use test_rows::fields::{Fields, index_of, variant};
 use test_rows::object::hex_value;
-use test_rows::{NO_FORM, Plays, Wrong, no_such_word, said, write_name};
+use test_rows::{NO_FORM, Plays, RowAsk, Wrong, no_such_word, said, write_name};
 
 /// A device under a file: it can fail in a call, and its calls and syncs are counted.
 pub(crate) type Disk = Counting<FaultyDevice<MemoryDevice>>;
@@ -29,13 +29,7 @@ pub(crate) trait Kept: Drop {
     fn into_disk(file: Self::File) -> Disk;
 
     /// What comes of a row while it is open.
-    fn play(
-        &self,
-        alloc: Global,
-        file: &mut Self::File,
-        word: &str,
-        given: &mut Fields,
-    ) -> Result<Value, Wrong>;
+    fn play(&self, file: &mut Self::File, row: &mut RowAsk) -> Result<Value, Wrong>;
 }
 
 /// A device with what is on it, which is open or not.
@@ -129,19 +123,14 @@ impl<K: Kept> Place<K> {
     }
 
     /// What comes of a row while no file is open.
-    fn play_closed(
-        &mut self,
-        alloc: Global,
-        word: &str,
-        given: &mut Fields,
-    ) -> Result<Value, Wrong> {
-        match word {
-            "format" => self.format(alloc, given),
-            "open" => self.open(alloc, given),
-            "crash" => self.crash(given.all()),
-            "sync" => write_done(alloc, self.device()?.sync()),
-            "write" => write_at(alloc, self.device()?, given.of(2)),
-            "bytes" => Ok(hex_value(alloc, self.device()?.bytes())?),
+    fn play_closed(&mut self, row: &mut RowAsk) -> Result<Value, Wrong> {
+        match row.word {
+            "format" => self.format(row.alloc, &mut row.given),
+            "open" => self.open(row.alloc, &mut row.given),
+            "crash" => self.crash(row.all()),
+            "sync" => write_done(row.alloc, self.device()?.sync()),
+            "write" => write_at(row.alloc, self.device()?, row.of(2)),
+            "bytes" => Ok(hex_value(row.alloc, self.device()?.bytes())?),
             _ => no_such_word(
                 "rows of any file: read, calls, syncs, sweep; of one that is not open: format, open, crash, \
                  sync, write, bytes",
@@ -172,22 +161,16 @@ fn device_of(alloc: Global, room: usize, given: &Value) -> Result<MemoryDevice, 
 }
 
 impl<K: Kept> Plays<Place<K>> for Files {
-    fn play_row(
-        &self,
-        alloc: Global,
-        place: &mut Place<K>,
-        word: &str,
-        given: &mut Fields,
-    ) -> Result<Value, Wrong> {
-        match word {
-            "read" => place.read(alloc, given.all()),
+    fn play_row(&self, place: &mut Place<K>, row: &mut RowAsk) -> Result<Value, Wrong> {
+        match row.word {
+            "read" => place.read(row.alloc, row.all()),
             "calls" => Ok(Value::from(place.calls)),
             "syncs" => Ok(Value::from(place.syncs)),
             "close" => place.close(),
-            "sweep" => sweep(alloc, &place.kept, place.room, given.of(2)),
+            "sweep" => sweep(row.alloc, &place.kept, place.room, row.of(2)),
             _ => match &mut place.file {
-                Some(file) => place.kept.play(alloc, file, word, given),
-                None => place.play_closed(alloc, word, given),
+                Some(file) => place.kept.play(file, row),
+                None => place.play_closed(row),
             },
         }
     }

@@ -10,7 +10,7 @@ use serde_json::Value;
 use std::alloc::Global;
 use test_rows::fields::{Fields, index_of, items};
 use test_rows::object::hex_value;
-use test_rows::{NO_FORM, Scene, Wrong, no_such_word};
+use test_rows::{NO_FORM, RowAsk, Scene, Wrong, no_such_word};
 
 /// Plays rows with a record file that is not there yet.
 pub(crate) fn play_records(alloc: Global, scene: Scene, at: &mut usize) -> Result<(), Wrong> {
@@ -38,21 +38,15 @@ impl Kept for RecordFile {
         file.into_device()
     }
 
-    fn play(
-        &self,
-        alloc: Global,
-        file: &mut Records<Disk>,
-        word: &str,
-        given: &mut Fields,
-    ) -> Result<Value, Wrong> {
-        match word {
-            "append" => append(alloc, file, given.all()),
-            "group" => append_group(alloc, file, given.take_all()),
-            "put" => put(alloc, file, given.of(2)),
-            "get" => get(alloc, file, given.all()),
+    fn play(&self, file: &mut Records<Disk>, row: &mut RowAsk) -> Result<Value, Wrong> {
+        match row.word {
+            "append" => append(row.alloc, file, row.all()),
+            "group" => append_group(row.alloc, file, row.take_all()),
+            "put" => put(row.alloc, file, row.of(2)),
+            "get" => get(row.alloc, file, row.all()),
             "count" => Ok(Value::from(file.len())),
             "failed" => Ok(Value::from(file.is_failed())),
-            "reopen" => write_done(alloc, file.reopen(alloc)),
+            "reopen" => write_done(row.alloc, file.reopen(row.alloc)),
             _ => no_such_word(
                 "rows of a record file: append, group, put, get, count, failed, reopen, close, read, \
                  calls, syncs",

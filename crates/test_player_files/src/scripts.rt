@@ -10,7 +10,7 @@ use serde_json::Value;
 use std::alloc::{AllocError, Global};
 use test_rows::fields::Fields;
 use test_rows::object::write_text;
-use test_rows::{NO_FORM, Plays, Scene, Wrong, no_such_word, of_nothing, read_sizes};
+use test_rows::{NO_FORM, Plays, RowAsk, Scene, Wrong, no_such_word, of_nothing, read_sizes};
 
 /// A command.
 #[derive(Clone, Copy)]
@@ -22,18 +22,15 @@ enum Command {
 /// What a command answers of a script, and what it prints.
 type Ran = (Result<u8, CliFault>, Vec<u8>);
 
-/// Plays rows with `apply`.
-pub(crate) fn play_apply(alloc: Global, scene: Scene, at: &mut usize) -> Result<(), Wrong> {
-    let command = of_nothing(alloc, scene, Command::Apply);
-    scene.texts_by(&TEXTS).play_made(alloc, &Files, command, at)
-}
-
 /// The words of which a script follows as it is.
 static TEXTS: [&str; 4] = ["run", "fronts", "changed", "without"];
 
-/// Plays rows with `end`.
-pub(crate) fn play_end(alloc: Global, scene: Scene, at: &mut usize) -> Result<(), Wrong> {
-    let command = read_end(scene.given(alloc)?.of(2));
+/// Plays rows with `apply` or `end`.
+pub(crate) fn play_command(alloc: Global, scene: Scene, at: &mut usize) -> Result<(), Wrong> {
+    let command = match scene.word() {
+        "apply" => of_nothing(alloc, scene, Command::Apply),
+        _ => read_end(scene.given(alloc)?.of(2)),
+    };
     scene.texts_by(&TEXTS).play_made(alloc, &Files, command, at)
 }
 
@@ -46,23 +43,13 @@ fn read_end(fields: &Fields) -> Result<Command, Wrong> {
 }
 
 impl Plays<Command> for Files {
-    fn play_row(
-        &self,
-        alloc: Global,
-        command: &mut Command,
-        word: &str,
-        given: &mut Fields,
-    ) -> Result<Value, Wrong> {
-        match word {
-            "run" | "text" => run_text(alloc, *command, given.all()),
-            "bytes" => run_both(
-                alloc,
-                *command,
-                read_bytes(alloc, Some(given.all()))?.as_slice(),
-            ),
-            "fronts" => run_fronts(alloc, *command, text_of(given.all())?.as_bytes()),
-            "changed" => run_changed(alloc, command, text_of(given.all())?.as_bytes()),
-            "without" => run_without(alloc, command, text_of(given.all())?.as_bytes()),
+    fn play_row(&self, command: &mut Command, row: &mut RowAsk) -> Result<Value, Wrong> {
+        match row.word {
+            "run" | "text" => run_text(row.alloc, *command, row.all()),
+            "bytes" => run_bytes(row.alloc, *command, row.all()),
+            "fronts" => run_fronts(row.alloc, *command, text_of(row.all())?.as_bytes()),
+            "changed" => run_changed(row.alloc, command, text_of(row.all())?.as_bytes()),
+            "without" => run_without(row.alloc, command, text_of(row.all())?.as_bytes()),
             "state" => Ok(Value::Null),
             _ => no_such_word("rows of apply and end: run, text, bytes, fronts, changed, without"),
         }
@@ -75,6 +62,10 @@ fn text_of(given: &Value) -> Result<&str, Wrong> {
 
 fn run_text(alloc: Global, command: Command, given: &Value) -> Result<Value, Wrong> {
     run_both(alloc, command, text_of(given)?.as_bytes())
+}
+
+fn run_bytes(alloc: Global, command: Command, given: &Value) -> Result<Value, Wrong> {
+    run_both(alloc, command, read_bytes(alloc, Some(given))?.as_slice())
 }
 
 /// What comes of a script, read straight and by way of the tree of its JSON: the lines in a list, or the fault as it is

@@ -6,10 +6,10 @@ use fr_cli_json::tree::read_bytes;
 use fr_state::{CoordState, Generation, StateDecodeFault, StateFault, decode, encode};
 use serde_json::Value;
 use std::alloc::Global;
-use test_rows::fields::{Fields, epoch_of, version_of};
+use test_rows::fields::{epoch_of, version_of};
 use test_rows::json::{read_state, value_of};
 use test_rows::object::hex_value;
-use test_rows::{Plays, Scene, Wrong, no_such_word, write_name};
+use test_rows::{Plays, RowAsk, Scene, Wrong, no_such_word, write_name};
 
 /// Plays rows with a coordinated state.
 pub(crate) fn play_state(alloc: Global, scene: Scene, at: &mut usize) -> Result<(), Wrong> {
@@ -18,24 +18,18 @@ pub(crate) fn play_state(alloc: Global, scene: Scene, at: &mut usize) -> Result<
 }
 
 impl Plays<CoordState> for Files {
-    fn play_row(
-        &self,
-        alloc: Global,
-        state: &mut CoordState,
-        word: &str,
-        given: &mut Fields,
-    ) -> Result<Value, Wrong> {
-        match word {
-            "extend" => extend(alloc, state, given.take_all()),
-            "bytes" => write_bytes(alloc, encode(alloc, state)),
-            "read" => read(alloc, given.all()),
-            "changed" => change_each(alloc, &StateBytes, given.all()),
-            "end_of" => Ok(version_or_null(state.end_of(epoch_of(given.all())?))),
-            "cut_of" => Ok(version_or_null(state.cut_of(epoch_of(given.all())?))),
-            "source_for" => { write_one(alloc, state.source_for(version_of(given.all())?.get())) }
-            "begins_with" => begins_with(alloc, state, given.take_all()),
-            "drop_before" => Ok(Value::from(state.drop_before(epoch_of(given.all())?))),
-            "state" => write_copy(alloc, state.copy()),
+    fn play_row(&self, state: &mut CoordState, row: &mut RowAsk) -> Result<Value, Wrong> {
+        match row.word {
+            "extend" => extend(row.alloc, state, row.take_all()),
+            "bytes" => write_bytes(row.alloc, encode(row.alloc, state)),
+            "read" => read(row.alloc, row.all()),
+            "changed" => change_each(row.alloc, &StateBytes, row.all()),
+            "end_of" => Ok(version_or_null(state.end_of(epoch_of(row.all())?))),
+            "cut_of" => Ok(version_or_null(state.cut_of(epoch_of(row.all())?))),
+            "source_for" => { write_one(row.alloc, state.source_for(version_of(row.all())?.get())) }
+            "begins_with" => begins_with(row.alloc, state, row.take_all()),
+            "drop_before" => Ok(Value::from(state.drop_before(epoch_of(row.all())?))),
+            "state" => write_copy(row.alloc, state.copy()),
             _ => no_such_word(
                 "rows of a coordinated_state: extend, bytes, read, changed, end_of, cut_of, source_for, \
                  begins_with, drop_before, state",

@@ -6,7 +6,7 @@ use fr_device::{FaultyDevice, MemoryDevice};
 use serde_json::Value;
 use std::alloc::Global;
 use test_rows::fields::{Fields, items};
-use test_rows::{NO_FORM, Wrong};
+use test_rows::{NO_FORM, RowAsk, Wrong};
 
 /// What a file is asked, and what it tells, as text. Asked again, it tells the same.
 #[derive(Drop)]
@@ -226,7 +226,8 @@ fn told_by<K: Kept>(
     word: &str,
     given: Value,
 ) -> Result<Vec<u8>, Wrong> {
-    match kept.play(alloc, file, word, &mut Fields::new(given, 0)) {
+    let given = Fields::new(given, 0);
+    match kept.play(file, &mut RowAsk { alloc, word, given }) {
         Ok(told) => Ok(told.to_vec(alloc)?),
         Err(Wrong::Unsaid | Wrong::InPart) => Err(Wrong::Memory),
         Err(wrong) => Err(wrong),

@@ -6,15 +6,6 @@ use fr_forms::ScriptFault;
 use serde_json::Value;
 use std::alloc::Global;
 
-/// The greatest number of a cell.
-pub const LAST_CELL: u8 = 8;
-
-/// The greatest number of a log in its generation.
-pub const LAST_LOG: u8 = 15;
-
-/// The greatest number of a proxy in its generation.
-pub const LAST_PROXY: u8 = 15;
-
 /// The name of a variant, and its content: an object of one member.
 pub fn variant(value: Value) -> Result<(String, Fields), ScriptFault> {
     match into_one_member(value) {
@@ -77,14 +68,6 @@ impl Fields {
     pub fn of(&mut self, count: usize) -> &mut Self {
         self.count = count;
         self
-    }
-
-    /// What is made of an object without members.
-    pub fn bare<T: Drop>(&self, made: T) -> Result<T, ScriptFault> {
-        match self.value.as_object() {
-            Some(members) if members.is_empty() => Ok(made),
-            _ => Err(ScriptFault::BadScript),
-        }
     }
 
     /// The whole value, whatever it is, lent.

@@ -18,5 +18,5 @@ pub use forms::{of_nothing, played, read_sizes, write_last_state, write_name, wr
 pub use fr_forms::ScriptFault;
 pub use play::{Player, play_file};
 pub use report::ScenarioReport;
-pub use subject::{Plays, Scene, no_such_word};
+pub use subject::{Plays, RowAsk, Scene, no_such_word};
 pub use wrong::{NO_FORM, Wrong, said, told, told_all};

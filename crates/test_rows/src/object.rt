@@ -63,26 +63,6 @@ pub fn numbered(alloc: Global, name: &str, numbers: &[(&str, u64)]) -> Result<Va
     Members::of(alloc, numbers)?.named(name)
 }
 
-/// A variant that has one member.
-pub fn with_one(
-    alloc: Global,
-    name: &str,
-    member: &str,
-    value: Result<Value, Memory>,
-) -> Result<Value, Memory> {
-    Members::new(alloc).and(member, value)?.named(name)
-}
-
-/// A variant without content.
-pub fn bare_named(alloc: Global, name: &str) -> Result<Value, Memory> {
-    Members::new(alloc).named(name)
-}
-
-/// A variant with its content.
-pub fn named(alloc: Global, name: &str, content: Result<Value, Memory>) -> Result<Value, Memory> {
-    Ok(Members::new(alloc).and(name, content)?.value())
-}
-
 /// Bytes as a text of lower case hex.
 pub fn hex_value(alloc: Global, bytes: &[u8]) -> Result<Value, Memory> {
     Ok(Value::String(hex::encode(alloc, bytes)?))

@@ -9,15 +9,34 @@ use std::alloc::Global;
 
 /// What plays the rows of scenarios about a `T`.
 pub trait Plays<T> {
-    /// What comes of a row, in its form: of its word, and of what is given with it, null if that is nothing. If it
-    /// answers `Memory` nothing was done, if it answers `InPart` a part: it is asked once more.
-    fn play_row(
-        &self,
-        alloc: Global,
-        subject: &mut T,
-        word: &str,
-        given: &mut Fields,
-    ) -> Result<Value, Wrong>;
+    /// What comes of a row, in its form. If it answers `Memory` nothing was done, if it answers `InPart` a part: it is
+    /// asked once more.
+    fn play_row(&self, subject: &mut T, row: &mut RowAsk) -> Result<Value, Wrong>;
+}
+
+/// What a row asks: a word, and what is given with it, null if that is nothing.
+#[derive(Drop)]
+pub struct RowAsk<'t> {
+    pub alloc: Global,
+    pub word: &'t str,
+    pub given: Fields,
+}
+
+impl RowAsk<'_> {
+    /// What is given, which is to be an object of this many members.
+    pub fn of(&mut self, count: usize) -> &mut Fields {
+        self.given.of(count)
+    }
+
+    /// What is given, whatever it is, lent.
+    pub fn all(&self) -> &Value {
+        self.given.all()
+    }
+
+    /// Takes out what is given, whatever it is.
+    pub fn take_all(&mut self) -> Value {
+        self.given.take_all()
+    }
 }
 
 /// A scenario that is to be played: its first row, which makes what it is about, and the others.
@@ -154,7 +173,7 @@ fn play_row<T, P: Plays<T>>(
         return Err(Wrong::Form("no arrow and what is wanted behind it"));
     };
     let wanted = text_of(alloc, json_of(alloc, wanted))?;
-    let given = Fields::new(parts.given_to(alloc, text_words)?, 0);
+    let given = parts.given_to(alloc, text_words)?;
     let told = tell(alloc, player, subject, parts.word, given)?;
     compare(told, wanted)
 }
@@ -165,13 +184,24 @@ fn tell<T, P: Plays<T>>(
     player: &P,
     subject: &mut T,
     word: &str,
-    mut given: Fields,
+    given: Value,
 ) -> Result<Vec<u8>, Wrong> {
-    let told = player.play_row(alloc, subject, word, &mut given)?;
+    let told = tell_value(alloc, player, subject, word, given)?;
     match told.to_vec(alloc) {
         Ok(text) => Ok(text),
         Err(_) => said(text_of(alloc, Ok(told))),
     }
+}
+
+fn tell_value<T, P: Plays<T>>(
+    alloc: Global,
+    player: &P,
+    subject: &mut T,
+    word: &str,
+    given: Value,
+) -> Result<Value, Wrong> {
+    let given = Fields::new(given, 0);
+    player.play_row(subject, &mut RowAsk { alloc, word, given })
 }
 
 /// A value as text, if there is one.
@@ -181,8 +211,7 @@ fn text_of(alloc: Global, value: Result<Value, Wrong>) -> Result<Vec<u8>, Wrong>
 
 /// What a row of a word shows of a subject; none if there is no memory to tell it.
 fn seen<T, P: Plays<T>>(alloc: Global, player: &P, subject: &mut T, word: &str) -> Option<Vec<u8>> {
-    let told = player.play_row(alloc, subject, word, &mut Fields::new(Value::Null, 0));
-    text_of(alloc, told).ok()
+    text_of(alloc, tell_value(alloc, player, subject, word, Value::Null)).ok()
 }
 
 fn compare_seen(now: Option<Vec<u8>>, before: Option<Vec<u8>>) -> Result<(), Wrong> {

@@ -1,13 +1,13 @@
 //! Events of a world, by the words of rows.
 use crate::found;
-use fr_ask::{Ask, Tell};
+use fr_ask::Tell;
 use fr_base::{LogId, NodeId, Shape, Version};
 use fr_world::{Config, ConfigFault, Event, World};
 use serde_json::Value;
 use std::alloc::Global;
 use test_rows::fields::Fields;
 use test_rows::json::{read_ask, read_batch, read_node, read_shards, read_step, read_tell};
-use test_rows::{NO_FORM, Wrong};
+use test_rows::{NO_FORM, RowAsk, Wrong};
 
 /// What a world starts from.
 pub(crate) fn read_config(alloc: Global, fields: &mut Fields) -> Result<Config, Wrong> {
@@ -24,19 +24,14 @@ pub(crate) fn read_config(alloc: Global, fields: &mut Fields) -> Result<Config, 
 }
 
 /// The event of a row; None if its word is none of an event.
-pub(crate) fn read_event(
-    alloc: Global,
-    world: &World,
-    word: &str,
-    given: &mut Fields,
-) -> Result<Option<Event>, Wrong> {
-    match word {
-        "begin" => some(read_begin(given)),
-        "deliver" => some(read_deliver(alloc, world, given.of(3))),
-        "hear" => some(read_hear(alloc, world, given)),
-        "submit" => some(read_submit(alloc, given.of(4))),
-        "crash" => some(read_crash(alloc, given)),
-        "lose" => some(read_lose(given.of(2))),
+pub(crate) fn read_event(world: &World, row: &mut RowAsk) -> Result<Option<Event>, Wrong> {
+    match row.word {
+        "begin" => some(read_begin(&mut row.given)),
+        "deliver" => some(read_deliver(row.alloc, world, row.of(3))),
+        "hear" => some(read_hear(row.alloc, world, &mut row.given)),
+        "submit" => some(read_submit(row.alloc, row.of(4))),
+        "crash" => some(read_crash(row.alloc, row.take_all())),
+        "lose" => some(read_lose(row.of(2))),
         _ => Ok(None),
     }
 }
@@ -68,52 +63,50 @@ fn read_shape(fields: &Fields) -> Result<Shape, Wrong> {
     Shape::new(m, k).ok_or(NO_FORM)
 }
 
-fn read_crash(alloc: Global, given: &mut Fields) -> Result<Event, Wrong> {
-    let node = read_node(alloc, given.take_all())?;
+fn read_crash(alloc: Global, given: Value) -> Result<Event, Wrong> {
+    let node = read_node(alloc, given)?;
     Ok(Event::Crash { node })
 }
 
-fn read_deliver(alloc: Global, world: &World, fields: &mut Fields) -> Result<Event, Wrong> {
-    let from = read_node(alloc, fields.take("from")?)?;
-    let to = read_node(alloc, fields.take("to")?)?;
-    let ask = read_asked(alloc, world, &from, &to, fields.take("ask")?)?;
-    Ok(Event::Deliver { from, to, ask })
+/// The node that asks or hears, and the other one.
+fn read_two(
+    alloc: Global,
+    fields: &mut Fields,
+    one: &str,
+    other: &str,
+) -> Result<(NodeId, NodeId), Wrong> {
+    let one = read_node(alloc, fields.take(one)?)?;
+    Ok((one, read_node(alloc, fields.take(other)?)?))
 }
 
-/// An ask, or the one of a number, from 0, that a node gave to another.
-fn read_asked(
-    alloc: Global,
-    world: &World,
-    from: &NodeId,
-    to: &NodeId,
-    given: Value,
-) -> Result<Ask, Wrong> {
-    match number_of(&given)? {
-        Some(number) => found::ask(world, from, to, number),
-        None => Ok(read_ask(alloc, given)?),
-    }
+/// An ask is delivered, or the one of a number, from 0, that the one node gave to the other.
+fn read_deliver(alloc: Global, world: &World, fields: &mut Fields) -> Result<Event, Wrong> {
+    let (from, to) = read_two(alloc, fields, "from", "to")?;
+    let given = fields.take("ask")?;
+    let ask = match number_of(&given)? {
+        Some(number) => found::ask(world, &from, &to, number)?,
+        None => read_ask(alloc, given)?,
+    };
+    Ok(Event::Deliver { from, to, ask })
 }
 
 /// Whether a node gave an ask to another.
 pub(crate) fn was_sent(alloc: Global, world: &World, fields: &mut Fields) -> Result<Value, Wrong> {
-    let from = read_node(alloc, fields.take("from")?)?;
-    let to = read_node(alloc, fields.take("to")?)?;
+    let (from, to) = read_two(alloc, fields, "from", "to")?;
     let ask = read_ask(alloc, fields.take("ask")?)?;
     Ok(Value::from(world.was_sent(from, to, &ask)))
 }
 
 /// Whether a node told this to another.
 pub(crate) fn was_told(alloc: Global, world: &World, fields: &mut Fields) -> Result<Value, Wrong> {
-    let by = read_node(alloc, fields.take("by")?)?;
-    let to = read_node(alloc, fields.take("to")?)?;
+    let (by, to) = read_two(alloc, fields, "by", "to")?;
     let tell = read_tell(alloc, fields.take("tell")?)?;
     Ok(Value::from(world.was_told(by, to, &tell)))
 }
 
 fn read_hear(alloc: Global, world: &World, given: &mut Fields) -> Result<Event, Wrong> {
     let taken = read_taken(given)?;
-    let by = read_node(alloc, given.take("by")?)?;
-    let from = read_node(alloc, given.take("from")?)?;
+    let (by, from) = read_two(alloc, given, "by", "from")?;
     let tell = read_told(alloc, world, &by, &from, given.take("tell")?)?;
     Ok(Event::Hear {
         by,

@@ -2,9 +2,8 @@
 use fr_audit_script::{ScriptFault, read_script, write_script};
 use serde_json::Value;
 use std::alloc::{AllocError, Global};
-use test_rows::fields::Fields;
 use test_rows::object::write_text;
-use test_rows::{NO_FORM, Plays, Scene, Wrong, no_such_word, played};
+use test_rows::{NO_FORM, Plays, RowAsk, Scene, Wrong, no_such_word, played};
 
 /// What stands before a form in a script, and behind it.
 #[derive(Clone, Copy)]
@@ -112,17 +111,11 @@ fn read_place(name: &Value) -> Result<Place, Wrong> {
 }
 
 impl Plays<Place> for Scripts {
-    fn play_row(
-        &self,
-        alloc: Global,
-        place: &mut Place,
-        word: &str,
-        given: &mut Fields,
-    ) -> Result<Value, Wrong> {
-        match word {
-            "kept" => kept(alloc, *place, given.all()),
-            "read" => tell_written(alloc, *place, text_of(given.all())?),
-            "fronts" => fronts(alloc, *place, text_of(given.all())?),
+    fn play_row(&self, place: &mut Place, row: &mut RowAsk) -> Result<Value, Wrong> {
+        match row.word {
+            "kept" => kept(row.alloc, *place, row.all()),
+            "read" => tell_written(row.alloc, *place, text_of(row.all())?),
+            "fronts" => fronts(row.alloc, *place, text_of(row.all())?),
             "state" => Ok(Value::Null),
             _ => no_such_word("rows of scripts of audits: kept, read, fronts"),
         }

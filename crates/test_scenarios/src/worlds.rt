@@ -9,7 +9,7 @@ use test_player::write_read;
 use test_rows::fields::Fields;
 use test_rows::json::read_node;
 use test_rows::object::Members;
-use test_rows::{Plays, Scene, Wrong, no_such_word, played, said, write_last_state};
+use test_rows::{Plays, RowAsk, Scene, Wrong, no_such_word, played, said, write_last_state};
 
 /// The player of worlds.
 struct Worlds;
@@ -40,36 +40,25 @@ struct Played {
 }
 
 impl Plays<Played> for Worlds {
-    fn play_row(
-        &self,
-        alloc: Global,
-        played: &mut Played,
-        word: &str,
-        given: &mut Fields,
-    ) -> Result<Value, Wrong> {
-        match word {
-            "state" => state(alloc, &played.world, given),
-            "there" => there(alloc, &played.world, given),
-            "gone" => gone(alloc, &played.world, given),
-            "sent" => was_sent(alloc, &played.world, given.of(3)),
-            "told" => was_told(alloc, &played.world, given.of(3)),
+    fn play_row(&self, played: &mut Played, row: &mut RowAsk) -> Result<Value, Wrong> {
+        match row.word {
+            "state" => state(row.alloc, &played.world, row.take_all()),
+            "there" => there(row.alloc, &played.world, row.take_all()),
+            "gone" => gone(row.alloc, &played.world, row.take_all()),
+            "sent" => was_sent(row.alloc, &played.world, row.of(3)),
+            "told" => was_told(row.alloc, &played.world, row.of(3)),
             "turns" => Ok(Value::from(played.world.turns().len())),
-            "read" => read(alloc, &mut played.world, given.of(3)),
-            "replay" => replay(alloc, played),
-            _ => happen(alloc, played, word, given),
+            "read" => read(row.alloc, &mut played.world, row.of(3)),
+            "replay" => replay(row.alloc, played),
+            _ => happen(played, row),
         }
     }
 }
 
 /// What comes of an event.
-fn happen(
-    alloc: Global,
-    played: &mut Played,
-    word: &str,
-    given: &mut Fields,
-) -> Result<Value, Wrong> {
-    match read_event(alloc, &played.world, word, given)? {
-        Some(event) => take(alloc, played, event),
+fn happen(played: &mut Played, row: &mut RowAsk) -> Result<Value, Wrong> {
+    match read_event(&played.world, row)? {
+        Some(event) => take(row.alloc, played, event),
         None => no_such_word(
             "rows of a world: begin, deliver, hear, submit, crash, lose, state, there, gone, sent, \
              told, turns, read, replay",
@@ -108,20 +97,20 @@ fn write_copy(alloc: Global, answer: Result<Answer, Memory>) -> Result<Value, Wr
 }
 
 /// What others see of a node's last state; null if it is not there.
-fn state(alloc: Global, world: &World, given: &mut Fields) -> Result<Value, Wrong> {
-    let node = read_node(alloc, given.take_all())?;
+fn state(alloc: Global, world: &World, given: Value) -> Result<Value, Wrong> {
+    let node = read_node(alloc, given)?;
     match world.last_of(alloc, node)? {
         Some(last) => write_last_state(alloc, Ok(last)),
         None => Ok(Value::Null),
     }
 }
 
-fn there(alloc: Global, world: &World, given: &mut Fields) -> Result<Value, Wrong> {
-    Ok(Value::from(world.is_there(read_node(alloc, given.take_all())?)))
+fn there(alloc: Global, world: &World, given: Value) -> Result<Value, Wrong> {
+    Ok(Value::from(world.is_there(read_node(alloc, given)?)))
 }
 
-fn gone(alloc: Global, world: &World, given: &mut Fields) -> Result<Value, Wrong> {
-    Ok(Value::from(world.is_gone(read_node(alloc, given.take_all())?)))
+fn gone(alloc: Global, world: &World, given: Value) -> Result<Value, Wrong> {
+    Ok(Value::from(world.is_gone(read_node(alloc, given)?)))
 }
 
 /// What the storage server of a tag answers a read of a key at a version.
