@@ -1,9 +1,10 @@
 //! Plays the scenarios of the folder, each file `NAME.md` but README.md, and prints a line for each scenario. It ends
-//! with status 1 if one does not hold.
+//! with status 1 if one does not hold, or if the example does not come out.
 #![tactic(auto)]
 
 mod answers;
 mod events;
+mod example;
 mod found;
 mod scripts;
 mod worlds;
@@ -38,7 +39,7 @@ impl Player for Players {
 }
 
 fn main(rt: HostRuntime) -> anyhow::Result<ExitCode> {
-    Ok(if scenarios(&rt)? {
+    Ok(if scenarios(&rt)? && example::comes_out(rt.alloc())? {
         ExitCode::SUCCESS
     } else {
         ExitCode::FAILURE
