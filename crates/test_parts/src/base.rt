@@ -1,5 +1,4 @@
-//! Tests of numbers and names, of a node in memory, and of two ballots that contend.
-mod names;
+//! Tests of numbers, of a node in memory, and of two ballots that contend.
 mod nodes;
 mod numbers;
 mod two_ballots;

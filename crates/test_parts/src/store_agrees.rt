@@ -4,7 +4,7 @@ use rand_pcg::Pcg32;
 use std::alloc::Global;
 use std::process::Abort;
 use std::test::Fail;
-use test_stores::{SlowStore, agree, agrees, version};
+use test_stores::{SlowStore, agree, agrees, goes_back, version};
 
 /// Whether a version can be undone to, and gives the same in both.
 fn agree_at(
@@ -56,7 +56,7 @@ fn agree_in_part(
     agree_below(rt, alloc, store, slow)
 }
 
-/// The same 200 calls of a generator do.
+/// The same 200 calls of a generator do, and then each version on the way back.
 fn agree_in_each(
     rt: &impl Abort,
     alloc: Global,
@@ -67,6 +67,7 @@ fn agree_in_each(
     for part in 0..10u32 {
         agree_in_part(rt, alloc, part, rng, store, slow)?;
     }
+    assert!(rt; goes_back(alloc, store, slow)?);
     Ok(())
 }
 

@@ -1,6 +1,6 @@
-//! The same seeded calls at a store in SQL, at one in a map and at lists give the same answers and states.
+//! The same seeded calls at a store in SQL and at lists give the same answers and states.
 use fr_sql_store::SqlStore;
-use fr_undo::{MapStore, ShardStore};
+use fr_undo::ShardStore;
 use rand_pcg::Pcg32;
 use std::alloc::Global;
 use std::test::Fail;
@@ -20,15 +20,6 @@ fn follows<S: ShardStore + Drop>(alloc: Global, seed: u64, mut store: S) -> Resu
 fn tables_agree_with_lists(rt: HostRuntime) -> Result<(), Fail> {
     for seed in 0..2u64 {
         let store = SqlStore::in_memory(rt.alloc())?;
-        assert!(rt; follows(rt.alloc(), seed, store)?, "{seed}");
-    }
-    Ok(())
-}
-
-#[test]
-fn a_map_agrees_with_lists(rt: HostRuntime) -> Result<(), Fail> {
-    for seed in 0..2u64 {
-        let store = MapStore::new(rt.alloc());
         assert!(rt; follows(rt.alloc(), seed, store)?, "{seed}");
     }
     Ok(())

@@ -1,6 +1,6 @@
-//! Tests of the store in SQL. In memory: each call, and seeded runs beside a map and plain lists. Over files: closed and
-//! opened again, over files that hold no store, on files that stop at each call, and on files that fail for a while.
-//! And of what is built over files of the host, on disks in memory that do the same.
+//! Tests of the store in SQL. In memory: each call, and seeded runs beside plain lists. Over files: closed and opened
+//! again, over files that hold no store, on files that stop at each call, and on files that fail for a while. And of
+//! what is built over files of the host, on disks in memory that do the same.
 #![tactic(auto)]
 
 #[cfg(test)]
