@@ -32,7 +32,7 @@ enum {
     FDBREC_LIMIT = 6,       /* a number or a length is not within its limits: all is as it was */
     FDBREC_BAD_TEXT = 7,    /* a text or bytes are not in their form: all is as it was */
     FDBREC_UNTOLD = 8,      /* the turn is done; no memory for its answer, which is to be fetched, or there is none */
-    FDBREC_PART = 9,        /* out of memory amid an answer to a storage server, which may have taken a front of it */
+    FDBREC_PART = 9,        /* out of memory amid an answer to a storage server, which may have taken its first part */
     FDBREC_TWO_VALUES = 10, /* a cell holds another value under the ballot */
     FDBREC_NONE = 11,       /* the key has no value */
     FDBREC_NOT_MINE = 12,   /* the key that is read is not of the shard */

@@ -90,7 +90,7 @@ class Untold(Fault, MemoryError):
 
 
 class PartTaken(Fault, MemoryError):
-    """A storage server took a front of what it heard, and then had no memory. Hear the same again."""
+    """A storage server took the first part of what it heard, and then was out of memory. Hear the same again."""
 
 
 class TwoValues(Fault):

@@ -18,7 +18,7 @@ pub enum Fault {
     /// The turn is done, and there was no memory to say what came of it: [`Machine::answer`](crate::Machine::answer)
     /// gives it, and it need not be asked again.
     Untold,
-    /// A storage server took a front of what it heard, and then had no memory. Hear the same again.
+    /// A storage server took the first part of what it heard, and then was out of memory. Hear the same again.
     Part,
     /// The cell holds another value under this ballot: two nodes wrote under one, so something is wrong.
     TwoValues,
