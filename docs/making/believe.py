@@ -4,7 +4,7 @@ import re
 import textwrap
 
 from making.definitions import Closure, uses_of
-from making.sources import TOP, WIDTH, wrapped
+from making.sources import TOP, WIDTH, clauses_of, wrapped
 
 HEADLINE = ("fr_run_headline", "laws.rt", ("headline_law", "safety_law"))
 STATEMENTS = (
@@ -216,7 +216,7 @@ def counted(title, keys):
 
 def contract_of(text, function):
     at = text.index(f"pub fn {function}")
-    return "\n".join(re.findall(r"ensures .*", text[at : text.index("\n{", at)]))
+    return clauses_of(text[at : text.index("\n{", at)])
 
 
 def wrap_items(text):

@@ -2,7 +2,7 @@
 import os
 import re
 
-from making.sources import TOP, files_of, read
+from making.sources import TOP, clauses_of, files_of, read
 
 NAME = r"[^\W\d][\w'₀-₉-]*"
 
@@ -184,7 +184,7 @@ class Closure:
         """Takes what the contract of a function of the code names, and the types of the code that it speaks of."""
         text = self.code.texts[file]
         at = text.index(f"pub fn {function}")
-        clauses = "\n".join(re.findall(r"ensures .*", text[at : text.index("\n    {\n", at)]))
+        clauses = clauses_of(text[at : text.index("\n    {\n", at)])
         self.take_all(clauses, *uses_of(text))
         for crate, name in codes:
             self.take_code(crate, name)

@@ -1,5 +1,6 @@
 """The files of the repository, and the crates of crates.txt."""
 import os
+import re
 import textwrap
 
 TOP = os.path.dirname(os.path.dirname(os.path.dirname(os.path.realpath(__file__))))
@@ -17,6 +18,12 @@ def files_of(folder, ending):
         folders.sort()
         found += [os.path.relpath(f"{place}/{it}", TOP) for it in sorted(names) if it.endswith(ending)]
     return found
+
+
+def clauses_of(contract):
+    """What a contract ensures: each clause as one line, over however many it is laid out."""
+    found = re.findall(r"\bensures .*?(?=\n\s*(?:ensures|requires)\b|\Z)", contract, re.S)
+    return "\n".join(" ".join(it.split()) for it in found)
 
 
 def wrapped(text, first="", rest=""):
