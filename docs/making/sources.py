@@ -23,6 +23,9 @@ def files_of(folder, ending):
 def clauses_of(contract):
     """What a contract ensures: each clause as one line, over however many it is laid out."""
     found = re.findall(r"\bensures .*?(?=\n\s*(?:ensures|requires)\b|\Z)", contract, re.S)
+    for it in found:
+        if it.count("{") != it.count("}"):
+            raise ValueError(f"a clause without its end: {it}")
     return "\n".join(" ".join(it.split()) for it in found)
 
 
