@@ -90,10 +90,7 @@ fn is_run<R: Threads + Wait + Sync>(
 #[test]
 fn what_refused_a_call_is_opened_again(rt: HostRuntime) -> Result<(), Fail> {
     let refusals = RefusedCalls::new();
-    let frailty = Frailty {
-        seed: 1,
-        every: 16,
-    };
+    let frailty = Frailty { seed: 1, every: 16 };
     let rack = FrailRack::new(frailty, &refusals);
     assert!(rt; is_run(&rt, rt.alloc(), rack)?);
     assert!(rt; refusals.devices() > 0 && refusals.files() > 0);
