@@ -88,15 +88,14 @@ fn numbered(alloc: Global, epoch: Epoch) -> anyhow::Result<u64> {
 /// The proxy takes a batch, and asks the sequencer for its version.
 fn have_numbered(alloc: Global, world: &mut World, epoch: Epoch) -> anyhow::Result<u64> {
     let step = Step::new(1).context("no step")?;
-    world.step(
-        alloc,
-        Event::Submit {
-            epoch,
-            proxy: 0,
-            step,
-            batch: batch(alloc)?,
-        },
-    )?;
+    let batch = batch(alloc)?;
+    let submitted = Event::Submit {
+        epoch,
+        proxy: 0,
+        step,
+        batch,
+    };
+    happen(alloc, world, submitted)?;
     let asked = Event::Deliver {
         from: NodeId::Proxy { epoch, number: 0 },
         to: NodeId::Sequencer { epoch },
@@ -106,8 +105,19 @@ fn have_numbered(alloc: Global, world: &mut World, epoch: Epoch) -> anyhow::Resu
             step,
         }),
     };
-    match world.step(alloc, asked)? {
-        Answer::Told(Tell::Seq(SeqTell::Numbered { version, .. })) => Ok(version.get()),
-        _ => Ok(0),
+    let answer = happen(alloc, world, asked)?;
+    Ok(number_in(&answer))
+}
+
+/// What comes of an event.
+fn happen(alloc: Global, world: &mut World, event: Event) -> anyhow::Result<Answer> {
+    Ok(world.step(alloc, event)?)
+}
+
+/// The version that a sequencer told, 0 if there is none.
+fn number_in(answer: &Answer) -> u64 {
+    match answer {
+        Answer::Told(Tell::Seq(SeqTell::Numbered { version, .. })) => version.get(),
+        _ => 0,
     }
 }
