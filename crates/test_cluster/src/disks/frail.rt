@@ -87,12 +87,17 @@ fn is_run<R: Threads + Wait + Sync>(
     Ok(status == 0 && said.as_slice() == b"audit ok\n".as_slice())
 }
 
+/// A storage server whose turns are over before the proxies come to a processor writes little, so there may be some runs.
 #[test]
 fn what_refused_a_call_is_opened_again(rt: HostRuntime) -> Result<(), Fail> {
     let refusals = RefusedCalls::new();
     let frailty = Frailty { seed: 1, every: 16 };
-    let rack = FrailRack::new(frailty, &refusals);
-    assert!(rt; is_run(&rt, rt.alloc(), rack)?);
-    assert!(rt; refusals.devices() > 0 && refusals.files() > 0);
-    Ok(())
+    for _ in 0..20 {
+        let rack = FrailRack::new(frailty, &refusals);
+        assert!(rt; is_run(&rt, rt.alloc(), rack)?);
+        if refusals.devices() > 0 && refusals.files() > 0 {
+            return Ok(());
+        }
+    }
+    Err(Fail::from("no call of a device, or of a file, was refused"))
 }
