@@ -32,7 +32,7 @@ pub enum Last {
     Proxy {
         known: Version,
     },
-    /// The phase of a recoverer, as text.
+    /// The phase of a recoverer, as the bytes of a text: a journal may have any text there.
     Recoverer {
         phase: Bytes,
     },

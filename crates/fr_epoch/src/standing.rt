@@ -41,7 +41,8 @@ pub(crate) struct Standing {
     pub(crate) parent: Option<Found>,
     /// The replies to its locks.
     pub(crate) end: Option<EndTally>,
-    /// What these replies showed popped.
+    /// What these replies showed popped, as it came: at most 16 times 32 entries, read once, for the plan. So the
+    /// tally takes no memory.
     pub(crate) shown: Vec<PoppedTag>,
     /// Its plan.
     pub(crate) plan: Option<Draft>,

@@ -15,7 +15,7 @@ pub type HostDevice = DiskDevice<FileFrom<Unknown>>;
 
 /// Opens a file of the host as a device with so much room, or that of its bytes if they are more. It is made if it is
 /// missing, locked until the device is dropped, synced with its folder, and read whole. A second file, of its name and
-/// `-wal`, is made beside it and stays empty.
+/// `-wal`, is made beside it and stays empty: the library opens the two files of a database, and has no call for one.
 ///
 /// # Errors
 ///

@@ -1,4 +1,5 @@
-//! Every ask is within its limits, since what its parts tell of themselves says so.
+//! Every ask is within its limits, since what its parts tell of themselves says so. Such an ask has one spelling, so
+//! its records lead back to it.
 ghost use Rattle.std.specs.Prelude.{◌≡◌, ◌≤◌, IsTrue, IfSome, All, length};
 ghost use Rattle.std.specs.Option.{option_copied};
 ghost use Rattle.fr_tags.specs.Bodies.{is_rising_from};

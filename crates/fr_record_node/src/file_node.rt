@@ -230,6 +230,7 @@ where
 
     ghost CanMeet = { λ fault. IsTrue (is_trouble fault) };
 
+    // The trait's clauses are said again: a method with clauses of its own tells those alone.
     fn serve(&mut self, alloc: Global, ask: M::Ask) -> Result<M::Tell, NodeFault>
         ensures told { IfOk result (λ tell. tell ≡ M.told self.old.machine ask) }
         ensures after { OnOk result (self.new.machine ≡ M.after self.old.machine ask) }

@@ -40,7 +40,8 @@ pub fn tally_law()
 
 /// A tally is *faithful* if what it counts was told by the cells. One that heard nothing is. It stays so
 /// with each tell that it hears, if cells told those of its own ask, and with each further turn. With a
-/// majority it shows that a majority of the cells was read, or holds the pair.
+/// majority it shows that a majority of the cells was read, or holds the pair. The invariant is public, so that a
+/// caller between whose turns other things happen keeps it step by step.
 pub fn faithful_law()
     ensures new_read { NewReadIsFaithful }
     ensures read_hears { HearingKeepsRead }

@@ -42,7 +42,7 @@ impl Model for CellPoll {
 }
 
 impl CellPoll {
-    /// A poll that heard nothing.
+    /// A poll that heard nothing, of any number of cells that a byte can name: how many there may be, the config says.
     pub fn new(alloc: Global, cells: u8) -> Self
         ensures { result ≡ new_poll cells }
     {

@@ -83,7 +83,8 @@ pub(crate) fn size_of<D: Disk>(store: &FileStore<D>) -> Result<Option<PageSize>,
     Ok(None)
 }
 
-/// Files that are to be opened with the trees of a store. `Memory` gives them back.
+/// Files that are to be opened with the trees of a store. `Memory` gives them back. `Connection::open_files` is not
+/// called: nothing is known of what it leaves if it refuses late.
 pub(crate) fn unopened<D: Disk>(
     alloc: Global,
     files: Files<D>,

@@ -135,7 +135,7 @@ pub fn put<'x, S: Backing>(
     )
 }
 
-/// Gives a key that has a value another.
+/// Gives a key that has a value another. It is an UPDATE: a DELETE of one row costs in proportion to the table.
 pub fn change<'x, S: Backing>(
     tx: &mut Transaction<'_, S>,
     key: &'x Bytes,

@@ -293,7 +293,8 @@ pub(crate) fn version_of(number: i64) -> Result<Version, Refused>
     }
 }
 
-/// One more than so many rows. More than a number can say are refused as more than there is memory for.
+/// One more than so many rows. More than a number can say are refused as more than there is memory for: were it
+/// `Full`, whoever counts rows could answer `Full` at will.
 pub fn one_more(rows: usize) -> Result<usize, Refused>
     ensures more { IfOk result (λ more. more ≡ rows + 1) }
     ensures refused { IfErr result (λ refused. (fault_in refused ≡ StoreFault.Memory) × (2 ^ 64 ≤ rows + 1)) }

@@ -38,7 +38,8 @@ pub fn probe<S: Backing>(conn: &mut Connection<S>) -> Result<(), Trouble>
 }
 
 /// The trouble of a call whose statement was refused. It is `Device` if the connection, when it is then asked whether
-/// it still works, does not.
+/// it still works, does not. It is asked at every fault: one for memory or room can come with a connection that the
+/// disk shut.
 fn settle<S: Backing>(conn: &mut Connection<S>, refused: Refused) -> Trouble
     ensures trouble { IsTrouble MeetsAll result }
     ensures told { result ≢ StoreFault.Device → result ≡ fault_in refused }

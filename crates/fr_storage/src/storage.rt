@@ -118,7 +118,7 @@ impl<S: ShardStore> Storage<S> {
         (epoch, ask)
     }
 
-    /// The generation that has the next version.
+    /// The generation that has the next version. At the greatest version, which has no next one, it is the last.
     fn next_source(&self) -> Epoch
         ensures { result ≡ (ask_after self.now.state.gens self.now.tag self.now.applied).0 }
     {

@@ -39,7 +39,8 @@ impl Model for Tail {
 
 impl Tail {
     /// A copy that heard nothing, of this many tags, from the logs of these numbers of a generation of
-    /// `m` logs on `k` of which each tag is, of what is above `pev` through `rv`.
+    /// `m` logs on `k` of which each tag is, of what is above `pev` through `rv`. A recoverer has tested `order` and
+    /// `room` by then.
     pub fn new(
         alloc: Global,
         tags: u8,

@@ -11,7 +11,8 @@ use sqlite_disk::Disk;
 use std::io;
 
 impl<D: Disk + Drop> Mirror<D> {
-    /// Whether the disk below takes a write, and a crash still leaves of it what it said first.
+    /// Whether the disk below takes a write, and a crash still leaves of it what it said first. It is asked before each
+    /// write, since one sync a commit is enough only if a crash leaves each byte old or new.
     fn may_write(&self) -> bool
         ensures usable { IsTrue result → IsTrue (D.Disk.is_usable self.now.below) }
         ensures mixing { IsTrue result → IsTrue self.now.mixes → IsTrue (D.Disk.is_mixing self.now.below) }
