@@ -35,7 +35,7 @@ FAMILIES = (
     ),
 )
 # what stands beside the main column, and in which one
-SIDE = {"Store in SQL": 0, "Nodes over disks": 1}
+SIDE = {"Store in SQL": 0, "Nodes over disks": 1, "Library for C": 1}
 WIDE, NARROW, GAP, LINE, PAD = 560, 260, 40, 15, 10
 
 
@@ -85,6 +85,8 @@ def placed(inside, below):
     boxes, y = {}, PAD
     for row in sorted(rows, reverse=True):
         high = 0
+        columns = [SIDE.get(name, 2) for name in rows[row]]
+        assert len(set(columns)) == len(columns), f"docs/layers.svg: one column for two of {rows[row]}: see SIDE"
         for name in rows[row]:
             wide = NARROW if name in SIDE else WIDE
             x = PAD + SIDE.get(name, 2) * (NARROW + GAP)
