@@ -31,10 +31,10 @@ pub record Plan : Type 0 where
   pub generation : LogGeneration
   pub tail : TailState
 
--- a recoverer: its ballot, where the shards begin, the shape that the next generation is to have if one was given, how
--- far it is, its tally of promises, what they told, the replies to its locks from the moment that it has a parent, what
--- these showed popped, one reply after the other, its plan, the new logs that are seeded, its tally of writes, and the
--- new logs that hold the mark. One that is lost keeps all but its phase
+-- a recoverer: its ballot, where the shards begin, the shape that the next generation is to have if one was given, and
+-- how far it is. It has its tally of promises, what they told, and from the moment that it has a parent the replies to
+-- its locks, with what these showed popped, one reply after the other. It has its plan, the new logs that are seeded,
+-- its tally of writes, and the new logs that hold the mark. One that is lost keeps all but its phase
 pub record RecState : Type 0 where
   pub ballot : ℕ
   pub begins : List (List ℕ)

@@ -45,8 +45,8 @@ pub record IsNumbered (p : ProxyState) (request : ℕ) (at : Place) (before sinc
   pub place : IsPlace p.known at
   pub first : (other : Place) → IsPlace p.known other → WasHeard before (number_word p request other) → ⊥
 
--- a version is committed at the last word: it is the batch's, each log of the generation told, since the batch has its number, that
--- it holds it, not all of them did before the last word, and no word before ended the batch
+-- a version is committed at the last word: it is the batch's, and each log of the generation told, since the batch has
+-- its number, that it holds it. Not all of them had told so before the last word, and no word before ended the batch
 pub record IsHeldByAllNow (p : ProxyState) (request : ℕ) (ws : List Word) (w : Word) (version : ℕ) : Type 0 where
   pub at : Place
   pub before : List Word

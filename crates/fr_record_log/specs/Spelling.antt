@@ -47,8 +47,8 @@ spelled_as (Some state) p = 4 ∷ (spelled_numbers p ++ spelling state)
 abbrev pub spelled_push : PushContent → List ℕ
 spelled_push p = spelled_as p.mark p
 
--- the records of an ask that changes a log: of a first seed one, and one for each of its records; of a push one; of a lock 05; of a Pop one,
--- with the version through which its tag is then popped
+-- the records of an ask that changes a log. Of a first seed there is one, and one for each of its records; of a push
+-- one; of a lock 05. Of a Pop there is one, with the version through which its tag is then popped
 abbrev pub spelled_ask : LogState → LogAsk → List (List ℕ)
 spelled_ask l (Seed s) = spelled_head l s ∷ map spelled_seeded s.records
 spelled_ask l (Push p) = spelled_push p ∷ []

@@ -28,8 +28,8 @@ IsToldToWrite turns p h = h.tell ≡ Written p.ballot → Contains turns (writte
 abbrev pub parent_of : ℕ → (ℕ → Making) → ℕ → Stamped
 parent_of n making b = (read_tally n b (making b).heard).greatest
 
--- a write of x by ballot b is made rightly: x is the ballot's one value, the ballot is not that of the start, and its read
--- tally, which may have gone on hearing, has its majority, from promises that were told before
+-- a write of x by ballot b is made rightly: x is the ballot's one value, and the ballot is not that of the start. Its
+-- read tally, which may have gone on hearing, has its majority, from promises that were told before
 pub record IsMade (n : ℕ) (first : CellState) (making : ℕ → Making) (before : List Turn) (b : ℕ) (x : List ℕ) : Type 0 where
   pub one_value : (making b).value ≡ x
   pub unused : b ≢ first.written

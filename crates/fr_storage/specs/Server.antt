@@ -10,8 +10,8 @@ use Rattle.fr_storage.specs.declared.fault.StorageFault.{StorageFault}
 use Rattle.fr_storage.specs.declared.fault.StorageFault.TheVariants.{Older, Stranger, BelowFloor, NotMyGeneration, Hole, Store, BadState}
 use Rattle.fr_storage.specs.Storage.{StorageState, Call, stages}
 
--- a storage server: its tag, what it keeps beside its store (the coordinated state, the version applied and the floor), the store, and
--- whether it failed: a call of the store was refused, and the server was not opened again since
+-- a storage server: its tag, the store, and what it keeps beside it (the coordinated state, the version applied and the
+-- floor). It failed if a call of the store was refused, and the server was not opened again since
 pub record Server (S : Type 0) : Type 0 where
   pub tag : ℕ
   pub state : CoordinatedState

@@ -53,8 +53,8 @@ pub record IsFound {S : Type 0} (MayLeave : S → StoreState → Type 0) (s : Se
   pub state : IsCoordinatedState n.state
   pub spelled : n.store.bytes ≡ spelling n.state
 
--- what a server is to hear is true to it: while it works, from the first on; one that failed is opened again in place of the first hear, and
--- what comes after that is true to each server that may then be found
+-- what a server is to hear is true to it: while it works, from the first on. One that failed is opened again in place
+-- of the first hear, and what comes after that is true to each server that may then be found
 pub record AreTrueTo {S : Type 0} (state_of : S → StoreState) (MayLeave : S → StoreState → Type 0) (pieces : Pieces) (Chosen : CoordinatedState → Type 0) (heards : List Heard) (s : Server S) : Type 0 where
   pub works : s.failed ≡ false → AreTrueAhead pieces Chosen (storage_of state_of s) heards
   pub found : IsTrue s.failed → (n : StorageState) → IsFound MayLeave s n → AreTrueAhead pieces Chosen n (drop 1 heards)

@@ -80,8 +80,9 @@ AreTrueAnswers whole s [] = Unit {0}
 AreTrueAnswers whole s (a ∷ as_told) =
     (is_responder s a.log a.tag ≡ true → IsTrueAnswer whole s.rv a.tag a.peeked) × AreTrueAnswers whole s as_told
 
--- a copy that heard true answers of the responders, in any order and as often as may be, and then is complete: the seed of a log has of
--- each tag that the log holds exactly the records above pev through rv, in their order, and of other tags none
+-- Take a copy that heard true answers of the responders, in any order and as often as may be, and then is complete. The
+-- seed of a log has of each tag that the log holds exactly the records above pev through rv, in their order, and of
+-- other tags none
 abbrev pub SeedsAreWhole : Type 0
 SeedsAreWhole =
     (whole : ℕ → ℕ → ℕ → List PeekedRecord) → ((t : ℕ) → IsWhole (whole t)) → (tags old_m old_k : ℕ) (responders : List ℕ) (pev rv : ℕ) → pev ≤ rv
