@@ -17,11 +17,11 @@ use Rattle.fr_run.specs.StateLaws.{IsConfig}
 use Rattle.fr_run_contents.specs.Issued.{committed}
 use Rattle.fr_run_headline.specs.Committed.{IsAcknowledgedBatch, commit_at}
 
--- a run whose first generation has one log and whose second one, 513, has two: a batch was acknowledged there at
--- version 3, and one more followed at version 4; the storage server applied both, its floor rose to 3, and it let the
--- log pop its tag through 3, so of the log's two records one is left; a recovery locked both logs, copied from the
--- popped one what is above 3, dropped the first generation and opened 769; the storage server keeps its state, and
--- the batch is in the committed list
+-- a run whose first generation has one log and whose second one, 513, has two. A batch was acknowledged there at
+-- version 3, and one more followed at version 4. The storage server applied both, its floor rose to 3, and it let the
+-- log pop its tag through 3: so of the log's two records one is left. A recovery locked both logs, copied from the
+-- popped one what is above 3, dropped the first generation and opened 769. The storage server keeps its state, and the
+-- batch is in the committed list
 pub record PopsAndDrops : Type 0 where
   pub config : Config
   pub run : List Turn

@@ -46,8 +46,8 @@ shard_of c tag m = shard.part m (shard_at c.begins tag)
 
 -- ---- every storage server follows
 
--- a storage server against its own epoch, which is chosen: it has its shard of the map that this epoch issued through the version applied, an undo row for each
--- change above its floor, and spells the state that it keeps
+-- a storage server against its own epoch, which is chosen. It has its shard of the map that this epoch issued through
+-- the version applied, and an undo row for each change above its floor; and it spells the state that it keeps
 pub record IsFollowing (c : Config) (h : List Turn) (tag : ℕ) (s : StorageState) : Type 0 where
   pub chosen : IsChosenEpoch c h (own_epoch s.state)
   pub state : s.state ≡ state_of c h (own_epoch s.state)
@@ -74,8 +74,9 @@ pub record HasRolledBack (c : Config) (h : List Turn) (tag : ℕ) : Type 0 where
 abbrev pub applied_at : Config → List Turn → ℕ → ℕ
 applied_at c h tag = (storage_at c h tag).store.applied
 
--- a storage server keeps a state, and has exactly its shard of the map given by the committed batches through its applied version, which is at most the recovery
--- version: the cut, in that state, of the epoch that it left
+-- a storage server keeps a state, and has exactly its shard of the map given by the committed batches through its
+-- applied version. That is at most the recovery version (the cut, in that state, of the epoch that it left), and at
+-- most the version through which the committed list goes
 pub record HoldsCommitted (c : Config) (h : List Turn) (tag latest left : ℕ) (state : CoordinatedState) : Type 0 where
   pub kept : (storage_at c h tag).state ≡ state
   pub contents : (storage_at c h tag).store.contents ≡ shard_of c tag (map_after (through (applied_at c h tag) (committed c h latest)))

@@ -11,8 +11,9 @@ use Rattle.fr_run.specs.StateLaws.{IsConfig}
 use Rattle.fr_run_contents.specs.Issued.{committed}
 use Rattle.fr_run_headline.specs.Committed.{HasRolledBack, applied_at, IsAcknowledgedBatch, commit_at}
 
--- a run of a generation of two logs: a batch was acknowledged at version 2; storage server 0 had applied version 3 too, which one log alone held; that log was lost, and
--- the other one locked; after the recovery the storage server is at version 2
+-- a run of a generation of two logs. A batch was acknowledged at version 2. Storage server 0 had applied version 3 too,
+-- which one log alone held; that log was lost, and the other one locked. After the recovery the storage server is at
+-- version 2
 pub record RollbackHappens : Type 0 where
   pub config : Config
   pub run : List Turn
@@ -25,9 +26,9 @@ pub record RollbackHappens : Type 0 where
   pub batch : List Mutation
   pub acknowledged : IsAcknowledgedBatch config run 257 2 batch
 
--- the same run, with another recovery in place of the rollback: a batch was acknowledged at version 2 of epoch 257, a
--- log was lost, the epochs 513 and 769 were opened one after the other, the last one with three logs in place of two,
--- and by it the batch is in the committed list at its version
+-- the same run, with another recovery in place of the rollback: a batch was acknowledged at version 2 of epoch 257, and
+-- a log was lost. The epochs 513 and 769 were opened one after the other, the last one with three logs in place of two.
+-- By it the batch is in the committed list at its version
 pub record SurvivesTwoRecoveries : Type 0 where
   pub config : Config
   pub run : List Turn

@@ -54,8 +54,9 @@ AreFewLost c h e = All (λ g. log_count g.m (lost_logs h g.epoch) < g.k) (state_
 abbrev pub records_at : ℕ → List PeekedRecord → List PeekedRecord
 records_at version records = filter (λ r. nat_le r.version version) (filter (λ r. nat_lt (version - 1) r.version) records)
 
--- a version's part of a tag can be had from a log of the version's source that is not lost, holds the tag, starts at or below the version, has come through it and
--- has not let it go: what the log has left is exactly what the epoch issued of the tag at that version
+-- a version's part of a tag can be had from a log of the version's source that is not lost. The log holds the tag,
+-- starts at or below the version, has come through it and has not let it go. What it has left is exactly what the epoch
+-- issued of the tag at that version
 pub record IsRetrievable (c : Config) (h : List Turn) (e tag version : ℕ) : Type 0 where
   pub source : LogGeneration
   pub is_source : source_of (state_of c h e).gens version ≡ Some source

@@ -31,9 +31,10 @@ use Rattle.fr_run_headline.specs.Committed.{IsFollowing, RolledBackIsExact, HasC
 use Rattle.fr_run_headline.specs.Order.{IsNeverCut}
 use Rattle.fr_run_headline.specs.Retrievable.{AreFewLost, IsRetrievable}
 
--- the order of versions: what a log knows each seeded log of the epoch holds; what is known, what was acknowledged and each floor no recovery cuts off; no
--- recoverer finds its replies at odds; a log holds pushes, its mark among them, only of an epoch that is chosen; a seeded log holds exactly its tags'
--- parts of what its epoch issues, and of these, once it let go of what it may, what is above the version that is popped of the tag
+-- the order of versions. What a log knows each seeded log of the epoch holds. What is known, what was acknowledged and
+-- each floor no recovery cuts off. No recoverer finds its replies at odds. A log holds pushes, its mark among them,
+-- only of an epoch that is chosen. A seeded log holds exactly its tags' parts of what its epoch issues; of these, once
+-- it let go of what it may, what is above the version that is popped of the tag
 pub record AreOrdered (c : Config) (h : List Turn) : Type 0 where
   pub durable : (e i j : ℕ) → i < logs_at c h e → j < logs_at c h e → IsSome (log_at c h e j).seed → known_of (log_at c h e i) ≤ durable_of (log_at c h e j)
   pub known : (e i : ℕ) → i < logs_at c h e → IsNeverCut c h e (known_of (log_at c h e i))

@@ -23,8 +23,9 @@ pub record IsSafeFloor (c : Config) (h : List Turn) (gens : List LogGeneration) 
   pub there : Contains gens generation
   pub below : IsBelow c h generation.epoch floor
 
--- a storage server of a run: the state that it keeps is that of a chosen epoch, its own; its store spells that state, and is the one that its tag's part
--- of what that epoch issues makes of an empty store through the version applied; it has applied nothing that the epoch did not number, and its floor is safe
+-- a storage server of a run. The state that it keeps is that of a chosen epoch, its own. Its store spells that state,
+-- and is the one that its tag's part of what that epoch issues makes of an empty store through the version applied. It
+-- has applied nothing that the epoch did not number, and its floor is safe
 pub record IsStorageOf (c : Config) (h : List Turn) (tag : ℕ) (s : StorageState) : Type 0 where
   pub tag_is : s.tag ≡ tag
   pub chosen : IsChosenEpoch c h (own_epoch s.state)

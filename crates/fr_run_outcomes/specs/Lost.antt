@@ -17,8 +17,9 @@ use Rattle.fr_run.specs.StateLaws.{IsConfig}
 abbrev pub NoCellHasTwoValues : Type 0
 NoCellHasTwoValues = (c : Config) (h : List Turn) → IsRun c h → (i : ℕ) (to : NodeId) → Told h (node.Cell i) to (tell.Cell TwoValues) → ⊥
 
--- a recoverer that is lost is so because a cell promised a greater ballot, because there are as many generations as a list has room for, or because there is no
--- version left: never because what it read is no state, what it would open is not later than what it read, a cell found two values, or replies are at odds
+-- a recoverer that is lost is so because a cell promised a greater ballot, because there are as many generations as a
+-- list has room for, or because there is no version left. It is never so because what it read is no state, what it
+-- would open is not later than what it read, a cell found two values, or replies are at odds
 abbrev pub LostOnlySo : Type 0
 LostOnlySo =
     (c : Config) (h : List Turn) → IsConfig c → IsRun c h → (b : ℕ) (r : RecState) (why : LostWhy) → rec_at c h b ≡ Some r → r.phase ≡ Lost why

@@ -16,8 +16,8 @@ use Rattle.fr_run_contents.specs.Issued.{least_durable}
 use Rattle.fr_run_contents.specs.Contents.{part_records}
 use Rattle.fr_run_headline.specs.Retrievable.{records_at, IsRetrievable}
 
--- a log of a generation, lost or not, has a tag's part of a version: it is there and seeded, has come through the version and has not let it go, and what it has left
--- of the tag at the version is exactly what the epoch issued
+-- a log of a generation, lost or not, has a tag's part of a version: it is there and seeded, has come through the
+-- version and has not let it go. What it has left of the tag at the version is exactly what the epoch issued
 pub record HasVersion (c : Config) (h : List Turn) (e tag version : ℕ) (source : LogGeneration) (log : ℕ) : Type 0 where
   pub there : log < logs_at c h source.epoch
   pub seeded : IsSome (log_at c h source.epoch log).seed

@@ -14,8 +14,9 @@ use Rattle.fr_run_contents.specs.Issued.{least_durable, committed}
 use Rattle.fr_run_contents.specs.IssuedLaws.{through}
 use Rattle.fr_run_headline.specs.Committed.{map_after, shard_of}
 
--- a version of a storage server that is settled: from its floor through the version applied, committed, and not above the cut of the server's own epoch in the line of
--- the chosen epoch of the greatest ballot, if that is another one
+-- a version of a storage server that is settled: it is from its floor through the version applied, and committed. Nor
+-- is it above the cut of the server's own epoch in the line of the chosen epoch of the greatest ballot, if that is
+-- another one
 pub record IsSettledAt (c : Config) (h : List Turn) (latest tag version : ℕ) : Type 0 where
   pub floor : (storage_at c h tag).store.floor ≤ version
   pub applied : version ≤ (storage_at c h tag).store.applied
