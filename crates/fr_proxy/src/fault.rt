@@ -1,5 +1,4 @@
 //! Why a proxy does not take a batch.
-use fr_base::Memory as NoMemory;
 use thiserror::Error;
 
 /// Why a proxy does not take a batch. Of several reasons the first in the order of these variants is
@@ -16,15 +15,4 @@ pub enum SubmitFault {
     /// memory around it can.
     #[error("out of memory")]
     Memory,
-}
-
-impl From<NoMemory> for SubmitFault {
-    ghost use Rattle.std.specs.Prelude.{◌≡◌};
-    ghost use Rattle.fr_proxy.specs.declared.fault.SubmitFault.TheVariants.{Memory};
-
-    ghost from_gives = { λ _ fault. fault ≡ Memory };
-
-    fn from(_: NoMemory) -> SubmitFault {
-        SubmitFault::Memory
-    }
 }

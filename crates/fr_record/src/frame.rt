@@ -4,8 +4,7 @@ ghost use Rattle.std.specs.Vec.{vec_capacity};
 ghost use Rattle.fr_record.specs.File.{frames, behind};
 ghost use Rattle.fr_record.specs.Group.{records_of, places_of};
 
-use fr_base::Memory;
-use std::alloc::Global;
+use std::alloc::{AllocError, Global};
 
 /// Where the bytes of a record are.
 #[derive(Clone, Copy, Debug, PartialEq, Eq)]
@@ -15,7 +14,7 @@ pub(crate) struct Frame {
 }
 
 /// What is written behind the closed gate for one record: its length, its bytes and a closed gate.
-pub(crate) fn behind_gate(alloc: Global, payload: &[u8]) -> Result<Vec<u8>, Memory>
+pub(crate) fn behind_gate(alloc: Global, payload: &[u8]) -> Result<Vec<u8>, AllocError>
     requires { length payload.now < 2 ^ 32 }
     ensures { IfOk result (λ bytes. bytes.items ≡ behind (payload.now ∷ [])) }
 {
@@ -28,7 +27,7 @@ pub(crate) fn behind_gate(alloc: Global, payload: &[u8]) -> Result<Vec<u8>, Memo
 }
 
 /// Adds the frame of a record, its gate open.
-fn push_frame(bytes: &mut Vec<u8>, payload: &[u8]) -> Result<(), Memory>
+fn push_frame(bytes: &mut Vec<u8>, payload: &[u8]) -> Result<(), AllocError>
     requires { length payload.now < 2 ^ 32 }
     ensures { OnOk result (bytes.new.items ≡ bytes.old.items ++ frames (payload.now ∷ [])) }
 {
@@ -51,7 +50,7 @@ pub(crate) fn framed_len(group: &[Vec<u8>]) -> usize
 }
 
 /// The frames of a group, and a closed gate.
-pub(crate) fn framed(alloc: Global, group: &[Vec<u8>]) -> Result<Vec<u8>, Memory>
+pub(crate) fn framed(alloc: Global, group: &[Vec<u8>]) -> Result<Vec<u8>, AllocError>
     requires { All (λ v. length v.items < 2 ^ 32) group.now }
     ensures { IfOk result (λ bytes. bytes.items ≡ frames (records_of group.now) ++ 0 ∷ []) }
 {

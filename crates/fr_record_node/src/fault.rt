@@ -2,7 +2,7 @@
 ghost use Rattle.std.specs.Prelude.{◌≡◌};
 ghost use Rattle.fr_record_node.specs.Node.{node_fault};
 
-use fr_base::{Memory as NoMemory, NodeFault};
+use fr_base::NodeFault;
 use fr_record::RecordFault;
 use thiserror::Error;
 
@@ -15,17 +15,6 @@ pub enum RecordReadFault {
     /// A growth of memory was refused.
     #[error("out of memory")]
     Memory,
-}
-
-impl From<NoMemory> for RecordReadFault {
-    ghost use Rattle.std.specs.Prelude.{◌≡◌};
-    ghost use Rattle.fr_record_node.specs.declared.fault.RecordReadFault.TheVariants.{Memory};
-
-    ghost from_gives = { λ _ fault. fault ≡ Memory };
-
-    fn from(_: NoMemory) -> RecordReadFault {
-        RecordReadFault::Memory
-    }
 }
 
 /// The fault of a node whose file has this fault.

@@ -1,5 +1,4 @@
 //! Why an answer was not taken into a copy.
-use fr_base::Memory as NoMemory;
 use thiserror::Error;
 
 /// Why an answer was not taken into a copy. They are tested in the order of these variants.
@@ -17,15 +16,4 @@ pub enum TailFault {
     /// There is no memory.
     #[error("Memory")]
     Memory,
-}
-
-impl From<NoMemory> for TailFault {
-    ghost use Rattle.std.specs.Prelude.{◌≡◌};
-    ghost use Rattle.fr_tail.specs.declared.fault.TailFault.TheVariants.{Memory};
-
-    ghost from_gives = { λ _ fault. fault ≡ Memory };
-
-    fn from(_: NoMemory) -> TailFault {
-        TailFault::Memory
-    }
 }

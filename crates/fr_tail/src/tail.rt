@@ -96,8 +96,7 @@ impl Tail {
         if peeked.upto() <= peeked.after() {
             return Err(TailFault::ShortOfEnd);
         }
-        self.take(number, peeked)?;
-        Ok(())
+        self.take(number, peeked).map_err(|_| TailFault::Memory)
     }
 
     /// Takes an answer that goes on from what is copied of a tag.
