@@ -1,4 +1,5 @@
 //! Why a state is not extended, and why bytes are no state.
+use fr_base::Memory as NoMemory;
 use std::alloc::AllocFailed;
 use thiserror::Error;
 
@@ -43,4 +44,15 @@ pub enum StateDecodeFault {
     /// There is no memory.
     #[error("out of memory")]
     Memory,
+}
+
+impl From<NoMemory> for StateDecodeFault {
+    ghost use Rattle.std.specs.Prelude.{◌≡◌};
+    ghost use Rattle.fr_state.specs.declared.fault.StateDecodeFault.TheVariants.{Memory};
+
+    ghost from_gives = { λ _ fault. fault ≡ Memory };
+
+    fn from(_: NoMemory) -> StateDecodeFault {
+        StateDecodeFault::Memory
+    }
 }

@@ -55,10 +55,7 @@ fn state_of(alloc: Global, bytes: &[u8]) -> Result<CoordState, StateDecodeFault>
     if rest.len() > end {
         return Err(StateDecodeFault::Trailing);
     }
-    match generations(alloc, count, rest) {
-        Ok(gens) => Ok(CoordState::from_ordered(dropped, gens)),
-        Err(_) => Err(StateDecodeFault::Memory),
-    }
+    Ok(CoordState::from_ordered(dropped, generations(alloc, count, rest)?))
 }
 
 /// How many generations were dropped, by the format, and the bytes after that.
