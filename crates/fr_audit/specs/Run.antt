@@ -55,8 +55,9 @@ abbrev pub AreClosed : Config → List Turn → List JournalState → Type 0
 AreClosed c h [] = Unit {0}
 AreClosed c h (j ∷ js) = IsClosed c h j × AreClosed c h js
 
--- journals are a run of a config, with these turns: sorted by stamp and node, no two of their entries have one place, each happens in
--- turn, with the tells and outcomes that the world gives, and each journal was closed with its node's last state
+-- journals are a run of a config, with these turns. Sorted by stamp and node, no two of their entries have one place,
+-- and each happens in turn, with the tells and outcomes that the world gives. Each journal was closed with its node's
+-- last state
 pub record IsRunOf (c : Config) (js : List JournalState) (h : List Turn) : Type 0 where
   pub apart : AreApart (merged js)
   pub happen : Happen c [] (merged js) h

@@ -36,7 +36,7 @@ not_up w who o why e = go (not (is_there w.config w.turns who)) (is_gone w.turns
     go false true k = let d : not_enabled.Gone ≡ why = cc in ap err d
     go false false k = absurd (cc)
 
--- that refuses its event, and not for want of memory
+-- that refuses its event, and not out of memory
 pub refused_up : (w : WorldState) (who : NodeId) (o : Result Turn NotEnabled) (why : NotEnabled) → why_not_up w who ≡ Some why
     → (why ≢ not_enabled.Memory → if_up w.config w.turns who o ≡ Err why) × (why ≡ not_enabled.Memory → IsOk (if_up w.config w.turns who o))
 refused_up w who o why e = (λ no. not_up w who o why e, go (not (is_there w.config w.turns who)) (is_gone w.turns who) e)
