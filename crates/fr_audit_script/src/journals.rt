@@ -1,12 +1,37 @@
-//! Journals.
-use crate::acts::write_entry;
+//! Journals, and what nodes do.
 use fr_ask::Last;
-use fr_audit_journal::{Entry, Journal, JournalFault};
+use fr_audit_journal::{Act, Entry, Journal, JournalFault};
 use fr_base::{Memory, NodeId};
 use fr_cli_json::tokens::Unread;
-use fr_forms::{Formed, Object, Row};
+use fr_forms::{Formed, Object, Row, kind};
 use serde_json::Value;
 use std::alloc::Global;
+
+pub(crate) fn entry_of(alloc: Global, row: Row<'_>) -> Result<Entry, Unread> {
+    let act = act_of(alloc, row.part(0))?;
+    let stamp = Formed::from_row(alloc, row.part(1))?;
+    Ok(Entry { stamp, act })
+}
+
+fn act_of(alloc: Global, row: Row<'_>) -> Result<Act, Unread> {
+    kind!(Act read alloc row)
+}
+
+/// The form of an entry.
+pub fn write_entry(alloc: Global, entry: &Entry) -> Result<Value, Memory> {
+    Object::new(alloc)
+        .put("act", write_act(alloc, &entry.act))?
+        .with("stamp", &entry.stamp)?
+        .value()
+}
+
+/// An act: of a recoverer that began without a shape it has no members.
+fn write_act(alloc: Global, act: &Act) -> Result<Value, Memory> {
+    match act {
+        Act::Begun { shape: None } => Object::new(alloc).named("begun"),
+        _ => kind!(Act write act alloc),
+    }
+}
 
 /// A journal of these entries. One whose stamps do not rise is no script.
 pub(crate) fn journal_of(

@@ -6,8 +6,7 @@ ghost use Rattle.serde_json.specs.Data.{Data};
 ghost use Rattle.serde_json.specs.Read.{read};
 ghost use Rattle.serde_json.specs.Written.{IsInOrder};
 
-use crate::acts::entry_of;
-use crate::journals::{journal_of, write_journal};
+use crate::journals::{entry_of, journal_of, write_journal};
 use fr_audit_journal::{Entry, Journal};
 use fr_base::Memory;
 use fr_cli_json::tokens::Unread;
@@ -27,24 +26,9 @@ struct Found {
 }
 
 impl Found {
-    fn new(alloc: Global) -> Self {
-        Found {
-            config: None,
-            journals: Vec::new(alloc),
-            entries: Vec::new(alloc),
-        }
-    }
-
     fn script(self) -> Result<(Config, Vec<Journal>), ScriptFault> {
-        let Found {
-            config,
-            journals,
-            entries: _,
-        } = self;
-        match config {
-            Some(config) => Ok((config, journals)),
-            None => Err(ScriptFault::BadScript),
-        }
+        let config = self.config.ok_or(ScriptFault::BadScript)?;
+        Ok((config, self.journals))
     }
 }
 
@@ -85,7 +69,11 @@ pub fn read_script(
     ensures utf8 { OnOk result (IsUtf8 text.now) }
     ensures json { OnOk result ((d : Data) × (read text.now ≡ Some d)) }
 {
-    let mut found = Found::new(alloc);
+    let mut found = Found {
+        config: None,
+        journals: Vec::new(alloc),
+        entries: Vec::new(alloc),
+    };
     read_text(alloc, text, form(), &mut found, place)?;
     let script = found.script()?;
     Ok(script)

@@ -14,6 +14,9 @@ pub enum Piece {
     Journal,
 }
 
+/// The members of an object: their names, and what they may be.
+pub type Members = &'static [(&'static str, Form)];
+
 /// What a value may be: a row of the table.
 #[derive(Clone, Copy)]
 pub enum Form {
@@ -30,9 +33,9 @@ pub enum Form {
     /// Bytes, at most so many: a text of lower case hex, two digits a byte.
     Hex(usize),
     /// An object of exactly these members, in any order.
-    Object(&'static [(&'static str, Form)]),
+    Object(Members),
     /// An object of one of these members.
-    OneOf(&'static [(&'static str, Form)]),
+    OneOf(Members),
     /// An array of exactly these.
     Tuple(&'static [Form]),
     /// An array of any number of these.
@@ -60,6 +63,14 @@ impl Form {
             Form::Ask => &table::ASKED,
             Form::Tell => &table::TOLD,
             _ => self,
+        }
+    }
+
+    /// The name of the member that has this place in it.
+    pub fn member(&self, place: usize) -> Option<&'static str> {
+        match self {
+            Form::Object(members) | Form::OneOf(members) => members.get(place).map(|it| it.0),
+            _ => None,
         }
     }
 }

@@ -72,11 +72,9 @@ macro_rules! parts {
         $(let $part = parts.take($alloc)?;)+
         Ok($type { $($part),+ })
     }};
-    (read $alloc:ident $row:ident; $type:ident [ $($part:ident: $form:expr),+ ]) => {{
-        let mut parts = $row.parts();
-        $(let $part = parts.take($alloc)?;)+
-        Ok($type { $($part),+ })
-    }};
+    (read $alloc:ident $row:ident; $type:ident [ $($parts:tt)+ ]) => {
+        $crate::parts! { read $alloc $row; $type { $($parts)+ } }
+    };
     (read $alloc:ident $row:ident; $type:ident { $($part:ident $(($all:ident))?: $form:expr),+ } new($($given:ident),+)) => {{
         let mut parts = $row.parts();
         $(let $part = parts.take($alloc)?;)+

@@ -1,5 +1,5 @@
 //! Where a text is no script: line and column, the path, what was found there, and what may stand there.
-use crate::form::Form;
+use crate::form::{Form, Members};
 use crate::reading::is_in_range;
 use json::{Reader, Scratch, Token};
 use std::alloc::{AllocError, Global};
@@ -36,16 +36,28 @@ pub(crate) const NO_JSON: Mistake = Mistake {
 /// The most characters of a token that are shown.
 const SHOWN: usize = 40;
 
-/// An object or an array on the way to a token.
+/// The text, an object or an array on the way to a token: where it begins, and what was read of it.
 #[derive(Clone, Copy)]
 struct Level<'a> {
     start: usize,
-    is_array: bool,
-    /// How many items were begun.
-    count: usize,
-    name: &'a str,
-    /// Whether the value of a name is to come.
-    is_named: bool,
+    read: Read<'a>,
+}
+
+/// What was read of a text, of an object or of an array.
+#[derive(Clone, Copy)]
+enum Read<'a> {
+    /// Nothing of the text.
+    Nothing,
+    /// So many items were begun.
+    Items(usize),
+    /// No member.
+    Begun,
+    /// A name, whose value is to come.
+    Name(&'a str),
+    /// The value of the member of a name.
+    Member(&'a str),
+    /// All that there may be.
+    All,
 }
 
 /// What is said of a mistake, or of bytes that are no text: of these the first one that is none.
@@ -82,73 +94,56 @@ fn sought<'a>(
     mistake: Mistake,
     levels: &mut Vec<Level<'a>>,
 ) -> Result<(usize, usize), AllocError> {
-    for index in 0..length {
-        let start = reader.offset();
+    levels.push(level(0, Read::Nothing))?;
+    for _token in 0..length {
+        let mut start = reader.offset();
         let token = reader.next().unwrap_or(Token::Bad);
-        let is_one = index == 0 || !levels.is_empty();
-        if !(is_one && fits(levels.last(), token) && is_read(token, levels.len())) {
-            pass(levels, Token::Null, start)?;
+        let depth = levels.len();
+        let Some(last) = levels.last_mut() else {
+            break;
+        };
+        let (read, fits) = passed(last.read, token, depth);
+        last.read = read;
+        if !fits {
             return Ok((start, length));
         }
-        let start = pass(levels, token, start)?;
+        match token {
+            Token::BeginObject => levels.push(level(start, Read::Begun))?,
+            Token::BeginArray => levels.push(level(start, Read::Items(0)))?,
+            Token::EndObject | Token::EndArray => {
+                start = levels.pop().map_or(start, |ended| ended.start);
+            }
+            _ => {}
+        }
         if reader.offset() == mistake.end && !matches!(mistake.wanted, Wanted::Json) {
             return Ok((start, mistake.end));
         }
     }
-    pass(levels, Token::Null, length)?;
     Ok((length, length))
 }
 
-/// Whether a token is read so deep: numbers that no double can come near are not, nor is the 128th level.
-fn is_read(token: Token<'_>, depth: usize) -> bool {
-    match token {
+fn level(start: usize, read: Read<'_>) -> Level<'_> {
+    Level { start, read }
+}
+
+/// What is read behind a token, and whether that may stand there. Numbers that no double can come near may not, nor the
+/// 128th level.
+fn passed<'a>(read: Read<'a>, token: Token<'a>, depth: usize) -> (Read<'a>, bool) {
+    let is_value = match token {
         Token::Number(digits) => is_in_range(digits.as_bytes()),
-        Token::BeginObject | Token::BeginArray => depth < 127,
-        _ => true,
+        Token::BeginObject | Token::BeginArray => depth <= 127,
+        Token::String(_) | Token::Bool(_) | Token::Null => true,
+        Token::Key(_) | Token::EndObject | Token::EndArray | Token::Bad => false,
+    };
+    match (read, token) {
+        (Read::Items(_), Token::EndArray) => (read, true),
+        (Read::Begun | Read::Member(_), Token::EndObject) => (read, true),
+        (Read::Begun | Read::Member(_), Token::Key(name)) => (Read::Name(name), true),
+        (Read::Items(count), _) => (Read::Items(count.wrapping_add(1)), is_value),
+        (Read::Name(name), _) => (Read::Member(name), is_value),
+        (Read::Nothing, _) => (Read::All, is_value),
+        _ => (Read::All, false),
     }
-}
-
-/// Whether a token may stand there.
-fn fits(level: Option<&Level<'_>>, token: Token<'_>) -> bool {
-    match (token, level) {
-        (Token::Bad, _) => false,
-        (Token::Key(_) | Token::EndObject, Some(level)) => !level.is_array && !level.is_named,
-        (Token::EndArray, Some(level)) => level.is_array,
-        (Token::Key(_) | Token::EndObject | Token::EndArray, None) => false,
-        (_, Some(level)) => level.is_array || level.is_named,
-        (_, None) => true,
-    }
-}
-
-/// Passes a token; gives where what it ends begins.
-fn pass<'a>(
-    levels: &mut Vec<Level<'a>>,
-    token: Token<'a>,
-    start: usize,
-) -> Result<usize, AllocError> {
-    if let Token::EndObject | Token::EndArray = token {
-        return Ok(levels.pop().map_or(start, |level| level.start));
-    }
-    if let Some(level) = levels.last_mut() {
-        let (name, is_named) = match token {
-            Token::Key(name) => (name, true),
-            _ if level.is_named => (level.name, false),
-            _ => ("", false),
-        };
-        level.count = level.count.wrapping_add(1);
-        level.name = name;
-        level.is_named = is_named;
-    }
-    if let Token::BeginObject | Token::BeginArray = token {
-        levels.push(Level {
-            start,
-            is_array: matches!(token, Token::BeginArray),
-            count: 0,
-            name: "",
-            is_named: false,
-        })?;
-    }
-    Ok(start)
 }
 
 /// The line and the column behind a text, from 1. Characters are counted.
@@ -170,12 +165,16 @@ fn place(before: &[u8]) -> (usize, usize) {
 fn put_path(said: &mut String, levels: &[Level<'_>]) -> Result<(), AllocError> {
     let start = said.len();
     for level in levels {
-        if level.is_array && level.count > 0 {
-            let index = level.count.wrapping_sub(1);
-            write!(said, "[{index}]")?;
-        } else if !level.name.is_empty() {
-            said.push_str(if said.len() > start { "." } else { "" })?;
-            put_token(said, level.name, true)?;
+        match level.read {
+            Read::Items(count) => if count > 0 {
+                let index = count.wrapping_sub(1);
+                write!(said, "[{index}]")?;
+            },
+            Read::Name(name) | Read::Member(name) => if !name.is_empty() {
+                said.push_str(if said.len() > start { "." } else { "" })?;
+                put_token(said, name, true)?;
+            },
+            Read::Nothing | Read::Begun | Read::All => {}
         }
     }
     said.push_str(if said.len() > start { ": " } else { "" })
@@ -279,11 +278,7 @@ fn put_form(said: &mut String, form: &'static Form) -> Result<(), AllocError> {
     }
 }
 
-fn put_names(
-    said: &mut String,
-    what: &str,
-    members: &'static [(&'static str, Form)],
-) -> Result<(), AllocError> {
+fn put_names(said: &mut String, what: &str, members: Members) -> Result<(), AllocError> {
     let mut between = what;
     for (name, _) in members {
         said.push_str(between)?;

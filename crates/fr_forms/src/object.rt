@@ -48,10 +48,7 @@ impl Object {
 
     /// An object of one member, which is this one.
     pub fn named(self, name: &str) -> Result<Value, Memory> {
-        let Object { alloc, members } = self;
-        let mut outer = Map::new(alloc);
-        outer.insert(String::from_str(alloc, name)?, Value::Object(members))?;
-        Ok(Value::Object(outer))
+        Object::new(self.alloc).put(name, self.value())?.value()
     }
 }
 

@@ -104,28 +104,13 @@ fn read_whole<S: Sink>(
     let mut scratch = Scratch::new(alloc);
     let mut reader = Reader::new(text, &mut scratch)?;
     let mut tape = Tape::new(alloc);
-    read_first(alloc, &mut tape, &mut reader, sink, form, mistake)?;
+    read_value(alloc, &mut tape, &mut reader, sink, form, 127)?;
+    mistake.end = reader.offset();
     if reader.next().is_some() {
         return Err(Unread::Unusual);
     }
     end(alloc, &tape, sink, mistake)?;
     Ok(())
-}
-
-/// Reads the value of a text, and says how far that went.
-fn read_first<'a, S: Sink>(
-    alloc: Global,
-    tape: &mut Tape<'a>,
-    reader: &mut Reader<'a>,
-    sink: &mut S,
-    form: &'static Form,
-    mistake: &mut Mistake,
-) -> Result<(), Unread>
-    ensures value { OnOk result (HasValue 127 reader.old reader.new) }
-{
-    let read = read_value(alloc, tape, reader, sink, form, 127);
-    mistake.end = reader.offset();
-    read
 }
 
 /// Gives the value of a text to who takes it, or its first mistake.
@@ -136,9 +121,7 @@ fn end<S: Sink>(
     mistake: &mut Mistake,
 ) -> Result<(), Unread> {
     if let Slot::Wrong(index) = tape.last {
-        if let Some(first) = tape.mistakes.get(index) {
-            *mistake = *first;
-        }
+        *mistake = tape.mistakes.get(index).copied().unwrap_or(*mistake);
         return Err(Unread::Unusual);
     }
     mistake.wanted = Wanted::Whole;
@@ -219,11 +202,11 @@ fn read_items<'a, S: Sink>(
         sink.begin(part);
     }
     'items: while !reader.take_end_array() {
-        let item = tape.item(&mut open);
+        let (item, at) = tape.item(&mut open)?;
         let first = tape.parts.len();
         read_value(alloc, tape, reader, sink, item, depth)?;
         hand(alloc, tape, sink, item, (first, reader.offset()))?;
-        tape.add(&mut open)?;
+        tape.add(&mut open, at)?;
     }
     tape.end(&mut open, reader.offset())?;
     Ok(())

@@ -1,5 +1,4 @@
 //! What was read of a value, as it is taken apart.
-use crate::form::Form;
 use crate::tape::Slot;
 use fr_base::Memory;
 use fr_cli_json::tokens::Unread;
@@ -11,7 +10,7 @@ use std::alloc::Global;
 #[derive(Clone, Copy)]
 pub struct Row<'t> {
     tape: &'t [Slot<'t>],
-    slot: Slot<'t>,
+    pub(crate) slot: Slot<'t>,
 }
 
 /// A type whose values are read and written.
@@ -35,64 +34,41 @@ impl<'t> Row<'t> {
 
     /// Whether it is null, or was left out, as all its members were.
     pub fn is_none(self) -> bool {
-        for slot in self.slots() {
-            if !matches!(slot, Slot::Absent) {
+        let mut parts = self.parts();
+        let count = parts.left;
+        for _part in 0..count {
+            if !matches!(parts.row().slot, Slot::Absent) {
                 return false;
             }
         }
-        matches!(self.slot, Slot::Null | Slot::Absent) || !self.slots().is_empty()
+        count > 0 || matches!(self.slot, Slot::Null | Slot::Absent)
     }
 
-    fn slots(self) -> &'t [Slot<'t>] {
-        match self.slot {
-            Slot::Parts(first, count) => {
-                self.tape
-                    .get(first..first.wrapping_add(count))
-                    .unwrap_or(&[])
-            }
-            _ => &[],
-        }
-    }
-
-    /// Its parts, one after the other, in the order of the table.
+    /// Its parts, one after the other, in the order of the table or of a list.
     pub fn parts(self) -> Parts<'t> {
-        Parts {
-            tape: self.tape,
-            rest: self.slots(),
-        }
-    }
-
-    /// How many items it has.
-    pub fn len(self) -> usize {
-        self.slots().len()
+        let (next, left) = match self.slot {
+            Slot::Parts(first, count) => (first, count),
+            _ => (0, 0),
+        };
+        let tape = self.tape;
+        Parts { tape, next, left }
     }
 
     /// The part of a number.
     pub fn part(self, index: usize) -> Row<'t> {
-        let slot = self.slots().get(index).copied();
-        Row::new(self.tape, slot.unwrap_or(Slot::Absent))
+        match self.slot {
+            Slot::Parts(first, count) if index < count => {
+                row_at(self.tape, first.wrapping_add(index))
+            }
+            _ => Row::new(self.tape, Slot::Absent),
+        }
     }
 
     /// Which member of its form an object of one member has, and the value of it.
     pub fn named(self) -> (usize, Row<'t>) {
         match self.slot {
-            Slot::Named(which, at) => {
-                let slot = self.tape.get(at).copied();
-                (which, Row::new(self.tape, slot.unwrap_or(Slot::Absent)))
-            }
+            Slot::Named(which, at) => (which, row_at(self.tape, at)),
             _ => (usize::MAX, Row::new(self.tape, Slot::Absent)),
-        }
-    }
-
-    /// The same by its name in the form.
-    pub fn named_in(self, form: &Form) -> (&'static str, Row<'t>) {
-        let (which, content) = self.named();
-        match form {
-            Form::OneOf(members) => match members.get(which) {
-                Some((name, _)) => (*name, content),
-                None => ("", content),
-            },
-            _ => ("", content),
         }
     }
 
@@ -109,23 +85,6 @@ impl<'t> Row<'t> {
         u8::try_from(self.number()).unwrap_or(u8::MAX)
     }
 
-    pub(crate) fn is_number(self) -> bool {
-        matches!(self.slot, Slot::Number(_))
-    }
-
-    /// Whether it is true.
-    pub fn flag(self) -> bool {
-        matches!(self.slot, Slot::Flag(true))
-    }
-
-    /// The text that it is.
-    pub(crate) fn text(self) -> &'t str {
-        match self.slot {
-            Slot::Text(text) => text,
-            _ => "",
-        }
-    }
-
     /// The bytes of a text, or those that it says in hex.
     pub(crate) fn bytes(self, alloc: Global) -> Result<Vec<u8>, Unread> {
         match self.slot {
@@ -140,21 +99,37 @@ impl<'t> Row<'t> {
     }
 }
 
+fn row_at<'t>(tape: &'t [Slot<'t>], at: usize) -> Row<'t> {
+    Row::new(tape, tape.get(at).copied().unwrap_or(Slot::Absent))
+}
+
 /// The parts of a value, one after the other.
 #[derive(Clone, Copy)]
 pub struct Parts<'t> {
     tape: &'t [Slot<'t>],
-    rest: &'t [Slot<'t>],
+    next: usize,
+    /// How many are left.
+    pub(crate) left: usize,
 }
 
 impl<'t> Parts<'t> {
+    /// The next one, or what was left out.
+    pub fn row(&mut self) -> Row<'t> {
+        if self.left == 0 {
+            return Row::new(self.tape, Slot::Absent);
+        }
+        let mut row = row_at(self.tape, self.next);
+        if let Slot::Item(at) = row.slot {
+            row = row_at(self.tape, at);
+            self.next = at;
+        }
+        self.next = self.next.wrapping_add(1);
+        self.left = self.left.wrapping_sub(1);
+        row
+    }
+
     /// What is made of the next one.
     pub fn take<T: Formed>(&mut self, alloc: Global) -> Result<T, Unread> {
-        let mut slot = Slot::Absent;
-        if let [next, rest @ ..] = self.rest {
-            slot = *next;
-            self.rest = rest;
-        }
-        T::from_row(alloc, Row::new(self.tape, slot))
+        T::from_row(alloc, self.row())
     }
 }

@@ -26,9 +26,9 @@ macro_rules! kind {
         "seq" Seq(ask: SEQ_ASK);
     }};
     (Tell $($way:tt)+) => { $crate::one_of! { $($way)+; Tell;
-        "cell" Cell(tell: CELL_TELL);
-        "log" Log(tell: LOG_TELL);
-        "seq" Seq(tell: SEQ_TELL);
+        "cell" Cell(tell: kind!(CellTell form));
+        "log" Log(tell: kind!(LogTell form));
+        "seq" Seq(tell: kind!(SeqTell form));
     }};
     (CellAsk $($way:tt)+) => { $crate::one_of! { $($way)+; CellAsk;
         "read" Read { ballot: BALLOT };
@@ -41,15 +41,15 @@ macro_rules! kind {
         "two_values" TwoValues {};
     }};
     (LogAsk $($way:tt)+) => { $crate::one_of! { $($way)+; LogAsk;
-        "seed" Seed(seed: SEED);
+        "seed" Seed(seed: kind!(Seed form));
         "push" Push(push: PUSH);
         "lock" Lock { epoch: EPOCH };
-        "peek" Peek { after: VERSION, epoch: EPOCH, most: MOST, tag: TAG };
+        "peek" Peek { after: VERSION, epoch: EPOCH, most: Number(1, 100), tag: TAG };
         "mark_asked" MarkAsked { epoch: EPOCH };
         "pop" Pop { epoch: EPOCH, tag: TAG, through: VERSION };
     }};
     (Seed $($way:tt)+) => { $crate::parts! { $($way)+; Seed {
-        epoch: EPOCH, first: FIRST, records(all): List(&SEED_RECORD), seeded_to: VERSION
+        epoch: EPOCH, first: FIRST, records(all): List(&kind!(SeedRecord form)), seeded_to: VERSION
     } new(epoch, first, seeded_to, records) }};
     (SeedRecord $($way:tt)+) => { $crate::parts! { $($way)+; SeedRecord {
         batch: BATCH, tag: TAG, version: VERSION
@@ -59,14 +59,14 @@ macro_rules! kind {
         "seeded" Seeded {};
         "held" Held { version: VERSION };
         "locked" Locked { durable: VERSION, known: VERSION, popped: Optional(&POPPED) };
-        "peeked" Peeked(peeked: PEEKED);
+        "peeked" Peeked(peeked: kind!(Peeked form));
         "marked" Marked { state: STATE };
         "popped" Popped { through: VERSION };
-        "refused" Refused { why: LOG_REFUSAL };
+        "refused" Refused { why: kind!(LogRefusal form) };
     }};
     (PoppedTag $($way:tt)+) => { $crate::parts! { $($way)+; PoppedTag [ tag: TAG, version: VERSION ] }};
     (Peeked $($way:tt)+) => { $crate::parts! { $($way)+; Peeked {
-        after: VERSION, known: VERSION, records(all): List(&PEEKED_RECORD), tag: TAG, upto: VERSION
+        after: VERSION, known: VERSION, records(all): List(&kind!(PeekedRecord form)), tag: TAG, upto: VERSION
     } new(tag, after, records, upto, known) }};
     (PeekedRecord $($way:tt)+) => { $crate::parts! { $($way)+; PeekedRecord { batch: BATCH, version: VERSION } }};
     (LogRefusal $($way:tt)+) => { $crate::one_of! { $($way)+; LogRefusal;
@@ -86,7 +86,7 @@ macro_rules! kind {
     }};
     (SeqTell $($way:tt)+) => { $crate::one_of! { $($way)+; SeqTell;
         "numbered" Numbered { prev: VERSION, request: REQUEST, version: VERSION };
-        "refused" Refused { why: SEQ_REFUSAL };
+        "refused" Refused { why: kind!(SeqRefusal form) };
     }};
     (SeqRefusal $($way:tt)+) => { $crate::one_of! { $($way)+; SeqRefusal;
         "spent" Spent {};
@@ -96,12 +96,12 @@ macro_rules! kind {
         epoch: EPOCH, first: FIRST, k: COUNT, m: COUNT, seeded_to: VERSION
     } new(epoch, m, k, first, seeded_to) }};
     // ---- journals
-    (Entry $($way:tt)+) => { $crate::parts! { $($way)+; Entry { act: ACT, stamp: STAMP } }};
+    (Entry $($way:tt)+) => { $crate::parts! { $($way)+; Entry { act: kind!(Act form), stamp: STAMP } }};
     (Act $($way:tt)+) => { $crate::one_of! { $($way)+; Act;
         "asked" Asked { ask: Ask, from: NODE, tell: Tell };
-        "heard" Heard { from: NODE, outcome: OrNull(&OUTCOME), taken: OrNull(&VERSION), tell: Tell };
+        "heard" Heard { from: NODE, outcome: OrNull(&kind!(Outcome form)), taken: OrNull(&VERSION), tell: Tell };
         "submitted" Submitted { batch: BATCH, step: STEP };
-        "begun" Begun [shape: BEGUN];
+        "begun" Begun [shape: members! { degree: Optional(&COUNT), logs: Optional(&COUNT) }];
         "crashed" Crashed {};
         "lost" Lost {};
     }};
@@ -116,7 +116,7 @@ macro_rules! kind {
         "sequencer" Sequencer { last: VERSION };
         "proxy" Proxy { known: VERSION };
         "recoverer" Recoverer { phase: Text };
-        "storage" Storage { epoch: EPOCH, floor: VERSION, rows: ROWS, version: VERSION };
+        "storage" Storage { epoch: EPOCH, floor: VERSION, rows: List(&Tuple(&[HEX, HEX])), version: VERSION };
     }};
     // ---- steps of `simulate`
     (Commit $($way:tt)+) => { $crate::parts! { $($way)+; Commit {
@@ -151,8 +151,6 @@ pub const STEP: Form = Number(1, 1_000_000);
 
 pub const STAMP: Form = Number(0, (1 << 40) - 1);
 
-const MOST: Form = Number(1, 100);
-
 const CELL: Form = Number(0, 8);
 
 const LOG: Form = Number(0, 15);
@@ -162,8 +160,6 @@ const PROXY: Form = Number(0, 15);
 const TAG: Form = Number(0, 31);
 
 const COUNT: Form = Number(1, 16);
-
-const BYTE: Form = Number(0, 255);
 
 pub const HEX: Form = Hex(usize::MAX);
 
@@ -178,37 +174,13 @@ pub const TELL: Form = kind!(Tell form);
 
 pub const CELL_ASK: Form = kind!(CellAsk form);
 
-const CELL_TELL: Form = kind!(CellTell form);
-
 pub const LOG_ASK: Form = kind!(LogAsk form);
-
-const SEED: Form = kind!(Seed form);
-
-const SEED_RECORD: Form = kind!(SeedRecord form);
-
-const LOG_TELL: Form = kind!(LogTell form);
 
 const POPPED: Form = List(&kind!(PoppedTag form));
 
-const PEEKED: Form = kind!(Peeked form);
-
-const PEEKED_RECORD: Form = kind!(PeekedRecord form);
-
-const LOG_REFUSAL: Form = kind!(LogRefusal form);
-
 pub const SEQ_ASK: Form = kind!(SeqAsk form);
 
-const SEQ_TELL: Form = kind!(SeqTell form);
-
-const SEQ_REFUSAL: Form = kind!(SeqRefusal form);
-
 const GENERATIONS: Form = List(&kind!(Generation form));
-
-const ENTRY: Form = kind!(Entry form);
-
-const ACT: Form = kind!(Act form);
-
-const OUTCOME: Form = kind!(Outcome form);
 
 pub const LAST: Form = kind!(Last form);
 
@@ -217,13 +189,10 @@ const PUSH: Form = members! {
     bodies: List(&kind!(Body form)), epoch: EPOCH, known: VERSION, mark: OrNull(&STATE), prev: VERSION, version: VERSION
 };
 
-const DROPPED: Form = members! { dropped: Number(1, (1 << 48) - 1), gens: GENERATIONS };
-
-pub const STATE: Form = Either(&GENERATIONS, &DROPPED);
-
-const BEGUN: Form = members! { degree: Optional(&COUNT), logs: Optional(&COUNT) };
-
-const ROWS: Form = List(&Tuple(&[HEX, HEX]));
+pub const STATE: Form = Either(
+    &GENERATIONS,
+    &members! { dropped: Number(1, (1 << 48) - 1), gens: GENERATIONS },
+);
 
 const KEY_VALUE: Form = members! { key: HEX, value: HEX };
 
@@ -241,8 +210,6 @@ const CELLS: Form = List(&CELL);
 
 const LOGS: Form = List(&LOG);
 
-const LOG_ID: Form = members! { epoch: EPOCH, log: LOG };
-
 const PULL: Form = members! { epoch: EPOCH, log: LOG, storage: TAG };
 
 const RECOVER: Form = members! {
@@ -251,7 +218,7 @@ const RECOVER: Form = members! {
 
 pub const SIMULATE_STEP: Form = one_member! {
     commit: kind!(Commit form), push: kind!(Resend form), pull: PULL, mark: PULL, pop: PULL, recover: RECOVER,
-    lose: LOG_ID, read: kind!(Read form)
+    lose: members! { epoch: EPOCH, log: LOG }, read: kind!(Read form)
 };
 
 // ---- scripts
@@ -265,11 +232,6 @@ const OPERATION: Form = one_member! {
     forget: members! { through: VERSION }, advance: members! { version: VERSION }
 };
 
-const REPLY: Form = Tuple(&[BYTE, VERSION, VERSION]);
-
-const JOURNAL: Form =
-    members! { entries: List(&Handed(Piece::Entry, &ENTRY)), last: OrNull(&LAST), node: NODE };
-
 /// What `Form::Ask` stands for.
 pub static ASKED: Form = ASK;
 
@@ -281,12 +243,13 @@ pub static HEARD: Form = members! { from: NODE, tell: TELL };
 
 pub static APPLY: Form = members! { ops: List(&Handed(Piece::Line, &OPERATION)) };
 
-pub static END: Form = members! { replies: List(&Handed(Piece::Line, &REPLY)) };
+pub static END: Form =
+    members! { replies: List(&Handed(Piece::Line, &Tuple(&[Number(0, 255), VERSION, VERSION]))) };
 
 pub static SIMULATE: Form = members! {
     config: Handed(Piece::Config, &CONFIG), steps: List(&Handed(Piece::Step, &SIMULATE_STEP))
 };
 
 pub static AUDIT: Form = members! {
-    config: Handed(Piece::Config, &CONFIG), journals: List(&Handed(Piece::Journal, &JOURNAL))
+    config: Handed(Piece::Config, &CONFIG), journals: List(&Handed(Piece::Journal, &members! { entries: List(&Handed(Piece::Entry, &kind!(Entry form))), last: OrNull(&LAST), node: NODE }))
 };

@@ -1,5 +1,5 @@
 //! What was read of a value, part by part: in one list, which is let go with the value and used again.
-use crate::form::{Form, Piece};
+use crate::form::{Form, Members, Piece};
 use crate::mistake::{Mistake, Wanted};
 use fr_cli_json::tokens::Unread;
 use std::alloc::Global;
@@ -22,20 +22,20 @@ pub(crate) enum Slot<'a> {
     Text(&'a str),
     /// Bytes in lower case hex.
     Hex(&'a str),
-    /// The parts of an object or of an array: the first of them, and how many there are.
+    /// The parts of an object or of an array: where the first of them is, and how many there are.
     Parts(usize, usize),
+    /// An item of a list: where it is, behind its own parts and before the next item.
+    Item(usize),
     /// An object of one member: which one of its form, and where its value is.
     Named(usize, usize),
     /// A value that is not in its form: which mistake it is.
     Wrong(usize),
 }
 
-/// The parts of values: first of those of a fixed number, and apart from them of lists under way. Beside them is where
-/// values are not in their form.
+/// The parts of values, and where values are not in their form.
 #[derive(Drop)]
 pub(crate) struct Tape<'a> {
     pub(crate) parts: Vec<Slot<'a>>,
-    items: Vec<Slot<'a>>,
     /// The value that was read last.
     pub(crate) last: Slot<'a>,
     pub(crate) mistakes: Vec<Mistake>,
@@ -45,19 +45,32 @@ pub(crate) struct Tape<'a> {
 #[derive(Clone, Copy)]
 pub(crate) struct Open {
     form: &'static Form,
-    /// Where its parts begin, or its items.
+    members: Members,
+    /// Where its parts begin.
     base: usize,
     /// How many parts it has, if their number is fixed.
     count: usize,
     /// The member that is likely next, how many items were begun, or which member it is, if it is an object of one.
     next: usize,
-    /// How many of its parts are not read yet, if their number is fixed.
+    /// How many of its parts are not read yet, or how many it has too many.
     left: usize,
     /// The first mistake that no later member makes good.
     wrong: Option<usize>,
 }
 
 impl Open {
+    fn new(form: &'static Form, members: Members, base: usize, count: usize) -> Self {
+        Open {
+            form,
+            members,
+            base,
+            count,
+            next: 0,
+            left: count,
+            wrong: None,
+        }
+    }
+
     /// What is handed out of an array, if its items are.
     pub(crate) fn listed(self) -> Option<Piece> {
         match self.form {
@@ -65,13 +78,23 @@ impl Open {
             _ => None,
         }
     }
+
+    /// The place of a member of its form.
+    #[inline(always)]
+    fn place(&mut self, index: usize) -> usize {
+        if self.count == 1 {
+            self.next = index;
+            return self.base;
+        }
+        self.next = index.wrapping_add(1);
+        self.base.wrapping_add(index)
+    }
 }
 
 impl<'a> Tape<'a> {
     pub(crate) fn new(alloc: Global) -> Self {
         Tape {
             parts: Vec::new(alloc),
-            items: Vec::new(alloc),
             last: Slot::Absent,
             mistakes: Vec::new(alloc),
         }
@@ -82,6 +105,14 @@ impl<'a> Tape<'a> {
     pub(crate) fn wrong(&mut self, end: usize, wanted: Wanted) -> Result<(), Unread> {
         self.last = Slot::Wrong(self.mistakes.len());
         self.mistakes.push(Mistake { end, wanted })?;
+        Ok(())
+    }
+
+    /// What is under way is not in its form, whatever follows.
+    #[inline(never)]
+    fn spoil(&mut self, open: &mut Open, end: usize, wanted: Wanted) -> Result<(), Unread> {
+        self.wrong(end, wanted)?;
+        note(&mut open.wrong, self.last);
         Ok(())
     }
 
@@ -109,7 +140,7 @@ impl<'a> Tape<'a> {
         Ok(())
     }
 
-    /// Begins an object or an array, of which nothing is read before `end`.
+    /// Begins an object or an array, of which nothing is read before `end`. One that is not wanted counts for nothing.
     #[inline(always)]
     pub(crate) fn begin(
         &mut self,
@@ -121,34 +152,24 @@ impl<'a> Tape<'a> {
             Form::Either(array, object) => if is_object { object } else { array },
             other => other,
         };
-        let (base, left) = match within {
-            Form::Object(members) if is_object => (self.parts.len(), members.len()),
-            Form::OneOf(_) if is_object => (self.parts.len(), 1),
-            Form::Tuple(forms) if !is_object => (self.parts.len(), forms.len()),
-            Form::List(_) if !is_object => (self.items.len(), 0),
-            _ => return self.none(form, end),
+        let (members, count) = match within {
+            Form::Object(members) if is_object => (*members, members.len()),
+            Form::OneOf(members) if is_object => (*members, 1),
+            Form::Tuple(forms) if !is_object => (NONE, forms.len()),
+            Form::List(_) if !is_object => (NONE, 0),
+            _ => {
+                let mut open = Open::new(&ANY, NONE, 0, 0);
+                if !matches!(form, Form::Any) {
+                    self.spoil(&mut open, end, Wanted::Value(form))?;
+                }
+                return Ok(open);
+            }
         };
-        for _part in 0..left {
+        let base = self.parts.len();
+        for _part in 0..count {
             self.parts.push(Slot::Absent)?;
         }
-        Ok(open_at(within, base, left))
-    }
-
-    /// Begins an object or an array where none is wanted, or that counts for nothing.
-    #[inline(never)]
-    fn none(&mut self, form: &'static Form, end: usize) -> Result<Open, Unread> {
-        let mut open = open_at(&ANY, 0, 0);
-        if !matches!(form, Form::Any) {
-            self.spoil(&mut open, end, Wanted::Value(form))?;
-        }
-        Ok(open)
-    }
-
-    /// What is under way is not in its form, whatever follows.
-    fn spoil(&mut self, open: &mut Open, end: usize, wanted: Wanted) -> Result<(), Unread> {
-        self.wrong(end, wanted)?;
-        note(&mut open.wrong, self.last);
-        Ok(())
+        Ok(Open::new(within, members, base, count))
     }
 
     /// The form of the member of a name, and its place: none if there is no such member. It is sought first where it is
@@ -160,19 +181,13 @@ impl<'a> Tape<'a> {
         name: &str,
         end: usize,
     ) -> Result<(&'static Form, usize), Unread> {
-        if let Form::Object(members) = open.form {
-            if let Some((known, form)) = members.get(open.next) {
-                if is_same(known, name) {
-                    let at = open.base.wrapping_add(open.next);
-                    open.next = open.next.wrapping_add(1);
-                    return Ok((form, at));
-                }
-            }
+        match open.members.get(open.next) {
+            Some((known, form)) if is_same(known, name) => Ok((form, open.place(open.next))),
+            _ => self.seek(open, name, end),
         }
-        self.seek(open, name, end)
     }
 
-    /// The same of any member.
+    /// The same of any member. An object of one member has no second one of another name.
     #[inline(never)]
     fn seek(
         &mut self,
@@ -180,21 +195,15 @@ impl<'a> Tape<'a> {
         name: &str,
         end: usize,
     ) -> Result<(&'static Form, usize), Unread> {
-        match open.form {
-            Form::Object(members) => if let Some((index, form)) = found(members, name) {
-                open.next = index.wrapping_add(1);
-                return Ok((form, open.base.wrapping_add(index)));
-            },
-            Form::OneOf(members) => if let Some((index, form)) = found(members, name) {
-                if open.left > 0 || open.next == index {
-                    open.next = index;
-                    return Ok((form, open.base));
-                }
-            },
-            _ => return Ok((&ANY, NOWHERE)),
+        let is_done = open.count == 1 && open.left == 0;
+        for (index, (known, form)) in open.members.iter().enumerate() {
+            if is_same(known, name) && !is_done {
+                return Ok((form, open.place(index)));
+            }
         }
-        let form = open.form;
-        self.spoil(open, end, Wanted::Member(form))?;
+        if !matches!(open.form, Form::Any) {
+            self.spoil(open, end, Wanted::Member(open.form))?;
+        }
         Ok((&ANY, NOWHERE))
     }
 
@@ -209,29 +218,44 @@ impl<'a> Tape<'a> {
         }
     }
 
-    /// The form of the next item; one that an array has too many counts for nothing.
+    /// The form of the next item, and its place; one that an array has too many counts for nothing.
     #[inline(always)]
-    pub(crate) fn item(&self, open: &mut Open) -> &'static Form {
+    pub(crate) fn item(&mut self, open: &mut Open) -> Result<(&'static Form, usize), Unread> {
         let index = open.next;
         open.next = index.wrapping_add(1);
         match open.form {
-            Form::List(form) => form,
-            Form::Tuple(forms) => forms.get(index).unwrap_or(&ANY),
-            _ => &ANY,
+            Form::List(form) => {
+                let at = self.parts.len();
+                if !matches!(form, Form::Handed(_, _)) {
+                    self.parts.push(Slot::Absent)?;
+                }
+                Ok((form, at))
+            }
+            Form::Tuple(forms) => match forms.get(index) {
+                Some(form) => Ok((form, open.base.wrapping_add(index))),
+                None => {
+                    open.left = open.left.wrapping_add(1);
+                    Ok((&ANY, NOWHERE))
+                }
+            },
+            _ => Ok((&ANY, NOWHERE)),
         }
     }
 
-    /// Adds an item behind the others. Of those that are handed out none is kept.
+    /// Adds an item, which none replaces. Of those that are handed out none is kept.
     #[inline(always)]
-    pub(crate) fn add(&mut self, open: &mut Open) -> Result<(), Unread> {
+    pub(crate) fn add(&mut self, open: &mut Open, at: usize) -> Result<(), Unread> {
+        note(&mut open.wrong, self.last);
         match open.form {
-            Form::List(Form::Handed(_, _)) if matches!(self.last, Slot::Null) => {}
-            Form::List(_) => self.items.push(self.last)?,
-            Form::Tuple(_) => if open.next <= open.count {
-                let at = open.base.wrapping_add(open.next).wrapping_sub(1);
-                self.put(open, at);
-            },
-            _ => {}
+            Form::List(Form::Handed(_, _)) => {}
+            Form::List(_) => {
+                let behind = self.parts.len();
+                self.parts.push(self.last)?;
+                if let Some(place) = self.parts.get_mut(at) {
+                    *place = Slot::Item(behind);
+                }
+            }
+            _ => self.put(open, at),
         }
         Ok(())
     }
@@ -239,90 +263,49 @@ impl<'a> Tape<'a> {
     /// Ends an object or an array: it has all parts that may not be left out, and none of them is a mistake.
     #[inline(always)]
     pub(crate) fn end(&mut self, open: &mut Open, end: usize) -> Result<(), Unread> {
-        let is_full = match open.form {
-            Form::Tuple(_) => open.next == open.count,
-            _ => open.left == 0,
-        };
-        if !is_full || !self.mistakes.is_empty() {
+        if open.left > 0 || !self.mistakes.is_empty() {
             self.look(open, end)?;
         }
-        if let Form::List(_) = open.form {
-            self.keep(open)?;
-        }
-        match (open.wrong, open.form) {
-            (Some(mistake), _) => self.last = Slot::Wrong(mistake),
-            (None, Form::OneOf(_)) => self.last = Slot::Named(open.next, open.base),
-            (None, Form::Any) => self.last = Slot::Null,
-            (None, _) => self.last = Slot::Parts(open.base, open.count),
-        }
+        self.last = match (open.wrong, open.form) {
+            (Some(mistake), _) => Slot::Wrong(mistake),
+            (None, Form::OneOf(_)) => Slot::Named(open.next, open.base),
+            (None, Form::Any) => Slot::Null,
+            (None, Form::List(_)) => Slot::Parts(open.base, open.next),
+            (None, _) => Slot::Parts(open.base, open.count),
+        };
         Ok(())
     }
 
-    /// Looks for what an object or an array lacks, and for mistakes in it.
+    /// Notes mistakes in what has members, and what an object or an array lacks, or has too much.
     #[inline(never)]
     fn look(&mut self, open: &mut Open, end: usize) -> Result<(), Unread> {
+        let behind = open.base.wrapping_add(open.count);
+        let read = self.parts.get(open.base..behind).unwrap_or(&[]);
+        for part in read {
+            note(&mut open.wrong, *part);
+        }
         let lacks = match open.form {
-            Form::List(_) => lacking(open, self.items.as_slice()),
-            _ => lacking(open, self.parts.as_slice()),
+            _ if open.left == 0 => None,
+            Form::Object(members) => missing(members, read),
+            Form::Tuple(forms) => Some(Wanted::Items(forms.len())),
+            _ => Some(Wanted::Member(open.form)),
         };
         match lacks {
             Some(wanted) => self.spoil(open, end, wanted),
             None => Ok(()),
         }
     }
-
-    /// Puts the items of a list behind all parts.
-    fn keep(&mut self, open: &mut Open) -> Result<(), Unread> {
-        let first = self.parts.len();
-        let items = self.items.get(open.base..).unwrap_or(&[]);
-        open.count = items.len();
-        self.parts.extend_from_slice(items)?;
-        self.items.truncate(open.base);
-        open.base = first;
-        Ok(())
-    }
 }
 
-fn open_at(form: &'static Form, base: usize, count: usize) -> Open {
-    Open {
-        form,
-        base,
-        count,
-        next: 0,
-        left: count,
-        wrong: None,
-    }
-}
-
-/// What an object or an array still lacks, or has too much. Mistakes in what was read of it are noted.
-fn lacking(open: &mut Open, slots: &[Slot<'_>]) -> Option<Wanted> {
-    let rest = slots.get(open.base..)?;
-    let read = match open.form {
-        Form::List(_) => rest,
-        _ => rest.get(..open.count)?,
-    };
-    for part in read {
-        note(&mut open.wrong, *part);
-    }
-    match open.form {
-        Form::Object(members) if open.left > 0 => missing(members, read),
-        Form::OneOf(_) if open.left > 0 => Some(Wanted::Member(open.form)),
-        Form::Tuple(forms) if open.next != forms.len() => Some(Wanted::Items(forms.len())),
-        _ => None,
-    }
-}
+/// What has no members.
+const NONE: Members = &[];
 
 /// The first member that is missing.
-fn missing(members: &'static [(&'static str, Form)], read: &[Slot<'_>]) -> Option<Wanted> {
-    let mut parts = read;
-    for (name, form) in members {
-        let [part, rest @ ..] = parts else {
-            return None;
-        };
+fn missing(members: Members, read: &[Slot<'_>]) -> Option<Wanted> {
+    for ((name, form), part) in members.iter().zip(read) {
         if let (Slot::Absent, false) = (part, matches!(form, Form::Optional(_))) {
             return Some(Wanted::Missing(*name));
         }
-        parts = rest;
     }
     None
 }
@@ -342,18 +325,6 @@ fn is_hex(text: &[u8], most: usize) -> bool {
     !is_other && text.len() % 2 == 0 && text.len() / 2 <= most
 }
 
-/// The member of a name: its place, and its form.
-fn found(members: &'static [(&'static str, Form)], name: &str) -> Option<(usize, &'static Form)> {
-    let mut index = 0usize;
-    for (known, form) in members {
-        if is_same(known, name) {
-            return Some((index, form));
-        }
-        index = index.wrapping_add(1);
-    }
-    None
-}
-
 /// Whether two names are the same. They are short, so their bytes are compared here.
 #[inline(always)]
 fn is_same(one: &str, other: &str) -> bool {
@@ -370,6 +341,7 @@ fn is_same(one: &str, other: &str) -> bool {
 }
 
 /// Keeps the first of several mistakes.
+#[inline(always)]
 fn note(first: &mut Option<usize>, slot: Slot<'_>) {
     if let Slot::Wrong(mistake) = slot {
         *first = Some(first.unwrap_or(mistake).min(mistake));

@@ -2,6 +2,7 @@
 use crate::object::{Object, hex_value, text_value, write_all};
 use crate::row::{Formed, Row};
 use crate::table;
+use crate::tape::Slot;
 use fr_ask::Rows;
 use fr_base::{Ballot, Bytes, Epoch, LogId, Memory, Shape, Stamp, Step, Tag, Version};
 use fr_cli_json::tokens::Unread;
@@ -36,7 +37,7 @@ impl Formed for u8 {
 
 impl Formed for bool {
     fn from_row(_alloc: Global, row: Row<'_>) -> Result<Self, Unread> {
-        Ok(row.flag())
+        Ok(matches!(row.slot, Slot::Flag(true)))
     }
 
     fn to_value(&self, _alloc: Global) -> Result<Value, Memory> {
@@ -126,7 +127,10 @@ impl Formed for Bytes {
 
 impl Formed for String {
     fn from_row(alloc: Global, row: Row<'_>) -> Result<Self, Unread> {
-        Ok(String::from_str(alloc, row.text())?)
+        match row.slot {
+            Slot::Text(text) => Ok(String::from_str(alloc, text)?),
+            _ => Err(Unread::Unusual),
+        }
     }
 
     fn to_value(&self, alloc: Global) -> Result<Value, Memory> {
@@ -163,9 +167,9 @@ impl<T: Formed> Formed for Option<T> {
 
 impl<T: Formed> Formed for Vec<T> {
     fn from_row(alloc: Global, row: Row<'_>) -> Result<Self, Unread> {
-        let mut all = Vec::with_capacity(alloc, row.len())?;
         let mut parts = row.parts();
-        for _part in 0..row.len() {
+        let mut all = Vec::with_capacity(alloc, parts.left)?;
+        for _part in 0..parts.left {
             all.push(parts.take(alloc)?)?;
         }
         Ok(all)
@@ -219,7 +223,9 @@ impl Formed for LogId {
 /// The number of logs, behind the degree.
 impl Formed for Shape {
     fn from_row(_alloc: Global, row: Row<'_>) -> Result<Self, Unread> {
-        Shape::new(row.part(1).byte(), row.part(0).byte()).ok_or(Unread::Unusual)
+        let mut parts = row.parts();
+        let degree = parts.row().byte();
+        Shape::new(parts.row().byte(), degree).ok_or(Unread::Unusual)
     }
 
     fn to_value(&self, alloc: Global) -> Result<Value, Memory> {
@@ -251,22 +257,26 @@ impl Formed for Batch {
 impl Formed for Mutation {
     fn from_row(alloc: Global, row: Row<'_>) -> Result<Self, Unread> {
         let (which, content) = row.named();
-        if which == 0 {
-            let (key, value) = Formed::from_row(alloc, content)?;
-            return Ok(Mutation::Set { key, value });
-        }
-        if which == 1 {
-            let (begin, end) = Formed::from_row(alloc, content)?;
-            return Ok(Mutation::Clear { begin, end });
-        }
-        let (name, content) = row.named_in(&table::MUTATION);
-        let op = AtomicOp::from_name(name).ok_or(Unread::Unusual)?;
-        let (key, param) = Formed::from_row(alloc, content)?;
-        Ok(Mutation::Atomic { op, key, param })
+        let (key, operand) = Formed::from_row(alloc, content)?;
+        Ok(match which {
+            0 => Mutation::Set {
+                key,
+                value: operand,
+            },
+            1 => Mutation::Clear {
+                begin: key,
+                end: operand,
+            },
+            _ => Mutation::Atomic {
+                op: operation(which)?,
+                key,
+                param: operand,
+            },
+        })
     }
 
     fn to_value(&self, alloc: Global) -> Result<Value, Memory> {
-        let (name, key, first, operand, second) = match self {
+        let (name, first, key, second, operand) = match self {
             Mutation::Set { key, value } => ("set", "key", key, "value", value),
             Mutation::Clear { begin, end } => ("clear", "begin", begin, "end", end),
             Mutation::Atomic { op, key, param } => (
@@ -278,10 +288,16 @@ impl Formed for Mutation {
             ),
         };
         Object::new(alloc)
-            .with(key, first)?
-            .with(operand, second)?
+            .with(first, key)?
+            .with(second, operand)?
             .named(name)
     }
+}
+
+/// The operation that has this place in the table.
+fn operation(which: usize) -> Result<AtomicOp, Unread> {
+    let name = table::MUTATION.member(which).unwrap_or("");
+    AtomicOp::from_name(name).ok_or(Unread::Unusual)
 }
 
 // ---- logs
@@ -356,12 +372,14 @@ impl Formed for Push {
 /// A state: the list of its generations, or, where some were dropped, an object of their number and that list.
 impl Formed for CoordState {
     fn from_row(alloc: Global, row: Row<'_>) -> Result<Self, Unread> {
-        let dropped = row.part(0);
-        if !dropped.is_number() {
-            return state_of(alloc, Vec::from_row(alloc, row)?);
+        let mut parts = row.parts();
+        match parts.row().slot {
+            Slot::Number(dropped) => {
+                let left = state_of(alloc, parts.take(alloc)?)?;
+                with_dropped(alloc, dropped, &left)
+            }
+            _ => state_of(alloc, Vec::from_row(alloc, row)?),
         }
-        let state = state_of(alloc, Vec::from_row(alloc, row.part(1))?)?;
-        with_dropped(alloc, dropped.number(), &state)
     }
 
     fn to_value(&self, alloc: Global) -> Result<Value, Memory> {

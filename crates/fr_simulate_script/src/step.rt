@@ -73,8 +73,8 @@ pub struct Recover {
 }
 
 pub(crate) fn step_of(alloc: Global, row: Row<'_>) -> Result<ScriptStep, Unread> {
-    let (name, fields) = row.named_in(&table::SIMULATE_STEP);
-    match name {
+    let (which, fields) = row.named();
+    match table::SIMULATE_STEP.member(which).unwrap_or("") {
         "commit" => Ok(ScriptStep::Commit(commit_of(alloc, fields)?)),
         "push" => Ok(ScriptStep::Push(resend_of(alloc, fields)?)),
         "pull" => Ok(ScriptStep::Pull(pull_of(alloc, fields)?)),
