@@ -223,9 +223,7 @@ impl Formed for LogId {
 /// The number of logs, behind the degree.
 impl Formed for Shape {
     fn from_row(_alloc: Global, row: Row<'_>) -> Result<Self, Unread> {
-        let mut parts = row.parts();
-        let degree = parts.row().byte();
-        Shape::new(parts.row().byte(), degree).ok_or(Unread::Unusual)
+        Shape::new(row.part(1).byte(), row.part(0).byte()).ok_or(Unread::Unusual)
     }
 
     fn to_value(&self, alloc: Global) -> Result<Value, Memory> {
@@ -257,26 +255,22 @@ impl Formed for Batch {
 impl Formed for Mutation {
     fn from_row(alloc: Global, row: Row<'_>) -> Result<Self, Unread> {
         let (which, content) = row.named();
-        let (key, operand) = Formed::from_row(alloc, content)?;
-        Ok(match which {
-            0 => Mutation::Set {
-                key,
-                value: operand,
-            },
-            1 => Mutation::Clear {
-                begin: key,
-                end: operand,
-            },
-            _ => Mutation::Atomic {
-                op: operation(which)?,
-                key,
-                param: operand,
-            },
-        })
+        if which == 0 {
+            let (key, value) = Formed::from_row(alloc, content)?;
+            return Ok(Mutation::Set { key, value });
+        }
+        if which == 1 {
+            let (begin, end) = Formed::from_row(alloc, content)?;
+            return Ok(Mutation::Clear { begin, end });
+        }
+        let name = table::MUTATION.member(which).unwrap_or("");
+        let op = AtomicOp::from_name(name).ok_or(Unread::Unusual)?;
+        let (key, param) = Formed::from_row(alloc, content)?;
+        Ok(Mutation::Atomic { op, key, param })
     }
 
     fn to_value(&self, alloc: Global) -> Result<Value, Memory> {
-        let (name, first, key, second, operand) = match self {
+        let (name, key, first, operand, second) = match self {
             Mutation::Set { key, value } => ("set", "key", key, "value", value),
             Mutation::Clear { begin, end } => ("clear", "begin", begin, "end", end),
             Mutation::Atomic { op, key, param } => (
@@ -288,16 +282,10 @@ impl Formed for Mutation {
             ),
         };
         Object::new(alloc)
-            .with(first, key)?
-            .with(second, operand)?
+            .with(key, first)?
+            .with(operand, second)?
             .named(name)
     }
-}
-
-/// The operation that has this place in the table.
-fn operation(which: usize) -> Result<AtomicOp, Unread> {
-    let name = table::MUTATION.member(which).unwrap_or("");
-    AtomicOp::from_name(name).ok_or(Unread::Unusual)
 }
 
 // ---- logs
@@ -372,10 +360,9 @@ impl Formed for Push {
 /// A state: the list of its generations, or, where some were dropped, an object of their number and that list.
 impl Formed for CoordState {
     fn from_row(alloc: Global, row: Row<'_>) -> Result<Self, Unread> {
-        let mut parts = row.parts();
-        match parts.row().slot {
+        match row.part(0).slot {
             Slot::Number(dropped) => {
-                let left = state_of(alloc, parts.take(alloc)?)?;
+                let left = state_of(alloc, Vec::from_row(alloc, row.part(1))?)?;
                 with_dropped(alloc, dropped, &left)
             }
             _ => state_of(alloc, Vec::from_row(alloc, row)?),
