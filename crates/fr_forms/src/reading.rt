@@ -267,13 +267,10 @@ fn give<'a, S: Sink>(
 ) -> Result<(), Unread> {
     let taken = sink.take(alloc, part, Row::new(tape.parts.as_slice(), tape.last));
     tape.parts.truncate(place.0);
+    tape.last = Slot::Null;
     match taken {
-        Ok(()) => {
-            tape.last = Slot::Null;
-            Ok(())
-        }
         Err(Unread::Unusual) => tape.wrong(place.1, Wanted::Whole),
-        Err(Unread::Memory) => Err(Unread::Memory),
+        _ => taken,
     }
 }
 
