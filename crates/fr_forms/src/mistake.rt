@@ -94,8 +94,12 @@ fn sought<'a>(
     mistake: Mistake,
     levels: &mut Vec<Level<'a>>,
 ) -> Result<(usize, usize), AllocError> {
-    levels.push(level(0, Read::Nothing))?;
-    for _token in 0..length {
+    levels.push(Level {
+        start: 0,
+        read: Read::Nothing,
+    })?;
+    // (a token more than there are bytes: the end)
+    for _token in 0..=length {
         let mut start = reader.offset();
         let token = reader.next().unwrap_or(Token::Bad);
         let depth = levels.len();
@@ -108,8 +112,15 @@ fn sought<'a>(
             return Ok((start, length));
         }
         match token {
-            Token::BeginObject => levels.push(level(start, Read::Begun))?,
-            Token::BeginArray => levels.push(level(start, Read::Items(0)))?,
+            Token::BeginObject | Token::BeginArray => {
+                let is_array = matches!(token, Token::BeginArray);
+                let read = if is_array {
+                    Read::Items(0)
+                } else {
+                    Read::Begun
+                };
+                levels.push(Level { start, read })?;
+            }
             Token::EndObject | Token::EndArray => {
                 start = levels.pop().map_or(start, |ended| ended.start);
             }
@@ -120,10 +131,6 @@ fn sought<'a>(
         }
     }
     Ok((length, length))
-}
-
-fn level(start: usize, read: Read<'_>) -> Level<'_> {
-    Level { start, read }
 }
 
 /// What is read behind a token, and whether that may stand there. Numbers that no double can come near may not, nor the

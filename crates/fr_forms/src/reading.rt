@@ -202,7 +202,7 @@ fn read_items<'a, S: Sink>(
         sink.begin(part);
     }
     'items: while !reader.take_end_array() {
-        let (item, at) = tape.item(&mut open)?;
+        let (item, at) = tape.item(&mut open);
         let first = tape.parts.len();
         read_value(alloc, tape, reader, sink, item, depth)?;
         hand(alloc, tape, sink, item, (first, reader.offset()))?;

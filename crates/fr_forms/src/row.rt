@@ -34,40 +34,45 @@ impl<'t> Row<'t> {
 
     /// Whether it is null, or was left out, as all its members were.
     pub fn is_none(self) -> bool {
-        let mut parts = self.parts();
-        let count = parts.left;
-        for _part in 0..count {
-            if !matches!(parts.row().slot, Slot::Absent) {
+        for slot in self.slots() {
+            if !matches!(slot, Slot::Absent) {
                 return false;
             }
         }
-        count > 0 || matches!(self.slot, Slot::Null | Slot::Absent)
+        matches!(self.slot, Slot::Null | Slot::Absent) || !self.slots().is_empty()
     }
 
-    /// Its parts, one after the other, in the order of the table or of a list.
+    pub(crate) fn slots(self) -> &'t [Slot<'t>] {
+        match self.slot {
+            Slot::Parts(first, count) => {
+                let parts = self.tape.get(first..first.wrapping_add(count));
+                parts.unwrap_or(&[])
+            }
+            _ => &[],
+        }
+    }
+
+    /// Its parts, one after the other, in the order of the table.
     pub fn parts(self) -> Parts<'t> {
-        let (next, left) = match self.slot {
-            Slot::Parts(first, count) => (first, count),
-            _ => (0, 0),
-        };
-        let tape = self.tape;
-        Parts { tape, next, left }
+        Parts {
+            tape: self.tape,
+            rest: self.slots(),
+        }
     }
 
     /// The part of a number.
     pub fn part(self, index: usize) -> Row<'t> {
-        match self.slot {
-            Slot::Parts(first, count) if index < count => {
-                row_at(self.tape, first.wrapping_add(index))
-            }
-            _ => Row::new(self.tape, Slot::Absent),
-        }
+        let slot = self.slots().get(index).copied();
+        Row::new(self.tape, slot.unwrap_or(Slot::Absent))
     }
 
     /// Which member of its form an object of one member has, and the value of it.
     pub fn named(self) -> (usize, Row<'t>) {
         match self.slot {
-            Slot::Named(which, at) => (which, row_at(self.tape, at)),
+            Slot::Named(which, at) => {
+                let slot = self.tape.get(at).copied();
+                (which, Row::new(self.tape, slot.unwrap_or(Slot::Absent)))
+            }
             _ => (usize::MAX, Row::new(self.tape, Slot::Absent)),
         }
     }
@@ -99,37 +104,21 @@ impl<'t> Row<'t> {
     }
 }
 
-fn row_at<'t>(tape: &'t [Slot<'t>], at: usize) -> Row<'t> {
-    Row::new(tape, tape.get(at).copied().unwrap_or(Slot::Absent))
-}
-
 /// The parts of a value, one after the other.
 #[derive(Clone, Copy)]
 pub struct Parts<'t> {
     tape: &'t [Slot<'t>],
-    next: usize,
-    /// How many are left.
-    pub(crate) left: usize,
+    rest: &'t [Slot<'t>],
 }
 
 impl<'t> Parts<'t> {
-    /// The next one, or what was left out.
-    pub fn row(&mut self) -> Row<'t> {
-        if self.left == 0 {
-            return Row::new(self.tape, Slot::Absent);
-        }
-        let mut row = row_at(self.tape, self.next);
-        if let Slot::Item(at) = row.slot {
-            row = row_at(self.tape, at);
-            self.next = at;
-        }
-        self.next = self.next.wrapping_add(1);
-        self.left = self.left.wrapping_sub(1);
-        row
-    }
-
     /// What is made of the next one.
     pub fn take<T: Formed>(&mut self, alloc: Global) -> Result<T, Unread> {
-        T::from_row(alloc, self.row())
+        let mut slot = Slot::Absent;
+        if let [next, rest @ ..] = self.rest {
+            slot = *next;
+            self.rest = rest;
+        }
+        T::from_row(alloc, Row::new(self.tape, slot))
     }
 }

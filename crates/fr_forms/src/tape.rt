@@ -22,20 +22,20 @@ pub(crate) enum Slot<'a> {
     Text(&'a str),
     /// Bytes in lower case hex.
     Hex(&'a str),
-    /// The parts of an object or of an array: where the first of them is, and how many there are.
+    /// The parts of an object or of an array: the first of them, and how many there are.
     Parts(usize, usize),
-    /// An item of a list: where it is, behind its own parts and before the next item.
-    Item(usize),
     /// An object of one member: which one of its form, and where its value is.
     Named(usize, usize),
     /// A value that is not in its form: which mistake it is.
     Wrong(usize),
 }
 
-/// The parts of values, and where values are not in their form.
+/// The parts of values: first of those of a fixed number, and apart from them of lists under way. Beside them is where
+/// values are not in their form.
 #[derive(Drop)]
 pub(crate) struct Tape<'a> {
     pub(crate) parts: Vec<Slot<'a>>,
+    items: Vec<Slot<'a>>,
     /// The value that was read last.
     pub(crate) last: Slot<'a>,
     pub(crate) mistakes: Vec<Mistake>,
@@ -46,7 +46,7 @@ pub(crate) struct Tape<'a> {
 pub(crate) struct Open {
     form: &'static Form,
     members: Members,
-    /// Where its parts begin.
+    /// Where its parts begin, or its items.
     base: usize,
     /// How many parts it has, if their number is fixed.
     count: usize,
@@ -95,6 +95,7 @@ impl<'a> Tape<'a> {
     pub(crate) fn new(alloc: Global) -> Self {
         Tape {
             parts: Vec::new(alloc),
+            items: Vec::new(alloc),
             last: Slot::Absent,
             mistakes: Vec::new(alloc),
         }
@@ -152,11 +153,12 @@ impl<'a> Tape<'a> {
             Form::Either(array, object) => if is_object { object } else { array },
             other => other,
         };
-        let (members, count) = match within {
-            Form::Object(members) if is_object => (*members, members.len()),
-            Form::OneOf(members) if is_object => (*members, 1),
-            Form::Tuple(forms) if !is_object => (NONE, forms.len()),
-            Form::List(_) if !is_object => (NONE, 0),
+        let base = self.parts.len();
+        let (members, base, count) = match within {
+            Form::Object(members) if is_object => (*members, base, members.len()),
+            Form::OneOf(members) if is_object => (*members, base, 1),
+            Form::Tuple(forms) if !is_object => (NONE, base, forms.len()),
+            Form::List(_) if !is_object => (NONE, self.items.len(), 0),
             _ => {
                 let mut open = Open::new(&ANY, NONE, 0, 0);
                 if !matches!(form, Form::Any) {
@@ -165,7 +167,6 @@ impl<'a> Tape<'a> {
                 return Ok(open);
             }
         };
-        let base = self.parts.len();
         for _part in 0..count {
             self.parts.push(Slot::Absent)?;
         }
@@ -220,25 +221,19 @@ impl<'a> Tape<'a> {
 
     /// The form of the next item, and its place; one that an array has too many counts for nothing.
     #[inline(always)]
-    pub(crate) fn item(&mut self, open: &mut Open) -> Result<(&'static Form, usize), Unread> {
+    pub(crate) fn item(&self, open: &mut Open) -> (&'static Form, usize) {
         let index = open.next;
         open.next = index.wrapping_add(1);
         match open.form {
-            Form::List(form) => {
-                let at = self.parts.len();
-                if !matches!(form, Form::Handed(_, _)) {
-                    self.parts.push(Slot::Absent)?;
-                }
-                Ok((form, at))
-            }
+            Form::List(form) => (form, NOWHERE),
             Form::Tuple(forms) => match forms.get(index) {
-                Some(form) => Ok((form, open.base.wrapping_add(index))),
+                Some(form) => (form, open.base.wrapping_add(index)),
                 None => {
                     open.left = open.left.wrapping_add(1);
-                    Ok((&ANY, NOWHERE))
+                    (&ANY, NOWHERE)
                 }
             },
-            _ => Ok((&ANY, NOWHERE)),
+            _ => (&ANY, NOWHERE),
         }
     }
 
@@ -248,13 +243,7 @@ impl<'a> Tape<'a> {
         note(&mut open.wrong, self.last);
         match open.form {
             Form::List(Form::Handed(_, _)) => {}
-            Form::List(_) => {
-                let behind = self.parts.len();
-                self.parts.push(self.last)?;
-                if let Some(place) = self.parts.get_mut(at) {
-                    *place = Slot::Item(behind);
-                }
-            }
+            Form::List(_) => self.items.push(self.last)?,
             _ => self.put(open, at),
         }
         Ok(())
@@ -266,13 +255,26 @@ impl<'a> Tape<'a> {
         if open.left > 0 || !self.mistakes.is_empty() {
             self.look(open, end)?;
         }
+        if let Form::List(_) = open.form {
+            self.keep(open)?;
+        }
         self.last = match (open.wrong, open.form) {
             (Some(mistake), _) => Slot::Wrong(mistake),
             (None, Form::OneOf(_)) => Slot::Named(open.next, open.base),
             (None, Form::Any) => Slot::Null,
-            (None, Form::List(_)) => Slot::Parts(open.base, open.next),
             (None, _) => Slot::Parts(open.base, open.count),
         };
+        Ok(())
+    }
+
+    /// Puts the items of a list behind all parts.
+    fn keep(&mut self, open: &mut Open) -> Result<(), Unread> {
+        let first = self.parts.len();
+        let items = self.items.get(open.base..).unwrap_or(&[]);
+        open.count = items.len();
+        self.parts.extend_from_slice(items)?;
+        self.items.truncate(open.base);
+        open.base = first;
         Ok(())
     }
 

@@ -167,9 +167,10 @@ impl<T: Formed> Formed for Option<T> {
 
 impl<T: Formed> Formed for Vec<T> {
     fn from_row(alloc: Global, row: Row<'_>) -> Result<Self, Unread> {
+        let count = row.slots().len();
+        let mut all = Vec::with_capacity(alloc, count)?;
         let mut parts = row.parts();
-        let mut all = Vec::with_capacity(alloc, parts.left)?;
-        for _part in 0..parts.left {
+        for _part in 0..count {
             all.push(parts.take(alloc)?)?;
         }
         Ok(all)
