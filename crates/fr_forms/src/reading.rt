@@ -113,7 +113,7 @@ fn read_whole<S: Sink>(
     Ok(())
 }
 
-/// Gives the value of a text to who takes it, or its first mistake.
+/// Gives the value of a text to whoever takes it, or its first mistake.
 fn end<S: Sink>(
     alloc: Global,
     tape: &Tape<'_>,
@@ -256,7 +256,7 @@ fn hand<'a, S: Sink>(
     }
 }
 
-/// Gives a part to who takes it.
+/// Gives a part to whoever takes it.
 #[inline(never)]
 fn give<'a, S: Sink>(
     alloc: Global,
