@@ -60,5 +60,19 @@ pub fn push_text(text: &mut Vec<u8>, bytes: &[u8]) {
     }
     let start = text.len();
     text.resize(start + 2 * bytes.len(), 0);
-    hex::encode_to_slice(bytes, &mut text[start..]).expect("two digits a byte");
+    for (pair, byte) in text[start..].chunks_exact_mut(2).zip(bytes) {
+        pair.copy_from_slice(&PAIRS[*byte as usize]);
+    }
 }
+
+/// The two digits of each byte.
+const PAIRS: [[u8; 2]; 256] = {
+    let mut pairs = [[0; 2]; 256];
+    let mut byte = 0;
+    while byte < 256 {
+        let digits = b"0123456789abcdef";
+        pairs[byte] = [digits[byte >> 4], digits[byte & 15]];
+        byte += 1;
+    }
+    pairs
+};
