@@ -1,6 +1,7 @@
 """Runs of a built fdbrec and of its twin that are measured, for bench/twins and bench/growth: the scripts that both read,
 seconds and memory, and instructions (valgrind)."""
 import argparse
+import fcntl
 import glob
 import os
 import re
@@ -112,11 +113,14 @@ def wrapped(text, indent=""):
 def write(page, name, text):
     """Puts a text into a page, between the marks of the script of this name."""
     begin, last = f"<!-- bench/{name}: from here -->\n", "<!-- to here -->\n"
-    with open(page, encoding="utf-8") as it:
+    with open(page, "r+", encoding="utf-8") as it:
+        # (two scripts may write into one page)
+        fcntl.flock(it, fcntl.LOCK_EX)
         head, start, rest = it.read().partition(begin)
-    _, end, tail = rest.partition(last)
-    if not (start and end):
-        fail(f"{page} has not the marks {begin.strip()} and {last.strip()}")
-    with open(page, "w", encoding="utf-8") as it:
+        _, end, tail = rest.partition(last)
+        if not (start and end):
+            fail(f"{page} has not the marks {begin.strip()} and {last.strip()}")
+        it.seek(0)
         it.write(f"{head}{start}{text}{end}{tail}")
+        it.truncate()
     print(f"\nbench/{name}: wrote {page}")
