@@ -14,8 +14,9 @@ abbrev pub of_number : ℕ → List JournalState → List JournalState
 of_number number [] = []
 of_number number (j ∷ js) = if is_proxy number j.node then j ∷ of_number number js else of_number number js
 
--- what a workload gave since then is what the proxies of its number took, in order, and at most one batch more that none took; and it
--- was told of each in turn what the proxies said: committed at a version, ended, or else that it is waiting
+-- what a workload gave since then is what the proxies of its number took, in order, and at most one batch more that
+-- none took. It was told of each in turn what the proxies said: committed at a version, ended, or else that it is
+-- waiting
 abbrev pub IsHeard : List JournalState → ℕ → List Order → List Order → List Outcome → List Outcome → List Outcome → Type 0
 IsHeard js number gave gives heard hears told =
     (kept : Option Order)

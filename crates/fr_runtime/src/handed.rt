@@ -8,7 +8,8 @@ use fr_base::{NodeId, Tag};
 use fr_run_event::Config;
 use fr_world_nodes::start::first_epoch;
 
-/// The first node of the start that has no journal among these, or the first node that has two.
+/// The first node of the start that has no journal among these, or the first node that has two. Each is looked for,
+/// since no clause says which nodes lie under the locks.
 pub(crate) fn unlike(config: &Config, journals: &[Journal]) -> Option<NodeId>
     ensures start { IfNone result (HasStart config.now journals.now) }
     ensures each { IfNone result (are_of_one_each journals.now ≡ true) }

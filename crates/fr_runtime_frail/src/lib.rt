@@ -1,5 +1,5 @@
-//! A rack that fails by draw: cells and logs are record files on devices, and stores are in databases in files, of which
-//! each refuses a call again and again, and passes so many on between two of them as a seed draws.
+//! A rack that fails by draw: cells and logs are record files on devices, and stores are in databases in files. Each of
+//! these refuses a call again and again, and passes so many on between two of them as a seed draws.
 #![tactic(auto)]
 
 mod device;

@@ -24,7 +24,7 @@ pub trait Rack {
     /// The store of a storage server.
     type Store: ShardStore + Send + Drop;
 
-    /// The faults with which a cell or a log may be refused.
+    /// The faults with which a cell or a log may be refused: so a rack in memory that gives up does not pass.
     ghost CanRefuse: { Self → NodeFault → Type 0 };
 
     /// Those with which a store may be.

@@ -30,8 +30,8 @@ use Rattle.fr_runtime_station.specs.declared.chosen.Chosen.{Chosen}
 use Rattle.fr_runtime_station.specs.declared.directory_fault.DirectoryFault.{DirectoryFault}
 use Rattle.fr_runtime_station.specs.declared.directory_fault.DirectoryFault.TheVariants as fault
 
--- what a node that is `old` answers to an ask, and that it is `new` then: the ask is entered and told, or refused as
--- its journal says, or a fault leaves the journal, but that `Memory` may come once the ask is entered
+-- what a node that is `old` answers to an ask, and that it is `new` then. The ask is entered and told, or refused as
+-- its journal says, or a fault leaves the journal; but `Memory` may come once the ask is entered
 pub record IsAsked {N S A : Type 0} (m : Steps S A) (old new : Housing N S A) (stamp : ℕ) (from : NodeId) (a : A) (result : Result (ℕ × Tell) CallFault) : Type 0 where
   pub entered : IfOk result (λ got. Asks m old new stamp from a (got.0, got.1))
   pub lost : (result ≡ Err call.Lost) ↔ (refusal_of old stamp ≡ Some call.Lost)

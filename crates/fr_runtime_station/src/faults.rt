@@ -22,7 +22,7 @@ pub enum Verdict {
     LateTell { turns: u8 },
 }
 
-/// What befalls a node that answers asks.
+/// What happens to a node that answers asks.
 #[derive(Clone, Copy, Debug, PartialEq, Eq)]
 pub enum Blow {
     /// It crashes. A cell or a log is opened again at once; a sequencer is gone.
@@ -47,7 +47,7 @@ pub trait Faults {
     /// What may happen to an ask to a node.
     ghost MayBefall: { Self → NodeId → Ask → Verdict → Type 0 } = { λ faults to ask verdict. Unit {0} };
 
-    /// What may befall a node at a turn of the thread of crashes, where these generations are chosen, and whether
+    /// What may happen to a node at a turn of the thread of crashes, if these generations are chosen, and whether
     /// nothing may.
     ghost MayStrike: { Self → ℕ → List Chosen → Option Blow → Type 0 } = { λ faults turn chosen blow. Unit {0} };
 
@@ -61,7 +61,7 @@ pub trait Faults {
     /// The node told what it was asked.
     fn answered(&self, to: NodeId, ask: &Ask);
 
-    /// What befalls a node at this turn of the thread of crashes, where these generations are chosen, that of the start
+    /// What happens to a node at this turn of the thread of crashes, if these generations are chosen, that of the start
     /// first.
     fn strikes(&self, turn: u32, chosen: &[Chosen]) -> Option<Blow>
         ensures { MayStrike self.now turn chosen.now result };

@@ -20,7 +20,8 @@ pub struct Station<N: Node>
 where
     N::Plain: Housable,
 {
-    /// The node, which stays the same: what is looked up by it needs no lock.
+    /// The node, which stays the same: what is looked up by it needs no lock. It is beside the lock, since nothing is
+    /// known of what lies under it.
     pub place: NodeId,
     lock: Mutex<Answering<N>>,
 }

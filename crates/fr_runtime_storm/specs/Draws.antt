@@ -57,7 +57,7 @@ lost_of g word =
     if g.k == 1 then None
     else Some (Lose (record { epoch = g.epoch; index = (g.epoch / 256 % g.m + word / 16777216 % (g.k - 1)) % g.m }))
 
--- what befalls a node of a generation
+-- what happens to a node of a generation
 abbrev pub blow_of : ℕ → ℕ → LogGeneration → ℕ → Option Blow
 blow_of crashes losses g word =
     if nat_lt (word % 256) crashes then Some (Crash (member_of g word))
@@ -71,7 +71,8 @@ blow_at crashes losses (Some c) word = blow_of crashes losses c.generation word
 abbrev pub named_by : List Chosen → ℕ → Option Chosen
 named_by chosen word = slice_get chosen (word / 65536 % length chosen)
 
--- what befalls a node at a turn: at each 64th one of the start crashes, at each 64th after 32 one of a chosen generation is struck
+-- what happens to a node at a turn: at each 64th one of the start crashes, at each 64th after 32 one of a chosen
+-- generation is struck
 abbrev pub strike_at : ℕ → ℕ → ℕ → ℕ → ℕ → ℕ → List Chosen → ℕ → Option Blow
 strike_at strength cells logs crashes losses turn chosen word =
     if turn % 64 == 0 then crash_of strength cells logs word

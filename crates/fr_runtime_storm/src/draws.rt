@@ -74,7 +74,7 @@ impl Draws {
         })
     }
 
-    /// What befalls a node of one of the chosen generations by the draw of this call, if something does.
+    /// What happens to a node of one of the chosen generations by the draw of this call, if something does.
     pub fn blow(self, call: u64, chosen: &[Chosen]) -> Option<Blow>
         ensures { result ≡ blow_at self.crashes self.losses (named_by chosen.now (word_at self.seed call))
             (word_at self.seed call) }
