@@ -9,7 +9,7 @@ use std::alloc::Global;
 use std::collections::BTreeMap;
 use test_rows::fields::Fields;
 use test_rows::json::{read_batch, value_of};
-use test_rows::object::{Members, hex_value};
+use test_rows::object::{ObjectMembers, hex_value};
 use test_rows::{NO_FORM, Plays, RowAsk, Scene, Wrong, no_such_word, of_nothing};
 
 /// Keys and their values.
@@ -108,7 +108,7 @@ fn write_shard(alloc: Global, shard: &Shard) -> Result<Value, Wrong> {
         Some(end) => hex_value(alloc, end.as_slice())?,
         None => Value::Null,
     };
-    let object = Members::new(alloc)
+    let object = ObjectMembers::new(alloc)
         .bytes("begin", shard.begin.as_slice())?
         .with("end", end)?;
     Ok(object.value())

@@ -12,7 +12,7 @@ use serde_json::Value;
 use std::alloc::Global;
 use test_rows::fields::Fields;
 use test_rows::json::{read_cell_ask, read_log_ask, read_seq_ask};
-use test_rows::object::Members;
+use test_rows::object::ObjectMembers;
 use test_rows::{
     NO_FORM, Plays, RowAsk, Scene, ScriptFault, Wrong, no_such_word, of_nothing, read_sizes, told,
     write_state_of,
@@ -90,7 +90,7 @@ fn write_place(alloc: Global, log: &Log) -> Result<Value, Memory> {
         ("m", u64::from(log.m())),
         ("k", u64::from(log.k())),
     ];
-    Ok(Members::of(alloc, &numbers)?.value())
+    Ok(ObjectMembers::of(alloc, &numbers)?.value())
 }
 
 /// What a log tells, which then goes back to where it stood, as one does whose records could not be kept.

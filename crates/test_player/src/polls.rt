@@ -7,7 +7,7 @@ use serde_json::Value;
 use std::alloc::Global;
 use test_rows::fields::{Fields, index_of};
 use test_rows::json::read_tell;
-use test_rows::object::{Members, numbered, write_text};
+use test_rows::object::{ObjectMembers, numbered, write_text};
 use test_rows::{NO_FORM, Plays, RowAsk, Scene, Wrong, no_such_word, said};
 
 /// Plays rows with a tally of reads that no cell answered.
@@ -66,7 +66,7 @@ impl Plays<WriteTally> for Nodes {
 
 fn write_made(alloc: Global, cells: u8, ballot: u64) -> Result<Value, Wrong> {
     let numbers = [("cells", u64::from(cells)), ("ballot", ballot)];
-    Ok(Members::of(alloc, &numbers)?.value())
+    Ok(ObjectMembers::of(alloc, &numbers)?.value())
 }
 
 /// How far the tally has come after an answer. If there is no memory to say it, it is said once more, since the answer
@@ -104,7 +104,7 @@ fn write_progress(alloc: Global, progress: Progress) -> Result<Value, Wrong> {
 /// The same, and the greatest ballot that a cell wrote, with its value.
 fn write_read(alloc: Global, progress: Progress, tally: &ReadTally) -> Result<Value, Wrong> {
     let (written, value) = tally.greatest();
-    let object = Members::of(alloc, &[("written", written.get())])?
+    let object = ObjectMembers::of(alloc, &[("written", written.get())])?
         .bytes("value", value.as_slice())?
         .with("progress", write_progress(alloc, progress)?)?;
     Ok(object.value())

@@ -8,7 +8,7 @@ use serde_json::Value;
 use std::alloc::Global;
 use test_rows::fields::Fields;
 use test_rows::json::{read_batch, read_step, value_of, write_all};
-use test_rows::object::Members;
+use test_rows::object::ObjectMembers;
 use test_rows::{
     Plays, RowAsk, Scene, Wrong, no_such_word, read_sizes, said, told, write_last_state, write_name,
 };
@@ -49,7 +49,7 @@ fn hear(alloc: Global, proxy: &mut Proxy, fields: &mut Fields) -> Result<Value, 
 }
 
 fn write_heard(alloc: Global, outcome: Outcome, asks: &[(NodeId, Ask)]) -> Result<Value, Wrong> {
-    let heard = Members::new(alloc)
+    let heard = ObjectMembers::new(alloc)
         .and("asks", write_all(alloc, asks))?
         .and("outcome", value_of(alloc, &Some(outcome)))?;
     Ok(heard.value())
@@ -70,7 +70,7 @@ fn write_made(alloc: Global, proxy: &Proxy) -> Result<Value, Wrong> {
         ("k", u64::from(proxy.k())),
         ("known", proxy.known().get()),
     ];
-    let made = Members::of(alloc, &numbers)?;
+    let made = ObjectMembers::of(alloc, &numbers)?;
     Ok(
         made.and("shards", write_all(alloc, proxy.map().begins()))?
             .value(),

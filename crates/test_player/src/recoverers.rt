@@ -9,7 +9,7 @@ use serde_json::Value;
 use std::alloc::{AllocError, Global};
 use test_rows::fields::Fields;
 use test_rows::json::{value_of, write_all};
-use test_rows::object::Members;
+use test_rows::object::ObjectMembers;
 use test_rows::{NO_FORM, Plays, RowAsk, Scene, Wrong, no_such_word, told_all, write_last_state};
 
 /// Plays rows with a recoverer that heard nothing.
@@ -97,7 +97,7 @@ fn write_made(alloc: Global, recoverer: &Recoverer) -> Result<Value, Wrong> {
         ("ballot", recoverer.ballot().get()),
         ("coordinators", u64::from(recoverer.coordinators())),
     ];
-    let made = Members::of(alloc, &numbers)?;
+    let made = ObjectMembers::of(alloc, &numbers)?;
     Ok(
         made.and("shards", write_all(alloc, recoverer.map().begins()))?
             .value(),

@@ -9,7 +9,7 @@ use serde_json::Value;
 use std::alloc::Global;
 use test_rows::fields::{Fields, tag_of};
 use test_rows::json::{read_batch, read_shards, write_all};
-use test_rows::object::{Members, hex_value};
+use test_rows::object::{ObjectMembers, hex_value};
 use test_rows::{Plays, RowAsk, Scene, Wrong, no_such_word, read_sizes, write_name};
 
 /// Plays rows with a map of shards that begin at these keys.
@@ -91,7 +91,7 @@ fn write_shard(alloc: Global, shard: Result<Option<Shard>, Memory>) -> Result<Va
 }
 
 fn write_range(alloc: Global, shard: &Shard) -> Result<Value, Memory> {
-    let object = Members::new(alloc)
+    let object = ObjectMembers::new(alloc)
         .bytes("begin", shard.begin.as_slice())?
         .and("end", write_end(alloc, &shard.end))?;
     Ok(object.value())

@@ -12,7 +12,7 @@ use serde_json::Value;
 use std::alloc::Global;
 use test_rows::fields::{Fields, items};
 use test_rows::json::{read_state, read_tell, value_of};
-use test_rows::object::{Members, hex_value, write_text};
+use test_rows::object::{ObjectMembers, hex_value, write_text};
 use test_rows::{
     NO_FORM, Plays, RowAsk, Scene, ScriptFault, Wrong, no_such_word, said, write_name,
 };
@@ -227,7 +227,7 @@ fn write_store_fault(alloc: Global, name: &str, fault: StoreFault) -> Result<Val
     if fault == StoreFault::Memory {
         return Err(Wrong::Memory);
     }
-    let object = Members::new(alloc);
+    let object = ObjectMembers::new(alloc);
     Ok(object.and(name, write_text(alloc, fault.name()))?.value())
 }
 
@@ -269,14 +269,17 @@ fn position<S: ShardStore + Drop>(alloc: Global, storage: &Storage<S>) -> Result
     Ok(place_of(alloc, storage)?.value())
 }
 
-fn place_of<S: ShardStore + Drop>(alloc: Global, storage: &Storage<S>) -> Result<Members, Memory> {
+fn place_of<S: ShardStore + Drop>(
+    alloc: Global,
+    storage: &Storage<S>,
+) -> Result<ObjectMembers, Memory> {
     let (epoch, version) = storage.position();
     let numbers = [
         ("epoch", epoch.get()),
         ("version", version.get()),
         ("floor", storage.floor().get()),
     ];
-    Members::of(alloc, &numbers)
+    ObjectMembers::of(alloc, &numbers)
 }
 
 /// The copy of a server: its place and its state.

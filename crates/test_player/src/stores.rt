@@ -11,7 +11,7 @@ use serde_json::Value;
 use std::alloc::Global;
 use test_rows::fields::{Fields, tag_of, version_of};
 use test_rows::json::read_batch;
-use test_rows::object::{Members, hex_value};
+use test_rows::object::{ObjectMembers, hex_value};
 use test_rows::{Plays, RowAsk, Scene, Wrong, no_such_word, of_nothing, write_name};
 use test_stores::FailsOnce;
 
@@ -190,7 +190,7 @@ fn copied_place(alloc: Global, store: Result<MapStore, Memory>) -> Result<Value,
 fn copied_contents(alloc: Global, store: Result<MapStore, Memory>) -> Result<Value, Wrong> {
     let mut copy = store?;
     let reopened = write_done(alloc, copy.reopen(alloc))?;
-    let object = Members::new(alloc)
+    let object = ObjectMembers::new(alloc)
         .with("reopened", reopened)?
         .with("rows", rows_of(alloc, copy.dump(alloc))?)?
         .with("kept", write_kept(alloc, copy.state_bytes(alloc))?)?;
@@ -204,6 +204,6 @@ fn write_place<S: ShardStore>(alloc: Global, store: &S) -> Result<Value, Wrong> 
         ("floor", store.floor().get()),
     ];
     let undo_rows = Value::from(store.undo_rows());
-    let object = Members::of(alloc, &place)?;
+    let object = ObjectMembers::of(alloc, &place)?;
     Ok(object.with("undo_rows", undo_rows)?.value())
 }

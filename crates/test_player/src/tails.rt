@@ -12,7 +12,7 @@ use serde_json::Value;
 use std::alloc::Global;
 use test_rows::fields::{Fields, tag_of};
 use test_rows::json::{read_tell, value_of};
-use test_rows::object::Members;
+use test_rows::object::ObjectMembers;
 use test_rows::{
     NO_FORM, Plays, RowAsk, Scene, ScriptFault, Wrong, no_such_word, read_sizes, write_name,
 };
@@ -107,5 +107,9 @@ fn write_seed(alloc: Global, seed: Result<Seed, Memory>) -> Result<Value, Wrong>
 
 fn write_complete(alloc: Global, tail: Result<Tail, Memory>) -> Result<Value, Wrong> {
     let complete = Value::from(tail?.complete());
-    Ok(Members::new(alloc).with("complete", complete)?.value())
+    Ok(
+        ObjectMembers::new(alloc)
+            .with("complete", complete)?
+            .value(),
+    )
 }

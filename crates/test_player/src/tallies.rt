@@ -4,7 +4,7 @@ use fr_epoch::{EndTally, EpochEnd, Inconsistent, ReplyFault};
 use serde_json::Value;
 use std::alloc::Global;
 use test_rows::fields::Fields;
-use test_rows::object::Members;
+use test_rows::object::ObjectMembers;
 use test_rows::{Plays, RowAsk, Scene, Wrong, no_such_word, read_sizes, said, write_name};
 
 /// Plays rows with a tally that no log replied to.
@@ -55,7 +55,7 @@ fn write_end(alloc: Global, end: Result<Option<EpochEnd>, Inconsistent>) -> Resu
         Ok(None) => Ok(Value::Null),
         Ok(Some(EpochEnd { pev, rv })) => {
             let numbers = [("pev", pev.get()), ("rv", rv.get())];
-            Ok(Members::of(alloc, &numbers)?.value())
+            Ok(ObjectMembers::of(alloc, &numbers)?.value())
         }
         Err(Inconsistent) => write_name(alloc, "Inconsistent"),
     }

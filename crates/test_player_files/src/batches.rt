@@ -8,7 +8,7 @@ use fr_mutation::{Batch, DecodeFault, decode, encode};
 use serde_json::Value;
 use std::alloc::Global;
 use test_rows::json::{read_batch, value_of};
-use test_rows::object::Members;
+use test_rows::object::ObjectMembers;
 use test_rows::{Plays, RowAsk, Scene, Wrong, no_such_word, write_name};
 
 /// Plays rows with a batch.
@@ -44,7 +44,7 @@ fn read(alloc: Global, given: &Value) -> Result<Value, Wrong> {
 }
 
 fn write_read(alloc: Global, batch: &Batch, used: usize) -> Result<Value, Memory> {
-    let read = Members::new(alloc)
+    let read = ObjectMembers::new(alloc)
         .with("used", Value::from(used))?
         .and("batch", value_of(alloc, batch))?;
     Ok(read.value())

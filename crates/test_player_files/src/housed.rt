@@ -14,7 +14,7 @@ use serde_json::Value;
 use std::alloc::Global;
 use test_rows::fields::items;
 use test_rows::json::{read_cell_ask, read_log_ask, read_node, read_seq_ask, value_of};
-use test_rows::object::Members;
+use test_rows::object::ObjectMembers;
 use test_rows::{NO_FORM, Plays, RowAsk, Wrong, no_such_word, write_name};
 
 /// A machine whose asks are read.
@@ -157,7 +157,7 @@ fn write_copy(alloc: Global, journal: Result<Journal, Memory>) -> Result<Value, 
     for entry in journal.entries() {
         entries.push(write_entry(alloc, entry)?)?;
     }
-    let object = Members::new(alloc)
+    let object = ObjectMembers::new(alloc)
         .and("node", value_of(alloc, &journal.node()))?
         .with("entries", Value::Array(entries))?;
     Ok(object.value())
@@ -168,15 +168,15 @@ fn write_entry(alloc: Global, entry: &Entry) -> Result<Value, Wrong> {
     let stamp = entry.stamp.get();
     match &entry.act {
         Act::Asked { from, ask, tell } => {
-            let object = Members::new(alloc)
+            let object = ObjectMembers::new(alloc)
                 .with("at", Value::from(stamp))?
                 .and("from", value_of(alloc, from))?
                 .and("ask", value_of(alloc, ask))?
                 .and("tell", value_of(alloc, tell))?;
             Ok(object.value())
         }
-        Act::Crashed => Ok(Members::of(alloc, &[("crashed", stamp)])?.value()),
-        Act::Lost => Ok(Members::of(alloc, &[("lost", stamp)])?.value()),
+        Act::Crashed => Ok(ObjectMembers::of(alloc, &[("crashed", stamp)])?.value()),
+        Act::Lost => Ok(ObjectMembers::of(alloc, &[("lost", stamp)])?.value()),
         _ => Err(NO_FORM),
     }
 }

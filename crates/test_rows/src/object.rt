@@ -6,15 +6,15 @@ use std::alloc::Global;
 
 /// The members of an object under way, of values that are there.
 #[derive(Drop)]
-pub struct Members {
+pub struct ObjectMembers {
     alloc: Global,
     object: Object,
 }
 
-impl Members {
+impl ObjectMembers {
     /// None yet.
     pub fn new(alloc: Global) -> Self {
-        Members {
+        ObjectMembers {
             alloc,
             object: Object::new(alloc),
         }
@@ -27,14 +27,14 @@ impl Members {
 
     /// With one member more, where there was memory for its value.
     pub fn and(self, name: &str, value: Result<Value, Memory>) -> Result<Self, Memory> {
-        let Members { alloc, object } = self;
+        let ObjectMembers { alloc, object } = self;
         let object = object.put(name, value)?;
-        Ok(Members { alloc, object })
+        Ok(ObjectMembers { alloc, object })
     }
 
     /// With these numbers.
     pub fn of(alloc: Global, numbers: &[(&str, u64)]) -> Result<Self, Memory> {
-        let mut members = Members::new(alloc);
+        let mut members = ObjectMembers::new(alloc);
         for (name, number) in numbers {
             members = members.with(name, Value::from(*number))?;
         }
@@ -60,7 +60,7 @@ impl Members {
 
 /// A variant that has these numbers alone.
 pub fn numbered(alloc: Global, name: &str, numbers: &[(&str, u64)]) -> Result<Value, Memory> {
-    Members::of(alloc, numbers)?.named(name)
+    ObjectMembers::of(alloc, numbers)?.named(name)
 }
 
 /// Bytes as a text of lower case hex.

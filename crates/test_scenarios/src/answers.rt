@@ -5,7 +5,7 @@ use fr_world::{Answer, NotEnabled};
 use serde_json::Value;
 use std::alloc::Global;
 use test_rows::json::value_of;
-use test_rows::object::{Members, write_text};
+use test_rows::object::{ObjectMembers, write_text};
 use test_rows::{Wrong, write_name};
 
 /// What an event answers: null if there is nothing to tell.
@@ -23,7 +23,7 @@ fn write_refused(alloc: Global, fault: StorageFault) -> Result<Value, Wrong> {
     if fault == StorageFault::Store(StoreFault::Memory) {
         return Err(Wrong::Memory);
     }
-    let object = Members::new(alloc);
+    let object = ObjectMembers::new(alloc);
     Ok(
         object
             .and("refused", write_text(alloc, name_of(fault)))?

@@ -8,7 +8,7 @@ use std::alloc::Global;
 use test_player::write_read;
 use test_rows::fields::Fields;
 use test_rows::json::read_node;
-use test_rows::object::Members;
+use test_rows::object::ObjectMembers;
 use test_rows::{Plays, RowAsk, Scene, Wrong, no_such_word, played, said, write_last_state};
 
 /// The player of worlds.
@@ -144,7 +144,7 @@ fn copies(alloc: Global, events: &[Event]) -> Result<Vec<Event>, Memory> {
 }
 
 fn write_stop(alloc: Global, number: usize, why: Value) -> Result<Value, Wrong> {
-    let stop = Members::new(alloc)
+    let stop = ObjectMembers::new(alloc)
         .with("event", Value::from(number))?
         .with("why", why)?;
     Ok(stop.value())
