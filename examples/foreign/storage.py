@@ -57,11 +57,12 @@ class Storage:
         return asks + [(holders[self.floor % len(holders)], self.pop(own))]
 
     def wants(self, turn, newest):
-        """What it asks in a turn, of one log each: records, a mark of the newest epoch, and to let go of records."""
-        gen, own, epoch = self.source()[0], gens(self.state)[-1], newest["epoch"]
+        """What it asks in a turn, of one log each: records, a mark of the newest epoch if there is one, and to let go of
+        records."""
+        gen, own = self.source()[0], gens(self.state)[-1]
         holder = lambda gen: log(gen["epoch"], (self.tag + turn % gen["k"]) % gen["m"])
-        mark = log(epoch, turn % newest["logs"]), self.mark_asked(epoch)
-        return [(holder(gen), self.peek(gen)), mark, (holder(own), self.pop(own))]
+        marks = [(log(newest["epoch"], turn % newest["logs"]), self.mark_asked(newest["epoch"]))] if newest else []
+        return [(holder(gen), self.peek(gen)), *marks, (holder(own), self.pop(own))]
 
     def holders(self, gen):
         return [log(gen["epoch"], at) for at in range(gen["m"]) if holds(at, self.tag, gen["m"], gen["k"])]
