@@ -57,8 +57,7 @@ class Storage:
         return asks + [(holders[self.floor % len(holders)], self.pop(own))]
 
     def wants(self, turn, newest):
-        """What it asks in a turn, of one log each: records, a mark of the newest epoch if there is one, and to let go of
-        records."""
+        """What it asks in a turn, of one log each: records, a mark of the newest epoch if one is known, and a pop."""
         gen, own = self.source()[0], gens(self.state)[-1]
         holder = lambda gen: log(gen["epoch"], (self.tag + turn % gen["k"]) % gen["m"])
         marks = [(log(newest["epoch"], turn % newest["logs"]), self.mark_asked(newest["epoch"]))] if newest else []
