@@ -108,17 +108,35 @@ fn heard_owned(
 }
 
 /// Sees to it that what an event needs is found without a walk over all turns, which changes nothing that is seen of a
-/// world: it is in one of the last turns, or all are entered. Those for which there is no memory now are entered before
-/// a later event.
+/// world: it is in one of the last turns, or all are entered.
 fn get_ready(alloc: Global, nodes: &mut Nodes, event: &Event)
     requires kept { IsKept nodes.old }
     ensures same { state_of nodes.new ≡ state_of nodes.old }
     ensures stays { IsKept nodes.new }
 {
-    let _ = nodes.turns.enter_gone(alloc);
+    enter_gone(alloc, nodes);
     if !is_lately_given(nodes, event) {
-        let _ = nodes.turns.catch_up(alloc);
+        catch_up(alloc, nodes);
     }
+}
+
+/// Enters the nodes that went. Those for which there is no memory now are entered before the next event.
+fn enter_gone(alloc: Global, nodes: &mut Nodes)
+    requires kept { IsKept nodes.old }
+    ensures same { state_of nodes.new ≡ state_of nodes.old }
+    ensures stays { IsKept nodes.new }
+{
+    let _ = nodes.turns.enter_gone(alloc);
+}
+
+/// Enters what was asked and told in the turns that were added. That for which there is no memory now is entered when
+/// turns are next entered.
+fn catch_up(alloc: Global, nodes: &mut Nodes)
+    requires kept { IsKept nodes.old }
+    ensures same { state_of nodes.new ≡ state_of nodes.old }
+    ensures stays { IsKept nodes.new }
+{
+    let _ = nodes.turns.catch_up(alloc);
 }
 
 /// Whether one of the last turns gave the ask or the tell that an event needs, if it needs one.
