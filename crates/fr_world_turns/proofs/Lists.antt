@@ -77,8 +77,8 @@ module _ {X : Type 0} (p : X → Bool) where
     where
       below_or_from : (n i : ℕ) → n - 1 ≤ i → (i ≡ n - 1) ⊎ (n ≤ i)
       below_or_from zero i l = inr (omega arith)
-      below_or_from (suc n) i l = elim (equal_or_less n i l) [
-        | inl k ↦ inl (sym k)
+      below_or_from (suc n) i l = elim (equal_or_less n i (omega (arith, l))) [
+        | inl k ↦ inl (omega (arith, k))
         | inr k ↦ inr (omega (arith, k))
       ]
         where
