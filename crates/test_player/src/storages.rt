@@ -285,7 +285,11 @@ pub(crate) fn write_standing(alloc: Global, storage: &Storage<MapStore>) -> Resu
     Ok(standing_of(alloc, &copy)?)
 }
 
-fn standing_of(alloc: Global, storage: &Storage<MapStore>) -> Result<Value, Memory> {
+/// The place and the state of a server.
+pub(crate) fn standing_of<S: ShardStore + Drop>(
+    alloc: Global,
+    storage: &Storage<S>,
+) -> Result<Value, Memory> {
     let place = place_of(alloc, storage)?;
     Ok(
         place

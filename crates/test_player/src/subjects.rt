@@ -7,7 +7,7 @@ use crate::proxies::play_proxy;
 use crate::recoverers::play_recoverer;
 use crate::shards::play_shards;
 use crate::storages::{play_failing_storage, play_storage};
-use crate::stores::{play_failing_store, play_store};
+use crate::stores::{play_failing_store, play_store, play_stores};
 use crate::tails::play_tail;
 use crate::tallies::play_tally;
 use fr_ask::{Ask, Last, Tell};
@@ -36,6 +36,7 @@ pub fn play(alloc: Global, scene: Scene, at: &mut usize) -> Result<bool, Wrong> 
         "storage" => played(play_storage(alloc, scene, at)),
         "failing_storage" => played(play_failing_storage(alloc, scene, at)),
         "store" => played(play_store(alloc, scene, at)),
+        "stores" => played(play_stores(alloc, scene, at)),
         "failing_store" => played(play_failing_store(alloc, scene, at)),
         "tail" => played(play_tail(alloc, scene, at)),
         "write_tally" => played(play_write_tally(alloc, scene, at)),

@@ -21,7 +21,7 @@ struct Players;
 const SUBJECTS: &str =
     "a scenario begins with: apply, asks, audit_script, batch, cell, cell_file, coordinated_state, end, end_tally, \
      housed_cell, housed_log, housed_sequencer, lasts, log, log_file, proxy, read_tally, record_file, \
-     recoverer, rows, sequencer, shard, shards, storage, failing_storage, store, failing_store, tail, \
+     recoverer, rows, sequencer, shard, shards, storage, failing_storage, store, stores, failing_store, tail, \
      tells, world, write_tally";
 
 impl Player for Players {
