@@ -1,12 +1,16 @@
-//! Tests of what is low in crates.txt and no scenario can say: numbers at their limits, a node in memory, devices that
-//! fail when they are told to, readers and writers that fail, a store beside plain lists.
+//! Tests of what no scenario and no built program can show: stores in files that stop, fail or crash; mirrors and devices
+//! over such disks; commands over readers and writers that fail as no host lets them.
 #![tactic(auto)]
 
 #[cfg(test)]
-mod base;
+mod commands;
 #[cfg(test)]
-mod cli;
+mod disk_device;
 #[cfg(test)]
-mod devices;
+mod files;
 #[cfg(test)]
-mod store_agrees;
+mod gap;
+#[cfg(test)]
+mod mirror;
+#[cfg(test)]
+mod slow;

@@ -11,6 +11,7 @@ use crate::stores::{play_failing_store, play_store, play_stores};
 use crate::tails::play_tail;
 use crate::tallies::play_tally;
 use fr_ask::{Ask, Last, Tell};
+use fr_base::NodeId;
 use std::alloc::Global;
 use test_rows::{Scene, Wrong, played};
 
@@ -23,6 +24,7 @@ pub fn play(alloc: Global, scene: Scene, at: &mut usize) -> Result<bool, Wrong> 
         "asks" => played(play_several::<Ask>(alloc, scene, at)),
         "tells" => played(play_several::<Tell>(alloc, scene, at)),
         "lasts" => played(play_several::<Last>(alloc, scene, at)),
+        "nodes" => played(play_several::<NodeId>(alloc, scene, at)),
         "cell" => played(play_cell(alloc, scene, at)),
         "end_tally" => played(play_tally(alloc, scene, at)),
         "log" => played(play_log(alloc, scene, at)),

@@ -1,6 +1,7 @@
 //! Records on a device over a disk in memory that stops at each call, or fails for a while, and then crashes.
 use crate::gap::Gap;
-use fr_device::{Device, DeviceFault};
+use fr_base::Memory;
+use fr_device::{Device, DeviceFault, MemoryDevice};
 use fr_host_device::DiskDevice;
 use fr_record::{RecordFault, Records};
 use sqlite_disk::{Crash, Disk, Fuse, Memory as MemoryDisk};
@@ -136,4 +137,10 @@ fn a_device_has_no_more_room(rt: HostRuntime) -> Result<(), Fail> {
     assert!(rt; file.append(alloc, b"") == Err(RecordFault::Full));
     assert!(rt; file.len() == 1);
     Ok(())
+}
+
+/// A device of more bytes than there can be is not made.
+#[test]
+fn a_device_without_memory(rt: HostRuntime) {
+    assert!(rt; MemoryDevice::new(rt.alloc(), usize::MAX).err() == Some(Memory));
 }

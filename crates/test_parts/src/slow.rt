@@ -4,36 +4,23 @@ use std::io::{Error, ErrorKind, Read, Write};
 
 /// Which calls of a device fail and are interrupted, 0 for none.
 #[derive(Clone, Copy)]
-pub struct Plan {
-    pub fails: u32,
-    pub interrupted: u32,
-    pub flush_fails: bool,
+pub(crate) struct Plan {
+    pub(crate) fails: u32,
+    pub(crate) interrupted: u32,
+    pub(crate) flush_fails: bool,
 }
-
-/// Each call succeeds.
-pub const PLAIN: Plan = Plan {
-    fails: 0,
-    interrupted: 0,
-    flush_fails: false,
-};
-
-/// The flush fails.
-pub const UNFLUSHED: Plan = Plan {
-    flush_fails: true,
-    ..PLAIN
-};
 
 /// A reader and a writer of one byte a call.
 #[derive(Drop)]
-pub struct Slow {
-    pub bytes: Vec<u8>,
+pub(crate) struct Slow {
+    pub(crate) bytes: Vec<u8>,
     at: usize,
     calls: u32,
     plan: Plan,
 }
 
 impl Slow {
-    pub fn new(bytes: Vec<u8>, plan: Plan) -> Slow {
+    pub(crate) fn new(bytes: Vec<u8>, plan: Plan) -> Slow {
         Slow {
             bytes,
             at: 0,
@@ -84,24 +71,10 @@ impl Write for Slow {
     }
 }
 
-/// A writer that takes nothing.
-#[derive(Drop)]
-pub struct Full;
-
-impl Write for Full {
-    fn write(&mut self, _buf: &[u8]) -> io::Result<usize> {
-        Ok(0)
-    }
-
-    fn flush(&mut self) -> io::Result<()> {
-        Ok(())
-    }
-}
-
 /// A reader that is interrupted for ever, and counts its calls.
 #[derive(Drop)]
-pub struct Interrupted {
-    pub calls: u64,
+pub(crate) struct Interrupted {
+    pub(crate) calls: u64,
 }
 
 impl Read for Interrupted {
