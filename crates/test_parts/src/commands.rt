@@ -56,11 +56,32 @@ type Counts = (u64, u64, u64);
 /// A command, what befalls its reader and its writer, why it ends early, if it does, how many bytes of its lines are
 /// written, and its counts. Behind the last byte of a script one call finds its end.
 static ROWS: [(Command, Plan, Plan, Option<CliFault>, usize, Counts); 6] = [
-    (Apply, Plan { fails: 3, ..PLAIN }, PLAIN, Some(Input), 0, (3, 1, 0)),
-    (Apply, PLAIN, Plan { fails: 5, ..PLAIN }, Some(Output), 4, (274, 0, 1)),
+    (
+        Apply,
+        Plan { fails: 3, ..PLAIN },
+        PLAIN,
+        Some(Input),
+        0,
+        (3, 1, 0),
+    ),
+    (
+        Apply,
+        PLAIN,
+        Plan { fails: 5, ..PLAIN },
+        Some(Output),
+        4,
+        (274, 0, 1),
+    ),
     (Apply, AGAIN, AGAIN, None, 66, (275, 0, 0)),
     (Apply, PLAIN, UNFLUSHED, Some(Output), 66, (274, 0, 1)),
-    (End, Plan { fails: 1, ..PLAIN }, PLAIN, Some(Input), 0, (1, 1, 0)),
+    (
+        End,
+        Plan { fails: 1, ..PLAIN },
+        PLAIN,
+        Some(Input),
+        0,
+        (1, 1, 0),
+    ),
     (End, PLAIN, UNFLUSHED, Some(Output), 24, (30, 0, 1)),
 ];
 

@@ -80,11 +80,16 @@ fn kept(alloc: Global, script: &str) -> Result<Files<MemoryDisk>, StoreFault> {
     let mut store = SqlFileStore::create(alloc, no_files(alloc))?;
     let is_done = runs(alloc, &mut store, script, &mut Vec::new(alloc));
     let files = store.close();
-    if is_done { files } else { Err(StoreFault::Failed) }
+    if is_done {
+        files
+    } else {
+        Err(StoreFault::Failed)
+    }
 }
 
 /// Two batches: 61 takes 01, and is cleared.
-const CLEARED: &str = r#"{"ops":[{"apply":{"version":5,"batch":[{"set":{"key":"61","value":"01"}}]}},
+const CLEARED: &str =
+    r#"{"ops":[{"apply":{"version":5,"batch":[{"set":{"key":"61","value":"01"}}]}},
     {"apply":{"version":6,"batch":[{"clear":{"begin":"61","end":"62"}}]}}]}"#;
 
 #[test]
@@ -122,7 +127,8 @@ const SCRIPT: &str = r#"{"ops":[{"apply":{"version":8,"batch":[{"set":{"key":"61
     {"apply":{"version":9,"batch":[{"set":{"key":"61","value":"02"}}]}},
     {"forget":{"through":8}},{"undo":{"to":7}},{"forget":{"through":10}}]}"#;
 
-const LINES: &str = "ok 8 floor 0 undo 1\nok 9 floor 0 undo 2\nok 9 floor 8 undo 1\nrefused BelowFloor\nrefused AboveApplied\n61 02\n";
+const LINES: &str =
+    "ok 8 floor 0 undo 1\nok 9 floor 0 undo 2\nok 9 floor 8 undo 1\nrefused BelowFloor\nrefused AboveApplied\n61 02\n";
 
 /// What a store shows once so many of the calls were made.
 fn after(calls: usize) -> &'static str {

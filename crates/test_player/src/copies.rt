@@ -66,18 +66,15 @@ impl<K: Kind> Plays<Several<K>> for Nodes {
             "make" => write_made(K::read(row.alloc, row.take_all())),
             "parts" => write_parts(row.alloc, K::read(row.alloc, row.take_all())),
             "state" => write_copies(row.alloc, all),
-            _ => no_such_word("rows of asks, tells, lasts or nodes: same, make, parts, before, state"),
+            _ => no_such_word(
+                "rows of asks, tells, lasts or nodes: same, make, parts, before, state",
+            ),
         }
     }
 }
 
 /// The numbers, from 0, of those that are the same as another one, or before it.
-fn numbers<K: Kind>(
-    alloc: Global,
-    all: &[K],
-    other: &K,
-    how: How,
-) -> Result<Value, Wrong> {
+fn numbers<K: Kind>(alloc: Global, all: &[K], other: &K, how: How) -> Result<Value, Wrong> {
     let mut numbers = Vec::new(alloc);
     for (number, one) in all.iter().enumerate() {
         let is_so = match how {

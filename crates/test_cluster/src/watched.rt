@@ -2,7 +2,9 @@
 //! again.
 ghost use Rattle.std.specs.Prelude.{◌≡◌};
 
-use crate::flag::Flag;
+use crate::events::{Event, Events, Meeting};
+use crate::rows::Kind;
+use crate::script::kind_of;
 use fr_base::{LogId, Node, NodeFault, Reopened, Tag};
 use fr_log::{Log, LogAsk, LogTell};
 use fr_runtime::Rack;
@@ -12,72 +14,50 @@ use std::sync::atomic::{AtomicU64, Ordering};
 
 /// What the logs of a watched rack met.
 #[derive(Drop)]
-pub struct Watch {
-    waits: bool,
-    pushed: Flag,
-    peeked: Flag,
+pub(crate) struct Watch<'a> {
+    events: &'a Events,
+    meets: bool,
     met: AtomicU64,
     reopened: AtomicU64,
 }
 
-impl Watch {
-    /// Logs that wait for each other: the first push of a batch to log (257, 0) for the first peek at log (257, 1), and
-    /// that for the push.
-    pub fn meeting() -> Self {
+impl<'a> Watch<'a> {
+    /// Logs that wait for each other, if they are to meet: the first push of a batch to log (257, 0) for the first peek
+    /// at log (257, 1), and that for the push.
+    pub(crate) fn new(events: &'a Events, meets: bool) -> Self {
         Watch {
-            waits: true,
-            ..Watch::counting()
-        }
-    }
-
-    /// Logs that wait for nothing.
-    pub fn counting() -> Self {
-        Watch {
-            waits: false,
-            pushed: Flag::new(),
-            peeked: Flag::new(),
+            events,
+            meets,
             met: AtomicU64::new(0),
             reopened: AtomicU64::new(0),
         }
     }
 
-    /// How many of the two asks found that the other one was being served.
-    pub fn met(&self) -> u64 {
-        self.met.load(Ordering::SeqCst)
-    }
-
-    /// How often log (257, 0) was opened again.
-    pub fn reopened(&self) -> u64 {
-        self.reopened.load(Ordering::SeqCst)
+    /// How many of the two asks found that the other one was being served, and how often log (257, 0) was opened again.
+    pub(crate) fn counts(&self) -> (u64, u64) {
+        let met = self.met.load(Ordering::SeqCst);
+        (met, self.reopened.load(Ordering::SeqCst))
     }
 
     /// An ask comes to a log.
     fn serves(&self, log: LogId, ask: &LogAsk) {
-        if !self.waits || log.epoch.get() != 257 {
+        if !self.meets || log.epoch.get() != 257 {
             return;
         }
-        match ask {
-            LogAsk::Push(push) => {
-                if log.index == 0 && push.marked().is_none() {
-                    self.meet(&self.pushed, &self.peeked);
-                }
-            }
-            LogAsk::Peek { .. } => {
-                if log.index == 1 {
-                    self.meet(&self.peeked, &self.pushed);
-                }
-            }
+        match (kind_of(ask), log.index) {
+            (Kind::Push, 0) => self.meet(Meeting::Push, Meeting::Peek),
+            (Kind::Peek, 1) => self.meet(Meeting::Peek, Meeting::Push),
             _ => {}
         }
     }
 
-    /// The first time: raises one flag, and waits for the other.
-    fn meet(&self, own: &Flag, other: &Flag) {
-        if own.is_raised() {
+    /// The first time: says that the one ask is served, and waits for the other.
+    fn meet(&self, own: Meeting, other: Meeting) {
+        if self.events.is_raised(Event::Serves(own)) {
             return;
         }
-        own.raise();
-        if other.wait() {
+        self.events.raise(Event::Serves(own));
+        if self.events.wait(Event::Serves(other)) {
             let _before = self.met.fetch_add(1, Ordering::SeqCst);
         }
     }
@@ -92,10 +72,10 @@ impl Watch {
 
 /// A log that is watched.
 #[derive(Drop)]
-pub struct WatchedLog<'a, N> {
+pub(crate) struct WatchedLog<'a, N> {
     log: N,
     id: LogId,
-    watch: &'a Watch,
+    watch: &'a Watch<'a>,
 }
 
 impl<N: Node<Plain = Log>> Node for WatchedLog<'_, N> {
@@ -132,14 +112,14 @@ impl<N: Node<Plain = Log>> Node for WatchedLog<'_, N> {
 
 /// The nodes of a rack, with logs that are watched.
 #[derive(Drop)]
-pub struct WatchedRack<'a, K> {
+pub(crate) struct WatchedRack<'a, K> {
     rack: K,
-    watch: &'a Watch,
+    watch: &'a Watch<'a>,
 }
 
 impl<'a, K: Rack> WatchedRack<'a, K> {
     /// Logs that this watches.
-    pub fn new(rack: K, watch: &'a Watch) -> Self {
+    pub(crate) fn new(rack: K, watch: &'a Watch<'a>) -> Self {
         WatchedRack { rack, watch }
     }
 }
