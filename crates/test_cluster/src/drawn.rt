@@ -4,10 +4,9 @@ ghost use Rattle.std.specs.Prelude.{◌≡◌, ◌≤◌};
 use anyhow::Context;
 use fr_ask::Ask;
 use fr_base::{Epoch, NodeId, Version};
-use fr_device::{Device, DeviceFault, MemoryDevice};
 use fr_register::CellAsk;
 use fr_runtime::{Blow, Chosen, Faults, Verdict};
-use fr_runtime_frail::{FrailDevice, Frailty, Fuse, RefusedCalls};
+use fr_runtime_frail::{Frailty, Fuse};
 use fr_runtime_station::first_stamp;
 use fr_runtime_storm::{Draws, Storm, word_of};
 use fr_state::Generation;
@@ -54,9 +53,8 @@ pub(crate) fn show(rt: &HostRuntime, alloc: Global) -> anyhow::Result<()> {
     blows(rt, alloc)?;
     gone(rt)?;
     fuses(rt)?;
-    bounds(rt)?;
-    begun(rt)?;
-    refused(rt, alloc)
+    refused(rt)?;
+    Ok(())
 }
 
 fn words(rt: &HostRuntime) -> io::Result<()> {
@@ -253,77 +251,14 @@ fn fuses(rt: &HostRuntime) -> io::Result<()> {
     println!(rt; "")
 }
 
-/// Of 200 asks of a storm, how many pass, and how many are late, or told late, by 1 to 64 turns.
-fn counted(storm: &Storm) -> anyhow::Result<(u32, u32)> {
-    let (mut passed, mut late) = (0_u32, 0_u32);
-    for _ in 0..200u32 {
-        match next(storm)? {
-            Verdict::Pass => passed = passed.wrapping_add(1),
-            Verdict::LateAsk { turns } | Verdict::LateTell { turns } => {
-                if (1..=64).contains(&turns) {
-                    late = late.wrapping_add(1);
-                }
-            }
-            _ => {}
-        }
-    }
-    Ok((passed, late))
-}
-
-fn bounds(rt: &HostRuntime) -> anyhow::Result<()> {
-    let (passed, _) = counted(&Storm::new(CALM))?;
-    println!(rt; "of 200 asks pass at strength 0: {passed}")?;
-    let (passed, _) = counted(&Storm::new(Draws {
-        strength: 256,
-        ..CALM
-    }))?;
-    println!(rt; "at strength 256: {passed}")?;
-    let (_, late) = counted(&Storm::new(Draws { late: 256, ..CALM }))?;
-    println!(rt; "and come late at lateness 256: {late}")?;
-    Ok(())
-}
-
-/// Ballot (i + 1) * 256 + 1 begins at turn 100 i.
-fn begun(rt: &HostRuntime) -> anyhow::Result<()> {
-    let storm = Storm::new(Draws {
-        strength: 256,
-        ..CALM
-    });
-    let ballot = Epoch::new(769).context("no epoch")?.ballot();
-    print!(rt; "of turns 1 to 399 ballot 769 begins at:")?;
-    for turn in 1..400u32 {
-        if storm.begins(ballot, turn) {
-            print!(rt; " {turn}")?;
-        }
-    }
-    println!(rt; "")?;
-    Ok(())
-}
-
-/// What a device answers to a write, or to a sync. Reads of the length are no calls that are refused.
-fn answer<D: Device>(device: &mut D, is_write: bool) -> Result<(), DeviceFault> {
-    let at = device.len()?;
-    if is_write {
-        device.write_at(at, b"x")
-    } else {
-        device.sync()
-    }
-}
-
-fn refused(rt: &HostRuntime, alloc: Global) -> anyhow::Result<()> {
-    let refusals = RefusedCalls::new();
-    let device = MemoryDevice::new(alloc, 8)?;
-    let mut device = FrailDevice::new(device, Fuse { every: 3, left: 3 }, &refusals);
-    print!(rt; "of seven writes and syncs in turn, of which each third is refused, are done:")?;
+/// Each third call of a fuse is refused.
+fn refused(rt: &HostRuntime) -> io::Result<()> {
+    let mut fuse = Fuse { every: 3, left: 3 };
+    print!(rt; "of seven calls, of which each third is refused, are refused:")?;
     for number in 1..=7u32 {
-        if answer(&mut device, number % 2 == 1).is_ok() {
+        if fuse.blows() {
             print!(rt; " {number}")?;
         }
     }
-    let counts = (device.failures(), refusals.devices(), refusals.files());
-    println!(rt;
-        "\nfailures {}, refused {} and {}",
-        counts.0, counts.1, counts.2
-    )?;
-    Ok(())
+    println!(rt; "")
 }

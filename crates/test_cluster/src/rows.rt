@@ -124,7 +124,18 @@ impl Row {
         let (name, value) = word.split_once('=').context("a word has no name")?;
         let parts = parts_of(alloc, value)?;
         match (name, parts.as_slice()) {
-            ("numbers", [coordinators, logs, degree, storages, proxies, batches, turns]) => {
+            (
+                "numbers",
+                [
+                    coordinators,
+                    logs,
+                    degree,
+                    storages,
+                    proxies,
+                    batches,
+                    turns,
+                ],
+            ) => {
                 self.numbers = Numbers {
                     coordinators: small(coordinators),
                     logs: small(logs),

@@ -1,9 +1,7 @@
-//! Tests of what no scenario and no built program can show: stores in files that stop, fail or crash; mirrors and devices
-//! over such disks; commands over readers and writers that fail as no host lets them.
+//! Tests of what no scenario and no built program can show: stores in files that stop, fail or crash, and mirrors and
+//! devices over such disks.
 #![tactic(auto)]
 
-#[cfg(test)]
-mod commands;
 #[cfg(test)]
 mod disk_device;
 #[cfg(test)]
@@ -12,5 +10,3 @@ mod files;
 mod gap;
 #[cfg(test)]
 mod mirror;
-#[cfg(test)]
-mod slow;

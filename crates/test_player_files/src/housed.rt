@@ -2,12 +2,10 @@
 use crate::place::write_node_fault;
 use crate::subjects::Files;
 use fr_audit_journal::{Act, Entry, Journal};
-use fr_base::{InMemory, Machine, Memory, Node, Stamp};
-use fr_device::{FaultyDevice, MemoryDevice};
+use fr_base::{Machine, Memory, Node, NodeFault, Stamp};
+use fr_forms::Formed;
 use fr_log::Log;
 use fr_proxy::Sequencer;
-use fr_record_log::LogNode;
-use fr_record_node::CellNode;
 use fr_register::Cell;
 use fr_runtime_housing::{CallFault, Housable, Housed};
 use serde_json::Value;
@@ -15,7 +13,7 @@ use std::alloc::Global;
 use test_rows::fields::items;
 use test_rows::json::{read_cell_ask, read_log_ask, read_node, read_seq_ask, value_of};
 use test_rows::object::Members;
-use test_rows::{NO_FORM, Plays, RowAsk, Wrong, no_such_word, write_name};
+use test_rows::{NO_FORM, Plays, RowAsk, Wrong, no_such_word, told, told_all, write_name};
 
 /// A machine whose asks are read.
 pub(crate) trait Asked: Housable {
@@ -41,6 +39,43 @@ impl Asked for Sequencer {
     }
 }
 
+/// Asks, without the name of their kind.
+pub(crate) fn read_asks<M: Asked>(alloc: Global, given: Value) -> Result<Vec<M::Ask>, Wrong>
+where
+    M::Ask: Drop,
+{
+    let mut asks = Vec::new(alloc);
+    for item in items(given)? {
+        asks.push(M::read_ask(alloc, item)?)?;
+    }
+    Ok(asks)
+}
+
+/// What a node tells, or why it tells nothing.
+pub(crate) fn ask_node<N: Node>(alloc: Global, node: &mut N, given: Value) -> Result<Value, Wrong>
+where
+    N::Plain: Asked,
+    <N::Plain as Machine>::Ask: Drop,
+    <N::Plain as Machine>::Tell: Formed + Drop,
+{
+    let ask = <N::Plain as Asked>::read_ask(alloc, given)?;
+    match node.serve(alloc, ask) {
+        Ok(tell) => told(alloc, &tell),
+        Err(fault) => write_node_fault(alloc, fault),
+    }
+}
+
+/// The same of a list that it was asked at once.
+pub(crate) fn write_tells<T: Formed + Drop>(
+    alloc: Global,
+    tells: Result<Vec<T>, NodeFault>,
+) -> Result<Value, Wrong> {
+    match tells {
+        Ok(tells) => told_all(alloc, tells.as_slice()),
+        Err(fault) => write_node_fault(alloc, fault),
+    }
+}
+
 /// Asks a node, before it has a journal, what is in a list.
 pub(crate) fn serve_before<N: Node + Drop>(
     alloc: Global,
@@ -59,50 +94,12 @@ where
     Ok(())
 }
 
-type CellInMemory = Housed<InMemory<Cell>>;
-
-type CellOverFile = Housed<CellNode<MemoryDevice>>;
-
-type LogInMemory = Housed<InMemory<Log>>;
-
-type LogOverFile = Housed<LogNode<MemoryDevice>>;
-
-type LogThatFails = Housed<LogNode<FaultyDevice<MemoryDevice>>>;
-
-type SequencerInMemory = Housed<InMemory<Sequencer>>;
-
-impl Plays<CellInMemory> for Files {
-    fn play_row(&self, housed: &mut CellInMemory, row: &mut RowAsk) -> Result<Value, Wrong> {
-        play_housed(housed, row)
-    }
-}
-
-impl Plays<CellOverFile> for Files {
-    fn play_row(&self, housed: &mut CellOverFile, row: &mut RowAsk) -> Result<Value, Wrong> {
-        play_housed(housed, row)
-    }
-}
-
-impl Plays<LogInMemory> for Files {
-    fn play_row(&self, housed: &mut LogInMemory, row: &mut RowAsk) -> Result<Value, Wrong> {
-        play_housed(housed, row)
-    }
-}
-
-impl Plays<LogOverFile> for Files {
-    fn play_row(&self, housed: &mut LogOverFile, row: &mut RowAsk) -> Result<Value, Wrong> {
-        play_housed(housed, row)
-    }
-}
-
-impl Plays<LogThatFails> for Files {
-    fn play_row(&self, housed: &mut LogThatFails, row: &mut RowAsk) -> Result<Value, Wrong> {
-        play_housed(housed, row)
-    }
-}
-
-impl Plays<SequencerInMemory> for Files {
-    fn play_row(&self, housed: &mut SequencerInMemory, row: &mut RowAsk) -> Result<Value, Wrong> {
+impl<N: Node + Drop> Plays<Housed<N>> for Files
+where
+    N::Plain: Asked,
+    <N::Plain as Machine>::Ask: Drop,
+{
+    fn play_row(&self, housed: &mut Housed<N>, row: &mut RowAsk) -> Result<Value, Wrong> {
         play_housed(housed, row)
     }
 }
