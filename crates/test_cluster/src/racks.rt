@@ -1,4 +1,4 @@
-//! Racks of which a store fails once, a device fails, or a part is refused.
+//! Racks of which a store fails once, a device fails, or a part is refused, by their names.
 ghost use Rattle.std.specs.Prelude.{◌≡◌};
 
 use anyhow::bail;
@@ -8,7 +8,7 @@ use fr_log::Log;
 use fr_register::Cell;
 use fr_runtime::Rack;
 use fr_runtime_disks::{Devices, FileRack, MemoryDevices};
-use fr_undo::{MapStore, StoreFault};
+use fr_undo::StoreFault;
 use std::alloc::Global;
 use test_stores::FailsOnce;
 
@@ -17,77 +17,54 @@ use test_stores::FailsOnce;
 pub(crate) enum RackWord {
     Map,
     Sql,
-    /// Stores of which each fails in a call, which is done or not.
-    Breaks { call: u32, is_done: bool },
+    Frail(FrailRack),
     Fails(Fails),
-    Refuses(Refused),
 }
 
 impl RackWord {
     /// The rack of a name, and a number that it may have.
     pub(crate) fn read(name: &str, number: u64) -> anyhow::Result<Self> {
+        let (call, index) = (number as u32, number as u8);
         Ok(match name {
             "map" => RackWord::Map,
             "sql" => RackWord::Sql,
-            "breaks" => RackWord::Breaks {
-                call: number as u32,
-                is_done: false,
-            },
-            "breaks_done" => RackWord::Breaks {
-                call: number as u32,
-                is_done: true,
-            },
+            "breaks" => breaks(call, false),
+            "breaks_done" => breaks(call, true),
             "log_once" => RackWord::Fails(Fails::LogOnce(number)),
             "log_from" => RackWord::Fails(Fails::LogFrom(number)),
             "cell_once" => RackWord::Fails(Fails::CellOnce(number)),
-            "cell_refused" => RackWord::Refuses(Refused::Cell(number as u8, NodeFault::Device)),
-            "cell_unfit" => RackWord::Refuses(Refused::Cell(number as u8, NodeFault::Memory)),
-            "log_full" => RackWord::Refuses(Refused::Log(257, number as u8, NodeFault::Full)),
-            "log_refused" => RackWord::Refuses(Refused::Log(513, number as u8, NodeFault::Device)),
-            "log_unfit" => RackWord::Refuses(Refused::Log(513, number as u8, NodeFault::Memory)),
-            "store_refused" => RackWord::Refuses(Refused::Store(number as u8, StoreFault::Device)),
-            "store_unfit" => RackWord::Refuses(Refused::Store(number as u8, StoreFault::Memory)),
+            "cell_refused" => refuses(Refused::Cell(index, NodeFault::Device)),
+            "cell_unfit" => refuses(Refused::Cell(index, NodeFault::Memory)),
+            "log_full" => refuses(Refused::Log(257, index, NodeFault::Full)),
+            "log_refused" => refuses(Refused::Log(513, index, NodeFault::Device)),
+            "log_unfit" => refuses(Refused::Log(513, index, NodeFault::Memory)),
+            "store_refused" => refuses(Refused::Store(index, StoreFault::Device)),
+            "store_unfit" => refuses(Refused::Store(index, StoreFault::Memory)),
             _ => bail!("no such rack"),
         })
     }
 }
 
-/// All in memory, with stores whose device fails in one call. A storage server makes no call of its store but those
-/// that write, until its turns are over, and the first of them sets the state with which it starts. So the device fails
-/// in the call of this number after that one, which is done or not.
-#[derive(Clone, Copy)]
-pub(crate) struct BreakingRack {
-    pub(crate) call: u32,
-    pub(crate) is_done: bool,
+fn breaks(call: u32, is_done: bool) -> RackWord {
+    RackWord::Frail(FrailRack {
+        refused: Refused::Nothing,
+        call,
+        is_done,
+    })
 }
 
-impl Rack for BreakingRack {
-    type Cell = InMemory<Cell>;
-
-    type Log = InMemory<Log>;
-
-    type Store = FailsOnce;
-
-    ghost CanRefuse = { λ rack fault. ⊥ };
-
-    ghost CanRefuseStore = { λ rack fault. ⊥ };
-
-    fn cell(&self, alloc: Global, _index: u8) -> Result<InMemory<Cell>, NodeFault> {
-        Ok(InMemory::new(Cell::new(alloc)))
-    }
-
-    fn log(&self, alloc: Global, id: LogId, m: u8, k: u8) -> Result<InMemory<Log>, NodeFault> {
-        Ok(InMemory::new(Log::new(alloc, id, m, k)))
-    }
-
-    fn store(&self, alloc: Global, _tag: Tag) -> Result<FailsOnce, StoreFault> {
-        Ok(FailsOnce::new(alloc, self.call, self.is_done))
-    }
+fn refuses(refused: Refused) -> RackWord {
+    RackWord::Frail(FrailRack {
+        refused,
+        call: u32::MAX,
+        is_done: false,
+    })
 }
 
 /// What a rack refuses, and why.
 #[derive(Clone, Copy)]
 pub(crate) enum Refused {
+    Nothing,
     /// The cell of this number.
     Cell(u8, NodeFault),
     /// Each log of this number of an epoch.
@@ -96,34 +73,34 @@ pub(crate) enum Refused {
     Store(u8, StoreFault),
 }
 
-/// All in memory, but for what it refuses.
+/// All in memory, but for what it refuses, with stores whose device fails in one call. A storage server makes no call of
+/// its store but those that write, until its turns are over, and the first of them sets the state with which it starts.
+/// So the device fails in the call of this number after that one, which is done or not.
 #[derive(Clone, Copy)]
-pub(crate) struct RefusingRack {
+pub(crate) struct FrailRack {
     pub(crate) refused: Refused,
+    pub(crate) call: u32,
+    pub(crate) is_done: bool,
 }
 
-impl RefusingRack {
+impl FrailRack {
     /// Why a log is refused, if it is.
     fn fault_of_log(&self, id: &LogId) -> Option<NodeFault> {
         match self.refused {
             Refused::Log(epoch, index, fault) => {
-                if id.epoch.get() == epoch && id.index == index {
-                    Some(fault)
-                } else {
-                    None
-                }
+                (id.epoch.get() == epoch && id.index == index).then_some(fault)
             }
             _ => None,
         }
     }
 }
 
-impl Rack for RefusingRack {
+impl Rack for FrailRack {
     type Cell = InMemory<Cell>;
 
     type Log = InMemory<Log>;
 
-    type Store = MapStore;
+    type Store = FailsOnce;
 
     ghost CanRefuse = { λ rack fault. Unit {0} };
 
@@ -143,10 +120,10 @@ impl Rack for RefusingRack {
         }
     }
 
-    fn store(&self, alloc: Global, tag: Tag) -> Result<MapStore, StoreFault> {
+    fn store(&self, alloc: Global, tag: Tag) -> Result<FailsOnce, StoreFault> {
         match self.refused {
             Refused::Store(other, fault) if other == tag.get() => Err(fault),
-            _ => Ok(MapStore::new(alloc)),
+            _ => Ok(FailsOnce::new(alloc, self.call, self.is_done)),
         }
     }
 }

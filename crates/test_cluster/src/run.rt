@@ -1,6 +1,6 @@
 //! Runs of the table over racks, and what is printed of them.
 use crate::events::{Event, Events, Meeting};
-use crate::racks::{BreakingRack, RackWord, RefusingRack, files};
+use crate::racks::{RackWord, files};
 use crate::rows::{Numbers, Recovery, Row, Struck};
 use crate::script::Script;
 use crate::watched::{Watch, WatchedRack};
@@ -34,14 +34,8 @@ pub(crate) fn play(rt: &HostRuntime, alloc: Global, row: &Row) -> anyhow::Result
     match row.rack {
         RackWord::Map => over(rt, alloc, scene, PlainRack),
         RackWord::Sql => over(rt, alloc, scene, DiskRack::new()),
-        RackWord::Breaks { call, is_done } => over(
-            rt,
-            alloc,
-            scene,
-            BreakingRack { call, is_done },
-        ),
+        RackWord::Frail(rack) => over(rt, alloc, scene, rack),
         RackWord::Fails(fails) => over(rt, alloc, scene, files(fails)),
-        RackWord::Refuses(refused) => over(rt, alloc, scene, RefusingRack { refused }),
     }
 }
 

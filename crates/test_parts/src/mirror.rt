@@ -2,7 +2,7 @@
 //! from what each call is to do to a file.
 use crate::gap::Gap;
 use fr_host_mirror::Mirror;
-use sqlite_disk::{Disk, Fuse, Memory as MemoryDisk};
+use sqlite_disk::{Disk, Memory as MemoryDisk};
 use std::alloc::Global;
 use std::process::Abort;
 use std::test::Fail;
@@ -76,61 +76,12 @@ fn reads<D: Disk>(disk: &mut D, wanted: &[u8]) -> bool {
         && &room[..len] == wanted
 }
 
-/// How many of the calls are done, before one that is not. Each reads as it is to.
-fn done<D: Disk>(rt: &impl Abort, disk: &mut D) -> usize {
-    for (number, (call, wanted)) in ROWS.iter().enumerate() {
-        if !does(disk, *call) {
-            return number;
-        }
-        assert!(rt; reads(disk, wanted), "after call {number}");
-    }
-    ROWS.len()
-}
-
 /// Whether no call is done any more but an empty write.
 fn is_over<D: Disk>(disk: &mut D) -> bool {
     !does(disk, Call::Write(0, b"a"))
         && !does(disk, Call::Cut(1))
         && !does(disk, Call::Sync)
         && !disk.may_be_used()
-}
-
-/// A mirror of a disk that stops after so many calls: what was done is below too, and no call is done after it.
-fn stops(rt: &impl Abort, alloc: Global, calls: u64) -> Option<usize> {
-    let Some(mut mirror) = over(alloc, Fuse::new(MemoryDisk::new(alloc), calls)) else {
-        return None;
-    };
-    let number = done(rt, &mut mirror);
-    if number < ROWS.len() {
-        assert!(rt; is_over(&mut mirror), "stopped after {calls}");
-    }
-    let below = mirror.below().inner().bytes();
-    assert!(rt;
-        below == after(number) || below == after(number.saturating_add(1)),
-        "stopped after {calls}"
-    );
-    Some(number)
-}
-
-#[test]
-fn a_disk_below_stops_at_each_call(rt: HostRuntime) {
-    let mut met = 0;
-    for calls in 0..40u64 {
-        match stops(&rt, rt.alloc(), calls) {
-            // (it is measured and read first)
-            None => assert!(rt; calls < 2),
-            Some(number) => {
-                assert!(rt;
-                    number == met
-                        || number == met.saturating_add(1)
-                        || number == met.saturating_add(2),
-                    "stopped after {calls}"
-                );
-                met = number;
-            }
-        }
-    }
-    assert!(rt; met == ROWS.len());
 }
 
 /// Makes a call until it is done, at most four times.
@@ -143,27 +94,50 @@ fn does_at_last<D: Disk>(disk: &mut D, call: Call) -> bool {
     false
 }
 
-/// A mirror of a disk that fails so many times after so many calls, each call made anew: how many are done.
-fn goes_on(rt: &impl Abort, alloc: Global, before: u64, failing: u64) -> Option<usize> {
+/// How many calls are done, each made anew, over a disk that fails so many times after so many calls. Each reads as it is
+/// to, and what was done is below too. Behind a call that is not done none is.
+fn done(rt: &impl Abort, alloc: Global, before: u64, failing: u64) -> Option<usize> {
     let Some(mut mirror) = over(alloc, Gap::new(MemoryDisk::new(alloc), before, failing)) else {
         return None;
     };
     for (number, (call, wanted)) in ROWS.iter().enumerate() {
         if !does_at_last(&mut mirror, *call) {
-            assert!(rt; !matches!(call, Call::Write(_, _)), "failed after {before}");
+            assert!(rt;
+                failing > 3 || !matches!(call, Call::Write(_, _)),
+                "failed after {before}"
+            );
             assert!(rt; is_over(&mut mirror), "failed after {before}");
+            let below = mirror.below().inner().bytes();
+            assert!(rt;
+                below == after(number) || below == *wanted,
+                "failed after {before}"
+            );
             return Some(number);
         }
         assert!(rt;
             reads(&mut mirror, wanted),
             "failed after {before}, call {number}"
         );
-        assert!(rt;
-            mirror.below().inner().bytes() == *wanted,
-            "failed after {before}, call {number}"
-        );
+        let below = mirror.below().inner().bytes();
+        assert!(rt; below == *wanted, "failed after {before}, call {number}");
     }
     Some(ROWS.len())
+}
+
+#[test]
+fn a_disk_below_stops_at_each_call(rt: HostRuntime) {
+    let mut met = 0;
+    for calls in 0..40u64 {
+        match done(&rt, rt.alloc(), calls, u64::MAX) {
+            // (it is measured and read first)
+            None => assert!(rt; calls < 2),
+            Some(number) => {
+                assert!(rt; (met..=met + 2).contains(&number), "stopped after {calls}");
+                met = number;
+            }
+        }
+    }
+    assert!(rt; met == ROWS.len());
 }
 
 /// A write is made anew, however often it failed. A sync or a cut that failed ends the disk.
@@ -172,13 +146,10 @@ fn a_disk_below_fails_for_a_while(rt: HostRuntime) {
     for failing in 1..4u64 {
         let mut whole: usize = 0;
         for before in 2..40u64 {
-            match goes_on(&rt, rt.alloc(), before, failing) {
-                None => assert!(rt; false, "not read after {before}"),
-                Some(number) => {
-                    if number == ROWS.len() {
-                        whole = whole.saturating_add(1);
-                    }
-                }
+            let number = done(&rt, rt.alloc(), before, failing);
+            assert!(rt; number.is_some(), "not read after {before}");
+            if number == Some(ROWS.len()) {
+                whole = whole.saturating_add(1);
             }
         }
         // (of its 11 calls below five are writes and what compares a gap; behind them none fails)
