@@ -3,7 +3,7 @@ ghost use Rattle.std.specs.Prelude.{◌≡◌, ◌<◌, length, map, IfOk};
 ghost use Rattle.fr_base.specs.declared.place.NodeId.TheVariants as node;
 ghost use Rattle.fr_runtime_station.specs.Named.{logs_named};
 
-use anyhow::Context;
+use anyhow::{Context, bail};
 use fr_ask::Ask;
 use fr_base::{Epoch, InMemory, LogId, NodeId, Stamp, Tag, Version};
 use fr_log::{Log, LogAsk, Most};
@@ -31,7 +31,10 @@ fn generation(epoch: Epoch) -> anyhow::Result<Generation>
     ensures epoch { IfOk result (λ generation. generation.epoch ≡ epoch) }
 {
     let first = Version::new(1).context("no version")?;
-    Generation::new(epoch, 2, 2, first, Version::ZERO).context("no generation")
+    match Generation::new(epoch, 2, 2, first, Version::ZERO) {
+        Some(generation) => Ok(generation),
+        None => bail!("no generation"),
+    }
 }
 
 fn sequencer(alloc: Global, epoch: Epoch) -> Housed<InMemory<Sequencer>>
@@ -67,8 +70,9 @@ fn directory(alloc: Global) -> anyhow::Result<Plain> {
     let later = [epoch(769)?, epoch(513)?];
     let start = generation(first)?;
     let logs = logs(alloc, first)?;
+    let cells = Vec::new(alloc);
     let sequencer = sequencer(alloc, first);
-    Ok(Directory::new(alloc, Vec::new(alloc), logs, sequencer, start, &later)?)
+    Ok(Directory::new(alloc, cells, logs, sequencer, start, &later)?)
 }
 
 /// Prints what directories answer.

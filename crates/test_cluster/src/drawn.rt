@@ -41,8 +41,8 @@ pub(crate) fn show(rt: &HostRuntime, alloc: Global) -> anyhow::Result<()> {
         },
     )?;
     greatest(rt)?;
-    crashes(rt, alloc, 100, 13)?;
-    crashes(rt, alloc, 256, 16)?;
+    crashes(rt, alloc, 100, 13 * 64)?;
+    crashes(rt, alloc, 256, 16 * 64)?;
     let late = Draws {
         seed: 5,
         strength: 64,
@@ -128,14 +128,14 @@ fn name_of_crash(alloc: Global, blow: Option<Blow>) -> Result<String, AllocError
 }
 
 /// At each 64th turn one draw says what crashes; at the others nothing does, and nothing is drawn.
-fn crashes(rt: &HostRuntime, alloc: Global, strength: u16, many: u32) -> anyhow::Result<()> {
+fn crashes(rt: &HostRuntime, alloc: Global, strength: u16, turns: u32) -> anyhow::Result<()> {
     let storm = Storm::new(Draws {
         seed: 7,
         strength,
         ..CALM
     });
     print!(rt; "crashes of seed 7 and strength {strength}, with 5 coordinators and 6 logs:\n ")?;
-    for turn in 1..=many.saturating_mul(64) {
+    for turn in 1..=turns {
         let blow = storm.strikes(turn, &[]);
         if turn % 64 == 0 || blow.is_some() {
             print!(rt; " {}", name_of_crash(alloc, blow)?)?;
@@ -203,13 +203,13 @@ fn blows(rt: &HostRuntime, alloc: Global) -> anyhow::Result<()> {
 fn gone(rt: &HostRuntime) -> anyhow::Result<()> {
     let epoch = Epoch::new(513).context("no epoch")?;
     println!(rt; "whether nodes that ask are gone, of seed 3 and 100 crashes:")?;
-    gone_at(rt, NodeId::Proxy { epoch, number: 0 }, 64)?;
+    gone_at(rt, NodeId::Proxy { epoch, number: 0 }, 64, 16 * 64)?;
     let ballot = epoch.ballot();
-    gone_at(rt, NodeId::Recoverer { ballot }, 7)?;
+    gone_at(rt, NodeId::Recoverer { ballot }, 7, 16 * 7)?;
     Ok(())
 }
 
-fn gone_at(rt: &HostRuntime, node: NodeId, every: u32) -> io::Result<()>
+fn gone_at(rt: &HostRuntime, node: NodeId, every: u32, turns: u32) -> io::Result<()>
     requires { 1 ≤ every }
 {
     let storm = Storm::new(Draws {
@@ -218,10 +218,11 @@ fn gone_at(rt: &HostRuntime, node: NodeId, every: u32) -> io::Result<()>
         ..CALM
     });
     print!(rt; " ")?;
-    for turn in 1..=every.saturating_mul(16) {
+    for turn in 1..=turns {
         let is_gone = storm.ends(node, turn);
         if turn % every == 0 || is_gone {
-            print!(rt; " {}", if is_gone { "True" } else { "False" })?;
+            let word = if is_gone { "True" } else { "False" };
+            print!(rt; " {word}")?;
         }
     }
     println!(rt; "")

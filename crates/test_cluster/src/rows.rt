@@ -123,29 +123,12 @@ impl Row {
     pub(crate) fn take(&mut self, alloc: Global, word: &str) -> anyhow::Result<()> {
         let (name, value) = word.split_once('=').context("a word has no name")?;
         let parts = parts_of(alloc, value)?;
-        match (name, parts.as_slice()) {
-            (
-                "numbers",
-                [
-                    coordinators,
-                    logs,
-                    degree,
-                    storages,
-                    proxies,
-                    batches,
-                    turns,
-                ],
-            ) => {
-                self.numbers = Numbers {
-                    coordinators: small(coordinators),
-                    logs: small(logs),
-                    degree: small(degree),
-                    storages: small(storages),
-                    proxies: small(proxies),
-                    batches: number(batches) as u32,
-                    turns: number(turns) as u32,
-                }
-            }
+        self.take_parts(name, parts.as_slice())
+    }
+
+    fn take_parts(&mut self, name: &str, parts: &[&str]) -> anyhow::Result<()> {
+        match (name, parts) {
+            ("numbers", _) => self.numbers = numbers(parts)?,
             ("rack", [name, at]) => self.rack = RackWord::read(name, number(at))?,
             ("works", [many]) => self.works = small(many),
             ("chain", [many]) => self.chain = number(many),
@@ -153,28 +136,53 @@ impl Row {
             ("meets", [_]) => self.meets = true,
             ("crash", [turn]) => self.struck = Struck::CrashesAt(number(turn) as u32),
             ("lose", [after]) => self.struck = Struck::LostAfter(event(after)?),
-            ("pulled", [turn, awaited]) => {
-                self.pulled = Some((number(turn) as u32, event(awaited)?))
-            }
-            ("hold", [before, awaited]) => {
-                self.holds.push((number(before) as u32, event(awaited)?))?
-            }
-            ("recovery", [ballot, m, k, waits]) => self.recoveries.push(Recovery {
-                ballot: number(ballot),
-                shape: (*m != "-").then_some((small(m), small(k))),
-                waits: event_or_none(waits)?,
-            })?,
-            ("rule", [ask, to, once, waits, verdict]) => self.rules.push(Rule {
-                ask: kind(ask)?,
-                to: log(to),
-                once: event_or_none(once)?,
-                waits: event_or_none(waits)?,
-                verdict: self::verdict(verdict)?,
-            })?,
+            ("pulled", [turn, awaited]) => self.pulled = Some((number(turn) as u32, event(awaited)?)),
+            ("hold", [before, awaited]) => self.holds.push((number(before) as u32, event(awaited)?))?,
+            ("recovery", _) => self.recoveries.push(recovery(parts)?)?,
+            ("rule", _) => self.rules.push(rule(parts)?)?,
             _ => bail!("no such word"),
         }
         Ok(())
     }
+}
+
+fn numbers(parts: &[&str]) -> anyhow::Result<Numbers> {
+    let [coordinators, logs, degree, storages, proxies, batches, turns] = parts else {
+        bail!("a cluster has seven numbers");
+    };
+    Ok(Numbers {
+        coordinators: small(coordinators),
+        logs: small(logs),
+        degree: small(degree),
+        storages: small(storages),
+        proxies: small(proxies),
+        batches: number(batches) as u32,
+        turns: number(turns) as u32,
+    })
+}
+
+fn recovery(parts: &[&str]) -> anyhow::Result<Recovery> {
+    let [ballot, m, k, waits] = parts else {
+        bail!("a recovery has four parts");
+    };
+    Ok(Recovery {
+        ballot: number(ballot),
+        shape: (*m != "-").then_some((small(m), small(k))),
+        waits: event_or_none(waits)?,
+    })
+}
+
+fn rule(parts: &[&str]) -> anyhow::Result<Rule> {
+    let [ask, to, once, waits, befalls] = parts else {
+        bail!("a rule has five parts");
+    };
+    Ok(Rule {
+        ask: kind(ask)?,
+        to: log(to),
+        once: event_or_none(once)?,
+        waits: event_or_none(waits)?,
+        verdict: verdict(befalls)?,
+    })
 }
 
 /// The parts of a value, between commas.

@@ -47,9 +47,9 @@ fn recoveries_of(alloc: Global, row: &Row) -> Result<Vec<Recovery>, Memory> {
         all.push(*recovery)?;
     }
     for number in 0..row.chain {
-        let before = number.saturating_mul(256).saturating_add(257);
+        let before = 257 + (number % 256) * 256;
         all.push(Recovery {
-            ballot: before.saturating_add(256),
+            ballot: before + 256,
             shape: None,
             waits: Some(Event::Popped(before)),
         })?;
