@@ -7,7 +7,7 @@ use crate::object::write_text;
 use crate::subject::Scene;
 use crate::wrong::{NO_FORM, Wrong};
 use fr_ask::{Last, Named};
-use fr_base::{LogId, Memory};
+use fr_base::{LogId, Memory, Shape};
 use fr_cli_json::tree::into_one_member;
 use fr_log::Log;
 use fr_tags::MAX_LOGS;
@@ -27,6 +27,17 @@ pub fn read_sizes(fields: &Fields) -> Result<(u8, u8), Wrong>
     } else {
         Err(NO_FORM)
     }
+}
+
+/// The shape of an object that has members for it besides so many others; none of one that has the others alone.
+pub fn read_shape_in(fields: &mut Fields, others: usize) -> Result<Option<Shape>, Wrong> {
+    if fields.of(others.saturating_add(2)).value("logs").is_err() {
+        fields.of(others);
+        return Ok(None);
+    }
+    let m = fields.index("logs", u8::MAX)?;
+    let shape = Shape::new(m, fields.index("degree", u8::MAX)?).ok_or(NO_FORM)?;
+    Ok(Some(shape))
 }
 
 /// The log of a number that was never asked.
