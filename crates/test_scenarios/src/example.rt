@@ -1,19 +1,37 @@
 //! What a caller does with a log and with a world, as code to copy: a log holds a batch and tells it, and in a small
-//! world a proxy has a batch numbered.
+//! world a proxy has a batch numbered. And the two ballots of example_ballots contend.
 use anyhow::Context;
+use example_ballots::{in_turn, overtaken};
 use fr_ask::{Ask, SeqAsk, SeqTell, Tell};
 use fr_base::{Bytes, Epoch, LogId, Machine, NodeId, Step, Tag, Version};
 use fr_log::{Log, LogAsk, LogTell, Most, Push, Seed};
 use fr_mutation::{Batch, Mutation};
+use fr_register::{CellValue, Progress};
 use fr_state::{CoordState, Generation};
 use fr_tags::Body;
 use fr_world::{Answer, Config, Event, World};
 use std::alloc::Global;
 
-/// Whether the log tells its record through version 2, and the batch of the proxy gets that version.
+/// Whether the log tells its record through version 2, the batch of the proxy gets that version, and the ballots end as
+/// they are to.
 pub(crate) fn comes_out(alloc: Global) -> anyhow::Result<bool> {
     let epoch = Epoch::new(257).context("no epoch")?;
-    Ok(told_through(alloc, epoch)? == 2 && numbered(alloc, epoch)? == 2)
+    Ok(told_through(alloc, epoch)? == 2 && numbered(alloc, epoch)? == 2 && contend(alloc)?)
+}
+
+fn value(alloc: Global, text: &[u8]) -> anyhow::Result<CellValue> {
+    CellValue::new(Vec::from_slice(alloc, text)?).context("no value")
+}
+
+/// Whether a ballot that is overtaken is lost, and one that comes after another finds its value.
+fn contend(alloc: Global) -> anyhow::Result<bool> {
+    let (first, second) = (value(alloc, b"x")?, value(alloc, b"y")?);
+    let is_lost = matches!(
+        overtaken(alloc, &first, &second)?.first.wrote,
+        Progress::Lost { .. }
+    );
+    let found = in_turn(alloc, &first, &second)?.second.found.value;
+    Ok(is_lost && found.as_slice() == b"x")
 }
 
 fn version(number: u64) -> anyhow::Result<Version> {
