@@ -136,8 +136,13 @@ impl Row {
             ("meets", [_]) => self.meets = true,
             ("crash", [turn]) => self.struck = Struck::CrashesAt(number(turn) as u32),
             ("lose", [after]) => self.struck = Struck::LostAfter(event(after)?),
-            ("pulled", [turn, awaited]) => self.pulled = Some((number(turn) as u32, event(awaited)?)),
-            ("hold", [before, awaited]) => self.holds.push((number(before) as u32, event(awaited)?))?,
+            ("pulled", [turn, awaited]) => self.pulled = Some((
+                number(turn) as u32,
+                event(awaited)?,
+            )),
+            ("hold", [before, awaited]) => self
+                .holds
+                .push((number(before) as u32, event(awaited)?))?,
             ("recovery", _) => self.recoveries.push(recovery(parts)?)?,
             ("rule", _) => self.rules.push(rule(parts)?)?,
             _ => bail!("no such word"),
@@ -147,7 +152,16 @@ impl Row {
 }
 
 fn numbers(parts: &[&str]) -> anyhow::Result<Numbers> {
-    let [coordinators, logs, degree, storages, proxies, batches, turns] = parts else {
+    let [
+        coordinators,
+        logs,
+        degree,
+        storages,
+        proxies,
+        batches,
+        turns,
+    ] = parts
+    else {
         bail!("a cluster has seven numbers");
     };
     Ok(Numbers {
