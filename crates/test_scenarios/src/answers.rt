@@ -27,7 +27,7 @@ fn write_refused(alloc: Global, fault: StorageFault) -> Result<Value, Wrong> {
     let object = Members::new(alloc);
     Ok(
         object
-            .and("refused", write_text(alloc, name_of(fault)))?
+            .and("refused", write_text(alloc, fault_name(fault)))?
             .value(),
     )
 }
