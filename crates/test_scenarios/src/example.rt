@@ -31,7 +31,7 @@ fn contend(alloc: Global) -> anyhow::Result<bool> {
         Progress::Lost { .. }
     );
     let found = in_turn(alloc, &first, &second)?.second.found.value;
-    Ok(is_lost && found.as_slice() == b"x")
+    Ok(is_lost && found.as_slice() == b"x".as_slice())
 }
 
 fn version(number: u64) -> anyhow::Result<Version> {
