@@ -63,13 +63,7 @@ where
         ensures entries { result.entries ≡ [] }
         ensures has_files { result.has_files ≡ false }
     {
-        let first = Snapshot::of(node.plain());
-        Passive {
-            node,
-            journal: Journal::new(alloc, id),
-            first,
-            has_files: false,
-        }
+        Passive::started(alloc, node, id, false)
     }
 
     /// A node that did nothing yet in this process, over files that outlast it: a cell or a log.
@@ -81,12 +75,23 @@ where
         ensures entries { result.entries ≡ [] }
         ensures has_files { result.has_files ≡ true }
     {
+        Passive::started(alloc, node, id, true)
+    }
+
+    fn started(alloc: Global, node: N, id: NodeId, has_files: bool) -> Self
+        requires stays { has_files ≡ true → ends_by_crash id ≡ false }
+        ensures node { result.node ≡ node }
+        ensures place { result.place ≡ id }
+        ensures first { result.first ≡ N.state node }
+        ensures entries { result.entries ≡ [] }
+        ensures has_files { result.has_files ≡ has_files }
+    {
         let first = Snapshot::of(node.plain());
         Passive {
             node,
             journal: Journal::new(alloc, id),
             first,
-            has_files: true,
+            has_files,
         }
     }
 

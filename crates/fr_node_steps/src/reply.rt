@@ -100,64 +100,24 @@ pub fn answer<T: Acting>(
             let value = node.read(alloc, &key, version)?;
             Ok(NodeReply::Read { value })
         }
-        NodeRequest::Take { at, turn } => take(alloc, node, at, turn),
-        NodeRequest::Back { at, hearing } => take_back(alloc, node, at, hearing),
+        NodeRequest::Take { at, turn } => {
+            let kind = turn.kind();
+            let entry = node.act(alloc, at, turn)?;
+            let last = node.last(alloc)?;
+            let wants = wants_of(alloc, node)?;
+            Ok(NodeReply::Taken {
+                kind,
+                entry,
+                last,
+                wants,
+            })
+        }
+        NodeRequest::Back { at, hearing } => {
+            let entries = node.back(alloc, at, hearing)?;
+            let last = node.last(alloc)?;
+            Ok(NodeReply::Back { entries, last })
+        }
     }
-}
-
-/// Has a node take a turn.
-fn take<T: Acting>(
-    alloc: Global,
-    node: &mut T,
-    at: Stamp,
-    turn: NodeTurn,
-) -> Result<NodeReply, NodeTurnFault>
-    requires works { T.works node.old ≡ true }
-    ensures node { T.node node.new ≡ T.node node.old }
-    ensures answered { IfOk result (λ reply. IsAnswer
-        (record { node = T.node node.old; entries = T.entries node.old; last = T.last_of node.old; wanted = T.wanted node.old; read = T.value_at node.old })
-        (record { node = T.node node.new; entries = T.entries node.new; last = T.last_of node.new; wanted = T.wanted node.new; read = T.value_at node.new })
-        (NodeRequest.Take at turn) reply) }
-    ensures works { UnlessCrashed result (T.works node.new ≡ true) }
-    ensures refused { Refuses (T.refusal node.old at turn) result }
-    ensures left { IfRefused result (T.entries node.new ≡ T.entries node.old) }
-    ensures stands { IfRefused result (T.last_of node.new ≡ T.last_of node.old) }
-    ensures crashed { IfCrashed result T.CanCrash }
-{
-    let kind = turn.kind();
-    let entry = node.act(alloc, at, turn)?;
-    let last = node.last(alloc)?;
-    let wants = wants_of(alloc, node)?;
-    Ok(NodeReply::Taken {
-        kind,
-        entry,
-        last,
-        wants,
-    })
-}
-
-/// Has a node say that it was started again.
-fn take_back<T: Acting>(
-    alloc: Global,
-    node: &mut T,
-    at: Stamp,
-    hearing: Option<Hearing>,
-) -> Result<NodeReply, NodeTurnFault>
-    requires works { T.works node.old ≡ true }
-    ensures node { T.node node.new ≡ T.node node.old }
-    ensures answered { IfOk result (λ reply. IsAnswer
-        (record { node = T.node node.old; entries = T.entries node.old; last = T.last_of node.old; wanted = T.wanted node.old; read = T.value_at node.old })
-        (record { node = T.node node.new; entries = T.entries node.new; last = T.last_of node.new; wanted = T.wanted node.new; read = T.value_at node.new })
-        (NodeRequest.Back at hearing) reply) }
-    ensures works { UnlessCrashed result (T.works node.new ≡ true) }
-    ensures refused { Refuses (T.back_refusal node.old at hearing) result }
-    ensures left { IfRefused result (T.entries node.new ≡ T.entries node.old) }
-    ensures stands { IfRefused result (T.last_of node.new ≡ T.last_of node.old) }
-    ensures crashed { IfCrashed result T.CanCrash }
-{
-    let entries = node.back(alloc, at, hearing)?;
-    let last = node.last(alloc)?;
-    Ok(NodeReply::Back { entries, last })
 }
 
 /// What a node asks once it took a turn, if it says so with each.
