@@ -2,7 +2,6 @@
 ghost use Rattle.fr_part.specs.Fault.{of_submit, of_storage, of_store};
 ghost use Rattle.std.specs.Prelude.{◌≡◌};
 
-use fr_base::Memory as NoMemory;
 use fr_proxy::SubmitFault;
 use fr_storage::StorageFault;
 use fr_undo::StoreFault;
@@ -48,17 +47,6 @@ pub enum ReadRefusal {
     /// Memory ran out.
     #[error("out of memory")]
     Memory,
-}
-
-impl From<NoMemory> for PartFault {
-    ghost use Rattle.std.specs.Prelude.{◌≡◌};
-    ghost use Rattle.fr_part.specs.declared.fault.PartFault.TheVariants.{Memory};
-
-    ghost from_gives = { λ _ fault. fault ≡ Memory };
-
-    fn from(_: NoMemory) -> PartFault {
-        PartFault::Memory
-    }
 }
 
 /// What a proxy's fault is to its holder.

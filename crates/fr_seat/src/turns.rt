@@ -94,7 +94,7 @@ pub fn next_line(alloc: Global, part: &Part) -> Result<Vec<u8>, PartFault>
     ensures { IfOk result (λ line. IsJson line.items) }
 {
     let asks = part.next(alloc)?;
-    Ok(write_asks(alloc, &asks)?)
+    write_asks(alloc, &asks).map_err(|_| PartFault::Memory)
 }
 
 /// The line of where a machine stands.
@@ -102,5 +102,5 @@ pub fn last_line(alloc: Global, part: &Part) -> Result<Vec<u8>, PartFault>
     ensures { IfOk result (λ line. IsJson line.items) }
 {
     let last = part.last(alloc)?;
-    Ok(write_standing(alloc, &last)?)
+    write_standing(alloc, &last).map_err(|_| PartFault::Memory)
 }
