@@ -3,11 +3,12 @@
 use crate::audit::{Act, Asked, Entry, Journal, Last};
 use crate::cell::Cell;
 use crate::log::Log;
-use crate::messages::{Ask, LogId, NodeId, Tell};
+use crate::messages::{Ask, LogId, LogTell, NodeId, Tell};
 use crate::proxy::Sequencer;
 use crate::state::Generation;
 use crate::world::{Config, FIRST_EPOCH};
-use std::sync::{Mutex, OnceLock};
+use std::sync::{Condvar, Mutex, OnceLock};
+use std::time::Duration;
 
 /// The stamp of what is there from the start.
 pub const FIRST_STAMP: u64 = 0;
@@ -67,26 +68,71 @@ impl Answering {
     }
 }
 
+/// How long a thread waits for a version at most.
+const PATIENCE: Duration = Duration::from_secs(2);
+
+/// What stands for a version where nobody is to wait any more.
+const LET_GO: u64 = u64::MAX;
+
+/// The greatest version of each remainder by 8 that a log told to hold, for threads to wait by.
+#[derive(Default)]
+struct Held([(Mutex<u64>, Condvar); 8]);
+
+impl Held {
+    fn raise((latest, risen): &(Mutex<u64>, Condvar), version: u64) {
+        let mut latest = latest.lock().expect("no thread panics");
+        if *latest < version {
+            *latest = version;
+            risen.notify_all();
+        }
+    }
+
+    fn reach(&self, version: u64) {
+        Self::raise(&self.0[(version % 8) as usize], version);
+    }
+
+    fn let_go(&self) {
+        self.0.iter().for_each(|each| Self::raise(each, LET_GO));
+    }
+
+    /// Waits until the log told to hold a version; false where it did not in time, or nobody is to wait.
+    fn wait_for(&self, version: u64) -> bool {
+        let (latest, risen) = &self.0[(version % 8) as usize];
+        let latest = latest.lock().expect("no thread panics");
+        let waited = risen.wait_timeout_while(latest, PATIENCE, |latest| *latest < version);
+        (version..LET_GO).contains(&*waited.expect("no thread panics").0)
+    }
+}
+
 /// A node with its journal. Each ask is made and entered under the lock, so that the journal has them in their order.
-pub struct Station(Mutex<(Answering, Notes)>);
+pub struct Station {
+    lock: Mutex<(Answering, Notes)>,
+    held: Held,
+}
 
 impl Station {
     fn new(node: NodeId, answering: Answering) -> Self {
-        Station(Mutex::new((answering, Notes::new(node, FIRST_STAMP))))
+        Station { lock: Mutex::new((answering, Notes::new(node, FIRST_STAMP))), held: Held::default() }
     }
 
     /// What the node tells who has seen a stamp, and the stamp of that, which is above it.
     fn call(&self, seen: u64, from: NodeId, ask: Ask) -> Option<(u64, Tell)> {
-        let mut held = self.0.lock().expect("no thread panics");
+        let mut held = self.lock.lock().expect("no thread panics");
         let (node, notes) = &mut *held;
         let tell = node.ask(&ask)?;
         notes.see(seen);
         let at = notes.enter(Act::Asked(Asked { ask, from, tell: tell.clone() }));
+        drop(held);
+        match &tell {
+            Tell::Log(LogTell::Held { version }) => self.held.reach(*version),
+            Tell::Log(LogTell::Locked { .. }) => self.held.let_go(),
+            _ => {}
+        }
         Some((at, tell))
     }
 
     fn close(self) -> Journal {
-        let (node, notes) = self.0.into_inner().expect("no thread panicked");
+        let (node, notes) = self.lock.into_inner().expect("no thread panicked");
         notes.close(node.last())
     }
 }
@@ -192,6 +238,23 @@ impl Directory {
             NodeId::Proxy(..) | NodeId::Recoverer(_) | NodeId::Storage(_) => return None,
         };
         station.call(seen.max(there), from, ask)
+    }
+
+    /// The logs of an epoch, where they are there.
+    fn logs_of(&self, epoch: u64) -> &[Station] {
+        let logs = self.nodes_of(epoch).and_then(|nodes| nodes.logs.get());
+        logs.map_or(&[], |logs| &logs.stations)
+    }
+
+    /// Waits until a log told to hold a version; false where it did not in time, or nobody is to wait for it.
+    pub fn wait_for(&self, log: LogId, version: u64) -> bool {
+        let station = self.logs_of(log.epoch).get(usize::from(log.index));
+        station.is_some_and(|station| station.held.wait_for(version))
+    }
+
+    /// Nobody is to wait for the logs of an epoch any more, since a version of it is pushed no more.
+    pub fn let_go(&self, epoch: u64) {
+        self.logs_of(epoch).iter().for_each(|log| log.held.let_go());
     }
 
     /// The journals of the nodes of the start, and of those later ones in which something was entered.

@@ -2,7 +2,7 @@
 
 use crate::audit::{Act, HeardForm, Journal, Last, Submitted};
 use crate::batch::{Batch, Mutation};
-use crate::messages::{Ask, LogAsk, LogId, LogTell, NodeId, Pop, Tell};
+use crate::messages::{Ask, LogAsk, LogId, LogRefusal, LogTell, NodeId, Pop, Tell};
 use crate::proxy::{Outcome, Proxy};
 use crate::recoverer::{Phase, Recoverer};
 use crate::state::Generation;
@@ -79,13 +79,18 @@ struct Door {
     /// Whether a batch is under way.
     is_open: bool,
     is_over: bool,
+    /// Whether the last tell was that a log lacks the version before that of a push.
+    is_early: bool,
+    /// Whether the logs' tells of this batch are waited for.
+    waits: bool,
 }
 
 impl Door {
     fn new(site: Site, generation: Generation, number: u8, seen: u64) -> Self {
         let (epoch, shards) = (generation.epoch, site.config.shards.clone());
         let notes = Notes::new(NodeId::Proxy(epoch, number), seen);
-        Door { epoch, proxy: Proxy::new(generation, number, shards), notes, is_open: false, is_over: false }
+        let proxy = Proxy::new(generation, number, shards);
+        Door { epoch, proxy, notes, is_open: false, is_over: false, is_early: false, waits: true }
     }
 
     fn close(self) -> Journal {
@@ -100,11 +105,31 @@ impl Hearer for Door {
     }
 
     fn hear(&mut self, from: NodeId, tell: Tell) {
+        self.is_early = matches!(tell, Tell::Log(LogTell::Refused(LogRefusal::Gap { .. })));
         let (outcome, _) = self.proxy.hear(from, &tell);
         self.notes.enter(heard(from, tell, Some(outcome)));
         self.is_open &= outcome == Outcome::Waiting;
         self.is_over |= outcome == Outcome::Ended;
     }
+}
+
+/// Sends a pending ask. Where a log lacks the version before a push the thread waits for that one, and sends the push
+/// again; false where the log still lacks it.
+fn send_in_turn(site: Site, door: &mut Door, to: NodeId, ask: Ask) -> bool {
+    let before = match (&to, &ask) {
+        (NodeId::Log(log), Ask::Log(LogAsk::Push(push))) => Some((*log, push.prev)),
+        _ => None,
+    };
+    door.is_early = false;
+    send(site, door, to, ask.clone());
+    if door.is_early && door.waits {
+        door.waits = before.is_some_and(|(log, version)| site.directory.wait_for(log, version));
+        if door.waits {
+            door.is_early = false;
+            send(site, door, to, ask);
+        }
+    }
+    !door.is_early
 }
 
 /// The turns of a workload: its batches go to the proxy of its number in the epoch where it last was and, once that
@@ -132,13 +157,22 @@ pub fn serve(site: Site, mut work: Workload) -> Vec<Journal> {
             }
             door.notes.enter(Act::Submitted(Submitted { batch, step: STEP }));
             door.is_open = true;
+            door.waits = true;
         }
         for (to, ask) in door.proxy.pending() {
-            send(site, &mut door, to, ask);
+            if !send_in_turn(site, &mut door, to, ask) {
+                break;
+            }
+        }
+        if door.is_over {
+            site.directory.let_go(door.epoch);
         }
         if door.is_open {
             yield_now();
         }
+    }
+    if door.is_open {
+        site.directory.let_go(door.epoch);
     }
     earlier.push(door.close());
     earlier

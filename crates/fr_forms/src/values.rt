@@ -241,7 +241,11 @@ impl Formed for Shape {
 impl Formed for Batch {
     fn from_row(alloc: Global, row: Row<'_>) -> Result<Self, Unread> {
         match Batch::new(Vec::from_row(alloc, row)?) {
-            Ok(batch) => Ok(batch),
+            // Copies of it follow, in turns and journals.
+            Ok(batch) => match batch.share() {
+                Ok(batch) => Ok(batch),
+                Err(Memory) => Err(Unread::Memory),
+            },
             Err(BatchFault::Memory) => Err(Unread::Memory),
             Err(_) => Err(Unread::Unusual),
         }

@@ -12,9 +12,10 @@ use Rattle.fr_log.specs.Push.{PushContent, is_one_push}
 use Rattle.fr_log.specs.declared.popped.PoppedTag.{PoppedTag}
 use Rattle.fr_log.specs.Popped.{left_push, left_seed}
 
--- a log: its epoch and its number there, how many logs the epoch has (m) and on how many of them each tag stands (k), the seed
--- that it took, the pushes that it took, the oldest first, whether it was locked, and through which version each tag is popped, in
--- the order of tags. What is popped of a tag is no longer told: this log still has it, and `swept` below lets it go
+-- a log: its epoch and its number there, how many logs the epoch has (m), and on how many of them each tag is (k). It
+-- has the seed that it took and the pushes that it took, the oldest first. It says whether it was locked, and through
+-- which version each tag is popped, in the order of tags. What is popped of a tag is no longer told: this log still has
+-- it, and `swept` below lets it go
 pub record LogState : Type 0 where
   pub epoch : ℕ
   pub index : ℕ

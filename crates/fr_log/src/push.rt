@@ -69,6 +69,7 @@ impl Push {
               mark = None;
             }) }
     {
+        // Only `Step` says how far one step goes.
         let is_step = Step::between(prev, version).is_some();
         if is_step && known <= prev && is_rising(&bodies) {
             Some(Push {

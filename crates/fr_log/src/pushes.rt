@@ -80,7 +80,8 @@ impl Pushes {
             && have_bodies(&self.shelves, push.version(), push.bodies(), popped)
     }
 
-    /// Holds one more push, above all others: it is moved in. Out of memory changes nothing.
+    /// Holds one more push, above all others: it is moved in. Out of memory changes nothing, but that shelves which it
+    /// added stay: empty, and at most 32.
     pub(crate) fn hold(&mut self, alloc: Global, push: Push) -> Result<(), Memory>
         requires { ArePushedBelow push.version self.old }
         ensures after { OnOk result (self.new ≡ self.old ++ push ∷ []) }

@@ -49,7 +49,7 @@ pub fn clip(alloc: Global, batch: &Batch, shard: &Shard) -> Result<Batch, Memory
             mutations.push(part)?;
         }
     }
-    Ok(Batch::within(mutations))
+    Batch::within(mutations)
 }
 
 /// The mutation as far as it acts on keys of the shard.

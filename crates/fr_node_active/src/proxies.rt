@@ -87,13 +87,13 @@ impl ProxyNode {
         let Some(stamp) = stamp_above(&self.journal, at) else {
             return Err(NodeTurnFault::Refused(TurnRefusal::StampsSpent));
         };
+        self.journal.reserve()?;
         let taken = batch.copy()?;
         let entry = Entry {
             stamp,
             act: Act::Submitted { step, batch },
         };
         let answered = entry.copy()?;
-        self.journal.reserve()?;
         let Ok(_asked) = self.proxy.submit(step, taken) else {
             unreachable!();
         };

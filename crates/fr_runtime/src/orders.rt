@@ -71,7 +71,7 @@ impl Orders {
             value: Bytes::from_slice(self.alloc, &self.next.to_be_bytes())?,
         })?;
         match Batch::new(mutations) {
-            Ok(batch) => Ok(batch),
+            Ok(batch) => batch.share(),
             Err(_) => unreachable!(),
         }
     }

@@ -8,6 +8,8 @@ ghost use Rattle.fr_runtime_station.specs.Named.{cells_named, logs_named};
 ghost use Rattle.fr_runtime_station.specs.Places.{places_of};
 ghost use Rattle.fr_runtime_station.specs.declared.directory_fault.DirectoryFault.{DirectoryFault};
 
+mod waiting;
+
 use crate::cells::Cells;
 use crate::chosen::{Chosen, first_stamp, later_of};
 use crate::closing::close_all;
@@ -251,7 +253,10 @@ impl<C: Node<Plain = Cell> + Drop, L: Node<Plain = Log> + Drop> Directory<C, L> 
         };
         match self.log(LogId { epoch, index }) {
             Some((log, there)) => match log.call(rt, alloc, stamp.max(there), from, ask) {
-                Ok(got) => Ok(got),
+                Ok(got) => {
+                    log.wake(&got.1);
+                    Ok(got)
+                }
                 Err(fault) => Err(DirectoryFault::Call(fault)),
             },
             None => Err(DirectoryFault::NotThere),
@@ -358,7 +363,10 @@ impl<C: Node<Plain = Cell> + Drop, L: Node<Plain = Log> + Drop> Directory<C, L> 
     {
         match self.sequencer(epoch) {
             Some((sequencer, there)) => match sequencer.crash(rt, alloc, stamp.max(there)) {
-                Ok(at) => Ok(at),
+                Ok(at) => {
+                    self.let_go(epoch);
+                    Ok(at)
+                }
                 Err(fault) => Err(DirectoryFault::Call(fault)),
             },
             None => Err(DirectoryFault::NotThere),
@@ -385,7 +393,10 @@ impl<C: Node<Plain = Cell> + Drop, L: Node<Plain = Log> + Drop> Directory<C, L> 
     {
         match self.log(id) {
             Some((log, there)) => match log.lose(rt, alloc, stamp.max(there)) {
-                Ok(at) => Ok(at),
+                Ok(at) => {
+                    log.let_go();
+                    Ok(at)
+                }
                 Err(fault) => Err(DirectoryFault::Call(fault)),
             },
             None => Err(DirectoryFault::NotThere),

@@ -145,6 +145,15 @@ impl<L: Node<Plain = Log> + Drop> EpochNodes<L> {
         Some(opened.chosen)
     }
 
+    /// Nobody is to wait for these logs any more, once they are there.
+    pub(crate) fn let_go(&self) {
+        if let Some(logs) = self.logs.get() {
+            for log in &logs.stations {
+                log.let_go();
+            }
+        }
+    }
+
     /// Puts the closed journals of those that came behind others, if something was entered.
     pub(crate) fn close(self, alloc: Global, journals: &mut Vec<Journal>) -> Result<(), NodeFault>
         requires before { all_answer journals.old.items ≡ true }

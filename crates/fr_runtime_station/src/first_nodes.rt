@@ -66,6 +66,13 @@ impl<L: Node<Plain = Log> + Drop> FirstNodes<L> {
         &self.sequencer
     }
 
+    /// Nobody is to wait for these logs any more.
+    pub(crate) fn let_go(&self) {
+        for log in &self.logs {
+            log.let_go();
+        }
+    }
+
     /// Puts their closed journals behind others, of each one.
     pub(crate) fn close(self, alloc: Global, journals: &mut Vec<Journal>) -> Result<(), NodeFault>
         requires before { all_answer journals.old.items ≡ true }

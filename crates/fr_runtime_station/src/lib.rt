@@ -10,6 +10,7 @@ mod directory_fault;
 mod epoch_nodes;
 mod faults;
 mod first_nodes;
+mod held;
 mod station;
 
 pub use chosen::{Chosen, first_stamp};

@@ -7,8 +7,10 @@ ghost use Rattle.fr_audit_journal.specs.declared.act.Act.TheVariants as act;
 ghost use Rattle.fr_runtime_station.specs.Called.{WasAsked, WasStruck};
 
 use crate::answering::Answering;
+use crate::held::HeldVersions;
 use fr_ask::Tell;
-use fr_base::{Machine, Node, NodeId, Stamp};
+use fr_base::{Machine, Node, NodeId, Stamp, Version};
+use fr_log::LogTell;
 use fr_runtime_housing::{CallFault, Housable, Housed};
 use std::alloc::Global;
 use std::sync::{Mutex, Wait};
@@ -24,6 +26,7 @@ where
     /// known of what lies under it.
     pub place: NodeId,
     lock: Mutex<Answering<N>>,
+    held: HeldVersions,
 }
 
 impl<N: Node> Station<N>
@@ -39,6 +42,7 @@ where
         Station {
             place: housed.journal().node(),
             lock: Mutex::new(Answering::new(housed)),
+            held: HeldVersions::new(),
         }
     }
 
@@ -89,6 +93,26 @@ where
         ensures trouble { IfErr result (IsTrouble N.CanMeet) }
     {
         self.lock.lock(rt).lose(alloc, stamp)
+    }
+
+    /// Wakes those who wait for a version that the node told to hold. If it takes no further push it wakes all.
+    pub(crate) fn wake(&self, tell: &Tell) {
+        match tell {
+            Tell::Log(LogTell::Held { version }) => self.held.reach(*version),
+            Tell::Log(LogTell::Locked { .. }) => self.held.let_go(),
+            _ => {}
+        }
+    }
+
+    /// Waits until the node told to hold this version, for two seconds at most; false if it did not, or nobody is to
+    /// wait for it.
+    pub(crate) fn wait_for<R: Wait>(&self, rt: &R, version: Version) -> bool {
+        self.held.wait_for(rt, version)
+    }
+
+    /// Nobody is to wait for the node any more.
+    pub(crate) fn let_go(&self) {
+        self.held.let_go();
     }
 
     /// The node with its journal.

@@ -136,7 +136,7 @@ fn batch(alloc: Global, shards: u8, word: u32, operand: u32) -> Result<Batch, Me
     let mut mutations = Vec::new(alloc);
     mutations.push(mutation(alloc, shards, word, operand)?)?;
     match Batch::new(mutations) {
-        Ok(batch) => Ok(batch),
+        Ok(batch) => batch.share(),
         Err(_) => unreachable!(),
     }
 }

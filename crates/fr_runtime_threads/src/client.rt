@@ -197,6 +197,9 @@ impl<W: Workload + Drop> Client<W> {
     {
         if !self.door.is_gone() && site.faults.ends(self.door.place(), number) {
             self.door.crash()?;
+            if self.door.is_open() {
+                site.directory.let_go(self.door.epoch());
+            }
         }
         if self.door.is_gone() {
             self.go_on(site.alloc, site.config, site.directory.newest())?;
@@ -208,12 +211,33 @@ impl<W: Workload + Drop> Client<W> {
             }
         }
         send_all(site, &mut self.door, late)?;
+        if self.door.is_over() {
+            site.directory.let_go(self.door.epoch());
+        }
         let is_told = matches!(self.door.under_way(), UnderWay::Said(_));
         self.settle()?;
         if !is_told {
             yield_now();
         }
         Ok(true)
+    }
+
+    /// Takes so many turns, or as many as there are batches for.
+    fn take_turns<K: Rack, F: Faults, R: Wait>(
+        &mut self,
+        site: &Site<'_, K, F, R>,
+        turns: u32,
+    ) -> Result<(), TurnFault>
+        ensures first { self.new.first ≡ self.old.first }
+        ensures number { self.new.number ≡ self.old.number }
+    {
+        let mut late = Late::new(site.alloc);
+        for turn in 1..=turns {
+            if !self.turn(site, &mut late, turn)? {
+                break;
+            }
+        }
+        Ok(())
     }
 
     /// What is handed back. A batch that is open or kept is told to be waiting.
@@ -294,11 +318,10 @@ pub fn serve<K: Rack, F: Faults, R: Wait, W: Workload + Drop>(
     ensures places { IfOk result (λ s. are_proxies number s.journals.items ≡ true) }
 {
     let mut client = Client::new(site.alloc, site.config, first, number, work)?;
-    let mut late = Late::new(site.alloc);
-    for turn in 1..=turns {
-        if !client.turn(site, &mut late, turn)? {
-            break;
-        }
+    let ran = client.take_turns(site, turns);
+    if client.door.is_open() || client.door.is_over() {
+        site.directory.let_go(client.door.epoch());
     }
+    ran?;
     Ok(client.end()?)
 }

@@ -12,7 +12,8 @@ use crate::sending::{Hearer, bring_late, send};
 use crate::site::Site;
 use fr_ask::{Ask, Tell};
 use fr_audit_journal::{Act, Journal};
-use fr_base::{Epoch, Memory, NodeId, Stamp, Version};
+use fr_base::{Epoch, LogId, Memory, NodeId, Stamp, Version};
+use fr_log::{LogAsk, LogRefusal, LogTell};
 use fr_proxy::{Outcome, Proxy};
 use fr_run_event::{Config, last_of_proxy};
 use fr_runtime_rack::Rack;
@@ -30,6 +31,10 @@ pub(crate) struct Door {
     under_way: UnderWay,
     is_over: bool,
     is_gone: bool,
+    /// Whether the last tell was that a log lacks the version before that of a push.
+    is_early: bool,
+    /// Whether the logs' tells of the batch that it took last are waited for.
+    waits: bool,
     ghost tells: { (account notes.journal.entries).told ≡ told.items ++ said under_way },
     ghost opens: { (account notes.journal.entries).is_open ≡ is_open_in under_way },
 }
@@ -86,6 +91,8 @@ impl Door {
             under_way: UnderWay::Nothing,
             is_over: false,
             is_gone: false,
+            is_early: false,
+            waits: true,
         })
     }
 
@@ -170,6 +177,7 @@ impl Door {
             let Order { step, batch } = order;
             self.notes.enter(stamp, Act::Submitted { step, batch });
             self.under_way = UnderWay::Open;
+            self.waits = true;
         }
         Ok(())
     }
@@ -207,7 +215,8 @@ impl Door {
     }
 }
 
-/// Brings a proxy what is late, and sends each of its pending asks once.
+/// Brings a proxy what is late, and sends each of its pending asks once. If a log still lacks the version before a push,
+/// the logs behind it are asked at a later turn.
 pub(crate) fn send_all<K: Rack, F: Faults, R: Wait>(
     site: &Site<'_, K, F, R>,
     door: &mut Door,
@@ -220,9 +229,58 @@ pub(crate) fn send_all<K: Rack, F: Faults, R: Wait>(
     bring_late(site, door, late)?;
     let asks = door.pending(site.alloc)?;
     for (to, ask) in asks.iter() {
-        send(site, door, late, to, ask)?;
+        if !send_in_turn(site, door, late, to, ask)? {
+            break;
+        }
     }
     Ok(())
+}
+
+/// Sends an ask. If a log lacks the version before a push, the thread waits for that one and sends the push again, as
+/// long as such a wait of this batch was not in vain. False if the log still lacks it.
+fn send_in_turn<K: Rack, F: Faults, R: Wait>(
+    site: &Site<'_, K, F, R>,
+    door: &mut Door,
+    late: &mut Late,
+    to: &NodeId,
+    ask: &Ask,
+) -> Result<bool, TurnFault>
+    ensures place { door.new.notes.journal.node ≡ door.old.notes.journal.node }
+    ensures given { (account door.new.notes.journal.entries).given ≡ (account door.old.notes.journal.entries).given }
+    ensures told { door.new.told.items ≡ door.old.told.items }
+{
+    door.is_early = false;
+    send(site, door, late, to, ask)?;
+    if door.is_early && door.waits {
+        door.waits = wait_for_turn(site, to, ask);
+        if door.waits {
+            door.is_early = false;
+            send(site, door, late, to, ask)?;
+        }
+    }
+    Ok(!door.is_early)
+}
+
+/// Waits until the log of a push holds the version before it, as [`fr_runtime_station::Directory::wait_for`] does.
+fn wait_for_turn<K: Rack, F, R: Wait>(site: &Site<'_, K, F, R>, to: &NodeId, ask: &Ask) -> bool {
+    match (to, ask) {
+        (NodeId::Log { epoch, index }, Ask::Log(LogAsk::Push(push))) => {
+            let (epoch, index) = (*epoch, *index);
+            let log = LogId { epoch, index };
+            site.directory.wait_for(site.rt, log, push.prev())
+        }
+        _ => false,
+    }
+}
+
+/// Whether a log tells that it lacks the version before that of a push.
+fn is_gap(tell: &Tell) -> bool {
+    matches!(
+        tell,
+        Tell::Log(LogTell::Refused {
+            why: LogRefusal::Gap { .. },
+        })
+    )
 }
 
 impl Hearer for Door {
@@ -269,6 +327,7 @@ impl Hearer for Door {
             return Ok(());
         };
         let sender = from;
+        self.is_early = is_gap(&tell);
         let (outcome, _asks) = self.proxy.hear(alloc, sender, &tell)?;
         let said = outcome;
         let is_end = matches!(&said, Outcome::Ended);

@@ -243,7 +243,34 @@ fn first_turn<F: Faults>(faults: &F, ballot: Ballot, turns: u32) -> Option<u32>
     None
 }
 
-/// The turns of a recoverer that begins at this one, and its journal. If it crashes it is gone, and takes no further one.
+/// Takes the turns of a recoverer from this one on, and says whether nothing is left to do. If it crashes it is gone, and
+/// takes no further one.
+fn take_turns<K: Rack, F: Faults, R: Wait>(
+    site: &Site<'_, K, F, R>,
+    recovery: &mut Recovery,
+    from: u32,
+    turns: u32,
+) -> Result<bool, TurnFault>
+    ensures node { recovery.new.notes.journal.node ≡ recovery.old.notes.journal.node }
+    ensures shape { recovery.new.shape ≡ recovery.old.shape }
+{
+    let mut late = Late::new(site.alloc);
+    let mut shown = Shown::Nothing;
+    for turn in from..=turns {
+        if site.faults.ends(recovery.place(), turn) {
+            recovery.crash()?;
+            return Ok(false);
+        }
+        shown = recover_once(site, recovery, &mut late, shown)?;
+        if is_done(site.alloc, recovery)? {
+            return Ok(true);
+        }
+    }
+    Ok(false)
+}
+
+/// The turns of a recoverer that begins at this one, and its journal. If it ends before the logs of its epoch hold their
+/// marks, nobody waits for them.
 fn recovered<K: Rack, F: Faults, R: Wait>(
     site: &Site<'_, K, F, R>,
     ballot: Ballot,
@@ -256,18 +283,11 @@ fn recovered<K: Rack, F: Faults, R: Wait>(
     ensures begun { IfOk result (λ journal. StartsWithBegun shape journal.entries) }
 {
     let mut recovery = begin(site.alloc, site.config, ballot, &shape)?;
-    let mut late = Late::new(site.alloc);
-    let mut shown = Shown::Nothing;
-    for turn in from..=turns {
-        if site.faults.ends(recovery.place(), turn) {
-            recovery.crash()?;
-            break;
-        }
-        shown = recover_once(site, &mut recovery, &mut late, shown)?;
-        if is_done(site.alloc, &recovery)? {
-            break;
-        }
+    let ran = take_turns(site, &mut recovery, from, turns);
+    if !matches!(ran, Ok(true)) {
+        let_go(site, ballot);
     }
+    ran?;
     let Recovery {
         recoverer,
         notes,
@@ -275,6 +295,13 @@ fn recovered<K: Rack, F: Faults, R: Wait>(
     } = recovery;
     let last = last_of_recoverer(site.alloc, &recoverer)?;
     Ok(notes.close(last))
+}
+
+/// Nobody waits for the logs of a ballot's epoch.
+fn let_go<K: Rack, F, R>(site: &Site<'_, K, F, R>, ballot: Ballot) {
+    if let Some(epoch) = ballot.epoch() {
+        site.directory.let_go(epoch);
+    }
 }
 
 /// The turns of a ballot, and the journal of its recoverer, if that began. The recoverer opens a generation of this

@@ -1,5 +1,4 @@
 //! Why a state is not extended, and why bytes are no state.
-use fr_base::Memory as NoMemory;
 use std::alloc::AllocFailed;
 use thiserror::Error;
 
@@ -44,15 +43,4 @@ pub enum StateDecodeFault {
     /// There is no memory.
     #[error("out of memory")]
     Memory,
-}
-
-impl From<NoMemory> for StateDecodeFault {
-    ghost use Rattle.std.specs.Prelude.{◌≡◌};
-    ghost use Rattle.fr_state.specs.declared.fault.StateDecodeFault.TheVariants.{Memory};
-
-    ghost from_gives = { λ _ fault. fault ≡ Memory };
-
-    fn from(_: NoMemory) -> StateDecodeFault {
-        StateDecodeFault::Memory
-    }
 }

@@ -16,7 +16,8 @@ pub fn order_law()
 {}
 
 /// The last generation is one of the list; each other one of an ordered list has a next one, which
-/// follows it.
+/// follows it. The first is said as membership, since no clause ranges over properties: so what is true of each
+/// generation of a list is true of the last.
 pub fn next_law()
     ensures last { LastIsThere }
     ensures within { LastIsWithin }

@@ -55,7 +55,10 @@ fn state_of(alloc: Global, bytes: &[u8]) -> Result<CoordState, StateDecodeFault>
     if rest.len() > end {
         return Err(StateDecodeFault::Trailing);
     }
-    Ok(CoordState::from_ordered(dropped, generations(alloc, count, rest)?))
+    match generations(alloc, count, rest) {
+        Ok(gens) => Ok(CoordState::from_ordered(dropped, gens)),
+        Err(_) => Err(StateDecodeFault::Memory),
+    }
 }
 
 /// How many generations were dropped, by the format, and the bytes after that.

@@ -1,5 +1,4 @@
 //! Why begins make no shard map.
-use fr_base::Memory as NoMemory;
 use thiserror::Error;
 
 /// Why begins make no shard map. They are tested in the order `Empty`, `TooMany`, `BeginTooLong`,
@@ -24,15 +23,4 @@ pub enum ShardFault {
     /// A begin has more than 10,000 bytes.
     #[error("BeginTooLong")]
     BeginTooLong,
-}
-
-impl From<NoMemory> for ShardFault {
-    ghost use Rattle.std.specs.Prelude.{◌≡◌};
-    ghost use Rattle.fr_tags.specs.declared.fault.ShardFault.TheVariants.{Memory};
-
-    ghost from_gives = { λ _ fault. fault ≡ Memory };
-
-    fn from(_: NoMemory) -> ShardFault {
-        ShardFault::Memory
-    }
 }

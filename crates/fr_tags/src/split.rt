@@ -93,7 +93,11 @@ fn mark(marks: &mut [bool], from: usize, to: usize)
 fn bodies_for(alloc: Global, bodies: &[Body], shape: Shape, log: u8) -> Result<Vec<Body>, Memory>
     ensures { IfOk result (λ held. held.items ≡ bodies_for bodies.now shape.m shape.k log) }
 {
-    let mut held = Vec::new(alloc);
+    let count = bodies
+        .iter()
+        .filter(|body| is_held(body.tag, shape.m(), shape.k(), log))
+        .count();
+    let mut held = Vec::with_capacity(alloc, count)?;
     for body in bodies {
         if is_held(body.tag, shape.m(), shape.k(), log) {
             held.push(body.copy()?)?;

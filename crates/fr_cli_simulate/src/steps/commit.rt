@@ -64,7 +64,7 @@ fn submit(
     batch: Vec<Mutation>,
 ) -> Result<Option<Became>, Memory> {
     match Batch::new(batch) {
-        Ok(batch) => submit_batch(alloc, world, epoch, proxy, step, batch),
+        Ok(batch) => submit_batch(alloc, world, epoch, proxy, step, batch.share()?),
         Err(BatchFault::Memory) => Err(Memory),
         Err(fault) => Ok(Some(Became::Beyond(fault))),
     }

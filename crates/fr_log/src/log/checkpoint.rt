@@ -30,7 +30,7 @@ impl Model for Checkpoint {
 }
 
 impl Log {
-    /// A checkpoint of its state.
+    /// A checkpoint of its state. With `place_law` it is one that `go_back` takes, and its caller proves nothing.
     pub fn place(&self) -> Result<Checkpoint, Memory>
         ensures value { IfOk result (λ place. place ≡ checkpoint_of self.now) }
         ensures sound { IsLog self.now }

@@ -65,6 +65,7 @@ impl Log {
         }
     }
 
+    /// Why a lock is refused. Without a seed it is, so that a file's records can say that a log is stopped.
     pub(super) fn lock_refusal(&self, epoch: Epoch) -> Option<LogRefusal>
         ensures { result ≡ lock_refusal self.now epoch }
     {

@@ -221,5 +221,6 @@ pub fn decode(alloc: Global, bytes: &[u8]) -> Result<(Batch, usize), DecodeFault
     let rest = skip_checked(format, count, front)?;
     let mutations = copy_mutations(alloc, format, count, front)?;
     // Each limit was tested on the way.
-    Ok((Batch::within(mutations), bytes.len() - rest.len()))
+    let batch = Batch::within(mutations)?;
+    Ok((batch, bytes.len() - rest.len()))
 }

@@ -10,4 +10,4 @@ pub from_ordered-requires : goal.from_ordered-requires
 from_ordered-requires c =
     let count = counted c.in_ok-dropped.counted.now c.in_ok-count.count c.in_ok-count.rest.now c.in_ok-count.ensures.ok in
     let listed : are_left c.in_ok-dropped.dropped (generations_at c.in_ok-count.count c.in_ok-count.rest.now) ≡ true = cc (c.are_left.ensures, c.if-not-are_left.false) in
-    rw c.in_ok-generations.ensures (list_sound c.in_ok-dropped.dropped c.in_ok-count.count c.in_ok-count.rest.now count listed)
+    rw c.in-Ok.ensures (list_sound c.in_ok-dropped.dropped c.in_ok-count.count c.in_ok-count.rest.now count listed)

@@ -40,6 +40,14 @@ within-requires c =
     let w = batch_takes c.args.bytes.now (c.in_ok-mutations.mutations.items, c.in_ok-rest.rest.now) (λ i. omega (arith, c.type_inv.bytes i)) r in
     w.1
 
+pub returns-in_err-batch-clause-refused : goal.returns-in_err-batch-clause-refused
+returns-in_err-batch-clause-refused c =
+    let p = err_from_is_err_and c.from_residual-in_err-batch.result c.from_residual-in_err-batch.ensures.1 in
+    lacks c.from_residual-in_err-batch.result (decoded c.args.bytes.now) (p.1 ∙ ap (λ (f : DecodeFault). Err f) p.2) (something_is_decoded c.args.bytes.now c.in_ok-format.format c.in_ok-format.count c.in_ok-format.front.now c.in_ok-rest.rest.now c.in_ok-format.ensures c.in_ok-rest.ensures)
+
+pub returns-in_err-batch-clause-memory : goal.returns-in_err-batch-clause-memory
+returns-in_err-batch-clause-memory c = λ _. something_is_decoded c.args.bytes.now c.in_ok-format.format c.in_ok-format.count c.in_ok-format.front.now c.in_ok-rest.rest.now c.in_ok-format.ensures c.in_ok-rest.ensures
+
 pub overflow_sub-result : goal.overflow_sub-result
 overflow_sub-result c =
     let r = is_read c.args.bytes.now c.in_ok-format.format c.in_ok-format.count c.in_ok-format.front.now c.in_ok-rest.rest.now c.in_ok-mutations.mutations.items c.in_ok-format.ensures c.in_ok-rest.ensures c.in_ok-mutations.ensures in
@@ -49,15 +57,15 @@ overflow_sub-result c =
 pub returns-clause-ok : goal.returns-clause-ok
 returns-clause-ok c =
     let r = is_read c.args.bytes.now c.in_ok-format.format c.in_ok-format.count c.in_ok-format.front.now c.in_ok-rest.rest.now c.in_ok-mutations.mutations.items c.in_ok-format.ensures c.in_ok-rest.ensures c.in_ok-mutations.ensures in
-    rw c.within.ensures (is_decoded c.args.bytes.now c.in_ok-rest.rest.now c.in_ok-mutations.mutations.items r)
+    rw c.in_ok-batch.ensures (is_decoded c.args.bytes.now c.in_ok-rest.rest.now c.in_ok-mutations.mutations.items r)
 
 pub returns-clause-spelled : goal.returns-clause-spelled
 returns-clause-spelled c =
     let r = is_read c.args.bytes.now c.in_ok-format.format c.in_ok-format.count c.in_ok-format.front.now c.in_ok-rest.rest.now c.in_ok-mutations.mutations.items c.in_ok-format.ensures c.in_ok-rest.ensures c.in_ok-mutations.ensures in
     let s = read_is_spelled c.args.bytes.now (c.in_ok-mutations.mutations.items, c.in_ok-rest.rest.now) (λ i. omega (arith, c.type_inv.bytes i)) r in
-    rw c.within.ensures (omega arith, s.1)
+    rw c.in_ok-batch.ensures (omega arith, s.1)
 
 pub returns-clause-refused : goal.returns-clause-refused
 returns-clause-refused c =
     let r = is_read c.args.bytes.now c.in_ok-format.format c.in_ok-format.count c.in_ok-format.front.now c.in_ok-rest.rest.now c.in_ok-mutations.mutations.items c.in_ok-format.ensures c.in_ok-rest.ensures c.in_ok-mutations.ensures in
-    rw c.within.ensures (answers _ (decoded c.args.bytes.now) _ refl (is_decoded c.args.bytes.now c.in_ok-rest.rest.now c.in_ok-mutations.mutations.items r))
+    rw c.in_ok-batch.ensures (answers _ (decoded c.args.bytes.now) _ refl (is_decoded c.args.bytes.now c.in_ok-rest.rest.now c.in_ok-mutations.mutations.items r))
