@@ -3,7 +3,7 @@ ghost use Rattle.std.specs.Prelude.{◌≡◌};
 
 use fr_ask::{Ask, Tell};
 use fr_audit_journal::{Act, Entry};
-use fr_base::{Ballot, Epoch, LogId, NodeId, Stamp, Tag};
+use fr_base::{Ballot, Epoch, LogId, NodeId, Tag};
 use fr_log::{LogAsk, LogTell};
 use fr_runtime::{PlainRack, Report};
 use fr_runtime_station::{Blow, Chosen, Faults, NoFaults, Verdict};
@@ -86,18 +86,24 @@ const FOUR: Numbers = Numbers {
     ..DEFAULTS
 };
 
-/// When a node was lost.
-fn lost_at(entries: &[Entry]) -> Option<Stamp> {
+/// Whether a node was lost, and its journal has no peek.
+fn is_lost_unasked(entries: &[Entry]) -> bool {
+    let mut is_lost = false;
     for entry in entries {
-        if matches!(&entry.act, Act::Lost) {
-            return Some(entry.stamp);
+        match &entry.act {
+            Act::Lost => is_lost = true,
+            Act::Asked {
+                ask: Ask::Log(LogAsk::Peek { .. }),
+                ..
+            } => return false,
+            _ => {}
         }
     }
-    None
+    is_lost
 }
 
-/// How many records were heard of this node, after this stamp.
-fn records_of(entries: &[Entry], node: NodeId, stamp: Stamp) -> usize {
+/// How many records were heard of this node.
+fn records_of(entries: &[Entry], node: NodeId) -> usize {
     let mut all = 0_usize;
     for entry in entries {
         if let Act::Heard {
@@ -106,7 +112,7 @@ fn records_of(entries: &[Entry], node: NodeId, stamp: Stamp) -> usize {
             ..
         } = &entry.act
         {
-            if *from == node && entry.stamp > stamp {
+            if *from == node {
                 all = all.saturating_add(peeked.records().len());
             }
         }
@@ -114,14 +120,12 @@ fn records_of(entries: &[Entry], node: NodeId, stamp: Stamp) -> usize {
     all
 }
 
-/// Whether 39 batches, which all logs held before one was lost, were heard of the other log of their tag afterwards.
+/// Whether a log was lost before it was peeked, and 39 batches, which all logs held by then, were heard of the other
+/// log of its tag.
 fn are_retrieved(report: &Report) -> Result<bool, Fail> {
     let tag = Tag::new(0).ok_or("a tag")?;
     let heard = entries_of(report, NodeId::Storage { tag });
-    let Some(lost) = lost_at(entries_of(report, log(0)?)) else {
-        return Ok(false);
-    };
-    Ok(records_of(heard, log(1)?, lost) >= 39)
+    Ok(is_lost_unasked(entries_of(report, log(0)?)) && records_of(heard, log(1)?) >= 39)
 }
 
 #[test]
