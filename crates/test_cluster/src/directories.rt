@@ -1,35 +1,41 @@
-//! The nodes of epochs that come while threads run.
+//! What a directory answers of the nodes of epochs that come while threads run.
 ghost use Rattle.std.specs.Prelude.{◌≡◌, ◌<◌, length, map, IfOk};
 ghost use Rattle.fr_base.specs.declared.place.NodeId.TheVariants as node;
 ghost use Rattle.fr_runtime_station.specs.Named.{logs_named};
 
+use anyhow::{Context, bail};
 use fr_ask::Ask;
 use fr_base::{Epoch, InMemory, LogId, NodeId, Stamp, Tag, Version};
 use fr_log::{Log, LogAsk, Most};
 use fr_proxy::Sequencer;
 use fr_register::Cell;
-use fr_runtime_housing::{CallFault, Housed};
+use fr_runtime_housing::Housed;
 use fr_runtime_station::{Chosen, Directory, DirectoryFault, Station};
 use fr_state::Generation;
 use std::alloc::Global;
-use std::process::Abort;
+use std::io;
 use std::sync::Wait;
-use std::test::Fail;
-use test_cluster_scene::epoch;
 
 /// A directory in memory.
 type Plain = Directory<InMemory<Cell>, InMemory<Log>>;
 
-fn stamp(number: u64) -> Result<Stamp, Fail> {
-    Ok(Stamp::new(number).ok_or("a stamp")?)
+fn epoch(number: u64) -> anyhow::Result<Epoch> {
+    Epoch::new(number).context("no epoch")
+}
+
+fn stamp(number: u64) -> anyhow::Result<Stamp> {
+    Stamp::new(number).context("no stamp")
 }
 
 /// A generation of 2 logs that both hold each tag.
-fn generation(epoch: Epoch) -> Result<Generation, Fail>
+fn generation(epoch: Epoch) -> anyhow::Result<Generation>
     ensures epoch { IfOk result (λ generation. generation.epoch ≡ epoch) }
 {
-    let first = Version::new(1).ok_or("a version")?;
-    Ok(Generation::new(epoch, 2, 2, first, Version::ZERO).ok_or("a generation")?)
+    let first = Version::new(1).context("no version")?;
+    match Generation::new(epoch, 2, 2, first, Version::ZERO) {
+        Some(generation) => Ok(generation),
+        None => bail!("no generation"),
+    }
 }
 
 fn sequencer(alloc: Global, epoch: Epoch) -> Housed<InMemory<Sequencer>>
@@ -49,7 +55,7 @@ fn log(alloc: Global, epoch: Epoch, index: u8) -> Station<InMemory<Log>>
 }
 
 /// The logs of an epoch.
-fn logs(alloc: Global, epoch: Epoch) -> Result<Vec<Station<InMemory<Log>>>, Fail>
+fn logs(alloc: Global, epoch: Epoch) -> anyhow::Result<Vec<Station<InMemory<Log>>>>
     ensures named { IfOk result (λ logs. map (λ log. log.place) logs.items
         ≡ logs_named epoch (length logs.items)) }
 {
@@ -60,7 +66,7 @@ fn logs(alloc: Global, epoch: Epoch) -> Result<Vec<Station<InMemory<Log>>>, Fail
 }
 
 /// No cell, the nodes of epoch 257, and the epochs 769 and 513, which may come.
-fn directory(alloc: Global) -> Result<Plain, Fail> {
+fn directory(alloc: Global) -> anyhow::Result<Plain> {
     let first = epoch(257)?;
     let later = [epoch(769)?, epoch(513)?];
     let start = generation(first)?;
@@ -70,23 +76,30 @@ fn directory(alloc: Global) -> Result<Plain, Fail> {
     Ok(Directory::new(alloc, cells, logs, sequencer, start, &later)?)
 }
 
-/// The epochs that are chosen, each with its stamp, are these, and the newest is this one.
-fn has_epochs(
-    alloc: Global,
-    directory: &Plain,
-    wanted: &[(u64, u64)],
-    newest: u64,
-) -> Result<bool, Fail> {
-    let epochs = directory.epochs(alloc)?;
-    if epochs.len() != wanted.len() {
-        return Ok(false);
-    }
-    for (chosen, (epoch, stamp)) in epochs.iter().zip(wanted.iter()) {
-        if chosen.generation.epoch().get() != *epoch || chosen.stamp.get() != *stamp {
-            return Ok(false);
+/// Prints what directories answer.
+pub(crate) fn show<R: Wait + Print>(rt: &R, alloc: Global) -> anyhow::Result<()> {
+    show_epochs(rt, alloc, &directory(alloc)?)?;
+    show_logs(rt, alloc, directory(alloc)?)?;
+    show_refusals(rt, alloc, &directory(alloc)?)?;
+    show_crashes(rt, alloc, &directory(alloc)?)
+}
+
+/// Epochs that are chosen, each at a stamp. Epoch 513 comes once, and 1025 is not one that may come.
+static COMING: [&[(u64, u64)]; 4] = [&[], &[(769, 7)], &[(513, 9)], &[(513, 11), (1025, 12)]];
+
+/// The epochs that are chosen, each with its stamp, and the greatest, which is the newest whichever came last.
+fn show_epochs<R: Wait + Print>(rt: &R, alloc: Global, directory: &Plain) -> anyhow::Result<()> {
+    for chosen in &COMING {
+        for &(number, at) in *chosen {
+            choose(rt, alloc, directory, number, at)?;
         }
+        show_chosen(rt, alloc, directory)?;
     }
-    Ok(directory.newest().generation.epoch().get() == newest)
+    for number in [513, 1025] {
+        let is_there = directory.sequencer(epoch(number)?).is_some();
+        println!(rt; "the sequencer of {number} is there: {is_there}")?;
+    }
+    Ok(())
 }
 
 fn choose<R: Wait>(
@@ -95,7 +108,7 @@ fn choose<R: Wait>(
     directory: &Plain,
     number: u64,
     at: u64,
-) -> Result<(), Fail> {
+) -> anyhow::Result<()> {
     let epoch = epoch(number)?;
     let chosen = Chosen {
         generation: generation(epoch)?,
@@ -105,47 +118,21 @@ fn choose<R: Wait>(
     Ok(())
 }
 
-/// Epochs that are chosen, each at a stamp; all that are then, each with its stamp; and the newest.
-type Coming = (&'static [(u64, u64)], &'static [(u64, u64)], u64);
-
-/// Epoch 513 comes once, and 1025 is not one that may come.
-static COMING: [Coming; 4] = [
-    (&[], &[(257, 0)], 257),
-    (&[(769, 7)], &[(257, 0), (769, 7)], 769),
-    (&[(513, 9)], &[(257, 0), (769, 7), (513, 9)], 769),
-    (
-        &[(513, 11), (1025, 12)],
-        &[(257, 0), (769, 7), (513, 9)],
-        769,
-    ),
-];
-
-/// Whether these are the epochs once those are chosen.
-fn comes<R: Wait>(rt: &R, alloc: Global, directory: &Plain, coming: &Coming) -> Result<bool, Fail> {
-    let (chosen, wanted, newest) = *coming;
-    for (number, at) in chosen {
-        choose(rt, alloc, directory, *number, *at)?;
+fn show_chosen<R: Print>(rt: &R, alloc: Global, directory: &Plain) -> anyhow::Result<()> {
+    print!(rt; "chosen, each at its stamp:")?;
+    let epochs = directory.epochs(alloc)?;
+    for chosen in epochs.iter() {
+        print!(rt;
+            " {} {},",
+            chosen.generation.epoch().get(),
+            chosen.stamp.get()
+        )?;
     }
-    has_epochs(alloc, directory, wanted, newest)
-}
-
-/// Asserts that epochs come, the greatest of which is the newest, whichever came last.
-fn come_and_go<R: Wait + Abort>(rt: &R, alloc: Global, directory: &Plain) -> Result<(), Fail> {
-    for coming in &COMING {
-        assert!(rt; comes(rt, alloc, directory, coming)?);
-    }
-    assert!(rt; directory.sequencer(epoch(513)?).is_some());
-    assert!(rt; directory.sequencer(epoch(1025)?).is_none());
+    println!(rt; " newest {}", directory.newest().generation.epoch().get())?;
     Ok(())
 }
 
-#[test]
-fn the_greatest_epoch_is_the_newest(rt: HostRuntime) -> Result<(), Fail> {
-    let directory = directory(rt.alloc())?;
-    come_and_go(&rt, rt.alloc(), &directory)
-}
-
-/// The stamp at which a node answers a peek of a caller that has seen this one, or why it does not.
+/// The stamp at which a node answers a peek of a caller that has seen one, or why it does not.
 fn asked<R: Wait>(
     rt: &R,
     alloc: Global,
@@ -153,144 +140,116 @@ fn asked<R: Wait>(
     seen: u64,
     to: NodeId,
     epoch: Epoch,
-) -> Result<Result<u64, DirectoryFault>, Fail> {
-    let tag = Tag::new(0).ok_or("a tag")?;
-    let most = Most::new(1).ok_or("a most")?;
-    let after = Version::ZERO;
+) -> anyhow::Result<Result<u64, DirectoryFault>> {
+    let tag = Tag::new(0).context("no tag")?;
     let ask = Ask::Log(LogAsk::Peek {
         epoch,
         tag,
-        after,
-        most,
+        after: Version::ZERO,
+        most: Most::new(1).context("no most")?,
     });
-    let from = NodeId::Storage { tag };
-    let told = directory.call(rt, alloc, stamp(seen)?, from, to, ask);
-    match &told {
-        Ok((at, _)) => Ok(Ok(at.get())),
-        Err(fault) => Ok(Err(*fault)),
+    let told = directory.call(rt, alloc, stamp(seen)?, NodeId::Storage { tag }, to, ask);
+    Ok(stamp_of(&told))
+}
+
+fn stamp_of<T>(told: &Result<(Stamp, T), DirectoryFault>) -> Result<u64, DirectoryFault> {
+    match told {
+        Ok((at, _)) => Ok(at.get()),
+        Err(fault) => Err(*fault),
     }
 }
 
-/// The same of a log, for a caller that has seen stamp 3.
-fn answers<R: Wait>(
-    rt: &R,
-    alloc: Global,
-    directory: &Plain,
-    epoch: Epoch,
-    index: u8,
-) -> Result<Result<u64, DirectoryFault>, Fail> {
-    asked(rt, alloc, directory, 3, NodeId::Log { epoch, index }, epoch)
+fn show_answer<R: Print>(rt: &R, answer: Result<u64, DirectoryFault>) -> io::Result<()> {
+    match answer {
+        Ok(at) => println!(rt; "{at}"),
+        Err(fault) => println!(rt; "{fault:?}"),
+    }
 }
 
-/// An epoch, a log's number, and the stamp at which it answers such a caller, or none if it is not there.
-type Answering = (u64, u8, Option<u64>);
-
-/// Logs of the start answer at once, one more than there are never, nor one of an epoch that may not come.
-static BEFORE: [Answering; 4] = [
-    (257, 0, Some(4)),
-    (257, 2, None),
-    (1025, 0, None),
-    (513, 0, None),
-];
-
-/// Those of a later epoch, once they came at stamp 8.
-static AFTER: [Answering; 2] = [(513, 1, Some(9)), (513, 2, None)];
-
-/// Asserts that logs answer so.
-fn answer_so<R: Wait + Abort>(
+/// What logs answer a caller that has seen stamp 3.
+fn show_answers<R: Wait + Print>(
     rt: &R,
     alloc: Global,
     directory: &Plain,
-    rows: &[Answering],
-) -> Result<(), Fail> {
-    for (number, index, wanted) in rows {
-        let found = answers(rt, alloc, directory, epoch(*number)?, *index)?;
-        assert!(rt;
-            found == wanted.ok_or(DirectoryFault::NotThere),
-            "{number} {index}"
-        );
+    logs: &[(u64, u8)],
+) -> anyhow::Result<()> {
+    for &(number, index) in logs {
+        let epoch = epoch(number)?;
+        let answer = asked(rt, alloc, directory, 3, NodeId::Log { epoch, index }, epoch)?;
+        print!(rt; "log {index} of {number}: ")?;
+        show_answer(rt, answer)?;
     }
     Ok(())
 }
 
-/// Logs of a later epoch answer nothing until they are there, and from then on above the stamp at which they came.
-fn logs_come<R: Wait + Abort>(rt: &R, alloc: Global, directory: &Plain) -> Result<(), Fail> {
+/// Logs of the start answer at once; one more than there are never, nor one of an epoch that may not come. Those of a
+/// later epoch answer once they came at stamp 8, and above it. The journals are then those of two logs and a sequencer
+/// of the start, entries or none, and that of the later log that was asked.
+fn show_logs<R: Wait + Print>(rt: &R, alloc: Global, directory: Plain) -> anyhow::Result<()> {
+    show_answers(
+        rt,
+        alloc,
+        &directory,
+        &[(257, 0), (257, 2), (1025, 0), (513, 0)],
+    )?;
+    come(rt, alloc, &directory)?;
+    show_answers(rt, alloc, &directory, &[(513, 1), (513, 2)])?;
+    let journals = directory.into_journals(alloc)?;
+    println!(rt; "journals: {}", journals.len())?;
+    Ok(())
+}
+
+fn come<R: Wait + Print>(rt: &R, alloc: Global, directory: &Plain) -> anyhow::Result<()> {
     let (later, at) = (epoch(513)?, stamp(8)?);
-    answer_so(rt, alloc, directory, &BEFORE)?;
     directory.publish_logs(rt, later, logs(alloc, later)?, at);
-    answer_so(rt, alloc, directory, &AFTER)?;
     let id = LogId {
         epoch: later,
         index: 1,
     };
-    assert!(rt; directory.log(id).is_some());
+    println!(rt; "log 1 of 513 is there: {}", directory.log(id).is_some())?;
     Ok(())
 }
 
-/// How many journals a directory ends with: those of 2 logs and a sequencer of the start, entries or none, and that of a
-/// later log that was asked.
-#[test]
-fn logs_are_there_from_their_stamp_on(rt: HostRuntime) -> Result<(), Fail> {
-    let directory = directory(rt.alloc())?;
-    logs_come(&rt, rt.alloc(), &directory)?;
-    let journals = directory.into_journals(rt.alloc())?;
-    assert_eq!(rt; journals.len(), 4);
-    Ok(())
-}
-
-/// Asks of another kind, to cells that are not there, and once no stamp is left, each have their fault; so have crashes.
-fn refuses<R: Wait + Abort>(rt: &R, alloc: Global, directory: &Plain) -> Result<(), Fail> {
-    let first = epoch(257)?;
+/// Asks of another kind, to cells that are not there, and once no stamp is left, each have their fault.
+fn show_refusals<R: Wait + Print>(rt: &R, alloc: Global, directory: &Plain) -> anyhow::Result<()> {
+    let epoch = epoch(257)?;
     let cell = NodeId::Cell { index: 0 };
-    let log = NodeId::Log {
-        epoch: first,
-        index: 0,
-    };
-    let proxy = NodeId::Proxy {
-        epoch: first,
-        number: 0,
-    };
+    let log = NodeId::Log { epoch, index: 0 };
+    let proxy = NodeId::Proxy { epoch, number: 0 };
     let last = (1 << 40) - 1;
-    let spent = DirectoryFault::Call(CallFault::StampsSpent);
-    let asks = [
-        (3, cell, Err(DirectoryFault::NotAsked)),
-        (3, proxy, Err(DirectoryFault::NotAsked)),
-        (last, log, Err(spent)),
-        (last - 1, log, Ok(last)),
-        (3, log, Err(spent)),
-    ];
-    for (seen, to, wanted) in &asks {
-        assert!(rt; asked(rt, alloc, directory, *seen, *to, first)? == *wanted);
+    for (seen, to) in [
+        (3, cell),
+        (3, proxy),
+        (last, log),
+        (last - 1, log),
+        (3, log),
+    ] {
+        show_answer(rt, asked(rt, alloc, directory, seen, to, epoch)?)?;
     }
-    let crashes = [
-        (cell, DirectoryFault::NotThere),
-        (proxy, DirectoryFault::NotAsked),
-        (log, spent),
-    ];
-    for (node, wanted) in &crashes {
-        assert!(rt; directory.crash(rt, alloc, stamp(3)?, *node) == Err(*wanted));
+    for node in [cell, proxy, log] {
+        show_crash(rt, alloc, directory, node)?;
     }
     Ok(())
 }
 
-/// What a directory does not answer it refuses by name.
-#[test]
-fn refusals_are_named(rt: HostRuntime) -> Result<(), Fail> {
-    let directory = directory(rt.alloc())?;
-    refuses(&rt, rt.alloc(), &directory)
+/// The stamp of a node's crash, or why it does not crash.
+fn show_crash<R: Wait + Print>(
+    rt: &R,
+    alloc: Global,
+    directory: &Plain,
+    node: NodeId,
+) -> anyhow::Result<()> {
+    print!(rt; "crashed: ")?;
+    match directory.crash(rt, alloc, stamp(3)?, node) {
+        Ok(at) => show_answer(rt, Ok(at.get()))?,
+        Err(fault) => show_answer(rt, Err(fault))?,
+    }
+    Ok(())
 }
 
 /// A sequencer that crashed is lost: it answers that from then on, asked or crashed again.
-fn is_lost<R: Wait + Abort>(rt: &R, alloc: Global, directory: &Plain) -> Result<(), Fail> {
+fn show_crashes<R: Wait + Print>(rt: &R, alloc: Global, directory: &Plain) -> anyhow::Result<()> {
     let node = NodeId::Sequencer { epoch: epoch(257)? };
-    let lost = DirectoryFault::Call(CallFault::Lost);
-    assert!(rt; directory.crash(rt, alloc, stamp(3)?, node) == Ok(stamp(4)?));
-    assert!(rt; directory.crash(rt, alloc, stamp(3)?, node) == Err(lost));
-    Ok(())
-}
-
-#[test]
-fn a_sequencer_that_crashed_is_lost(rt: HostRuntime) -> Result<(), Fail> {
-    let directory = directory(rt.alloc())?;
-    is_lost(&rt, rt.alloc(), &directory)
+    show_crash(rt, alloc, directory, node)?;
+    show_crash(rt, alloc, directory, node)
 }
