@@ -2,7 +2,7 @@
 """bench/draws.py
 
 Works out what a storm draws, from the published definitions of PCG32 (O'Neill's reference code in C) and of Rust's
-`seed_from_u64` (rand_core), and prints the tables that crates/test_cluster compares. It first checks itself by published
+`seed_from_u64` (rand_core), and prints the tables that tests/clusters compares. It first checks itself by published
 values. No code of this repository is used."""
 
 MASK = (1 << 64) - 1

@@ -159,7 +159,7 @@ fn stamp_of<T>(told: &Result<(Stamp, T), DirectoryFault>) -> Result<u64, Directo
     }
 }
 
-fn show_answer<R: Print>(rt: &R, answer: Result<u64, DirectoryFault>) -> io::Result<()> {
+fn show_answer<R: Print>(rt: &R, answer: &Result<u64, DirectoryFault>) -> io::Result<()> {
     match answer {
         Ok(at) => println!(rt; "{at}"),
         Err(fault) => println!(rt; "{fault:?}"),
@@ -177,7 +177,7 @@ fn show_answers<R: Wait + Print>(
         let epoch = epoch(number)?;
         let answer = asked(rt, alloc, directory, 3, NodeId::Log { epoch, index }, epoch)?;
         print!(rt; "log {index} of {number}: ")?;
-        show_answer(rt, answer)?;
+        show_answer(rt, &answer)?;
     }
     Ok(())
 }
@@ -217,16 +217,17 @@ fn show_refusals<R: Wait + Print>(rt: &R, alloc: Global, directory: &Plain) -> a
     let log = NodeId::Log { epoch, index: 0 };
     let proxy = NodeId::Proxy { epoch, number: 0 };
     let last = (1 << 40) - 1;
-    for (seen, to) in [
+    let asks = [
         (3, cell),
         (3, proxy),
         (last, log),
         (last - 1, log),
         (3, log),
-    ] {
-        show_answer(rt, asked(rt, alloc, directory, seen, to, epoch)?)?;
+    ];
+    for (seen, to) in &asks {
+        show_answer(rt, &asked(rt, alloc, directory, *seen, *to, epoch)?)?;
     }
-    for node in [cell, proxy, log] {
+    for node in &[cell, proxy, log] {
         show_crash(rt, alloc, directory, node)?;
     }
     Ok(())
@@ -237,12 +238,12 @@ fn show_crash<R: Wait + Print>(
     rt: &R,
     alloc: Global,
     directory: &Plain,
-    node: NodeId,
+    node: &NodeId,
 ) -> anyhow::Result<()> {
     print!(rt; "crashed: ")?;
-    match directory.crash(rt, alloc, stamp(3)?, node) {
-        Ok(at) => show_answer(rt, Ok(at.get()))?,
-        Err(fault) => show_answer(rt, Err(fault))?,
+    match directory.crash(rt, alloc, stamp(3)?, *node) {
+        Ok(at) => println!(rt; "{}", at.get())?,
+        Err(fault) => println!(rt; "{fault:?}")?,
     }
     Ok(())
 }
@@ -250,6 +251,6 @@ fn show_crash<R: Wait + Print>(
 /// A sequencer that crashed is lost: it answers that from then on, asked or crashed again.
 fn show_crashes<R: Wait + Print>(rt: &R, alloc: Global, directory: &Plain) -> anyhow::Result<()> {
     let node = NodeId::Sequencer { epoch: epoch(257)? };
-    show_crash(rt, alloc, directory, node)?;
-    show_crash(rt, alloc, directory, node)
+    show_crash(rt, alloc, directory, &node)?;
+    show_crash(rt, alloc, directory, &node)
 }

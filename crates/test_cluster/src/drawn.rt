@@ -1,17 +1,16 @@
-//! What storms and frail racks draw, the lines that `bench/draws.py` works out first, and what batches workloads give.
+//! What storms and frail racks draw, the lines that `bench/draws.py` works out first.
 ghost use Rattle.std.specs.Prelude.{◌≡◌, ◌≤◌};
 
+use crate::given::{show_drawn, show_numbered, show_told};
 use anyhow::Context;
 use fr_ask::Ask;
 use fr_base::{Ballot, Epoch, NodeId, Version};
 use fr_device::{Device, DeviceFault, MemoryDevice};
-use fr_mutation::{AtomicOp, Mutation};
-use fr_proxy::Outcome;
 use fr_register::CellAsk;
-use fr_runtime::{Blow, Chosen, Faults, Order, Orders, Verdict, Workload};
+use fr_runtime::{Blow, Chosen, Faults, Verdict};
 use fr_runtime_frail::{FrailDevice, Frailty, Fuse, RefusedCalls};
 use fr_runtime_station::first_stamp;
-use fr_runtime_storm::{DrawnOrders, Draws, Storm, word_of};
+use fr_runtime_storm::{Draws, Storm, word_of};
 use fr_state::Generation;
 use std::alloc::Global;
 use std::io;
@@ -127,7 +126,7 @@ fn show_greatest<R: Print>(rt: &R) -> io::Result<()> {
 }
 
 /// What befalls a node.
-fn show_blow<R: Print>(rt: &R, blow: Option<Blow>) -> io::Result<()> {
+fn show_blow<R: Print>(rt: &R, blow: &Option<Blow>) -> io::Result<()> {
     match blow {
         None => print!(rt; " Nothing"),
         Some(Blow::Lose { log }) => print!(rt; " Lose({}, {})", log.epoch.get(), log.index),
@@ -135,7 +134,7 @@ fn show_blow<R: Print>(rt: &R, blow: Option<Blow>) -> io::Result<()> {
     }
 }
 
-fn show_crash<R: Print>(rt: &R, node: NodeId) -> io::Result<()> {
+fn show_crash<R: Print>(rt: &R, node: &NodeId) -> io::Result<()> {
     match node {
         NodeId::Cell { index } => print!(rt; " Crash(Cell({index}))"),
         NodeId::Log { epoch, index } => print!(rt; " Crash(Log({}, {index}))", epoch.get()),
@@ -145,14 +144,14 @@ fn show_crash<R: Print>(rt: &R, node: NodeId) -> io::Result<()> {
 }
 
 /// What befalls a node of the start.
-fn show_first_blow<R: Print>(rt: &R, blow: Option<Blow>) -> io::Result<()> {
+fn show_first_blow<R: Print>(rt: &R, blow: &Option<Blow>) -> io::Result<()> {
     match blow {
         Some(Blow::Crash { node }) => show_first_crash(rt, node),
         _ => show_blow(rt, blow),
     }
 }
 
-fn show_first_crash<R: Print>(rt: &R, node: NodeId) -> io::Result<()> {
+fn show_first_crash<R: Print>(rt: &R, node: &NodeId) -> io::Result<()> {
     match node {
         NodeId::Cell { index } => print!(rt; " Cell({index})"),
         NodeId::Log { epoch, index } if epoch.get() == 257 => print!(rt; " Log({index})"),
@@ -171,7 +170,7 @@ fn show_crashes<R: Print>(rt: &R, strength: u16, turns: u32) -> io::Result<()> {
     for turn in 1..=turns {
         let blow = storm.strikes(turn, &[]);
         if turn % 64 == 0 || blow.is_some() {
-            show_first_blow(rt, blow)?;
+            show_first_blow(rt, &blow)?;
         }
     }
     println!(rt; "")
@@ -203,7 +202,7 @@ fn show_blows<R: Print>(rt: &R) -> anyhow::Result<()> {
         if turn % 64 != 0 {
             let blow = storm.strikes(turn, &all);
             if turn % 64 == 32 || blow.is_some() {
-                show_blow(rt, blow)?;
+                show_blow(rt, &blow)?;
             }
         }
     }
@@ -214,12 +213,12 @@ fn show_blows<R: Print>(rt: &R) -> anyhow::Result<()> {
 fn show_gone<R: Print>(rt: &R) -> anyhow::Result<()> {
     println!(rt; "whether nodes that ask are gone, of seed 3 and 100 crashes:")?;
     let epoch = Epoch::new(257).context("no epoch")?;
-    show_gone_at(rt, NodeId::Proxy { epoch, number: 0 }, 64, 16 * 64)?;
+    show_gone_at(rt, &NodeId::Proxy { epoch, number: 0 }, 64, 16 * 64)?;
     Ok(())
 }
 
 /// At each 64th turn of a proxy's thread, and at each 7th of a recoverer's, one draw says whether it is gone.
-fn show_gone_at<R: Print>(rt: &R, node: NodeId, every: u32, turns: u32) -> io::Result<()>
+fn show_gone_at<R: Print>(rt: &R, node: &NodeId, every: u32, turns: u32) -> io::Result<()>
     requires { 1 ≤ every }
 {
     let storm = Storm::new(Draws {
@@ -229,7 +228,7 @@ fn show_gone_at<R: Print>(rt: &R, node: NodeId, every: u32, turns: u32) -> io::R
     });
     print!(rt; " ")?;
     for turn in 1..=turns {
-        let is_gone = storm.ends(node, turn);
+        let is_gone = storm.ends(*node, turn);
         if turn % every == 0 || is_gone {
             print!(rt; " {}", if is_gone { "True" } else { "False" })?;
         }
@@ -240,7 +239,7 @@ fn show_gone_at<R: Print>(rt: &R, node: NodeId, every: u32, turns: u32) -> io::R
 fn show_gone_recoverer<R: Print>(rt: &R) -> anyhow::Result<()> {
     println!(rt; "whether a recoverer is gone at each 7th turn, of seed 3 and 100 crashes:")?;
     let ballot = Epoch::new(513).context("no epoch")?.ballot();
-    show_gone_at(rt, NodeId::Recoverer { ballot }, 7, 16 * 7)?;
+    show_gone_at(rt, &NodeId::Recoverer { ballot }, 7, 16 * 7)?;
     Ok(())
 }
 
@@ -264,96 +263,6 @@ fn show_fuses<R: Print>(rt: &R) -> io::Result<()> {
         print!(rt; " {}", every(frailty.fuse(*number)))?;
     }
     println!(rt; "")
-}
-
-/// The batches that a workload in a storm draws, and no more than there are.
-fn show_drawn<R: Print>(
-    rt: &R,
-    alloc: Global,
-    seed: u64,
-    number: u8,
-    shards: u8,
-    many: u32,
-) -> anyhow::Result<()>
-    requires some { 1 ≤ shards }
-    requires few { shards ≤ 32 }
-{
-    print!(rt; "batches of workload {number} in a storm of seed {seed}, ")?;
-    println!(rt; "over {shards} shards:")?;
-    let mut work = DrawnOrders::new(alloc, seed, number, shards, many);
-    hand_out(&mut work, many)?;
-    show_orders(rt, work.given())
-}
-
-/// Has a workload hand out so many batches, and asks it for one more.
-fn hand_out<W: Workload>(work: &mut W, many: u32) -> anyhow::Result<()> {
-    for _ in 0..=many {
-        let _next = work.next()?;
-    }
-    Ok(())
-}
-
-/// Batches of a set each, of a workload without a storm.
-fn show_numbered<R: Print>(rt: &R, alloc: Global) -> anyhow::Result<()> {
-    println!(rt; "batches of workload 5 without a storm, over 3 shards:")?;
-    let mut work = Orders::new(alloc, 5, 3, 5);
-    hand_out(&mut work, 5)?;
-    show_orders(rt, work.given())
-}
-
-/// Batches of a step of 1 and one mutation.
-fn show_orders<R: Print>(rt: &R, orders: &[Order]) -> anyhow::Result<()> {
-    for order in orders {
-        match order.batch.mutations() {
-            [mutation] if order.step.get() == 1 => show_mutation(rt, mutation)?,
-            _ => println!(rt; "  another step, or more than one mutation")?,
-        }
-    }
-    Ok(())
-}
-
-fn show_mutation<R: Print>(rt: &R, mutation: &Mutation) -> io::Result<()> {
-    match mutation {
-        Mutation::Set { key, value } => show_line(rt, "set", key.as_slice(), value.as_slice()),
-        Mutation::Clear { begin, end } => show_line(rt, "clear", begin.as_slice(), end.as_slice()),
-        Mutation::Atomic { op, key, param } => {
-            show_line(rt, name_of(*op), key.as_slice(), param.as_slice())
-        }
-    }
-}
-
-fn name_of(op: AtomicOp) -> &'static str {
-    match op {
-        AtomicOp::Add => "add",
-        AtomicOp::Xor => "xor",
-        _ => "other",
-    }
-}
-
-fn show_line<R: Print>(rt: &R, name: &str, first: &[u8], second: &[u8]) -> io::Result<()> {
-    print!(rt; "  {name} ")?;
-    show_hex(rt, first)?;
-    print!(rt; " ")?;
-    show_hex(rt, second)?;
-    println!(rt; "")
-}
-
-fn show_hex<R: Print>(rt: &R, bytes: &[u8]) -> io::Result<()> {
-    for byte in bytes {
-        print!(rt; "{byte:02x}")?;
-    }
-    Ok(())
-}
-
-/// A workload keeps what it is told.
-fn show_told<R: Print>(rt: &R, alloc: Global) -> anyhow::Result<()> {
-    let mut work = DrawnOrders::new(alloc, 1, 0, 3, 1);
-    work.told(Outcome::Ended)?;
-    work.told(Outcome::Waiting)?;
-    let told = [Outcome::Ended, Outcome::Waiting];
-    let is_kept = work.heard() == told.as_slice();
-    println!(rt; "a workload keeps what it is told: {is_kept}")?;
-    Ok(())
 }
 
 /// How many of 200 asks pass, and how many of them, or of what is told of them, come 1 to 64 turns late.

@@ -6,6 +6,7 @@
 mod directories;
 mod drawn;
 mod events;
+mod given;
 mod racks;
 mod rows;
 mod run;

@@ -60,14 +60,14 @@ fn counted(counter: &AtomicU64) -> u64 {
 
 impl<R: Wait> Script<'_, R> {
     /// What happens to an ask by a rule, if there is one.
-    fn ruled(&self, to: NodeId, ask: &Ask) -> Option<Verdict> {
+    fn ruled(&self, to: &NodeId, ask: &Ask) -> Option<Verdict> {
         let Ask::Log(ask) = ask else {
             return None;
         };
         let NodeId::Log { epoch, index } = to else {
             return None;
         };
-        let epoch = epoch.get();
+        let (epoch, index) = (epoch.get(), *index);
         self.awaits(epoch, index, ask);
         let kind = kind_of(ask);
         for rule in self.row.rules.iter() {
@@ -171,7 +171,8 @@ impl<R: Wait> Faults for Script<'_, R> {
     ghost begun = { λ s ballot turn. cond s.is_at_once (turn == 1) (turn + 100 == 100 * (ballot / 256)) };
 
     fn verdict(&self, to: NodeId, ask: &Ask) -> Verdict {
-        match self.ruled(to, ask) {
+        let ruled = self.ruled(&to, ask);
+        match ruled {
             Some(verdict) => verdict,
             None => self.storm.verdict(to, ask),
         }
