@@ -11,6 +11,7 @@ mod racks;
 mod rows;
 mod run;
 mod script;
+mod shown;
 mod watched;
 
 use crate::rows::Row;

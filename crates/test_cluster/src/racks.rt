@@ -151,6 +151,30 @@ pub(crate) struct FrailRack<'a> {
     pub(crate) reopened: &'a AtomicU64,
 }
 
+impl FrailRack<'_> {
+    /// Whether a cell is the frail one.
+    fn is_frail(&self, index: u8) -> bool {
+        match self.frail {
+            Frail::Cell(other) => other == index,
+            _ => false,
+        }
+    }
+
+    /// Why a log is refused, if it is.
+    fn fault_of_log(&self, id: &LogId) -> Option<NodeFault> {
+        match self.frail {
+            Frail::NoLog(epoch, index, fault) => {
+                if id.epoch.get() == epoch && id.index == index {
+                    Some(fault)
+                } else {
+                    None
+                }
+            }
+            _ => None,
+        }
+    }
+}
+
 impl<'a> Rack for FrailRack<'a> {
     type Cell = FrailCell<'a>;
 
@@ -165,9 +189,9 @@ impl<'a> Rack for FrailRack<'a> {
     fn cell(&self, alloc: Global, index: u8) -> Result<FrailCell<'a>, NodeFault> {
         match self.frail {
             Frail::NoCell(other, fault) if other == index => Err(fault),
-            frail => Ok(FrailCell {
+            _ => Ok(FrailCell {
                 cell: InMemory::new(Cell::new(alloc)),
-                is_frail: matches!(frail, Frail::Cell(other) if other == index),
+                is_frail: self.is_frail(index),
                 held: None,
                 failures: 0,
                 reopened: self.reopened,
@@ -176,11 +200,9 @@ impl<'a> Rack for FrailRack<'a> {
     }
 
     fn log(&self, alloc: Global, id: LogId, m: u8, k: u8) -> Result<InMemory<Log>, NodeFault> {
-        match self.frail {
-            Frail::NoLog(epoch, index, fault) if id.epoch.get() == epoch && id.index == index => {
-                Err(fault)
-            }
-            _ => Ok(InMemory::new(Log::new(alloc, id, m, k))),
+        match self.fault_of_log(&id) {
+            Some(fault) => Err(fault),
+            None => Ok(InMemory::new(Log::new(alloc, id, m, k))),
         }
     }
 

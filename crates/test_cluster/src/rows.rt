@@ -70,7 +70,7 @@ pub(crate) enum Struck {
 }
 
 /// Nodes whose journals are printed.
-#[derive(Clone, Copy)]
+#[derive(Clone, Copy, PartialEq, Eq)]
 pub(crate) enum Shown {
     /// The log of this number of epoch 257.
     Log(u8),

@@ -1,19 +1,19 @@
 //! Runs of the table over racks, and what is printed of them.
 use crate::events::{Event, Events};
 use crate::racks::{Fails, Frail, FrailRack, RackWord, files};
-use crate::rows::{Numbers, Recovery, Row, Shown, Struck};
+use crate::rows::{Numbers, Recovery, Row, Struck};
 use crate::script::Script;
+use crate::shown::{of_these, show_told};
 use crate::watched::{Watch, WatchedRack};
 use anyhow::{Context, bail};
 use fr_audit_script::write_script;
-use fr_base::{Ballot, Bytes, Epoch, Memory, NodeId, Shape, Step};
+use fr_base::{Ballot, Bytes, Epoch, Memory, Shape, Step};
 use fr_mutation::Batch;
 use fr_proxy::Outcome;
 use fr_runtime::{Cluster, Config, Orders, PlainRack, Rack, Report, RunFault, Workload};
 use fr_runtime_disks::DiskRack;
 use fr_runtime_storm::{DrawnOrders, Draws, Storm};
 use std::alloc::Global;
-use std::io;
 use std::sync::Wait;
 use std::sync::atomic::{AtomicU64, Ordering};
 use std::thread::Threads;
@@ -145,7 +145,8 @@ impl<W: Workload, R: Wait> Workload for Staged<'_, W, R> {
     ghost heard = { λ s. W.heard s.work };
 
     fn next(&mut self) -> Result<Option<(Step, Batch)>, Memory> {
-        self.awaits();
+        awaits(self.row, self.events, self.next);
+        self.next = self.next.saturating_add(1);
         let next = self.work.next()?;
         if next.is_some() {
             self.given = self.given.saturating_add(1);
@@ -168,19 +169,15 @@ impl<'a, W: Workload, R: Wait> Staged<'a, W, R> {
             given: 0,
         }
     }
+}
 
-    /// Waits for what the next batch waits for.
-    fn awaits(&mut self)
-        ensures work { self.new.work ≡ self.old.work }
-    {
-        let number = self.next;
-        self.events.raise(Event::Due(number));
-        for hold in self.row.holds.iter() {
-            if hold.0 == number {
-                let _happened = self.events.wait(hold.1);
-            }
+/// Waits for what the batch of this number waits for.
+fn awaits<R: Wait>(row: &Row, events: &Events<'_, R>, number: u32) {
+    events.raise(Event::Due(number));
+    for (before, event) in row.holds.iter() {
+        if *before == number {
+            let _happened = events.wait(*event);
         }
-        self.next = number.saturating_add(1);
     }
 }
 
@@ -349,47 +346,11 @@ fn tell<W: Workload, R: Print>(
         world,
         told,
     } = report;
-    let mut shown = Vec::new(alloc);
-    for journal in journals {
-        if is_shown(row.shown.as_slice(), journal.node()) {
-            shown.push(journal)?;
-        }
-    }
+    let shown = of_these(alloc, journals, row.shown.as_slice())?;
     let script = write_script(alloc, world.config(), shown.as_slice())?;
     println!(rt; "{}", str::from_utf8(script.as_slice())?)?;
     for (work, told) in works.iter().zip(told.iter()) {
         show_told(rt, work.given, told.as_slice())?;
     }
     Ok(())
-}
-
-/// Whether the journal of a node is to be shown.
-fn is_shown(shown: &[Shown], node: NodeId) -> bool {
-    shown.is_empty() || shown.iter().any(|each| is_of(*each, node))
-}
-
-fn is_of(shown: Shown, node: NodeId) -> bool {
-    match shown {
-        Shown::Log(number) => {
-            matches!(node, NodeId::Log { epoch, index } if epoch.get() == 257 && index == number)
-        }
-        Shown::Proxy(own) => {
-            matches!(node, NodeId::Proxy { epoch, number } if epoch.get() == 257 && number == own)
-        }
-        Shown::Cells => matches!(node, NodeId::Cell { .. }),
-        Shown::Storages => matches!(node, NodeId::Storage { .. }),
-        Shown::Recoverers => matches!(node, NodeId::Recoverer { .. }),
-    }
-}
-
-fn show_told<R: Print>(rt: &R, given: u32, told: &[Outcome]) -> io::Result<()> {
-    print!(rt; "given: {given}, told:")?;
-    for outcome in told {
-        match outcome {
-            Outcome::Committed { version } => print!(rt; " {}", version.get())?,
-            Outcome::Ended => print!(rt; " ended")?,
-            Outcome::Waiting => print!(rt; " waiting")?,
-        }
-    }
-    println!(rt; "")
 }
