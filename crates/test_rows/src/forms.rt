@@ -7,8 +7,9 @@ use crate::object::write_text;
 use crate::subject::Scene;
 use crate::wrong::{NO_FORM, Wrong};
 use fr_ask::{Last, Named};
-use fr_base::Memory;
+use fr_base::{LogId, Memory, Shape};
 use fr_cli_json::tree::into_one_member;
+use fr_log::Log;
 use fr_tags::MAX_LOGS;
 use serde_json::Value;
 use std::alloc::Global;
@@ -23,6 +24,28 @@ pub fn read_sizes(fields: &Fields) -> Result<(u8, u8), Wrong>
     let k = fields.index("k", MAX_LOGS)?;
     if 1 <= k && k <= m && m <= MAX_LOGS {
         Ok((m, k))
+    } else {
+        Err(NO_FORM)
+    }
+}
+
+/// The shape of an object that has members for it besides so many others; none of one that has the others alone.
+pub fn read_shape_in(fields: &mut Fields, others: usize) -> Result<Option<Shape>, Wrong> {
+    if fields.of(others.saturating_add(2)).value("logs").is_err() {
+        fields.of(others);
+        return Ok(None);
+    }
+    let m = fields.index("logs", u8::MAX)?;
+    let shape = Shape::new(m, fields.index("degree", u8::MAX)?).ok_or(NO_FORM)?;
+    Ok(Some(shape))
+}
+
+/// The log of a number that was never asked.
+pub fn read_log(alloc: Global, fields: &Fields, index: u8) -> Result<Log, Wrong> {
+    let epoch = fields.epoch("epoch")?;
+    let (m, k) = read_sizes(fields)?;
+    if index < m {
+        Ok(Log::new(alloc, LogId { epoch, index }, m, k))
     } else {
         Err(NO_FORM)
     }

@@ -14,7 +14,10 @@ mod rows;
 mod subject;
 mod wrong;
 
-pub use forms::{of_nothing, played, read_sizes, write_last_state, write_name, write_state_of};
+pub use forms::{
+    of_nothing, played, read_log, read_shape_in, read_sizes, write_last_state, write_name,
+    write_state_of,
+};
 pub use fr_forms::ScriptFault;
 pub use play::{Player, play_file};
 pub use report::ScenarioReport;
