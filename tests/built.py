@@ -2,9 +2,11 @@
 
 import fcntl
 import os
+import re
 import shutil
 import subprocess
 import sys
+import tempfile
 import time
 
 sys.dont_write_bytecode = True
@@ -131,3 +133,18 @@ class Checks:
     def end(self, what):
         print(f"{self.good} {what} as they are to be, {self.bad} not")
         sys.exit(1 if self.bad else 0)
+
+
+def name_changed_rows(checks, player, text, changes):
+    """That a player of scenarios names a row in which something else is wanted. Each change of a file's text is what it
+    is, a pattern, and what stands in place of what this finds first."""
+    with tempfile.TemporaryDirectory() as room:
+        for what, pattern, change in changes:
+            changed, count = re.subn(pattern, change, text, count=1, flags=re.M)
+            with open(f"{room}/changed.md", "w", encoding="utf-8") as it:
+                it.write(changed)
+            ran = subprocess.run([player], cwd=room, stdin=subprocess.DEVNULL, capture_output=True, text=True)
+            at = next((n for n, (a, b) in enumerate(zip(text.split("\n"), changed.split("\n")), 1) if a != b), 0)
+            told = [int(it) for it in re.findall(r"^changed\.md:(\d+): told", ran.stdout, re.M)]
+            is_so = count == 1 and ran.returncode == 1 and len(told) == 1 and 0 <= at - told[0] < 12
+            checks.check(is_so, what, "changed in line", at, "is told at", told, ran.returncode)

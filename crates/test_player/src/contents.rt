@@ -103,7 +103,8 @@ fn write_part(alloc: Global, part: Result<Batch, Memory>) -> Result<Value, Wrong
     Ok(value_of(alloc, &part?)?)
 }
 
-fn write_shard(alloc: Global, shard: &Shard) -> Result<Value, Wrong> {
+/// Where a shard begins and ends, with null for no end.
+pub(crate) fn write_shard(alloc: Global, shard: &Shard) -> Result<Value, Wrong> {
     let end = match &shard.end {
         Some(end) => hex_value(alloc, end.as_slice())?,
         None => Value::Null,

@@ -1,13 +1,14 @@
-//! What nodes are asked and tell, and their last states: some of a kind, copied and told apart.
+//! What nodes are asked and tell, their last states and their names: some of a kind, copied and told apart.
 use crate::subjects::Nodes;
 use fr_ask::{Ask, Last, Tell};
-use fr_base::Memory;
+use fr_base::{Memory, NodeId};
 use fr_forms::Formed;
 use fr_log::{LogAsk, LogTell, Peeked, PeekedRecord, Push, Seed, SeedRecord};
 use serde_json::Value;
 use std::alloc::Global;
+use std::cmp::Ordering;
 use test_rows::fields::items;
-use test_rows::json::{read_ask, read_last, read_tell, write_all};
+use test_rows::json::{read_ask, read_last, read_node, read_tell, write_all};
 use test_rows::{NO_FORM, Plays, RowAsk, Scene, ScriptFault, Wrong, no_such_word};
 
 /// What is copied and has a form.
@@ -23,6 +24,11 @@ pub(crate) trait Kind: Copied + PartialEq {
 
     /// What a copy of it gives back: the bodies of a push, the records of a seed or of what is peeked, each copied.
     fn parts(&self, _alloc: Global) -> Result<Value, Wrong> {
+        Err(NO_FORM)
+    }
+
+    /// How it stands to another one in the order of its kind.
+    fn stands_to(&self, _other: &Self) -> Result<Ordering, Wrong> {
         Err(NO_FORM)
     }
 }
@@ -55,28 +61,46 @@ impl<K: Kind> Plays<Several<K>> for Nodes {
     fn play_row(&self, several: &mut Several<K>, row: &mut RowAsk) -> Result<Value, Wrong> {
         let all = several.all.as_slice();
         match row.word {
-            "same" => same(row.alloc, all, K::read(row.alloc, row.take_all())),
+            "same" => read_numbers(row.alloc, all, row.take_all(), How::Same),
+            "before" => read_numbers(row.alloc, all, row.take_all(), How::Before),
+            "behind" => read_numbers(row.alloc, all, row.take_all(), How::Behind),
             "make" => write_made(K::read(row.alloc, row.take_all())),
             "parts" => write_parts(row.alloc, K::read(row.alloc, row.take_all())),
             "state" => write_copies(row.alloc, all),
-            _ => no_such_word("rows of asks, tells or lasts: same, make, parts, state"),
+            _ => no_such_word(
+                "rows of asks, tells, lasts or nodes: same, make, parts, before, behind, state",
+            ),
         }
     }
 }
 
-/// The numbers, from 0, of those whose copies are the same as another one.
-fn same<K: Kind>(alloc: Global, all: &[K], other: Result<K, ScriptFault>) -> Result<Value, Wrong> {
-    write_same(alloc, all, &other?)
-}
-
-fn write_same<K: Kind>(alloc: Global, all: &[K], other: &K) -> Result<Value, Wrong> {
+/// The numbers, from 0, of those that are the same as another one, before it or behind it.
+fn numbers<K: Kind>(alloc: Global, all: &[K], other: &K, how: How) -> Result<Value, Wrong> {
     let mut numbers = Vec::new(alloc);
     for (number, one) in all.iter().enumerate() {
-        if is_same(one.copied(), other)? {
+        let is_so = match how {
+            How::Same => is_same(one.copied(), other)?,
+            How::Before => one.stands_to(other)? == Ordering::Less,
+            How::Behind => one.stands_to(other)? == Ordering::Greater,
+        };
+        if is_so {
             numbers.push(Value::from(number))?;
         }
     }
     Ok(Value::Array(numbers))
+}
+
+/// How one stands to another.
+#[derive(Clone, Copy)]
+enum How {
+    Same,
+    Before,
+    Behind,
+}
+
+fn read_numbers<K: Kind>(alloc: Global, all: &[K], given: Value, how: How) -> Result<Value, Wrong> {
+    let other = K::read(alloc, given)?;
+    numbers(alloc, all, &other, how)
 }
 
 /// Whether a copy is another one, also by what says that they differ.
@@ -186,5 +210,26 @@ impl Copied for Last {
 impl Kind for Last {
     fn read(alloc: Global, given: Value) -> Result<Self, ScriptFault> {
         read_last(alloc, given)
+    }
+}
+
+impl Copied for NodeId {
+    fn copied(&self) -> Result<Self, Memory> {
+        Ok(*self)
+    }
+}
+
+impl Kind for NodeId {
+    fn read(alloc: Global, given: Value) -> Result<Self, ScriptFault> {
+        read_node(alloc, given)
+    }
+
+    fn stands_to(&self, other: &Self) -> Result<Ordering, Wrong> {
+        let order = self.order(*other);
+        if self.is_same(*other) == (order == Ordering::Equal) {
+            Ok(order)
+        } else {
+            Err(Wrong::Form("a node is another one that stands elsewhere"))
+        }
     }
 }

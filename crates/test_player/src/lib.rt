@@ -15,5 +15,5 @@ mod subjects;
 mod tails;
 mod tallies;
 
-pub use storages::write_read;
+pub use storages::{fault_name, write_read};
 pub use subjects::play;

@@ -2,7 +2,7 @@
 ghost use Rattle.std.specs.Prelude.{◌≡◌, OnOk};
 
 use crate::subjects::Nodes;
-use fr_base::{LogId, Machine, Memory};
+use fr_base::{Machine, Memory};
 use fr_forms::Formed;
 use fr_log::laws::place_law;
 use fr_log::{Log, LogAsk, LogTell};
@@ -14,7 +14,7 @@ use test_rows::fields::Fields;
 use test_rows::json::{read_cell_ask, read_log_ask, read_seq_ask};
 use test_rows::object::ObjectMembers;
 use test_rows::{
-    NO_FORM, Plays, RowAsk, Scene, ScriptFault, Wrong, no_such_word, of_nothing, read_sizes, told,
+    Plays, RowAsk, Scene, ScriptFault, Wrong, no_such_word, of_nothing, read_log, told,
     write_state_of,
 };
 
@@ -50,19 +50,13 @@ where
 
 /// Plays rows with a log that was never asked.
 pub(crate) fn play_log(alloc: Global, scene: Scene, at: &mut usize) -> Result<(), Wrong> {
-    let log = read_log(alloc, scene.given(alloc)?.of(4));
+    let log = read_index_log(alloc, scene.given(alloc)?.of(4));
     scene.play_made(alloc, &Nodes, log, at)
 }
 
-fn read_log(alloc: Global, fields: &Fields) -> Result<Log, Wrong> {
-    let epoch = fields.epoch("epoch")?;
+fn read_index_log(alloc: Global, fields: &Fields) -> Result<Log, Wrong> {
     let index = fields.index("index", u8::MAX)?;
-    let (m, k) = read_sizes(fields)?;
-    if index < m {
-        Ok(Log::new(alloc, LogId { epoch, index }, m, k))
-    } else {
-        Err(NO_FORM)
-    }
+    read_log(alloc, fields, index)
 }
 
 impl Plays<Log> for Nodes {

@@ -2,7 +2,7 @@
 use crate::nodes::{read_map, read_told, write_asks};
 use crate::subjects::Nodes;
 use fr_ask::{Ask, Last};
-use fr_base::{Bytes, Memory, NodeId, Shape};
+use fr_base::{Bytes, Memory, NodeId};
 use fr_epoch::{Phase, Recoverer};
 use fr_state::CoordState;
 use serde_json::Value;
@@ -10,7 +10,9 @@ use std::alloc::{AllocError, Global};
 use test_rows::fields::Fields;
 use test_rows::json::{value_of, write_all};
 use test_rows::object::ObjectMembers;
-use test_rows::{NO_FORM, Plays, RowAsk, Scene, Wrong, no_such_word, told_all, write_last_state};
+use test_rows::{
+    Plays, RowAsk, Scene, Wrong, no_such_word, read_shape_in, told_all, write_last_state,
+};
 
 /// Plays rows with a recoverer that heard nothing.
 pub(crate) fn play_recoverer(alloc: Global, scene: Scene, at: &mut usize) -> Result<(), Wrong> {
@@ -18,24 +20,8 @@ pub(crate) fn play_recoverer(alloc: Global, scene: Scene, at: &mut usize) -> Res
     scene.play_made(alloc, &Nodes, recoverer, at)
 }
 
-/// The shape of an object that has members for it, and is then to have five members, else three.
-fn read_shape_in(fields: &mut Fields) -> Result<Option<Shape>, Wrong> {
-    if fields.of(5).value("logs").is_ok() {
-        Ok(Some(read_shape(fields)?))
-    } else {
-        fields.of(3);
-        Ok(None)
-    }
-}
-
-/// How many logs the next generation is to have, and on how many of them each tag is to be.
-fn read_shape(fields: &Fields) -> Result<Shape, Wrong> {
-    let m = fields.index("logs", u8::MAX)?;
-    Shape::new(m, fields.index("degree", u8::MAX)?).ok_or(NO_FORM)
-}
-
 fn read_recoverer(alloc: Global, fields: &mut Fields) -> Result<Recoverer, Wrong> {
-    let shape = read_shape_in(fields)?;
+    let shape = read_shape_in(fields, 3)?;
     let ballot = fields.epoch("ballot")?;
     let _above = ballot.get();
     let coordinators = fields.index("coordinators", u8::MAX)?;

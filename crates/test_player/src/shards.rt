@@ -1,7 +1,8 @@
 //! Shards, which mutations concern which, and which logs hold which tag.
+use crate::contents::write_shard;
 use crate::nodes::{map_of, read_logs};
 use crate::subjects::Nodes;
-use fr_base::{Bytes, Memory, Tag};
+use fr_base::{Memory, Tag};
 use fr_cli_json::tree::read_bytes;
 use fr_mutation::Shard;
 use fr_tags::{Body, ShardFault, ShardMap, covers, holders, is_held};
@@ -9,7 +10,6 @@ use serde_json::Value;
 use std::alloc::Global;
 use test_rows::fields::{Fields, tag_of};
 use test_rows::json::{read_batch, read_shards, write_all};
-use test_rows::object::{ObjectMembers, hex_value};
 use test_rows::{Plays, RowAsk, Scene, Wrong, no_such_word, read_sizes, write_name};
 
 /// Plays rows with a map of shards that begin at these keys.
@@ -24,7 +24,7 @@ impl Plays<ShardMap> for Nodes {
             "split" => split(row.alloc, map, row.of(3)),
             "tags_of" => tags(row.alloc, map, row.take_all()),
             "tag_of" => tag_at(row.alloc, map, row.all()),
-            "shard_of" => write_shard(row.alloc, map.shard_of(row.alloc, tag_of(row.all())?)),
+            "shard_of" => write_found(row.alloc, map.shard_of(row.alloc, tag_of(row.all())?)),
             "holders" => held_by(row.alloc, row.of(3)),
             "is_held" => is_held_by(row.of(4)),
             "covers" => do_cover(row.alloc, row.of(3)),
@@ -82,24 +82,10 @@ fn write_map(alloc: Global, map: Result<ShardMap, Memory>) -> Result<Value, Wron
     Ok(write_all(alloc, map?.begins())?)
 }
 
-/// Where a shard begins and ends, with null for no end; null if there is no such shard.
-fn write_shard(alloc: Global, shard: Result<Option<Shard>, Memory>) -> Result<Value, Wrong> {
+/// A shard, or null if there is none.
+fn write_found(alloc: Global, shard: Result<Option<Shard>, Memory>) -> Result<Value, Wrong> {
     match shard? {
-        Some(shard) => Ok(write_range(alloc, &shard)?),
-        None => Ok(Value::Null),
-    }
-}
-
-fn write_range(alloc: Global, shard: &Shard) -> Result<Value, Memory> {
-    let object = ObjectMembers::new(alloc)
-        .bytes("begin", shard.begin.as_slice())?
-        .and("end", write_end(alloc, &shard.end))?;
-    Ok(object.value())
-}
-
-fn write_end(alloc: Global, end: &Option<Bytes>) -> Result<Value, Memory> {
-    match end {
-        Some(end) => hex_value(alloc, end.as_slice()),
+        Some(shard) => write_shard(alloc, &shard),
         None => Ok(Value::Null),
     }
 }

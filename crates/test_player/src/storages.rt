@@ -210,16 +210,24 @@ fn write_followed(
     }
 }
 
+/// The name of a refusal, or of the store's.
+pub fn fault_name(fault: StorageFault) -> &'static str {
+    match fault {
+        StorageFault::Older => "Older",
+        StorageFault::Stranger => "Stranger",
+        StorageFault::BelowFloor => "BelowFloor",
+        StorageFault::NotMyGeneration => "NotMyGeneration",
+        StorageFault::Hole => "Hole",
+        StorageFault::BadState => "BadState",
+        StorageFault::Store(fault) => fault.name(),
+    }
+}
+
 /// The name of a refusal.
 pub(crate) fn write_fault(alloc: Global, fault: StorageFault) -> Result<Value, Wrong> {
     match fault {
-        StorageFault::Older => write_name(alloc, "Older"),
-        StorageFault::Stranger => write_name(alloc, "Stranger"),
-        StorageFault::BelowFloor => write_name(alloc, "BelowFloor"),
-        StorageFault::NotMyGeneration => write_name(alloc, "NotMyGeneration"),
-        StorageFault::Hole => write_name(alloc, "Hole"),
-        StorageFault::BadState => write_name(alloc, "BadState"),
         StorageFault::Store(fault) => write_store_fault(alloc, "store", fault),
+        _ => write_name(alloc, fault_name(fault)),
     }
 }
 
@@ -288,7 +296,11 @@ pub(crate) fn write_standing(alloc: Global, storage: &Storage<MapStore>) -> Resu
     Ok(standing_of(alloc, &copy)?)
 }
 
-fn standing_of(alloc: Global, storage: &Storage<MapStore>) -> Result<Value, Memory> {
+/// The place and the state of a server.
+pub(crate) fn standing_of<S: ShardStore + Drop>(
+    alloc: Global,
+    storage: &Storage<S>,
+) -> Result<Value, Memory> {
     let place = place_of(alloc, storage)?;
     Ok(
         place

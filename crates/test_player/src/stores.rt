@@ -1,14 +1,17 @@
-//! Stores in memory, and stores over a device that fails once.
-use crate::storages::{write_fault, write_standing};
+//! Stores in memory and in tables, and stores over a device that fails once.
+use crate::contents::read_shard;
+use crate::storages::{standing_of, write_fault, write_standing};
 use crate::subjects::Nodes;
 use fr_base::{Bytes, Memory};
 use fr_cli_json::tree::read_bytes;
 use fr_forms::write_all;
-use fr_mutation::Shard;
+use fr_sql_store::SqlStore;
 use fr_storage::Storage;
 use fr_undo::{MapStore, ShardStore, StoreFault};
 use serde_json::Value;
+use sqlite::MemStore;
 use std::alloc::Global;
+use std::mem::replace;
 use test_rows::fields::{Fields, tag_of, version_of};
 use test_rows::json::read_batch;
 use test_rows::object::{ObjectMembers, hex_value};
@@ -19,6 +22,19 @@ use test_stores::FailsOnce;
 pub(crate) fn play_store(alloc: Global, scene: Scene, at: &mut usize) -> Result<(), Wrong> {
     let store = of_nothing(alloc, scene, MapStore::new(alloc));
     scene.play_made(alloc, &Nodes, store, at)
+}
+
+/// A store in tables in memory.
+type Tables = SqlStore<MemStore>;
+
+/// Plays rows with a store in memory, and then with one in tables.
+pub(crate) fn play_stores(alloc: Global, scene: Scene, at: &mut usize) -> Result<(), Wrong> {
+    play_store(alloc, scene, at)?;
+    scene.play_made(alloc, &Nodes, tables(alloc), at)
+}
+
+fn tables(alloc: Global) -> Result<Tables, Wrong> {
+    SqlStore::in_memory(alloc).map_err(|_| Wrong::Memory)
 }
 
 /// The same with one that fails once.
@@ -40,9 +56,20 @@ impl Plays<MapStore> for Nodes {
             "state" => copied_place(row.alloc, store.copy(row.alloc)),
             "adopt" => adopt(row.alloc, store, row.all()),
             "copied" => copied_contents(row.alloc, store.copy(row.alloc)),
+            "undone" => undone(row.alloc, store.copy(row.alloc), row.all()),
             "lent" => lent(row.alloc, store, row.all()),
             "lent_rows" => Ok(Value::from(store.rows().len())),
             "lent_bytes" => Ok(hex_value(row.alloc, store.bytes().as_slice())?),
+            _ => play_word(store, row),
+        }
+    }
+}
+
+impl Plays<Tables> for Nodes {
+    fn play_row(&self, store: &mut Tables, row: &mut RowAsk) -> Result<Value, Wrong> {
+        match row.word {
+            "state" => write_place(row.alloc, store),
+            "adopt" => adopt_tables(row.alloc, store, row.all()),
             _ => play_word(store, row),
         }
     }
@@ -70,13 +97,13 @@ fn play_word<S: ShardStore>(store: &mut S, row: &mut RowAsk) -> Result<Value, Wr
         "get" => get(alloc, store, row.all()),
         "get_at" => get_at(alloc, store, row.of(2)),
         "rows" => rows_of(alloc, store.dump(alloc)),
-        "below" => below(alloc, store, row.all()),
+        "range" => range(alloc, store, row.of(2)),
         "failed" => Ok(Value::from(store.is_failed())),
         "reopen" => write_done(alloc, store.reopen(alloc)),
         _ => no_such_word(
-            "rows of a store: apply, undo, forget, advance, keep, kept, get, get_at, rows, below, \
-             state, failed, reopen, and of one that never fails adopt, copied, lent, \
-             lent_rows, lent_bytes",
+            "rows of a store: apply, undo, forget, advance, keep, kept, get, get_at, rows, range, \
+             state, failed, reopen, of stores that never fail adopt, and of one in memory copied, undone, \
+             lent, lent_rows, lent_bytes",
         ),
     }
 }
@@ -113,14 +140,10 @@ fn lent(alloc: Global, store: &MapStore, given: &Value) -> Result<Value, Wrong> 
     }
 }
 
-/// The rows below a key; of null all of them.
-fn below<S: ShardStore>(alloc: Global, store: &mut S, given: &Value) -> Result<Value, Wrong> {
-    let begin = Bytes::empty(alloc);
-    let end = match given {
-        Value::Null => None,
-        key => Some(read_bytes(alloc, Some(key))?),
-    };
-    rows_of(alloc, store.range(alloc, &Shard { begin, end }))
+/// The rows from a key on, up to another one or null.
+fn range<S: ShardStore>(alloc: Global, store: &mut S, fields: &Fields) -> Result<Value, Wrong> {
+    let shard = read_shard(alloc, fields)?;
+    rows_of(alloc, store.range(alloc, &shard))
 }
 
 /// The state of a storage server that takes the store over, or why it does not. The store is then given back.
@@ -139,6 +162,26 @@ fn give_back(
     storage: Storage<MapStore>,
 ) -> Result<Value, Wrong> {
     let standing = write_standing(alloc, &storage)?;
+    *store = storage.into_store();
+    Ok(standing)
+}
+
+/// The same of a store in tables, which is not copied: if it is not taken over it is gone, and an empty one is there.
+fn adopt_tables(alloc: Global, store: &mut Tables, given: &Value) -> Result<Value, Wrong> {
+    let tag = tag_of(given)?;
+    let taken = replace(store, tables(alloc)?);
+    match Storage::adopt(alloc, taken, tag) {
+        Ok(storage) => give_tables_back(alloc, store, storage),
+        Err(fault) => write_fault(alloc, fault),
+    }
+}
+
+fn give_tables_back(
+    alloc: Global,
+    store: &mut Tables,
+    storage: Storage<Tables>,
+) -> Result<Value, Wrong> {
+    let standing = standing_of(alloc, &storage)?;
     *store = storage.into_store();
     Ok(standing)
 }
@@ -197,13 +240,34 @@ fn copied_contents(alloc: Global, store: Result<MapStore, Memory>) -> Result<Val
     Ok(object.value())
 }
 
+/// The state and the rows of a copy that goes back to a version, or why it does not.
+fn undone(alloc: Global, store: Result<MapStore, Memory>, given: &Value) -> Result<Value, Wrong> {
+    let mut copy = store?;
+    write_undone(alloc, &mut copy, given)
+}
+
+fn write_undone(alloc: Global, store: &mut MapStore, given: &Value) -> Result<Value, Wrong> {
+    match store.undo_to(alloc, version_of(given)?) {
+        Ok(()) => write_whole(alloc, store),
+        Err(fault) => write_refusal(alloc, fault),
+    }
+}
+
+fn write_whole(alloc: Global, store: &mut MapStore) -> Result<Value, Wrong> {
+    let rows = rows_of(alloc, store.dump(alloc))?;
+    Ok(place_of(alloc, store)?.with("rows", rows)?.value())
+}
+
 /// The version applied last, the floor, and how many undo rows there are.
 fn write_place<S: ShardStore>(alloc: Global, store: &S) -> Result<Value, Wrong> {
+    Ok(place_of(alloc, store)?.value())
+}
+
+fn place_of<S: ShardStore>(alloc: Global, store: &S) -> Result<ObjectMembers, Memory> {
     let place = [
         ("applied", store.applied().get()),
         ("floor", store.floor().get()),
     ];
     let undo_rows = Value::from(store.undo_rows());
-    let object = ObjectMembers::of(alloc, &place)?;
-    Ok(object.with("undo_rows", undo_rows)?.value())
+    ObjectMembers::of(alloc, &place)?.with("undo_rows", undo_rows)
 }

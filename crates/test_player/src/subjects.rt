@@ -7,10 +7,11 @@ use crate::proxies::play_proxy;
 use crate::recoverers::play_recoverer;
 use crate::shards::play_shards;
 use crate::storages::{play_failing_storage, play_storage};
-use crate::stores::{play_failing_store, play_store};
+use crate::stores::{play_failing_store, play_store, play_stores};
 use crate::tails::play_tail;
 use crate::tallies::play_tally;
 use fr_ask::{Ask, Last, Tell};
+use fr_base::NodeId;
 use std::alloc::Global;
 use test_rows::{Scene, Wrong, played};
 
@@ -23,6 +24,7 @@ pub fn play(alloc: Global, scene: Scene, at: &mut usize) -> Result<bool, Wrong> 
         "asks" => played(play_several::<Ask>(alloc, scene, at)),
         "tells" => played(play_several::<Tell>(alloc, scene, at)),
         "lasts" => played(play_several::<Last>(alloc, scene, at)),
+        "nodes" => played(play_several::<NodeId>(alloc, scene, at)),
         "cell" => played(play_cell(alloc, scene, at)),
         "end_tally" => played(play_tally(alloc, scene, at)),
         "log" => played(play_log(alloc, scene, at)),
@@ -36,6 +38,7 @@ pub fn play(alloc: Global, scene: Scene, at: &mut usize) -> Result<bool, Wrong> 
         "storage" => played(play_storage(alloc, scene, at)),
         "failing_storage" => played(play_failing_storage(alloc, scene, at)),
         "store" => played(play_store(alloc, scene, at)),
+        "stores" => played(play_stores(alloc, scene, at)),
         "failing_store" => played(play_failing_store(alloc, scene, at)),
         "tail" => played(play_tail(alloc, scene, at)),
         "write_tally" => played(play_write_tally(alloc, scene, at)),

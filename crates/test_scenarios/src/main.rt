@@ -20,8 +20,8 @@ struct Players;
 /// What a scenario can be about.
 const SUBJECTS: &str =
     "a scenario begins with: apply, asks, audit_script, batch, cell, cell_file, coordinated_state, end, end_tally, \
-     housed_cell, housed_log, housed_sequencer, lasts, log, log_file, proxy, read_tally, record_file, \
-     recoverer, rows, sequencer, shard, shards, storage, failing_storage, store, failing_store, tail, \
+     housed_cell, housed_log, housed_sequencer, lasts, log, log_file, nodes, proxy, read_tally, record_file, \
+     recoverer, rows, sequencer, shard, shards, storage, failing_storage, store, stores, failing_store, tail, \
      tells, world, write_tally";
 
 impl Player for Players {
