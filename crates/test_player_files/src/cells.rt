@@ -1,17 +1,14 @@
 //! Cells over record files.
+use crate::housed::{ask_node, read_asks, write_tells};
 use crate::place::{Disk, Kept, Place, read_room, write_node_fault};
 use crate::subjects::Files;
 use fr_ask::Named;
 use fr_base::{Node, NodeFault, Reopened};
 use fr_record_node::FileNode;
-use fr_register::{Cell, CellAsk};
+use fr_register::Cell;
 use serde_json::Value;
 use std::alloc::Global;
-use test_rows::fields::items;
-use test_rows::json::read_cell_ask;
-use test_rows::{
-    RowAsk, Scene, Wrong, no_such_word, said, told, told_all, write_last_state, write_name,
-};
+use test_rows::{RowAsk, Scene, Wrong, no_such_word, said, write_last_state, write_name};
 
 /// Plays rows with a cell over a file that is not there yet.
 pub(crate) fn play_cell(alloc: Global, scene: Scene, at: &mut usize) -> Result<(), Wrong> {
@@ -43,7 +40,7 @@ impl Kept for CellFile {
 
     fn play(&self, file: &mut CellNode, row: &mut RowAsk) -> Result<Value, Wrong> {
         match row.word {
-            "ask" => ask(row.alloc, file, row.take_all()),
+            "ask" => ask_node(row.alloc, file, row.take_all()),
             "ask_all" => ask_all(row.alloc, file, row.take_all()),
             "reopen" => write_reopened(row.alloc, file.reopen(row.alloc)),
             "state" => write_last_state(row.alloc, file.plain().last(row.alloc)),
@@ -54,28 +51,9 @@ impl Kept for CellFile {
     }
 }
 
-fn ask(alloc: Global, file: &mut CellNode, given: Value) -> Result<Value, Wrong> {
-    let ask = read_cell_ask(alloc, given)?;
-    match file.serve(alloc, ask) {
-        Ok(tell) => told(alloc, &tell),
-        Err(fault) => write_node_fault(alloc, fault),
-    }
-}
-
 fn ask_all(alloc: Global, file: &mut CellNode, given: Value) -> Result<Value, Wrong> {
-    let asks = read_asks(alloc, given)?;
-    match file.serve_all(alloc, asks) {
-        Ok(tells) => told_all(alloc, tells.as_slice()),
-        Err(fault) => write_node_fault(alloc, fault),
-    }
-}
-
-fn read_asks(alloc: Global, given: Value) -> Result<Vec<CellAsk>, Wrong> {
-    let mut asks = Vec::new(alloc);
-    for item in items(given)? {
-        asks.push(read_cell_ask(alloc, item)?)?;
-    }
-    Ok(asks)
+    let asks = read_asks::<Cell>(alloc, given)?;
+    write_tells(alloc, file.serve_all(alloc, asks))
 }
 
 /// The state of a node that was opened again, or why it was not.

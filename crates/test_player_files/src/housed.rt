@@ -2,8 +2,9 @@
 use crate::place::write_node_fault;
 use crate::subjects::Files;
 use fr_audit_journal::{Act, Entry, Journal};
-use fr_base::{InMemory, Machine, Memory, Node, Stamp};
+use fr_base::{InMemory, Machine, Memory, Node, NodeFault, Stamp};
 use fr_device::{FaultyDevice, MemoryDevice};
+use fr_forms::Formed;
 use fr_log::Log;
 use fr_proxy::Sequencer;
 use fr_record_log::LogNode;
@@ -15,7 +16,7 @@ use std::alloc::Global;
 use test_rows::fields::items;
 use test_rows::json::{read_cell_ask, read_log_ask, read_node, read_seq_ask, value_of};
 use test_rows::object::ObjectMembers;
-use test_rows::{NO_FORM, Plays, RowAsk, Wrong, no_such_word, write_name};
+use test_rows::{NO_FORM, Plays, RowAsk, Wrong, no_such_word, told, told_all, write_name};
 
 /// A machine whose asks are read.
 pub(crate) trait Asked: Housable {
@@ -38,6 +39,43 @@ impl Asked for Log {
 impl Asked for Sequencer {
     fn read_ask(alloc: Global, given: Value) -> Result<Self::Ask, Wrong> {
         Ok(read_seq_ask(alloc, given)?)
+    }
+}
+
+/// Asks, without the name of their kind.
+pub(crate) fn read_asks<M: Asked>(alloc: Global, given: Value) -> Result<Vec<M::Ask>, Wrong>
+where
+    M::Ask: Drop,
+{
+    let mut asks = Vec::new(alloc);
+    for item in items(given)? {
+        asks.push(M::read_ask(alloc, item)?)?;
+    }
+    Ok(asks)
+}
+
+/// What a node tells, or why it tells nothing.
+pub(crate) fn ask_node<N: Node>(alloc: Global, node: &mut N, given: Value) -> Result<Value, Wrong>
+where
+    N::Plain: Asked,
+    <N::Plain as Machine>::Ask: Drop,
+    <N::Plain as Machine>::Tell: Formed + Drop,
+{
+    let ask = <N::Plain as Asked>::read_ask(alloc, given)?;
+    match node.serve(alloc, ask) {
+        Ok(tell) => told(alloc, &tell),
+        Err(fault) => write_node_fault(alloc, fault),
+    }
+}
+
+/// The same of a list that it was asked at once.
+pub(crate) fn write_tells<T: Formed + Drop>(
+    alloc: Global,
+    tells: Result<Vec<T>, NodeFault>,
+) -> Result<Value, Wrong> {
+    match tells {
+        Ok(tells) => told_all(alloc, tells.as_slice()),
+        Err(fault) => write_node_fault(alloc, fault),
     }
 }
 

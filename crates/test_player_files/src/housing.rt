@@ -14,7 +14,7 @@ use fr_runtime_housing::Housed;
 use serde_json::Value;
 use std::alloc::Global;
 use test_rows::fields::Fields;
-use test_rows::{Scene, Wrong, read_sizes};
+use test_rows::{Scene, Wrong, read_log};
 
 /// How many bytes the device of a file has room for.
 const ROOM: usize = 10_000;
@@ -48,13 +48,6 @@ fn cell_file_after(alloc: Global, fields: &mut Fields) -> Result<MemoryDevice, W
     Ok(node.into_device())
 }
 
-/// Log 0 of an epoch, which was never asked.
-fn read_fresh(alloc: Global, fields: &Fields) -> Result<Log, Wrong> {
-    let epoch = fields.epoch("epoch")?;
-    let (m, k) = read_sizes(fields)?;
-    Ok(Log::new(alloc, LogId { epoch, index: 0 }, m, k))
-}
-
 fn id_of(log: &Log) -> NodeId {
     let LogId { epoch, index } = log.id();
     NodeId::Log { epoch, index }
@@ -65,7 +58,7 @@ fn id_of(log: &Log) -> NodeId {
 pub(crate) fn play_housed_log(alloc: Global, scene: Scene, at: &mut usize) -> Result<(), Wrong> {
     let scene = scene.seen_by("count");
     let mut given = scene.given(alloc)?;
-    let fresh = read_fresh(alloc, given.of(4))?;
+    let fresh = read_log(alloc, given.of(4), 0)?;
     let id = id_of(&fresh);
     if let Ok(call) = given.number("once") {
         let node = faulty(alloc, &fresh, call)?;

@@ -1,18 +1,16 @@
 //! Logs over record files.
 use crate::cells::write_reopened;
-use crate::place::{Disk, Kept, Place, read_room, write_node_fault};
+use crate::housed::{ask_node, read_asks, write_tells};
+use crate::place::{Disk, Kept, Place, read_room};
 use crate::subjects::Files;
 use fr_ask::Named;
-use fr_base::{LogId, Node, NodeFault};
-use fr_log::{Log, LogAsk};
+use fr_base::{Node, NodeFault};
+use fr_log::Log;
 use fr_record_log::LogNode;
 use serde_json::Value;
 use std::alloc::Global;
-use test_rows::fields::{Fields, items};
-use test_rows::json::read_log_ask;
-use test_rows::{
-    NO_FORM, RowAsk, Scene, Wrong, no_such_word, read_sizes, told, told_all, write_last_state,
-};
+use test_rows::fields::Fields;
+use test_rows::{RowAsk, Scene, Wrong, no_such_word, read_log, write_last_state};
 
 /// Plays rows with a log over a file that is not there yet.
 pub(crate) fn play_log(alloc: Global, scene: Scene, at: &mut usize) -> Result<(), Wrong> {
@@ -22,20 +20,9 @@ pub(crate) fn play_log(alloc: Global, scene: Scene, at: &mut usize) -> Result<()
 
 fn read_place(alloc: Global, fields: &Fields) -> Result<Place<LogFile>, Wrong> {
     let room = read_room(fields)?;
-    let fresh = read_fresh(alloc, fields)?;
-    Place::new(alloc, room, LogFile { fresh })
-}
-
-/// The log that was never asked.
-fn read_fresh(alloc: Global, fields: &Fields) -> Result<Log, Wrong> {
-    let epoch = fields.epoch("epoch")?;
     let index = fields.index("index", u8::MAX)?;
-    let (m, k) = read_sizes(fields)?;
-    if index < m {
-        Ok(Log::new(alloc, LogId { epoch, index }, m, k))
-    } else {
-        Err(NO_FORM)
-    }
+    let fresh = read_log(alloc, fields, index)?;
+    Place::new(alloc, room, LogFile { fresh })
 }
 
 /// A log over a file, by the log that was never asked.
@@ -61,7 +48,7 @@ impl Kept for LogFile {
 
     fn play(&self, file: &mut LogNode<Disk>, row: &mut RowAsk) -> Result<Value, Wrong> {
         match row.word {
-            "ask" => ask(row.alloc, file, row.take_all()),
+            "ask" => ask_node(row.alloc, file, row.take_all()),
             "ask_all" => ask_all(row.alloc, file, row.take_all()),
             "reopen" => write_reopened(row.alloc, file.reopen(row.alloc)),
             "state" => write_last_state(row.alloc, file.plain().last(row.alloc)),
@@ -72,26 +59,7 @@ impl Kept for LogFile {
     }
 }
 
-fn ask(alloc: Global, file: &mut LogNode<Disk>, given: Value) -> Result<Value, Wrong> {
-    let ask = read_log_ask(alloc, given)?;
-    match file.serve(alloc, ask) {
-        Ok(tell) => told(alloc, &tell),
-        Err(fault) => write_node_fault(alloc, fault),
-    }
-}
-
 fn ask_all(alloc: Global, file: &mut LogNode<Disk>, given: Value) -> Result<Value, Wrong> {
-    let asks = read_asks(alloc, given)?;
-    match file.serve_all(alloc, asks) {
-        Ok(tells) => told_all(alloc, tells.as_slice()),
-        Err(fault) => write_node_fault(alloc, fault),
-    }
-}
-
-fn read_asks(alloc: Global, given: Value) -> Result<Vec<LogAsk>, Wrong> {
-    let mut asks = Vec::new(alloc);
-    for item in items(given)? {
-        asks.push(read_log_ask(alloc, item)?)?;
-    }
-    Ok(asks)
+    let asks = read_asks::<Log>(alloc, given)?;
+    write_tells(alloc, file.serve_all(alloc, asks))
 }
