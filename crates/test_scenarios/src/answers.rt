@@ -4,6 +4,7 @@ use fr_undo::StoreFault;
 use fr_world::{Answer, NotEnabled};
 use serde_json::Value;
 use std::alloc::Global;
+use test_player::fault_name;
 use test_rows::json::value_of;
 use test_rows::object::{ObjectMembers, write_text};
 use test_rows::{Wrong, write_name};
@@ -26,21 +27,9 @@ fn write_refused(alloc: Global, fault: StorageFault) -> Result<Value, Wrong> {
     let object = ObjectMembers::new(alloc);
     Ok(
         object
-            .and("refused", write_text(alloc, name_of(fault)))?
+            .and("refused", write_text(alloc, fault_name(fault)))?
             .value(),
     )
-}
-
-fn name_of(fault: StorageFault) -> &'static str {
-    match fault {
-        StorageFault::Older => "Older",
-        StorageFault::Stranger => "Stranger",
-        StorageFault::BelowFloor => "BelowFloor",
-        StorageFault::NotMyGeneration => "NotMyGeneration",
-        StorageFault::Hole => "Hole",
-        StorageFault::BadState => "BadState",
-        StorageFault::Store(fault) => fault.name(),
-    }
 }
 
 /// Why an event cannot happen.

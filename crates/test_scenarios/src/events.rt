@@ -1,13 +1,13 @@
 //! Events of a world, by the words of rows.
 use crate::found;
 use fr_ask::Tell;
-use fr_base::{LogId, NodeId, Shape, Version};
+use fr_base::{LogId, NodeId, Version};
 use fr_world::{Config, ConfigFault, Event, World};
 use serde_json::Value;
 use std::alloc::Global;
 use test_rows::fields::Fields;
 use test_rows::json::{read_ask, read_batch, read_node, read_shards, read_step, read_tell};
-use test_rows::{NO_FORM, RowAsk, Wrong};
+use test_rows::{NO_FORM, RowAsk, Wrong, read_shape_in};
 
 /// What a world starts from.
 pub(crate) fn read_config(alloc: Global, fields: &mut Fields) -> Result<Config, Wrong> {
@@ -42,25 +42,9 @@ fn some(event: Result<Event, Wrong>) -> Result<Option<Event>, Wrong> {
 
 /// A recoverer begins, with a shape or without one.
 fn read_begin(given: &mut Fields) -> Result<Event, Wrong> {
-    let shape = read_shape_in(given)?;
+    let shape = read_shape_in(given, 1)?;
     let ballot = given.ballot("ballot")?;
     Ok(Event::Begin { ballot, shape })
-}
-
-/// The shape of an object that has members for it, and is then to have three members, else one.
-fn read_shape_in(fields: &mut Fields) -> Result<Option<Shape>, Wrong> {
-    if fields.of(3).value("logs").is_ok() {
-        Ok(Some(read_shape(fields)?))
-    } else {
-        fields.of(1);
-        Ok(None)
-    }
-}
-
-fn read_shape(fields: &Fields) -> Result<Shape, Wrong> {
-    let m = fields.index("logs", u8::MAX)?;
-    let k = fields.index("degree", u8::MAX)?;
-    Shape::new(m, k).ok_or(NO_FORM)
 }
 
 fn read_crash(alloc: Global, given: Value) -> Result<Event, Wrong> {

@@ -6,78 +6,11 @@ use test_rows::object::write_text;
 use test_rows::{NO_FORM, Plays, RowAsk, Scene, Wrong, no_such_word, played};
 
 /// What stands before a form in a script, and behind it.
-#[derive(Clone, Copy)]
+#[derive(Drop)]
 struct Place {
-    before: &'static str,
-    behind: &'static str,
+    before: String,
+    behind: String,
 }
-
-/// The places of forms, by their names. Each script is else as small as can be.
-static PLACES: [(&str, Place); 9] = [
-    (
-        "script",
-        Place {
-            before: "",
-            behind: "",
-        },
-    ),
-    (
-        "script_in_blanks",
-        Place {
-            before: " ",
-            behind: " ",
-        },
-    ),
-    (
-        "config",
-        Place {
-            before: r#"{"config":"#,
-            behind: r#","journals":[]}"#,
-        },
-    ),
-    (
-        "node",
-        Place {
-            before: r#"{"config":{"coordinators":1,"degree":1,"logs":1,"proxies":1,"shards":[""]},"journals":[{"entries":[],"last":null,"node":"#,
-            behind: r#"}]}"#,
-        },
-    ),
-    (
-        "last",
-        Place {
-            before: r#"{"config":{"coordinators":1,"degree":1,"logs":1,"proxies":1,"shards":[""]},"journals":[{"entries":[],"last":"#,
-            behind: r#","node":{"cell":{"index":0}}}]}"#,
-        },
-    ),
-    (
-        "entries",
-        Place {
-            before: r#"{"config":{"coordinators":1,"degree":1,"logs":1,"proxies":1,"shards":[""]},"journals":[{"entries":"#,
-            behind: r#","last":null,"node":{"cell":{"index":0}}}]}"#,
-        },
-    ),
-    (
-        "act",
-        Place {
-            before: r#"{"config":{"coordinators":1,"degree":1,"logs":1,"proxies":1,"shards":[""]},"journals":[{"entries":[{"act":"#,
-            behind: r#","stamp":1}],"last":null,"node":{"cell":{"index":0}}}]}"#,
-        },
-    ),
-    (
-        "ask",
-        Place {
-            before: r#"{"config":{"coordinators":1,"degree":1,"logs":1,"proxies":1,"shards":[""]},"journals":[{"entries":[{"act":{"asked":{"ask":"#,
-            behind: r#","from":{"cell":{"index":0}},"tell":{"cell":{"two_values":{}}}}},"stamp":1}],"last":null,"node":{"cell":{"index":0}}}]}"#,
-        },
-    ),
-    (
-        "tell",
-        Place {
-            before: r#"{"config":{"coordinators":1,"degree":1,"logs":1,"proxies":1,"shards":[""]},"journals":[{"entries":[{"act":{"asked":{"ask":{"cell":{"read":{"ballot":513}}},"from":{"cell":{"index":0}},"tell":"#,
-            behind: r#"}},"stamp":1}],"last":null,"node":{"cell":{"index":0}}}]}"#,
-        },
-    ),
-];
 
 /// The player of scripts.
 struct Scripts;
@@ -91,31 +24,42 @@ pub(crate) fn play(alloc: Global, scene: Scene, at: &mut usize) -> Result<bool, 
 }
 
 fn play_script(alloc: Global, scene: Scene, at: &mut usize) -> Result<(), Wrong> {
-    let place = read_place(scene.given(alloc)?.all());
+    let place = read_place(alloc, scene.given(alloc)?.all());
     scene.texts_by(&TEXTS).play_made(alloc, &Scripts, place, at)
 }
 
 /// The words of which a form follows as it stands.
 static TEXTS: [&str; 2] = ["read", "fronts"];
 
-fn read_place(name: &Value) -> Result<Place, Wrong> {
-    let name = name.as_str().ok_or(NO_FORM)?;
-    for (known, place) in &PLACES {
-        if *known == name {
-            return Ok(*place);
-        }
+/// A script, or a text, in which a form stands in the place of `form`.
+fn read_place(alloc: Global, given: &Value) -> Result<Place, Wrong> {
+    if let Some(text) = given.as_str() {
+        return place_in(alloc, text, "form");
     }
-    Err(Wrong::Form(
-        "a form stands in the place of one of: script, script_in_blanks, config, node, last, entries, act, ask, tell",
-    ))
+    let script = given.to_vec(alloc)?;
+    place_in(
+        alloc,
+        std::str::from_utf8(script.as_slice()).or(Err(NO_FORM))?,
+        "\"form\"",
+    )
+}
+
+fn place_in(alloc: Global, script: &str, form: &str) -> Result<Place, Wrong> {
+    let Some((before, behind)) = script.split_once(form) else {
+        return Err(Wrong::Form("a form stands in the place of \"form\""));
+    };
+    Ok(Place {
+        before: String::from_str(alloc, before)?,
+        behind: String::from_str(alloc, behind)?,
+    })
 }
 
 impl Plays<Place> for Scripts {
     fn play_row(&self, place: &mut Place, row: &mut RowAsk) -> Result<Value, Wrong> {
         match row.word {
-            "kept" => kept(row.alloc, *place, row.all()),
-            "read" => tell_written(row.alloc, *place, text_of(row.all())?),
-            "fronts" => fronts(row.alloc, *place, text_of(row.all())?),
+            "kept" => kept(row.alloc, place, row.all()),
+            "read" => tell_written(row.alloc, place, text_of(row.all())?),
+            "fronts" => fronts(row.alloc, place, text_of(row.all())?),
             "state" => Ok(Value::Null),
             _ => no_such_word("rows of scripts of audits: kept, read, fronts"),
         }
@@ -130,7 +74,7 @@ fn text_of(given: &Value) -> Result<&[u8], Wrong> {
 }
 
 /// The script with a form in its place.
-fn script_in(alloc: Global, place: Place, form: &[u8]) -> Result<Vec<u8>, AllocError> {
+fn script_in(alloc: Global, place: &Place, form: &[u8]) -> Result<Vec<u8>, AllocError> {
     let mut script = place.before.as_bytes().to_vec(alloc)?;
     script.extend_from_slice(form)?;
     script.extend_from_slice(place.behind.as_bytes())?;
@@ -147,7 +91,7 @@ fn written(alloc: Global, script: &[u8]) -> Result<Option<Vec<u8>>, Wrong> {
 }
 
 /// Null where the script with this form is written byte by byte as it was read, and else the form that is written.
-fn kept(alloc: Global, place: Place, form: &Value) -> Result<Value, Wrong> {
+fn kept(alloc: Global, place: &Place, form: &Value) -> Result<Value, Wrong> {
     let form = form.to_vec(alloc)?;
     let script = script_in(alloc, place, form.as_slice())?;
     if written(alloc, script.as_slice())?.as_ref() == Some(&script) {
@@ -157,7 +101,7 @@ fn kept(alloc: Global, place: Place, form: &Value) -> Result<Value, Wrong> {
 }
 
 /// The form that is written of one that was read in its place, or that the script is bad.
-fn tell_written(alloc: Global, place: Place, form: &[u8]) -> Result<Value, Wrong> {
+fn tell_written(alloc: Global, place: &Place, form: &[u8]) -> Result<Value, Wrong> {
     let script = script_in(alloc, place, form)?;
     match written(alloc, script.as_slice())? {
         Some(text) => form_of(alloc, place, text.as_slice()),
@@ -166,7 +110,7 @@ fn tell_written(alloc: Global, place: Place, form: &[u8]) -> Result<Value, Wrong
 }
 
 /// The form in its place in a script, or the script as a text where it is not written as JSON is.
-fn form_of(alloc: Global, place: Place, script: &[u8]) -> Result<Value, Wrong> {
+fn form_of(alloc: Global, place: &Place, script: &[u8]) -> Result<Value, Wrong> {
     let text = std::str::from_utf8(script).or(Err(NO_FORM))?;
     let form = cut_out(place, text).unwrap_or(text);
     let Ok(value) = Value::from_slice(alloc, form.as_bytes()) else {
@@ -178,12 +122,13 @@ fn form_of(alloc: Global, place: Place, script: &[u8]) -> Result<Value, Wrong> {
     Ok(write_text(alloc, form)?)
 }
 
-fn cut_out<'t>(place: Place, text: &'t str) -> Option<&'t str> {
-    text.strip_prefix(place.before)?.strip_suffix(place.behind)
+fn cut_out<'t>(place: &Place, text: &'t str) -> Option<&'t str> {
+    text.strip_prefix(place.before.as_str())?
+        .strip_suffix(place.behind.as_str())
 }
 
 /// Null where no front of the script with this form is a script, and else the length of the first one that is.
-fn fronts(alloc: Global, place: Place, form: &[u8]) -> Result<Value, Wrong> {
+fn fronts(alloc: Global, place: &Place, form: &[u8]) -> Result<Value, Wrong> {
     let script = script_in(alloc, place, form)?;
     for len in 0..script.len() {
         if written(alloc, &script[..len])?.is_some() {
