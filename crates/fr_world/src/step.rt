@@ -20,8 +20,7 @@ use fr_run_headline::laws::safety_law;
 use fr_world_kept::Nodes;
 use std::alloc::Global;
 
-/// Makes the turn that an event is, or says why it cannot happen, which changes nothing. The turn is then entered,
-/// so that what a later event needs of it is found without a walk over the turns.
+/// Makes the turn that an event is, or says why it cannot happen, which changes nothing.
 pub(crate) fn step(alloc: Global, nodes: &mut Nodes, event: Event) -> Result<Answer, NotEnabled>
     requires kept { IsKept nodes.old }
     ensures turn { Steps (state_of nodes.old) (state_of nodes.new) event result }
@@ -29,9 +28,8 @@ pub(crate) fn step(alloc: Global, nodes: &mut Nodes, event: Event) -> Result<Ans
     ensures err { OnErr result (state_of nodes.new ≡ state_of nodes.old) }
     ensures stays { IsKept nodes.new }
 {
-    let answer = happen(alloc, nodes, event);
-    catch_up(alloc, nodes);
-    answer
+    get_ready(alloc, nodes, &event);
+    happen(alloc, nodes, event)
 }
 
 /// As [`step`], and says what is promised of the nodes that it leaves.
@@ -67,9 +65,8 @@ pub(crate) fn step_owned(
     ensures refused { Refuses (state_of nodes.old) event result }
     ensures stays { OnOk result (IsKept nodes.new) }
 {
-    let answer = happen_owned(alloc, nodes, event)?;
-    catch_up(alloc, nodes);
-    Ok(answer)
+    get_ready(alloc, nodes, &event);
+    happen_owned(alloc, nodes, event)
 }
 
 /// Makes the turn that an event is, with no copy of a storage server.
@@ -110,14 +107,45 @@ fn heard_owned(
     }
 }
 
-/// Enters the turns that were added, which changes nothing that is seen of a world. Those for which there is no
-/// memory now are entered after the next event.
+/// Sees to it that what an event needs is found without a walk over all turns, which changes nothing that is seen of a
+/// world: it is in one of the last turns, or all are entered.
+fn get_ready(alloc: Global, nodes: &mut Nodes, event: &Event)
+    requires kept { IsKept nodes.old }
+    ensures same { state_of nodes.new ≡ state_of nodes.old }
+    ensures stays { IsKept nodes.new }
+{
+    enter_gone(alloc, nodes);
+    if !is_lately_given(nodes, event) {
+        catch_up(alloc, nodes);
+    }
+}
+
+/// Enters the nodes that went. Those for which there is no memory now are entered before the next event.
+fn enter_gone(alloc: Global, nodes: &mut Nodes)
+    requires kept { IsKept nodes.old }
+    ensures same { state_of nodes.new ≡ state_of nodes.old }
+    ensures stays { IsKept nodes.new }
+{
+    let _ = nodes.turns.enter_gone(alloc);
+}
+
+/// Enters what was asked and told in the turns that were added. That for which there is no memory now is entered when
+/// turns are next entered.
 fn catch_up(alloc: Global, nodes: &mut Nodes)
     requires kept { IsKept nodes.old }
     ensures same { state_of nodes.new ≡ state_of nodes.old }
     ensures stays { IsKept nodes.new }
 {
     let _ = nodes.turns.catch_up(alloc);
+}
+
+/// Whether one of the last turns gave the ask or the tell that an event needs, if it needs one.
+fn is_lately_given(nodes: &Nodes, event: &Event) -> bool {
+    match event {
+        Event::Deliver { from, to, ask } => nodes.turns.was_lately_sent(from, to, ask),
+        Event::Hear { by, from, tell, .. } => nodes.turns.was_lately_told(from, by, tell),
+        _ => true,
+    }
 }
 
 /// Makes the turn that an event is.

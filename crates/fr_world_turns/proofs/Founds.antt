@@ -10,7 +10,7 @@ use Rattle.fr_ask.specs.declared.ask.Ask.{Ask}
 use Rattle.fr_run.specs.Turn as history
 use Rattle.fr_run.specs.Turn.{Sending, actor_of, asks_of}
 use Rattle.fr_run_event.specs.Tests.{goes, gives, is_sending, tells}
-use Rattle.fr_world_turns.specs.Finding.{at_place, some_under, AreFound, AsksAreFound, GoneIsFound, IsFound, TellIsFound}
+use Rattle.fr_world_turns.specs.Finding.{at_place, some_under, AreFound, AreGoneFound, AsksAreFound, GoneIsFound, IsFound, TellIsFound}
 use Rattle.fr_world_turns.specs.Keys.{gone_key, ask_key, tell_key, told_key}
 use Rattle.fr_world_turns.specs.Places.{Key, Places, Grows, IsUnder, passes, under}
 use Rattle.fr_world_turns.specs.Turns.{turn_of, history_of, retells}
@@ -39,18 +39,20 @@ tell_later : (turns : List Turn) (m n : Places) (t : history.Turn) → Grows m n
 tell_later turns m n t grows f by to x e = grows (tell_key by to x) (at_place turns (tells by to x)) (f by to x e)
 
 pub found_later : (turns : List Turn) (m n : Places) (t : history.Turn) → Grows m n → IsFound turns m t → IsFound turns n t
-found_later turns m n t grows f = record { gone = gone_later turns m n t grows f.gone; asks = asks_later turns m n t grows f.asks; tell = tell_later turns m n t grows f.tell }
+found_later turns m n t grows f = record { asks = asks_later turns m n t grows f.asks; tell = tell_later turns m n t grows f.tell }
 
--- the three parts, each entered after the other
-pub all_found : (turns : List Turn) (a b c : Places) (t : history.Turn) → GoneIsFound turns a t → Grows a b → AsksAreFound turns b t → Grows b c → TellIsFound turns c t → IsFound turns c t
-all_found turns a b c t gone ab asks bc tell = record { gone = gone_later turns b c t bc (gone_later turns a b t ab gone); asks = asks_later turns b c t bc asks; tell = tell }
+-- the two parts, each entered after the other
+pub all_found : (turns : List Turn) (b c : Places) (t : history.Turn) → AsksAreFound turns b t → Grows b c → TellIsFound turns c t → IsFound turns c t
+all_found turns b c t asks bc tell = record { asks = asks_later turns b c t bc asks; tell = tell }
 
 found_pushed : (turns : List Turn) (y : Turn) (m : Places) (t : history.Turn) → IsFound turns m t → IsFound (turns ++ (y ∷ [])) m t
 found_pushed turns y m t f = record {
-  gone = λ who e. any_weaker (at_place turns (goes who)) (at_place (turns ++ (y ∷ [])) (goes who)) (at_later (λ t. goes who (turn_of t)) turns y) (under m (gone_key who)) (f.gone who e);
   asks = λ from to a e. any_weaker (at_place turns (gives from to a)) (at_place (turns ++ (y ∷ [])) (gives from to a)) (at_later (λ t. gives from to a (turn_of t)) turns y) (under m (ask_key from to a)) (f.asks from to a e);
   tell = λ by to x e. any_weaker (at_place turns (tells by to x)) (at_place (turns ++ (y ∷ [])) (tells by to x)) (at_later (λ t. tells by to x (turn_of t)) turns y) (under m (tell_key by to x)) (f.tell by to x e);
 }
+
+gone_pushed : (turns : List Turn) (y : Turn) (m : Places) (t : history.Turn) → GoneIsFound turns m t → GoneIsFound (turns ++ (y ∷ [])) m t
+gone_pushed turns y m t f who e = any_weaker (at_place turns (goes who)) (at_place (turns ++ (y ∷ [])) (goes who)) (at_later (λ t. goes who (turn_of t)) turns y) (under m (gone_key who)) (f who e)
 
 front : {X : Type 0} (xs : List X) (y : X) (i : ℕ) (x : X) → i < length xs → slice_get (xs ++ (y ∷ [])) i ≡ Some x → slice_get xs i ≡ Some x
 front [] y i x l e = absurd (let k : ⊥ = omega (arith, l) in k)
@@ -61,6 +63,12 @@ pub are_pushed : (turns : List Turn) (y : Turn) (n : ℕ) (m : Places) → AreFo
 are_pushed turns y n m all = record {
   within = (let e : length (turns ++ (y ∷ [])) ≡ length turns + 1 = length-append turns (y ∷ []) in omega (arith, e, all.within));
   each = λ i t l is. found_pushed turns y m (turn_of t) (all.each i t l (front turns y i t (omega (arith, l, all.within)) is));
+}
+
+pub gone_are_pushed : (turns : List Turn) (y : Turn) (n : ℕ) (m : Places) → AreGoneFound turns n m → AreGoneFound (turns ++ (y ∷ [])) n m
+gone_are_pushed turns y n m all = record {
+  within = (let e : length (turns ++ (y ∷ [])) ≡ length turns + 1 = length-append turns (y ∷ []) in omega (arith, e, all.within));
+  each = λ i t l is. gone_pushed turns y m (turn_of t) (all.each i t l (front turns y i t (omega (arith, l, all.within)) is));
 }
 
 pub none_found : (m : Places) → AreFound [] 0 m
@@ -91,6 +99,23 @@ are_entered turns n m later all grows l one = record { within = omega (arith, l)
 
 pub are_found_later : (turns : List Turn) (n : ℕ) (m later : Places) → AreFound turns n m → Grows m later → AreFound turns n later
 are_found_later turns n m later all grows = record { within = all.within; each = λ i t l is. found_later turns m later (turn_of t) grows (all.each i t l is) }
+
+-- one turn more has its node that went found
+pub gone_are_entered : (turns : List Turn) (n : ℕ) (m later : Places) → AreGoneFound turns n m → Grows m later → n < length turns → IfSome (slice_get turns n) (λ t. GoneIsFound turns later (turn_of t)) → AreGoneFound turns (n + 1) later
+gone_are_entered turns n m later all grows l one = record { within = omega (arith, l); each = each }
+  where
+    here : (o : Option Turn) (t : Turn) → o ≡ Some t → IfSome o (λ t. GoneIsFound turns later (turn_of t)) → GoneIsFound turns later (turn_of t)
+    here None t e f = absurd (cc)
+    here (Some u) t e f = (let k : u ≡ t = cc in subst (λ v. GoneIsFound turns later (turn_of v)) k f)
+
+    each : (i : ℕ) (t : Turn) → i < n + 1 → slice_get turns i ≡ Some t → GoneIsFound turns later (turn_of t)
+    each i t b is = elim (last_or_before i n b) [
+      | inl k ↦ gone_later turns m later (turn_of t) grows (all.each i t k is)
+      | inr k ↦ here (slice_get turns n) t (subst (λ j. slice_get turns j ≡ Some t) k is) one
+    ]
+
+pub gone_are_found_later : (turns : List Turn) (n : ℕ) (m later : Places) → AreGoneFound turns n m → Grows m later → AreGoneFound turns n later
+gone_are_found_later turns n m later all grows = record { within = all.within; each = λ i t l is. gone_later turns m later (turn_of t) grows (all.each i t l is) }
 
 -- ---- entering
 
@@ -211,3 +236,18 @@ first_finds r a b c is e k = e ∙ (ap (λ x. x || b) (sym e ∙ is) ∙ k)
 
 pub second_finds : (r s a b c : Bool) → r ≡ a → r ≡ false → s ≡ b → (a || b) ≡ c → s ≡ c
 second_finds r s a b c is e other k = other ∙ (ap (λ x. x || b) (sym e ∙ is) ∙ k)
+
+or_true : (b : Bool) → (b || true) ≡ true
+or_true true = refl
+or_true false = refl
+
+or_false : (b : Bool) → (b || false) ≡ b
+or_false true = refl
+or_false false = refl
+
+-- of two tests the second one first, or the first one where that fails
+pub behind_finds : (r a b c : Bool) → r ≡ b → r ≡ true → (a || b) ≡ c → r ≡ c
+behind_finds r a b c is e k = e ∙ (sym (or_true a) ∙ (ap (λ x. a || x) (sym e ∙ is) ∙ k))
+
+pub before_finds : (r s a b c : Bool) → s ≡ b → s ≡ false → r ≡ a → (a || b) ≡ c → r ≡ c
+before_finds r s a b c is e other k = other ∙ (sym (or_false a) ∙ (ap (λ x. a || x) (sym e ∙ is) ∙ k))

@@ -3,3 +3,4 @@ pub mod Lists
 pub mod Histories
 pub mod Repeats
 pub mod Founds
+pub mod Storages

@@ -1,5 +1,5 @@
 -- Items of a list that pass a test, at some places.
-use Rattle.std.proofs.Common.{◌≡◌, ◌<◌, ℕ, zero, suc, Bool, true, false, ◌||◌, List, [], ◌∷◌, ◌++◌, ◌⊎◌, inl, inr, Some, refl, sym, drop, arith}
+use Rattle.std.proofs.Common.{◌≡◌, ◌<◌, ◌≤◌, ◌-◌, ℕ, zero, suc, Bool, true, false, ◌||◌, List, [], ◌∷◌, ◌++◌, ◌⊎◌, inl, inr, Some, refl, sym, ap, ◌∙◌, length, drop, arith}
 use Rattle.std.specs.Prelude.{slice_get}
 use Rattle.std.specs.List.{list_any}
 use Rattle.std.proofs.lemmas.Bool.{or_left, or_right}
@@ -18,7 +18,8 @@ any_weaker f g h (x ∷ xs) e = elim (or_either (f x) (list_any f xs) e) [
 ]
 
 module _ {X : Type 0} (p : X → Bool) where
-  one_of : (xs : List X) (i : ℕ) → holds_at p xs i ≡ true → list_any p xs ≡ true
+  -- an item at a place is one of the list
+  pub one_of : (xs : List X) (i : ℕ) → holds_at p xs i ≡ true → list_any p xs ≡ true
   one_of [] i e = absurd (cc)
   one_of (x ∷ xs) zero e = or_left (p x) (list_any p xs) e
   one_of (x ∷ xs) (suc i) e = or_right (p x) (list_any p xs) (one_of xs i e)
@@ -62,3 +63,35 @@ module _ {X : Type 0} (p : X → Bool) where
       both false true c f g k = sym (g refl)
       both false false true f g k = k refl
       both false false false f g k = refl
+
+  -- no item passes from a place on
+  abbrev pub NoneFrom : List X → ℕ → Type 0
+  NoneFrom xs n = (i : ℕ) → n ≤ i → i < length xs → holds_at p xs i ≡ false
+
+  -- nor from the place before
+  pub none_before : (xs : List X) (n : ℕ) → holds_at p xs (n - 1) ≡ false → NoneFrom xs n → NoneFrom xs (n - 1)
+  none_before xs n e none i l within = elim (below_or_from n i l) [
+    | inl k ↦ ap (holds_at p xs) k ∙ e
+    | inr k ↦ none i k within
+  ]
+    where
+      below_or_from : (n i : ℕ) → n - 1 ≤ i → (i ≡ n - 1) ⊎ (n ≤ i)
+      below_or_from zero i l = inr (omega arith)
+      below_or_from (suc n) i l = elim (equal_or_less n i (omega (arith, l))) [
+        | inl k ↦ inl (omega (arith, k))
+        | inr k ↦ inr (omega (arith, k))
+      ]
+        where
+          equal_or_less : (n i : ℕ) → n ≤ i → (n ≡ i) ⊎ (n < i)
+          equal_or_less zero zero l = inl refl
+          equal_or_less zero (suc i) l = inr (omega arith)
+          equal_or_less (suc n) zero l = absurd (let k : ⊥ = omega (arith, l) in k)
+          equal_or_less (suc n) (suc i) l = elim (equal_or_less n i (omega (arith, l))) [
+            | inl k ↦ inl (ap suc k)
+            | inr k ↦ inr (omega (arith, k))
+          ]
+
+  -- no item passes
+  pub none_of : (xs : List X) → NoneFrom xs 0 → list_any p xs ≡ false
+  none_of [] none = refl
+  none_of (x ∷ xs) none = ap (λ b. b || list_any p xs) (none 0 (omega arith) (omega arith)) ∙ none_of xs (λ i l within. none (suc i) (omega arith) (omega (arith, within)))

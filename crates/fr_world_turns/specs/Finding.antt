@@ -19,10 +19,11 @@ at_place turns p place = holds_at (λ t. p (turn_of t)) turns place
 abbrev pub some_under : List Turn → Places → (history.Turn → Bool) → Key → Bool
 some_under turns m p k = list_any (at_place turns p) (under m k)
 
--- what a turn did is found: that it took a node away, what it asked, what it told
+-- what a turn did is found: that it took a node away
 abbrev pub GoneIsFound : List Turn → Places → history.Turn → Type 0
 GoneIsFound turns m t = (who : NodeId) → goes who t ≡ true → some_under turns m (goes who) (gone_key who) ≡ true
 
+-- what it asked, what it told
 abbrev pub AsksAreFound : List Turn → Places → history.Turn → Type 0
 AsksAreFound turns m t = (from to : NodeId) (a : Ask) → gives from to a t ≡ true → some_under turns m (gives from to a) (ask_key from to a) ≡ true
 
@@ -30,11 +31,15 @@ abbrev pub TellIsFound : List Turn → Places → history.Turn → Type 0
 TellIsFound turns m t = (by to : NodeId) (x : Tell) → tells by to x t ≡ true → some_under turns m (tells by to x) (tell_key by to x) ≡ true
 
 pub record IsFound (turns : List Turn) (m : Places) (t : history.Turn) : Type 0 where
-  pub gone : GoneIsFound turns m t
   pub asks : AsksAreFound turns m t
   pub tell : TellIsFound turns m t
 
--- what the first n turns did is found
+-- what the first n turns asked and told is found
 pub record AreFound (turns : List Turn) (n : ℕ) (m : Places) : Type 0 where
   pub within : n ≤ length turns
   pub each : (i : ℕ) (t : Turn) → i < n → slice_get turns i ≡ Some t → IsFound turns m (turn_of t)
+
+-- who the first n turns took away is found
+pub record AreGoneFound (turns : List Turn) (n : ℕ) (m : Places) : Type 0 where
+  pub within : n ≤ length turns
+  pub each : (i : ℕ) (t : Turn) → i < n → slice_get turns i ≡ Some t → GoneIsFound turns m (turn_of t)

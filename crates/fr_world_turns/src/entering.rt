@@ -1,7 +1,7 @@
 //! Places of turns are entered under the keys of what the turns did.
 ghost use Rattle.std.specs.Prelude.{◌≡◌, ◌<◌, length, slice_get, true, IfSome, OnOk, Some};
 ghost use Rattle.fr_run_event.specs.Tests as tests;
-ghost use Rattle.fr_world_turns.specs.Finding.{at_place, some_under, AreFound, AsksAreFound, GoneIsFound, IsFound, TellIsFound};
+ghost use Rattle.fr_world_turns.specs.Finding.{at_place, some_under, AreFound, AreGoneFound, AsksAreFound, GoneIsFound, IsFound, TellIsFound};
 ghost use Rattle.fr_world_turns.specs.Keys as keys;
 ghost use Rattle.fr_world_turns.specs.Places.{Grows};
 ghost use Rattle.fr_world_turns.specs.Turns.{turn_of};
@@ -14,7 +14,8 @@ use fr_ask::Ask;
 use fr_base::{Memory, NodeId};
 use std::alloc::Global;
 
-/// Enters the turns that are not entered yet, oldest first. If there is no memory, those before are entered.
+/// Enters what was asked and told in the turns of which it is not entered yet, oldest first. If there is no memory,
+/// those before are entered.
 pub(crate) fn enter_rest(
     alloc: Global,
     turns: &[Turn],
@@ -22,6 +23,7 @@ pub(crate) fn enter_rest(
     places: &mut Places,
 ) -> Result<(), Memory>
     requires { AreFound turns.now indexed.old places.old }
+    ensures grows { Grows places.old places.new }
     ensures found { AreFound turns.now indexed.new places.new }
     ensures all { OnOk result (indexed.new ≡ length turns.now) }
 {
@@ -32,7 +34,7 @@ pub(crate) fn enter_rest(
     Ok(())
 }
 
-/// Enters the turn at a place.
+/// Enters what was asked and told in the turn at a place.
 fn enter_at(alloc: Global, turns: &[Turn], places: &mut Places, place: usize) -> Result<(), Memory>
     ensures grows { Grows places.old places.new }
     ensures found { OnOk result (IfSome (slice_get turns.now place) (λ t. IsFound turns.now places.new (turn_of t))) }
@@ -43,7 +45,7 @@ fn enter_at(alloc: Global, turns: &[Turn], places: &mut Places, place: usize) ->
     }
 }
 
-/// Enters a turn: that it took a node away, what it asked, what it told.
+/// Enters what was asked and told in a turn.
 fn enter(
     alloc: Global,
     turns: &[Turn],
@@ -55,9 +57,44 @@ fn enter(
     ensures grows { Grows places.old places.new }
     ensures found { OnOk result (IsFound turns.now places.new (turn_of turn.now)) }
 {
-    enter_gone(alloc, turns, places, place, turn)?;
     enter_asks(alloc, turns, places, place, turn)?;
     enter_tell(alloc, turns, places, place, turn)
+}
+
+/// Enters the nodes that went in the turns of which that is not entered yet, oldest first. If there is no memory, those
+/// before are entered.
+pub(crate) fn enter_departed(
+    alloc: Global,
+    turns: &[Turn],
+    departed: &mut usize,
+    places: &mut Places,
+) -> Result<(), Memory>
+    requires { AreGoneFound turns.now departed.old places.old }
+    ensures grows { Grows places.old places.new }
+    ensures found { AreGoneFound turns.now departed.new places.new }
+    ensures all { OnOk result (departed.new ≡ length turns.now) }
+{
+    for place in *departed..turns.len() {
+        enter_gone_at(alloc, turns, places, place)?;
+        *departed = place + 1;
+    }
+    Ok(())
+}
+
+/// Enters the node that went in the turn at a place, if one did.
+fn enter_gone_at(
+    alloc: Global,
+    turns: &[Turn],
+    places: &mut Places,
+    place: usize,
+) -> Result<(), Memory>
+    ensures grows { Grows places.old places.new }
+    ensures found { OnOk result (IfSome (slice_get turns.now place) (λ t. GoneIsFound turns.now places.new (turn_of t))) }
+{
+    match turns.get(place) {
+        Some(turn) => enter_gone(alloc, turns, places, place, turn),
+        None => Ok(()),
+    }
 }
 
 /// Enters a turn that took a node away under the key of the node.

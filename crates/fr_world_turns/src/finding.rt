@@ -2,7 +2,7 @@
 ghost use Rattle.std.specs.Prelude.{◌≡◌};
 ghost use Rattle.std.specs.List.{list_any};
 ghost use Rattle.fr_run_event.specs.Tests as tests;
-ghost use Rattle.fr_world_turns.specs.Finding.{at_place, some_under, AreFound};
+ghost use Rattle.fr_world_turns.specs.Finding.{at_place, some_under, AreFound, AreGoneFound};
 ghost use Rattle.fr_world_turns.specs.Keys as keys;
 ghost use Rattle.fr_world_turns.specs.Turns.{history_of, retells, turn_of};
 
@@ -12,15 +12,16 @@ use crate::turn::Turn;
 use fr_ask::{Ask, Tell};
 use fr_base::NodeId;
 
-/// Whether one of the turns took a node away. Those from `indexed` on are looked through.
-pub(crate) fn is_gone(turns: &[Turn], indexed: usize, places: &Places, node: &NodeId) -> bool
-    requires { AreFound turns.now indexed places.now }
+/// Whether one of the turns took a node away. Those from `departed` on are looked through.
+pub(crate) fn is_gone(turns: &[Turn], departed: usize, places: &Places, node: &NodeId) -> bool
+    requires { AreGoneFound turns.now departed places.now }
     ensures { result ≡ tests.is_gone (history_of turns.now) node.now }
 {
-    has_gone(turns, places, node) || some_takes_away(&turns[indexed..], node)
+    has_gone(turns, places, node) || some_takes_away(&turns[departed..], node)
 }
 
-/// Whether a node gave an ask to another in one of the turns. Those from `indexed` on are looked through.
+/// Whether a node gave an ask to another in one of the turns. Those from `indexed` on are looked through, the newest
+/// first. Storage servers give asks in no turn: they may ask at any time.
 pub(crate) fn was_sent(
     turns: &[Turn],
     indexed: usize,
@@ -32,10 +33,14 @@ pub(crate) fn was_sent(
     requires { AreFound turns.now indexed places.now }
     ensures { result ≡ tests.was_sent (history_of turns.now) from.now to.now ask.now }
 {
-    has_ask(turns, places, from, to, ask) || some_gives(&turns[indexed..], from, to, ask)
+    match from {
+        NodeId::Storage { .. } => false,
+        _ => some_gives(&turns[indexed..], from, to, ask) || has_ask(turns, places, from, to, ask),
+    }
 }
 
-/// Whether a node told this to another in one of the turns. Those from `indexed` on are looked through.
+/// Whether a node told this to another in one of the turns. Those from `indexed` on are looked through, the newest
+/// first.
 pub(crate) fn was_told(
     turns: &[Turn],
     indexed: usize,
@@ -47,7 +52,7 @@ pub(crate) fn was_told(
     requires { AreFound turns.now indexed places.now }
     ensures { result ≡ tests.was_told (history_of turns.now) by.now to.now tell.now }
 {
-    has_tell(turns, places, by, to, tell) || some_tells(&turns[indexed..], by, to, tell)
+    some_tells(&turns[indexed..], by, to, tell) || has_tell(turns, places, by, to, tell)
 }
 
 /// Whether a turn under the key of a node took it away.
@@ -159,24 +164,24 @@ fn some_takes_away(turns: &[Turn], node: &NodeId) -> bool
     false
 }
 
-/// Whether one of some turns gave an ask.
-fn some_gives(turns: &[Turn], from: &NodeId, to: &NodeId, ask: &Ask) -> bool
+/// Whether one of some turns gave an ask. It looks at the newest first.
+pub(crate) fn some_gives(turns: &[Turn], from: &NodeId, to: &NodeId, ask: &Ask) -> bool
     ensures { result ≡ list_any (λ t. tests.gives from.now to.now ask.now (turn_of t)) turns.now }
 {
-    for turn in turns {
-        if turn.gives(*from, *to, ask) {
+    for place in (0..turns.len()).rev() {
+        if gives_at(turns, place, from, to, ask) {
             return true;
         }
     }
     false
 }
 
-/// Whether a node told this in one of some turns.
-fn some_tells(turns: &[Turn], by: &NodeId, to: &NodeId, tell: &Tell) -> bool
+/// Whether a node told this in one of some turns. It looks at the newest first.
+pub(crate) fn some_tells(turns: &[Turn], by: &NodeId, to: &NodeId, tell: &Tell) -> bool
     ensures { result ≡ list_any (λ t. tests.tells by.now to.now tell.now (turn_of t)) turns.now }
 {
-    for turn in turns {
-        if turn.tells(*by, *to, tell) {
+    for place in (0..turns.len()).rev() {
+        if tells_at(turns, place, by, to, tell) {
             return true;
         }
     }

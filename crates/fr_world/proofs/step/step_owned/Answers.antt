@@ -1,7 +1,11 @@
-use Rattle.std.proofs.Common.{Ok, sym, subst}
-use Rattle.fr_world.specs.Stepping.{Steps}
+use Rattle.std.proofs.Common.{subst}
+use Rattle.fr_world.specs.Stepping.{Steps, Refuses}
 use Rattle.fr_world_kept.specs.Kept.{WorldState, state_of}
 use Rattle.fr_world.proofs.step.step_owned.Goals as goal
 
+-- what is made ready is the world before
 pub returns-clause-turn : goal.returns-clause-turn
-returns-clause-turn c = subst (λ (w : WorldState). Steps (state_of c.args.nodes.now) w c.args.event (Ok c.in_ok-answer.answer)) (sym c.catch_up.ensures.same) c.in_ok-answer.ensures.turn
+returns-clause-turn c = subst (λ (w : WorldState). Steps w (state_of c.happen_owned.new.nodes) c.args.event c.happen_owned.result) c.get_ready.ensures.same c.happen_owned.ensures.turn
+
+pub returns-clause-refused : goal.returns-clause-refused
+returns-clause-refused c = subst (λ (w : WorldState). Refuses w c.args.event c.happen_owned.result) c.get_ready.ensures.same c.happen_owned.ensures.refused

@@ -11,6 +11,7 @@ loop-place-preserved c =
     let turns = c.args.turns.now in
     let m = c.loop-place.places in
     record {
+      grows = λ k f e. c.enter_at.ensures.grows k f (c.loop-place.invariant.grows k f e);
       found = are_entered turns c.loop-place.place m c.enter_at.new.places (subst (λ n. AreFound turns n m) c.loop-place.invariant.next c.loop-place.invariant.found) c.enter_at.ensures.grows c.loop-place-test.true c.in_ok-enter_at.ensures.found;
       next = refl;
     }

@@ -1,9 +1,8 @@
-use Rattle.std.proofs.Common.{◌≡◌, drop}
-use Rattle.std.specs.List.{list_any}
 use Rattle.fr_run_event.specs.Tests as tests
 use Rattle.fr_world_turns.specs.Turns.{turn_of}
+use Rattle.fr_world_turns.proofs.Lists.{NoneFrom}
 use Rattle.fr_world_turns.proofs.finding.some_tells.Given as goal
 
--- some turn told it where one of those that are left did
-abbrev pub invariant-loop-turn : goal.invariant-loop-turn
-invariant-loop-turn l = list_any (λ t. tests.tells l.by l.to l.tell (turn_of t)) (drop l.turn-index l.turns) ≡ list_any (λ t. tests.tells l.by l.to l.tell (turn_of t)) l.turns
+-- none of those that were looked at did
+abbrev pub invariant-loop-place : goal.invariant-loop-place
+invariant-loop-place l = NoneFrom (λ t. tests.tells l.by l.to l.tell (turn_of t)) l.turns l.place
