@@ -92,6 +92,9 @@ module _ {X : Type 0} (p : X → Bool) where
           ]
 
   -- no item passes
-  pub none_of : (xs : List X) → NoneFrom xs 0 → list_any p xs ≡ false
-  none_of [] none = refl
-  none_of (x ∷ xs) none = ap (λ b. b || list_any p xs) (none 0 (omega arith) (omega arith)) ∙ none_of xs (λ i l within. none (suc i) (omega arith) (omega (arith, within)))
+  none_of_all : (xs : List X) → NoneFrom xs 0 → list_any p xs ≡ false
+  none_of_all [] none = refl
+  none_of_all (x ∷ xs) none = ap (λ b. b || list_any p xs) (none 0 (omega arith) (omega arith)) ∙ none_of_all xs (λ i l within. none (suc i) (omega arith) (omega (arith, within)))
+
+  pub none_of : (xs : List X) (n : ℕ) → n ≤ 0 → NoneFrom xs n → list_any p xs ≡ false
+  none_of xs n first none = none_of_all xs (λ i l within. none i (omega (arith, first)) within)

@@ -13,4 +13,4 @@ loop-place-preserved c =
     none_before (λ t. gives c.args.from.now c.args.to.now c.args.ask.now (turn_of t)) c.args.turns.now c.loop-place.place (sym c.gives_at.ensures ∙ c.if-gives_at.false) c.loop-place.invariant
 
 pub returns : goal.returns
-returns c = sym (none_of (λ t. gives c.args.from.now c.args.to.now c.args.ask.now (turn_of t)) c.args.turns.now c.loop-place.invariant)
+returns c = sym (none_of (λ t. gives c.args.from.now c.args.to.now c.args.ask.now (turn_of t)) c.args.turns.now c.loop-place.place c.loop-place-test.false c.loop-place.invariant)

@@ -13,4 +13,4 @@ loop-place-preserved c =
     none_before (λ t. tells c.args.by.now c.args.to.now c.args.tell.now (turn_of t)) c.args.turns.now c.loop-place.place (sym c.tells_at.ensures ∙ c.if-tells_at.false) c.loop-place.invariant
 
 pub returns : goal.returns
-returns c = sym (none_of (λ t. tells c.args.by.now c.args.to.now c.args.tell.now (turn_of t)) c.args.turns.now c.loop-place.invariant)
+returns c = sym (none_of (λ t. tells c.args.by.now c.args.to.now c.args.tell.now (turn_of t)) c.args.turns.now c.loop-place.place c.loop-place-test.false c.loop-place.invariant)

@@ -1,4 +1,4 @@
-use Rattle.std.proofs.Common.{drop, ap, sym, ◌∙◌}
+use Rattle.std.proofs.Common.{drop, ap, ◌∙◌}
 use Rattle.std.specs.List.{list_any}
 use Rattle.fr_run_event.specs.Tests.{tells, was_told}
 use Rattle.fr_world_turns.specs.Finding.{some_under}
