@@ -1,5 +1,5 @@
-//! Tests of what is low in crates.txt and no scenario can say: numbers at their limits, a node in memory, devices that
-//! fail when they are told to, readers and writers that fail, a store beside plain lists.
+//! Tests of what no scenario can say: numbers beside others, a node and devices in memory, ballots that contend; readers and
+//! writers that fail; stores in files that stop, fail or crash, and mirrors and devices over such disks.
 #![tactic(auto)]
 
 #[cfg(test)]
@@ -9,4 +9,10 @@ mod cli;
 #[cfg(test)]
 mod devices;
 #[cfg(test)]
-mod store_agrees;
+mod disk_device;
+#[cfg(test)]
+mod files;
+#[cfg(test)]
+mod gap;
+#[cfg(test)]
+mod mirror;
