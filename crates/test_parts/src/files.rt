@@ -297,9 +297,14 @@ enum End {
     Wrong,
 }
 
+/// Whether a store is opened again.
+fn reopens<D: FaithfulDisk + Drop>(alloc: Global, store: &mut SqlFileStore<D>) -> bool {
+    store.reopen(alloc).is_ok()
+}
+
 fn end_of(alloc: Global, mut store: SqlFileStore<Gap<MemoryDisk>>) -> End {
     let is_done = runs(alloc, &mut store, SECOND, &mut Vec::new(alloc));
-    let is_reopened = store.reopen(alloc).is_ok();
+    let is_reopened = reopens(alloc, &mut store);
     let mut lines = Vec::new(alloc);
     let is_shown = runs(alloc, &mut store, SHOW, &mut lines);
     let further = forgets_again(alloc, &mut store);
