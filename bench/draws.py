@@ -57,16 +57,20 @@ def verdict(strength, word, late=0):
     if word % 256 < strength:
         return ("DropAsk", "DropTell", "Twice")[word // 256 % 3]
     if word // 65536 % 256 < late:
-        return f"{('LateAsk', 'LateTell')[word // 2**24 % 2]}({word // 2**25 % 64 + 1})"
+        return f"{('LateAsk', 'LateTell')[word // 2**24 % 2]} {{ turns: {word // 2**25 % 64 + 1} }}"
     return "Pass"
+
+
+def log(epoch, index):
+    return f"{{ epoch: Epoch {{ number: {epoch} }}, index: {index} }}"
 
 
 def crash(strength, coordinators, logs, word):
     if word % 256 >= strength:
-        return "Nothing"
+        return "None"
     if word // 65536 % 2 == 0:
-        return f"Cell({word // 256 % coordinators})"
-    return f"Log({word // 256 % logs})"
+        return f"Some(Crash {{ node: Cell {{ index: {word // 256 % coordinators} }} }})"
+    return f"Some(Crash {{ node: Log {log(257, word // 256 % logs)} }})"
 
 
 def blow(crashes, losses, chosen, word):
@@ -75,15 +79,16 @@ def blow(crashes, losses, chosen, word):
     number = word // 2**24
     if word % 256 < crashes:
         index = number % (logs + 1)
-        return f"Crash(Log({epoch}, {index}))" if index < logs else f"Crash(Sequencer({epoch}))"
+        sequencer = f"Sequencer {{ epoch: Epoch {{ number: {epoch} }} }}"
+        return f"Some(Crash {{ node: {f'Log {log(epoch, index)}' if index < logs else sequencer} }})"
     if word // 256 % 256 < losses and degree > 1:
-        return f"Lose({epoch}, {(epoch // 256 + number % (degree - 1)) % logs})"
-    return "Nothing"
+        return f"Some(Lose {{ log: LogId {log(epoch, (epoch // 256 + number % (degree - 1)) % logs)} }})"
+    return "None"
 
 
 def ends(crashes, word):
     """Whether a node that asks is gone."""
-    return word % 256 < crashes
+    return str(word % 256 < crashes).lower()
 
 
 def fuse(every, word):
@@ -103,6 +108,16 @@ def orders(seed, number, shards, many):
             yield ("set", "add", "xor")[kind], bytes([begin, key]).hex(), operand.to_bytes(4, "big").hex()
 
 
+def batch(kind, *both):
+    """The step of a batch and its mutation, as they are printed."""
+    first, second = (f"Bytes {{ content: {list(bytes.fromhex(each))} }}" for each in both)
+    if kind == "clear":
+        return f"1 [Clear {{ begin: {first}, end: {second} }}]"
+    if kind == "set":
+        return f"1 [Set {{ key: {first}, value: {second} }}]"
+    return f"1 [Atomic {{ op: {kind.capitalize()}, key: {first}, param: {second} }}]"
+
+
 def is_published():
     """The first words of PCG's demonstration (state 42, stream 54), rand_pcg's first 64 bits of seed 0, and rand_core's
     seed of 8 bytes of 0."""
@@ -117,32 +132,35 @@ def is_published():
     )
 
 
+def show(title, lines):
+    print(f"{title}:")
+    for line in lines:
+        print(f"  {line}")
+
+
 def main():
     assert is_published()
-    print("the first word that a number gives:")
-    for number in (0, 1, 2, 3, 42, 2021, 1 << 32, 1 << 63, MASK):
-        print(f"  {number} {word_of(number)}")
-    print("asks 0 to 23 in a storm of seed 1 and strength 128:")
-    print("  " + " ".join(verdict(128, word_of(1 + call)) for call in range(24)))
-    print("words 0 to 3 of the greatest seed:")
-    print("  " + " ".join(str(word_of(MASK + call)) for call in range(4)))
+    numbers = (0, 1, 2, 3, 42, 2021, 1 << 32, 1 << 63, MASK)
+    show("the first word that a number gives", (f"{number} {word_of(number)}" for number in numbers))
+    show("words 0 to 3 of the greatest seed", (word_of(MASK + call) for call in range(4)))
+    title = "asks 0 to 23 in a storm of seed 1 and strength 128"
+    show(title, (verdict(128, word_of(1 + call)) for call in range(24)))
     for strength, many in ((100, 13), (256, 16)):
-        print(f"crashes of seed 7 and strength {strength}, with 5 coordinators and 6 logs:")
-        print("  " + " ".join(crash(strength, 5, 6, word_of(7 + call)) for call in range(many)))
-    print("asks 0 to 23 in a storm of seed 5, strength 64 and lateness 160:")
-    print("  " + " ".join(verdict(64, word_of(5 + call), 160) for call in range(24)))
+        title = f"crashes of seed 7 and strength {strength}, with 5 coordinators and 6 logs"
+        show(title, (crash(strength, 5, 6, word_of(7 + call)) for call in range(many)))
+    title = "asks 0 to 23 in a storm of seed 5, strength 64 and lateness 160"
+    show(title, (verdict(64, word_of(5 + call), 160) for call in range(24)))
     chosen = ((257, 6, 2), (513, 4, 4), (769, 1, 1))
-    print("blows of seed 9, 100 crashes and 160 losses, of generations 257 (6 logs, 2), 513 (4, 4) and 769 (1, 1):")
-    print("  " + " ".join(blow(100, 160, chosen, word_of(9 + call)) for call in range(24)))
-    print("whether nodes that ask are gone, of seed 3 and 100 crashes:")
-    print("  " + " ".join(str(ends(100, word_of(3 + call))) for call in range(16)))
-    numbers = (0, 1, 64, 65, 4112, 8208)
-    print("of how many calls one is refused, of the numbers 0, 1, 64, 65, 4112 and 8208, of seed 6 and at least 300:")
-    print("  " + " ".join(str(fuse(300, word_of(6 + number))) for number in numbers))
+    title = "blows of seed 9, 100 crashes and 160 losses, of generations 257 (6 logs, 2), 513 (4, 4) and 769 (1, 1)"
+    show(title, (blow(100, 160, chosen, word_of(9 + call)) for call in range(24)))
+    title = "whether nodes that ask are gone, of seed 3 and 100 crashes"
+    show(title, (ends(100, word_of(3 + call)) for call in range(16)))
+    fuses = [fuse(300, word_of(6 + number)) for number in (0, 1, 64, 65, 4112, 8208)]
+    title = "of how many calls one is refused, of the numbers 0, 1, 64, 65, 4112 and 8208, of seed 6 and at least 300"
+    show(title, (f"{each} of {each}" for each in fuses))
     for seed, number, shards, many in ((1, 0, 3, 12), (MASK, 2, 32, 8)):
-        print(f"batches of workload {number} in a storm of seed {seed}, over {shards} shards:")
-        for order in orders(seed, number, shards, many):
-            print("  " + " ".join(order))
+        title = f"batches of workload {number} in a storm of seed {seed}, over {shards} shards"
+        show(title, (batch(*order) for order in orders(seed, number, shards, many)))
 
 
 if __name__ == "__main__":

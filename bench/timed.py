@@ -8,7 +8,7 @@ import tempfile
 
 ROOT = os.path.dirname(os.path.dirname(os.path.realpath(__file__)))
 LIBRARIES = "fr_base fr_mutation fr_undo fr_register fr_state fr_tags fr_log fr_ask fr_proxy fr_epoch fr_storage"
-LINE = f"timing: {LIBRARIES} fr_device fr_record_log fr_world anyhow"
+LINE = f"timing: {LIBRARIES} fr_record fr_record_log fr_world anyhow"
 
 
 def below(program):

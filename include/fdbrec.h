@@ -40,13 +40,46 @@ enum {
     FDBREC_FUTURE_VERSION = 14 /* the version that is read is above the one that the storage server applied */
 };
 
+/* What calls take beside bytes. Each pointer of a key is one of the call's, by the rules above. */
+typedef struct fdbrec_proxy_numbers {
+    uint64_t epoch;
+    uint64_t known; /* through which version all is committed */
+    uint8_t number; /* of the proxy among those of its generation */
+    uint8_t m;
+    uint8_t k;
+} fdbrec_proxy_numbers;
+
+typedef struct fdbrec_push_numbers {
+    uint64_t epoch;
+    uint64_t prev; /* the version before */
+    uint64_t version;
+    uint64_t known;
+    uint8_t tag;
+} fdbrec_push_numbers;
+
+typedef struct fdbrec_peek_numbers {
+    uint64_t epoch;
+    uint64_t after; /* records of greater versions are given */
+    uint8_t tag;
+    uint8_t most; /* how many records at most, 1 to 100 */
+} fdbrec_peek_numbers;
+
+typedef struct fdbrec_key_at {
+    const uint8_t *begin; /* where the shard of the server's tag begins */
+    size_t begin_len;
+    const uint8_t *end; /* where the next shard does; of length 0: there is none */
+    size_t end_len;
+    const uint8_t *key;
+    size_t key_len;
+    uint64_t version;
+} fdbrec_key_at;
+
 /* Machines. What the handle held before is freed, if the new one is there. `shards` are the keys at which shards begin,
  * as ["",..] in hex; `state` is a coordinated state. A recoverer with m and k 0 keeps the shape of the generation before. */
 uint32_t fdbrec_cell_new(fdbrec_part **of);
 uint32_t fdbrec_log_new(fdbrec_part **of, uint64_t epoch, uint8_t index, uint8_t m, uint8_t k);
 uint32_t fdbrec_sequencer_new(fdbrec_part **of, uint64_t epoch, uint64_t last);
-uint32_t fdbrec_proxy_new(fdbrec_part **of, uint64_t epoch, uint8_t number, uint8_t m, uint8_t k, uint64_t known,
-                          const uint8_t *shards, size_t shards_len);
+uint32_t fdbrec_proxy_new(fdbrec_part **of, const fdbrec_proxy_numbers *at, const uint8_t *shards, size_t shards_len);
 uint32_t fdbrec_recoverer_new(fdbrec_part **of, uint64_t ballot, uint8_t coordinators, const uint8_t *shards,
                               size_t shards_len, uint8_t m, uint8_t k);
 uint32_t fdbrec_storage_new(fdbrec_part **of, uint8_t tag, const uint8_t *state, size_t state_len);
@@ -71,18 +104,15 @@ uint32_t fdbrec_cell_write(fdbrec_part **of, uint64_t ballot, const uint8_t *val
                            uint64_t *number);
 
 /* Logs, in bytes. A batch is in format 1 or 2. Records are a version (8 bytes, the most significant first) and a batch. */
-uint32_t fdbrec_log_push(fdbrec_part **of, uint64_t epoch, uint64_t prev, uint64_t version, uint64_t known, uint8_t tag,
-                         const uint8_t *batch, size_t batch_len, uint64_t *held);
-uint32_t fdbrec_log_peek(fdbrec_part **of, uint64_t epoch, uint8_t tag, uint64_t after, uint8_t most, uint8_t *out,
-                         size_t out_len, size_t *len, uint64_t *upto, uint64_t *known);
+uint32_t fdbrec_log_push(fdbrec_part **of, const fdbrec_push_numbers *at, const uint8_t *batch, size_t batch_len,
+                         uint64_t *held);
+uint32_t fdbrec_log_peek(fdbrec_part **of, const fdbrec_peek_numbers *at, uint8_t *out, size_t out_len, size_t *len,
+                         uint64_t *upto, uint64_t *known);
 uint32_t fdbrec_log_answer(fdbrec_part **of, uint8_t *out, size_t out_len, size_t *len, uint64_t *upto,
                            uint64_t *known);
 
-/* Storage servers, in bytes: the value that a key had at a version. The shard of the server's tag goes from `begin` up
- * to, but not with, `end`; with an `end` of length 0 it has none. */
-uint32_t fdbrec_storage_read(fdbrec_part **of, const uint8_t *begin, size_t begin_len, const uint8_t *end,
-                             size_t end_len, const uint8_t *key, size_t key_len, uint64_t version, uint8_t *out,
-                             size_t out_len, size_t *len);
+/* Storage servers, in bytes: the value that a key had at a version. */
+uint32_t fdbrec_storage_read(fdbrec_part **of, const fdbrec_key_at *what, uint8_t *out, size_t out_len, size_t *len);
 
 /* Stores in memory, in bytes. */
 uint32_t fdbrec_store_apply(fdbrec_part **of, uint64_t version, const uint8_t *batch, size_t batch_len);

@@ -47,10 +47,12 @@ int main(int words, char **word)
               "\"m\":1,\"seeded_to\":0}],\"prev\":0,\"version\":1}}}");
     for (uint64_t n = 0; n < count; n++) {
         spell(n, batch);
-        must(fdbrec_log_push(&log, 257, n + 1, n + 2, n + 1, 0, batch, sizeof batch, &held));
+        fdbrec_push_numbers at = {.epoch = 257, .prev = n + 1, .version = n + 2, .known = n + 1};
+        must(fdbrec_log_push(&log, &at, batch, sizeof batch, &held));
     }
     for (uint64_t after = 1; after < count + 1; after = upto) {
-        must(fdbrec_log_peek(&log, 257, 0, after, 100, out, sizeof out, &len, &upto, &known));
+        fdbrec_peek_numbers at = {.epoch = 257, .after = after, .most = 100};
+        must(fdbrec_log_peek(&log, &at, out, sizeof out, &len, &upto, &known));
         bytes += len;
         for (size_t at = 0; at < len; at += 61)
             sum = sum * 31 + out[at];

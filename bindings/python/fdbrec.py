@@ -136,12 +136,37 @@ _U32 = ctypes.c_uint32
 _U64 = ctypes.c_uint64
 _U64_OUT = ctypes.POINTER(ctypes.c_uint64)
 
+
+class _ProxyNumbers(ctypes.Structure):
+    _fields_ = [("epoch", _U64), ("known", _U64), ("number", _U8), ("m", _U8), ("k", _U8)]
+
+
+class _PushNumbers(ctypes.Structure):
+    _fields_ = [("epoch", _U64), ("prev", _U64), ("version", _U64), ("known", _U64), ("tag", _U8)]
+
+
+class _PeekNumbers(ctypes.Structure):
+    _fields_ = [("epoch", _U64), ("after", _U64), ("tag", _U8), ("most", _U8)]
+
+
+class _KeyAt(ctypes.Structure):
+    _fields_ = [
+        ("begin", _BYTES), ("begin_len", _SIZE), ("end", _BYTES), ("end_len", _SIZE), ("key", _BYTES),
+        ("key_len", _SIZE), ("version", _U64)
+    ]
+
+
+_PROXY_NUMBERS = ctypes.POINTER(_ProxyNumbers)
+_PUSH_NUMBERS = ctypes.POINTER(_PushNumbers)
+_PEEK_NUMBERS = ctypes.POINTER(_PeekNumbers)
+_KEY_AT = ctypes.POINTER(_KeyAt)
+
 # Each function of the header: its result, and then its parameters.
 _DECLARED: dict[str, tuple] = {
     "fdbrec_cell_new": (_U32, _PART),
     "fdbrec_log_new": (_U32, _PART, _U64, _U8, _U8, _U8),
     "fdbrec_sequencer_new": (_U32, _PART, _U64, _U64),
-    "fdbrec_proxy_new": (_U32, _PART, _U64, _U8, _U8, _U8, _U64, _BYTES, _SIZE),
+    "fdbrec_proxy_new": (_U32, _PART, _PROXY_NUMBERS, _BYTES, _SIZE),
     "fdbrec_recoverer_new": (_U32, _PART, _U64, _U8, _BYTES, _SIZE, _U8, _U8),
     "fdbrec_storage_new": (_U32, _PART, _U8, _BYTES, _SIZE),
     "fdbrec_store_new": (_U32, _PART),
@@ -154,12 +179,10 @@ _DECLARED: dict[str, tuple] = {
     "fdbrec_cell_read": (_U32, _PART, _U64, _U64_OUT, _ROOM, _SIZE, _SIZE_OUT),
     "fdbrec_cell_answer": (_U32, _PART, _U64_OUT, _ROOM, _SIZE, _SIZE_OUT),
     "fdbrec_cell_write": (_U32, _PART, _U64, _BYTES, _SIZE, _U64_OUT),
-    "fdbrec_log_push": (_U32, _PART, _U64, _U64, _U64, _U64, _U8, _BYTES, _SIZE, _U64_OUT),
-    "fdbrec_log_peek": (_U32, _PART, _U64, _U8, _U64, _U8, _ROOM, _SIZE, _SIZE_OUT, _U64_OUT, _U64_OUT),
+    "fdbrec_log_push": (_U32, _PART, _PUSH_NUMBERS, _BYTES, _SIZE, _U64_OUT),
+    "fdbrec_log_peek": (_U32, _PART, _PEEK_NUMBERS, _ROOM, _SIZE, _SIZE_OUT, _U64_OUT, _U64_OUT),
     "fdbrec_log_answer": (_U32, _PART, _ROOM, _SIZE, _SIZE_OUT, _U64_OUT, _U64_OUT),
-    "fdbrec_storage_read": (
-        _U32, _PART, _BYTES, _SIZE, _BYTES, _SIZE, _BYTES, _SIZE, _U64, _ROOM, _SIZE, _SIZE_OUT
-    ),
+    "fdbrec_storage_read": (_U32, _PART, _KEY_AT, _ROOM, _SIZE, _SIZE_OUT),
     "fdbrec_store_apply": (_U32, _PART, _U64, _BYTES, _SIZE),
     "fdbrec_store_undo": (_U32, _PART, _U64),
     "fdbrec_store_forget": (_U32, _PART, _U64),
@@ -437,15 +460,15 @@ class Log(Asked):
     def push(self, epoch: int, prev: int, version: int, known: int, tag: int, batch: Batch) -> int:
         """Pushes a version with the batch of one tag, and gives the version that the log holds; or it is `Refused`."""
         held, spelled = ctypes.c_uint64(), bytes(batch)
-        self._call(
-            "fdbrec_log_push", epoch, prev, version, known, tag, spelled, len(spelled), ctypes.byref(held)
-        )
+        numbers = _PushNumbers(epoch=epoch, prev=prev, version=version, known=known, tag=tag)
+        self._call("fdbrec_log_push", numbers, spelled, len(spelled), ctypes.byref(held))
         return held.value
 
     def peek(self, epoch: int, tag: int, after: int, most: int) -> Peeked:
         """Gives the records of a tag above a version, at most so many; or it is `Refused`."""
         outs = ctypes.c_uint64(), ctypes.c_uint64()
-        data = self._turn("fdbrec_log_peek", epoch, tag, after, most, again="fdbrec_log_answer", outs=outs)
+        numbers = _PeekNumbers(epoch=epoch, after=after, tag=tag, most=most)
+        data = self._turn("fdbrec_log_peek", numbers, again="fdbrec_log_answer", outs=outs)
         return Peeked(list(_records(data)), *(it.value for it in outs))
 
 
@@ -473,7 +496,8 @@ class Proxy(Hears):
 
     def __init__(self, epoch: int, number: int, m: int, k: int, known: int, shards: Sequence[bytes]) -> None:
         begins = _begins(shards)
-        super().__init__("fdbrec_proxy_new", epoch, number, m, k, known, begins, len(begins))
+        numbers = _ProxyNumbers(epoch=epoch, known=known, number=number, m=m, k=k)
+        super().__init__("fdbrec_proxy_new", numbers, begins, len(begins))
 
     def submit(self, step: int, batch: Batch) -> Heard:
         """Takes a batch, whose version is to be `step` above the last one given; `Refused` if one is under way, or the
@@ -506,8 +530,8 @@ class Storage(Hears):
         """The value that a key had at a version, if it had one; or `NotMine`, `TooOld` or `FutureVersion`. `shard` is
         that of the server's tag: the key where it begins, and the one where the next does, if there is a next one."""
         begin, end = shard[0], shard[1] or b""
-        its = begin, len(begin), end, len(end), key, len(key), version
-        return self._read("fdbrec_storage_read", *its, none=Status.NONE)
+        its = _KeyAt(begin, len(begin), end, len(end), key, len(key), version)
+        return self._read("fdbrec_storage_read", its, none=Status.NONE)
 
 
 class Store(Machine):

@@ -16,10 +16,10 @@ STATEMENTS = (
 RUN = ("fr_runtime", "cluster.rt", "run")
 BESIDE = (
     ("fr_run_outcomes", "laws.rt", ("once_law", "lost_law")),
-    ("fr_run_serving", "laws.rt", ("serving_law", "loss_law", "snapshot_law", "read_law")),
+    ("fr_run_outcomes", "serving.rt", ("serving_law", "loss_law", "snapshot_law", "read_law")),
     (
-        "fr_run_progress",
-        "laws.rt",
+        "fr_run_outcomes",
+        "progress.rt",
         (
             "pending_law",
             "reading_law",
@@ -31,10 +31,10 @@ BESIDE = (
             "hearing_law",
         ),
     ),
-    ("fr_run_example", "laws.rt", ("pops_law",)),
+    ("fr_run_outcomes", "example.rt", ("pops_law",)),
 )
 RUN_TYPES = (
-    ("fr_runtime", "Rack"),
+    ("fr_runtime_threads", "Rack"),
     ("fr_runtime_threads", "Workload"),
     ("fr_runtime_station", "Faults"),
     ("fr_runtime", "Report"),
@@ -148,7 +148,7 @@ TRUSTED = """
 - **What the standard library and the crates of the kit ensure**: their contracts are proved in the kit and not here.
   Those that a program of this repository stands on: {kit}.
 - **The C library and the operating system**; that memory which was given is kept; of a disk, that it does what
-  `Device` of fr_device says. Of a file of the host (`fr_host_mirror`, `fr_host_device`): that what the host answered
+  `Device` of fr_record says. Of a file of the host (`fr_host`): that what the host answered
   when the file was read, at its open, is what the file holds; that nobody else writes it; and that a crash leaves of it
   what the model of `sqlite_disk` allows. That the contracts over such a file speak of the file is this premise, and no
   proof.

@@ -15,8 +15,9 @@ HEAD = (
     "long without what follows its colon. It stands on the crates named, and on those on which these stand. Code, "
     "definitions and proofs are in lines.",
     "*Minutes* are of one processor, in the runs that [GATE.md](GATE.md) names: a library's proof; of tests also their "
-    "build and their run; of a program both compilers. A crate without minutes was in none of these runs. A *first "
-    "check* of a crate proves all that it stands on too; a *change* in it has all crates above proved again.",
+    "build and their run; of a program both compilers. Those of a crate that was several then are the sum of theirs; a "
+    "crate without minutes was in none of these runs. A *first check* of a crate proves all that it stands on too; a "
+    "*change* in it has all crates above proved again.",
     "[ARCHITECTURE.md](ARCHITECTURE.md) says what the families are for. `docs/tables --modules CRATE..` prints what "
     "each module of definitions states, `docs/tables --tests CRATE..` the names of the tests.",
 )

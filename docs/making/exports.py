@@ -5,12 +5,13 @@ import re
 from making.sources import TOP, files_of, read
 
 EXPORTS = "crates/fr_c/src"
-STATUSES = "crates/fr_seat/src/status.rt"
+CALLS = "crates/fr_part/src/calls"
+STATUSES = f"{CALLS}/status.rt"
 HEADER = "include/fdbrec.h"
 RUST = "bindings/rust/fdbrec-sys/src/lib.rs"
 PYTHON = "bindings/python/fdbrec.py"
 
-# What a parameter of Rattle is in C: each with what stands behind the parameter's name.
+# What a parameter or a field of Rattle is in C: each with what stands behind its name.
 IN_C = {
     "Global": (),
     "&mut Handle": (("fdbrec_part **", ""),),
@@ -49,6 +50,56 @@ IN_PYTHON = {
 }
 
 
+def of_struct(name):
+    """The name in C, in Rust and in Python of a pointer to a struct of Rattle."""
+    words = re.findall(r"[A-Z][a-z]*", name)
+    named = "fdbrec_" + "_".join(words).lower()
+    return f"const {named} *", f"*const {named}", "_" + "_".join(words).upper()
+
+
+def structs():
+    """The structs that cross, as C is to declare them: {name: [(type, name), ..]}. What C, Rust and Python have for a
+    pointer to each is entered in the tables above."""
+    found = {}
+    form = r"#\[repr\(C\)\]\s*(?:#\[[^\]]*\]\s*)*pub struct (\w+)(<'a>)? \{(.*?)^\}"
+    for path in files_of(CALLS, ".rt"):
+        for name, lent, inside in re.findall(form, re.sub(r"//.*", "", read(path)), re.S | re.M):
+            kind, rust, python = of_struct(name)
+            IN_C["&" + name + ("<'_>" if lent else "")] = ((kind, ""),)
+            IN_RUST[kind], IN_PYTHON[kind] = rust, python
+            found[kind[len("const ") : -len(" *")]] = fields = []
+            for each in filter(None, (it.strip() for it in inside.split(","))):
+                of, kind = (it.strip() for it in each.removeprefix("pub ").split(":", 1))
+                kind = kind.replace("&'a ", "&")
+                fields += [(part, of + behind) for part, behind in IN_C.get(kind, ((f"<{kind}> ", ""),))]
+    return found
+
+
+def declared_structs():
+    """The structs of the header, in the same form."""
+    text = re.sub(r"/\*.*?\*/", "", read(HEADER), flags=re.S)
+    found = re.findall(r"^typedef struct (\w+) \{(.*?)^\} \1;", text, re.S | re.M)
+    return {name: [typed(it) for it in inside.split(";") if it.strip()] for name, inside in found}
+
+
+def structs_of_rust():
+    """The fields of the structs of fdbrec-sys that C has too."""
+    found = re.findall(r"#\[repr\(C\)\]\n(?:#[^\n]*\n)*pub struct (\w+) \{(.*?)^\}", read(RUST), re.S | re.M)
+    return {name: listed(inside.replace("pub ", "")) for name, inside in found if "_none:" not in inside}
+
+
+def structs_of_python():
+    """The fields of the structs of fdbrec.py, by the names in C."""
+    found = re.findall(r"^class _(\w+)\(ctypes\.Structure\):\n    _fields_ = \[(.*?)\]$", read(PYTHON), re.S | re.M)
+    return {of_struct(name)[1].removeprefix("*const "): listed(inside) for name, inside in found}
+
+
+def typed(text):
+    """A type of C and the name behind it."""
+    it = re.fullmatch(r"(.*[ *])(\w+)", " ".join(text.split()))
+    return (it[1], it[2]) if it else ("?", text)
+
+
 def in_c(result, parameters):
     return f"{result} ({', '.join(kind + of for kind, of in parameters)})"
 
@@ -83,8 +134,7 @@ def declared():
     text = re.sub(r"/\*.*?\*/|^ *#.*?$", "", read(HEADER), flags=re.S | re.M)
     found = {}
     for result, name, given in re.findall(r"^(\w+)\s+(fdbrec_\w+)\(([^)]*)\);", text, re.M):
-        parameters = [re.fullmatch(r"(.*[ *])(\w+)", " ".join(it.split())) for it in given.split(",")]
-        found[name] = result, [(it[1], it[2]) for it in parameters if it]
+        found[name] = result, [typed(it) for it in given.split(",")]
     return found
 
 
@@ -119,14 +169,25 @@ def differ(path, found, wanted, by):
     return faults + [f"{path}: {name} is {found[name]}, and by {by} {wanted[name]}" for name in both]
 
 
+def structs_faults(header, own):
+    """What is not the same of the structs."""
+    faults = differ(HEADER, header, own, CALLS)
+    rust = {name: ", ".join(f"{of}: {IN_RUST.get(kind, '?')}" for kind, of in it) for name, it in header.items()}
+    pairs = {name: [(of, IN_PYTHON.get(kind, "?")) for kind, of in it] for name, it in header.items()}
+    python = {name: ", ".join(f'("{of}", {kind})' for of, kind in it) for name, it in pairs.items()}
+    return faults + differ(RUST, structs_of_rust(), rust, HEADER) + differ(PYTHON, structs_of_python(), python, HEADER)
+
+
 def exports_faults():
     """What is not the same in fr_c, in the header and in the bindings."""
     missing = [it for it in (STATUSES, HEADER, RUST, PYTHON) if not os.path.exists(f"{TOP}/{it}")]
     if missing:
         return [f"{it}: there is no such file" for it in missing]
+    own = structs()
+    faults = structs_faults(declared_structs(), own)
     header, said = declared(), statuses(HEADER, r"^ *FDBREC_(\w+) = (\d+)")
     own = {name: in_c(*it) for name, it in exports().items()}
-    faults = differ(HEADER, {name: in_c(*it) for name, it in header.items()}, own, EXPORTS)
+    faults += differ(HEADER, {name: in_c(*it) for name, it in header.items()}, own, EXPORTS)
     faults += differ(RUST, of_rust(), {name: in_rust(*it) for name, it in header.items()}, HEADER)
     faults += differ(PYTHON, of_python(), {name: in_python(*it) for name, it in header.items()}, HEADER)
     faults += differ(HEADER, said, statuses(STATUSES, r"^pub const (\w+): u32 = (\d+);"), STATUSES)

@@ -11,18 +11,18 @@ FAMILIES = (
     (
         "Audits",
         "journals, their scripts, and whether they are a run",
-        r"fr_audit.*|fr_forms|fr_simulate_script",
+        r"fr_audit.*|fr_forms|fr_script",
     ),
     (
         "Library for C",
         "machines as one type, and behind handles: what C, Rust and Python call",
-        r"fr_(part|handle|seat|c)",
+        r"fr_(part|c)",
     ),
-    ("Nodes as processes", "a turn of one node, and the lines by which it is served", r"fr_node_.*"),
+    ("Nodes as processes", "a turn of one node, and the lines by which it is served", r"fr_node.*"),
     ("Worlds", "all nodes in one exact run, an event at a time", r"fr_world.*"),
     ("Runs", "lists of turns of all nodes, and the laws of every run: the main theorem", r"fr_run.*"),
-    ("Nodes over disks", "disks that crash, record files, and nodes over them", r"fr_(device|host_device|record).*"),
-    ("Store in SQL", "the same store in tables of a database, and of files", r"fr_sql_.*|fr_host_mirror"),
+    ("Nodes over disks", "disks that crash, record files, and nodes over them", r"fr_(record.*|host)"),
+    ("Store in SQL", "the same store in tables of a database, and of files", r"fr_sql_.*"),
     (
         "Nodes",
         "cells, logs, sequencers, proxies, recoverers and storage servers, each a machine",
@@ -85,11 +85,14 @@ def placed(inside, below):
     boxes, y = {}, PAD
     for row in sorted(rows, reverse=True):
         high = 0
-        columns = [SIDE.get(name, 2) for name in rows[row]]
-        assert len(set(columns)) == len(columns), f"docs/layers.svg: one column for two of {rows[row]}: see SIDE"
+        main = [name for name in rows[row] if name not in SIDE]
+        columns = [SIDE[name] for name in rows[row] if name in SIDE]
+        too_many = len(main) > 2 or len(set(columns)) != len(columns)
+        assert not too_many, f"docs/layers.svg: no room beside one another for {rows[row]}: see SIDE"
         for name in rows[row]:
-            wide = NARROW if name in SIDE else WIDE
-            x = PAD + SIDE.get(name, 2) * (NARROW + GAP)
+            # (two of the main column have a half of it each)
+            wide = WIDE if main == [name] else NARROW
+            x = PAD + (SIDE[name] if name in SIDE else 2 + main.index(name)) * (NARROW + GAP)
             sentence = next(words for it, words, _ in FAMILIES if it == name)
             said = textwrap.wrap(sentence, wide // 7)
             lines = said + textwrap.wrap(", ".join(inside[name]), int(wide / 6.4), break_long_words=False)
@@ -102,11 +105,13 @@ def placed(inside, below):
 
 
 def line(boxes, high, low):
-    """Straight down within a column; from one beside, up and then to the left edge of the upper box."""
+    """Straight down within a column, from or to the narrower box; from one beside, up and then to the left edge of the
+    upper box."""
     x1, y1, wide, tall, _ = boxes[high]
     x2, y2, low_wide, _, _ = boxes[low]
-    if x1 == x2:
-        way = f"M{x1 + wide / 2:g} {y1 + tall:g}V{y2:g}"
+    if SIDE.get(high, 2) == SIDE.get(low, 2):
+        x = x1 + wide / 2 if wide <= low_wide else x2 + low_wide / 2
+        way = f"M{x:g} {y1 + tall:g}V{y2:g}"
     elif x2 < x1:
         way = f"M{x1:g} {y1 + tall / 2 - 8 * (2 - SIDE.get(low, 2)):g}H{x2 + low_wide / 2:g}V{y2:g}"
     else:

@@ -88,6 +88,12 @@ static const char LONGER[] = {1, 0, 1, 1, 0, 1, 'a', 0, 0, 0, 1, 1, 0};
 
 #define SPELLED give(BATCH, sizeof BATCH)
 
+/* Numbers that calls take. What is not said is 0. */
+#define PUSH(prev_, version_, known_, tag_)                                                                            \
+    (&(fdbrec_push_numbers){.epoch = 257, .prev = prev_, .version = version_, .known = known_, .tag = tag_})
+#define PEEK(after_, most_) (&(fdbrec_peek_numbers){.epoch = 257, .after = after_, .most = most_})
+#define PROXY(number_) (&(fdbrec_proxy_numbers){.epoch = 257, .number = number_, .m = 1, .k = 1})
+
 /* Every call but those that make a machine says of an empty handle that it is one, and touches nothing. */
 static void of_none(void)
 {
@@ -103,11 +109,12 @@ static void of_none(void)
     IS(fdbrec_cell_read(&none, 513, &number, out, room, &len), FDBREC_EMPTY);
     IS(fdbrec_cell_answer(&none, &number, out, room, &len), FDBREC_EMPTY);
     WITH(value, text("x"), IS(fdbrec_cell_write(&none, 513, value.at, value.size, &number), FDBREC_EMPTY));
-    WITH(batch, SPELLED, IS(fdbrec_log_push(&none, 257, 1, 2, 0, 0, batch.at, batch.size, &number), FDBREC_EMPTY));
-    IS(fdbrec_log_peek(&none, 257, 0, 0, 1, out, room, &len, &number, &other), FDBREC_EMPTY);
+    WITH(batch, SPELLED, IS(fdbrec_log_push(&none, PUSH(1, 2, 0, 0), batch.at, batch.size, &number), FDBREC_EMPTY));
+    IS(fdbrec_log_peek(&none, PEEK(0, 1), out, room, &len, &number, &other), FDBREC_EMPTY);
     IS(fdbrec_log_answer(&none, out, room, &len, &number, &other), FDBREC_EMPTY);
     WITH(key, text("a"),
-         IS(fdbrec_storage_read(&none, key.at, 0, key.at, 0, key.at, key.size, 2, out, room, &len), FDBREC_EMPTY));
+         IS(fdbrec_storage_read(&none, &(fdbrec_key_at){key.at, 0, key.at, 0, key.at, key.size, 2}, out, room, &len),
+            FDBREC_EMPTY));
     WITH(batch, SPELLED, IS(fdbrec_store_apply(&none, 5, batch.at, batch.size), FDBREC_EMPTY));
     IS(fdbrec_store_undo(&none, 5), FDBREC_EMPTY);
     IS(fdbrec_store_forget(&none, 5), FDBREC_EMPTY);
@@ -190,24 +197,24 @@ static void logs(void)
     IS(log, NULL);
     IS(fdbrec_log_new(&log, 257, 0, 1, 1), FDBREC_OK);
     with_room(64);
-    WITH(batch, SPELLED, IS(fdbrec_log_push(&log, 257, 1, 2, 0, 0, batch.at, batch.size, &held), FDBREC_REFUSED));
+    WITH(batch, SPELLED, IS(fdbrec_log_push(&log, PUSH(1, 2, 0, 0), batch.at, batch.size, &held), FDBREC_REFUSED));
     IS(fdbrec_answer(&log, out, room, &len), FDBREC_OK);
     IS(says("{\"log\":{\"refused\":{\"why\":{\"unseeded\":{}}}}}"), 1);
-    IS(fdbrec_log_peek(&log, 257, 0, 0, 1, out, room, &len, &upto, &known), FDBREC_REFUSED);
+    IS(fdbrec_log_peek(&log, PEEK(0, 1), out, room, &len, &upto, &known), FDBREC_REFUSED);
     WITH(line, text(SEED), IS(fdbrec_ask(&log, line.at, line.size, out, room, &len), FDBREC_OK));
     WITH(line, text(MARK), IS(fdbrec_ask(&log, line.at, line.size, out, room, &len), FDBREC_OK));
     IS(says("{\"log\":{\"held\":{\"version\":1}}}"), 1);
-    WITH(batch, SPELLED, IS(fdbrec_log_push(&log, 257, 1, 2, 1, 0, batch.at, batch.size, &held), FDBREC_OK));
+    WITH(batch, SPELLED, IS(fdbrec_log_push(&log, PUSH(1, 2, 1, 0), batch.at, batch.size, &held), FDBREC_OK));
     IS(held, 2);
-    WITH(batch, text(""), IS(fdbrec_log_push(&log, 257, 2, 3, 1, 0, batch.at, batch.size, &held), FDBREC_BAD_TEXT));
+    WITH(batch, text(""), IS(fdbrec_log_push(&log, PUSH(2, 3, 1, 0), batch.at, batch.size, &held), FDBREC_BAD_TEXT));
     WITH(batch, give(LONGER, sizeof LONGER),
-         IS(fdbrec_log_push(&log, 257, 2, 3, 1, 0, batch.at, batch.size, &held), FDBREC_BAD_TEXT));
-    WITH(batch, SPELLED, IS(fdbrec_log_push(&log, 257, 2, 1ull << 62, 1, 0, batch.at, batch.size, &held), FDBREC_LIMIT));
-    WITH(batch, SPELLED, IS(fdbrec_log_push(&log, 257, 2, 3, 1, 32, batch.at, batch.size, &held), FDBREC_LIMIT));
-    IS(fdbrec_log_peek(&log, 257, 0, 0, 0, out, room, &len, &upto, &known), FDBREC_LIMIT);
-    IS(fdbrec_log_peek(&log, 257, 0, 0, 101, out, room, &len, &upto, &known), FDBREC_LIMIT);
+         IS(fdbrec_log_push(&log, PUSH(2, 3, 1, 0), batch.at, batch.size, &held), FDBREC_BAD_TEXT));
+    WITH(batch, SPELLED, IS(fdbrec_log_push(&log, PUSH(2, 1ull << 62, 1, 0), batch.at, batch.size, &held), FDBREC_LIMIT));
+    WITH(batch, SPELLED, IS(fdbrec_log_push(&log, PUSH(2, 3, 1, 32), batch.at, batch.size, &held), FDBREC_LIMIT));
+    IS(fdbrec_log_peek(&log, PEEK(0, 0), out, room, &len, &upto, &known), FDBREC_LIMIT);
+    IS(fdbrec_log_peek(&log, PEEK(0, 101), out, room, &len, &upto, &known), FDBREC_LIMIT);
     with_room(0);
-    IS(fdbrec_log_peek(&log, 257, 0, 0, 1, out, room, &len, &upto, &known), FDBREC_SHORT);
+    IS(fdbrec_log_peek(&log, PEEK(0, 1), out, room, &len, &upto, &known), FDBREC_SHORT);
     IS(len, sizeof record);
     IS(upto, 2);
     IS(known, 1);
@@ -216,7 +223,7 @@ static void logs(void)
     with_room(len);
     IS(fdbrec_log_answer(&log, out, room, &len, &upto, &known), FDBREC_OK);
     IS(memcmp(out, record, sizeof record), 0);
-    IS(fdbrec_log_peek(&log, 257, 0, 2, 1, out, room, &len, &upto, &known), FDBREC_OK);
+    IS(fdbrec_log_peek(&log, PEEK(2, 1), out, room, &len, &upto, &known), FDBREC_OK);
     IS(len, 0);
     fdbrec_free(&log);
 }
@@ -227,9 +234,9 @@ static void proxies(void)
     IS(fdbrec_sequencer_new(&sequencer, 257, 1ull << 62), FDBREC_LIMIT);
     IS(fdbrec_sequencer_new(&sequencer, 257, 1), FDBREC_OK);
     WITH(shards, text("[\"61\"]"),
-         IS(fdbrec_proxy_new(&proxy, 257, 0, 1, 1, 0, shards.at, shards.size), FDBREC_BAD_TEXT));
-    WITH(shards, text("[\"\"]"), IS(fdbrec_proxy_new(&proxy, 257, 16, 1, 1, 0, shards.at, shards.size), FDBREC_LIMIT));
-    WITH(shards, text("[\"\"]"), IS(fdbrec_proxy_new(&proxy, 257, 0, 1, 1, 0, shards.at, shards.size), FDBREC_OK));
+         IS(fdbrec_proxy_new(&proxy, PROXY(0), shards.at, shards.size), FDBREC_BAD_TEXT));
+    WITH(shards, text("[\"\"]"), IS(fdbrec_proxy_new(&proxy, PROXY(16), shards.at, shards.size), FDBREC_LIMIT));
+    WITH(shards, text("[\"\"]"), IS(fdbrec_proxy_new(&proxy, PROXY(0), shards.at, shards.size), FDBREC_OK));
     with_room(2);
     IS(fdbrec_next(&proxy, out, room, &len), FDBREC_OK);
     IS(says("[]"), 1);
@@ -287,11 +294,12 @@ static void recoverers(void)
 /* A key of the shard from `begin` to `end`, at a version. */
 static uint32_t read(fdbrec_part **of, const char *begin, const char *end, const char *key, uint64_t version)
 {
-    uint32_t status = 0;
-    WITH(first, text(begin),
-         WITH(last, text(end),
-              WITH(it, text(key), status = fdbrec_storage_read(of, first.at, first.size, last.at, last.size, it.at,
-                                                               it.size, version, out, room, &len))));
+    struct given first = text(begin), last = text(end), it = text(key);
+    fdbrec_key_at what = {first.at, first.size, last.at, last.size, it.at, it.size, version};
+    uint32_t status = fdbrec_storage_read(of, &what, out, room, &len);
+    free(first.at);
+    free(last.at);
+    free(it.at);
     return status;
 }
 

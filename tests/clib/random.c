@@ -32,7 +32,7 @@ static uint32_t make(fdbrec_part **of, char kind, uint64_t number, const uint8_t
     case 'c': return fdbrec_cell_new(of);
     case 'l': return fdbrec_log_new(of, 257, (uint8_t)number, 4, 2);
     case 'q': return fdbrec_sequencer_new(of, 257, number);
-    case 'p': return fdbrec_proxy_new(of, 257, 0, 2, 1, number, text, size);
+    case 'p': return fdbrec_proxy_new(of, &(fdbrec_proxy_numbers){257, number, 0, 2, 1}, text, size);
     case 'r': return fdbrec_recoverer_new(of, 513, (uint8_t)number, text, size, 0, 0);
     case 's': return fdbrec_storage_new(of, (uint8_t)number, text, size);
     default: return fdbrec_store_new(of);
@@ -49,14 +49,17 @@ static uint32_t call(fdbrec_part **of, char kind, uint64_t number, const uint8_t
     case 'n': return fdbrec_next(of, out, room, len);
     case 'e': return fdbrec_cell_read(of, number, &one, out, room, len);
     case 'w': return fdbrec_cell_write(of, number, text, size, &one);
-    case 'o': return fdbrec_log_push(of, 257, number - 1, number, number - 1, 0, text, size, &one);
-    case 'k': return fdbrec_log_peek(of, 257, 0, number, 100, out, room, len, &one, &two);
+    case 'o':
+        return fdbrec_log_push(of, &(fdbrec_push_numbers){257, number - 1, number, number - 1, 0}, text, size, &one);
+    case 'k':
+        return fdbrec_log_peek(of, &(fdbrec_peek_numbers){257, number, 0, 100}, out, room, len, &one, &two);
     case 'y': return fdbrec_store_apply(of, number, text, size);
     case 'u': return fdbrec_store_undo(of, number);
     case 'f': return fdbrec_store_forget(of, number);
     case 'g': return fdbrec_store_get(of, text, size, out, room, len);
     case 't': /* the first half of the text is the key, and the other one the end of the shard */
-        return fdbrec_storage_read(of, text, 0, text + size / 2, size - size / 2, text, size / 2, number, out, room, len);
+        return fdbrec_storage_read(
+            of, &(fdbrec_key_at){text, 0, text + size / 2, size - size / 2, text, size / 2, number}, out, room, len);
     case 'd': return fdbrec_audit(text, size, out, room, len);
     default: return fdbrec_answer(of, out, room, len);
     }

@@ -76,7 +76,7 @@ static uint32_t make(int machine)
     case CELL: return fdbrec_cell_new(of);
     case LOG: return fdbrec_log_new(of, 257, 0, 1, 1);
     case SEQUENCER: return fdbrec_sequencer_new(of, 257, 1);
-    case PROXY: return fdbrec_proxy_new(of, 257, 0, 1, 1, 0, shards, sizeof SHARDS - 1);
+    case PROXY: return fdbrec_proxy_new(of, &(fdbrec_proxy_numbers){257, 0, 0, 1, 1}, shards, sizeof SHARDS - 1);
     case RECOVERER: return fdbrec_recoverer_new(of, 513, 1, shards, sizeof SHARDS - 1, 0, 0);
     case STORAGE: return fdbrec_storage_new(of, 0, state, sizeof STATE - 1);
     default: return fdbrec_store_new(of);
@@ -101,15 +101,20 @@ static void call(const struct step *it, struct answer *told)
     case SUBMIT: told->status = fdbrec_submit(of, 1, spelled, length, told->out, room, &told->len); break;
     case READ: told->status = fdbrec_cell_read(of, it->number, &number, told->out, room, &told->len); break;
     case WRITE: told->status = fdbrec_cell_write(of, it->number, text, size, &number); break;
-    case PUSH: told->status = fdbrec_log_push(of, 257, version - 1, version, 1, 0, spelled, length, &number); break;
+    case PUSH:
+        told->status =
+            fdbrec_log_push(of, &(fdbrec_push_numbers){257, version - 1, version, 1, 0}, spelled, length, &number);
+        break;
     case PEEK:
-        told->status = fdbrec_log_peek(of, 257, 0, it->number, 100, told->out, room, &told->len, &number, &other);
+        told->status = fdbrec_log_peek(of, &(fdbrec_peek_numbers){257, it->number, 0, 100}, told->out, room, &told->len,
+                                       &number, &other);
         break;
     case APPLY: told->status = fdbrec_store_apply(of, version, spelled, length); break;
     case UNDO: told->status = fdbrec_store_undo(of, version); break;
     case FORGET: told->status = fdbrec_store_forget(of, version); break;
     case READ_AT:
-        told->status = fdbrec_storage_read(of, text, 0, text, 0, text, size, version, told->out, room, &told->len);
+        told->status = fdbrec_storage_read(of, &(fdbrec_key_at){text, 0, text, 0, text, size, version}, told->out, room,
+                                           &told->len);
         break;
     case GET: told->status = fdbrec_store_get(of, text, size, told->out, room, &told->len); break;
     case AUDIT: told->status = fdbrec_audit(text, size, told->out, room, &told->len); break;

@@ -3,9 +3,8 @@
 #![tactic(auto)]
 
 use anyhow::bail;
-use fr_device::Device;
-use fr_host_device::{HostDevice, open};
-use fr_record::Records;
+use fr_host::{HostDevice, open};
+use fr_record::{Device, Records};
 use std::alloc::Global;
 
 /// How many bytes the file may get. The device takes twice as much memory.

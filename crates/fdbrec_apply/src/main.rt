@@ -4,8 +4,8 @@
 
 mod program;
 
+use fr_cli_apply::{Ending, own_words};
 use fr_cli_json::CliFault;
-use fr_cli_words::{Ending, own_words};
 use program::run_program;
 use std::io;
 use std::io::BufWriter;

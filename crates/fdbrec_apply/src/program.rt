@@ -1,8 +1,8 @@
 //! The program over its words, a reader and a writer.
 use clap::error::{Error, ErrorKind};
-use fr_cli_apply::{ApplyOptions, run_apply};
-use fr_cli_words::{
-    Ending, StoreWord, apply_command, bad_words, program_command, read_store, show,
+use fr_cli_apply::{
+    ApplyOptions, Ending, StoreWord, apply_command, bad_words, program_command, read_store,
+    run_apply, show,
 };
 use std::alloc::Global;
 use std::io::{Read, Write};

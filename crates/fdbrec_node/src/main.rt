@@ -2,9 +2,9 @@
 #![tactic(auto)]
 
 use clap::error::Error;
+use fr_cli_apply::{Ending, own_words, program_command, show};
 use fr_cli_json::CliFault;
 use fr_cli_node::{NodeEnd, NodeWords, node_command, read_node_words, run_node};
-use fr_cli_words::{Ending, own_words, program_command, show};
 use std::alloc::Global;
 use std::io;
 use std::io::{BufWriter, Read, Write};

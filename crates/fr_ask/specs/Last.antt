@@ -6,7 +6,7 @@ use Rattle.fr_base.specs.Bytes.{bytes_eq}
 use Rattle.fr_base.specs.Same.{IsSameness, bytes_eq-IsSameness}
 use Rattle.fr_log.specs.Fields.{three, four, five}
 use Rattle.std.specs.Cmp.Lexicographic.{pointwise}
-use Rattle.fr_log.specs.Popped.{is_same_popped, are_same_popped-IsSameness}
+use Rattle.fr_log.specs.Left.{is_same_popped, are_same_popped-IsSameness}
 use Rattle.fr_ask.specs.Rows.{is_same_rows, is_same_rows-IsSameness}
 use Rattle.fr_ask.specs.declared.last.Last.{Last}
 use Rattle.fr_ask.specs.declared.last.Last.TheVariants as last

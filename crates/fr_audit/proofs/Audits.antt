@@ -4,8 +4,8 @@ use Rattle.std.specs.Prelude.{Result}
 use Rattle.fr_base.specs.declared.place.NodeId.{NodeId}
 use Rattle.fr_run.specs.Config.{Config}
 use Rattle.fr_run.specs.Turn.{Turn}
-use Rattle.fr_run_event.specs.At.{last_at}
-use Rattle.fr_run_event.specs.Step.{answer_of}
+use Rattle.fr_run.specs.At.{last_at}
+use Rattle.fr_run.specs.Step.{answer_of}
 use Rattle.fr_audit_journal.specs.Journal.{JournalState}
 use Rattle.fr_audit_journal.specs.Law.{MergedIsSorted}
 use Rattle.fr_audit_journal.specs.Merge.{merged}

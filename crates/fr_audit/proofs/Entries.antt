@@ -3,9 +3,9 @@ use Rattle.std.proofs.Common.{◌≡◌, ℕ, ◌+◌, Bool, true, false, List, 
 use Rattle.std.specs.Prelude.{Result, if◌then◌else◌}
 use Rattle.fr_run.specs.Config.{Config}
 use Rattle.fr_run.specs.Turn.{Turn}
-use Rattle.fr_run_event.specs.Step.{answer_of, turn_of}
-use Rattle.fr_run_event.specs.declared.event.Event.{Event}
-use Rattle.fr_run_event.specs.declared.not_enabled.NotEnabled.{NotEnabled}
+use Rattle.fr_run.specs.Step.{answer_of, turn_of}
+use Rattle.fr_run.specs.declared.event.Event.{Event}
+use Rattle.fr_run.specs.declared.not_enabled.NotEnabled.{NotEnabled}
 use Rattle.fr_audit_journal.specs.Merge.{Placed}
 use Rattle.fr_audit.specs.Audited.{after_entries, after_entry, is_repeated, then_on, turn_at, turn_if, turn_in, with_turn}
 use Rattle.fr_audit.specs.Entry.{event_of, says}

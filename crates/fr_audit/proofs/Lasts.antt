@@ -11,7 +11,7 @@ use Rattle.fr_ask.specs.Last.{is_same_last-IsSameness}
 use Rattle.fr_ask.specs.declared.last.Last.{Last}
 use Rattle.fr_run.specs.Config.{Config}
 use Rattle.fr_run.specs.Turn.{Turn}
-use Rattle.fr_run_event.specs.At.{last_at}
+use Rattle.fr_run.specs.At.{last_at}
 use Rattle.fr_audit_journal.specs.Journal.{JournalState}
 use Rattle.fr_audit.specs.Audited.{first_unlike, is_closed, is_this_last, lesser}
 use Rattle.fr_audit.specs.Law.{IsUnlikeIn, NoneBefore}

@@ -5,8 +5,8 @@ use Rattle.fr_ask.specs.Same.{is_same_tell-IsSameness}
 use Rattle.fr_ask.specs.declared.tell.Tell.{Tell}
 use Rattle.fr_proxy.specs.declared.outcome.Outcome.{Outcome}
 use Rattle.fr_proxy.specs.declared.outcome.Outcome.TheVariants as outcome
-use Rattle.fr_run_event.specs.declared.answer.Answer.{Answer}
-use Rattle.fr_run_event.specs.declared.answer.Answer.TheVariants as answer
+use Rattle.fr_run.specs.declared.answer.Answer.{Answer}
+use Rattle.fr_run.specs.declared.answer.Answer.TheVariants as answer
 use Rattle.fr_audit_journal.specs.declared.act.Act.{Act}
 use Rattle.fr_audit_journal.specs.declared.act.Act.TheVariants.{Asked, Heard, Submitted, Begun, Crashed, Lost}
 use Rattle.fr_audit.specs.Entry.{is_same_outcome, is_same_saying, is_told, outcome_in, says}

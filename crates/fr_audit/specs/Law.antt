@@ -6,10 +6,10 @@ use Rattle.fr_base.specs.declared.place.NodeId.{NodeId}
 use Rattle.fr_run.specs.Config.{Config}
 use Rattle.fr_run.specs.Turn.{Turn}
 use Rattle.fr_ask.specs.declared.last.Last.{Last}
-use Rattle.fr_run_event.specs.At.{last_at}
-use Rattle.fr_run_event.specs.Step.{answer_of, turn_of}
-use Rattle.fr_run_event.specs.declared.answer.Answer.{Answer}
-use Rattle.fr_run_event.specs.declared.event.Event.{Event}
+use Rattle.fr_run.specs.At.{last_at}
+use Rattle.fr_run.specs.Step.{answer_of, turn_of}
+use Rattle.fr_run.specs.declared.answer.Answer.{Answer}
+use Rattle.fr_run.specs.declared.event.Event.{Event}
 use Rattle.fr_audit_journal.specs.Journal.{JournalState}
 use Rattle.fr_audit_journal.specs.Merge.{Placed, merged}
 use Rattle.fr_audit.specs.Audited.{audited, fault_of, found, is_closed, is_repeated, turn_at}

@@ -3,14 +3,14 @@ ghost use Rattle.std.specs.Prelude.{◌≡◌, ◌≢◌, ◌<◌, None, length,
 ghost use Rattle.fr_audit.specs.Audited as rule;
 ghost use Rattle.fr_audit.specs.Checking.{after_this, before_at};
 ghost use Rattle.fr_audit_journal.specs.Placed.{placed_of};
-ghost use Rattle.fr_run_event.specs.At.{last_at};
+ghost use Rattle.fr_run.specs.At.{last_at};
 
 use crate::entry::{event_of, says};
 use crate::fault::AuditFault;
 use crate::finding::{Cause, Finding};
 use fr_audit_journal::{Journal, NodeEntry, merge};
 use fr_base::{Memory, NodeId};
-use fr_run_event::NotEnabled;
+use fr_run::NotEnabled;
 use fr_world::{Config, World};
 use std::alloc::Global;
 use std::cmp::Ordering;

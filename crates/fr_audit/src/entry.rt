@@ -6,7 +6,7 @@ use fr_ask::Tell;
 use fr_audit_journal::Act;
 use fr_base::{LogId, Memory, NodeId};
 use fr_proxy::Outcome;
-use fr_run_event::{Answer, Event};
+use fr_run::{Answer, Event};
 
 /// The event that an act of a node is: each act has one place where this is said. None if the node does not do such a
 /// thing.

@@ -5,7 +5,7 @@ ghost use Rattle.fr_audit.specs.Audited as rule;
 use crate::fault::AuditFault;
 use fr_ask::Last;
 use fr_base::NodeId;
-use fr_run_event::{Answer, NotEnabled};
+use fr_run::{Answer, NotEnabled};
 use thiserror::Error;
 
 /// Why an entry is no event that can happen there. Of several reasons the first in the order of these variants is told.

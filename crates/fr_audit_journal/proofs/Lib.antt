@@ -1,3 +1,5 @@
 mod Rising
 pub mod Sorting
 pub mod Places
+mod Appended
+pub mod Sent

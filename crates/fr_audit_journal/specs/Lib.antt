@@ -4,3 +4,5 @@ pub mod Sort
 pub mod Merge
 pub mod Placed
 pub mod Law
+pub mod Replays
+pub mod Housing

@@ -4,12 +4,12 @@ ghost use Rattle.fr_run.specs.Config as history;
 ghost use Rattle.fr_audit_journal.specs.Journal.{JournalState};
 ghost use Rattle.fr_audit.specs.Audited.{audited};
 ghost use Rattle.fr_cli_audit.specs.Lines.{line_of, status_of};
-ghost use Rattle.fr_seat.specs.Answers.{IsGiven};
+ghost use Rattle.fr_part.specs.Answers.{IsGiven};
 
 use fr_cli_audit::run_audit;
 use fr_cli_json::CliFault;
-use fr_seat::giving::give;
-use fr_seat::status::{BAD_TEXT, MEMORY, OK, REFUSED, SHORT};
+use fr_part::calls::giving::give;
+use fr_part::calls::status::{BAD_TEXT, MEMORY, OK, REFUSED, SHORT};
 use std::alloc::Global;
 
 /// Tells whether a script's journals are a run: `OK` or `REFUSED`, with the line of the command `audit`, or `SHORT` if

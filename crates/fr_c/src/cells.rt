@@ -3,12 +3,12 @@ ghost use Rattle.std.specs.Prelude.{◌≡◌};
 ghost use Rattle.fr_register.specs.declared.ask.CellAsk.TheVariants as cell_ask;
 ghost use Rattle.fr_ask.specs.declared.ask.Ask.TheVariants as ask;
 ghost use Rattle.fr_part.specs.Seat.{seat_after};
-ghost use Rattle.fr_seat.specs.Answers.{IsCellRefused, IsPromised, IsPromisedShort, IsTwoValues, IsWritten};
-ghost use Rattle.fr_seat.specs.Turns.{IsTurn, Over};
+ghost use Rattle.fr_part.specs.Answers.{IsCellRefused, IsPromised, IsPromisedShort, IsTwoValues, IsWritten};
+ghost use Rattle.fr_part.specs.Calls.{IsTurn, Over};
 
-use fr_handle::Handle;
-use fr_seat::cells::{give_read, read_cell, write_cell};
-use fr_seat::status::EMPTY;
+use fr_part::Handle;
+use fr_part::calls::cells::{give_read, read_cell, write_cell};
+use fr_part::calls::status::EMPTY;
 use std::alloc::Global;
 
 /// Reads a cell at a ballot. `number` is the ballot of the last write, or if refused the one promised.

@@ -12,7 +12,7 @@ mod turns;
 
 ghost use Rattle.std.specs.Prelude.{◌≡◌, None};
 
-use fr_handle::Handle;
+use fr_part::Handle;
 use std::alloc::Global;
 
 /// Ends a machine. An empty handle stays empty.

@@ -3,12 +3,12 @@ ghost use Rattle.std.specs.Prelude.{◌≡◌};
 ghost use Rattle.fr_log.specs.declared.ask.LogAsk.TheVariants as log_ask;
 ghost use Rattle.fr_ask.specs.declared.ask.Ask.TheVariants as ask;
 ghost use Rattle.fr_part.specs.Seat.{seat_after};
-ghost use Rattle.fr_seat.specs.Answers.{IfBatch, IsHeld, IsPeekedShort, IsPeekedWhole, push_of};
-ghost use Rattle.fr_seat.specs.Turns.{IsTurn, Over};
+ghost use Rattle.fr_part.specs.Answers.{IfBatch, IsHeld, IsPeekedShort, IsPeekedWhole, push_of};
+ghost use Rattle.fr_part.specs.Calls.{IsTurn, Over};
 
-use fr_handle::Handle;
-use fr_seat::logs::{PeekNumbers, PushNumbers, give_peeked, peek_tag, push_body};
-use fr_seat::status::EMPTY;
+use fr_part::Handle;
+use fr_part::calls::logs::{PeekNumbers, PushNumbers, give_peeked, peek_tag, push_body};
+use fr_part::calls::status::EMPTY;
 use std::alloc::Global;
 
 /// Pushes the batch of one tag to a log. `held` is the version that the log answers to hold. A push of several tags is
@@ -17,50 +17,37 @@ use std::alloc::Global;
 pub extern "C" fn fdbrec_log_push(
     alloc: Global,
     of: &mut Handle,
-    epoch: u64,
-    prev: u64,
-    version: u64,
-    known: u64,
-    tag: u8,
+    at: &PushNumbers,
     batch: &[u8],
     held: &mut u64,
 ) -> u32
     ensures turn { Over of.old.value of.new.value result (λ old new. IsTurn result old new
         (IfBatch batch.now (λ ms.
-        new ≡ seat_after old (ask.Log (log_ask.Push (push_of epoch prev version known tag ms)))))) }
+        new ≡ seat_after old (ask.Log (log_ask.Push (push_of at.now ms)))))) }
     ensures ok { Over of.old.value of.new.value result (λ old new. result ≡ 0 → IsHeld new.said held.new) }
 {
     let Some(mut seat) = of.take(alloc) else {
         return EMPTY;
-    };
-    let at = PushNumbers {
-        epoch,
-        prev,
-        version,
-        known,
-        tag,
     };
     let status = push_body(alloc, &mut seat, at, batch, held);
     of.put(seat);
     status
 }
 
-/// Peeks a log for the records of a tag above a version, at most `most` of them.
+/// Peeks a log for the records of a tag above a version, at most as many as it says.
 #[unsafe(no_mangle)]
 pub extern "C" fn fdbrec_log_peek(
     alloc: Global,
     of: &mut Handle,
-    epoch: u64,
-    tag: u8,
-    after: u64,
-    most: u8,
+    at: &PeekNumbers,
     out: &mut [u8],
     len: &mut usize,
     upto: &mut u64,
     known: &mut u64,
 ) -> u32
     ensures turn { Over of.old.value of.new.value result
-        (λ old new. IsTurn result old new (new ≡ seat_after old (ask.Log (log_ask.Peek epoch tag after most)))) }
+        (λ old new. IsTurn result old new
+        (new ≡ seat_after old (ask.Log (log_ask.Peek at.now.epoch at.now.tag at.now.after at.now.most)))) }
     ensures ok { Over of.old.value of.new.value result
         (λ old new. result ≡ 0 → IsPeekedWhole new.said out.new len.new upto.new known.new) }
     ensures short { Over of.old.value of.new.value result
@@ -68,12 +55,6 @@ pub extern "C" fn fdbrec_log_peek(
 {
     let Some(mut seat) = of.take(alloc) else {
         return EMPTY;
-    };
-    let at = PeekNumbers {
-        epoch,
-        tag,
-        after,
-        most,
     };
     let status = peek_tag(alloc, &mut seat, at, out, len, upto, known);
     of.put(seat);

@@ -5,14 +5,15 @@ ghost use Rattle.fr_log.specs.LogState.{fresh_log};
 ghost use Rattle.fr_proxy.specs.Sequencer.{new_sequencer};
 ghost use Rattle.fr_undo.specs.State.{fresh};
 ghost use Rattle.fr_part.specs.declared.part.Part.TheVariants as part;
-ghost use Rattle.fr_seat.specs.Made.{IsMadeAs, IsProxyMade, IsRecovererMade, IsStorageMade};
-ghost use Rattle.fr_seat.specs.Turns.{IsMade, keeps};
+ghost use Rattle.fr_part.specs.Made.{IsMadeAs, IsProxyMade, IsRecovererMade, IsStorageMade};
+ghost use Rattle.fr_part.specs.Calls.{IsMade, keeps};
 
-use fr_handle::Handle;
-use fr_part::{Part, Seat};
+use fr_part::calls::making::{
+    ProxyNumbers, make_log, make_proxy, make_recoverer, make_sequencer, make_storage,
+};
+use fr_part::calls::status::{MEMORY, OK};
+use fr_part::{Handle, Part, Seat};
 use fr_register::Cell;
-use fr_seat::making::{make_log, make_proxy, make_recoverer, make_sequencer, make_storage};
-use fr_seat::status::{MEMORY, OK};
 use fr_undo::MapStore;
 use std::alloc::Global;
 
@@ -73,16 +74,12 @@ pub extern "C" fn fdbrec_sequencer_new(alloc: Global, of: &mut Handle, epoch: u6
 pub extern "C" fn fdbrec_proxy_new(
     alloc: Global,
     of: &mut Handle,
-    epoch: u64,
-    number: u8,
-    m: u8,
-    k: u8,
-    known: u64,
+    at: &ProxyNumbers,
     shards: &[u8],
 ) -> u32
-    ensures made { IsMadeAs result of.old.value of.new.value (IsProxyMade epoch number m k known) }
+    ensures made { IsMadeAs result of.old.value of.new.value (IsProxyMade at.now) }
 {
-    match make_proxy(alloc, epoch, number, m, k, known, shards) {
+    match make_proxy(alloc, at, shards) {
         Ok(part) => put(alloc, of, part),
         Err(status) => status,
     }

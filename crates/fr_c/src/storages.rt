@@ -3,13 +3,13 @@ ghost use Rattle.std.specs.Prelude.{◌≡◌, ◌≢◌, ◌↔◌, None, Some,
 ghost use Rattle.fr_undo.specs.Undo.{value_undone};
 ghost use Rattle.fr_part.specs.Reads.{IfStorage, unread_of};
 ghost use Rattle.fr_part.specs.declared.fault.ReadRefusal.TheVariants as unread;
-ghost use Rattle.fr_seat.specs.Answers.{IsGiven, IsShort};
-ghost use Rattle.fr_seat.specs.Reads.{IsPast, shard_from, unread_said, unread_status};
-ghost use Rattle.fr_seat.specs.Turns.{IfFound, Over};
+ghost use Rattle.fr_part.specs.Answers.{IsGiven, IsShort};
+ghost use Rattle.fr_part.specs.ReadCalls.{IsPast, shard_from, unread_said, unread_status};
+ghost use Rattle.fr_part.specs.Calls.{IfFound, Over};
 
-use fr_handle::Handle;
-use fr_seat::status::EMPTY;
-use fr_seat::storages::{KeyAt, read_in};
+use fr_part::Handle;
+use fr_part::calls::status::EMPTY;
+use fr_part::calls::storages::{KeyAt, read_in};
 use std::alloc::Global;
 
 /// Gives the value that a key had at a version, of a storage server of the shard from `begin` on and below `end`, if
@@ -18,45 +18,36 @@ use std::alloc::Global;
 pub extern "C" fn fdbrec_storage_read(
     alloc: Global,
     of: &mut Handle,
-    begin: &[u8],
-    end: &[u8],
-    key: &[u8],
-    version: u64,
+    what: &KeyAt<'_>,
     out: &mut [u8],
     len: &mut usize,
 ) -> u32
     ensures same { of.new.value ≡ of.old.value }
     ensures ok { Over of.old.value of.new.value result
         (λ old new. result ≡ 0 → IfStorage new.part
-        (λ s. IfFound (value_undone s.store version key.now) (λ value. IsGiven value out.new len.new))) }
+        (λ s. IfFound (value_undone s.store what.now.version what.now.key.now) (λ value. IsGiven value out.new len.new))) }
     ensures short { Over of.old.value of.new.value result
         (λ old new. result ≡ 3 → IfStorage new.part
-        (λ s. IfFound (value_undone s.store version key.now) (λ value. IsShort value out.new len.new))) }
+        (λ s. IfFound (value_undone s.store what.now.version what.now.key.now) (λ value. IsShort value out.new len.new))) }
     ensures none { Over of.old.value of.new.value result
-        (λ old new. result ≡ 11 → IfStorage new.part (λ s. value_undone s.store version key.now ≡ None)) }
+        (λ old new. result ≡ 11 → IfStorage new.part (λ s. value_undone s.store what.now.version what.now.key.now ≡ None)) }
     ensures not_mine { Over of.old.value of.new.value result (λ old new. result ≡ 12
-        → unread_of new.part (shard_from begin.now end.now) key.now version ≡ Some unread.NotMine) }
+        → unread_of new.part (shard_from what.now.begin.now what.now.end.now) what.now.key.now what.now.version ≡ Some unread.NotMine) }
     ensures too_old { Over of.old.value of.new.value result (λ old new. result ≡ 13
-        → unread_of new.part (shard_from begin.now end.now) key.now version ≡ Some unread.TooOld) }
+        → unread_of new.part (shard_from what.now.begin.now what.now.end.now) what.now.key.now what.now.version ≡ Some unread.TooOld) }
     ensures future_version { Over of.old.value of.new.value result (λ old new. result ≡ 14
-        → unread_of new.part (shard_from begin.now end.now) key.now version ≡ Some unread.FutureVersion) }
+        → unread_of new.part (shard_from what.now.begin.now what.now.end.now) what.now.key.now what.now.version ≡ Some unread.FutureVersion) }
     ensures limit { Over of.old.value of.new.value result
-        (λ old new. (result ≡ 6) ↔ IsPast begin.now end.now version) }
+        (λ old new. (result ≡ 6) ↔ IsPast what.now.begin.now what.now.end.now what.now.version) }
     ensures kind { Over of.old.value of.new.value result (λ old new. result ≡ 4
-        → unread_of new.part (shard_from begin.now end.now) key.now version ≡ Some unread.Kind) }
+        → unread_of new.part (shard_from what.now.begin.now what.now.end.now) what.now.key.now what.now.version ≡ Some unread.Kind) }
     ensures part { Over of.old.value of.new.value result (λ old new. result ≡ 9
-        → unread_of new.part (shard_from begin.now end.now) key.now version ≡ Some unread.Part) }
+        → unread_of new.part (shard_from what.now.begin.now what.now.end.now) what.now.key.now what.now.version ≡ Some unread.Part) }
     ensures refused { Over of.old.value of.new.value result (λ old new. result ≢ 1 → result ≢ 6 → unread_said result
-        ≡ option_map unread_status (unread_of new.part (shard_from begin.now end.now) key.now version)) }
+        ≡ option_map unread_status (unread_of new.part (shard_from what.now.begin.now what.now.end.now) what.now.key.now what.now.version)) }
 {
     let Some(mut seat) = of.take(alloc) else {
         return EMPTY;
-    };
-    let what = KeyAt {
-        begin,
-        end,
-        key,
-        version,
     };
     let status = read_in(alloc, &mut seat.part, what, out, len);
     of.put(seat);

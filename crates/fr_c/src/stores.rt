@@ -3,12 +3,12 @@ ghost use Rattle.std.specs.Prelude.{◌≡◌, true, None};
 ghost use Rattle.std.specs.FinMap as map;
 ghost use Rattle.fr_undo.specs.Undo.{extended, undone, forgotten};
 ghost use Rattle.fr_part.specs.Store.{BecomesStore, IfStore};
-ghost use Rattle.fr_seat.specs.Answers.{IfBatch, IsGiven, IsShort};
-ghost use Rattle.fr_seat.specs.Turns.{IfFound, Over, refuses};
+ghost use Rattle.fr_part.specs.Answers.{IfBatch, IsGiven, IsShort};
+ghost use Rattle.fr_part.specs.Calls.{IfFound, Over, refuses};
 
-use fr_handle::Handle;
-use fr_seat::status::EMPTY;
-use fr_seat::stores::{apply_to, forget_in, get_in, undo_in};
+use fr_part::Handle;
+use fr_part::calls::status::EMPTY;
+use fr_part::calls::stores::{apply_to, forget_in, get_in, undo_in};
 use std::alloc::Global;
 
 /// Applies a batch to a store at a version, which is to be above the one applied.

@@ -1,13 +1,12 @@
 //! Turns of machines, in lines of JSON.
 ghost use Rattle.std.specs.Prelude.{◌≡◌, ◌<◌, true, length, take};
 ghost use Rattle.fr_part.specs.Seat.{SubmitsIn};
-ghost use Rattle.fr_seat.specs.Answers.{IfBatch, IsJson};
-ghost use Rattle.fr_seat.specs.Turns.{AnyAsk, AnyHear, IsTurn, Over, is_told, refuses};
+ghost use Rattle.fr_part.specs.Answers.{IfBatch, IsJson};
+ghost use Rattle.fr_part.specs.Calls.{AnyAsk, AnyHear, IsTurn, Over, is_told, refuses};
 
-use fr_handle::Handle;
-use fr_seat::giving::{give_line, give_said};
-use fr_seat::status::EMPTY;
-use fr_seat::turns::{ask_line, hear_line, last_line, next_line, submit_to};
+use fr_part::Handle;
+use fr_part::calls::status::EMPTY;
+use fr_part::calls::turns::{LineOf, ask_line, hear_line, submit_to, tell_line};
 use std::alloc::Global;
 
 /// Asks a machine what a line says, and gives the line of what it tells.
@@ -90,12 +89,7 @@ pub extern "C" fn fdbrec_answer(
     ensures ok { result ≡ 0 → IsJson (take len.new out.new) }
     ensures short { result ≡ 3 → length out.new < len.new }
 {
-    let Some(seat) = of.take(alloc) else {
-        return EMPTY;
-    };
-    let status = give_said(alloc, &seat.said, out, len);
-    of.put(seat);
-    status
+    tell(alloc, of, LineOf::Said, out, len)
 }
 
 /// Gives the line of what a machine asks now.
@@ -110,12 +104,7 @@ pub extern "C" fn fdbrec_next(
     ensures ok { result ≡ 0 → IsJson (take len.new out.new) }
     ensures short { result ≡ 3 → length out.new < len.new }
 {
-    let Some(seat) = of.take(alloc) else {
-        return EMPTY;
-    };
-    let status = give_line(next_line(alloc, &seat.part), out, len);
-    of.put(seat);
-    status
+    tell(alloc, of, LineOf::Next, out, len)
 }
 
 /// Gives the line of where a machine stands.
@@ -130,10 +119,19 @@ pub extern "C" fn fdbrec_last(
     ensures ok { result ≡ 0 → IsJson (take len.new out.new) }
     ensures short { result ≡ 3 → length out.new < len.new }
 {
+    tell(alloc, of, LineOf::Last, out, len)
+}
+
+/// Gives a line of the machine of a handle.
+fn tell(alloc: Global, of: &mut Handle, which: LineOf, out: &mut [u8], len: &mut usize) -> u32
+    ensures same { of.new.value ≡ of.old.value }
+    ensures ok { result ≡ 0 → IsJson (take len.new out.new) }
+    ensures short { result ≡ 3 → length out.new < len.new }
+{
     let Some(seat) = of.take(alloc) else {
         return EMPTY;
     };
-    let status = give_line(last_line(alloc, &seat.part), out, len);
+    let status = tell_line(alloc, &seat, which, out, len);
     of.put(seat);
     status
 }

@@ -1,14 +1,13 @@
 //! The command `cluster` on each kind of store.
 use crate::program::Errors;
 use fr_base::Shape;
+use fr_cli_apply::StoreWord;
 use fr_cli_cluster::{
     ClusterOptions, ClusterPlan, CountsLine, Frailty, PlainRack, ProgressLine, RefusedCalls,
     Watcher, cluster_counted, storm_of,
 };
 use fr_cli_json::{CallCounts, CliFault};
-use fr_cli_words::StoreWord;
-use fr_runtime_disks::DiskRack;
-use fr_runtime_frail::FrailRack;
+use fr_runtime_storm::{DiskRack, FrailRack};
 use std::alloc::Global;
 use std::io::{Eprint, Write};
 use std::sync::Wait;

@@ -4,12 +4,12 @@ use crate::shapes::{SHAPES_BAD, shapes_of, shapes_word};
 use clap::error::{Error, ErrorKind};
 use clap::{Arg, ArgAction, ArgMatches, Command, value_parser};
 use fr_base::Shape;
-use fr_cli_cluster::{ClusterOptions, ClusterWords, DEFAULTS};
-use fr_cli_end::EndOptions;
-use fr_cli_words::{
+use fr_cli_apply::{
     MIXED, StoreWord, StoreWords, apply_command, bad_words, of_kind, program_command, read_file,
     read_store, read_store_words, rows_command,
 };
+use fr_cli_cluster::{ClusterOptions, ClusterWords, DEFAULTS};
+use fr_cli_end::EndOptions;
 use std::alloc::Global;
 
 /// What the words ask for.

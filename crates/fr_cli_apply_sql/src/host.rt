@@ -3,7 +3,7 @@ use crate::db::{apply_on_files, show_files};
 use crate::fault::{DbFault, FileFault};
 use crate::memory_file::files_of;
 use fr_cli_json::{CallCounts, CliFault};
-use fr_host_mirror::Mirror;
+use fr_host::Mirror;
 use fr_sql_files::{OpenFault, SqlFileStore};
 use sqlite_disk::{Disk, Files};
 use sqlite_std_file::{FileFrom, OpenError, Unknown, open};

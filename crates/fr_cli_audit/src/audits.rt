@@ -11,9 +11,9 @@ use crate::explained::finding_text;
 use crate::lines::fault_text;
 use fr_audit::{Finding, examine};
 use fr_audit_journal::Journal;
-use fr_audit_script::{ScriptFault, read_script};
 use fr_cli_json::{CallCounts, CliFault, put, read_input};
-use fr_run_event::Config;
+use fr_run::Config;
+use fr_script::audit::{ScriptFault, read_script};
 use std::alloc::Global;
 use std::io::{Read, Write};
 

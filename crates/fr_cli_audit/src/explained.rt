@@ -5,7 +5,7 @@ use fr_audit::{Cause, Finding, entry_at};
 use fr_audit_journal::{Act, Journal, NodeEntry, node_text};
 use fr_base::{Memory, NodeId, Shape, Version};
 use fr_forms::{Formed, put_printable};
-use fr_run_event::Answer;
+use fr_run::Answer;
 use serde_json::Value;
 use std::alloc::{AllocError, Global};
 

@@ -3,9 +3,9 @@ use Rattle.std.proofs.Common.{◌≡◌, ◌≤◌, ◌<◌, ℕ, ◌+◌, ◌-�
 use Rattle.std.proofs.lemmas.Bool.{and_parts, cases_lt}
 use Rattle.fr_tags.specs.Shards.{shard_fault}
 use Rattle.fr_tags.specs.declared.fault.ShardFault.{ShardFault}
-use Rattle.fr_run_event.specs.ConfigLimits.{config_fault}
-use Rattle.fr_run_event.specs.ConfigLimits as limits
-use Rattle.fr_run_event.specs.declared.config_fault.ConfigFault.{ConfigFault}
+use Rattle.fr_run.specs.ConfigLimits.{config_fault}
+use Rattle.fr_run.specs.ConfigLimits as limits
+use Rattle.fr_run.specs.declared.config_fault.ConfigFault.{ConfigFault}
 use Rattle.fr_cli_cluster.specs.declared.options.ClusterWords.{ClusterWords}
 use Rattle.fr_cli_cluster.specs.Options.{HasClients, HasNodes}
 use Rattle.fr_cli_cluster.specs.Setting.{begins_after, begins_of, config_of}

@@ -7,12 +7,12 @@ ghost use Rattle.fr_cli_cluster.specs.Report.{IsRunText, IsScriptLine};
 
 use fr_audit::AuditFault;
 use fr_audit_journal::Journal;
-use fr_audit_script::write_script;
 use fr_base::Memory;
 use fr_cli_audit::fault_text;
 use fr_cli_json::{CallCounts, CliFault, put};
-use fr_run_event::Config;
+use fr_run::Config;
 use fr_runtime::Report;
+use fr_script::audit::write_script;
 use std::alloc::Global;
 use std::io::Write;
 

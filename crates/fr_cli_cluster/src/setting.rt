@@ -5,7 +5,7 @@ ghost use Rattle.fr_cli_cluster.specs.Setting.{ballots_of, begins_of, config_of,
 
 use crate::options::{ClusterOptions, ClusterWords};
 use fr_base::{Ballot, Bytes, Memory, Shape};
-use fr_run_event::Config;
+use fr_run::Config;
 use fr_runtime::Orders;
 use fr_runtime_storm::{DrawnOrders, Draws, Storm};
 use std::alloc::Global;

@@ -2,10 +2,10 @@
 use Rattle.std.specs.Prelude.{◌≡◌, ◌<◌, ◌⊎◌, ⊤, Option, None, Some, Result, Ok, Err}
 use Rattle.fr_cli_json.specs.Calls.{Counts}
 use Rattle.fr_cli_json.specs.declared.fault.CliFault.TheVariants as cli
-use Rattle.fr_node_steps.specs.declared.reply.NodeReply.{NodeReply}
-use Rattle.fr_node_steps.specs.declared.fault.Crash.{Crash}
-use Rattle.fr_node_steps.specs.declared.fault.Crash.TheVariants as crash
-use Rattle.fr_node_steps.specs.declared.fault.NodeTurnFault.TheVariants as turn
+use Rattle.fr_node.specs.declared.reply.NodeReply.{NodeReply}
+use Rattle.fr_node.specs.declared.fault.Crash.{Crash}
+use Rattle.fr_node.specs.declared.fault.Crash.TheVariants as crash
+use Rattle.fr_node.specs.declared.fault.NodeTurnFault.TheVariants as turn
 use Rattle.fr_node_lines.specs.declared.fault.BadLine.TheVariants as bad
 use Rattle.fr_node_lines.specs.declared.fault.LineFault.{LineFault}
 use Rattle.fr_node_lines.specs.declared.fault.LineFault.TheVariants as line

@@ -1,7 +1,7 @@
 //! Why a node's process ends early.
 use fr_base::{Memory as NoMemory, NodeFault};
 use fr_cli_json::CliFault;
-use fr_node_steps::Crash;
+use fr_node::Crash;
 use std::alloc::{AllocError, AllocFailed};
 
 /// Why a node's process ends before its input does.

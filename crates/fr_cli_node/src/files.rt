@@ -1,20 +1,19 @@
 //! Cells, logs and storage servers over files of the host. A node's file lies in a folder, and has the node's name. A
 //! second file, of its name and `-wal`, is beside it.
 ghost use Rattle.std.specs.Prelude.{◌≡◌, ◌<◌, ◌==◌, false, length, IfOk, IsTrue, OnOk};
-ghost use Rattle.fr_device.specs.Disk.{Stands};
+ghost use Rattle.fr_record.specs.Disk.{Stands};
 
 use crate::fault::NodeEnd;
 use fr_base::{Bytes, LogId, Node, Shape, Tag, Version};
 use fr_cli_json::CliFault;
-use fr_device::Device;
-use fr_host_device::{HostDevice, HostFault, open};
-use fr_host_mirror::Mirror;
+use fr_host::{HostDevice, HostFault, Mirror, open};
 use fr_log::{Log, LogAsk, Push, Seed};
-use fr_node_steps::Crash;
+use fr_node::Crash;
+use fr_record::Device;
 use fr_record_log::LogNode;
 use fr_record_node::CellNode;
 use fr_register::{Cell, CellAsk};
-use fr_run_event::Config;
+use fr_run::Config;
 use fr_sql_files::{OpenFault, SqlFileStore};
 use fr_sql_rows::FaithfulDisk;
 use fr_storage::{Storage, StorageFault};

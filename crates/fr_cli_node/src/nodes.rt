@@ -1,6 +1,6 @@
 //! The nodes that words name.
 ghost use Rattle.std.specs.Prelude.{◌≡◌, false};
-ghost use Rattle.fr_runtime_housing.specs.Replays.{ends_by_crash};
+ghost use Rattle.fr_audit_journal.specs.Replays.{ends_by_crash};
 
 use crate::fault::NodeEnd;
 use crate::files::{cell_device, cell_over, log_device, log_over, storage_over, store_files};
@@ -13,12 +13,11 @@ use fr_cli_json::CliFault;
 use fr_epoch::Recoverer;
 use fr_log::Log;
 use fr_mutation::Shard;
-use fr_node_active::{ProxyNode, RecovererNode, StorageNode};
+use fr_node::{Answering, Passive, ProxyNode, RecovererNode, StorageNode};
 use fr_node_lines::{ScriptFault, read_config};
-use fr_node_steps::{Answering, Passive};
 use fr_proxy::{Proxy, Sequencer};
 use fr_register::Cell;
-use fr_run_event::Config;
+use fr_run::Config;
 use fr_sql_rows::FaithfulDisk;
 use fr_storage::Storage;
 use fr_undo::ShardStore;

@@ -4,14 +4,14 @@ ghost use Rattle.fr_cli_json.specs.Calls.{no_calls};
 ghost use Rattle.fr_cli_node.specs.declared.fault.NodeEnd.{NodeEnd};
 ghost use Rattle.fr_cli_node.specs.Lines.{EndsBy, IfUndone, IsEnd, IsPutFault, UnlessEnded, crash_in};
 ghost use Rattle.fr_node_lines.specs.declared.fault.LineFault.{LineFault};
-ghost use Rattle.fr_node_steps.specs.Answers.{IsAnswer};
+ghost use Rattle.fr_node.specs.Answers.{IsAnswer};
 
 use crate::fault::NodeEnd;
 use crate::lines::{Found, Lines};
 use fr_base::{Memory, NodeId};
 use fr_cli_json::{CallCounts, CliFault, put_bytes};
+use fr_node::{Acting, Crash, NodeReply, NodeRequest, NodeTurnFault, answer};
 use fr_node_lines::{BadLine, Envelope, Line, LineFault, read_line, write_error, write_reply};
-use fr_node_steps::{Acting, Crash, NodeReply, NodeRequest, NodeTurnFault, answer};
 use std::alloc::Global;
 use std::io::{Read, Write};
 

@@ -2,7 +2,7 @@
 use clap::error::{Error, ErrorKind};
 use clap::{Arg, ArgAction, ArgMatches, Command, value_parser};
 use fr_base::{Ballot, Epoch, LogId, Shape, Tag, Version};
-use fr_cli_words::bad_words;
+use fr_cli_apply::bad_words;
 use std::alloc::{AllocError, Global};
 
 /// Which node the words name, and how it begins.

@@ -2,7 +2,7 @@
 use fr_ask::{Ask, SeqTell, Tell};
 use fr_base::{Memory, NodeId, Version};
 use fr_proxy::Outcome;
-use fr_run_event::{Answer, Event, NotEnabled};
+use fr_run::{Answer, Event, NotEnabled};
 use fr_world::World;
 use std::alloc::Global;
 

@@ -1,6 +1,7 @@
 //! The names of refusals, as lines have them.
+use fr_forms::kind;
 use fr_log::LogRefusal;
-use fr_run_event::NotEnabled;
+use fr_run::NotEnabled;
 use fr_storage::StorageFault;
 
 /// Why a storage server did not get what it asked a log for.
@@ -19,7 +20,7 @@ impl Refusal {
     pub(crate) fn name(&self) -> &'static str {
         match self {
             Refusal::Event(why) => event_name(*why),
-            Refusal::Log(why) => log_name(*why),
+            Refusal::Log(why) => kind!(LogRefusal name why),
             Refusal::Storage(fault) => storage_name(*fault),
         }
     }
@@ -35,22 +36,6 @@ pub(crate) fn event_name(why: NotEnabled) -> &'static str {
         NotEnabled::TwoOpen => "TwoOpen",
         NotEnabled::Over => "Over",
         NotEnabled::Memory => "Memory",
-    }
-}
-
-/// The name of why a log did not do as asked.
-fn log_name(why: LogRefusal) -> &'static str {
-    match why {
-        LogRefusal::WrongEpoch => "WrongEpoch",
-        LogRefusal::Unseeded => "Unseeded",
-        LogRefusal::Stopped => "Stopped",
-        LogRefusal::Stale => "Stale",
-        LogRefusal::Gap { .. } => "Gap",
-        LogRefusal::NotMine => "NotMine",
-        LogRefusal::TooEarly { .. } => "TooEarly",
-        LogRefusal::SeedDiffers => "SeedDiffers",
-        LogRefusal::NoMark => "NoMark",
-        LogRefusal::Removed { .. } => "Removed",
     }
 }
 

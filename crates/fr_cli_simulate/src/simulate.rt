@@ -5,7 +5,7 @@ ghost use Rattle.fr_cli_json.specs.Calls.{no_calls, HasNoInput, HasNotFailed, Is
 use crate::lines::put_storages;
 use crate::steps::line_of;
 use fr_cli_json::{CallCounts, CliFault, put, read_input};
-use fr_simulate_script::{Script, ScriptStep, read_script};
+use fr_script::simulate::{Script, ScriptStep, read_script};
 use fr_world::World;
 use std::alloc::Global;
 use std::io::{Read, Write};

@@ -9,7 +9,7 @@ mod storing;
 
 use crate::steps::storing::Wish;
 use fr_base::Memory;
-use fr_simulate_script::ScriptStep;
+use fr_script::simulate::ScriptStep;
 use fr_world::World;
 use std::alloc::Global;
 

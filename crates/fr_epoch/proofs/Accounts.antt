@@ -107,17 +107,12 @@ pending_is_accounted r h = in_phase r h r.phase refl
 -- ---- what is asked newly
 
 going_on : (r n : RecState) (t : LogTell) → All (Accounted n) (next_peeks r n t)
-going_on r n ltell.Seeded = All-nil (Accounted n)
-going_on r n (ltell.Held version) = All-nil (Accounted n)
-going_on r n (ltell.Locked durable known popped) = All-nil (Accounted n)
 going_on r n (ltell.Peeked peeked) = go (nat_lt (reached_in r.plan peeked.tag) (reached_in n.plan peeked.tag))
   where
     go : (b : Bool) → All (Accounted n) (cond b (peeks_of n n.parent n.plan (peeked.tag ∷ [])) [])
     go true = peeks n n n.parent n.plan (peeked.tag ∷ [])
     go false = All-nil (Accounted n)
-going_on r n (ltell.Marked state) = All-nil (Accounted n)
-going_on r n (ltell.Popped through) = All-nil (Accounted n)
-going_on r n (ltell.Refused why) = All-nil (Accounted n)
+going_on r n t = All-nil (Accounted n)
 
 after_word : (r n : RecState) (w : Word) → All (Accounted n) (peeks_after r n w)
 after_word r n (OfCell i t) = All-nil (Accounted n)
@@ -154,10 +149,7 @@ for_log : (r n : RecState) (e i : ℕ) (a : LogAsk) → RecGrows r n → Account
 for_log r n e i (log.Seed s) g (own, c, (p, at, l, is)) =
     (own ∙ sym g.ballot, still_copied r n g c, (p, g.copied c ∙ at, l, subst (λ b. s ≡ seed_for p.tail b p.generation.m p.generation.k i) (sym g.ballot) is))
 for_log r n e i (log.Push q) g (own, ph, c, (p, at, l, is)) = (own ∙ sym g.ballot, g.chosen ph, still_copied r n g c, (p, g.copied c ∙ at, l, is))
-for_log r n e i (log.Lock epoch) g h = h
-for_log r n e i (log.Peek epoch tag after most) g h = h
-for_log r n e i (log.MarkAsked epoch) g h = h
-for_log r n e i (log.Pop epoch tag through) g h = h
+for_log r n e i a g h = h
 
 pub accounted_stays : AccountedStays
 accounted_stays r n (node.Cell i) (ask.Cell a) g h = for_cell r n a g h

@@ -82,13 +82,8 @@ lock r w e i durable known popped ph says (Some p) at (Some end) tally = go (e =
     go false k = Stands
 
 locking : (r : RecState) (w : Word) (e i : ℕ) (t : LogTell) → r.phase ≡ Locking → w ≡ OfLog e i t → Change r w (after_heed r (heed_lock r e i t))
-locking r w e i log.Seeded ph says = Stands
-locking r w e i (log.Held version) ph says = Stands
 locking r w e i (log.Locked durable known popped) ph says = lock r w e i durable known popped ph says r.parent refl r.end refl
-locking r w e i (log.Peeked peeked) ph says = Stands
-locking r w e i (log.Marked state) ph says = Stands
-locking r w e i (log.Popped through) ph says = Stands
-locking r w e i (log.Refused why) ph says = Stands
+locking r w e i t ph says = Stands
 
 -- ---- copying
 
@@ -121,12 +116,8 @@ seed r w e i ph says (Some p) at = go (is_newly_seeded r p e i) refl
 
 copying : (r : RecState) (w : Word) (e i : ℕ) (t : LogTell) → r.phase ≡ Copying → w ≡ OfLog e i t → Change r w (after_heed r (heed_copy r e i t))
 copying r w e i log.Seeded ph says = seed r w e i ph says r.plan refl
-copying r w e i (log.Held version) ph says = Stands
-copying r w e i (log.Locked durable known popped) ph says = Stands
 copying r w e i (log.Peeked peeked) ph says = copy r w e i peeked ph says r.parent refl r.plan refl
-copying r w e i (log.Marked state) ph says = Stands
-copying r w e i (log.Popped through) ph says = Stands
-copying r w e i (log.Refused why) ph says = Stands
+copying r w e i t ph says = Stands
 
 -- ---- writing, and chosen
 
@@ -155,13 +146,8 @@ held r w e i version ph says (Some p) at = go (is_newly_marked r p e i version) 
     go false k = Stands
 
 chosen : (r : RecState) (w : Word) (e i : ℕ) (t : LogTell) → r.phase ≡ Chosen → w ≡ OfLog e i t → Change r w (after_heed r (heed_mark r e i t))
-chosen r w e i log.Seeded ph says = Stands
 chosen r w e i (log.Held version) ph says = held r w e i version ph says r.plan refl
-chosen r w e i (log.Locked durable known popped) ph says = Stands
-chosen r w e i (log.Peeked peeked) ph says = Stands
-chosen r w e i (log.Marked state) ph says = Stands
-chosen r w e i (log.Popped through) ph says = Stands
-chosen r w e i (log.Refused why) ph says = Stands
+chosen r w e i t ph says = Stands
 
 -- ---- all phases
 

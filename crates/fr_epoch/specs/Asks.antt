@@ -98,13 +98,8 @@ reached_in (Some p) tag = (part_at p.tail tag).reached
 
 -- the peeks that go on from an answer that was taken
 abbrev pub next_peeks : RecState → RecState → LogTell → List (NodeId × Ask)
-next_peeks r n ltell.Seeded = []
-next_peeks r n (ltell.Held version) = []
-next_peeks r n (ltell.Locked durable known popped) = []
 next_peeks r n (ltell.Peeked peeked) = if nat_lt (reached_in r.plan peeked.tag) (reached_in n.plan peeked.tag) then peeks_of n n.parent n.plan (peeked.tag ∷ []) else []
-next_peeks r n (ltell.Marked state) = []
-next_peeks r n (ltell.Popped through) = []
-next_peeks r n (ltell.Refused why) = []
+next_peeks r n t = []
 
 abbrev pub peeks_after : RecState → RecState → Word → List (NodeId × Ask)
 peeks_after r n (OfCell i t) = []

@@ -71,8 +71,7 @@ AccountsForLog r e i (log.Seed s) = (e ≡ r.ballot) × (is_copied r ≡ true) �
 AccountsForLog r e i (log.Push q) = (e ≡ r.ballot) × (r.phase ≡ Chosen) × (is_copied r ≡ true) × ((p : Plan) × (r.plan ≡ Some p) × (i < p.generation.m) × (q ≡ mark_of p))
 AccountsForLog r e i (log.Lock epoch) = epoch ≡ e
 AccountsForLog r e i (log.Peek epoch tag after most) = epoch ≡ e
-AccountsForLog r e i (log.MarkAsked epoch) = ⊥
-AccountsForLog r e i (log.Pop epoch tag through) = ⊥
+AccountsForLog r e i a = ⊥
 
 -- an ask that the recoverer's state accounts for
 abbrev pub AccountsFor : RecState → NodeId → Ask → Type 0

@@ -70,13 +70,8 @@ heed_locked (Some p) None e i durable known popped = Nothing
 heed_locked (Some p) (Some end) e i durable known popped = if e == p.last.epoch then Replied p end i durable known popped else Nothing
 
 abbrev pub heed_lock : RecState → ℕ → ℕ → LogTell → Heed
-heed_lock r e i log.Seeded = Nothing
-heed_lock r e i (log.Held version) = Nothing
 heed_lock r e i (log.Locked durable known popped) = heed_locked r.parent r.end e i durable known popped
-heed_lock r e i (log.Peeked peeked) = Nothing
-heed_lock r e i (log.Marked state) = Nothing
-heed_lock r e i (log.Popped through) = Nothing
-heed_lock r e i (log.Refused why) = Nothing
+heed_lock r e i t = Nothing
 
 abbrev pub heed_peeked : Option Parent → Option Plan → ℕ → ℕ → PeekedContent → Heed
 heed_peeked None plan e i peeked = Nothing
@@ -93,12 +88,8 @@ heed_seeded r (Some p) e i = if is_newly_seeded r p e i then IsSeeded p i else N
 
 abbrev pub heed_copy : RecState → ℕ → ℕ → LogTell → Heed
 heed_copy r e i log.Seeded = heed_seeded r r.plan e i
-heed_copy r e i (log.Held version) = Nothing
-heed_copy r e i (log.Locked durable known popped) = Nothing
 heed_copy r e i (log.Peeked peeked) = heed_peeked r.parent r.plan e i peeked
-heed_copy r e i (log.Marked state) = Nothing
-heed_copy r e i (log.Popped through) = Nothing
-heed_copy r e i (log.Refused why) = Nothing
+heed_copy r e i t = Nothing
 
 abbrev pub heed_cell_writing : Word → Heed
 heed_cell_writing (OfCell i t) = Voted i t
@@ -114,13 +105,8 @@ heed_held r None e i version = Nothing
 heed_held r (Some p) e i version = if is_newly_marked r p e i version then IsMarked p i else Nothing
 
 abbrev pub heed_mark : RecState → ℕ → ℕ → LogTell → Heed
-heed_mark r e i log.Seeded = Nothing
 heed_mark r e i (log.Held version) = heed_held r r.plan e i version
-heed_mark r e i (log.Locked durable known popped) = Nothing
-heed_mark r e i (log.Peeked peeked) = Nothing
-heed_mark r e i (log.Marked state) = Nothing
-heed_mark r e i (log.Popped through) = Nothing
-heed_mark r e i (log.Refused why) = Nothing
+heed_mark r e i t = Nothing
 
 -- what a log told
 abbrev pub of_log : (ℕ → ℕ → LogTell → Heed) → Word → Heed

@@ -52,6 +52,13 @@ macro_rules! one_of {
             )+
         }
     };
+    (name $value:ident; $type:ident; $($name:literal $variant:ident
+        $({ $($part:ident: $form:expr),* })? $(($whole:ident: $whole_form:expr))? $([$only:ident: $only_form:expr])?;)+
+    ) => {
+        match $value {
+            $($type::$variant { .. } => stringify!($variant),)+
+        }
+    };
 }
 
 /// An object of parts, `{..}`, or an array of them, `[..]`: those of a struct, or what a function is given that makes

@@ -9,9 +9,8 @@ use std::alloc::{AllocError, Global};
 pub(crate) enum Wanted {
     /// JSON, of numbers that a double can come near, and nested 127 levels deep at most.
     Json,
+    /// A value of this form, or a member of one.
     Value(&'static Form),
-    /// A member of an object of this form.
-    Member(&'static Form),
     /// An object that has the member of this name.
     Missing(&'static str),
     /// An array of so many.
@@ -36,14 +35,7 @@ pub(crate) const NO_JSON: Mistake = Mistake {
 /// The most characters of a token that are shown.
 const SHOWN: usize = 40;
 
-/// The text, an object or an array on the way to a token: where it begins, and what was read of it.
-#[derive(Clone, Copy)]
-struct Level<'a> {
-    start: usize,
-    read: Read<'a>,
-}
-
-/// What was read of a text, of an object or of an array.
+/// What was read of the text, or of an object or an array on the way to a token.
 #[derive(Clone, Copy)]
 enum Read<'a> {
     /// Nothing of the text.
@@ -87,17 +79,15 @@ pub(crate) fn explain(alloc: Global, input: &[u8], mistake: Mistake) -> Result<S
     Ok(said)
 }
 
-/// Where the token of a mistake begins, and at most where the next one does; and the levels on the way to it.
+/// Where the token of a mistake begins, and at most where the next one does; and the levels on the way to it, each with
+/// the place where it begins.
 fn sought<'a>(
     reader: &mut Reader<'a>,
     length: usize,
     mistake: Mistake,
-    levels: &mut Vec<Level<'a>>,
+    levels: &mut Vec<(usize, Read<'a>)>,
 ) -> Result<(usize, usize), AllocError> {
-    levels.push(Level {
-        start: 0,
-        read: Read::Nothing,
-    })?;
+    levels.push((0, Read::Nothing))?;
     // (a token more than there are bytes: the end)
     for _token in 0..=length {
         let mut start = reader.offset();
@@ -106,23 +96,16 @@ fn sought<'a>(
         let Some(last) = levels.last_mut() else {
             break;
         };
-        let (read, fits) = passed(last.read, token, depth);
-        last.read = read;
+        let (read, fits) = passed(last.1, token, depth);
+        last.1 = read;
         if !fits {
             return Ok((start, length));
         }
         match token {
-            Token::BeginObject | Token::BeginArray => {
-                let is_array = matches!(token, Token::BeginArray);
-                let read = if is_array {
-                    Read::Items(0)
-                } else {
-                    Read::Begun
-                };
-                levels.push(Level { start, read })?;
-            }
+            Token::BeginObject => levels.push((start, Read::Begun))?,
+            Token::BeginArray => levels.push((start, Read::Items(0)))?,
             Token::EndObject | Token::EndArray => {
-                start = levels.pop().map_or(start, |ended| ended.start);
+                start = levels.pop().map_or(start, |ended| ended.0);
             }
             _ => {}
         }
@@ -169,19 +152,19 @@ fn place(before: &[u8]) -> (usize, usize) {
 }
 
 /// The way to a place, as `ops[3].apply`.
-fn put_path(said: &mut String, levels: &[Level<'_>]) -> Result<(), AllocError> {
+fn put_path(said: &mut String, levels: &[(usize, Read<'_>)]) -> Result<(), AllocError> {
     let start = said.len();
     for level in levels {
-        match level.read {
-            Read::Items(count) => if count > 0 {
+        match level.1 {
+            Read::Items(count) if count > 0 => {
                 let index = count.wrapping_sub(1);
                 write!(said, "[{index}]")?;
-            },
-            Read::Name(name) | Read::Member(name) => if !name.is_empty() {
+            }
+            Read::Name(name) | Read::Member(name) if !name.is_empty() => {
                 said.push_str(if said.len() > start { "." } else { "" })?;
                 put_token(said, name, true)?;
-            },
-            Read::Nothing | Read::Begun | Read::All => {}
+            }
+            _ => {}
         }
     }
     said.push_str(if said.len() > start { ": " } else { "" })
@@ -244,7 +227,7 @@ pub fn put_printable(text: &mut String, letter: char) -> Result<(), AllocError> 
 fn put_wanted(said: &mut String, wanted: Wanted) -> Result<(), AllocError> {
     match wanted {
         Wanted::Json => said.push_str(", which is no JSON here"),
-        Wanted::Value(form) | Wanted::Member(form) => {
+        Wanted::Value(form) => {
             said.push_str(", wanted ")?;
             put_form(said, form)
         }

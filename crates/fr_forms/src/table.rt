@@ -8,7 +8,8 @@ use crate::form::{Form, Piece};
 use crate::kind;
 
 /// The rows of types: `kind!(TYPE form)` is its form, `kind!(TYPE read alloc row)` makes it of what was read, and
-/// `kind!(TYPE write self alloc)` makes a value of JSON of it.
+/// `kind!(TYPE write self alloc)` makes a value of JSON of it. Of an enum `kind!(TYPE name value)` is the name of its
+/// variant.
 #[macro_export]
 macro_rules! kind {
     // ---- nodes, what they are asked, and what they tell

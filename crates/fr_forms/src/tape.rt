@@ -59,18 +59,6 @@ pub(crate) struct Open {
 }
 
 impl Open {
-    fn new(form: &'static Form, members: Members, base: usize, count: usize) -> Self {
-        Open {
-            form,
-            members,
-            base,
-            count,
-            next: 0,
-            left: count,
-            wrong: None,
-        }
-    }
-
     /// What is handed out of an array, if its items are.
     pub(crate) fn listed(self) -> Option<Piece> {
         match self.form {
@@ -153,24 +141,38 @@ impl<'a> Tape<'a> {
             Form::Either(array, object) => if is_object { object } else { array },
             other => other,
         };
-        let base = self.parts.len();
-        let (members, base, count) = match within {
-            Form::Object(members) if is_object => (*members, base, members.len()),
-            Form::OneOf(members) if is_object => (*members, base, 1),
-            Form::Tuple(forms) if !is_object => (NONE, base, forms.len()),
-            Form::List(_) if !is_object => (NONE, self.items.len(), 0),
+        let mut open = Open {
+            form: within,
+            members: &[],
+            base: self.parts.len(),
+            count: 0,
+            next: 0,
+            left: 0,
+            wrong: None,
+        };
+        match within {
+            Form::Object(members) if is_object => {
+                open.members = *members;
+                open.count = members.len();
+            }
+            Form::OneOf(members) if is_object => {
+                open.members = *members;
+                open.count = 1;
+            }
+            Form::Tuple(forms) if !is_object => open.count = forms.len(),
+            Form::List(_) if !is_object => open.base = self.items.len(),
             _ => {
-                let mut open = Open::new(&ANY, NONE, 0, 0);
+                open.form = &ANY;
                 if !matches!(form, Form::Any) {
                     self.spoil(&mut open, end, Wanted::Value(form))?;
                 }
-                return Ok(open);
             }
-        };
-        for _part in 0..count {
+        }
+        open.left = open.count;
+        for _part in 0..open.count {
             self.parts.push(Slot::Absent)?;
         }
-        Ok(Open::new(within, members, base, count))
+        Ok(open)
     }
 
     /// The form of the member of a name, and its place: none if there is no such member. It is sought first where it is
@@ -203,7 +205,7 @@ impl<'a> Tape<'a> {
             }
         }
         if !matches!(open.form, Form::Any) {
-            self.spoil(open, end, Wanted::Member(open.form))?;
+            self.spoil(open, end, Wanted::Value(open.form))?;
         }
         Ok((&ANY, NOWHERE))
     }
@@ -290,7 +292,7 @@ impl<'a> Tape<'a> {
             _ if open.left == 0 => None,
             Form::Object(members) => missing(members, read),
             Form::Tuple(forms) => Some(Wanted::Items(forms.len())),
-            _ => Some(Wanted::Member(open.form)),
+            _ => Some(Wanted::Value(open.form)),
         };
         match lacks {
             Some(wanted) => self.spoil(open, end, wanted),
@@ -298,9 +300,6 @@ impl<'a> Tape<'a> {
         }
     }
 }
-
-/// What has no members.
-const NONE: Members = &[];
 
 /// The first member that is missing.
 fn missing(members: Members, read: &[Slot<'_>]) -> Option<Wanted> {

@@ -6,7 +6,7 @@ use Rattle.std.proofs.lemmas.Bool.{and_parts, or_cases, ltb-true, eqb-true}
 use Rattle.fr_log.specs.declared.records.SeedRecord.{SeedRecord}
 use Rattle.fr_log.specs.Seed.{is_rising_from}
 use Rattle.fr_log.specs.declared.popped.PoppedTag.{PoppedTag}
-use Rattle.fr_log.specs.Popped.{left_push}
+use Rattle.fr_log.specs.Left.{left_push}
 use Rattle.fr_log.specs.Search.{is_found}
 use Rattle.fr_log.specs.Push.{PushContent, is_one_push, is_one_push-parts}
 

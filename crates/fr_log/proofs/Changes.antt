@@ -4,7 +4,7 @@ use Rattle.std.specs.Prelude.{is_none, IsSome}
 use Rattle.std.specs.List.{list_all}
 use Rattle.std.proofs.lemmas.Bool.{not-false, eqb-true}
 use Rattle.fr_log.specs.declared.ask.LogAsk.{LogAsk}
-use Rattle.fr_log.specs.declared.ask.LogAsk.TheVariants.{Seed, Push, Lock, Peek, MarkAsked, Pop}
+use Rattle.fr_log.specs.declared.ask.LogAsk.TheVariants.{Seed, Push, Lock, Pop}
 use Rattle.fr_log.specs.declared.ask.LogTell.TheVariants.{Seeded, Held, Popped, Refused}
 use Rattle.fr_log.specs.declared.ask.LogRefusal.{LogRefusal}
 use Rattle.fr_log.specs.Seed.{SeedContent}
@@ -80,13 +80,8 @@ pub ask_is_change : AskIsChange
 ask_is_change l (Seed s) = seed_changes l s (refusal_of l (Seed s)) refl l.seed refl
 ask_is_change l (Push p) = push_changes l p (refusal_of l (Push p)) refl (is_push_held l p) refl
 ask_is_change l (Lock epoch) = lock_changes l epoch (refusal_of l (Lock epoch)) refl
-ask_is_change l (Peek epoch tag after most) =
-    let a = Peek epoch tag after most in
-    subst (LogChange l a) (sym (stands l a (refusal_of l a) refl refl)) Stands
-ask_is_change l (MarkAsked epoch) =
-    let a = MarkAsked epoch in
-    subst (LogChange l a) (sym (stands l a (refusal_of l a) refl refl)) Stands
 ask_is_change l (Pop epoch tag through) = pop_changes l epoch tag through (refusal_of l (Pop epoch tag through)) refl (is_popped_to l tag (popped_to l tag through)) refl
+ask_is_change l a = subst (LogChange l a) (sym (stands l a (refusal_of l a) refl refl)) Stands
 
 -- what is true of the log, and after each way in which it changes, is true after an ask
 pub by_change : (P : LogState → Type 0) (l : LogState) (a : LogAsk) → P l → ((s : SeedContent) → a ≡ Seed s → IsFirst l s → P (with_seed l s)) → ((p : PushContent) → a ≡ Push p → IsNext l p → P (with_push l p))
@@ -121,10 +116,9 @@ refused_changes_nothing l (Lock epoch) why e = go (refusal_of l (Lock epoch)) re
     go : (o : Option LogRefusal) → refusal_of l (Lock epoch) ≡ o → next_of l (Lock epoch) ≡ l
     go (Some w) r = refused l (Lock epoch) w r
     go None r = let k : granted_answer l (Lock epoch) ≡ Refused why = sym (told l (Lock epoch) None r) ∙ e in absurd (cc)
-refused_changes_nothing l (Peek epoch tag after most) why e = stands l (Peek epoch tag after most) (refusal_of l (Peek epoch tag after most)) refl refl
-refused_changes_nothing l (MarkAsked epoch) why e = stands l (MarkAsked epoch) (refusal_of l (MarkAsked epoch)) refl refl
 refused_changes_nothing l (Pop epoch tag through) why e = go (refusal_of l (Pop epoch tag through)) refl
   where
     go : (o : Option LogRefusal) → refusal_of l (Pop epoch tag through) ≡ o → next_of l (Pop epoch tag through) ≡ l
     go (Some w) r = refused l (Pop epoch tag through) w r
     go None r = let k : Popped (popped_to l tag through) ≡ Refused why = sym (told l (Pop epoch tag through) None r) ∙ e in absurd (cc)
+refused_changes_nothing l a why e = stands l a (refusal_of l a) refl refl

@@ -11,7 +11,7 @@ use Rattle.fr_log.specs.declared.pushes.header.PushHeader.{PushHeader}
 use Rattle.fr_log.specs.Fields.{two}
 use Rattle.fr_tags.specs.declared.body.Body.{Body}
 use Rattle.fr_log.specs.declared.popped.PoppedTag.{PoppedTag}
-use Rattle.fr_log.specs.Popped.{popped_at, left_bodies, left_push}
+use Rattle.fr_log.specs.Left.{popped_at, left_bodies, left_push}
 use Rattle.fr_log.specs.SweptLaws.{body_left}
 use Rattle.fr_log.specs.Push.{PushContent, is_one_push, is_same_mark}
 use Rattle.fr_log.specs.LogState.{mark_among}

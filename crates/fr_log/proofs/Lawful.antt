@@ -8,7 +8,7 @@ use Rattle.std.proofs.lemmas.List.{append-nil, map-append}
 use Rattle.std.proofs.lemmas.List.Elements.{All-head, All-tail, filter_map-append}
 use Rattle.fr_log.specs.declared.ask.LogAsk.TheVariants.{Push}
 use Rattle.fr_log.specs.declared.popped.PoppedTag.{PoppedTag}
-use Rattle.fr_log.specs.Popped.{popped_of, popped_at, raised, is_rising_popped}
+use Rattle.fr_log.specs.Left.{popped_of, popped_at, raised, is_rising_popped}
 use Rattle.fr_log.specs.SweptLaws.{raised_here, raised_others}
 use Rattle.fr_log.specs.Fields.{two}
 use Rattle.fr_log.specs.Seed.{SeedContent, IsSeed}

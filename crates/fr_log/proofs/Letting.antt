@@ -11,12 +11,12 @@ use Rattle.fr_tags.specs.Bodies.{is_rising_from}
 use Rattle.fr_log.specs.declared.popped.PoppedTag.{PoppedTag}
 use Rattle.fr_log.specs.declared.records.SeedRecord.{SeedRecord}
 use Rattle.fr_log.specs.declared.ask.LogAsk.{LogAsk}
-use Rattle.fr_log.specs.declared.ask.LogAsk.TheVariants.{Seed, Push, Lock, Peek, MarkAsked, Pop}
+use Rattle.fr_log.specs.declared.ask.LogAsk.TheVariants.{Pop}
 use Rattle.fr_log.specs.declared.ask.LogRefusal.{LogRefusal}
 use Rattle.fr_log.specs.Fields.{two}
 use Rattle.fr_log.specs.Seed.{SeedContent, IsSeed, is_within}
 use Rattle.fr_log.specs.Push.{PushContent, IsPush}
-use Rattle.fr_log.specs.Popped.{popped_at, left_bodies, left_push, is_left, left_seed}
+use Rattle.fr_log.specs.Left.{popped_at, left_bodies, left_push, is_left, left_seed}
 use Rattle.fr_log.specs.LogState.{LogState, swept, headers, seeded_to_of, known_of, holds}
 use Rattle.fr_log.specs.Chain.{IsChain, BeginsWithMark, IsOwnSeed, IsOwnPush, IsLog, IsKept}
 use Rattle.fr_log.specs.Refusal.{refusal_of}
@@ -249,11 +249,6 @@ pop_stands l epoch tag through kept = go (refusal_of l (Pop epoch tag through)) 
         granted l a e ∙ ap (λ b. cond b l (with_popped l tag v)) (same (is_popped_to l tag v) k)
 
 pub lets_go_is_swept : LetsGoIsSwept
-lets_go_is_swept l (Seed s) h is settled = others_stay l (Seed s) h is settled (λ e t v k. cc)
-lets_go_is_swept l (Push p) h is settled = others_stay l (Push p) h is settled (λ e t v k. cc)
-lets_go_is_swept l (Lock epoch) h is settled = others_stay l (Lock epoch) h is settled (λ e t v k. cc)
-lets_go_is_swept l (Peek epoch tag after most) h is settled = others_stay l (Peek epoch tag after most) h is settled (λ e t v k. cc)
-lets_go_is_swept l (MarkAsked epoch) h is settled = others_stay l (MarkAsked epoch) h is settled (λ e t v k. cc)
 lets_go_is_swept l (Pop epoch tag through) h is settled = go (lets_go l (Pop epoch tag through)) refl
   where
     a : LogAsk
@@ -264,6 +259,7 @@ lets_go_is_swept l (Pop epoch tag through) h is settled = go (lets_go l (Pop epo
     go false e =
         let stands = pop_stands l epoch tag through e in
         ap (λ b. cond b (swept (next_of l a)) (next_of l a)) e ∙ stands ∙ sym settled ∙ ap swept (sym stands)
+lets_go_is_swept l a h is settled = others_stay l a h is settled (λ e t v k. cc)
 
 -- ---- nothing is let go of a log of which nothing is popped
 

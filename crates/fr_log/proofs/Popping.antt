@@ -8,7 +8,7 @@ use Rattle.std.proofs.lemmas.List.{drop_more, drop_all}
 use Rattle.fr_log.specs.declared.popped.PoppedTag.{PoppedTag}
 use Rattle.fr_log.specs.declared.records.SeedRecord.{SeedRecord}
 use Rattle.fr_log.specs.Records.{is_same_seed_record}
-use Rattle.fr_log.specs.Popped.{place_in, raised, is_left, IsLeftAtFirst}
+use Rattle.fr_log.specs.Left.{place_in, raised, is_left, IsLeftAtFirst}
 
 -- ---- where an entry stands
 

@@ -16,7 +16,7 @@ use Rattle.fr_mutation.specs.declared.mutation.Mutation.{Mutation}
 use Rattle.fr_tags.specs.declared.body.Body.{Body}
 use Rattle.fr_tags.specs.Bodies.{batch_of, is_rising_from, is_same_body}
 use Rattle.fr_log.specs.declared.popped.PoppedTag.{PoppedTag}
-use Rattle.fr_log.specs.Popped.{popped_at, left_bodies, IsBodyLeftAtFirst}
+use Rattle.fr_log.specs.Left.{popped_at, left_bodies, IsBodyLeftAtFirst}
 use Rattle.fr_log.specs.Fields.{two}
 use Rattle.fr_log.specs.Pushes.{Shelved, batch_at, at_version, AreBelow, AreAbove, cut, above, shelf_of, with_body, bodies_from}
 

@@ -12,7 +12,7 @@ use Rattle.fr_log.specs.declared.ask.LogAsk.TheVariants.{Seed, Push, Lock, Peek,
 use Rattle.fr_log.specs.declared.ask.LogTell.TheVariants.{Held, Locked, Peeked, Popped, Refused}
 use Rattle.fr_log.specs.declared.ask.LogRefusal.{LogRefusal}
 use Rattle.fr_log.specs.declared.ask.LogRefusal.TheVariants.{WrongEpoch, Unseeded, NotMine, TooEarly, Removed}
-use Rattle.fr_log.specs.Popped.{popped_of, popped_at, left_push, left_seed}
+use Rattle.fr_log.specs.Left.{popped_of, popped_at, left_push, left_seed}
 use Rattle.fr_log.specs.SweptLaws.{raised_here, granted_from}
 use Rattle.fr_log.specs.declared.records.PeekedRecord.{PeekedRecord}
 use Rattle.fr_log.specs.Seed.{SeedContent, is_same_seed, is_same_seed-IsSameness}

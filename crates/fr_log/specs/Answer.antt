@@ -11,7 +11,7 @@ use Rattle.fr_log.specs.Peeked.{PeekedContent}
 use Rattle.fr_log.specs.LogState.{LogState, first_of, durable_of, known_of, holds, is_push_held, mark_among}
 use Rattle.fr_log.specs.Refusal.{refusal_of}
 use Rattle.fr_log.specs.declared.popped.PoppedTag.{PoppedTag}
-use Rattle.fr_log.specs.Popped.{popped_of, popped_at, left_seed}
+use Rattle.fr_log.specs.Left.{popped_of, popped_at, left_seed}
 use Rattle.std.specs.Option.{option_map}
 use Rattle.fr_log.specs.Step.{next_of, peek_of, popped_to}
 

@@ -3,7 +3,7 @@ use Rattle.std.specs.Prelude.{◌≡◌, ℕ, ◌<◌, ◌≤◌, nat_le, Bool, 
 use Rattle.std.specs.List.{list_all}
 use Rattle.fr_log.specs.Seed.{SeedContent, IsSeed}
 use Rattle.fr_log.specs.Push.{PushContent, IsPush}
-use Rattle.fr_log.specs.Popped.{is_rising_popped}
+use Rattle.fr_log.specs.Left.{is_rising_popped}
 use Rattle.fr_log.specs.LogState.{LogState, Header, holds, seeded_to_of, headers_of, durable_of, known_of}
 
 -- each push follows the one before it, and the first one this version

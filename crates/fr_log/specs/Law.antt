@@ -14,7 +14,7 @@ use Rattle.fr_log.specs.LogState.{LogState, Header, swept, holds, first_of, seed
 use Rattle.fr_log.specs.Chain.{IsLog}
 use Rattle.fr_log.specs.Refusal.{push_refusal}
 use Rattle.fr_log.specs.declared.popped.PoppedTag.{PoppedTag}
-use Rattle.fr_log.specs.Popped.{popped_of, popped_at, raised}
+use Rattle.fr_log.specs.Left.{popped_of, popped_at, raised}
 use Rattle.fr_log.specs.Step.{answer_of, next_of, peek_of, after_ask}
 use Rattle.fr_log.specs.Search.{seeded_records, pushed_records}
 use Rattle.fr_log.specs.Change.{with_seed, with_push, IsNext, LogChange}
@@ -25,10 +25,7 @@ use Rattle.fr_log.specs.Checkpoint.{Extends, checkpoint_of, gone_back}
 abbrev pub IsLogAsk : LogAsk → Type 0
 IsLogAsk (Seed s) = IsSeed s
 IsLogAsk (Push p) = IsPush p
-IsLogAsk (Lock epoch) = Unit {0}
-IsLogAsk (Peek epoch tag after most) = Unit {0}
-IsLogAsk (MarkAsked epoch) = Unit {0}
-IsLogAsk (Pop epoch tag through) = Unit {0}
+IsLogAsk a = Unit {0}
 
 -- a log after some asks
 abbrev pub after_all : LogState → List LogAsk → LogState
@@ -36,12 +33,8 @@ after_all l asks = fold next_of l asks
 
 -- a peek asks for 1 to 100 records
 abbrev pub HasMost : LogAsk → Type 0
-HasMost (Seed s) = Unit {0}
-HasMost (Push p) = Unit {0}
-HasMost (Lock epoch) = Unit {0}
 HasMost (Peek epoch tag after most) = (1 ≤ most) × (most ≤ 100)
-HasMost (MarkAsked epoch) = Unit {0}
-HasMost (Pop epoch tag through) = Unit {0}
+HasMost a = Unit {0}
 
 -- the epoch for whose log an ask is
 abbrev pub epoch_of : LogAsk → ℕ
@@ -147,11 +140,7 @@ AsksGrow = (l : LogState) (asks : List LogAsk) → Grows l (after_all l asks)
 -- whether an ask is a push that is taken and was not held before
 abbrev pub is_newly_held : LogState → LogAsk → Bool
 is_newly_held l (Push p) = is_none (push_refusal l p) && not (is_push_held l p)
-is_newly_held l (Seed s) = false
-is_newly_held l (Lock epoch) = false
-is_newly_held l (Peek epoch tag after most) = false
-is_newly_held l (MarkAsked epoch) = false
-is_newly_held l (Pop epoch tag through) = false
+is_newly_held l a = false
 
 -- what a log is with its first seed: it has come as far as that goes, and has its records
 pub record IsSeededWith (s : SeedContent) (n : LogState) : Type 0 where

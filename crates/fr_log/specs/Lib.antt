@@ -5,7 +5,7 @@ pub mod Seed
 pub mod Push
 pub mod Peeked
 pub mod Same
-pub mod Popped
+pub mod Left
 pub mod LogState
 pub mod Search
 pub mod Pushes

@@ -10,7 +10,7 @@ use Rattle.fr_log.specs.declared.records.PeekedRecord.{PeekedRecord}
 use Rattle.fr_log.specs.Seed.{SeedContent}
 use Rattle.fr_log.specs.Push.{PushContent, is_one_push}
 use Rattle.fr_log.specs.declared.popped.PoppedTag.{PoppedTag}
-use Rattle.fr_log.specs.Popped.{left_push, left_seed}
+use Rattle.fr_log.specs.Left.{left_push, left_seed}
 
 -- a log: its epoch and its number there, how many logs the epoch has (m), and on how many of them each tag is (k). It
 -- has the seed that it took and the pushes that it took, the oldest first. It says whether it was locked, and through

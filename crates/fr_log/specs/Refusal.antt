@@ -8,7 +8,7 @@ use Rattle.fr_log.specs.declared.ask.LogRefusal.TheVariants.{WrongEpoch, Unseede
 use Rattle.fr_log.specs.Seed.{SeedContent, is_same_seed}
 use Rattle.fr_log.specs.Push.{PushContent}
 use Rattle.fr_log.specs.declared.popped.PoppedTag.{PoppedTag}
-use Rattle.fr_log.specs.Popped.{popped_at, left_seed}
+use Rattle.fr_log.specs.Left.{popped_at, left_seed}
 use Rattle.fr_log.specs.LogState.{LogState, first_of, seeded_to_of, durable_of, holds, is_push_held, mark_among}
 
 -- whether a log has a seed, and another one than this, whatever the two have of what is popped

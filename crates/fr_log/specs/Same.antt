@@ -8,7 +8,7 @@ use Rattle.fr_log.specs.Fields.{three, four}
 use Rattle.fr_log.specs.States.{is_same_state-IsSameness}
 use Rattle.fr_log.specs.Seed.{is_same_seed, is_same_seed-IsSameness}
 use Rattle.fr_log.specs.Push.{is_same_push, is_same_push-IsSameness}
-use Rattle.fr_log.specs.Popped.{is_same_popped, are_same_popped-IsSameness}
+use Rattle.fr_log.specs.Left.{is_same_popped, are_same_popped-IsSameness}
 use Rattle.std.specs.Cmp.Lexicographic.{pointwise}
 use Rattle.fr_log.specs.Peeked.{is_same_peeked, is_same_peeked-IsSameness}
 use Rattle.fr_log.specs.declared.ask.LogAsk.{LogAsk}

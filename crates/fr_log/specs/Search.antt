@@ -5,7 +5,7 @@ use Rattle.fr_log.specs.declared.records.SeedRecord.{SeedRecord}
 use Rattle.fr_log.specs.declared.records.PeekedRecord.{PeekedRecord}
 use Rattle.fr_log.specs.Push.{PushContent, is_one_push}
 use Rattle.fr_log.specs.declared.popped.PoppedTag.{PoppedTag}
-use Rattle.fr_log.specs.Popped.{left_push}
+use Rattle.fr_log.specs.Left.{left_push}
 use Rattle.fr_log.specs.LogState.{seeded_record, pushed_record}
 
 -- whether a push is among others, whatever it tells of what is known, and of what is popped

@@ -1,14 +1,14 @@
 -- Asks that change a log, and a seed that grows by one record while a log is read back.
 use Rattle.std.specs.Prelude.{ℕ, nat_lt, nat_le, is_some, Bool, true, false, ◌&&◌, not, List, [], ◌∷◌, ◌++◌, Option, None, Some, is_none, if◌then◌else◌}
 use Rattle.fr_log.specs.declared.ask.LogAsk.{LogAsk}
-use Rattle.fr_log.specs.declared.ask.LogAsk.TheVariants.{Seed, Push, Lock, Peek, MarkAsked, Pop}
+use Rattle.fr_log.specs.declared.ask.LogAsk.TheVariants.{Seed, Push, Lock}
 use Rattle.fr_log.specs.declared.records.SeedRecord.{SeedRecord}
 use Rattle.fr_log.specs.Seed.{SeedContent, is_within, is_rising_from}
 use Rattle.fr_log.specs.Push.{PushContent}
 use Rattle.fr_log.specs.LogState.{LogState, known_of, holds, is_push_held}
 use Rattle.fr_log.specs.declared.popped.PoppedTag.{PoppedTag}
 use Rattle.fr_log.specs.Refusal.{seed_refusal, push_refusal, lock_refusal}
-use Rattle.fr_log.specs.Popped.{popped_of}
+use Rattle.fr_log.specs.Left.{popped_of}
 use Rattle.fr_log.specs.Step.{lets_go}
 
 -- whether an ask changes a log: a first seed, a push that is not held yet, a first lock and a Pop that comes further
@@ -17,9 +17,7 @@ abbrev pub changes : LogState → LogAsk → Bool
 changes l (Seed s) = is_none (seed_refusal l s) && is_none l.seed
 changes l (Push p) = is_none (push_refusal l p) && not (is_push_held l p)
 changes l (Lock epoch) = is_none (lock_refusal l epoch) && not l.stopped
-changes l (Peek epoch tag after most) = false
-changes l (MarkAsked epoch) = false
-changes l (Pop epoch tag through) = lets_go l (Pop epoch tag through)
+changes l a = lets_go l a
 
 -- the seed with one record more
 abbrev pub with_record : SeedContent → SeedRecord → SeedContent

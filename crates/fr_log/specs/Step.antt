@@ -10,7 +10,7 @@ use Rattle.fr_log.specs.declared.ask.LogTell.TheVariants.{Seeded, Held, Locked, 
 use Rattle.fr_log.specs.declared.ask.LogRefusal.{LogRefusal}
 use Rattle.fr_log.specs.declared.ask.LogRefusal.TheVariants.{NoMark}
 use Rattle.fr_log.specs.Peeked.{PeekedContent}
-use Rattle.fr_log.specs.Popped.{popped_of, popped_at, raised}
+use Rattle.fr_log.specs.Left.{popped_of, popped_at, raised}
 use Rattle.fr_log.specs.LogState.{LogState, durable_of, known_of, is_push_held, mark_among, records_of, swept}
 use Rattle.fr_log.specs.Refusal.{refusal_of, pop_refusal}
 

@@ -8,13 +8,13 @@ use Rattle.std.proofs.lemmas.Bool.{or_right}
 use Rattle.fr_base.specs.HighWater.{NoneFell}
 use Rattle.fr_tags.specs.Placement.{is_held}
 use Rattle.fr_log.specs.declared.ask.LogAsk.{LogAsk}
-use Rattle.fr_log.specs.declared.ask.LogAsk.TheVariants.{Seed, Push, Lock, Peek, MarkAsked, Pop}
+use Rattle.fr_log.specs.declared.ask.LogAsk.TheVariants.{Seed, Push, Lock, Pop}
 use Rattle.fr_log.specs.declared.ask.LogRefusal.{LogRefusal}
 use Rattle.fr_log.specs.Seed.{SeedContent, is_same_seed, is_same_seed-IsSameness}
 use Rattle.fr_log.specs.Push.{PushContent, is_one_push, is_one_push-itself}
 use Rattle.fr_log.specs.LogState.{LogState, swept, durable_of, known_of, is_push_held, first_of, seeded_to_of}
 use Rattle.fr_log.specs.Refusal.{refusal_of}
-use Rattle.fr_log.specs.Popped.{left_push, left_seed}
+use Rattle.fr_log.specs.Left.{left_push, left_seed}
 use Rattle.fr_log.specs.Step.{answer_of, next_of, after_ask, answer_unless, next_unless, granted_answer, granted_next, popped_to, is_popped_to, with_popped}
 use Rattle.fr_log.specs.declared.ask.LogTell.TheVariants.{Popped}
 use Rattle.fr_log.specs.SweptLaws.{raised_here, durable_same, known_same, refusal_same, popped_to_same, popped_same, swept_tells, some_swept}
@@ -178,7 +178,7 @@ pop_repeats l epoch tag through = go (refusal_of l a) refl
     n = with_popped l tag v
 
     again : popped_to n tag through ≡ v
-    again = let k : Rattle.fr_log.specs.Popped.popped_at n.popped tag ≡ v = ap (λ o. Rattle.std.specs.Option.unwrap_or o 0) (raised_here l.popped tag v) in omega (arith, k)
+    again = let k : Rattle.fr_log.specs.Left.popped_at n.popped tag ≡ v = ap (λ o. Rattle.std.specs.Option.unwrap_or o 0) (raised_here l.popped tag v) in omega (arith, k)
 
     further : refusal_of l a ≡ None → after_ask l a ≡ swept n → IsRepeatableAfter l a
     further e is =
@@ -199,7 +199,5 @@ pub repeats_after : (l : LogState) (a : LogAsk) → IsRepeatableAfter l a
 repeats_after l (Seed s) = let r = seed_repeats l s (refusal_of l (Seed s)) refl l.seed refl in record { told = r.told; after = r.after; high = r.high }
 repeats_after l (Push p) = let r = push_repeats l p (refusal_of l (Push p)) refl (is_push_held l p) refl in record { told = r.told; after = r.after; high = r.high }
 repeats_after l (Lock epoch) = let r = lock_repeats l epoch (refusal_of l (Lock epoch)) refl in record { told = r.told; after = r.after; high = r.high }
-repeats_after l (Peek epoch tag after most) =
-    let r = other_repeats l (Peek epoch tag after most) refl (refusal_of l (Peek epoch tag after most)) refl in record { told = r.told; after = r.after; high = r.high }
-repeats_after l (MarkAsked epoch) = let r = other_repeats l (MarkAsked epoch) refl (refusal_of l (MarkAsked epoch)) refl in record { told = r.told; after = r.after; high = r.high }
 repeats_after l (Pop epoch tag through) = pop_repeats l epoch tag through
+repeats_after l a = let r = other_repeats l a refl (refusal_of l a) refl in record { told = r.told; after = r.after; high = r.high }

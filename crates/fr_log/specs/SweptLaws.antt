@@ -19,7 +19,7 @@ use Rattle.fr_log.specs.declared.ask.LogRefusal.TheVariants.{WrongEpoch, Unseede
 use Rattle.fr_log.specs.Fields.{two, three}
 use Rattle.fr_log.specs.Seed.{SeedContent, is_same_seed}
 use Rattle.fr_log.specs.Push.{PushContent, is_one_push}
-use Rattle.fr_log.specs.Popped.{popped_of, popped_at, raised, left_bodies, left_push, is_left, left_seed}
+use Rattle.fr_log.specs.Left.{popped_of, popped_at, raised, left_bodies, left_push, is_left, left_seed}
 use Rattle.fr_log.specs.LogState.{LogState, swept, first_of, seeded_to_of, seed_records_of, durable_of, known_of, holds, is_push_held, mark_among, seeded_record, pushed_record, records_of}
 use Rattle.fr_log.specs.Refusal.{refusal_of, has_other_seed}
 use Rattle.fr_log.specs.Step.{answer_of, next_of, answer_unless, next_unless, granted_answer, granted_next, records_above, upto_of, peek_of, mark_answer, popped_to, is_popped_to, with_popped}

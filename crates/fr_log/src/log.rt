@@ -5,7 +5,7 @@ ghost use Rattle.std.specs.List.Sorted.{IsNonDecreasingBy};
 ghost use Rattle.std.specs.Option.{option_copied, option_map};
 ghost use Rattle.fr_log.specs.LogState.{fresh_log, first_of, seeded_to_of, seed_records_of, holds, durable_of, known_of, is_push_held, mark_among, swept};
 ghost use Rattle.fr_log.specs.Chain.{IsLog};
-ghost use Rattle.fr_log.specs.Popped.{left_seed};
+ghost use Rattle.fr_log.specs.Left.{left_seed};
 
 mod checkpoint;
 mod refusal;

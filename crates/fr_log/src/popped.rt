@@ -3,7 +3,7 @@ ghost use Rattle.std.specs.Prelude.{◌≡◌, ◌≤◌, [], length, filter, If
 ghost use Rattle.std.specs.Cmp.{partial_equiv_from_equiv};
 ghost use Rattle.fr_base.specs.Same.{IsSameness-equivalence};
 ghost use Rattle.std.specs.Cmp.Lexicographic.{pointwise};
-ghost use Rattle.fr_log.specs.Popped.{popped_of, popped_at, raised, place_in, is_left, IsLeftAtFirst, is_same_popped, are_same_popped-IsSameness};
+ghost use Rattle.fr_log.specs.Left.{popped_of, popped_at, raised, place_in, is_left, IsLeftAtFirst, is_same_popped, are_same_popped-IsSameness};
 ghost use Rattle.fr_log.specs.Records.{is_same_seed_record};
 
 use crate::records::SeedRecord;

@@ -6,7 +6,7 @@ ghost use Rattle.fr_tags.specs.Bodies.{batch_of, is_rising_from, is_same_body};
 ghost use Rattle.fr_log.specs.LogState.{mark_among};
 ghost use Rattle.fr_log.specs.Search.{is_found, pushed_records};
 ghost use Rattle.fr_log.specs.Pushes.{shelf_of, bodies_from, at_version, AreBelow, ArePushedBelow, cut, above};
-ghost use Rattle.fr_log.specs.Popped.{popped_at, left_bodies, left_push, IsBodyLeftAtFirst};
+ghost use Rattle.fr_log.specs.Left.{popped_at, left_bodies, left_push, IsBodyLeftAtFirst};
 
 mod chain;
 mod header;

@@ -4,7 +4,7 @@ ghost use Rattle.std.specs.List.{list_all};
 ghost use Rattle.std.specs.Cmp.{partial_equiv_from_equiv};
 ghost use Rattle.fr_base.specs.Same.{IsSameness-equivalence};
 ghost use Rattle.fr_log.specs.Seeding.{takes_record, with_record};
-ghost use Rattle.fr_log.specs.Popped.{left_seed};
+ghost use Rattle.fr_log.specs.Left.{left_seed};
 ghost use Rattle.fr_log.specs.Seed.{IsSeed, is_within, is_rising_from, is_same_seed, is_same_seed-IsSameness};
 
 use crate::popped::{PoppedTag, have_same_left, is_left};

@@ -3,7 +3,7 @@ use crate::names;
 use fr_base::Memory as NoMemory;
 use fr_forms::Form::{self, Number, Object, OrNull, Text};
 use fr_forms::table;
-use fr_node_steps::{Crash, NodeTurnFault, TurnRefusal};
+use fr_node::{Crash, NodeTurnFault, TurnRefusal};
 use std::alloc::AllocError;
 
 /// A member of a line.

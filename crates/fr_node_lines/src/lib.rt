@@ -12,6 +12,6 @@ mod writing;
 pub use envelope::Envelope;
 pub use fault::{BadLine, LineFault, Member};
 pub use fr_forms::ScriptFault;
-pub use fr_simulate_script::read_config;
+pub use fr_script::simulate::read_config;
 pub use reading::{Line, read_line};
 pub use writing::{write_error, write_reply};

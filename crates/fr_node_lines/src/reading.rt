@@ -6,7 +6,7 @@ use crate::names;
 use fr_audit_journal::node_text;
 use fr_base::NodeId;
 use fr_forms::{Form, Nobody, ScriptFault, read_text};
-use fr_node_steps::{Hearing, Newest, NodeRequest, NodeTurn};
+use fr_node::{Hearing, Newest, NodeRequest, NodeTurn};
 use std::alloc::Global;
 
 static ANY: Form = Form::Any;

@@ -4,10 +4,10 @@ use crate::fault::LineFault;
 use crate::names;
 use fr_ask::Last;
 use fr_audit_journal::{Entry, node_text};
-use fr_audit_script::write_entry;
 use fr_base::{Memory, NodeId};
 use fr_forms::{Object, text_value, write_all};
-use fr_node_steps::{Kind, NodeReply, Wants};
+use fr_node::{Kind, NodeReply, Wants};
+use fr_script::audit::write_entry;
 use serde_json::Value;
 use std::alloc::Global;
 

@@ -7,8 +7,6 @@ use Rattle.fr_ask.specs.declared.ask.Ask.TheVariants as ask
 use Rattle.fr_ask.specs.declared.tell.Tell.{Tell}
 use Rattle.fr_ask.specs.declared.tell.Tell.TheVariants as tell
 use Rattle.fr_log.specs.declared.ask.LogAsk.{LogAsk}
-use Rattle.fr_log.specs.declared.ask.LogTell.{LogTell}
-use Rattle.fr_log.specs.declared.ask.LogTell.TheVariants as log_tell
 use Rattle.fr_mutation.specs.declared.mutation.Mutation.{Mutation}
 use Rattle.fr_proxy.specs.Proxy as proxy
 use Rattle.fr_proxy.specs.declared.fault.SubmitFault.{SubmitFault}
@@ -29,32 +27,10 @@ standing s = storage_of (λ store. store) s
 
 -- ---- a tell is heard
 
--- what a log of an epoch told a storage server, where it is something to it
-abbrev pub told_by_log : ℕ → LogTell → Option course.Heard
-told_by_log epoch log_tell.Seeded = None
-told_by_log epoch (log_tell.Held version) = None
-told_by_log epoch (log_tell.Locked durable known popped) = None
-told_by_log epoch (log_tell.Peeked peeked) = Some (course.Records epoch peeked)
-told_by_log epoch (log_tell.Marked x) = Some (course.Mark x)
-told_by_log epoch (log_tell.Popped through) = None
-told_by_log epoch (log_tell.Refused why) = None
-
-abbrev pub told_by_log_as : ℕ → Tell → Option course.Heard
-told_by_log_as epoch (tell.Cell t) = None
-told_by_log_as epoch (tell.Log t) = told_by_log epoch t
-told_by_log_as epoch (tell.Seq t) = None
-
-abbrev pub told_by : NodeId → Tell → Option course.Heard
-told_by (node.Cell index) t = None
-told_by (node.Log epoch index) t = told_by_log_as epoch t
-told_by (node.Sequencer epoch) t = None
-told_by (node.Proxy epoch number) t = None
-told_by (node.Recoverer ballot) t = None
-told_by (node.Storage tag) t = None
-
-abbrev pub after_told : StorageState → Option course.Heard → StorageState
-after_told s None = s
-after_told s (Some heard) = course.after_hear s heard
+-- what a storage server hears of what a node told it
+abbrev pub told_by : NodeId → Tell → course.Heard
+told_by (node.Log epoch index) (tell.Log t) = course.heard_in epoch t
+told_by from t = course.Nothing
 
 -- the machine is a storage server that stands so
 abbrev pub StandsAt : Part → StorageState → Type 0
@@ -71,12 +47,12 @@ abbrev pub IsHeard : Part → NodeId → Tell → Heard → Part → Type 0
 IsHeard (part.Cell c) from t heard new = ⊥
 IsHeard (part.Log l) from t heard new = ⊥
 IsHeard (part.Sequencer s) from t heard new = ⊥
-IsHeard (part.Proxy p) from t heard new = (heard.asks ≡ proxy.new_asks p from t)
+IsHeard (part.Proxy p) from t heard new = (heard.asks.items ≡ proxy.new_asks p from t)
     × (heard.outcome ≡ Some (proxy.outcome_of p from t)) × (new ≡ part.Proxy (proxy.after_hear p from t))
-IsHeard (part.Recoverer r) from t heard new = (heard.asks ≡ recoverer.new_asks r from t)
+IsHeard (part.Recoverer r) from t heard new = (heard.asks.items ≡ recoverer.new_asks r from t)
     × (heard.outcome ≡ None) × (new ≡ part.Recoverer (recovery.after_hear r from t))
-IsHeard (part.Storage s) from t heard new = (heard.asks ≡ []) × (heard.outcome ≡ None)
-    × StandsAt new (after_told (standing s) (told_by from t))
+IsHeard (part.Storage s) from t heard new = (heard.asks.items ≡ []) × (heard.outcome ≡ None)
+    × StandsAt new (course.after_hear (standing s) (told_by from t))
 IsHeard (part.Store s) from t heard new = ⊥
 
 abbrev pub hears : Part → Bool
@@ -94,7 +70,7 @@ abbrev pub IsSubmitted : Part → ℕ → List Mutation → Heard → Part → T
 IsSubmitted (part.Cell c) step batch heard new = ⊥
 IsSubmitted (part.Log l) step batch heard new = ⊥
 IsSubmitted (part.Sequencer s) step batch heard new = ⊥
-IsSubmitted (part.Proxy p) step batch heard new = (heard.asks ≡ proxy.number_ask p (proxy.opened p step batch) ∷ [])
+IsSubmitted (part.Proxy p) step batch heard new = (heard.asks.items ≡ proxy.number_ask p (proxy.opened p step batch) ∷ [])
     × (heard.outcome ≡ None) × (new ≡ part.Proxy (proxy.submitted p step batch))
 IsSubmitted (part.Recoverer r) step batch heard new = ⊥
 IsSubmitted (part.Storage s) step batch heard new = ⊥

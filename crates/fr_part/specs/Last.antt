@@ -3,7 +3,7 @@ use Rattle.std.specs.Prelude.{Option, None, Some}
 use Rattle.fr_ask.specs.declared.last.Last.{Last}
 use Rattle.fr_ask.specs.Named.{last_of_cell, last_of_log}
 use Rattle.fr_proxy.specs.Sequencer.{last_of_sequencer}
-use Rattle.fr_run_event.specs.Last.{last_of_proxy, last_of_recoverer, last_of_storage}
+use Rattle.fr_run.specs.Last.{last_of_proxy, last_of_recoverer, last_of_storage}
 use Rattle.fr_part.specs.Hear.{standing}
 use Rattle.fr_part.specs.declared.part.Part.{Part}
 use Rattle.fr_part.specs.declared.part.Part.TheVariants as part

@@ -1,6 +1,11 @@
+pub mod Answers
+pub mod Calls
 pub mod Fault
 pub mod Hear
+pub mod Held
 pub mod Last
+pub mod Made
+pub mod ReadCalls
 pub mod Reads
 pub mod Seat
 pub mod Store

@@ -50,17 +50,6 @@ pub enum ReadRefusal {
     Memory,
 }
 
-impl From<NoMemory> for PartFault {
-    ghost use Rattle.std.specs.Prelude.{◌≡◌};
-    ghost use Rattle.fr_part.specs.declared.fault.PartFault.TheVariants.{Memory};
-
-    ghost from_gives = { λ _ fault. fault ≡ Memory };
-
-    fn from(_: NoMemory) -> PartFault {
-        PartFault::Memory
-    }
-}
-
 /// What a proxy's fault is to its holder.
 pub(crate) fn of_submit(fault: SubmitFault) -> PartFault
     ensures { result ≡ of_submit fault }
@@ -94,5 +83,16 @@ pub(crate) fn of_store(fault: StoreFault) -> PartFault
     match fault {
         StoreFault::Memory => PartFault::Memory,
         _ => PartFault::Refused,
+    }
+}
+
+impl From<NoMemory> for PartFault {
+    ghost use Rattle.std.specs.Prelude.{◌≡◌};
+    ghost use Rattle.fr_part.specs.declared.fault.PartFault.TheVariants.{Memory};
+
+    ghost from_gives = { λ _ fault. fault ≡ Memory };
+
+    fn from(_: NoMemory) -> PartFault {
+        PartFault::Memory
     }
 }

@@ -1,21 +1,20 @@
 //! Machines that hear tells: proxies, recoverers and storage servers.
 ghost use Rattle.std.specs.Prelude.{◌≡◌, ◌≢◌, ◌↔◌, ◌==◌, ◌∷◌, [], false, find, Some, None, Err, IfOk, IfErr, OnOk, OnErr};
-ghost use Rattle.std.specs.Option.{option_map};
 ghost use Rattle.fr_proxy.specs.Proxy as batches;
 ghost use Rattle.fr_epoch.specs.Asks as asked;
 ghost use Rattle.fr_epoch.specs.Hear as heard;
-ghost use Rattle.fr_storage.specs.Standing.{heard_of};
-ghost use Rattle.fr_part.specs.Hear.{after_told, asks_of, hears, pull_from, pull_of, standing, told_by, IsHeard, IsSubmitted, submit_fault, submits};
+ghost use Rattle.fr_storage.specs.Course.{after_hear};
+ghost use Rattle.fr_storage.specs.Standing.{heard_if};
+ghost use Rattle.fr_part.specs.Hear.{asks_of, hears, pull_from, pull_of, standing, told_by, IsHeard, IsSubmitted, submit_fault, submits};
 ghost use Rattle.fr_part.specs.declared.fault.PartFault.TheVariants.{Kind, Part as PartOnly, Refused};
 
-use crate::asks::Asks;
 use crate::fault::{PartFault, of_storage, of_submit};
 use crate::part::Part;
 use crate::said::Heard;
 use fr_ask::{Ask, Tell};
 use fr_base::{Epoch, Memory, NodeId, Step, Tag};
 use fr_epoch::Recoverer;
-use fr_log::{LogAsk, LogTell};
+use fr_log::LogAsk;
 use fr_mutation::Batch;
 use fr_proxy::Proxy;
 use fr_state::Generation;
@@ -63,8 +62,8 @@ impl Part {
 
     /// What the machine asks now: of a proxy or a recoverer all asks whose tells are wanted, of a storage server the
     /// next one. To ask again is harmless.
-    pub fn next(&self, alloc: Global) -> Result<Asks, PartFault>
-        ensures asks { IfOk result (λ asks. asks_of self.now ≡ Some asks) }
+    pub fn next(&self, alloc: Global) -> Result<Vec<(NodeId, Ask)>, PartFault>
+        ensures asks { IfOk result (λ asks. asks_of self.now ≡ Some asks.items) }
         ensures kind { result ≡ Err Kind ↔ asks_of self.now ≡ None }
     {
         match self {
@@ -72,15 +71,15 @@ impl Part {
             Part::Log(_) => Err(PartFault::Kind),
             Part::Sequencer(_) => Err(PartFault::Kind),
             Part::Proxy(proxy) => match proxy.pending(alloc) {
-                Ok(asks) => Ok(Asks::from_vec(asks)),
+                Ok(asks) => Ok(asks),
                 Err(_) => Err(PartFault::Memory),
             },
             Part::Recoverer(recoverer) => match recoverer.pending(alloc) {
-                Ok(asks) => Ok(Asks::from_vec(asks)),
+                Ok(asks) => Ok(asks),
                 Err(_) => Err(PartFault::Memory),
             },
             Part::Storage(storage) => match pull_of(alloc, storage) {
-                Ok(asks) => Ok(Asks::from_vec(asks)),
+                Ok(asks) => Ok(asks),
                 Err(_) => Err(PartFault::Memory),
             },
             Part::Store(_) => Err(PartFault::Kind),
@@ -94,7 +93,7 @@ fn hear_proxy(
     from: NodeId,
     tell: &Tell,
 ) -> Result<Heard, PartFault>
-    ensures asks { IfOk result (λ heard. heard.asks ≡ batches.new_asks proxy.old from tell.now) }
+    ensures asks { IfOk result (λ heard. heard.asks.items ≡ batches.new_asks proxy.old from tell.now) }
     ensures outcome { IfOk result (λ heard. heard.outcome ≡ Some (batches.outcome_of proxy.old from tell.now)) }
     ensures state { OnOk result (proxy.new ≡ batches.after_hear proxy.old from tell.now) }
     ensures err { OnErr result (proxy.new ≡ proxy.old) }
@@ -102,7 +101,7 @@ fn hear_proxy(
 {
     match proxy.hear(alloc, from, tell) {
         Ok((outcome, asks)) => Ok(Heard {
-            asks: Asks::from_vec(asks),
+            asks,
             outcome: Some(outcome),
         }),
         Err(_) => Err(PartFault::Memory),
@@ -115,7 +114,7 @@ fn hear_recoverer(
     from: NodeId,
     tell: Tell,
 ) -> Result<Heard, PartFault>
-    ensures asks { IfOk result (λ heard. heard.asks ≡ asked.new_asks recoverer.old from tell) }
+    ensures asks { IfOk result (λ heard. heard.asks.items ≡ asked.new_asks recoverer.old from tell) }
     ensures outcome { IfOk result (λ heard. heard.outcome ≡ None) }
     ensures state { OnOk result (recoverer.new ≡ heard.after_hear recoverer.old from tell) }
     ensures err { OnErr result (recoverer.new ≡ recoverer.old) }
@@ -123,7 +122,7 @@ fn hear_recoverer(
 {
     match recoverer.hear(alloc, from, tell) {
         Ok(asks) => Ok(Heard {
-            asks: Asks::from_vec(asks),
+            asks,
             outcome: None,
         }),
         Err(_) => Err(PartFault::Memory),
@@ -132,12 +131,11 @@ fn hear_recoverer(
 
 /// What a log told a storage server; none if a storage server does not hear such a tell.
 fn told_by(from: NodeId, tell: Tell) -> Option<LogAnswer>
-    ensures { option_map heard_of result ≡ told_by from tell }
+    ensures { heard_if result ≡ told_by from tell }
 {
     match from {
         NodeId::Log { epoch, .. } => match tell {
-            Tell::Log(LogTell::Peeked(peeked)) => Some(LogAnswer::Peeked(epoch, peeked)),
-            Tell::Log(LogTell::Marked { state }) => Some(LogAnswer::Marked(state)),
+            Tell::Log(told) => LogAnswer::of(epoch, told),
             _ => None,
         },
         _ => None,
@@ -150,9 +148,9 @@ fn hear_storage(
     from: NodeId,
     tell: Tell,
 ) -> Result<Heard, PartFault>
-    ensures asks { IfOk result (λ heard. heard.asks ≡ []) }
+    ensures asks { IfOk result (λ heard. heard.asks.items ≡ []) }
     ensures outcome { IfOk result (λ heard. heard.outcome ≡ None) }
-    ensures state { OnOk result (standing storage.new ≡ after_told (standing storage.old) (told_by from tell)) }
+    ensures state { OnOk result (standing storage.new ≡ after_hear (standing storage.old) (told_by from tell)) }
     ensures err { IfErr result (λ fault. fault ≢ PartOnly → storage.new ≡ storage.old) }
     ensures kind { IfErr result (λ fault. fault ≢ Kind) }
 {
@@ -162,13 +160,13 @@ fn hear_storage(
         }
     }
     Ok(Heard {
-        asks: Asks::none(alloc),
+        asks: Vec::new(alloc),
         outcome: None,
     })
 }
 
 fn submit_to(alloc: Global, proxy: &mut Proxy, step: Step, batch: Batch) -> Result<Heard, PartFault>
-    ensures asks { IfOk result (λ heard. heard.asks ≡ batches.number_ask proxy.old (batches.opened proxy.old step batch) ∷ []) }
+    ensures asks { IfOk result (λ heard. heard.asks.items ≡ batches.number_ask proxy.old (batches.opened proxy.old step batch) ∷ []) }
     ensures outcome { IfOk result (λ heard. heard.outcome ≡ None) }
     ensures state { OnOk result (proxy.new ≡ batches.submitted proxy.old step batch) }
     ensures err { OnErr result (proxy.new ≡ proxy.old) }
@@ -185,7 +183,7 @@ fn submit_to(alloc: Global, proxy: &mut Proxy, step: Step, batch: Batch) -> Resu
         Ok(ask) => {
             asks.push_reserved((sequencer, ask));
             Ok(Heard {
-                asks: Asks::from_vec(asks),
+                asks,
                 outcome: None,
             })
         }

@@ -1,13 +1,13 @@
 //! What a machine said in its last turn.
-use crate::asks::Asks;
-use fr_ask::Tell;
+use fr_ask::{Ask, Tell};
+use fr_base::NodeId;
 use fr_proxy::Outcome;
 
 /// What comes of a tell that a machine hears.
 #[derive(Debug, Drop)]
 pub struct Heard {
-    /// What it newly asks.
-    pub asks: Asks,
+    /// What it newly asks: each ask behind the node that is asked.
+    pub asks: Vec<(NodeId, Ask)>,
     /// What a proxy says of its batch; none of other machines.
     pub outcome: Option<Outcome>,
 }

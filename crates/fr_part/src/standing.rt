@@ -1,6 +1,6 @@
 //! Where machines stand.
 ghost use Rattle.std.specs.Prelude.{◌≡◌, ◌≢◌, ◌↔◌, Ok, Err, None, Some, IfOk, IfErr};
-ghost use Rattle.fr_run_event.specs.Last as last;
+ghost use Rattle.fr_run.specs.Last as last;
 ghost use Rattle.fr_part.specs.Hear.{standing};
 ghost use Rattle.fr_part.specs.Last.{last_of};
 ghost use Rattle.fr_part.specs.declared.fault.PartFault.TheVariants.{Kind};
@@ -9,7 +9,7 @@ use crate::fault::PartFault;
 use crate::part::Part;
 use fr_ask::{Last, Named};
 use fr_base::Memory;
-use fr_run_event::{last_of_proxy, last_of_recoverer, last_of_storage};
+use fr_run::{last_of_proxy, last_of_recoverer, last_of_storage};
 use fr_storage::Storage;
 use fr_undo::MapStore;
 use std::alloc::Global;

@@ -77,25 +77,13 @@ of_held p o (Some at) index version under given below = go ((version == at.versi
     go false k = Ignores
 
 of_refusal : (p : ProxyState) (o : Open) (index : ℕ) (r : LogRefusal) → p.under_way ≡ Some o → index < p.m → Heard p (node.Log p.epoch index) (tell.Log (ltell.Refused r)) (heed_refusal r)
-of_refusal p o index why.WrongEpoch under below = Ignores
-of_refusal p o index why.Unseeded under below = Ignores
 of_refusal p o index why.Stopped under below = Cuts o under (Stops index below)
-of_refusal p o index why.Stale under below = Ignores
-of_refusal p o index (why.Gap durable) under below = Ignores
-of_refusal p o index why.NotMine under below = Ignores
-of_refusal p o index (why.TooEarly first) under below = Ignores
-of_refusal p o index why.SeedDiffers under below = Ignores
-of_refusal p o index why.NoMark under below = Ignores
-of_refusal p o index (why.Removed through) under below = Ignores
+of_refusal p o index r under below = Ignores
 
 of_log : (p : ProxyState) (o : Open) (index : ℕ) (u : LogTell) → p.under_way ≡ Some o → index < p.m → Heard p (node.Log p.epoch index) (tell.Log u) (heed_log p o index u)
-of_log p o index ltell.Seeded under below = Ignores
 of_log p o index (ltell.Held version) under below = of_held p o o.place index version under refl below
-of_log p o index (ltell.Locked durable known popped) under below = Ignores
-of_log p o index (ltell.Peeked peeked) under below = Ignores
-of_log p o index (ltell.Marked state) under below = Ignores
-of_log p o index (ltell.Popped through) under below = Ignores
 of_log p o index (ltell.Refused r) under below = of_refusal p o index r under below
+of_log p o index u under below = Ignores
 
 of_tell : (p : ProxyState) (o : Open) (from : NodeId) (t : Tell) → p.under_way ≡ Some o → Heard p from t (heed p o from t)
 of_tell p o (node.Sequencer e) (tell.Seq t) under = go (e == p.epoch) refl

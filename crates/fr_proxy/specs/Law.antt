@@ -37,12 +37,8 @@ abbrev pub AccountsForNext : ProxyState → SeqAsk → Type 0
 AccountsForNext p (Next proxy request step) = (proxy ≡ p.number) × (1 ≤ request) × (request ≤ p.requests) × (1 ≤ step)
 
 abbrev pub AccountsForLog : ProxyState → ℕ → LogAsk → Type 0
-AccountsForLog p i (log.Seed s) = ⊥
 AccountsForLog p i (log.Push q) = (i < p.m) × (q.mark ≡ None)
-AccountsForLog p i (log.Lock epoch) = ⊥
-AccountsForLog p i (log.Peek epoch tag after most) = ⊥
-AccountsForLog p i (log.MarkAsked epoch) = ⊥
-AccountsForLog p i (log.Pop epoch tag through) = ⊥
+AccountsForLog p i a = ⊥
 
 -- an ask that the proxy's state accounts for: one for a number, to its sequencer, or a push that is no mark, to a log of its epoch
 abbrev pub AccountsFor : ProxyState → NodeId → Ask → Type 0

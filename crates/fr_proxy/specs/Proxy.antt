@@ -139,25 +139,13 @@ heed_held p o None log version = Ignored
 heed_held p o (Some at) log version = if (version == at.version) && not (is_in o.held log) then heed_new p o log version else Ignored
 
 abbrev pub heed_refusal : LogRefusal → Heeded
-heed_refusal why.WrongEpoch = Ignored
-heed_refusal why.Unseeded = Ignored
 heed_refusal why.Stopped = Cut
-heed_refusal why.Stale = Ignored
-heed_refusal (why.Gap durable) = Ignored
-heed_refusal why.NotMine = Ignored
-heed_refusal (why.TooEarly first) = Ignored
-heed_refusal why.SeedDiffers = Ignored
-heed_refusal why.NoMark = Ignored
-heed_refusal (why.Removed through) = Ignored
+heed_refusal r = Ignored
 
 abbrev pub heed_log : ProxyState → Open → ℕ → LogTell → Heeded
-heed_log p o index log.Seeded = Ignored
 heed_log p o index (log.Held version) = heed_held p o o.place index version
-heed_log p o index (log.Locked durable known popped) = Ignored
-heed_log p o index (log.Peeked peeked) = Ignored
-heed_log p o index (log.Marked state) = Ignored
-heed_log p o index (log.Popped through) = Ignored
 heed_log p o index (log.Refused why) = heed_refusal why
+heed_log p o index t = Ignored
 
 -- whether this is a log of the proxy's generation
 abbrev pub is_own_log : ProxyState → ℕ → ℕ → Bool

@@ -3,12 +3,12 @@ use Rattle.std.proofs.Common.{◌≡◌, inl, ℕ, ◌+◌, ◌<◌, ◌≤◌, 
 use Rattle.std.specs.Prelude.{◌^◌}
 use Rattle.std.proofs.lemmas.List.{length-take-le, take_at, get_or_at, map-append, drop_more}
 use Rattle.std.proofs.lemmas.List.Elements.{All-append}
-use Rattle.fr_device.specs.Disk.{Disk, MayLeave, IsDurable, Stands}
+use Rattle.fr_record.specs.Disk.{Disk, MayLeave, IsDurable, Stands}
 use Rattle.fr_record.specs.declared.frame.Frame.{Frame}
 use Rattle.fr_record.specs.File.{frames, behind, AreShort, IsLeft, IsAtRest}
 use Rattle.fr_record.specs.Put.{IsAtGate, IsPut}
 use Rattle.fr_record.specs.Table.{records_at, places, IsFile}
-use Rattle.fr_device.specs.Moments.{Throughout}
+use Rattle.fr_record.specs.Moments.{Throughout}
 use Rattle.fr_record.proofs.Crash.{durable_leaves}
 use Rattle.fr_record.proofs.Moments.{started, at_last, weaker}
 use Rattle.fr_record.proofs.PutLemmas.{content_left}

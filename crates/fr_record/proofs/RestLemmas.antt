@@ -1,8 +1,8 @@
 -- A file at rest, and what reads it.
 use Rattle.std.proofs.Common.{◌≡◌, ℕ, List, length, get_or, refl, sym, ap, ◌∙◌, subst, arith}
 use Rattle.std.proofs.lemmas.List.{length-take-le, get_or_at}
-use Rattle.fr_device.specs.Disk.{Disk, MayLeave}
-use Rattle.fr_device.specs.Moments.{LeavesOnly, Throughout}
+use Rattle.fr_record.specs.Disk.{Disk, MayLeave}
+use Rattle.fr_record.specs.Moments.{LeavesOnly, Throughout}
 use Rattle.fr_record.proofs.Moments.{weaker}
 use Rattle.fr_record.proofs.PutLemmas.{content_left}
 use Rattle.fr_record.proofs.ReadLemmas.{unique, parsed_stands}

@@ -1,7 +1,7 @@
 -- What an opening makes of the device that it is given.
 use Rattle.std.specs.Prelude.{◌≡◌, ℕ, Bool, false, List, ◌∷◌, ◌++◌}
-use Rattle.fr_device.specs.Disk.{Disk, IsDurable}
-use Rattle.fr_device.specs.Moments.{LeavesOnly, Throughout}
+use Rattle.fr_record.specs.Disk.{Disk, IsDurable}
+use Rattle.fr_record.specs.Moments.{LeavesOnly, Throughout}
 use Rattle.fr_record.specs.File.{AreShort, IsLeft, IsAtRest}
 
 module _ {D : Type 0} (Led : D → D → Type 0) (disk : D → Disk) where

@@ -1,17 +1,17 @@
 //! Reading a file that a crash may have left.
 ghost use Rattle.std.specs.Prelude.{◌≡◌, ◌≢◌, ◌+◌, ◌-◌, ◌^◌, ◌<◌, ◌≤◌, List, ℕ, [], ◌∷◌, ◌++◌, length, min, false, Err, IfOk, OnOk, OnErr};
-ghost use Rattle.fr_device.specs.Disk.{MayLeave, IsDurable, Stands, Torn, bytes_at, written};
-ghost use Rattle.fr_device.specs.Moments.{LeavesOnly, Throughout};
+ghost use Rattle.fr_record.specs.Disk.{MayLeave, IsDurable, Stands, Torn, bytes_at, written};
+ghost use Rattle.fr_record.specs.Moments.{LeavesOnly, Throughout};
 ghost use Rattle.fr_record.specs.File.{AreShort, StandsFor, IsLeft, IsFront, IsAtRest};
 ghost use Rattle.fr_record.specs.Fault.{met_device};
 ghost use Rattle.fr_record.specs.Put.{IsElsewhere};
 ghost use Rattle.fr_record.specs.Table.{IsFile, records_at};
 
+use crate::Device;
 use crate::fault::RecordFault;
 use crate::frame::Frame;
 use crate::parse::parse;
 use fr_base::Bytes;
-use fr_device::Device;
 use std::alloc::Global;
 
 /// All bytes of a device. It is synced before they are read, so that a later crash leaves what was read.

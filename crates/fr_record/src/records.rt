@@ -1,8 +1,8 @@
 //! Record files.
 ghost use Rattle.std.specs.Prelude.{◌≡◌, ◌≢◌, ◌↔◌, ◌⊎◌, ◌||◌, ◌+◌, ◌-◌, ◌^◌, ◌<◌, nat_lt, min, [], ◌∷◌, ◌++◌, All, List, ℕ, length, false, Err, IsTrue, IsOk, IfOk, IfErr, OnOk, OnErr};
-ghost use Rattle.fr_device.specs.Disk.{MayLeave, IsDurable, Stands, written};
+ghost use Rattle.fr_record.specs.Disk.{MayLeave, IsDurable, Stands, written};
 ghost use Rattle.fr_record.specs.State.{record_at};
-ghost use Rattle.fr_device.specs.Moments.{Throughout, LeavesOnly};
+ghost use Rattle.fr_record.specs.Moments.{Throughout, LeavesOnly};
 ghost use Rattle.fr_record.specs.Fault.{met_device};
 ghost use Rattle.fr_record.specs.Failing.{FailsOnceMore};
 ghost use Rattle.fr_record.specs.Opening.{IsOpening, HasGone};
@@ -13,8 +13,8 @@ use crate::fault::RecordFault;
 use crate::frame::{Frame, add_places, behind_gate, framed, framed_len};
 use crate::gate::put;
 use crate::read::{read_file, read_record};
+use crate::{Device, DeviceFault};
 use fr_base::Bytes;
-use fr_device::{Device, DeviceFault};
 use std::alloc::Global;
 use std::marker::Model;
 

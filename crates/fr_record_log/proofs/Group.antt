@@ -11,14 +11,14 @@ use Rattle.fr_mutation.specs.Law.{SpellingIsRead}
 use Rattle.fr_state.specs.Laws.{SpelledIsRead}
 use Rattle.fr_log.specs.declared.records.SeedRecord.{SeedRecord}
 use Rattle.fr_log.specs.declared.ask.LogAsk.{LogAsk}
-use Rattle.fr_log.specs.declared.ask.LogAsk.TheVariants.{Seed, Push, Lock, Peek, MarkAsked, Pop}
+use Rattle.fr_log.specs.declared.ask.LogAsk.TheVariants.{Seed, Push, Lock, Pop}
 use Rattle.fr_log.specs.declared.ask.LogRefusal.{LogRefusal}
 use Rattle.fr_log.specs.declared.ask.LogRefusal.TheVariants.{WrongEpoch, Unseeded, NotMine}
 use Rattle.fr_log.specs.Seed.{SeedContent, is_within, is_rising_from}
 use Rattle.fr_log.specs.Push.{PushContent}
 use Rattle.fr_log.specs.LogState.{LogState, swept, known_of, holds, is_push_held}
-use Rattle.fr_log.specs.Refusal.{seed_refusal, push_refusal, lock_refusal, peek_refusal, mark_refusal, pop_refusal}
-use Rattle.fr_log.specs.Popped.{popped_of, popped_at}
+use Rattle.fr_log.specs.Refusal.{refusal_of, seed_refusal, push_refusal, lock_refusal, pop_refusal}
+use Rattle.fr_log.specs.Left.{popped_of, popped_at}
 use Rattle.fr_log.specs.Step.{next_of, next_unless, granted_next, after_ask, popped_to, is_popped_to, with_popped}
 use Rattle.fr_log.specs.Seeding.{changes, takes_seeded, is_further, may_pop}
 use Rattle.fr_record_node.specs.Replay.{replayed, next_replayed}
@@ -88,16 +88,6 @@ stands l (Lock epoch) e = go (lock_refusal l epoch) refl
         let no : not l.stopped ≡ false = sym (rw is refl) ∙ e in
         ap (λ b. record l { stopped = b }) (sym (open_is l.stopped no))
     go (Some why) is = refl
-stands l (Peek epoch tag after most) e = go (peek_refusal l epoch tag after)
-  where
-    go : (o : Option LogRefusal) → next_unless o l l ≡ l
-    go None = refl
-    go (Some why) = refl
-stands l (MarkAsked epoch) e = go (mark_refusal l epoch)
-  where
-    go : (o : Option LogRefusal) → next_unless o l l ≡ l
-    go None = refl
-    go (Some why) = refl
 stands l (Pop epoch tag through) e = ap (λ b. cond b (swept (next_of l a)) (next_of l a)) e ∙ go (pop_refusal l epoch tag) refl
   where
     a : LogAsk
@@ -111,6 +101,11 @@ stands l (Pop epoch tag through) e = ap (λ b. cond b (swept (next_of l a)) (nex
         let no : not (is_popped_to l tag v) ≡ false = sym (ap (λ o. is_none o && not (is_popped_to l tag v)) is) ∙ e in
         ap (λ o. next_unless o l (granted_next l a)) is ∙ ap (λ b. cond b l (with_popped l tag v)) (open_is (is_popped_to l tag v) no)
     go (Some why) is = ap (λ o. next_unless o l (granted_next l a)) is
+stands l a e = go (refusal_of l a)
+  where
+    go : (o : Option LogRefusal) → next_unless o l l ≡ l
+    go None = refl
+    go (Some why) = refl
 
 -- ---- the records of a seed, one after the other
 
@@ -144,7 +139,7 @@ module _ (is_read : SpellingIsRead) (l : LogState) (s : SeedContent) (running : 
 
 -- ---- all asks
 
--- a Pop that changes a log may be read
+-- a pop that changes a log may be read
 record IsPopped (l : LogState) (tag version : ℕ) : Type 0 where
   pub may : may_pop l tag version ≡ true
   pub low : version < 2 ^ 62
@@ -230,9 +225,8 @@ module _ (laws : LogLaws) (is_read : SpellingIsRead) (state_is_read : SpelledIsR
   new_leads l (Seed s) sound within new = seed_leads l s sound within new
   new_leads l (Push p) sound within new = push_leads l p within new
   new_leads l (Lock epoch) sound within new = lock_leads l epoch new
-  new_leads l (Peek epoch tag after most) sound within new = absurd (cc new)
-  new_leads l (MarkAsked epoch) sound within new = absurd (cc new)
   new_leads l (Pop epoch tag through) sound within new = pop_leads l epoch tag through sound within.0 new
+  new_leads l a sound within new = absurd (cc new)
 
   pub ask_leads : (a : LogAsk) → IsSoundAsk a → LeadsBack a
   ask_leads a within l sound = go (changes l a) refl

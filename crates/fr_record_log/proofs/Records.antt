@@ -17,7 +17,7 @@ use Rattle.fr_log.specs.Seed.{SeedContent}
 use Rattle.fr_log.specs.Push.{PushContent}
 use Rattle.fr_log.specs.LogState.{LogState}
 use Rattle.fr_record_log.specs.declared.reading.Numbers.{Numbers}
-use Rattle.fr_record_log.specs.declared.change.Change.TheVariants.{Asked, Seeded, Popped}
+use Rattle.fr_record_log.specs.declared.change.Change.TheVariants.{Asked, Seeded, LetGo}
 use Rattle.fr_record_log.specs.Limits.{IsSoundRecord, IsSoundSeed, IsSoundPush}
 use Rattle.fr_record_log.specs.Spelling.{spelled_head, spelled_seeded, spelled_popped, spelled_numbers, spelled_bodies, spelled_as, spelled_push}
 use Rattle.fr_record_log.specs.Reading.{◌>>=◌, found, numbers_at, is_push, push_of, is_mark, mark_of, is_own, own_at, is_range, head_of, seeded_of, popped_of, change_at, state_of, is_end}
@@ -96,7 +96,7 @@ pub lock_is_read : (l : LogState) → change_at l (5 ∷ []) ≡ Some (Asked (Lo
 unfolding change_at
 lock_is_read l = refl
 
-pub popped_is_read : (l : LogState) (tag version : ℕ) → tag < 32 → version < 2 ^ 62 → change_at l (spelled_popped tag version) ≡ Some (Popped (record { tag = tag; version = version }))
+pub popped_is_read : (l : LogState) (tag version : ℕ) → tag < 32 → version < 2 ^ 62 → change_at l (spelled_popped tag version) ≡ Some (LetGo (record { tag = tag; version = version }))
 unfolding change_at spelled_popped popped_of
 popped_is_read l tag version mine low = rw (tag_again tag (to_be_bytes w64 version) mine, version_again version [] low) refl
 

@@ -7,18 +7,18 @@ use Rattle.std.proofs.lemmas.Bool.{and_parts, not-true, eq-eqb, ne_eqb, ltb-true
 use Rattle.std.proofs.lemmas.List.Sums.{fold-append}
 use Rattle.fr_log.specs.declared.records.SeedRecord.{SeedRecord}
 use Rattle.fr_log.specs.declared.ask.LogAsk.{LogAsk}
-use Rattle.fr_log.specs.declared.ask.LogAsk.TheVariants.{Seed, Push, Lock, Peek, MarkAsked, Pop}
+use Rattle.fr_log.specs.declared.ask.LogAsk.TheVariants.{Seed, Push, Lock, Pop}
 use Rattle.fr_log.specs.Seed.{SeedContent}
 use Rattle.fr_log.specs.Push.{PushContent}
 use Rattle.fr_log.specs.declared.popped.PoppedTag.{PoppedTag}
-use Rattle.fr_log.specs.Popped.{popped_of, popped_at, left_seed, is_left}
+use Rattle.fr_log.specs.Left.{popped_of, popped_at, left_seed, is_left}
 use Rattle.fr_log.specs.LogState.{LogState, fresh_log, swept, holds, known_of, is_push_held}
 use Rattle.fr_log.specs.Refusal.{seed_refusal, push_refusal, lock_refusal}
 use Rattle.fr_log.specs.Step.{next_of, after_ask, popped_to, is_popped_to, with_popped}
 use Rattle.fr_log.specs.Seeding.{changes, is_empty, is_unpopped, is_further, may_take, may_pop, with_record, takes_seeded, with_seeded}
 use Rattle.fr_record_node.specs.Replay.{replayed}
 use Rattle.fr_record_log.specs.declared.change.Change.{Change}
-use Rattle.fr_record_log.specs.declared.change.Change.TheVariants.{Asked, Seeded, Popped}
+use Rattle.fr_record_log.specs.declared.change.Change.TheVariants.{Asked, Seeded, LetGo}
 use Rattle.fr_record_log.specs.Reading.{◌>>=◌, change_at}
 use Rattle.fr_record_log.specs.LogFile.{fresh_of, taken, replay_log}
 use Rattle.fr_record_log.specs.LogFileLaws.{same_fresh}
@@ -98,10 +98,9 @@ own_next l (Lock epoch) new own =
     kept : (o : Option SeedContent) → IfSome o (IsOwn l) → IfSome o (IsOwn (record l { stopped = true }))
     kept None own = own
     kept (Some s) own = record { epoch = own.epoch; tags = own.tags }
-own_next l (Peek epoch tag after most) new own = absurd (cc new)
-own_next l (MarkAsked epoch) new own = absurd (cc new)
 own_next l (Pop epoch tag through) new own =
     subst (λ n. IfSome n.seed (IsOwn n)) (sym (popped_after l epoch tag through new)) (own_popped l tag (popped_to l tag through) own)
+own_next l a new own = absurd (cc new)
 
 by_ask : (f l : LogState) (a : LogAsk) → changes l a ≡ true → IsMade f l → IsMade f (after_ask l a)
 by_ask f l a new h = record {
@@ -205,7 +204,7 @@ by_change f l (Seeded r) n e h = go (takes_seeded l r) refl e
     go : (b : Bool) → takes_seeded l r ≡ b → cond b (Some (with_seeded l r)) None ≡ Some n → IsMade f n
     go true new k = let same : with_seeded l r ≡ n = cc k in subst (IsMade f) same (by_record f l r new h)
     go false new k = absurd (cc k)
-by_change f l (Popped p) n e h = go (may_pop l p.tag p.version) refl e
+by_change f l (LetGo p) n e h = go (may_pop l p.tag p.version) refl e
   where
     go : (b : Bool) → may_pop l p.tag p.version ≡ b → cond b (Some (swept (with_popped l p.tag p.version))) None ≡ Some n → IsMade f n
     go true new k = let same : swept (with_popped l p.tag p.version) ≡ n = cc k in subst (IsMade f) same (by_pop f l p new h)

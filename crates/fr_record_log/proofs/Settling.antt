@@ -2,7 +2,7 @@
 use Rattle.std.proofs.Common.{◌≡◌, ◌<◌, sym, ap, ◌∙◌, subst, arith}
 use Rattle.std.specs.Prelude.{◌^◌}
 use Rattle.fr_log.specs.declared.ask.LogAsk.{LogAsk}
-use Rattle.fr_log.specs.declared.ask.LogAsk.TheVariants.{Seed, Push, Lock, Peek, MarkAsked, Pop}
+use Rattle.fr_log.specs.declared.ask.LogAsk.TheVariants.{Seed, Push}
 use Rattle.fr_log.specs.LogState.{LogState, swept, known_of}
 use Rattle.fr_log.specs.Step.{next_of, after_ask, lets_go}
 use Rattle.fr_log.specs.SweptLaws.{known_same}
@@ -26,10 +26,7 @@ pub record LogLaws : Type 0 where
 log_ask : (a : LogAsk) → IsSoundAsk a → IsLogAsk a
 log_ask (Seed s) h = h.seed
 log_ask (Push p) h = h.push
-log_ask (Lock epoch) h = tt
-log_ask (Peek epoch tag after most) h = tt
-log_ask (MarkAsked epoch) h = tt
-log_ask (Pop epoch tag through) h = tt
+log_ask a h = tt
 
 swept_epoch : (l : LogState) → l.epoch < 2 ^ 48 → (swept l).epoch < 2 ^ 48
 unfolding swept

@@ -5,7 +5,7 @@ use Rattle.fr_tags.specs.declared.body.Body.{Body}
 use Rattle.fr_state.specs.Generations.{IsCoordinatedState}
 use Rattle.fr_log.specs.declared.records.SeedRecord.{SeedRecord}
 use Rattle.fr_log.specs.declared.ask.LogAsk.{LogAsk}
-use Rattle.fr_log.specs.declared.ask.LogAsk.TheVariants.{Seed, Push, Lock, Peek, MarkAsked, Pop}
+use Rattle.fr_log.specs.declared.ask.LogAsk.TheVariants.{Seed, Push, Pop}
 use Rattle.fr_log.specs.Seed.{SeedContent, IsSeed}
 use Rattle.fr_log.specs.Push.{PushContent, IsPush}
 
@@ -37,7 +37,5 @@ pub record IsSoundPush (p : PushContent) : Type 0 where
 abbrev pub IsSoundAsk : LogAsk → Type 0
 IsSoundAsk (Seed s) = IsSoundSeed s
 IsSoundAsk (Push p) = IsSoundPush p
-IsSoundAsk (Lock epoch) = Unit {0}
-IsSoundAsk (Peek epoch tag after most) = Unit {0}
-IsSoundAsk (MarkAsked epoch) = Unit {0}
 IsSoundAsk (Pop epoch tag through) = (tag < 32) × (through < 2 ^ 62)
+IsSoundAsk a = Unit {0}

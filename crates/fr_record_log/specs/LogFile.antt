@@ -6,7 +6,7 @@ use Rattle.fr_log.specs.Chain.{IsLog}
 use Rattle.fr_log.specs.Step.{next_of, after_ask, with_popped}
 use Rattle.fr_log.specs.Seeding.{changes, takes_seeded, with_seeded, may_pop}
 use Rattle.fr_record_log.specs.declared.change.Change.{Change}
-use Rattle.fr_record_log.specs.declared.change.Change.TheVariants.{Asked, Seeded, Popped}
+use Rattle.fr_record_log.specs.declared.change.Change.TheVariants.{Asked, Seeded, LetGo}
 use Rattle.fr_record_node.specs.Replay.{replayed}
 use Rattle.fr_record_log.specs.Spelling.{written_log}
 use Rattle.fr_record_log.specs.Reading.{◌>>=◌, change_at}
@@ -19,7 +19,7 @@ fresh_of l = fresh_log l.epoch l.index l.m l.k
 abbrev pub taken : LogState → Change → Option LogState
 taken l (Asked a) = if changes l a then Some (after_ask l a) else None
 taken l (Seeded r) = if takes_seeded l r then Some (with_seeded l r) else None
-taken l (Popped p) = if may_pop l p.tag p.version then Some (swept (with_popped l p.tag p.version)) else None
+taken l (LetGo p) = if may_pop l p.tag p.version then Some (swept (with_popped l p.tag p.version)) else None
 
 -- the log after a record, none if no ask of such a log writes it
 abbrev pub replay_log : LogState → List ℕ → Option LogState

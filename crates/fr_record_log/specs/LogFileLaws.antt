@@ -3,7 +3,7 @@ use Rattle.std.specs.Prelude.{◌≡◌, ℕ, Bool, true, false, not, ◌&&◌, 
 use Rattle.std.proofs.Common.{sym, ap, ◌∙◌, cond}
 use Rattle.std.proofs.lemmas.List.Elements.{All-head, All-tail}
 use Rattle.fr_log.specs.declared.ask.LogAsk.{LogAsk}
-use Rattle.fr_log.specs.declared.ask.LogAsk.TheVariants.{Seed, Push, Lock, Peek, MarkAsked, Pop}
+use Rattle.fr_log.specs.declared.ask.LogAsk.TheVariants.{Seed, Push, Lock, Pop}
 use Rattle.fr_log.specs.declared.ask.LogRefusal.{LogRefusal}
 use Rattle.fr_log.specs.Fields.{two}
 use Rattle.fr_log.specs.LogState.{LogState, swept, is_push_held}
@@ -12,7 +12,7 @@ use Rattle.fr_log.specs.Step.{next_of, next_unless, granted_next, after_ask, let
 use Rattle.fr_log.specs.SweptLaws.{refusal_same, some_swept, held_same, popped_same, popped_to_same, swept_goes_on}
 use Rattle.fr_log.specs.Seeding.{changes, takes_seeded, with_seeded, may_pop}
 use Rattle.fr_record_log.specs.declared.change.Change.{Change}
-use Rattle.fr_record_log.specs.declared.change.Change.TheVariants.{Asked, Seeded, Popped}
+use Rattle.fr_record_log.specs.declared.change.Change.TheVariants.{Asked, Seeded, LetGo}
 use Rattle.fr_record_log.specs.Spelling.{spelled_head, spelled_popped, spelled_ask, written_log}
 use Rattle.fr_record_log.specs.Reading.{◌>>=◌, change_at}
 use Rattle.fr_record_log.specs.LogFile.{fresh_of, taken, replay_log, IsSettledLog, IsFileAsk}
@@ -29,11 +29,9 @@ Same l n = fresh_of n ≡ fresh_of l
 granted_same : (l : LogState) (a : LogAsk) → Same l (granted_next l a)
 granted_same l (Seed s) = picked (Same l) (is_some l.seed) l (record l { seed = Some s }) refl refl
 granted_same l (Push p) = picked (Same l) (is_push_held l p) l _ refl refl
-granted_same l (Lock epoch) = refl
-granted_same l (Peek epoch tag after most) = refl
-granted_same l (MarkAsked epoch) = refl
 granted_same l (Pop epoch tag through) =
     picked (Same l) (is_popped_to l tag (popped_to l tag through)) l (with_popped l tag (popped_to l tag through)) refl refl
+granted_same l a = refl
 
 pub next_same : (l : LogState) (a : LogAsk) → Same l (next_of l a)
 next_same l a = go (refusal_of l a)
@@ -60,7 +58,7 @@ taken_same l (Seeded r) n e = go (takes_seeded l r) e
     go : (b : Bool) → (if b then Some (with_seeded l r) else None) ≡ Some n → fresh_of n ≡ fresh_of l
     go true e = let same : with_seeded l r ≡ n = cc e in ap fresh_of (sym same)
     go false e = absurd (cc e)
-taken_same l (Popped p) n e = go (may_pop l p.tag p.version) e
+taken_same l (LetGo p) n e = go (may_pop l p.tag p.version) e
   where
     go : (b : Bool) → (if b then Some (swept (with_popped l p.tag p.version)) else None) ≡ Some n → fresh_of n ≡ fresh_of l
     go true e = let same : swept (with_popped l p.tag p.version) ≡ n = cc e in ap fresh_of (sym same) ∙ swept_same (with_popped l p.tag p.version)
@@ -95,20 +93,15 @@ changes_same : (l : LogState) (a : LogAsk) → changes (swept l) a ≡ changes l
 changes_same l (Seed s) = two (λ (x y : Bool). x && y) (ap is_none (refusal_same l (Seed s))) (ap not (some_swept l))
 changes_same l (Push p) = two (λ (x y : Bool). x && y) (ap is_none (refusal_same l (Push p))) (ap not (held_same l p))
 changes_same l (Lock epoch) = two (λ (x y : Bool). x && not y) (ap is_none (refusal_same l (Lock epoch))) (stopped_same l)
-changes_same l (Peek epoch tag after most) = refl
-changes_same l (MarkAsked epoch) = refl
 changes_same l (Pop epoch tag through) =
     two (λ (x y : Bool). x && not y) (ap is_none (refusal_same l (Pop epoch tag through)))
     (ap (is_popped_to (swept l) tag) (popped_to_same l tag through) ∙ popped_same l tag (popped_to l tag through))
+changes_same l a = refl
 
 spelled_same : (l : LogState) (a : LogAsk) → spelled_ask (swept l) a ≡ spelled_ask l a
 unfolding swept spelled_head
-spelled_same l (Seed s) = refl
-spelled_same l (Push p) = refl
-spelled_same l (Lock epoch) = refl
-spelled_same l (Peek epoch tag after most) = refl
-spelled_same l (MarkAsked epoch) = refl
 spelled_same l (Pop epoch tag through) = ap (λ v. spelled_popped tag v ∷ []) (popped_to_same l tag through)
+spelled_same l a = refl
 
 pub written_same : (l : LogState) (a : LogAsk) → written_log (swept l) a ≡ written_log l a
 written_same l a = two (λ (b : Bool) (rs : List (List ℕ)). cond b rs []) (changes_same l a) (spelled_same l a)

@@ -19,7 +19,7 @@ use Rattle.fr_record_node.specs.declared.fault.RecordReadFault.{RecordReadFault}
 use Rattle.fr_record_node.specs.declared.fault.RecordReadFault.TheVariants.{Broken}
 use Rattle.fr_record_log.specs.declared.reading.Numbers.{Numbers}
 use Rattle.fr_record_log.specs.declared.change.Change.{Change}
-use Rattle.fr_record_log.specs.declared.change.Change.TheVariants.{Asked, Seeded, Popped}
+use Rattle.fr_record_log.specs.declared.change.Change.TheVariants.{Asked, Seeded, LetGo}
 
 -- one step of reading after another: if one finds nothing, nothing is found
 infixl 10 ◌>>=◌
@@ -193,7 +193,7 @@ change_of l kind bytes =
     else if kind == 3 then push_of l.epoch bytes >>= (λ p. Some (Asked (Push p)))
     else if kind == 4 then mark_of l.epoch bytes >>= (λ p. Some (Asked (Push p)))
     else if kind == 5 then lock_of l bytes
-    else if kind == 6 then popped_of bytes >>= (λ p. Some (Popped p))
+    else if kind == 6 then popped_of bytes >>= (λ p. Some (LetGo p))
     else None
 
 -- what a log does by a record

@@ -8,7 +8,7 @@ use Rattle.fr_state.specs.Generations.{CoordinatedState}
 use Rattle.fr_state.specs.Spelling.{spelling}
 use Rattle.fr_log.specs.declared.records.SeedRecord.{SeedRecord}
 use Rattle.fr_log.specs.declared.ask.LogAsk.{LogAsk}
-use Rattle.fr_log.specs.declared.ask.LogAsk.TheVariants.{Seed, Push, Lock, Peek, MarkAsked, Pop}
+use Rattle.fr_log.specs.declared.ask.LogAsk.TheVariants.{Seed, Push, Lock, Pop}
 use Rattle.fr_log.specs.Seed.{SeedContent}
 use Rattle.fr_log.specs.Push.{PushContent}
 use Rattle.fr_log.specs.LogState.{LogState}
@@ -48,14 +48,13 @@ abbrev pub spelled_push : PushContent → List ℕ
 spelled_push p = spelled_as p.mark p
 
 -- the records of an ask that changes a log. Of a first seed there is one, and one for each of its records; of a push
--- one; of a lock 05. Of a Pop there is one, with the version through which its tag is then popped
+-- one; of a lock 05. Of a pop there is one, with the version through which its tag is then popped
 abbrev pub spelled_ask : LogState → LogAsk → List (List ℕ)
 spelled_ask l (Seed s) = spelled_head l s ∷ map spelled_seeded s.records
 spelled_ask l (Push p) = spelled_push p ∷ []
 spelled_ask l (Lock epoch) = (5 ∷ []) ∷ []
-spelled_ask l (Peek epoch tag after most) = []
-spelled_ask l (MarkAsked epoch) = []
 spelled_ask l (Pop epoch tag through) = spelled_popped tag (popped_to l tag through) ∷ []
+spelled_ask l a = []
 
 -- the records of an ask: none if it changes nothing
 abbrev pub written_log : LogState → LogAsk → List (List ℕ)

@@ -8,6 +8,6 @@ pub(crate) enum Change {
     Asked(LogAsk),
     /// It takes one record more into its seed.
     Seeded(SeedRecord),
-    /// A tag of it is popped through a version, further than it was.
-    Popped(PoppedTag),
+    /// It lets go of a tag's records through a version, further than it did.
+    LetGo(PoppedTag),
 }

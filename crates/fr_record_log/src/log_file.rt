@@ -126,8 +126,8 @@ fn take_seeded(log: &mut Log, next: SeedRecord) -> Result<(), RecordReadFault>
 /// Pops a tag further.
 fn take_popped(log: &mut Log, popped: PoppedTag) -> Result<(), RecordReadFault>
     requires { IsSettledLog log.old }
-    ensures ok { OnOk result (taken log.old (Change.Popped popped) ≡ Some log.new) }
-    ensures broken { (result ≡ Err RecordReadFault.Broken) → taken log.old (Change.Popped popped) ≡ None }
+    ensures ok { OnOk result (taken log.old (Change.LetGo popped) ≡ Some log.new) }
+    ensures broken { (result ≡ Err RecordReadFault.Broken) → taken log.old (Change.LetGo popped) ≡ None }
     ensures err { OnErr result (log.new ≡ log.old) }
     ensures settled { IsSettledLog log.new }
 {
@@ -228,7 +228,7 @@ impl Recorded for FileLog {
         match change {
             Change::Asked(ask) => take_ask(&mut self.log, alloc, ask),
             Change::Seeded(next) => take_seeded(&mut self.log, next),
-            Change::Popped(popped) => take_popped(&mut self.log, popped),
+            Change::LetGo(popped) => take_popped(&mut self.log, popped),
         }
     }
 }

@@ -3,8 +3,8 @@ ghost use Rattle.std.specs.Prelude.{◌≡◌, ◌≢◌, ◌⊎◌, ◌||◌, �
 ghost use Rattle.fr_base.specs.Faults.{met_device};
 ghost use Rattle.fr_log.specs.LogState.{fresh_log};
 ghost use Rattle.fr_log.specs.Step.{answer_of, after_ask};
-ghost use Rattle.fr_device.specs.Moments.{Throughout};
-ghost use Rattle.fr_device.specs.Moments as moments;
+ghost use Rattle.fr_record.specs.Moments.{Throughout};
+ghost use Rattle.fr_record.specs.Moments as moments;
 ghost use Rattle.fr_record.specs.File.{StandsFor};
 ghost use Rattle.fr_record.specs.Failing.{FailsOnceMore};
 ghost use Rattle.fr_record.specs.Opening.{IsOpening, HasGone};
@@ -18,9 +18,9 @@ ghost use Rattle.fr_record_log.specs.Spelling.{written_log};
 use crate::limits::log_within_limits;
 use crate::log_file::FileLog;
 use fr_base::{LogId, Machine, Node, NodeFault, Reopened};
-use fr_device::Device;
 use fr_log::laws::letting_law;
 use fr_log::{Log, LogAsk, LogTell};
+use fr_record::Device;
 use fr_record_node::FileNode;
 use fr_tags::MAX_LOGS;
 use std::alloc::Global;
@@ -155,7 +155,7 @@ impl<D: Device> LogNode<D> {
 
 impl<D: Device> Node for LogNode<D> {
     ghost use Rattle.std.specs.Prelude.{IsTrue};
-    ghost use Rattle.fr_device.specs.Moments as moments;
+    ghost use Rattle.fr_record.specs.Moments as moments;
     ghost use Rattle.fr_record_node.specs.Replay.{Opens};
     ghost use Rattle.fr_record_node.specs.Node.{HasNoRoom, is_trouble};
     ghost use Rattle.fr_record_log.specs.Spelling.{written_log};

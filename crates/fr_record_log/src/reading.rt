@@ -317,7 +317,7 @@ pub(crate) fn change_at(alloc: Global, log: &Log, bytes: &[u8]) -> Result<Change
         PUSH => Ok(Change::Asked(LogAsk::Push(push_of(alloc, epoch, rest)?))),
         MARK => Ok(Change::Asked(LogAsk::Push(mark_of(alloc, epoch, rest)?))),
         LOCK if rest.is_empty() => Ok(Change::Asked(LogAsk::Lock { epoch })),
-        POPPED => Ok(Change::Popped(popped_of(rest)?)),
+        POPPED => Ok(Change::LetGo(popped_of(rest)?)),
         _ => Err(RecordReadFault::Broken),
     }
 }

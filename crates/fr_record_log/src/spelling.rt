@@ -42,7 +42,7 @@ pub(crate) fn spelled_ask(alloc: Global, log: &Log, ask: &LogAsk) -> Result<Vec<
         LogAsk::Pop { tag, through, .. } => {
             group.push(popped(alloc, *tag, log.popped_to(*tag, *through))?)?;
         }
-        LogAsk::Peek { .. } | LogAsk::MarkAsked { .. } => {}
+        _ => {}
     }
     Ok(group)
 }

@@ -5,8 +5,8 @@ use Rattle.std.specs.declared.alloc.Global.{Global}
 use Rattle.std.proofs.lemmas.List.{append-nil}
 use Rattle.std.proofs.lemmas.List.Sums.{fold-append}
 use Rattle.std.proofs.lemmas.List.Elements.{All-append}
-use Rattle.fr_device.specs.Disk.{Disk, MayLeave}
-use Rattle.fr_device.specs.Moments.{LeavesOnly, Run, Throughout}
+use Rattle.fr_record.specs.Disk.{Disk, MayLeave}
+use Rattle.fr_record.specs.Moments.{LeavesOnly, Run, Throughout}
 use Rattle.fr_record.specs.File.{AreShort, StandsFor, IsLeft, IsAtRest}
 use Rattle.fr_record.specs.Group.{records_of}
 use Rattle.fr_record.specs.Laws.{OneList, WholeOrNot, RestStands}

@@ -1,8 +1,8 @@
 -- A node, before and after a call of its file.
 use Rattle.std.proofs.Common.{◌≡◌, ◌⊎◌, inl, inr, ℕ, Bool, true, false, List, refl, sym, ap, ◌∙◌, subst}
 use Rattle.std.specs.Prelude.{Option, None, Some}
-use Rattle.fr_device.specs.Disk.{Disk}
-use Rattle.fr_device.specs.Moments.{LeavesOnly, Throughout}
+use Rattle.fr_record.specs.Disk.{Disk}
+use Rattle.fr_record.specs.Moments.{LeavesOnly, Throughout}
 use Rattle.fr_record.specs.File.{IsAtRest}
 use Rattle.fr_record.specs.Laws.{WholeOrNot, RestStands}
 use Rattle.fr_record_node.specs.Replay.{replayed, Opens}

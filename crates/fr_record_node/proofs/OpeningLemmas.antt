@@ -1,8 +1,8 @@
 -- Opening a file and then reading it.
 use Rattle.std.proofs.Common.{◌≡◌, ℕ, List, [], ◌∷◌, length, get_or, refl, sym, ap, ◌∙◌, subst, arith}
 use Rattle.fr_base.specs.Faults as base
-use Rattle.fr_device.specs.Disk.{Disk, MayLeave, IsDurable, Stands}
-use Rattle.fr_device.specs.Moments.{Throughout}
+use Rattle.fr_record.specs.Disk.{Disk, MayLeave, IsDurable, Stands}
+use Rattle.fr_record.specs.Moments.{Throughout}
 use Rattle.fr_record.specs.declared.fault.RecordFault.{RecordFault}
 use Rattle.fr_record.specs.declared.fault.RecordFault.TheVariants.{Device, Full, Failed, Memory, Broken}
 use Rattle.fr_record.specs.Fault.{is_device}

@@ -5,8 +5,8 @@ use Rattle.fr_base.specs.declared.node.NodeFault.{NodeFault}
 use Rattle.fr_base.specs.declared.node.NodeFault.TheVariants as node
 use Rattle.fr_record.specs.declared.fault.RecordFault.{RecordFault}
 use Rattle.fr_record.specs.declared.fault.RecordFault.TheVariants.{Device, Full, Failed, Memory, Broken}
-use Rattle.fr_device.specs.Disk.{Disk}
-use Rattle.fr_device.specs.Moments.{LeavesOnly}
+use Rattle.fr_record.specs.Disk.{Disk}
+use Rattle.fr_record.specs.Moments.{LeavesOnly}
 use Rattle.fr_record.specs.File.{frames, AreShort, IsLeft, IsAtRest}
 use Rattle.fr_record_node.specs.Several.{after_all, written_all}
 use Rattle.fr_record_node.specs.Replay.{replayed}

@@ -1,6 +1,6 @@
 -- What reading leaves of a device.
-use Rattle.fr_device.specs.Disk.{Disk, MayLeave, Stands}
-use Rattle.fr_device.specs.Moments.{Throughout}
+use Rattle.fr_record.specs.Disk.{Disk, MayLeave, Stands}
+use Rattle.fr_record.specs.Moments.{Throughout}
 
 module _ {D : Type 0} (Led : D → D → Type 0) (disk : D → Disk) where
   -- calls led from the first device to the last that changed nothing, and a crash at any moment of them leaves no more

@@ -1,8 +1,8 @@
 //! A machine over a record file.
 ghost use Rattle.std.specs.Prelude.{◌≡◌, ◌≢◌, ◌⊎◌, ◌||◌, ◌↔◌, ◌<◌, ◌+◌, ◌-◌, ◌^◌, ◌++◌, min, [], ◌∷◌, Ok, Err, Some, None, List, ℕ, IsOk, IfOk, OnOk, OnErr, IfErr, IsTrue, false};
 ghost use Rattle.fr_base.specs.Faults.{met_device};
-ghost use Rattle.fr_device.specs.Moments.{Throughout};
-ghost use Rattle.fr_device.specs.Moments as moments;
+ghost use Rattle.fr_record.specs.Moments.{Throughout};
+ghost use Rattle.fr_record.specs.Moments as moments;
 ghost use Rattle.fr_record.specs.File.{StandsFor};
 ghost use Rattle.fr_record.specs.Failing.{FailsOnceMore};
 ghost use Rattle.fr_record.specs.Opening.{IsOpening, HasGone};
@@ -17,8 +17,7 @@ mod serving;
 use crate::fault::node_fault;
 use crate::recorded::Recorded;
 use fr_base::{Machine, Node, NodeFault, Reopened};
-use fr_device::Device;
-use fr_record::{Records, left_law};
+use fr_record::{Device, Records, left_law};
 use reading::read_all;
 use reopening::{reopen_held, reopen_idle};
 use serving::put_all;
@@ -210,7 +209,7 @@ where
     M::Tell: Drop,
 {
     ghost use Rattle.std.specs.Prelude.{IsTrue};
-    ghost use Rattle.fr_device.specs.Moments as moments;
+    ghost use Rattle.fr_record.specs.Moments as moments;
     ghost use Rattle.fr_record_node.specs.Replay.{Opens};
     ghost use Rattle.fr_record_node.specs.Node.{HasNoRoom, is_trouble};
 

@@ -8,3 +8,8 @@ pub mod Votes
 pub mod Chosen
 pub mod Parents
 pub mod Lines
+pub mod Tests
+pub mod Turns
+pub mod Events
+pub mod Replays
+mod Taking

@@ -12,3 +12,13 @@ pub mod StateLaws
 pub mod ChosenLaws
 pub mod Laws
 pub mod LineLaws
+pub mod ConfigLimits
+pub mod Phase
+pub mod Last
+pub mod At
+pub mod Limits
+pub mod Tests
+pub mod Step
+pub mod Told
+pub mod Pulls
+pub mod Law

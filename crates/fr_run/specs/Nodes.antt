@@ -9,13 +9,13 @@ use Rattle.fr_state.specs.Generations.{LogGeneration}
 use Rattle.fr_log.specs.LogState.{LogState, fresh_log}
 use Rattle.fr_log.specs.Step as log
 use Rattle.fr_log.specs.declared.ask.LogTell.{LogTell}
-use Rattle.fr_log.specs.declared.ask.LogTell.TheVariants as ltell
 use Rattle.fr_ask.specs.declared.tell.Tell.{Tell}
 use Rattle.fr_ask.specs.declared.tell.Tell.TheVariants as tell
 use Rattle.fr_proxy.specs.Sequencer as seq
 use Rattle.fr_proxy.specs.Proxy as proxy
 use Rattle.fr_epoch.specs.Recoverer.{RecState, Plan, Phase, Reading, Locking, Copying, Writing, Chosen, Lost, new_recoverer, is_copied_in}
 use Rattle.fr_epoch.specs.Hear as rec
+use Rattle.fr_storage.specs.Course as course
 use Rattle.fr_storage.specs.Storage as storage
 use Rattle.fr_storage.specs.Storage.{StorageState, Call}
 use Rattle.fr_run.specs.Config.{Config, first_epoch, first_generation, first_cell, first_log, first_storage}
@@ -172,23 +172,11 @@ proxy_at c h epoch number = proxy_from (new_proxy_in c (generation_at c h epoch)
 
 -- the calls that a hear makes
 abbrev pub calls_of_log : StorageState → ℕ → LogTell → List Call
-calls_of_log s e ltell.Seeded = []
-calls_of_log s e (ltell.Held version) = []
-calls_of_log s e (ltell.Locked durable known popped) = []
-calls_of_log s e (ltell.Peeked peeked) = storage.peeked_calls s e peeked
-calls_of_log s e (ltell.Marked state) = storage.marked_calls s state
-calls_of_log s e (ltell.Popped through) = []
-calls_of_log s e (ltell.Refused why) = []
+calls_of_log s e t = course.calls_of s (course.heard_in e t)
 
 -- a storage server after the whole of a hear
 abbrev pub whole_hear : StorageState → ℕ → LogTell → StorageState
-whole_hear s e ltell.Seeded = s
-whole_hear s e (ltell.Held version) = s
-whole_hear s e (ltell.Locked durable known popped) = s
-whole_hear s e (ltell.Peeked peeked) = storage.after_peeked s e peeked
-whole_hear s e (ltell.Marked state) = storage.after_marked s state
-whole_hear s e (ltell.Popped through) = s
-whole_hear s e (ltell.Refused why) = s
+whole_hear s e t = course.after_hear s (course.heard_in e t)
 
 -- and after one that broke off at a version
 abbrev pub part_hear : Option ℕ → StorageState → ℕ → LogTell → StorageState

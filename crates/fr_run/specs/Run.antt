@@ -9,7 +9,6 @@ use Rattle.fr_log.specs.Step as log
 use Rattle.fr_log.specs.declared.ask.LogAsk.{LogAsk}
 use Rattle.fr_log.specs.declared.ask.LogAsk.TheVariants as lask
 use Rattle.fr_log.specs.declared.ask.LogTell.{LogTell}
-use Rattle.fr_log.specs.declared.ask.LogTell.TheVariants as ltell
 use Rattle.fr_ask.specs.declared.ask.Ask.TheVariants as ask
 use Rattle.fr_ask.specs.declared.tell.Tell.{Tell}
 use Rattle.fr_ask.specs.declared.tell.Tell.TheVariants as tell
@@ -17,6 +16,7 @@ use Rattle.fr_proxy.specs.Sequencer as seq
 use Rattle.fr_proxy.specs.Proxy as proxy
 use Rattle.fr_epoch.specs.Recoverer.{RecState, new_recoverer}
 use Rattle.fr_epoch.specs.Asks as rec
+use Rattle.fr_storage.specs.Course as course
 use Rattle.fr_storage.specs.Storage as storage
 use Rattle.fr_storage.specs.declared.fault.StorageFault.{StorageFault}
 use Rattle.fr_run.specs.Config.{Config, first_epoch}
@@ -61,13 +61,7 @@ Survives (node.Storage t) = Unit {0}
 
 -- why a storage server refuses a tell of a log of an epoch
 abbrev pub fault_of_log : storage.StorageState → ℕ → LogTell → Option StorageFault
-fault_of_log s e ltell.Seeded = None
-fault_of_log s e (ltell.Held version) = None
-fault_of_log s e (ltell.Locked durable known popped) = None
-fault_of_log s e (ltell.Peeked peeked) = storage.peeked_fault s e peeked
-fault_of_log s e (ltell.Marked state) = storage.marked_fault s state
-fault_of_log s e (ltell.Popped through) = None
-fault_of_log s e (ltell.Refused why) = None
+fault_of_log s e t = course.fault_of s (course.heard_in e t)
 
 abbrev pub fault_of : storage.StorageState → NodeId → Tell → Option StorageFault
 fault_of s (node.Log e i) (tell.Log t) = fault_of_log s e t
@@ -88,12 +82,8 @@ pub record IsHeardBy (c : Config) (h : List Turn) (by from : NodeId) (t : Tell) 
 
 -- a peek wants at least one record
 abbrev pub WantsSome : LogAsk → Type 0
-WantsSome (lask.Seed s) = Unit {0}
-WantsSome (lask.Push p) = Unit {0}
-WantsSome (lask.Lock e) = Unit {0}
 WantsSome (lask.Peek e tag after most) = 1 ≤ most
-WantsSome (lask.MarkAsked e) = Unit {0}
-WantsSome (lask.Pop e tag through) = Unit {0}
+WantsSome a = Unit {0}
 
 -- a ballot that may begin: it is not the first epoch, and within its limits
 abbrev pub MayBegin : ℕ → Type 0

@@ -16,10 +16,10 @@ use Rattle.fr_run.specs.Nodes.{is_open, proxy_at}
 use Rattle.fr_run.specs.Run.{IsTurn, IsRun}
 use Rattle.fr_run.specs.Batches.{batch_at, IsAcknowledged}
 use Rattle.fr_run.proofs.Cells.{Contains-here, Contains-later, Contains-none, Contains-cases}
-use Rattle.fr_run_versions.specs.Numbers.{Numbering, numbers}
-use Rattle.fr_run_versions.specs.Proxies.{IsNumberOf, IsOpenOf}
-use Rattle.fr_run_versions.proofs.Numbers.{numbers_stay}
-use Rattle.fr_run_versions.proofs.Proxies.{proxies_are, batch_stays}
+use Rattle.fr_run_headline.specs.Numbers.{Numbering, numbers}
+use Rattle.fr_run_headline.specs.Proxies.{IsNumberOf, IsOpenOf}
+use Rattle.fr_run_headline.proofs.Numbers.{numbers_stay}
+use Rattle.fr_run_headline.proofs.Proxies.{proxies_are, batch_stays}
 use Rattle.fr_run_headline.specs.Committed.{batch_under_way, IsAcknowledgedBatch, AcknowledgedHasBatch}
 use Rattle.fr_run_headline.specs.Laws.{Laws}
 

@@ -17,17 +17,17 @@ use Rattle.fr_run.specs.Nodes.{rec_at, plan_in, generation_in, generation_at}
 use Rattle.fr_run.specs.Run.{IsRun}
 use Rattle.fr_run.specs.States.{state_of, line_with, line_in, line_from, line_of}
 use Rattle.fr_run.specs.StateLaws.{IsConfig}
-use Rattle.fr_run_versions.specs.Numbers.{top_at}
-use Rattle.fr_run_contents.specs.Issued.{entries, issued_of, issued, part}
-use Rattle.fr_run_contents.proofs.Versions.{RiseIn, through}
-use Rattle.fr_run_contents.proofs.IssuedLists.{version_of, EntriesRise, agree}
-use Rattle.fr_run_contents.proofs.PartLists.{part_rises, commits_rise, part_concat, part_none, part_same}
-use Rattle.fr_run_contents.proofs.Lists.{HasList, planned_list, list_rises}
-use Rattle.fr_run_contents.proofs.Parts.{issued_rises}
+use Rattle.fr_run_headline.specs.Numbers.{top_at}
+use Rattle.fr_run_headline.specs.Issued.{entries, issued_of, issued, part}
+use Rattle.fr_run_headline.proofs.VersionLists.{RiseIn, through}
+use Rattle.fr_run_headline.proofs.IssuedLists.{version_of, EntriesRise, agree}
+use Rattle.fr_run_headline.proofs.PartLists.{part_rises, commits_rise, part_concat, part_none, part_same}
+use Rattle.fr_run_headline.proofs.Lists.{HasList, planned_list, list_rises}
+use Rattle.fr_run_headline.proofs.Parts.{issued_rises}
 use Rattle.fr_run_headline.specs.Agreement.{pieces_at}
 use Rattle.fr_run_headline.specs.Laws.{Laws}
 use Rattle.fr_run.proofs.Lines.{states_are_views}
-use Rattle.fr_run_versions.proofs.Behind.{front_is_state}
+use Rattle.fr_run_headline.proofs.Behind.{front_is_state}
 
 -- ---- pieces
 

@@ -21,8 +21,8 @@ use Rattle.fr_epoch.specs.Words.{Word, OfCell, OfLog, Other, Heed, Nothing, Prom
 use Rattle.fr_epoch.specs.Hear.{lost, why_of, with_last, with_parent, after_reads, with_read, with_plan, ended, after_reply, with_lock, left_of, next_generation, with_seeded, after_writes, with_write, after_heed, after_hear}
 use Rattle.fr_epoch.specs.declared.why.LostWhy.TheVariants as why
 use Rattle.fr_run.proofs.ByTurn.{rec_by_turn}
-use Rattle.fr_run_versions.specs.LogLaws.{tally}
-use Rattle.fr_run_versions.proofs.Orders.{replies_agree}
+use Rattle.fr_run_headline.specs.LogLaws.{tally}
+use Rattle.fr_run_headline.proofs.Orders.{replies_agree}
 use Rattle.fr_run_headline.specs.Order.{NeverInconsistent}
 use Rattle.fr_run_headline.specs.Laws.{Laws}
 
@@ -77,34 +77,20 @@ replied_parent r Reading (OfCell i t) p end j f g l h = absurd (cc)
 replied_parent r Reading (OfLog e i t) p end j f g l h = absurd (cc)
 replied_parent r Reading Other p end j f g l h = absurd (cc)
 replied_parent r Locking (OfCell i t) p end j f g l h = absurd (cc)
-replied_parent r Locking (OfLog e i ltell.Seeded) p end j f g l h = absurd (cc)
-replied_parent r Locking (OfLog e i (ltell.Held v)) p end j f g l h = absurd (cc)
 replied_parent r Locking (OfLog e i (ltell.Locked d k ps)) p end j f g l h = locked_parent r.parent r.end e i d k ps p end j f g l h
-replied_parent r Locking (OfLog e i (ltell.Peeked x)) p end j f g l h = absurd (cc)
-replied_parent r Locking (OfLog e i (ltell.Marked x)) p end j f g l h = absurd (cc)
-replied_parent r Locking (OfLog e i (ltell.Popped v)) p end j f g l h = absurd (cc)
-replied_parent r Locking (OfLog e i (ltell.Refused x)) p end j f g l h = absurd (cc)
+replied_parent r Locking (OfLog e i t) p end j f g l h = absurd (cc)
 replied_parent r Locking Other p end j f g l h = absurd (cc)
 replied_parent r Copying (OfCell i t) p end j f g l h = absurd (cc)
 replied_parent r Copying (OfLog e i ltell.Seeded) p end j f g l h = absurd (seeded_no r r.plan e i p end j f g l h)
-replied_parent r Copying (OfLog e i (ltell.Held v)) p end j f g l h = absurd (cc)
-replied_parent r Copying (OfLog e i (ltell.Locked d k ps)) p end j f g l h = absurd (cc)
 replied_parent r Copying (OfLog e i (ltell.Peeked x)) p end j f g l h = absurd (peeked_no r.parent r.plan e i x p end j f g l h)
-replied_parent r Copying (OfLog e i (ltell.Marked x)) p end j f g l h = absurd (cc)
-replied_parent r Copying (OfLog e i (ltell.Popped v)) p end j f g l h = absurd (cc)
-replied_parent r Copying (OfLog e i (ltell.Refused x)) p end j f g l h = absurd (cc)
+replied_parent r Copying (OfLog e i t) p end j f g l h = absurd (cc)
 replied_parent r Copying Other p end j f g l h = absurd (cc)
 replied_parent r Writing (OfCell i t) p end j f g l h = absurd (cc)
 replied_parent r Writing (OfLog e i t) p end j f g l h = absurd (cc)
 replied_parent r Writing Other p end j f g l h = absurd (cc)
 replied_parent r Chosen (OfCell i t) p end j f g l h = absurd (cc)
-replied_parent r Chosen (OfLog e i ltell.Seeded) p end j f g l h = absurd (cc)
 replied_parent r Chosen (OfLog e i (ltell.Held v)) p end j f g l h = absurd (held_no r r.plan e i v p end j f g l h)
-replied_parent r Chosen (OfLog e i (ltell.Locked d k ps)) p end j f g l h = absurd (cc)
-replied_parent r Chosen (OfLog e i (ltell.Peeked x)) p end j f g l h = absurd (cc)
-replied_parent r Chosen (OfLog e i (ltell.Marked x)) p end j f g l h = absurd (cc)
-replied_parent r Chosen (OfLog e i (ltell.Popped v)) p end j f g l h = absurd (cc)
-replied_parent r Chosen (OfLog e i (ltell.Refused x)) p end j f g l h = absurd (cc)
+replied_parent r Chosen (OfLog e i t) p end j f g l h = absurd (cc)
 replied_parent r Chosen Other p end j f g l h = absurd (cc)
 replied_parent r (Lost y) w p end j f g l h = absurd (cc)
 

@@ -6,7 +6,7 @@ use Rattle.std.proofs.lemmas.List.Elements.{All-contains}
 use Rattle.fr_log.specs.declared.popped.PoppedTag.{PoppedTag}
 use Rattle.fr_log.specs.declared.ask.LogAsk.{LogAsk}
 use Rattle.fr_log.specs.declared.ask.LogAsk.TheVariants.{Pop}
-use Rattle.fr_log.specs.Popped.{popped_of, popped_at, raised}
+use Rattle.fr_log.specs.Left.{popped_of, popped_at, raised}
 use Rattle.fr_log.specs.LogState.{LogState, known_of}
 use Rattle.fr_log.specs.Refusal.{pop_refusal}
 use Rattle.fr_log.specs.Step.{next_of, popped_to}
@@ -20,13 +20,13 @@ use Rattle.fr_run.specs.Laws as nodes
 use Rattle.fr_run.proofs.Cells.{Contains-none, Contains-cases}
 use Rattle.fr_run.proofs.Growth.{log_stays}
 use Rattle.fr_run.proofs.Parents.{plan_is}
-use Rattle.fr_run_versions.specs.LogLaws.{tally, StandsAt}
-use Rattle.fr_run_versions.proofs.LogChanges.{popped_change}
-use Rattle.fr_run_versions.proofs.Logs.{log_by_own_turn, made_log}
-use Rattle.fr_run_versions.proofs.Locks.{replies_stand_still}
-use Rattle.fr_run_versions.proofs.Ends.{end_is_of_replies}
-use Rattle.fr_run_versions.proofs.Popping.{unpopped}
-use Rattle.fr_run_versions.proofs.Shown.{raised_has}
+use Rattle.fr_run_headline.specs.LogLaws.{tally, StandsAt}
+use Rattle.fr_run_headline.proofs.LogChanges.{popped_change}
+use Rattle.fr_run_headline.proofs.Logs.{log_by_own_turn, made_log}
+use Rattle.fr_run_headline.proofs.Locks.{replies_stand_still}
+use Rattle.fr_run_headline.proofs.Ends.{end_is_of_replies}
+use Rattle.fr_run_headline.proofs.Popping.{unpopped}
+use Rattle.fr_run_headline.proofs.Shown.{raised_has}
 use Rattle.fr_run_headline.specs.Laws.{Laws}
 use Rattle.fr_run_headline.specs.LetGo.{CopyIsNeverRemoved}
 use Rattle.fr_run_headline.proofs.Visible.{entry_of}

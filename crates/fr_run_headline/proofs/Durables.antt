@@ -14,17 +14,17 @@ use Rattle.fr_run.specs.Run.{IsRun}
 use Rattle.fr_run.specs.States.{line_of, IsChosenEpoch}
 use Rattle.fr_run.specs.StateLaws.{IsConfig}
 use Rattle.fr_run.proofs.States.{last_is}
-use Rattle.fr_run_versions.specs.Numbers.{top_at}
-use Rattle.fr_run_versions.specs.Bounds.{IsBelow}
-use Rattle.fr_run_versions.proofs.Ends.{always_chained}
-use Rattle.fr_run_versions.proofs.Logs.{durable_below, logs_are_own}
-use Rattle.fr_run_versions.proofs.Orders.{below_is_durable}
-use Rattle.fr_run_versions.proofs.Seeds.{chosen_is_seeded}
-use Rattle.fr_run_versions.proofs.Transport.{seeded_is_durable}
-use Rattle.fr_run_contents.specs.Issued.{issued, least_durable, committed}
-use Rattle.fr_run_contents.proofs.Versions.{through, through_twice}
-use Rattle.fr_run_contents.proofs.IssuedLists.{version_of}
-use Rattle.fr_run_contents.proofs.Lists.{planned_list}
+use Rattle.fr_run_headline.specs.Numbers.{top_at}
+use Rattle.fr_run_headline.specs.Bounds.{IsBelow}
+use Rattle.fr_run_headline.proofs.Ends.{always_chained}
+use Rattle.fr_run_headline.proofs.Logs.{durable_below, logs_are_own}
+use Rattle.fr_run_headline.proofs.Orders.{below_is_durable}
+use Rattle.fr_run_headline.proofs.Seeds.{chosen_is_seeded}
+use Rattle.fr_run_headline.proofs.Transport.{seeded_is_durable}
+use Rattle.fr_run_headline.specs.Issued.{issued, least_durable, committed}
+use Rattle.fr_run_headline.proofs.VersionLists.{through, through_twice}
+use Rattle.fr_run_headline.proofs.IssuedLists.{version_of}
+use Rattle.fr_run_headline.proofs.Lists.{planned_list}
 use Rattle.fr_run_headline.specs.Laws.{Laws}
 use Rattle.fr_run.proofs.Lines.{lines_within}
 use Rattle.fr_run.proofs.Chosen.{chosen_is_planned}

@@ -6,7 +6,7 @@ use Rattle.fr_base.specs.declared.place.NodeId.TheVariants as node
 use Rattle.fr_undo.specs.State.{StoreState}
 use Rattle.fr_state.specs.Generations.{LogGeneration, CoordinatedState}
 use Rattle.fr_state.specs.LookUp.{cut_of}
-use Rattle.fr_log.specs.declared.ask.LogTell.TheVariants.{Marked}
+use Rattle.fr_log.specs.Step.{mark_answer}
 use Rattle.fr_ask.specs.declared.tell.Tell.TheVariants as tell
 use Rattle.fr_storage.specs.Storage.{StorageState, own_epoch, cut_in, after_marked}
 use Rattle.fr_storage.specs.Course.{LeavesOne}
@@ -18,13 +18,13 @@ use Rattle.fr_run.specs.Run.{IsRun}
 use Rattle.fr_run.specs.States.{state_of, IsChosenEpoch, IsLatest}
 use Rattle.fr_run.specs.StateLaws.{IsConfig}
 use Rattle.fr_run.proofs.Growth.{generation_stays}
-use Rattle.fr_run_versions.specs.Numbers.{top_at}
-use Rattle.fr_run_versions.proofs.Asked.{marked_is_chosen}
-use Rattle.fr_run_contents.specs.Issued.{issued}
-use Rattle.fr_run_contents.proofs.Versions.{through}
-use Rattle.fr_run_contents.proofs.IssuedLists.{version_of}
-use Rattle.fr_run_contents.proofs.Parts.{issued_rises}
-use Rattle.fr_run_contents.proofs.ShardFold.{shard_through}
+use Rattle.fr_run_headline.specs.Numbers.{top_at}
+use Rattle.fr_run_headline.proofs.Asked.{marked_is_chosen}
+use Rattle.fr_run_headline.specs.Issued.{issued}
+use Rattle.fr_run_headline.proofs.VersionLists.{through}
+use Rattle.fr_run_headline.proofs.IssuedLists.{version_of}
+use Rattle.fr_run_headline.proofs.Parts.{issued_rises}
+use Rattle.fr_run_headline.proofs.ShardFold.{shard_through}
 use Rattle.fr_run_headline.specs.Agreement.{pieces_at}
 use Rattle.fr_run_headline.specs.Storages.{IsStorageOf}
 use Rattle.fr_run_headline.specs.Committed.{map_after, shard_of, EveryStorageFollows, applied_at, HoldsCommitted, RolledBackIsExact}
@@ -64,14 +64,14 @@ every_storage_follows laws c h config run tag =
 -- ---- after a rollback
 
 -- the server after the hear
-hear_is : (c : Config) (before : List Turn) (tag epoch log : ℕ) (x : CoordinatedState) → storage_at c (StorageHeard tag (node.Log epoch log) (tell.Log (Marked x)) None None ∷ before) tag ≡ after_marked (storage_at c before tag) x
+hear_is : (c : Config) (before : List Turn) (tag epoch log : ℕ) (x : CoordinatedState) → storage_at c (StorageHeard tag (node.Log epoch log) (tell.Log (mark_answer (Some x))) None None ∷ before) tag ≡ after_marked (storage_at c before tag) x
 hear_is c before tag epoch log x = go (tag == tag) (eq-eqb tag tag refl)
   where
     go : (b : Bool) → b ≡ true → cond b (after_marked (storage_at c before tag) x) (storage_at c before tag) ≡ after_marked (storage_at c before tag) x
     go true e = refl
     go false e = absurd (cc)
 
-rolled_back_now : Laws → (c : Config) (before : List Turn) (tag epoch log : ℕ) (x : CoordinatedState) → IsConfig c → let h = StorageHeard tag (node.Log epoch log) (tell.Log (Marked x)) None None ∷ before in
+rolled_back_now : Laws → (c : Config) (before : List Turn) (tag epoch log : ℕ) (x : CoordinatedState) → IsConfig c → let h = StorageHeard tag (node.Log epoch log) (tell.Log (mark_answer (Some x))) None None ∷ before in
     IsRun c h → (later : own_epoch (storage_at c before tag).state < own_epoch x) → (latest : ℕ) → IsLatest c h latest
     → HoldsCommitted c h tag latest (own_epoch (storage_at c before tag).state) x
 rolled_back_now laws c before tag epoch log x config run later latest is = record {
@@ -84,10 +84,10 @@ rolled_back_now laws c before tag epoch log x config run later latest is = recor
 }
   where
     turn : Turn
-    turn = StorageHeard tag (node.Log epoch log) (tell.Log (Marked x)) None None
+    turn = StorageHeard tag (node.Log epoch log) (tell.Log (mark_answer (Some x))) None None
 
     h : List Turn
-    h = StorageHeard tag (node.Log epoch log) (tell.Log (Marked x)) None None ∷ before
+    h = StorageHeard tag (node.Log epoch log) (tell.Log (mark_answer (Some x))) None None ∷ before
 
     s : StorageState
     s = storage_at c before tag

@@ -15,20 +15,20 @@ use Rattle.fr_run.specs.Run.{IsTurn, IsRun}
 use Rattle.fr_run.specs.States.{state_of, line_of}
 use Rattle.fr_run.specs.StateLaws.{IsConfig}
 use Rattle.fr_run.proofs.Cells.{Contains-here, Contains-none, Contains-cases}
-use Rattle.fr_run_versions.specs.Numbers.{numbers, top_at}
-use Rattle.fr_run_versions.specs.Bounds.{IsBelow}
-use Rattle.fr_run_versions.proofs.Acks.{below_later}
-use Rattle.fr_run_versions.proofs.Ends.{always_chained}
-use Rattle.fr_run_contents.proofs.Versions.{rise_over}
-use Rattle.fr_run_contents.proofs.IssuedLists.{version_of}
-use Rattle.fr_run_contents.proofs.EntryLists.{chained_rise}
-use Rattle.fr_run_contents.specs.Issued.{entry_of}
+use Rattle.fr_run_headline.specs.Numbers.{numbers, top_at}
+use Rattle.fr_run_headline.specs.Bounds.{IsBelow}
+use Rattle.fr_run_headline.proofs.Acks.{below_later}
+use Rattle.fr_run_headline.proofs.Ends.{always_chained}
+use Rattle.fr_run_headline.proofs.VersionLists.{rise_over}
+use Rattle.fr_run_headline.proofs.IssuedLists.{version_of}
+use Rattle.fr_run_headline.proofs.EntryLists.{chained_rise}
+use Rattle.fr_run_headline.specs.Issued.{entry_of}
 use Rattle.std.specs.Prelude.{map, reverse}
-use Rattle.fr_run_contents.proofs.Lists.{HasList, planned_list}
+use Rattle.fr_run_headline.proofs.Lists.{HasList, planned_list}
 use Rattle.fr_run_headline.specs.Storages.{IsSafeFloor}
 use Rattle.fr_run_headline.specs.Laws.{Laws}
-use Rattle.fr_run_versions.proofs.Behind.{front_is_state}
-use Rattle.fr_run_versions.proofs.Taking.{below_is_held_behind}
+use Rattle.fr_run_headline.proofs.Behind.{front_is_state}
+use Rattle.fr_run_headline.proofs.Taking.{below_is_held_behind}
 use Rattle.fr_run_headline.proofs.Agreement.{split_at, cut_in_line}
 
 -- ---- lists

@@ -15,7 +15,7 @@ use Rattle.fr_log.specs.declared.ask.LogTell.TheVariants as ltell
 use Rattle.fr_ask.specs.declared.tell.Tell.{Tell}
 use Rattle.fr_ask.specs.declared.tell.Tell.TheVariants as tell
 use Rattle.fr_log.specs.declared.popped.PoppedTag.{PoppedTag}
-use Rattle.fr_log.specs.Popped.{popped_of, popped_at}
+use Rattle.fr_log.specs.Left.{popped_of, popped_at}
 use Rattle.fr_storage.specs.Course.{LeavesOne}
 use Rattle.fr_storage.specs.declared.fault.StorageFault.{StorageFault}
 use Rattle.fr_storage.specs.declared.fault.StorageFault.TheVariants.{Stranger, BelowFloor, NotMyGeneration, Hole}
@@ -28,10 +28,10 @@ use Rattle.fr_run.specs.States.{state_of, line_of, IsInLine, IsChosenEpoch}
 use Rattle.fr_run.specs.StateLaws.{IsConfig}
 use Rattle.fr_run.proofs.Cells.{Contains-here, Contains-none, Contains-cases}
 use Rattle.fr_run.proofs.States.{first_is}
-use Rattle.fr_run_contents.proofs.Lists.{planned_state_stays, planned_line_stays}
-use Rattle.fr_run_contents.proofs.Parts.{part_lasts}
-use Rattle.fr_run_contents.proofs.Stays.{top_rises}
-use Rattle.fr_run_contents.proofs.Truths.{peeks_are_true}
+use Rattle.fr_run_headline.proofs.Lists.{planned_state_stays, planned_line_stays}
+use Rattle.fr_run_headline.proofs.Parts.{part_lasts}
+use Rattle.fr_run_headline.proofs.Stays.{top_rises}
+use Rattle.fr_run_headline.proofs.Truths.{peeks_are_true}
 use Rattle.fr_run_headline.specs.Agreement.{pieces_at}
 use Rattle.fr_run_headline.specs.Storages.{IsSafeFloor, IsStorageOf, StoragesFollow, HearsAreTaken, EachHearIsTaken}
 use Rattle.fr_run_headline.specs.LetGo.{IsPoppedBy, PoppedIsSafe, VisibleIsSafe, NothingRemovedAboveFloor, NeverRemoved}
@@ -40,11 +40,11 @@ use Rattle.fr_run.proofs.Chosen.{chosen_is_planned, chosen_lasts}
 use Rattle.fr_run_headline.proofs.Agreement.{parts_are_pieces}
 use Rattle.fr_run_headline.proofs.Floors.{floor_later}
 use Rattle.fr_run_headline.proofs.Visible.{leaves_one, own_in_line, entry_of, visible}
-use Rattle.fr_run_versions.specs.Bounds.{IsBelow}
-use Rattle.fr_run_versions.proofs.Popping.{IsPop, unpopped, popped_from}
-use Rattle.fr_run_versions.proofs.Asked.{marked_is_chosen, peeked_is_own}
-use Rattle.fr_run_contents.specs.Issued.{Entry, issued}
-use Rattle.fr_run_contents.proofs.Parts.{issued_lasts}
+use Rattle.fr_run_headline.specs.Bounds.{IsBelow}
+use Rattle.fr_run_headline.proofs.Popping.{IsPop, unpopped, popped_from}
+use Rattle.fr_run_headline.proofs.Asked.{marked_is_chosen, peeked_is_own}
+use Rattle.fr_run_headline.specs.Issued.{Entry, issued}
+use Rattle.fr_run_headline.proofs.Parts.{issued_lasts}
 use Rattle.fr_run_headline.proofs.Places.{same_has}
 use Rattle.fr_run_headline.proofs.Keeping.{HasIn, mark_keeps, broken_mark_keeps, peek_keeps, broken_peek_keeps, mark_line, mark_floor, peek_floor, broken_peek_floor}
 use Rattle.fr_run_headline.proofs.Hears.{mark_leads, after_mark, broken_mark, left_at, after_peek, broken_peek}
@@ -110,12 +110,6 @@ unmoved s version = go (is_broken_at s.store version s.store)
 
 hears_log : Laws → (c : Config) (h : List Turn) → IsConfig c → IsRun c h → (tag : ℕ) → tag < length c.begins → (s : StorageState) → IsStorageOf c h tag s → Seen c h s
     → (e i : ℕ) (u : LogTell) → Told h (node.Log e i) (node.Storage tag) (tell.Log u) → (taken : Option ℕ) → MayBreak taken s (node.Log e i) (tell.Log u) → Moves c h tag s (part_hear taken s e u)
-hears_log laws c h config run tag inside s k seen e i ltell.Seeded told None may = stands c h tag s k
-hears_log laws c h config run tag inside s k seen e i ltell.Seeded told (Some v) may = subst (Moves c h tag s) (sym (unmoved s v)) (stands c h tag s k)
-hears_log laws c h config run tag inside s k seen e i (ltell.Held w) told None may = stands c h tag s k
-hears_log laws c h config run tag inside s k seen e i (ltell.Held w) told (Some v) may = subst (Moves c h tag s) (sym (unmoved s v)) (stands c h tag s k)
-hears_log laws c h config run tag inside s k seen e i (ltell.Locked d w ps) told None may = stands c h tag s k
-hears_log laws c h config run tag inside s k seen e i (ltell.Locked d w ps) told (Some v) may = subst (Moves c h tag s) (sym (unmoved s v)) (stands c h tag s k)
 hears_log laws c h config run tag inside s k seen e i (ltell.Peeked p) told None may =
     let own = (peeked_is_own laws.contents.nodes c h run e i tag p told).0 in
     let true_tell = peeks_are_true laws.contents c h config run e i (node.Storage tag) p told in
@@ -161,10 +155,8 @@ hears_log laws c h config run tag inside s k seen e i (ltell.Marked x) told (Som
       floor = omega (arith, floor);
       line = λ z there. there;
     }
-hears_log laws c h config run tag inside s k seen e i (ltell.Popped w) told None may = stands c h tag s k
-hears_log laws c h config run tag inside s k seen e i (ltell.Popped w) told (Some v) may = subst (Moves c h tag s) (sym (unmoved s v)) (stands c h tag s k)
-hears_log laws c h config run tag inside s k seen e i (ltell.Refused why) told None may = stands c h tag s k
-hears_log laws c h config run tag inside s k seen e i (ltell.Refused why) told (Some v) may = subst (Moves c h tag s) (sym (unmoved s v)) (stands c h tag s k)
+hears_log laws c h config run tag inside s k seen e i t told None may = stands c h tag s k
+hears_log laws c h config run tag inside s k seen e i t told (Some v) may = subst (Moves c h tag s) (sym (unmoved s v)) (stands c h tag s k)
 
 hears : Laws → (c : Config) (h : List Turn) → IsConfig c → IsRun c h → (tag : ℕ) → tag < length c.begins → (s : StorageState) → IsStorageOf c h tag s → Seen c h s
     → (from : NodeId) (t : Tell) → Told h from (node.Storage tag) t → (taken : Option ℕ) → MayBreak taken s from t → Moves c h tag s (storage_hear taken s from t)
@@ -237,7 +229,7 @@ popped_low c h k e i there tag = go (popped_of (log_at c h e i).popped tag) refl
         let floor = ap (λ (u : ℕ). (storage_at c h u).store.floor) entry.2 in
         omega (arith, low, version, floor)
 
--- so a Pop brings a tag no further
+-- so a pop brings a tag no further
 popped_now : Laws → (c : Config) (h : List Turn) → IsConfig c → IsRun c h → Settled c h → (e i : ℕ) → i < logs_at c h e → (x : PoppedTag) → IsPop c h e i x → IsPoppedBy c h e x
 popped_now laws c h config run k e i there x pop =
     let low = popped_low c h k e i there x.tag in
@@ -320,9 +312,6 @@ none_taken = ((λ k. absurd (cc)), (λ k. absurd (cc)))
 
 taken_log : Laws → (c : Config) (h : List Turn) → IsConfig c → IsRun c h → (tag : ℕ) → tag < length c.begins → (s : StorageState) → IsStorageOf c h tag s → Seen c h s
     → (e i : ℕ) (u : LogTell) → Told h (node.Log e i) (node.Storage tag) (tell.Log u) → IsTakenFault (fault_of_log s e u)
-taken_log laws c h config run tag inside s k seen e i ltell.Seeded told = none_taken
-taken_log laws c h config run tag inside s k seen e i (ltell.Held w) told = none_taken
-taken_log laws c h config run tag inside s k seen e i (ltell.Locked d w ps) told = none_taken
 taken_log laws c h config run tag inside s k seen e i (ltell.Peeked p) told = peek_fault s e p
 taken_log laws c h config run tag inside s k seen e i (ltell.Marked x) told =
     let m = marked_is_chosen laws.contents.nodes c h run e i (node.Storage tag) x told in
@@ -331,8 +320,7 @@ taken_log laws c h config run tag inside s k seen e i (ltell.Marked x) told =
       | inl none ↦ subst IsTakenFault (sym none) none_taken
       | inr older ↦ subst IsTakenFault (sym older) ((λ k. absurd (cc)), (λ k. absurd (cc)))
     ])
-taken_log laws c h config run tag inside s k seen e i (ltell.Popped w) told = none_taken
-taken_log laws c h config run tag inside s k seen e i (ltell.Refused why) told = none_taken
+taken_log laws c h config run tag inside s k seen e i t told = none_taken
 
 taken_tell : Laws → (c : Config) (h : List Turn) → IsConfig c → IsRun c h → (tag : ℕ) → tag < length c.begins → (s : StorageState) → IsStorageOf c h tag s → Seen c h s
     → (from : NodeId) (t : Tell) → Told h from (node.Storage tag) t → IsTakenFault (fault_of s from t)

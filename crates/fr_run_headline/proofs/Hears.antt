@@ -24,13 +24,13 @@ use Rattle.fr_run.specs.Nodes.{generation_at, logs_at, log_at}
 use Rattle.fr_run.specs.Run.{IsRun}
 use Rattle.fr_run.specs.States.{state_of, line_of, IsInLine, IsChosenEpoch}
 use Rattle.fr_run.specs.StateLaws.{IsConfig}
-use Rattle.fr_run_versions.specs.Numbers.{top_at}
-use Rattle.fr_run_versions.specs.Bounds.{IsBelow}
-use Rattle.fr_run_versions.proofs.Ends.{always_chained}
-use Rattle.fr_run_versions.proofs.Known.{log_known_below}
-use Rattle.fr_run_versions.proofs.Logs.{durable_below, logs_are_own}
-use Rattle.fr_run_contents.specs.Issued.{part}
-use Rattle.fr_run_contents.specs.Contents.{record_of_commit, part_records, IsTrueTell}
+use Rattle.fr_run_headline.specs.Numbers.{top_at}
+use Rattle.fr_run_headline.specs.Bounds.{IsBelow}
+use Rattle.fr_run_headline.proofs.Ends.{always_chained}
+use Rattle.fr_run_headline.proofs.Known.{log_known_below}
+use Rattle.fr_run_headline.proofs.Logs.{durable_below, logs_are_own}
+use Rattle.fr_run_headline.specs.Issued.{part}
+use Rattle.fr_run_headline.specs.Contents.{record_of_commit, part_records, IsTrueTell}
 use Rattle.fr_run_headline.specs.Agreement.{pieces_at}
 use Rattle.fr_run_headline.specs.Storages.{IsSafeFloor, IsStorageOf}
 use Rattle.fr_run_headline.specs.Laws.{Laws}
@@ -40,7 +40,7 @@ use Rattle.fr_run.proofs.Chosen.{chosen_is_planned}
 use Rattle.fr_run.proofs.Lines.{chosen_are_chain, states_are_views, dropped_rises}
 use Rattle.fr_run_headline.proofs.Agreement.{parts_are_pieces, parts_agree, planned_epoch}
 use Rattle.fr_run_headline.proofs.Floors.{seed_is_numbered, cut_is_seeded, floor_in_view, floor_in_front, floor_lower, below_lower}
-use Rattle.fr_run_contents.proofs.Lists.{planned_list}
+use Rattle.fr_run_headline.proofs.Lists.{planned_list}
 use Rattle.fr_run_headline.proofs.Visible.{any_front}
 
 -- ---- a state

@@ -22,12 +22,12 @@ use Rattle.fr_run.specs.Run.{IsRun}
 use Rattle.fr_run.specs.States.{state_of, line_of, IsInLine, IsChosenEpoch}
 use Rattle.fr_run.specs.StateLaws.{IsConfig}
 use Rattle.fr_run.proofs.Cells.{Contains-here, Contains-later, Contains-none, Contains-cases}
-use Rattle.fr_run_versions.specs.Numbers.{Numbering, numbers}
-use Rattle.fr_run_versions.specs.Bounds.{IsBelow}
-use Rattle.fr_run_contents.specs.Issued.{Entry, entry_of, entries, issued_of, issued}
-use Rattle.fr_run_contents.specs.Contents.{IsTrueTell}
-use Rattle.fr_run_contents.proofs.Versions.{through}
-use Rattle.fr_run_contents.proofs.IssuedLists.{version_of}
+use Rattle.fr_run_headline.specs.Numbers.{Numbering, numbers}
+use Rattle.fr_run_headline.specs.Bounds.{IsBelow}
+use Rattle.fr_run_headline.specs.Issued.{Entry, entry_of, entries, issued_of, issued}
+use Rattle.fr_run_headline.specs.Contents.{IsTrueTell}
+use Rattle.fr_run_headline.proofs.VersionLists.{through}
+use Rattle.fr_run_headline.proofs.IssuedLists.{version_of}
 use Rattle.fr_run_headline.specs.Agreement.{pieces_at}
 use Rattle.fr_run_headline.specs.Storages.{IsSafeFloor, IsStorageOf}
 use Rattle.fr_run_headline.specs.Laws.{Laws}

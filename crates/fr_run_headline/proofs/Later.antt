@@ -11,16 +11,16 @@ use Rattle.fr_run.specs.Batches.{batch_at}
 use Rattle.fr_run.specs.States.{IsChosenEpoch}
 use Rattle.fr_run.specs.StateLaws.{IsConfig}
 use Rattle.fr_run.proofs.Growth.{generation_stays}
-use Rattle.fr_run_versions.specs.Numbers.{Numbering, numbers, top_at}
-use Rattle.fr_run_versions.specs.Bounds.{IsBelow}
-use Rattle.fr_run_versions.proofs.Acks.{below_later}
-use Rattle.fr_run_versions.proofs.Numbers.{numbers_stay}
-use Rattle.fr_run_versions.proofs.Proxies.{batch_stays}
-use Rattle.fr_run_contents.specs.Issued.{issued}
-use Rattle.fr_run_contents.proofs.Versions.{through}
-use Rattle.fr_run_contents.proofs.IssuedLists.{version_of}
-use Rattle.fr_run_contents.proofs.Parts.{issued_lasts}
-use Rattle.fr_run_contents.proofs.Stays.{top_rises}
+use Rattle.fr_run_headline.specs.Numbers.{Numbering, numbers, top_at}
+use Rattle.fr_run_headline.specs.Bounds.{IsBelow}
+use Rattle.fr_run_headline.proofs.Acks.{below_later}
+use Rattle.fr_run_headline.proofs.Numbers.{numbers_stay}
+use Rattle.fr_run_headline.proofs.Proxies.{batch_stays}
+use Rattle.fr_run_headline.specs.Issued.{issued}
+use Rattle.fr_run_headline.proofs.VersionLists.{through}
+use Rattle.fr_run_headline.proofs.IssuedLists.{version_of}
+use Rattle.fr_run_headline.proofs.Parts.{issued_lasts}
+use Rattle.fr_run_headline.proofs.Stays.{top_rises}
 use Rattle.fr_run_headline.specs.Committed.{IsAcknowledgedBatch}
 use Rattle.fr_run_headline.specs.Laws.{Laws}
 use Rattle.fr_run.proofs.Chosen.{chosen_lasts}

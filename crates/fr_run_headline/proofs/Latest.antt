@@ -20,13 +20,13 @@ use Rattle.fr_run.proofs.Cells.{Contains-here, Contains-later, Contains-none, Co
 use Rattle.fr_run.proofs.Chosen.{first_is_chosen, chosen_is_planned}
 use Rattle.fr_run.proofs.Growth.{rec_is}
 use Rattle.fr_run.proofs.Parents.{planned_by}
-use Rattle.fr_run_versions.specs.Numbers.{top_at}
-use Rattle.fr_run_versions.proofs.Seeds.{chosen_is_seeded}
-use Rattle.fr_run_contents.specs.Issued.{Entry, issued, least_durable, committed}
-use Rattle.fr_run_contents.specs.IssuedLaws.{VersionsRise}
-use Rattle.fr_run_contents.proofs.Versions.{RiseIn, rise_through}
-use Rattle.fr_run_contents.proofs.IssuedLists.{version_of}
-use Rattle.fr_run_contents.proofs.Parts.{issued_rises}
+use Rattle.fr_run_headline.specs.Numbers.{top_at}
+use Rattle.fr_run_headline.proofs.Seeds.{chosen_is_seeded}
+use Rattle.fr_run_headline.specs.Issued.{Entry, issued, least_durable, committed}
+use Rattle.fr_run_headline.specs.IssuedLaws.{VersionsRise}
+use Rattle.fr_run_headline.proofs.VersionLists.{RiseIn, rise_through}
+use Rattle.fr_run_headline.proofs.IssuedLists.{version_of}
+use Rattle.fr_run_headline.proofs.Parts.{issued_rises}
 use Rattle.fr_run_headline.specs.Committed.{LatestIsThere, CommittedIsThere}
 use Rattle.fr_run_headline.specs.Laws.{Laws}
 use Rattle.fr_run_headline.proofs.Durables.{least_each}

@@ -14,14 +14,14 @@ use Rattle.fr_run.specs.Run.{IsRun}
 use Rattle.fr_run.specs.States.{state_of, line_of}
 use Rattle.fr_run.specs.StateLaws.{IsConfig}
 use Rattle.fr_run.proofs.Chosen.{open_is_chosen}
-use Rattle.fr_run_versions.specs.Bounds.{IsBelow, IsMarkOf}
-use Rattle.fr_run_versions.specs.Logs.{IsOfEpoch}
-use Rattle.fr_run_versions.proofs.Acks.{acknowledged_is_safe}
-use Rattle.fr_run_versions.proofs.Known.{log_known_below}
-use Rattle.fr_run_versions.proofs.Logs.{logs_are_own}
-use Rattle.fr_run_versions.proofs.Marks.{logs_are_marked}
-use Rattle.fr_run_versions.proofs.Replies.{below_is_recovered}
-use Rattle.fr_run_contents.proofs.Lists.{planned_list}
+use Rattle.fr_run_headline.specs.Bounds.{IsBelow, IsMarkOf}
+use Rattle.fr_run_headline.specs.Logs.{IsOfEpoch}
+use Rattle.fr_run_headline.proofs.Acks.{acknowledged_is_safe}
+use Rattle.fr_run_headline.proofs.Known.{log_known_below}
+use Rattle.fr_run_headline.proofs.Logs.{logs_are_own}
+use Rattle.fr_run_headline.proofs.Marks.{logs_are_marked}
+use Rattle.fr_run_headline.proofs.Replies.{below_is_recovered}
+use Rattle.fr_run_headline.proofs.Lists.{planned_list}
 use Rattle.fr_run_headline.specs.Storages.{IsSafeFloor}
 use Rattle.fr_run_headline.specs.Order.{IsNeverCut, KnownIsNeverCut, AcknowledgedIsNeverCut, FloorIsNeverCut, FloorIsTakenOver, HeldIsChosen}
 use Rattle.fr_run_headline.specs.Laws.{Laws}

@@ -8,10 +8,10 @@ use Rattle.fr_state.specs.Generations.{LogGeneration, last_of}
 use Rattle.fr_run.specs.Config.{Config}
 use Rattle.fr_run.specs.Turn.{Turn}
 use Rattle.fr_run.proofs.Cells.{Contains-here, Contains-later, Contains-none, Contains-cases}
-use Rattle.fr_run_versions.specs.Numbers.{Numbering, numbers}
-use Rattle.fr_run_contents.specs.Issued.{Entry, entry_of, entries, issued_of}
-use Rattle.fr_run_contents.proofs.Versions.{through}
-use Rattle.fr_run_contents.proofs.IssuedLists.{version_of}
+use Rattle.fr_run_headline.specs.Numbers.{Numbering, numbers}
+use Rattle.fr_run_headline.specs.Issued.{Entry, entry_of, entries, issued_of}
+use Rattle.fr_run_headline.proofs.VersionLists.{through}
+use Rattle.fr_run_headline.proofs.IssuedLists.{version_of}
 
 -- ---- lists
 

@@ -17,7 +17,7 @@ use Rattle.fr_epoch.specs.Recoverer.{RecState, new_recoverer}
 use Rattle.fr_run.specs.Turn.{Turn, Begun, CellTurn, LogTurn, RecHeard, asks_of}
 use Rattle.fr_run.specs.Nodes.{rec_at}
 use Rattle.fr_run.specs.Run.{IsTurn, IsRun}
-use Rattle.fr_run_contents.specs.Issued.{committed}
+use Rattle.fr_run_headline.specs.Issued.{committed}
 use Rattle.fr_run_headline.specs.Committed.{commit_at}
 use Rattle.fr_run_headline.specs.Example.{SurvivesTwoRecoveries}
 use Rattle.fr_run_headline.proofs.Example.{c, kept, later, none_gone, at, h28, is_run28}

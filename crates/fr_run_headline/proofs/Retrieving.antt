@@ -12,7 +12,7 @@ use Rattle.fr_state.specs.Generations.{LogGeneration, IsGeneration, IsCoordinate
 use Rattle.fr_state.specs.LookUp.{next_of, end_of, cut_of, source_of}
 use Rattle.fr_tags.specs.Placement.{is_held, log_count}
 use Rattle.fr_log.specs.Seed.{SeedContent}
-use Rattle.fr_log.specs.Popped.{popped_at}
+use Rattle.fr_log.specs.Left.{popped_at}
 use Rattle.fr_log.specs.LogState.{LogState, durable_of, records_of, swept}
 use Rattle.fr_epoch.specs.EndTally.{pev_of}
 use Rattle.fr_epoch.specs.Recoverer.{RecState, Parent, Plan}
@@ -29,22 +29,22 @@ use Rattle.fr_run.proofs.Cells.{Contains-here, Contains-later, Contains-none, Co
 use Rattle.fr_run.proofs.Chosen.{first_is_chosen, chosen_is_planned}
 use Rattle.fr_run.proofs.Lines.{parent_is, plan_line, chosen_are_chain, states_are_views, lines_within}
 use Rattle.fr_run.proofs.States.{last_more, state_is}
-use Rattle.fr_run_versions.specs.Bounds.{HasReached, AllReach, IsSeedAt}
-use Rattle.fr_run_versions.specs.LogLaws.{tally, StandsAt}
-use Rattle.fr_run_versions.specs.SeededLaws.{IsSeededEpoch}
+use Rattle.fr_run_headline.specs.Bounds.{HasReached, AllReach, IsSeedAt}
+use Rattle.fr_run_headline.specs.LogLaws.{tally, StandsAt}
+use Rattle.fr_run_headline.specs.SeededLaws.{IsSeededEpoch}
 use Rattle.fr_run.proofs.Parents.{planned_by}
-use Rattle.fr_run_versions.proofs.Behind.{front_is_state, behind_is_seeded}
-use Rattle.fr_run_versions.proofs.Ends.{end_is_of_replies}
-use Rattle.fr_run_versions.proofs.Known.{logs_know}
-use Rattle.fr_run_versions.proofs.Locks.{replies_stand_still}
-use Rattle.fr_run_versions.proofs.Named.{IsNamed, log_named}
-use Rattle.fr_run_versions.proofs.Orders.{below_is_durable, known_fold, known_is_durable}
-use Rattle.fr_run_contents.specs.Issued.{issued, least_durable}
-use Rattle.fr_run_contents.specs.Contents.{HasLeft, part_records}
-use Rattle.fr_run_contents.proofs.Lists.{HasList, planned_list}
-use Rattle.fr_run_contents.proofs.PartLists.{part_of, part_above, part_through, part_same}
-use Rattle.fr_run_contents.proofs.PeekLists.{record_of, kept_records}
-use Rattle.fr_run_contents.proofs.Truths.{logs_have_left}
+use Rattle.fr_run_headline.proofs.Behind.{front_is_state, behind_is_seeded}
+use Rattle.fr_run_headline.proofs.Ends.{end_is_of_replies}
+use Rattle.fr_run_headline.proofs.Known.{logs_know}
+use Rattle.fr_run_headline.proofs.Locks.{replies_stand_still}
+use Rattle.fr_run_headline.proofs.Named.{IsNamed, log_named}
+use Rattle.fr_run_headline.proofs.Orders.{below_is_durable, known_fold, known_is_durable}
+use Rattle.fr_run_headline.specs.Issued.{issued, least_durable}
+use Rattle.fr_run_headline.specs.Contents.{HasLeft, part_records}
+use Rattle.fr_run_headline.proofs.Lists.{HasList, planned_list}
+use Rattle.fr_run_headline.proofs.PartLists.{part_of, part_above, part_through, part_same}
+use Rattle.fr_run_headline.proofs.PeekLists.{record_of, kept_records}
+use Rattle.fr_run_headline.proofs.Truths.{logs_have_left}
 use Rattle.fr_run_headline.specs.Retrievable.{lost_with, lost_after, lost_logs, records_at, IsRetrievable, CommittedIsRetrievable}
 use Rattle.fr_run_headline.specs.Laws.{Laws}
 use Rattle.fr_run_headline.proofs.Agreement.{split_at, front_issues}

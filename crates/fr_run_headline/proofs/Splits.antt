@@ -11,11 +11,11 @@ use Rattle.fr_run.specs.Run.{IsRun}
 use Rattle.fr_run.specs.States.{line_of, IsChosenEpoch}
 use Rattle.fr_run.specs.StateLaws.{IsConfig, IsFrontOf}
 use Rattle.fr_run.proofs.Cells.{Contains-here}
-use Rattle.fr_run_versions.specs.Bounds.{IsBelow}
-use Rattle.fr_run_contents.specs.Issued.{issued}
-use Rattle.fr_run_contents.proofs.Versions.{through}
-use Rattle.fr_run_contents.proofs.IssuedLists.{version_of}
-use Rattle.fr_run_contents.proofs.Lists.{HasList, planned_list}
+use Rattle.fr_run_headline.specs.Bounds.{IsBelow}
+use Rattle.fr_run_headline.specs.Issued.{issued}
+use Rattle.fr_run_headline.proofs.VersionLists.{through}
+use Rattle.fr_run_headline.proofs.IssuedLists.{version_of}
+use Rattle.fr_run_headline.proofs.Lists.{HasList, planned_list}
 use Rattle.fr_run_headline.specs.Laws.{Laws}
 use Rattle.fr_run.proofs.Chosen.{chosen_is_planned}
 use Rattle.fr_run.proofs.Lines.{chosen_are_chain}

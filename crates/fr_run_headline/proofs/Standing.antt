@@ -9,14 +9,14 @@ use Rattle.fr_run.specs.Nodes.{generation_at, storage_at}
 use Rattle.fr_run.specs.Run.{IsRun}
 use Rattle.fr_run.specs.States.{line_of, IsChosenEpoch, IsLatest}
 use Rattle.fr_run.specs.StateLaws.{IsConfig}
-use Rattle.fr_run_versions.specs.Numbers.{Numbering, numbers, top_at}
-use Rattle.fr_run_versions.specs.Bounds.{IsBelow}
-use Rattle.fr_run_versions.proofs.Acks.{acknowledged_is_safe}
-use Rattle.fr_run_contents.specs.Issued.{Entry, entry_of, entries, issued_of, issued, least_durable, committed}
-use Rattle.fr_run_contents.proofs.Versions.{through, between, through_on, through_twice}
-use Rattle.fr_run_contents.proofs.IssuedLists.{version_of}
-use Rattle.fr_run_contents.proofs.Lists.{planned_list}
-use Rattle.fr_run_contents.proofs.Parts.{issued_rises}
+use Rattle.fr_run_headline.specs.Numbers.{Numbering, numbers, top_at}
+use Rattle.fr_run_headline.specs.Bounds.{IsBelow}
+use Rattle.fr_run_headline.proofs.Acks.{acknowledged_is_safe}
+use Rattle.fr_run_headline.specs.Issued.{Entry, entry_of, entries, issued_of, issued, least_durable, committed}
+use Rattle.fr_run_headline.proofs.VersionLists.{through, between, through_on, through_twice}
+use Rattle.fr_run_headline.proofs.IssuedLists.{version_of}
+use Rattle.fr_run_headline.proofs.Lists.{planned_list}
+use Rattle.fr_run_headline.proofs.Parts.{issued_rises}
 use Rattle.fr_run_headline.specs.Committed.{IsAcknowledgedBatch, commit_at, Stands, IsNeverUndone, AcknowledgedIsNeverUndone, AcknowledgedIsCommitted, CommittedGrows}
 use Rattle.fr_run_headline.specs.Headline.{Headline}
 use Rattle.fr_run_headline.specs.Laws.{Laws}

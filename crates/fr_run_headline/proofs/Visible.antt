@@ -5,7 +5,7 @@ use Rattle.std.specs.List.{list_any}
 use Rattle.std.proofs.lemmas.Bool.{eqb-true, ltb-true, ltb-false}
 use Rattle.fr_state.specs.Generations.{LogGeneration, CoordinatedState}
 use Rattle.fr_log.specs.declared.popped.PoppedTag.{PoppedTag}
-use Rattle.fr_log.specs.Popped.{popped_of}
+use Rattle.fr_log.specs.Left.{popped_of}
 use Rattle.fr_epoch.specs.Recoverer.{RecState, Plan}
 use Rattle.fr_storage.specs.Storage.{StorageState, own_epoch}
 use Rattle.fr_storage.specs.Course.{LeavesOne}
@@ -19,9 +19,9 @@ use Rattle.fr_run.specs.LineLaws.{IsView}
 use Rattle.fr_run.proofs.Cells.{Contains-here, Contains-later}
 use Rattle.fr_run.proofs.Chosen.{chosen_is_planned, state_planned, generation_planned}
 use Rattle.fr_run.proofs.Lines.{HasLine, along, states_are_views}
-use Rattle.fr_run_versions.specs.ShownLaws.{IsDroppedBy}
-use Rattle.fr_run_versions.proofs.Shown.{drops_are_popped}
-use Rattle.fr_run_versions.proofs.Behind.{front_is_state}
+use Rattle.fr_run_headline.specs.ShownLaws.{IsDroppedBy}
+use Rattle.fr_run_headline.proofs.Shown.{drops_are_popped}
+use Rattle.fr_run_headline.proofs.Behind.{front_is_state}
 use Rattle.fr_run_headline.specs.Laws.{Laws}
 use Rattle.fr_run_headline.specs.Storages.{IsStorageOf}
 use Rattle.fr_run_headline.specs.LetGo.{IsPoppedBy, IsVisibleSafe}

@@ -9,7 +9,7 @@ use Rattle.fr_run.specs.Nodes.{generation_at}
 use Rattle.fr_run.specs.Run.{IsRun}
 use Rattle.fr_run.specs.States.{state_of, line_of}
 use Rattle.fr_run.specs.StateLaws.{IsConfig}
-use Rattle.fr_run_contents.specs.Issued.{part}
+use Rattle.fr_run_headline.specs.Issued.{part}
 
 -- what the epochs of a run have for a tag
 abbrev pub pieces_at : Config → List Turn → ℕ → Pieces

@@ -8,7 +8,7 @@ use Rattle.fr_run.specs.Turn.{Turn, Gone}
 use Rattle.fr_run.specs.Nodes.{is_open, logs_at}
 use Rattle.fr_run.specs.Run.{IsRun}
 use Rattle.fr_run.specs.StateLaws.{IsConfig}
-use Rattle.fr_run_contents.specs.Issued.{committed}
+use Rattle.fr_run_headline.specs.Issued.{committed}
 use Rattle.fr_run_headline.specs.Committed.{HasRolledBack, applied_at, IsAcknowledgedBatch, commit_at}
 
 -- a run of a generation of two logs. A batch was acknowledged at version 2. Storage server 0 had applied version 3 too,

@@ -6,7 +6,7 @@ use Rattle.fr_state.specs.Laws.{NextTells, SourceIsNone, DropKeepsSource}
 use Rattle.fr_log.specs.Law.{NotRemovedAbove}
 use Rattle.fr_storage.specs.Law.{PeekedKeepsState, MarkedKeepsTag, MarkedRefused, PeekedRefused, MarkedFollows, PeekedFollows, MarkedBreaks, PeekedBreaks, FirstFollows, FollowsOn}
 use Rattle.fr_storage.specs.Laws as storage
-use Rattle.fr_run_contents.specs.Laws as contents
+use Rattle.fr_run_headline.specs.ContentsLaws as contents
 
 pub record Laws : Type 0 where
   pub contents : contents.Laws

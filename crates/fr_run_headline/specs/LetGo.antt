@@ -5,7 +5,7 @@ use Rattle.fr_log.specs.declared.popped.PoppedTag.{PoppedTag}
 use Rattle.fr_log.specs.declared.ask.LogAsk.TheVariants.{Peek}
 use Rattle.fr_log.specs.declared.ask.LogTell.TheVariants.{Refused}
 use Rattle.fr_log.specs.declared.ask.LogRefusal.TheVariants.{Removed}
-use Rattle.fr_log.specs.Popped.{popped_at}
+use Rattle.fr_log.specs.Left.{popped_at}
 use Rattle.fr_log.specs.Step.{answer_of}
 use Rattle.fr_epoch.specs.declared.reply.Reply.{Reply}
 use Rattle.fr_epoch.specs.Recoverer.{RecState, Parent, Plan}
@@ -16,7 +16,7 @@ use Rattle.fr_run.specs.Nodes.{rec_at, generation_at, logs_at, log_at, storage_a
 use Rattle.fr_run.specs.Run.{IsRun}
 use Rattle.fr_run.specs.States.{state_of, line_of, IsInLine}
 use Rattle.fr_run.specs.StateLaws.{IsConfig}
-use Rattle.fr_run_versions.specs.LogLaws.{tally}
+use Rattle.fr_run_headline.specs.LogLaws.{tally}
 
 -- a tag that is popped in an epoch has a storage server whose floor is not below, and in whose epoch's line the epoch is
 pub record IsPoppedBy (c : Config) (h : List Turn) (e : ℕ) (x : PoppedTag) : Type 0 where

@@ -14,7 +14,7 @@ use Rattle.fr_run.specs.Run.{IsRun}
 use Rattle.fr_run.specs.Batches.{IsAcknowledged}
 use Rattle.fr_run.specs.States.{state_of, line_of, IsChosenEpoch}
 use Rattle.fr_run.specs.StateLaws.{IsConfig}
-use Rattle.fr_run_versions.specs.BehindLaws.{IsTakenOver}
+use Rattle.fr_run_headline.specs.BehindLaws.{IsTakenOver}
 
 -- a version of an epoch is not above the cut of the epoch in the line of any epoch that is planned: no recovery that goes on from the epoch takes over less
 abbrev pub IsNeverCut : Config → List Turn → ℕ → ℕ → Type 0

@@ -6,7 +6,7 @@ use Rattle.fr_state.specs.Generations.{LogGeneration}
 use Rattle.fr_state.specs.LookUp.{source_of}
 use Rattle.fr_tags.specs.Placement.{is_held, log_count}
 use Rattle.fr_log.specs.declared.records.PeekedRecord.{PeekedRecord}
-use Rattle.fr_log.specs.Popped.{popped_at}
+use Rattle.fr_log.specs.Left.{popped_at}
 use Rattle.fr_log.specs.LogState.{durable_of, records_of, swept}
 use Rattle.fr_run.specs.Config.{Config}
 use Rattle.fr_run.specs.Turn.{Turn, Begun, CellTurn, LogTurn, SeqTurn, Submitted, ProxyHeard, RecHeard, StorageHeard, Gone, Crashed}
@@ -14,8 +14,8 @@ use Rattle.fr_run.specs.Nodes.{logs_at, log_at, storage_at}
 use Rattle.fr_run.specs.Run.{IsRun}
 use Rattle.fr_run.specs.States.{state_of, IsLatest}
 use Rattle.fr_run.specs.StateLaws.{IsConfig}
-use Rattle.fr_run_contents.specs.Issued.{least_durable}
-use Rattle.fr_run_contents.specs.Contents.{part_records}
+use Rattle.fr_run_headline.specs.Issued.{least_durable}
+use Rattle.fr_run_headline.specs.Contents.{part_records}
 
 -- ---- lost logs
 

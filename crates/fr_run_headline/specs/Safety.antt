@@ -6,7 +6,7 @@ use Rattle.fr_log.specs.LogState.{known_of, durable_of}
 use Rattle.fr_log.specs.declared.ask.LogAsk.TheVariants.{Peek}
 use Rattle.fr_log.specs.declared.ask.LogTell.TheVariants.{Refused}
 use Rattle.fr_log.specs.declared.ask.LogRefusal.TheVariants.{Removed}
-use Rattle.fr_log.specs.Popped.{popped_at}
+use Rattle.fr_log.specs.Left.{popped_at}
 use Rattle.fr_log.specs.Step.{answer_of}
 use Rattle.fr_ask.specs.declared.tell.Tell.{Tell}
 use Rattle.fr_epoch.specs.EndTally.{is_covered, pev_of, rv_of}
@@ -23,10 +23,10 @@ use Rattle.fr_run.specs.Run.{IsRun}
 use Rattle.fr_run.specs.Batches.{IsAcknowledged}
 use Rattle.fr_run.specs.States.{state_of, IsChosenEpoch, IsLatest}
 use Rattle.fr_run.specs.StateLaws.{IsConfig}
-use Rattle.fr_run_versions.specs.LogLaws.{tally}
-use Rattle.fr_run_versions.specs.BehindLaws.{IsReplied, IsTakenOver}
-use Rattle.fr_run_contents.specs.Issued.{Entry, least_durable, committed}
-use Rattle.fr_run_contents.specs.Contents.{HasParts, HasLeft}
+use Rattle.fr_run_headline.specs.LogLaws.{tally}
+use Rattle.fr_run_headline.specs.BehindLaws.{IsReplied, IsTakenOver}
+use Rattle.fr_run_headline.specs.Issued.{Entry, least_durable, committed}
+use Rattle.fr_run_headline.specs.Contents.{HasParts, HasLeft}
 use Rattle.fr_run_headline.specs.Committed.{IsFollowing, RolledBackIsExact, HasCommitted, HasBatch, AcknowledgedIsNeverUndone}
 use Rattle.fr_run_headline.specs.Order.{IsNeverCut}
 use Rattle.fr_run_headline.specs.Retrievable.{AreFewLost, IsRetrievable}

@@ -13,8 +13,8 @@ use Rattle.fr_run.specs.Nodes.{storage_at}
 use Rattle.fr_run.specs.Run.{IsRun}
 use Rattle.fr_run.specs.States.{state_of, line_of, IsChosenEpoch}
 use Rattle.fr_run.specs.StateLaws.{IsConfig}
-use Rattle.fr_run_versions.specs.Numbers.{top_at}
-use Rattle.fr_run_versions.specs.Bounds.{IsBelow}
+use Rattle.fr_run_headline.specs.Numbers.{top_at}
+use Rattle.fr_run_headline.specs.Bounds.{IsBelow}
 use Rattle.fr_run_headline.specs.Agreement.{pieces_at}
 
 -- a floor that no recovery goes below: in some generation of the list it was known, so each log of that one has reached it, or it is below its first version

@@ -11,14 +11,14 @@ ghost use Rattle.fr_run_headline.specs.Retrievable.{CommittedIsRetrievable};
 ghost use Rattle.fr_run_headline.specs.Safety.{EachTurnGrows, EveryMomentIsSafe, StandingGrows};
 ghost use Rattle.fr_run_headline.specs.Storages.{EachHearIsTaken, HearsAreTaken, StoragesFollow};
 ghost use Rattle.fr_run_headline.specs.Laws.{Laws};
-ghost use Rattle.fr_run_contents.specs.Laws as contents;
+ghost use Rattle.fr_run_headline.specs.ContentsLaws as contents;
 ghost use Rattle.fr_undo.specs.Law.{InverseLaw};
 
+use crate::contents::contents_law;
+use crate::versions::{order_law as version_law, replied_law};
 use fr_log::laws::{letting_law, pop_law};
 use fr_mutation::{after_law, clip_law};
 use fr_run::laws::node_laws;
-use fr_run_contents::laws::contents_law;
-use fr_run_versions::laws::{order_law as version_law, replied_law};
 use fr_state::{cut_law, left_law, source_law};
 use fr_storage::{follow_law as hear_law, store_laws};
 use fr_tags::laws::{cover_law, shard_fold_law, split_law};

@@ -8,9 +8,9 @@ use Rattle.fr_run.specs.Nodes.{generation_at, mark_version, is_open}
 use Rattle.fr_run.specs.Run.{IsRun}
 use Rattle.fr_run.specs.Laws.{Laws}
 use Rattle.fr_run.proofs.Cells.{Contains-none, Contains-cases}
-use Rattle.fr_run_versions.specs.Numbers.{Numbering, numbers, requests_in, AreCounted}
-use Rattle.fr_run_versions.specs.BoundLaws.{NumbersAreCounted}
-use Rattle.fr_run_versions.proofs.Numbers.{closed}
+use Rattle.fr_run_headline.specs.Numbers.{Numbering, numbers, requests_in, AreCounted}
+use Rattle.fr_run_headline.specs.BoundLaws.{NumbersAreCounted}
+use Rattle.fr_run_headline.proofs.Numbers.{closed}
 use Rattle.fr_proxy.specs.Sequencer.{new_sequencer}
 use Rattle.fr_run_outcomes.specs.Once.{RequestHasOneNumber}
 

@@ -23,13 +23,13 @@ use Rattle.fr_run.proofs.Chosen.{first_is_chosen}
 use Rattle.fr_run.proofs.States.{recoverers_have_states}
 use Rattle.fr_run.proofs.Parents.{parent_from, parent_is_planned}
 use Rattle.fr_run.proofs.Register.{has_found}
-use Rattle.fr_run_versions.specs.Bounds.{IsSeedAt}
-use Rattle.fr_run_versions.specs.LogLaws.{tally, StandsAt}
-use Rattle.fr_run_versions.specs.SeededLaws.{IsSeededEpoch, ChosenIsSeeded, WritingIsSeeded}
-use Rattle.fr_run_versions.proofs.Ends.{none_cover}
-use Rattle.fr_run_versions.proofs.Known.{logs_know}
-use Rattle.fr_run_versions.proofs.Locks.{replies_stand_still}
-use Rattle.fr_run_versions.proofs.Orders.{low_least}
+use Rattle.fr_run_headline.specs.Bounds.{IsSeedAt}
+use Rattle.fr_run_headline.specs.LogLaws.{tally, StandsAt}
+use Rattle.fr_run_headline.specs.SeededLaws.{IsSeededEpoch, ChosenIsSeeded, WritingIsSeeded}
+use Rattle.fr_run_headline.proofs.Ends.{none_cover}
+use Rattle.fr_run_headline.proofs.Known.{logs_know}
+use Rattle.fr_run_headline.proofs.Locks.{replies_stand_still}
+use Rattle.fr_run_headline.proofs.Orders.{low_least}
 
 -- ---- lists
 

@@ -42,8 +42,8 @@ use Rattle.fr_run.proofs.ByTurn.{rec_by_turn}
 use Rattle.fr_run.proofs.Cells.{cells_have_history, first_within, written_is_state}
 use Rattle.fr_run.proofs.Register.{HasRead, has_found, reads_more, cell_told}
 use Rattle.fr_run.proofs.States.{first_is, recoverers_have_states}
-use Rattle.fr_run_versions.specs.LogLaws.{tally_in, tally}
-use Rattle.fr_run_versions.specs.SeededLaws.{ChosenIsSeeded, WritingIsSeeded}
+use Rattle.fr_run_headline.specs.LogLaws.{tally_in, tally}
+use Rattle.fr_run_headline.specs.SeededLaws.{ChosenIsSeeded, WritingIsSeeded}
 use Rattle.fr_run_headline.specs.Order.{NeverInconsistent}
 use Rattle.fr_run_outcomes.specs.Lost.{NoCellHasTwoValues, LostOnlySo}
 use Rattle.fr_run_outcomes.proofs.Later.{next_is_later}

@@ -23,15 +23,15 @@ use Rattle.fr_run.specs.StateLaws.{IsConfig}
 use Rattle.fr_run.specs.ChosenLaws.{ChosenIsPlanned}
 use Rattle.fr_run.specs.Laws.{Laws}
 use Rattle.fr_run.proofs.Cells.{Contains-here, Contains-later, Contains-none, Contains-cases}
-use Rattle.fr_run_versions.specs.Numbers.{Numbering, numbers, top_at}
-use Rattle.fr_run_versions.specs.Proxies.{IsNumberOf as IsNumberOfOpen, IsOpenOf}
-use Rattle.fr_run_versions.specs.BoundLaws.{ProxiesAreSound}
-use Rattle.fr_run_versions.proofs.Numbers.{numbers_stay}
-use Rattle.fr_run_versions.proofs.Proxies.{batch_stays}
-use Rattle.fr_run_contents.specs.Issued.{Entry, entry_of, entries, issued_of, issued, least_durable, committed}
-use Rattle.fr_run_contents.specs.IssuedLaws.{IssuedRises}
-use Rattle.fr_run_contents.proofs.Versions.{RiseIn, rise_through, through}
-use Rattle.fr_run_contents.proofs.IssuedLists.{version_of}
+use Rattle.fr_run_headline.specs.Numbers.{Numbering, numbers, top_at}
+use Rattle.fr_run_headline.specs.Proxies.{IsNumberOf as IsNumberOfOpen, IsOpenOf}
+use Rattle.fr_run_headline.specs.BoundLaws.{ProxiesAreSound}
+use Rattle.fr_run_headline.proofs.Numbers.{numbers_stay}
+use Rattle.fr_run_headline.proofs.Proxies.{batch_stays}
+use Rattle.fr_run_headline.specs.Issued.{Entry, entry_of, entries, issued_of, issued, least_durable, committed}
+use Rattle.fr_run_headline.specs.IssuedLaws.{IssuedRises}
+use Rattle.fr_run_headline.proofs.VersionLists.{RiseIn, rise_through, through}
+use Rattle.fr_run_headline.proofs.IssuedLists.{version_of}
 use Rattle.fr_run_headline.specs.Committed.{batch_under_way, IsAcknowledgedBatch, commit_at}
 use Rattle.fr_run_headline.specs.Headline.{Headline}
 use Rattle.fr_run_headline.proofs.Places.{through_keeps}

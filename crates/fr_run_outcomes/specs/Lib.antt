@@ -1,2 +1,15 @@
 pub mod Once
 pub mod Lost
+pub mod Pending
+pub mod Going
+pub mod Reading
+pub mod Locking
+pub mod Copying
+pub mod Writing
+pub mod Recovering
+pub mod Hearing
+pub mod Losses
+pub mod Snapshots
+pub mod Reads
+pub mod Serving
+pub mod Example

@@ -12,8 +12,8 @@ use Rattle.fr_run.specs.Run.{IsRun}
 use Rattle.fr_run.specs.Batches.{batch_at, IsAcknowledged}
 use Rattle.fr_run.specs.States.{IsLatest}
 use Rattle.fr_run.specs.StateLaws.{IsConfig}
-use Rattle.fr_run_versions.specs.Numbers.{Numbering, numbers}
-use Rattle.fr_run_contents.specs.Issued.{Entry, entry_of, committed}
+use Rattle.fr_run_headline.specs.Numbers.{Numbering, numbers}
+use Rattle.fr_run_headline.specs.Issued.{Entry, entry_of, committed}
 
 -- ---- requests
 

@@ -4,9 +4,9 @@ ghost use Rattle.fr_run_outcomes.specs.Once.{AcknowledgedIsAnswered, AnsweredExa
 ghost use Rattle.fr_run_outcomes.specs.Once.{CommittedWasSubmitted, RequestHasOneNumber};
 
 use fr_run::laws::{chosen_law, node_laws};
-use fr_run_contents::laws::issued_law;
+use fr_run_headline::contents::issued_law;
 use fr_run_headline::laws::{headline_law, order_law};
-use fr_run_versions::laws::{proxies_law, seeded_law};
+use fr_run_headline::versions::{proxies_law, seeded_law};
 use fr_state::extend_law;
 
 /// A batch that was submitted (a request of a proxy) has at most one number, and is at most once in the committed

@@ -17,12 +17,12 @@ use Rattle.fr_epoch.specs.Recoverer.{RecState, new_recoverer}
 use Rattle.fr_run.specs.Config.{Config}
 use Rattle.fr_run.specs.Nodes.{is_there, rec_at, storage_at}
 use Rattle.fr_run.specs.Turn.{Turn, Begun, actor_of}
-use Rattle.fr_run_event.specs.Step.{begun, is_used, crashed, delivered, heard_by, heard_by_rec, heard_by_storage, if_sent, if_takes, if_told, if_up, turn_of, whole}
-use Rattle.fr_run_event.specs.Tests.{is_gone, was_told}
-use Rattle.fr_run_event.specs.declared.event.Event.{Event}
-use Rattle.fr_run_event.specs.declared.event.Event.TheVariants as event
-use Rattle.fr_run_event.specs.declared.not_enabled.NotEnabled.{NotEnabled}
-use Rattle.fr_run_event.specs.declared.not_enabled.NotEnabled.TheVariants as not_enabled
+use Rattle.fr_run.specs.Step.{begun, is_used, crashed, delivered, heard_by, heard_by_rec, heard_by_storage, if_sent, if_takes, if_told, if_up, turn_of, whole}
+use Rattle.fr_run.specs.Tests.{is_gone, was_told}
+use Rattle.fr_run.specs.declared.event.Event.{Event}
+use Rattle.fr_run.specs.declared.event.Event.TheVariants as event
+use Rattle.fr_run.specs.declared.not_enabled.NotEnabled.{NotEnabled}
+use Rattle.fr_run.specs.declared.not_enabled.NotEnabled.TheVariants as not_enabled
 use Rattle.fr_proxy.specs.declared.fault.SubmitFault.{SubmitFault}
 use Rattle.fr_audit_journal.specs.Journal.{JournalState}
 use Rattle.fr_audit_journal.specs.Law.{MergedHasAll}

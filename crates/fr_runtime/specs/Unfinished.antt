@@ -1,12 +1,12 @@
 -- Why the threads of a cluster came to no journals, by the fault that stopped them: `Memory` is told as that.
 use Rattle.fr_base.specs.declared.node.NodeFault.{NodeFault}
-use Rattle.fr_base.specs.declared.node.NodeFault.TheVariants as node
 use Rattle.fr_undo.specs.declared.fault.StoreFault.{StoreFault}
 use Rattle.fr_undo.specs.declared.fault.StoreFault.TheVariants as store
 use Rattle.fr_storage.specs.declared.fault.StorageFault.{StorageFault}
 use Rattle.fr_storage.specs.declared.fault.StorageFault.TheVariants as storage
 use Rattle.fr_runtime.specs.declared.spawn.SpawnFault.{SpawnFault}
 use Rattle.fr_runtime.specs.declared.spawn.SpawnFault.TheVariants as spawn
+use Rattle.fr_runtime_threads.specs.NodeFaults as thread
 use Rattle.fr_runtime_threads.specs.declared.fault.TurnFault.{TurnFault}
 use Rattle.fr_runtime_threads.specs.declared.fault.TurnFault.TheVariants as turn
 use Rattle.fr_runtime.specs.declared.fault.Unfinished.{Unfinished}
@@ -17,13 +17,6 @@ use Rattle.fr_runtime.specs.declared.fault.RunFault.TheVariants as run
 abbrev pub of_spawn : SpawnFault → Unfinished
 of_spawn spawn.Memory = Memory
 of_spawn spawn.Thread = Thread
-
-abbrev pub of_node : NodeFault → Unfinished
-of_node node.Device = Rack
-of_node node.Full = Rack
-of_node node.Failed = Rack
-of_node node.Memory = Memory
-of_node node.Broken = Rack
 
 abbrev pub of_store : StoreFault → Unfinished
 of_store store.Device = Rack
@@ -38,6 +31,9 @@ abbrev pub of_turn : TurnFault → Unfinished
 of_turn turn.Memory = Memory
 of_turn turn.Store = Rack
 of_turn turn.Log = Rack
+
+abbrev pub of_node : NodeFault → Unfinished
+of_node fault = of_turn (thread.of_node fault)
 
 abbrev pub of_storage : StorageFault → Unfinished
 of_storage storage.Older = Rack

@@ -17,7 +17,7 @@ use fr_audit_journal::Journal;
 use fr_audit_journal::laws::merge_law;
 use fr_base::{Ballot, Shape};
 use fr_proxy::Outcome;
-use fr_run_event::Config;
+use fr_run::Config;
 use fr_runtime_station::Faults;
 use fr_runtime_threads::{Rack, Site, Workload};
 use std::alloc::Global;

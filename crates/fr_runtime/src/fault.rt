@@ -85,13 +85,7 @@ impl From<NodeFault> for Unfinished {
     ghost from_gives = { λ fault made. made ≡ of_node fault };
 
     fn from(fault: NodeFault) -> Unfinished {
-        match fault {
-            NodeFault::Device => Unfinished::Rack,
-            NodeFault::Full => Unfinished::Rack,
-            NodeFault::Failed => Unfinished::Rack,
-            NodeFault::Memory => Unfinished::Memory,
-            NodeFault::Broken => Unfinished::Rack,
-        }
+        Unfinished::from(TurnFault::from(fault))
     }
 }
 
@@ -103,13 +97,11 @@ impl From<StoreFault> for Unfinished {
 
     fn from(fault: StoreFault) -> Unfinished {
         match fault {
-            StoreFault::Device => Unfinished::Rack,
-            StoreFault::Full => Unfinished::Rack,
-            StoreFault::Failed => Unfinished::Rack,
             StoreFault::Memory => Unfinished::Memory,
-            StoreFault::NotAfter => Unfinished::Rack,
-            StoreFault::BelowFloor => Unfinished::Rack,
-            StoreFault::AboveApplied => Unfinished::Rack,
+            StoreFault::Device | StoreFault::Full | StoreFault::Failed => Unfinished::Rack,
+            StoreFault::NotAfter | StoreFault::BelowFloor | StoreFault::AboveApplied => {
+                Unfinished::Rack
+            }
         }
     }
 }
@@ -123,8 +115,7 @@ impl From<TurnFault> for Unfinished {
     fn from(fault: TurnFault) -> Unfinished {
         match fault {
             TurnFault::Memory => Unfinished::Memory,
-            TurnFault::Store => Unfinished::Rack,
-            TurnFault::Log => Unfinished::Rack,
+            TurnFault::Store | TurnFault::Log => Unfinished::Rack,
         }
     }
 }
@@ -137,13 +128,13 @@ impl From<StorageFault> for Unfinished {
 
     fn from(fault: StorageFault) -> Unfinished {
         match fault {
-            StorageFault::Older => Unfinished::Rack,
-            StorageFault::Stranger => Unfinished::Rack,
-            StorageFault::BelowFloor => Unfinished::Rack,
-            StorageFault::NotMyGeneration => Unfinished::Rack,
-            StorageFault::Hole => Unfinished::Rack,
             StorageFault::Store(fault) => Unfinished::from(fault),
-            StorageFault::BadState => Unfinished::Rack,
+            StorageFault::Older | StorageFault::Stranger | StorageFault::BelowFloor => {
+                Unfinished::Rack
+            }
+            StorageFault::NotMyGeneration | StorageFault::Hole | StorageFault::BadState => {
+                Unfinished::Rack
+            }
         }
     }
 }

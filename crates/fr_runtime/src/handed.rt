@@ -5,7 +5,7 @@ ghost use Rattle.fr_runtime.specs.Handed.{HasStart, IsUnlike, are_of_one_each, h
 
 use fr_audit_journal::Journal;
 use fr_base::{NodeId, Tag};
-use fr_run_event::Config;
+use fr_run::Config;
 use fr_world_nodes::start::first_epoch;
 
 /// The first node of the start that has no journal among these, or the first node that has two. Each is looked for,

@@ -14,7 +14,7 @@ pub use cluster::{Cluster, Report};
 pub use fault::RunFault;
 pub use fr_audit::{AuditFault, World};
 pub use fr_audit_journal::Journal;
-pub use fr_run_event::Config;
+pub use fr_run::Config;
 pub use fr_runtime_station::{Blow, Chosen, Faults, NoFaults, Verdict};
 pub use fr_runtime_threads::{Order, PlainRack, Rack, Workload};
 pub use orders::Orders;

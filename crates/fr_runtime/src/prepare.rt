@@ -4,14 +4,14 @@ ghost use Rattle.fr_base.specs.declared.place.NodeId.TheVariants as node;
 ghost use Rattle.fr_runtime_station.specs.Named.{cells_named, logs_named};
 
 use crate::fault::Unfinished;
+use fr_audit_journal::Housed;
 use fr_base::{
     Ballot, Epoch, InMemory, LogId, Memory, Node, NodeFault, NodeId, Shape, Tag, Version,
 };
 use fr_log::{Log, LogAsk, Push, Seed};
 use fr_proxy::Sequencer;
 use fr_register::{Cell, CellAsk, CellValue};
-use fr_run_event::Config;
-use fr_runtime_housing::Housed;
+use fr_run::Config;
 use fr_runtime_station::{Directory, Station};
 use fr_runtime_threads::Rack;
 use fr_state::{CoordState, encode};

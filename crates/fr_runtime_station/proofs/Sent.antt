@@ -9,8 +9,8 @@ use Rattle.fr_ask.specs.declared.named.Named as named
 use Rattle.fr_base.proofs.node.InMemory.TheSendSync as in_memory
 use Rattle.fr_base.specs.declared.machine.Machine as machine
 use Rattle.fr_base.specs.declared.node.Node as node
-use Rattle.fr_runtime_housing.proofs.Sent.{housed-send}
-use Rattle.fr_runtime_housing.specs.contracts.housed.Housed as housed
+use Rattle.fr_audit_journal.proofs.Sent.{housed-send}
+use Rattle.fr_audit_journal.specs.contracts.housed.Housed as housed
 use Rattle.fr_log.proofs.ask.LogAsk.TheSendSync as log_ask
 use Rattle.fr_log.specs.contracts.log.step.LogMachine.TheImpl as log_machine
 use Rattle.fr_log.specs.declared.ask.LogAsk.{LogAsk}

@@ -21,10 +21,10 @@ use Rattle.fr_ask.specs.declared.sequencer.SeqAsk.{SeqAsk}
 use Rattle.fr_register.specs.Cell as cell
 use Rattle.fr_register.specs.CellState.{CellState}
 use Rattle.fr_register.specs.declared.ask.CellAsk.{CellAsk}
-use Rattle.fr_runtime_housing.specs.Housing.{Housing, Asks, Enters, Leaves, refusal_of}
-use Rattle.fr_runtime_housing.specs.Replays.{Steps, steps}
-use Rattle.fr_runtime_housing.specs.declared.fault.CallFault.{CallFault}
-use Rattle.fr_runtime_housing.specs.declared.fault.CallFault.TheVariants as call
+use Rattle.fr_audit_journal.specs.Housing.{Housing, Asks, IsStruck, Leaves, refusal_of}
+use Rattle.fr_audit_journal.specs.Replays.{Steps, steps}
+use Rattle.fr_audit_journal.specs.declared.call_fault.CallFault.{CallFault}
+use Rattle.fr_audit_journal.specs.declared.call_fault.CallFault.TheVariants as call
 use Rattle.fr_runtime_station.specs.Answering.{IsAnswer, answers, is_asked_of}
 use Rattle.fr_runtime_station.specs.declared.chosen.Chosen.{Chosen}
 use Rattle.fr_runtime_station.specs.declared.directory_fault.DirectoryFault.{DirectoryFault}
@@ -44,13 +44,6 @@ pub record WasAsked (N : Type 0) {S A : Type 0} (m : Steps S A) (stamp : ℕ) (f
   pub new : Housing N S A
   pub place : answers old.place ≡ true
   pub asked : IsAsked m old new stamp from a result
-
--- the same of a crash or a loss, which is entered as this act
-pub record IsStruck {N S A : Type 0} (by : Act) (m : Steps S A) (old new : Housing N S A) (stamp : ℕ) (result : Result ℕ CallFault) : Type 0 where
-  pub entered : IfOk result (λ at. Enters m old new stamp at by)
-  pub lost : (result ≡ Err call.Lost) ↔ (refusal_of old stamp ≡ Some call.Lost)
-  pub spent : (result ≡ Err call.StampsSpent) ↔ (refusal_of old stamp ≡ Some call.StampsSpent)
-  pub left : OnErr result (Leaves m old new)
 
 -- a node that answers asks was so when it crashed or was lost
 pub record WasStruck (N : Type 0) {S A : Type 0} (by : Act) (m : Steps S A) (stamp : ℕ) (result : Result ℕ CallFault) : Type 0 where

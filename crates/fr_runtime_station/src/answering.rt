@@ -1,14 +1,14 @@
 //! What lies under the lock of a station.
 ghost use Rattle.std.specs.Prelude.{◌≡◌, ◌<◌, IfErr, IfOk, true};
-ghost use Rattle.fr_runtime_housing.specs.Replays.{steps};
-ghost use Rattle.fr_runtime_housing.specs.Housing.{IsTrouble};
+ghost use Rattle.fr_audit_journal.specs.Replays.{steps};
+ghost use Rattle.fr_audit_journal.specs.Housing.{IsStruck, IsTrouble};
 ghost use Rattle.fr_runtime_station.specs.Answering.{IsToldBy, answers};
 ghost use Rattle.fr_audit_journal.specs.declared.act.Act.TheVariants as act;
-ghost use Rattle.fr_runtime_station.specs.Called.{IsAsked, IsStruck};
+ghost use Rattle.fr_runtime_station.specs.Called.{IsAsked};
 
 use fr_ask::Tell;
+use fr_audit_journal::{CallFault, Housable, Housed};
 use fr_base::{Machine, Node, NodeId, Stamp};
-use fr_runtime_housing::{CallFault, Housable, Housed};
 use std::alloc::Global;
 
 /// A cell, a log or a sequencer, with its journal.

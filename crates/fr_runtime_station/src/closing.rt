@@ -3,9 +3,8 @@ ghost use Rattle.std.specs.Prelude.{◌≡◌, ◌≤◌, ◌+◌, length, IfErr
 ghost use Rattle.fr_runtime_station.specs.Answering.{IsClosingTrouble, all_answer, answers};
 
 use crate::station::Station;
-use fr_audit_journal::Journal;
+use fr_audit_journal::{Housable, Journal};
 use fr_base::{Machine, Memory, Node, NodeFault};
-use fr_runtime_housing::Housable;
 use std::alloc::Global;
 
 /// Puts the closed journals of stations behind others: of each, or of those alone in which something was entered.
@@ -27,29 +26,23 @@ where
     ensures trouble { IfErr result (IsClosingTrouble N.CanMeet) }
 {
     for station in stations {
-        close(alloc, station, is_each, journals)?;
+        put_closed(journals, station.close(alloc)?, is_each)?;
     }
     Ok(())
 }
 
-/// The same of one station.
-pub(crate) fn close<N: Node>(
-    alloc: Global,
-    station: Station<N>,
-    is_each: bool,
+/// Puts a journal of a node that answers asks behind others, or drops it if nothing was entered and not each is put.
+pub(crate) fn put_closed(
     journals: &mut Vec<Journal>,
-) -> Result<(), NodeFault>
-where
-    N: Drop,
-    N::Plain: Housable,
-    <N::Plain as Machine>::Ask: Drop,
+    journal: Journal,
+    is_each: bool,
+) -> Result<(), Memory>
     requires before { all_answer journals.old.items ≡ true }
+    requires place { answers journal.node ≡ true }
     ensures answers { OnOk result (all_answer journals.new.items ≡ true) }
     ensures more { OnOk result (length journals.old.items ≤ length journals.new.items) }
     ensures each { is_each ≡ true → OnOk result (length journals.new.items ≡ length journals.old.items + 1) }
-    ensures trouble { IfErr result (IsClosingTrouble N.CanMeet) }
 {
-    let journal = station.into_inner().into_journal(alloc)?;
     if is_each || !journal.entries().is_empty() {
         put(journals, journal)?;
     }

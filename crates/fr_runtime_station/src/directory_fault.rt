@@ -1,5 +1,5 @@
 //! Why a node of a directory answers nothing.
-use fr_runtime_housing::CallFault;
+use fr_audit_journal::CallFault;
 
 /// Why a node that a directory is asked for answers nothing.
 #[derive(Clone, Copy, Debug, PartialEq, Eq)]

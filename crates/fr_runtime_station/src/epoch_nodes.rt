@@ -5,7 +5,7 @@ ghost use Rattle.fr_runtime_station.specs.Answering.{IsClosingTrouble, all_answe
 ghost use Rattle.fr_runtime_station.specs.Named.{logs_named};
 
 use crate::chosen::Chosen;
-use crate::closing::{close, close_all};
+use crate::closing::{close_all, put_closed};
 use crate::station::Station;
 use fr_audit_journal::Journal;
 use fr_base::{Epoch, InMemory, LogId, Memory, Node, NodeFault, Stamp};
@@ -170,7 +170,7 @@ impl<L: Node<Plain = Log> + Drop> EpochNodes<L> {
             close_all(alloc, logs.stations, false, journals)?;
         }
         if let Some(opened) = opened.into_inner() {
-            close(alloc, opened.sequencer, false, journals)?;
+            put_closed(journals, opened.sequencer.close(alloc)?, false)?;
         }
         Ok(())
     }

@@ -5,7 +5,7 @@ ghost use Rattle.fr_runtime_station.specs.Answering.{IsClosingTrouble, all_answe
 ghost use Rattle.fr_runtime_station.specs.Named.{logs_named};
 
 use crate::chosen::Chosen;
-use crate::closing::{close, close_all};
+use crate::closing::{close_all, put_closed};
 use crate::station::Station;
 use fr_audit_journal::Journal;
 use fr_base::{InMemory, Node, NodeFault};
@@ -88,7 +88,7 @@ impl<L: Node<Plain = Log> + Drop> FirstNodes<L> {
             ..
         } = self;
         close_all(alloc, logs, true, journals)?;
-        close(alloc, sequencer, true, journals)?;
+        put_closed(journals, sequencer.close(alloc)?, true)?;
         Ok(())
     }
 }

@@ -1,17 +1,17 @@
 //! A node with its journal, which threads share.
 ghost use Rattle.std.specs.Prelude.{◌≡◌, ◌<◌, IfErr, IfOk, true};
-ghost use Rattle.fr_runtime_housing.specs.Housing.{IsTrouble};
-ghost use Rattle.fr_runtime_housing.specs.Replays.{steps};
-ghost use Rattle.fr_runtime_station.specs.Answering.{IsToldBy, answers};
+ghost use Rattle.fr_audit_journal.specs.Housing.{IsTrouble};
+ghost use Rattle.fr_audit_journal.specs.Replays.{steps};
+ghost use Rattle.fr_runtime_station.specs.Answering.{IsClosingTrouble, IsToldBy, answers};
 ghost use Rattle.fr_audit_journal.specs.declared.act.Act.TheVariants as act;
 ghost use Rattle.fr_runtime_station.specs.Called.{WasAsked, WasStruck};
 
 use crate::answering::Answering;
 use crate::held::HeldVersions;
 use fr_ask::Tell;
-use fr_base::{Machine, Node, NodeId, Stamp, Version};
+use fr_audit_journal::{CallFault, Housable, Housed, Journal};
+use fr_base::{Machine, Node, NodeFault, NodeId, Stamp, Version};
 use fr_log::LogTell;
-use fr_runtime_housing::{CallFault, Housable, Housed};
 use std::alloc::Global;
 use std::sync::{Mutex, Wait};
 
@@ -113,6 +113,16 @@ where
     /// Nobody is to wait for the node any more.
     pub(crate) fn let_go(&self) {
         self.held.let_go();
+    }
+
+    /// The journal of the node, closed with its state.
+    pub(crate) fn close(self, alloc: Global) -> Result<Journal, NodeFault>
+    where
+        N: Drop,
+        ensures place { IfOk result (λ journal. answers journal.node ≡ true) }
+        ensures trouble { IfErr result (IsClosingTrouble N.CanMeet) }
+    {
+        self.into_inner().into_journal(alloc)
     }
 
     /// The node with its journal.

@@ -1,2 +1,4 @@
 pub mod Draws
 pub mod Orders
+pub mod Refusal
+pub mod Frailty

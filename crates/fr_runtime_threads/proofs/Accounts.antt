@@ -6,7 +6,7 @@ use Rattle.fr_proxy.specs.declared.outcome.Outcome.{Outcome}
 use Rattle.fr_proxy.specs.declared.outcome.Outcome.TheVariants.{Waiting, Committed, Ended}
 use Rattle.fr_audit_journal.specs.declared.act.Entry.{Entry}
 use Rattle.fr_audit_journal.specs.Journal.{JournalState, last_from, last_stamp}
-use Rattle.fr_runtime_housing.specs.Housing.{last_number, number_or_zero}
+use Rattle.fr_audit_journal.specs.Housing.{last_number, number_or_zero}
 use Rattle.fr_runtime_threads.specs.declared.order.Order.{Order}
 use Rattle.fr_runtime_threads.specs.declared.order.UnderWay.{UnderWay}
 use Rattle.fr_runtime_threads.specs.declared.order.UnderWay.TheVariants.{Nothing, Open, Said}

@@ -2,4 +2,3 @@ pub mod Accounts
 mod Letters
 mod Rows
 pub mod Steps
-mod Told

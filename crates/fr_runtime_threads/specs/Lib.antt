@@ -4,4 +4,3 @@ pub mod Hears
 pub mod Late
 pub mod NodeFaults
 pub mod StoreFaults
-pub mod Told

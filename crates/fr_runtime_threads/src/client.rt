@@ -3,6 +3,7 @@ ghost use Rattle.std.specs.Prelude.{◌≡◌, ◌++◌, [], true, IfOk, OnOk};
 ghost use Rattle.fr_runtime_threads.specs.declared.order.UnderWay.{UnderWay};
 ghost use Rattle.fr_runtime_threads.specs.Account.{account, all_given, all_outcomes, are_proxies, is_proxy, left_over, said, waiting_for, waiting_if};
 
+use crate::Rack;
 use crate::door::{Door, send_all};
 use crate::fault::TurnFault;
 use crate::late::Late;
@@ -13,8 +14,7 @@ use crate::workload::Workload;
 use fr_audit_journal::Journal;
 use fr_base::Memory;
 use fr_proxy::Outcome;
-use fr_run_event::Config;
-use fr_runtime_rack::Rack;
+use fr_run::Config;
 use fr_runtime_station::{Chosen, Faults, first_stamp};
 use fr_state::Generation;
 use std::alloc::Global;

@@ -1,10 +1,10 @@
 //! The thread of crashes.
 ghost use Rattle.std.specs.Prelude.{◌<◌, IfOk, IfSome};
 
+use crate::Rack;
 use crate::fault::TurnFault;
 use crate::site::Site;
 use fr_base::{Memory, Stamp};
-use fr_runtime_rack::Rack;
 use fr_runtime_station::{Blow, Faults, first_stamp};
 use std::sync::Wait;
 use std::thread::yield_now;

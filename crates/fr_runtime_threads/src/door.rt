@@ -4,6 +4,7 @@ ghost use Rattle.fr_base.specs.declared.place.NodeId.{NodeId};
 ghost use Rattle.fr_runtime_threads.specs.declared.order.UnderWay.{UnderWay};
 ghost use Rattle.fr_runtime_threads.specs.Account.{account, after_saying, is_open_in, left_over, said};
 
+use crate::Rack;
 use crate::fault::TurnFault;
 use crate::late::Late;
 use crate::notes::Notes;
@@ -15,8 +16,7 @@ use fr_audit_journal::{Act, Journal};
 use fr_base::{Epoch, LogId, Memory, NodeId, Stamp, Version};
 use fr_log::{LogAsk, LogRefusal, LogTell};
 use fr_proxy::{Outcome, Proxy};
-use fr_run_event::{Config, last_of_proxy};
-use fr_runtime_rack::Rack;
+use fr_run::{Config, last_of_proxy};
 use fr_runtime_station::Faults;
 use fr_state::Generation;
 use std::alloc::Global;

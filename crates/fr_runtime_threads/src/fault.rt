@@ -20,17 +20,6 @@ pub enum TurnFault {
     Log,
 }
 
-impl From<NoMemory> for TurnFault {
-    ghost use Rattle.std.specs.Prelude.{◌≡◌};
-    ghost use Rattle.fr_runtime_threads.specs.declared.fault.TurnFault.TheVariants.{Memory};
-
-    ghost from_gives = { λ _ fault. fault ≡ Memory };
-
-    fn from(_: NoMemory) -> TurnFault {
-        TurnFault::Memory
-    }
-}
-
 impl From<NodeFault> for TurnFault {
     ghost use Rattle.std.specs.Prelude.{◌≡◌};
     ghost use Rattle.fr_runtime_threads.specs.NodeFaults.{of_node};
@@ -39,11 +28,10 @@ impl From<NodeFault> for TurnFault {
 
     fn from(fault: NodeFault) -> TurnFault {
         match fault {
-            NodeFault::Device => TurnFault::Log,
-            NodeFault::Full => TurnFault::Log,
-            NodeFault::Failed => TurnFault::Log,
             NodeFault::Memory => TurnFault::Memory,
-            NodeFault::Broken => TurnFault::Log,
+            NodeFault::Device | NodeFault::Full | NodeFault::Failed | NodeFault::Broken => {
+                TurnFault::Log
+            }
         }
     }
 }
@@ -53,12 +41,21 @@ pub(crate) fn fault_of(fault: StoreFault) -> TurnFault
     ensures { result ≡ of_store fault }
 {
     match fault {
-        StoreFault::Device => TurnFault::Store,
-        StoreFault::Full => TurnFault::Store,
-        StoreFault::Failed => TurnFault::Store,
         StoreFault::Memory => TurnFault::Memory,
-        StoreFault::NotAfter => TurnFault::Store,
-        StoreFault::BelowFloor => TurnFault::Store,
-        StoreFault::AboveApplied => TurnFault::Store,
+        StoreFault::Device | StoreFault::Full | StoreFault::Failed => TurnFault::Store,
+        StoreFault::NotAfter | StoreFault::BelowFloor | StoreFault::AboveApplied => {
+            TurnFault::Store
+        }
+    }
+}
+
+impl From<NoMemory> for TurnFault {
+    ghost use Rattle.std.specs.Prelude.{◌≡◌};
+    ghost use Rattle.fr_runtime_threads.specs.declared.fault.TurnFault.TheVariants.{Memory};
+
+    ghost from_gives = { λ _ fault. fault ≡ Memory };
+
+    fn from(_: NoMemory) -> TurnFault {
+        TurnFault::Memory
     }
 }

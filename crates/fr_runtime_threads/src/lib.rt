@@ -1,5 +1,6 @@
 //! What each thread of a cluster does, turn by turn: workloads hand batches to proxies, storage servers pull, recoverers
-//! begin and recover, and nodes crash.
+//! begin and recover, and nodes crash. The nodes and stores come from a rack: here is what each rack promises of them, and
+//! the one that has all in memory.
 #![tactic(auto)]
 
 mod client;
@@ -10,6 +11,7 @@ mod late;
 mod notes;
 mod order;
 mod pulling;
+mod rack;
 mod recovery;
 mod sending;
 mod site;
@@ -18,9 +20,9 @@ mod workload;
 pub use client::{Served, serve};
 pub use crashes::crash;
 pub use fault::TurnFault;
-pub use fr_runtime_rack::{PlainRack, Rack};
 pub use order::Order;
 pub use pulling::pull;
+pub use rack::{PlainRack, Rack};
 pub use recovery::recover;
 pub use site::Site;
 pub use workload::Workload;

@@ -1,7 +1,7 @@
 //! The journal of a node that one thread owns.
 ghost use Rattle.std.specs.Prelude.{◌≡◌, ◌≤◌, ◌<◌, ◌+◌, ◌^◌, ◌++◌, ◌∷◌, [], Some, IfOk, IfSome, IsSome, None, Ok};
 ghost use Rattle.fr_audit_journal.specs.Journal.{IsAbove};
-ghost use Rattle.fr_runtime_housing.specs.Housing.{last_number};
+ghost use Rattle.fr_audit_journal.specs.Housing.{last_number};
 ghost use Rattle.fr_runtime_threads.specs.Begins.{StartsWithBegun};
 
 use fr_ask::Last;

@@ -3,11 +3,10 @@ ghost use Rattle.std.specs.Prelude.{◌≡◌, ◌≤◌, ◌==◌, ◌+◌, ◌
 ghost use Rattle.fr_audit_journal.specs.Journal.{IsAbove};
 ghost use Rattle.fr_audit_journal.specs.declared.act.Act.{Act};
 ghost use Rattle.fr_base.specs.declared.place.NodeId.{NodeId};
-ghost use Rattle.fr_storage.specs.Taken.{IsPart};
-ghost use Rattle.fr_runtime_threads.specs.Told.{IsTold};
+ghost use Rattle.fr_run.specs.Told.{IsTold};
 ghost use Rattle.fr_storage.specs.Server.{storage_of};
-ghost use Rattle.fr_storage.specs.Storage.{after_peeked, peeked_calls, peeked_fault};
 
+use crate::Rack;
 use crate::fault::{TurnFault, fault_of};
 use crate::late::Late;
 use crate::notes::Notes;
@@ -15,13 +14,11 @@ use crate::sending::{Hearer, bring_late, send};
 use crate::site::Site;
 use fr_ask::{Ask, Last, Tell};
 use fr_audit_journal::{Act, Journal};
-use fr_base::{Epoch, NodeId, Stamp, Tag, Version};
-use fr_log::{LogAsk, LogTell, Peeked};
-use fr_run_event::last_of_storage;
-use fr_runtime_rack::Rack;
+use fr_base::{NodeId, Stamp, Version};
+use fr_log::LogAsk;
+use fr_run::{holder_at, last_of_storage, log_at, of_epoch, take_told};
 use fr_runtime_station::{Faults, first_stamp};
-use fr_state::Generation;
-use fr_storage::{Storage, StorageFault, take_marked, take_peeked};
+use fr_storage::{Storage, StorageFault, mark_ask};
 use fr_undo::ShardStore;
 use std::alloc::Global;
 use std::sync::Wait;
@@ -106,7 +103,7 @@ impl<S: ShardStore> Puller<S> {
         ensures works { self.old.storage.failed ≡ false → OnOk result (self.new.storage.failed ≡ false) }
     {
         let sender = from;
-        let taken = tell_storage(alloc, &mut self.storage, &sender, &tell)?;
+        let taken = unless_fault(take_told(alloc, &mut self.storage, &sender, &tell))?;
         let answer = taken;
         self.notes.enter(
             stamp,
@@ -119,48 +116,6 @@ impl<S: ShardStore> Puller<S> {
         );
         Ok(answer)
     }
-}
-
-/// Tells a storage server what a node told it: at which version the hear broke off, if a call of its store failed in
-/// it and a part of it is missing. What it refuses changes nothing. A store that cannot be opened again is a fault.
-fn tell_storage<S: ShardStore>(
-    alloc: Global,
-    storage: &mut Storage<S>,
-    from: &NodeId,
-    tell: &Tell,
-) -> Result<Option<Version>, TurnFault>
-    ensures tag { storage.new.tag ≡ storage.old.tag }
-    ensures told { storage.old.failed ≡ false → IfOk result (λ taken. IsTold (storage_of S.state storage.old) from.now tell.now taken
-        (storage_of S.state storage.new)) }
-    ensures works { storage.old.failed ≡ false → OnOk result (storage.new.failed ≡ false) }
-{
-    match (from, tell) {
-        (NodeId::Log { epoch, .. }, Tell::Log(LogTell::Peeked(peeked))) => {
-            unless_fault(peeked_by(alloc, storage, epoch, peeked))
-        }
-        (NodeId::Log { .. }, Tell::Log(LogTell::Marked { state })) => {
-            unless_fault(take_marked(alloc, storage, state))
-        }
-        _ => Ok(None),
-    }
-}
-
-/// Tells a storage server what a log of an epoch has of its tag, as [`take_peeked`] does.
-fn peeked_by<S: ShardStore>(
-    alloc: Global,
-    storage: &mut Storage<S>,
-    epoch: &Epoch,
-    peeked: &Peeked,
-) -> Result<Option<Version>, StorageFault>
-    ensures whole { storage.old.failed ≡ false → (result ≡ Ok None)
-        → storage_of S.state storage.new ≡ after_peeked (storage_of S.state storage.old) epoch.now peeked.now }
-    ensures part { storage.old.failed ≡ false → IfOk result (λ taken. IfSome taken (λ version. IsPart (storage_of S.state storage.old)
-        (peeked_fault (storage_of S.state storage.old) epoch.now peeked.now)
-        (peeked_calls (storage_of S.state storage.old) epoch.now peeked.now) version (storage_of S.state storage.new))) }
-    ensures works { storage.old.failed ≡ false → OnOk result (storage.new.failed ≡ false) }
-    ensures tag { storage.new.tag ≡ storage.old.tag }
-{
-    take_peeked(alloc, storage, *epoch, peeked)
 }
 
 /// What a storage server answers, if it is not a fault of its store.
@@ -183,35 +138,6 @@ fn last_said<S: ShardStore>(alloc: Global, storage: &mut Storage<S>) -> Result<L
     unless_fault(last_of_storage(alloc, storage))
 }
 
-/// The generation of an epoch among these.
-fn of_epoch(gens: &[Generation], epoch: Epoch) -> Option<Generation>
-    ensures { result ≡ find (λ g. g.epoch == epoch) gens.now }
-{
-    gens.iter().copied().find(|g| g.epoch() == epoch)
-}
-
-/// The log of a generation that is asked for a tag's records at a turn: one of those that hold the tag, the next one
-/// at each turn.
-fn holder_at(generation: Generation, tag: Tag, turn: u32) -> NodeId
-    ensures { result ≡ NodeId.Log generation.epoch ((tag + turn % generation.k) % generation.m) }
-{
-    let number = u64::from(tag.get()) + u64::from(turn % u32::from(generation.k()));
-    NodeId::Log {
-        epoch: generation.epoch(),
-        index: (number % u64::from(generation.m())) as u8,
-    }
-}
-
-/// The log of a generation that is asked for its mark at a turn: the next one at each turn.
-fn log_at(generation: Generation, turn: u32) -> NodeId
-    ensures { result ≡ NodeId.Log generation.epoch (turn % generation.m) }
-{
-    NodeId::Log {
-        epoch: generation.epoch(),
-        index: (turn % u32::from(generation.m())) as u8,
-    }
-}
-
 /// One turn: it pulls from a holder of its tag, asks a log of the newest epoch for its mark, and has a holder of its own
 /// epoch let go of what it has for good. A turn that brings nothing lets other threads go first.
 fn pull_once<K: Rack, F: Faults, R: Wait, S: ShardStore>(
@@ -231,17 +157,10 @@ fn pull_once<K: Rack, F: Faults, R: Wait, S: ShardStore>(
         send(site, puller, late, &to, &Ask::Log(ask))?;
     }
     let newest = site.directory.newest().generation;
-    let to = log_at(newest, turn);
-    let ask = LogAsk::MarkAsked {
-        epoch: newest.epoch(),
-    };
-    send(site, puller, late, &to, &Ask::Log(ask))?;
+    let to = log_at(newest.epoch(), newest.m(), turn);
+    send(site, puller, late, &to, &Ask::Log(mark_ask(newest.epoch())))?;
     let own = puller.storage.state().last();
-    let ask = LogAsk::Pop {
-        epoch: own.epoch(),
-        tag,
-        through: puller.storage.floor(),
-    };
+    let ask = puller.storage.pop_ask(own.epoch());
     let to = holder_at(own, tag, turn);
     send(site, puller, late, &to, &Ask::Log(ask))?;
     if puller.storage.position() == before {

@@ -2,12 +2,12 @@
 ghost use Rattle.std.specs.Prelude.{◌≡◌, ◌≤◌, IfOk, IfSome, OnOk};
 ghost use Rattle.fr_runtime_threads.specs.Hears.{HasHeard};
 
+use crate::Rack;
 use crate::fault::TurnFault;
 use crate::late::{Late, Letter, Message};
 use crate::site::Site;
 use fr_ask::{Ask, Tell};
 use fr_base::{Memory, NodeId, Stamp};
-use fr_runtime_rack::Rack;
 use fr_runtime_station::{Faults, Verdict};
 use std::alloc::Global;
 use std::sync::Wait;

@@ -1,6 +1,6 @@
 //! What the threads of a cluster share.
-use fr_run_event::Config;
-use fr_runtime_rack::Rack;
+use crate::Rack;
+use fr_run::Config;
 use fr_runtime_station::Directory;
 use std::alloc::Global;
 

@@ -10,10 +10,10 @@ use Rattle.sqlite.specs.Effect.{Database}
 use Rattle.fr_undo.specs.State.{StoreState, IsStoreState}
 use Rattle.fr_sql_rows.specs.Rows.{undo_in}
 use Rattle.fr_sql_rows.specs.Connection.{IsAtRest, IsLaidOut, Keeps, KeepsIfOpen}
-use Rattle.fr_sql_work.specs.declared.work.Work.{Work}
-use Rattle.fr_sql_work.specs.Work.{Does}
-use Rattle.fr_sql_work.specs.Calls.{Looks, IsDone, MayMake, MeetsAll}
-use Rattle.fr_sql_work.proofs.StepLemmas.{nothing_then}
+use Rattle.fr_sql_calls.specs.declared.work.Work.{Work}
+use Rattle.fr_sql_calls.specs.Work.{Does}
+use Rattle.fr_sql_calls.specs.WorkCalls.{Looks, IsDone, MayMake, MeetsAll}
+use Rattle.fr_sql_calls.proofs.StepLemmas.{nothing_then}
 use Rattle.fr_sql_calls.specs.Tables.{state_in, Stands}
 use Rattle.fr_sql_calls.specs.Calls.{LeadsTo, Makes, StandFor}
 

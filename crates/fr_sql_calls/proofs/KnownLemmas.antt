@@ -15,7 +15,7 @@ use Rattle.fr_undo.specs.Trees.{Contents}
 use Rattle.fr_undo.proofs.RowLemmas.{option_or_none}
 use Rattle.fr_undo.proofs.ChangeLemmas.{none_from_is_some}
 use Rattle.fr_sql_rows.specs.Rows.{value_in, contents_in}
-use Rattle.fr_sql_work.proofs.WorkLemmas.{get_contents}
+use Rattle.fr_sql_calls.proofs.WorkLemmas.{get_contents}
 use Rattle.fr_sql_calls.specs.Known.{LooksUp}
 
 some_first : {X : Type 0} (o p : Option X) → is_some o ≡ true → o ≡ option_or o p

@@ -23,10 +23,10 @@ use Rattle.fr_undo.proofs.RowLemmas.{option_or_none}
 use Rattle.fr_undo.proofs.UndoLemmas.{place_total, place_exact, same_state, same_value-itself, same_from_same_value, get-joined, get-rows, get-rows_above}
 use Rattle.fr_sql_rows.specs.Rows.{value_in, before_in, contents_in, undo_in, bytes_in, meta_row}
 use Rattle.fr_sql_rows.specs.Connection.{IsLaidOut}
-use Rattle.fr_sql_work.specs.declared.work.RowWork.TheVariants.{Keep, Note, DropThrough}
-use Rattle.fr_sql_work.specs.declared.work.MetaWork.TheVariants.{Versions, State}
-use Rattle.fr_sql_work.specs.Work.{KnowChanged, differs}
-use Rattle.fr_sql_work.proofs.WorkLemmas.{get_contents, get_undo}
+use Rattle.fr_sql_calls.specs.declared.work.RowWork.TheVariants.{Keep, Note, DropThrough}
+use Rattle.fr_sql_calls.specs.declared.work.MetaWork.TheVariants.{Versions, State}
+use Rattle.fr_sql_calls.specs.Work.{KnowChanged, differs}
+use Rattle.fr_sql_calls.proofs.WorkLemmas.{get_contents, get_undo}
 use Rattle.fr_sql_calls.specs.Known.{KnowsOf}
 use Rattle.fr_sql_calls.specs.Tables.{state_in, applied_in, floor_in}
 use Rattle.fr_sql_calls.specs.Calls.{LeadsTo}

@@ -7,7 +7,7 @@ use Rattle.fr_undo.specs.State.{IsStoreState}
 use Rattle.fr_undo.specs.Undo.{IsFirstAbove, least_row, value_undone}
 use Rattle.fr_undo.proofs.IndexLemmas.{first_least, same_first}
 use Rattle.fr_sql_rows.specs.Rows.{before_in, contents_in, undo_in}
-use Rattle.fr_sql_work.proofs.WorkLemmas.{get_undo}
+use Rattle.fr_sql_calls.proofs.WorkLemmas.{get_undo}
 use Rattle.fr_sql_calls.specs.Tables.{state_in}
 
 module _ (db : Database) (t : ℕ) (q : List ℕ) (sound : IsStoreState (state_in db.trees)) (within : t ≤ (state_in db.trees).applied) where

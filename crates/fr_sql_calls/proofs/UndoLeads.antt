@@ -20,10 +20,10 @@ use Rattle.fr_undo.proofs.RowLemmas.{least_row-by, least_by-same, least_by-none}
 use Rattle.fr_undo.proofs.UndoLemmas.{place_total, is_eq_second, get-contents_undone, get-rows_through}
 use Rattle.fr_sql_rows.specs.Rows.{value_in, before_in, contents_in, undo_in}
 use Rattle.fr_sql_rows.specs.Connection.{IsLaidOut}
-use Rattle.fr_sql_work.specs.declared.work.RowWork.TheVariants.{DropAbove}
-use Rattle.fr_sql_work.specs.declared.work.MetaWork.TheVariants.{Versions}
-use Rattle.fr_sql_work.specs.Work.{KnowChanged, differs}
-use Rattle.fr_sql_work.proofs.WorkLemmas.{get_contents, get_undo}
+use Rattle.fr_sql_calls.specs.declared.work.RowWork.TheVariants.{DropAbove}
+use Rattle.fr_sql_calls.specs.declared.work.MetaWork.TheVariants.{Versions}
+use Rattle.fr_sql_calls.specs.Work.{KnowChanged, differs}
+use Rattle.fr_sql_calls.proofs.WorkLemmas.{get_contents, get_undo}
 use Rattle.fr_sql_calls.specs.Known.{KnowsOf, has_row}
 use Rattle.fr_sql_calls.specs.Tables.{state_in, applied_in, floor_in}
 use Rattle.fr_sql_calls.specs.Calls.{LeadsTo}

@@ -9,9 +9,9 @@ use Rattle.fr_undo.specs.declared.fault.StoreFault.TheVariants.{Device}
 use Rattle.fr_undo.specs.Calls.{IsTrouble}
 use Rattle.fr_undo.specs.State.{StoreState}
 use Rattle.fr_sql_rows.specs.Connection.{IsAtRest, IsLaidOut, KeepsIfOpen}
-use Rattle.fr_sql_work.specs.declared.work.Work.{Work}
-use Rattle.fr_sql_work.specs.Work.{Does, Fits}
-use Rattle.fr_sql_work.specs.Calls.{MeetsAll}
+use Rattle.fr_sql_calls.specs.declared.work.Work.{Work}
+use Rattle.fr_sql_calls.specs.Work.{Does, Fits}
+use Rattle.fr_sql_calls.specs.WorkCalls.{MeetsAll}
 use Rattle.fr_sql_calls.specs.Tables.{state_in}
 
 -- the work knows the tables, and what it makes of them stands for a state

@@ -1,3 +1,5 @@
 pub mod Known
 pub mod Tables
 pub mod Calls
+pub mod WorkCalls
+pub mod Work

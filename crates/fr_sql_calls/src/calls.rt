@@ -9,20 +9,20 @@ ghost use Rattle.fr_mutation.specs.Shard.{part};
 ghost use Rattle.fr_sql_rows.specs.Told.{IsTold};
 ghost use Rattle.fr_sql_rows.specs.Rows.{contents_in, bytes_in};
 ghost use Rattle.fr_sql_rows.specs.Connection.{IsAtRest, IsLaidOut};
-ghost use Rattle.fr_sql_work.specs.Work.{Fits};
-ghost use Rattle.fr_sql_work.specs.Calls.{Looks};
+ghost use Rattle.fr_sql_calls.specs.Work.{Fits};
+ghost use Rattle.fr_sql_calls.specs.WorkCalls.{Looks};
 ghost use Rattle.fr_sql_calls.specs.Tables.{state_in, Stands};
 ghost use Rattle.fr_sql_calls.specs.Calls.{LeadsTo, Makes};
 
+use crate::connection::{
+    all, bytes as held_bytes, first_above, make, of_shard, value as held_value,
+};
 use crate::marks::Marks;
 use crate::plan::{plan_apply, plan_undo};
+use crate::work::{MetaWork, RowWork, Work};
 use fr_base::{Bytes, Version};
 use fr_mutation::{Batch, Shard};
 use fr_sql_rows::{Backing, Refusals, Trouble};
-use fr_sql_work::{
-    MetaWork, RowWork, Work, all, bytes as held_bytes, first_above, make, of_shard,
-    value as held_value,
-};
 use fr_undo::StoreFault;
 use sqlite::Connection;
 use std::alloc::Global;

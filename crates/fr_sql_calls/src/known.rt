@@ -9,13 +9,13 @@ ghost use Rattle.fr_mutation.specs.Mutation.{is_between, touches, touched};
 ghost use Rattle.fr_undo.specs.State.{Place, place_cmp};
 ghost use Rattle.fr_sql_rows.specs.Rows.{value_in, before_in};
 ghost use Rattle.fr_sql_rows.specs.Connection.{IsAtRest, IsLaidOut};
-ghost use Rattle.fr_sql_work.specs.Calls.{Looks};
+ghost use Rattle.fr_sql_calls.specs.WorkCalls.{Looks};
 ghost use Rattle.fr_sql_calls.specs.Known.{LooksUp, KnowsOf, has_row};
 
+use crate::connection::{above, between, value};
 use fr_base::{Bytes, Memory, Version};
 use fr_mutation::{Batch, Mutation};
 use fr_sql_rows::{Backing, Trouble};
-use fr_sql_work::{above, between, value};
 use sqlite::Connection;
 use std::alloc::Global;
 use std::collections::BTreeMap;

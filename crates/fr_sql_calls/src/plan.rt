@@ -2,16 +2,16 @@
 ghost use Rattle.std.specs.Prelude.{◌<◌, IfOk};
 ghost use Rattle.sqlite.specs.Held.{state};
 ghost use Rattle.fr_undo.specs.Undo.{extended, undone};
-ghost use Rattle.fr_sql_work.specs.Calls.{Looks};
+ghost use Rattle.fr_sql_calls.specs.WorkCalls.{Looks};
 ghost use Rattle.fr_sql_calls.specs.Tables.{state_in, Stands};
 ghost use Rattle.fr_sql_calls.specs.Calls.{LeadsTo};
 
 use crate::known::{held_at, held_by, rows_above};
 use crate::marks::Marks;
+use crate::work::{MetaWork, RowWork, Work};
 use fr_base::Version;
 use fr_mutation::Batch;
 use fr_sql_rows::{Backing, Trouble};
-use fr_sql_work::{MetaWork, RowWork, Work};
 use fr_undo::{changes_above, changes_of, untouched_law};
 use sqlite::Connection;
 use std::alloc::Global;

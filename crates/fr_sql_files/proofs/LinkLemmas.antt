@@ -6,7 +6,7 @@ use Rattle.fr_undo.specs.declared.fault.StoreFault.TheVariants.{Failed}
 use Rattle.fr_undo.specs.State.{StoreState, IsStoreState, fresh}
 use Rattle.fr_undo.specs.Calls.{IsTrouble, is_device, LeavesNoMore, LeftAsIs, Reads, WritesNothing, Writes}
 use Rattle.fr_undo.proofs.StateLemmas.{fresh_sound}
-use Rattle.fr_sql_work.specs.Calls.{MeetsAll}
+use Rattle.fr_sql_calls.specs.WorkCalls.{MeetsAll}
 use Rattle.fr_sql_store.specs.Tables.{Seen}
 use Rattle.fr_sql_store.specs.Tables as tables
 use Rattle.fr_sql_files.specs.Linked.{state_of, is_failed, MayLeave, IsLinkTold, IsParted, IsConnected, IsReopened}

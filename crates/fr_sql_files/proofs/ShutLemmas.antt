@@ -21,7 +21,7 @@ use Rattle.sqlite.specs.Files.{over_files}
 use Rattle.sqlite.specs.Steps.{IsFresh}
 use Rattle.fr_sql_rows.specs.Backing.{files_are_clean}
 use Rattle.fr_sql_rows.specs.Connection.{IsAtRest}
-use Rattle.fr_sql_open.proofs.OpenLemmas.{whole_open}
+use Rattle.fr_sql_rows.proofs.OpenLemmas.{whole_open}
 use Rattle.sqlite_store.specs.Listing.{file_trees}
 use Rattle.sqlite_store.specs.Saved.{schema_for}
 use Rattle.sqlite_store.specs.Unopened as unopened

@@ -5,7 +5,7 @@ use Rattle.fr_undo.specs.declared.fault.StoreFault.{StoreFault}
 use Rattle.fr_undo.specs.declared.fault.StoreFault.TheVariants.{Failed}
 use Rattle.fr_undo.specs.State.{StoreState, IsStoreState, fresh}
 use Rattle.fr_undo.specs.Calls.{IsTrouble, met_device, StaysUnlessFailed, LeavesNoMore, LeftAsIs}
-use Rattle.fr_sql_work.specs.Calls.{MeetsAll}
+use Rattle.fr_sql_calls.specs.WorkCalls.{MeetsAll}
 use Rattle.fr_sql_store.specs.Tables as tables
 use Rattle.fr_sql_store.specs.Tables.{Seen, StoreLeaves}
 use Rattle.fr_sql_files.specs.declared.shut.Shut.{Shut}

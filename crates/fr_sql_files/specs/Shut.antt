@@ -14,7 +14,7 @@ use Rattle.sqlite_wal.specs.Files.{outcomes}
 use Rattle.sqlite_wal.specs.Recovery.{Image}
 use Rattle.fr_undo.specs.State.{StoreState}
 use Rattle.fr_sql_rows.specs.Schema.{kv_text, undo_text, meta_text}
-use Rattle.fr_sql_open.specs.Schema.{by_bytes}
+use Rattle.fr_sql_rows.specs.OpenSchema.{by_bytes}
 use Rattle.fr_sql_store.specs.Tables.{state_in}
 
 -- a table, with the text that makes it

@@ -4,7 +4,7 @@ ghost use Rattle.fr_sql_store.specs.Tables.{StoreLeaves};
 ghost use Rattle.fr_sql_files.specs.Linked.{ShutLeaves, IsParted, IsConnected};
 
 use crate::tables::FileTables;
-use fr_sql_open::{find, open_over};
+use fr_sql_rows::{find, open_over};
 use fr_sql_store::SqlStore;
 use fr_undo::StoreFault;
 use std::alloc::Global;

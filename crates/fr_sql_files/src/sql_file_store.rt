@@ -2,7 +2,7 @@
 ghost use Rattle.std.specs.Prelude.{◌≡◌, ◌≢◌, ◌↔◌, [], false, Err, IfOk, IfErr, IsTrue};
 ghost use Rattle.fr_undo.specs.State.{StoreState, fresh};
 ghost use Rattle.fr_undo.specs.Calls.{IsTrouble};
-ghost use Rattle.fr_sql_work.specs.Calls.{MeetsAll};
+ghost use Rattle.fr_sql_calls.specs.WorkCalls.{MeetsAll};
 ghost use Rattle.fr_sql_store.specs.Files.{HoldStore};
 ghost use Rattle.fr_sql_store.specs.Opening.{IsOpenFault};
 

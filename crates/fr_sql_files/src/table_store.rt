@@ -4,7 +4,7 @@ ghost use Rattle.std.specs.FinMap as map;
 ghost use Rattle.fr_mutation.specs.Shard.{part};
 ghost use Rattle.fr_undo.specs.Undo.{extended, undone, value_undone, forgotten, advanced, with_bytes};
 ghost use Rattle.fr_undo.specs.Calls.{IsTrouble, LeavesNoMore, Reads, WritesNothing, Writes};
-ghost use Rattle.fr_sql_work.specs.Calls.{MeetsAll};
+ghost use Rattle.fr_sql_calls.specs.WorkCalls.{MeetsAll};
 ghost use Rattle.fr_sql_store.specs.Tables as tables;
 ghost use Rattle.fr_sql_files.specs.Linked.{IsParted, IsConnected, IsReopened, is_failed, MayLeave, shown_by, has_failed, Leaves, IsTold};
 

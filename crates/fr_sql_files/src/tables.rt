@@ -3,7 +3,7 @@ ghost use Rattle.std.specs.Prelude.{IfOk, IfErr};
 ghost use Rattle.sqlite.specs.Steps.{IsFresh};
 ghost use Rattle.fr_undo.specs.State.{StoreState};
 ghost use Rattle.fr_undo.specs.Calls.{IsTrouble, LeavesNoMore};
-ghost use Rattle.fr_sql_work.specs.Calls.{MeetsAll};
+ghost use Rattle.fr_sql_calls.specs.WorkCalls.{MeetsAll};
 ghost use Rattle.fr_sql_store.specs.Tables.{StoreLeaves};
 
 use crate::kept::Kept;

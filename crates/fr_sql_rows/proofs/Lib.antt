@@ -15,3 +15,10 @@ pub mod KvReads
 pub mod UndoFirst
 pub mod UndoReads
 pub mod TransactionLemmas
+pub mod ValueLemmas
+pub mod SingleLemmas
+pub mod ShapeLemmas
+pub mod OpenTexts
+pub mod ShownLemmas
+pub mod FoundLemmas
+pub mod OpenLemmas

@@ -4,3 +4,5 @@ pub mod Fault
 pub mod Rows
 pub mod Schema
 pub mod Told
+pub mod OpenSchema
+pub mod Found

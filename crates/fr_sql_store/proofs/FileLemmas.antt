@@ -15,12 +15,12 @@ use Rattle.fr_undo.specs.State.{StoreState}
 use Rattle.fr_undo.specs.declared.fault.StoreFault.{StoreFault}
 use Rattle.fr_undo.specs.declared.fault.StoreFault.TheVariants.{Failed}
 use Rattle.fr_undo.specs.Calls.{IsTrouble}
-use Rattle.fr_sql_work.specs.Calls.{MeetsAll}
+use Rattle.fr_sql_calls.specs.WorkCalls.{MeetsAll}
 use Rattle.fr_sql_rows.specs.Rows.{undo_in}
 use Rattle.fr_sql_rows.specs.Connection.{IsAtRest}
-use Rattle.fr_sql_work.proofs.WorkLemmas.{get_undo}
-use Rattle.fr_sql_work.proofs.CountLemmas.{undo_len}
-use Rattle.fr_sql_open.specs.Found.{IsFound}
+use Rattle.fr_sql_calls.proofs.WorkLemmas.{get_undo}
+use Rattle.fr_sql_calls.proofs.CountLemmas.{undo_len}
+use Rattle.fr_sql_rows.specs.Found.{IsFound}
 use Rattle.fr_sql_store.specs.Tables.{state_in, applied_in, floor_in, IsStore, shown, Seen, state_of, IsStoreOf}
 use Rattle.fr_sql_store.specs.Files.{HoldStore}
 

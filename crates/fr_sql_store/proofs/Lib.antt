@@ -3,3 +3,4 @@ pub mod StoreLemmas
 pub mod FileLemmas
 pub mod ReadLemmas
 pub mod EmptyLemmas
+pub mod RestartLemmas

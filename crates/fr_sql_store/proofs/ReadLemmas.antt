@@ -6,7 +6,7 @@ use Rattle.fr_undo.specs.declared.fault.StoreFault.{StoreFault}
 use Rattle.fr_undo.specs.State.{StoreState}
 use Rattle.fr_undo.specs.Calls.{met_device}
 use Rattle.fr_sql_rows.specs.Told.{Told}
-use Rattle.fr_sql_work.specs.Calls.{Looks}
+use Rattle.fr_sql_calls.specs.WorkCalls.{Looks}
 use Rattle.fr_sql_store.specs.Tables.{state_in, Seen, state_of, IsStoreOf}
 use Rattle.fr_sql_store.proofs.StoreLemmas.{Lawful, then_seen, ReadsOf, shows_tables, read_store, reads}
 

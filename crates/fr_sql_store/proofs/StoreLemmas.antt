@@ -15,7 +15,7 @@ use Rattle.fr_undo.specs.State.{place_cmp, StoreState, IsStoreState, fresh}
 use Rattle.fr_undo.specs.Calls.{IsTrouble, is_device, met_device, LeftAsIs, Reads, WritesNothing, Writes}
 use Rattle.fr_sql_rows.specs.Told.{Told}
 use Rattle.fr_sql_rows.specs.Connection.{IsAtRest, IsLaidOut, IsBegun, KeepsIfOpen}
-use Rattle.fr_sql_work.specs.Calls.{Looks, MeetsAll}
+use Rattle.fr_sql_calls.specs.WorkCalls.{Looks, MeetsAll}
 use Rattle.fr_sql_store.specs.Tables.{state_in, unknown, shown, Stands, IsStore, Seen, state_of, MayLeave, IsStoreOf}
 use Rattle.fr_sql_calls.specs.Calls.{Makes}
 use Rattle.fr_sql_calls.proofs.CallLemmas.{stands_still}

@@ -1,3 +1,4 @@
 pub mod Tables
 pub mod Files
 pub mod Opening
+pub mod Restart

@@ -4,7 +4,7 @@ use Rattle.sqlite_trees.specs.Tree.{Trees}
 use Rattle.sqlite_trees.specs.Objects.{catalog_tree}
 use Rattle.fr_undo.specs.State.{StoreState, fresh}
 use Rattle.fr_undo.specs.Calls.{IsTrouble}
-use Rattle.fr_sql_work.specs.Calls.{MeetsAll}
+use Rattle.fr_sql_calls.specs.WorkCalls.{MeetsAll}
 use Rattle.fr_sql_store.specs.declared.sql_store.files.opening.OpenFault.{OpenFault}
 use Rattle.fr_sql_store.specs.declared.sql_store.files.opening.OpenFault.TheVariants.{NoStore, Fault}
 use Rattle.fr_sql_store.specs.Tables.{state_in}

@@ -2,6 +2,8 @@
 //! call that writes is one transaction, and a crash leaves what was there before a call or what it made.
 #![tactic(auto)]
 
+mod restart;
 mod sql_store;
 
+pub use restart::{found_law, restart_law};
 pub use sql_store::{OpenFault, SEED, SqlStore};

@@ -7,7 +7,7 @@ ghost use Rattle.fr_undo.specs.Undo.{extended, undone, value_undone, forgotten, 
 ghost use Rattle.fr_undo.specs.Calls.{IsTrouble, is_device, met_device, StaysUnlessFailed, LeavesNoMore, LeftAsIs, Reads, WritesNothing, Writes};
 ghost use Rattle.fr_sql_rows.specs.Connection.{IsAtRest};
 ghost use Rattle.fr_sql_rows.specs.Schema.{no_schema};
-ghost use Rattle.fr_sql_work.specs.Calls.{MeetsAll};
+ghost use Rattle.fr_sql_calls.specs.WorkCalls.{MeetsAll};
 ghost use Rattle.sqlite.specs.Held.{state};
 ghost use Rattle.fr_sql_store.specs.Tables.{state_in, state_of, has_failed, MayLeave, IsTold};
 
@@ -17,10 +17,9 @@ pub use files::{OpenFault, SEED};
 use fr_base::{Bytes, Version};
 use fr_mutation::{Batch, Shard};
 use fr_sql_calls::{
-    Marks, advance, apply, bytes, dump, forget, range, set_state, undo_to, value, value_then,
+    Marks, advance, apply, bytes, dump, forget, probe, range, set_state, undo_to, value, value_then,
 };
 use fr_sql_rows::{Backing, Refusals, schema};
-use fr_sql_work::probe;
 use fr_undo::{ShardStore, StoreFault};
 use sqlite::{Connection, MemStore};
 use std::alloc::Global;

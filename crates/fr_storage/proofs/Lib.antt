@@ -8,7 +8,7 @@ pub mod Generations
 pub mod Hears
 pub mod Left
 pub mod MarkOff
-pub mod Marked
+pub mod Rollback
 pub mod Peeked
 pub mod Peeks
 pub mod Pieces

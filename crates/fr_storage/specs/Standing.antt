@@ -1,5 +1,5 @@
 -- What answers make of a storage server over a store of any type that is opened again where a hear broke off.
-use Rattle.std.specs.Prelude.{◌≡◌, ◌≢◌, Bool, true, false, IsTrue, List, [], ◌∷◌, fold, map, Option, Some, IfSome, Contains, drop}
+use Rattle.std.specs.Prelude.{◌≡◌, ◌≢◌, Bool, true, false, IsTrue, List, [], ◌∷◌, fold, map, Option, None, Some, IfSome, Contains, drop}
 use Rattle.fr_undo.specs.State.{StoreState}
 use Rattle.fr_state.specs.Generations.{CoordinatedState, IsCoordinatedState}
 use Rattle.fr_state.specs.Spelling.{spelling}
@@ -10,12 +10,17 @@ use Rattle.fr_storage.specs.declared.fault.StorageFault.TheVariants.{Older, Stra
 use Rattle.fr_storage.specs.Storage.{StorageState}
 use Rattle.fr_storage.specs.Server.{Server, storage_of}
 use Rattle.fr_storage.specs.Follows.{Pieces, ArePieces}
-use Rattle.fr_storage.specs.Course.{Heard, Mark, Records, fault_of, after_hear, IsAfter, AreOneChain, AreTrueAhead, Stands, IsChosenBy}
+use Rattle.fr_storage.specs.Course.{Heard, Mark, Records, Nothing, fault_of, after_hear, IsAfter, AreOneChain, AreTrueAhead, Stands, IsChosenBy}
 
 -- what is heard of an answer
 abbrev pub heard_of : LogAnswer → Heard
-heard_of (answer.Marked x) = Mark x
-heard_of (answer.Peeked epoch peeked) = Records epoch peeked
+heard_of (answer.Mark x) = Mark x
+heard_of (answer.Records epoch peeked) = Records epoch peeked
+
+-- what is heard where there may be no answer
+abbrev pub heard_if : Option LogAnswer → Heard
+heard_if None = Nothing
+heard_if (Some answer) = heard_of answer
 
 -- a server after answers that are all heard whole
 abbrev pub after_hears : StorageState → List LogAnswer → StorageState

@@ -10,7 +10,7 @@ use Rattle.fr_state.specs.Same.{is_same_state, goes_on}
 use Rattle.fr_state.specs.Spelling.{spelling}
 use Rattle.fr_log.specs.declared.records.PeekedRecord.{PeekedRecord}
 use Rattle.fr_log.specs.declared.ask.LogAsk.{LogAsk}
-use Rattle.fr_log.specs.declared.ask.LogAsk.TheVariants.{Peek}
+use Rattle.fr_log.specs.declared.ask.LogAsk.TheVariants.{Peek, MarkAsked, Pop}
 use Rattle.fr_log.specs.Peeked.{PeekedContent}
 use Rattle.fr_storage.specs.declared.fault.StorageFault.{StorageFault}
 use Rattle.fr_storage.specs.declared.fault.StorageFault.TheVariants.{Older, Stranger, BelowFloor, NotMyGeneration, Hole}
@@ -172,6 +172,13 @@ next_source None (g ∷ gens) = g.epoch
 -- the epoch whose log is asked next for a tag of which a version is applied, and the peek
 abbrev pub ask_after : List LogGeneration → ℕ → ℕ → ℕ × LogAsk
 ask_after gens tag applied = let epoch = next_source (source_of gens (applied + 1)) gens in (epoch, Peek epoch tag applied 100)
+
+-- what is asked for the mark of an epoch, and to let go of a tag's records through a version
+abbrev pub mark_ask : ℕ → LogAsk
+mark_ask epoch = MarkAsked epoch
+
+abbrev pub pop_ask : ℕ → ℕ → ℕ → LogAsk
+pop_ask epoch tag through = Pop epoch tag through
 
 -- what a storage server asks next
 abbrev pub next_ask : StorageState → ℕ × LogAsk

@@ -7,7 +7,7 @@ mod laws;
 mod storage;
 mod taking;
 
-pub use answer::LogAnswer;
+pub use answer::{LogAnswer, mark_ask};
 pub use fault::{ReadFault, StorageFault};
 pub use laws::{follow_law, piece_law, position_law, storage_law, store_laws};
 pub use storage::Storage;

@@ -2,7 +2,7 @@
 ghost use Rattle.std.specs.Prelude.{◌≡◌, ◌≢◌, ◌↔◌, ◌||◌, [], Err, IfOk, IfErr, OnErr, IfSome, IsTrue};
 ghost use Rattle.std.specs.FinMap as map;
 ghost use Rattle.fr_undo.specs.Calls.{IsTrouble, StaysUnlessFailed, LeavesNoMore};
-ghost use Rattle.fr_storage.specs.Storage.{own_epoch, ask_after};
+ghost use Rattle.fr_storage.specs.Storage.{own_epoch, ask_after, pop_ask};
 ghost use Rattle.fr_storage.specs.Standing.{StaysStanding};
 ghost use Rattle.fr_storage.specs.Server.{IsServer, kept_of, met_store, refusal_of, store_fault};
 
@@ -116,6 +116,17 @@ impl<S: ShardStore> Storage<S> {
             most,
         };
         (epoch, ask)
+    }
+
+    /// What it asks a log of an epoch that has its tag: to let go of what it has for good.
+    pub fn pop_ask(&self, epoch: Epoch) -> LogAsk
+        ensures { result ≡ pop_ask epoch self.now.tag self.now.floor }
+    {
+        LogAsk::Pop {
+            epoch,
+            tag: self.tag,
+            through: self.floor,
+        }
     }
 
     /// The generation that has the next version. At the greatest version, which has no next one, it is the last.

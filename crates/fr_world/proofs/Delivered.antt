@@ -14,12 +14,12 @@ use Rattle.fr_proxy.specs.Sequencer as seq
 use Rattle.fr_run.specs.Turn.{Turn, CellTurn, LogTurn, SeqTurn}
 use Rattle.fr_run.specs.Nodes.{cell_at, log_at, seq_at}
 use Rattle.fr_run.specs.Run.{IsTurn, WantsSome}
-use Rattle.fr_run_event.specs.declared.event.Event.TheVariants.{Deliver}
-use Rattle.fr_run_event.specs.Law.{EventIsTurn}
-use Rattle.fr_run_event.specs.Step.{delivered, if_sent}
-use Rattle.fr_run_event.specs.Tests.{was_sent, storage_may_ask}
+use Rattle.fr_run.specs.declared.event.Event.TheVariants.{Deliver}
+use Rattle.fr_run.specs.Law.{EventIsTurn}
+use Rattle.fr_run.specs.Step.{delivered, if_sent}
+use Rattle.fr_run.specs.Tests.{was_sent, storage_may_ask}
 use Rattle.fr_world.specs.World.{next_turn}
-use Rattle.fr_world_kept.specs.Kept.{WorldState}
+use Rattle.fr_world_nodes.specs.Kept.{WorldState}
 use Rattle.fr_world.specs.Stepping.{why_not_up}
 use Rattle.fr_world.proofs.Ups.{up_turn}
 

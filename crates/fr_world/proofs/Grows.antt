@@ -5,15 +5,15 @@ use Rattle.fr_run.specs.Config.{Config}
 use Rattle.fr_run.specs.Turn.{Turn}
 use Rattle.fr_run.specs.Run.{IsRun}
 use Rattle.fr_run.specs.StateLaws.{IsConfig}
-use Rattle.fr_run_event.specs.declared.answer.Answer.{Answer}
-use Rattle.fr_run_event.specs.declared.event.Event.{Event}
-use Rattle.fr_run_event.specs.declared.not_enabled.NotEnabled.{NotEnabled}
-use Rattle.fr_run_event.specs.Step.{answer_of}
+use Rattle.fr_run.specs.declared.answer.Answer.{Answer}
+use Rattle.fr_run.specs.declared.event.Event.{Event}
+use Rattle.fr_run.specs.declared.not_enabled.NotEnabled.{NotEnabled}
+use Rattle.fr_run.specs.Step.{answer_of}
 use Rattle.fr_run_headline.specs.Safety.{IsGrownFrom, EachTurnGrows, StandingGrows}
-use Rattle.fr_run_event.specs.ConfigLimits.{IsWithin}
+use Rattle.fr_run.specs.ConfigLimits.{IsWithin}
 use Rattle.fr_world.specs.Stepping.{Steps}
 use Rattle.fr_world.specs.World.{next_turn, stepped_by}
-use Rattle.fr_world_kept.specs.Kept.{WorldState, with_turn}
+use Rattle.fr_world_nodes.specs.Kept.{WorldState, with_turn}
 
 -- the limits of a config are those of the first generation
 pub is_config : {c : Config} → IsWithin c → IsConfig c

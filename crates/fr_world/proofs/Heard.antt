@@ -7,12 +7,12 @@ use Rattle.fr_base.specs.declared.place.NodeId.TheVariants as node
 use Rattle.fr_run.specs.Turn.{Turn, StorageHeard}
 use Rattle.fr_run.specs.Nodes.{storage_at}
 use Rattle.fr_run.specs.Run.{IsHeardBy, fault_of}
-use Rattle.fr_run_event.specs.declared.event.Event.TheVariants.{Hear}
-use Rattle.fr_run_event.specs.declared.not_enabled.NotEnabled.{NotEnabled}
-use Rattle.fr_run_event.specs.Law.{EventIsTurn}
-use Rattle.fr_run_event.specs.Tests.{was_told}
-use Rattle.fr_run_event.specs.Step.{turn_of, if_told}
-use Rattle.fr_world_kept.specs.Kept.{WorldState}
+use Rattle.fr_run.specs.declared.event.Event.TheVariants.{Hear}
+use Rattle.fr_run.specs.declared.not_enabled.NotEnabled.{NotEnabled}
+use Rattle.fr_run.specs.Law.{EventIsTurn}
+use Rattle.fr_run.specs.Tests.{was_told}
+use Rattle.fr_run.specs.Step.{turn_of, if_told}
+use Rattle.fr_world_nodes.specs.Kept.{WorldState}
 use Rattle.fr_world.specs.Stepping.{why_not_up}
 use Rattle.fr_world.proofs.Ups.{up_turn}
 

@@ -9,12 +9,12 @@ use Rattle.fr_epoch.specs.Asks.{new_asks}
 use Rattle.fr_run.specs.Turn.{RecHeard}
 use Rattle.fr_run.specs.Nodes.{rec_at}
 use Rattle.fr_run.specs.Run.{IsTurn}
-use Rattle.fr_run_event.specs.declared.event.Event.TheVariants.{Hear}
-use Rattle.fr_run_event.specs.Law.{EventIsTurn}
-use Rattle.fr_run_event.specs.Step.{if_told, heard_by_rec, heard_by}
-use Rattle.fr_run_event.specs.Tests.{was_told}
+use Rattle.fr_run.specs.declared.event.Event.TheVariants.{Hear}
+use Rattle.fr_run.specs.Law.{EventIsTurn}
+use Rattle.fr_run.specs.Step.{if_told, heard_by_rec, heard_by}
+use Rattle.fr_run.specs.Tests.{was_told}
 use Rattle.fr_world.specs.World.{next_turn}
-use Rattle.fr_world_kept.specs.Kept.{WorldState}
+use Rattle.fr_world_nodes.specs.Kept.{WorldState}
 use Rattle.fr_world.specs.Stepping.{why_not_up}
 use Rattle.fr_world.proofs.Ups.{up_turn}
 

@@ -3,13 +3,13 @@ use Rattle.std.proofs.Common.{◌≡◌, ℕ, zero, suc, ◌+◌, List, [], ◌�
 use Rattle.std.specs.Prelude.{Result, Ok, Err, IsOk}
 use Rattle.fr_run.specs.Config.{Config}
 use Rattle.fr_run.specs.Turn.{Turn}
-use Rattle.fr_run_event.specs.declared.answer.Answer.{Answer}
-use Rattle.fr_run_event.specs.declared.event.Event.{Event}
-use Rattle.fr_run_event.specs.declared.not_enabled.NotEnabled.{NotEnabled}
-use Rattle.fr_run_event.specs.Step.{turn_of, answer_of, next_result, replay_from, replay}
+use Rattle.fr_run.specs.declared.answer.Answer.{Answer}
+use Rattle.fr_run.specs.declared.event.Event.{Event}
+use Rattle.fr_run.specs.declared.not_enabled.NotEnabled.{NotEnabled}
+use Rattle.fr_run.specs.Step.{turn_of, answer_of, next_result, replay_from, replay}
 use Rattle.fr_world.specs.Replaying.{CanHappenAt}
 use Rattle.fr_world.specs.World.{next_turn, stepped_by}
-use Rattle.fr_world_kept.specs.Kept.{WorldState, with_turn}
+use Rattle.fr_world_nodes.specs.Kept.{WorldState, with_turn}
 
 abbrev done : List Turn → Result (List Turn) (ℕ × NotEnabled)
 done h = Ok h

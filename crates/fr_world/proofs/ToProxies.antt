@@ -6,15 +6,15 @@ use Rattle.fr_base.specs.declared.place.NodeId.TheVariants as node
 use Rattle.fr_ask.specs.declared.tell.Tell.{Tell}
 use Rattle.fr_run.specs.Turn.{Turn, Gone}
 use Rattle.fr_run.specs.Run.{IsUp, IsTurn}
-use Rattle.fr_run_event.specs.declared.event.Event.TheVariants.{Crash, Hear}
-use Rattle.fr_run_event.specs.declared.not_enabled.NotEnabled.{NotEnabled}
-use Rattle.fr_run_event.specs.Law.{EventIsTurn}
-use Rattle.fr_run_event.specs.Step.{if_told, whole, heard_by}
-use Rattle.fr_run_event.specs.Tests.{was_told}
+use Rattle.fr_run.specs.declared.event.Event.TheVariants.{Crash, Hear}
+use Rattle.fr_run.specs.declared.not_enabled.NotEnabled.{NotEnabled}
+use Rattle.fr_run.specs.Law.{EventIsTurn}
+use Rattle.fr_run.specs.Step.{if_told, whole, heard_by}
+use Rattle.fr_run.specs.Tests.{was_told}
 use Rattle.fr_world.specs.World.{next_turn}
-use Rattle.fr_world_kept.specs.Kept.{WorldState}
+use Rattle.fr_world_nodes.specs.Kept.{WorldState}
 use Rattle.fr_world.specs.Stepping.{why_not_up}
-use Rattle.fr_world_kept.proofs.Called.{heard_in}
+use Rattle.fr_world_nodes.proofs.CalledNodes.{heard_in}
 use Rattle.fr_world.proofs.Hears.{no_version}
 use Rattle.fr_world.proofs.Ups.{up_turn}
 

@@ -4,11 +4,11 @@ use Rattle.std.specs.Prelude.{Result, Err, IsOk}
 use Rattle.fr_base.specs.declared.place.NodeId.{NodeId}
 use Rattle.fr_run.specs.Turn.{Turn}
 use Rattle.fr_run.specs.Nodes.{is_there}
-use Rattle.fr_run_event.specs.declared.not_enabled.NotEnabled.{NotEnabled}
-use Rattle.fr_run_event.specs.declared.not_enabled.NotEnabled.TheVariants as not_enabled
-use Rattle.fr_run_event.specs.Tests.{is_gone}
-use Rattle.fr_run_event.specs.Step.{if_up}
-use Rattle.fr_world_kept.specs.Kept.{WorldState}
+use Rattle.fr_run.specs.declared.not_enabled.NotEnabled.{NotEnabled}
+use Rattle.fr_run.specs.declared.not_enabled.NotEnabled.TheVariants as not_enabled
+use Rattle.fr_run.specs.Tests.{is_gone}
+use Rattle.fr_run.specs.Step.{if_up}
+use Rattle.fr_world_nodes.specs.Kept.{WorldState}
 use Rattle.fr_world.specs.Stepping.{why_not_up}
 
 pub up_turn : (w : WorldState) (who : NodeId) (o : Result Turn NotEnabled) → why_not_up w who ≡ None → if_up w.config w.turns who o ≡ o

@@ -2,8 +2,8 @@
 use Rattle.std.specs.Prelude.{◌≡◌, ◌⊎◌, ℕ, List, take, slice_get, Some, Ok, IsOk}
 use Rattle.fr_run.specs.Config.{Config}
 use Rattle.fr_run.specs.Turn.{Turn}
-use Rattle.fr_run_event.specs.declared.event.Event.{Event}
-use Rattle.fr_run_event.specs.Step.{turn_of, replay}
+use Rattle.fr_run.specs.declared.event.Event.{Event}
+use Rattle.fr_run.specs.Step.{turn_of, replay}
 
 -- the event of a number, from 0, can happen: those before it make a world in which it is a turn
 pub record CanHappenAt (c : Config) (events : List Event) (number : ℕ) : Type 0 where

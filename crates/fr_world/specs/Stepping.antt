@@ -3,13 +3,13 @@ use Rattle.std.specs.Prelude.{◌≡◌, ◌≢◌, not, Option, None, Some, Res
 use Rattle.fr_base.specs.declared.place.NodeId.{NodeId}
 use Rattle.fr_run.specs.Turn.{Turn}
 use Rattle.fr_run.specs.Nodes.{is_there}
-use Rattle.fr_run_event.specs.declared.answer.Answer.{Answer}
-use Rattle.fr_run_event.specs.declared.event.Event.{Event}
-use Rattle.fr_run_event.specs.declared.not_enabled.NotEnabled.{NotEnabled}
-use Rattle.fr_run_event.specs.declared.not_enabled.NotEnabled.TheVariants as not_enabled
-use Rattle.fr_run_event.specs.Tests.{is_gone}
+use Rattle.fr_run.specs.declared.answer.Answer.{Answer}
+use Rattle.fr_run.specs.declared.event.Event.{Event}
+use Rattle.fr_run.specs.declared.not_enabled.NotEnabled.{NotEnabled}
+use Rattle.fr_run.specs.declared.not_enabled.NotEnabled.TheVariants as not_enabled
+use Rattle.fr_run.specs.Tests.{is_gone}
 use Rattle.fr_world.specs.World.{next_turn, stepped}
-use Rattle.fr_world_kept.specs.Kept.{WorldState}
+use Rattle.fr_world_nodes.specs.Kept.{WorldState}
 
 -- why a node has no turn: it is not there, or it is gone
 abbrev pub why_not_up : WorldState → NodeId → Option NotEnabled

@@ -1,11 +1,11 @@
 -- The turn that an event is in a world, and the world after it.
 use Rattle.std.specs.Prelude.{Result, Ok, Err}
 use Rattle.fr_run.specs.Turn.{Turn}
-use Rattle.fr_run_event.specs.declared.answer.Answer.{Answer}
-use Rattle.fr_run_event.specs.declared.event.Event.{Event}
-use Rattle.fr_run_event.specs.declared.not_enabled.NotEnabled.{NotEnabled}
-use Rattle.fr_run_event.specs.Step.{turn_of, answer_of}
-use Rattle.fr_world_kept.specs.Kept.{WorldState, with_turn}
+use Rattle.fr_run.specs.declared.answer.Answer.{Answer}
+use Rattle.fr_run.specs.declared.event.Event.{Event}
+use Rattle.fr_run.specs.declared.not_enabled.NotEnabled.{NotEnabled}
+use Rattle.fr_run.specs.Step.{turn_of, answer_of}
+use Rattle.fr_world_nodes.specs.Kept.{WorldState, with_turn}
 
 -- the turn that an event is in a world
 abbrev pub next_turn : WorldState → Event → Result Turn NotEnabled

@@ -1,7 +1,7 @@
 //! Events: each is the turn of one node, or is refused.
 ghost use Rattle.std.specs.Prelude.{◌≡◌, Some};
 ghost use Rattle.fr_world.specs.Stepping.{why_not_up};
-ghost use Rattle.fr_world_kept.specs.Kept.{state_of, IsKept};
+ghost use Rattle.fr_world_nodes.specs.Kept.{state_of, IsKept};
 
 pub mod ballots;
 pub mod delivered;
@@ -10,8 +10,8 @@ pub mod proxies;
 pub mod served;
 
 use fr_base::NodeId;
-use fr_run_event::NotEnabled;
-use fr_world_kept::Nodes;
+use fr_run::NotEnabled;
+use fr_world_nodes::Nodes;
 
 /// Why a node has no turn: it is not there, or it is gone.
 pub(crate) fn why_not_up(nodes: &Nodes, node: &NodeId) -> Option<NotEnabled>

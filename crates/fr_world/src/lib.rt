@@ -7,6 +7,6 @@ mod replay;
 mod step;
 mod world;
 
-pub use fr_run_event::{Answer, Config, ConfigFault, Event, NotEnabled};
+pub use fr_run::{Answer, Config, ConfigFault, Event, NotEnabled};
 pub use fr_world_turns::Turn;
 pub use world::World;

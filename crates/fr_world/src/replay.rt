@@ -1,13 +1,13 @@
 //! Lists of events.
 ghost use Rattle.std.specs.Prelude.{◌≡◌, ◌≢◌, Err, IfErr, IfOk, Ok};
-ghost use Rattle.fr_run_event.specs.declared.not_enabled.NotEnabled.{NotEnabled};
-ghost use Rattle.fr_run_event.specs.Step.{replay};
+ghost use Rattle.fr_run.specs.declared.not_enabled.NotEnabled.{NotEnabled};
+ghost use Rattle.fr_run.specs.Step.{replay};
 ghost use Rattle.fr_run_headline.specs.Committed.{AcknowledgedIsNeverUndone, RolledBackIsExact};
 ghost use Rattle.fr_run_headline.specs.Safety.{IsSafe};
 ghost use Rattle.fr_world.specs.Replaying.{IsAtStartOrCanHappen};
 
 use crate::world::World;
-use fr_run_event::{Config, Event, NotEnabled};
+use fr_run::{Config, Event, NotEnabled};
 use std::alloc::Global;
 
 impl World {

@@ -1,11 +1,11 @@
 //! One event.
 ghost use Rattle.std.specs.Prelude.{◌≡◌, OnErr, OnOk};
-ghost use Rattle.fr_run_event.specs.declared.event.Event.TheVariants as event;
+ghost use Rattle.fr_run.specs.declared.event.Event.TheVariants as event;
 ghost use Rattle.fr_run.specs.Run.{IsRun};
 ghost use Rattle.fr_run_headline.specs.Committed.{AcknowledgedIsNeverUndone, RolledBackIsExact};
 ghost use Rattle.fr_run_headline.specs.Safety.{IsGrownFrom, IsSafe};
 ghost use Rattle.fr_world.specs.Stepping.{Steps, Refuses, why_unheard};
-ghost use Rattle.fr_world_kept.specs.Kept.{state_of, IsKept};
+ghost use Rattle.fr_world_nodes.specs.Kept.{state_of, IsKept};
 
 use crate::events::ballots::{begun, heard_by_recoverer};
 use crate::events::delivered::delivered;
@@ -15,9 +15,9 @@ use crate::events::served::{heard_by_storage, heard_in_place};
 use crate::events::why_not_up;
 use fr_ask::Tell;
 use fr_base::{NodeId, Version};
-use fr_run_event::{Answer, Event, NotEnabled};
+use fr_run::{Answer, Event, NotEnabled};
 use fr_run_headline::laws::safety_law;
-use fr_world_kept::Nodes;
+use fr_world_nodes::Nodes;
 use std::alloc::Global;
 
 /// Makes the turn that an event is, or says why it cannot happen, which changes nothing.

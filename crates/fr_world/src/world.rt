@@ -7,9 +7,9 @@ ghost use Rattle.fr_run.specs.Run.{IsRun};
 ghost use Rattle.fr_world.specs.Stepping.{Steps, Refuses, RefusesTurn};
 ghost use Rattle.fr_world.specs.World.{next_turn, stepped};
 ghost use Rattle.fr_run.specs.Nodes as nodes;
-ghost use Rattle.fr_run_event.specs.Tests as tests;
-ghost use Rattle.fr_run_event.specs.At.{last_at, proxy_if_there};
-ghost use Rattle.fr_world_kept.specs.Kept.{state_of, IsKept};
+ghost use Rattle.fr_run.specs.Tests as tests;
+ghost use Rattle.fr_run.specs.At.{last_at, proxy_if_there};
+ghost use Rattle.fr_world_nodes.specs.Kept.{state_of, IsKept};
 ghost use Rattle.fr_world_nodes.specs.Parts.{server_of};
 ghost use Rattle.fr_world_nodes.specs.Reads.{IsReadAt};
 ghost use Rattle.fr_world_turns.specs.Turns.{history_of};
@@ -19,11 +19,11 @@ use fr_ask::{Ask, Last, Tell};
 use fr_base::{Ballot, Bytes, Epoch, Memory, NodeId, Tag, Version};
 use fr_epoch::Recoverer;
 use fr_proxy::Proxy;
-use fr_run_event::{Answer, Config, Event, NotEnabled};
+use fr_run::{Answer, Config, Event, NotEnabled};
 use fr_run_headline::laws::safety_law;
 use fr_storage::{ReadFault, Storage};
 use fr_undo::MapStore;
-use fr_world_kept::Nodes;
+use fr_world_nodes::Nodes;
 use fr_world_turns::Turn;
 use std::alloc::Global;
 use std::marker::Model;
@@ -38,7 +38,7 @@ pub struct World {
 }
 
 impl Model for World {
-    ghost use Rattle.fr_world_kept.specs.Kept.{WorldState, IsKept};
+    ghost use Rattle.fr_world_nodes.specs.Kept.{WorldState, IsKept};
 
     ghost Value = { WorldState };
 

@@ -42,13 +42,9 @@ pub record IsMute (s : StorageState) (e : ℕ) (t : LogTell) : Type 0 where
   pub calls : calls_of_log s e t ≡ []
 
 mute_of : (s : StorageState) (e : ℕ) (t : LogTell) → ((p : PeekedContent) → t ≡ ltell.Peeked p → ⊥) → ((x : CoordinatedState) → t ≡ ltell.Marked x → ⊥) → IsMute s e t
-mute_of s e ltell.Seeded peeked marked = record { fault = refl; calls = refl }
-mute_of s e (ltell.Held version) peeked marked = record { fault = refl; calls = refl }
-mute_of s e (ltell.Locked durable known popped) peeked marked = record { fault = refl; calls = refl }
 mute_of s e (ltell.Peeked p) peeked marked = absurd (peeked p refl)
 mute_of s e (ltell.Marked x) peeked marked = absurd (marked x refl)
-mute_of s e (ltell.Popped through) peeked marked = record { fault = refl; calls = refl }
-mute_of s e (ltell.Refused why) peeked marked = record { fault = refl; calls = refl }
+mute_of s e t peeked marked = record { fault = refl; calls = refl }
 
 -- it breaks off where the server stands, and leaves it there
 pub mute_breaks : (s : StorageState) (e : ℕ) (t : LogTell) (v : ℕ) → ((p : PeekedContent) → t ≡ ltell.Peeked p → ⊥) → ((x : CoordinatedState) → t ≡ ltell.Marked x → ⊥)

@@ -11,3 +11,4 @@ pub mod Recovering
 pub mod Served
 pub mod Asked
 pub mod Lasts
+pub mod CalledNodes

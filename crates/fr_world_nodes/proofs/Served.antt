@@ -19,7 +19,7 @@ use Rattle.fr_run.specs.Turn.{Turn, StorageHeard}
 use Rattle.fr_run.specs.Nodes.{storage_at, storage_hear, calls_of_log}
 use Rattle.fr_run.specs.Run.{IsTurn, IsHeardBy, MayBreakIn, fault_of, fault_of_log}
 use Rattle.fr_run.specs.Laws.{Laws}
-use Rattle.fr_run_event.specs.Step.{breaks_in, may_break}
+use Rattle.fr_run.specs.Step.{breaks_in, may_break}
 use Rattle.fr_world_nodes.specs.Parts.{IsWorld, AreStorages, Logs, Sequencers, Proxies, Recoverers, Storages, server_of}
 use Rattle.fr_world_turns.specs.declared.turn.Turn.TheVariants as code
 use Rattle.fr_world_turns.specs.Turns.{turn_of}

@@ -15,7 +15,7 @@ use Rattle.fr_run.specs.Nodes.{is_open, logs_at, new_log, log_after, log_at, seq
 use Rattle.fr_run.specs.Run.{IsTurn, IsRun}
 use Rattle.fr_run.specs.Laws.{Laws}
 use Rattle.fr_run.proofs.Growth.{open_stays, open_generation, generation_stays, proxy_stays, log_stays, new_log_stays}
-use Rattle.fr_run_versions.proofs.Logs.{logs_stay, unasked, unasked_run}
+use Rattle.fr_run_headline.proofs.Logs.{logs_stay, unasked, unasked_run}
 use Rattle.fr_world_nodes.specs.Parts.{pair_cmp, Logs, Sequencers, Proxies, AreLogs, AreSequencers, AreProxies, new_seq, new_proxy}
 
 -- ---- logs

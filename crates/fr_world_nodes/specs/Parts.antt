@@ -17,7 +17,7 @@ use Rattle.fr_run.specs.Config.{Config}
 use Rattle.fr_run.specs.Turn.{Turn}
 use Rattle.fr_run.specs.Nodes.{cell_at, rec_at, log_at, logs_at, new_log, seq_at, mark_version, generation_at, is_open, proxy_at, new_proxy_in, storage_at}
 use Rattle.fr_run.specs.Run.{IsRun}
-use Rattle.fr_run_event.specs.ConfigLimits.{IsWithin}
+use Rattle.fr_run.specs.ConfigLimits.{IsWithin}
 
 -- logs and proxies are under their epoch and their number there
 abbrev pub pair_cmp : ℕ × ℕ → ℕ × ℕ → Ordering

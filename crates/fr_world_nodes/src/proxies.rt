@@ -3,14 +3,14 @@ ghost use Rattle.std.specs.Prelude.{◌≡◌, ℕ, cond, IfOk, IfSome, IsSome, 
 ghost use Rattle.std.specs.Option.{option_map};
 ghost use Rattle.std.specs.BTreeMap as tree;
 ghost use Rattle.fr_proxy.specs.Proxy.{after_hear, new_asks, number_ask, opened, outcome_of, submit_fault, submitted};
-ghost use Rattle.fr_run_event.specs.Step.{not_taken};
+ghost use Rattle.fr_run.specs.Step.{not_taken};
 ghost use Rattle.fr_world_nodes.specs.Parts.{pair_cmp};
 
 use fr_ask::{Ask, Tell};
 use fr_base::{Epoch, Memory, NodeId, Step};
 use fr_mutation::Batch;
 use fr_proxy::{Outcome, Proxy, SubmitFault};
-use fr_run_event::NotEnabled;
+use fr_run::NotEnabled;
 use std::alloc::Global;
 use std::collections::BTreeMap;
 

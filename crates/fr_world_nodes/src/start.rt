@@ -7,7 +7,7 @@ ghost use Rattle.fr_world_nodes.specs.Parts.{server_of, AreCells, AreStorages};
 use fr_base::{Ballot, Epoch, LogId, Memory, Tag, Version};
 use fr_log::{Log, LogAsk, Push, Seed};
 use fr_register::{Cell, CellValue};
-use fr_run_event::Config;
+use fr_run::Config;
 use fr_state::{CoordState, Generation, encode};
 use fr_storage::Storage;
 use fr_undo::MapStore;

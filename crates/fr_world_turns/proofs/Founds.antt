@@ -9,7 +9,7 @@ use Rattle.fr_ask.specs.Same.{is_same_ask, is_same_ask-IsSameness}
 use Rattle.fr_ask.specs.declared.ask.Ask.{Ask}
 use Rattle.fr_run.specs.Turn as history
 use Rattle.fr_run.specs.Turn.{Sending, actor_of, asks_of}
-use Rattle.fr_run_event.specs.Tests.{goes, gives, is_sending, tells}
+use Rattle.fr_run.specs.Tests.{goes, gives, is_sending, tells}
 use Rattle.fr_world_turns.specs.Finding.{at_place, some_under, AreFound, AreGoneFound, AsksAreFound, GoneIsFound, IsFound, TellIsFound}
 use Rattle.fr_world_turns.specs.Keys.{gone_key, ask_key, tell_key, told_key}
 use Rattle.fr_world_turns.specs.Places.{Key, Places, Grows, IsUnder, passes, under}

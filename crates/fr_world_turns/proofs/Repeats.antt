@@ -12,7 +12,7 @@ use Rattle.fr_ask.specs.Same.{is_same_seq_tell, is_same_seq_tell-IsSameness, is_
 use Rattle.fr_ask.specs.declared.tell.Tell.{Tell}
 use Rattle.fr_ask.specs.declared.tell.Tell.TheVariants as tell
 use Rattle.fr_run.specs.Turn.{Turn, CellTurn, LogTurn, SeqTurn}
-use Rattle.fr_run_event.specs.Tests.{tells}
+use Rattle.fr_run.specs.Tests.{tells}
 use Rattle.fr_world_turns.specs.Keys.{told_key, tell_key}
 use Rattle.fr_world_turns.specs.Places.{Key}
 use Rattle.fr_world_turns.specs.Turns.{retells}

@@ -6,7 +6,7 @@ use Rattle.fr_base.specs.declared.place.NodeId.{NodeId}
 use Rattle.fr_base.specs.declared.place.NodeId.TheVariants as node
 use Rattle.fr_ask.specs.declared.ask.Ask.{Ask}
 use Rattle.fr_run.specs.Turn.{Turn, Begun, CellTurn, LogTurn, SeqTurn, Submitted, ProxyHeard, RecHeard, StorageHeard, Gone, Crashed}
-use Rattle.fr_run_event.specs.Tests.{gives, is_sending, was_sent}
+use Rattle.fr_run.specs.Tests.{gives, is_sending, was_sent}
 
 and_false : (b : Bool) → (b && false) ≡ false
 and_false true = refl

@@ -5,7 +5,7 @@ use Rattle.fr_base.specs.declared.place.NodeId.{NodeId}
 use Rattle.fr_ask.specs.declared.ask.Ask.{Ask}
 use Rattle.fr_ask.specs.declared.tell.Tell.{Tell}
 use Rattle.fr_run.specs.Turn as history
-use Rattle.fr_run_event.specs.Tests.{goes, gives, tells}
+use Rattle.fr_run.specs.Tests.{goes, gives, tells}
 use Rattle.fr_world_turns.specs.Keys.{gone_key, ask_key, tell_key}
 use Rattle.fr_world_turns.specs.Places.{Key, Places, holds_at, under}
 use Rattle.fr_world_turns.specs.Turns.{turn_of}

@@ -1,6 +1,6 @@
 //! Places of turns are entered under the keys of what the turns did.
 ghost use Rattle.std.specs.Prelude.{◌≡◌, ◌<◌, length, slice_get, true, IfSome, OnOk, Some};
-ghost use Rattle.fr_run_event.specs.Tests as tests;
+ghost use Rattle.fr_run.specs.Tests as tests;
 ghost use Rattle.fr_world_turns.specs.Finding.{at_place, some_under, AreFound, AreGoneFound, AsksAreFound, GoneIsFound, IsFound, TellIsFound};
 ghost use Rattle.fr_world_turns.specs.Keys as keys;
 ghost use Rattle.fr_world_turns.specs.Places.{Grows};

@@ -1,7 +1,7 @@
 //! What happened in turns, by the places under the keys.
 ghost use Rattle.std.specs.Prelude.{◌≡◌};
 ghost use Rattle.std.specs.List.{list_any};
-ghost use Rattle.fr_run_event.specs.Tests as tests;
+ghost use Rattle.fr_run.specs.Tests as tests;
 ghost use Rattle.fr_world_turns.specs.Finding.{at_place, some_under, AreFound, AreGoneFound};
 ghost use Rattle.fr_world_turns.specs.Keys as keys;
 ghost use Rattle.fr_world_turns.specs.Turns.{history_of, retells, turn_of};

@@ -1,7 +1,7 @@
 //! What happened: turns of nodes, each with what it gave.
 ghost use Rattle.std.specs.Prelude.{◌≡◌};
 ghost use Rattle.std.specs.List.{list_any};
-ghost use Rattle.fr_run_event.specs.Tests as tests;
+ghost use Rattle.fr_run.specs.Tests as tests;
 ghost use Rattle.fr_run.specs.Turn as history;
 ghost use Rattle.fr_world_turns.specs.Turns.{retells, turn_of};
 

@@ -1,6 +1,6 @@
 //! The turns of a world.
 ghost use Rattle.std.specs.Prelude.{◌≡◌, ◌≤◌, ◌∷◌, ◌+◌, length, [], OnOk};
-ghost use Rattle.fr_run_event.specs.Tests as tests;
+ghost use Rattle.fr_run.specs.Tests as tests;
 ghost use Rattle.fr_world_turns.specs.Turns.{history_of, turn_of};
 
 use crate::entering::{enter_departed, enter_rest};

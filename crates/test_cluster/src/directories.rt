@@ -5,15 +5,14 @@ ghost use Rattle.fr_runtime_station.specs.Named.{logs_named};
 
 use anyhow::{Context, bail};
 use fr_ask::Ask;
+use fr_audit_journal::Housed;
 use fr_base::{Epoch, InMemory, LogId, NodeId, Stamp, Tag, Version};
 use fr_log::{Log, LogAsk, Most};
 use fr_proxy::Sequencer;
 use fr_register::Cell;
-use fr_runtime_housing::Housed;
 use fr_runtime_station::{Chosen, Directory, DirectoryFault, Station};
 use fr_state::Generation;
 use std::alloc::Global;
-use std::io;
 use std::sync::Wait;
 
 /// A directory in memory.
@@ -71,17 +70,15 @@ fn directory(alloc: Global) -> anyhow::Result<Plain> {
     let later = [epoch(769)?, epoch(513)?];
     let start = generation(first)?;
     let logs = logs(alloc, first)?;
-    let cells = Vec::new(alloc);
     let sequencer = sequencer(alloc, first);
-    Ok(Directory::new(alloc, cells, logs, sequencer, start, &later)?)
+    Ok(Directory::new(alloc, Vec::new(alloc), logs, sequencer, start, &later)?)
 }
 
 /// Prints what directories answer.
 pub(crate) fn show<R: Wait + Print>(rt: &R, alloc: Global) -> anyhow::Result<()> {
     show_epochs(rt, alloc, &directory(alloc)?)?;
     show_logs(rt, alloc, directory(alloc)?)?;
-    show_refusals(rt, alloc, &directory(alloc)?)?;
-    show_crashes(rt, alloc, &directory(alloc)?)
+    show_refusals(rt, alloc, &directory(alloc)?)
 }
 
 /// Epochs that are chosen, each at a stamp. Epoch 513 comes once, and 1025 is not one that may come.
@@ -91,44 +88,23 @@ static COMING: [&[(u64, u64)]; 4] = [&[], &[(769, 7)], &[(513, 9)], &[(513, 11),
 fn show_epochs<R: Wait + Print>(rt: &R, alloc: Global, directory: &Plain) -> anyhow::Result<()> {
     for chosen in &COMING {
         for &(number, at) in *chosen {
-            choose(rt, alloc, directory, number, at)?;
+            let (epoch, stamp) = (epoch(number)?, stamp(at)?);
+            let generation = generation(epoch)?;
+            let opened = Chosen { generation, stamp };
+            directory.publish_epoch(rt, sequencer(alloc, epoch), opened);
         }
-        show_chosen(rt, alloc, directory)?;
+        print!(rt; "chosen, each at its stamp:")?;
+        let epochs = directory.epochs(alloc)?;
+        for chosen in epochs.iter() {
+            let (epoch, at) = (chosen.generation.epoch(), chosen.stamp);
+            print!(rt; " {} {},", epoch.get(), at.get())?;
+        }
+        println!(rt; " newest {}", directory.newest().generation.epoch().get())?;
     }
     for number in [513, 1025] {
         let is_there = directory.sequencer(epoch(number)?).is_some();
         println!(rt; "the sequencer of {number} is there: {is_there}")?;
     }
-    Ok(())
-}
-
-fn choose<R: Wait>(
-    rt: &R,
-    alloc: Global,
-    directory: &Plain,
-    number: u64,
-    at: u64,
-) -> anyhow::Result<()> {
-    let epoch = epoch(number)?;
-    let chosen = Chosen {
-        generation: generation(epoch)?,
-        stamp: stamp(at)?,
-    };
-    directory.publish_epoch(rt, sequencer(alloc, epoch), chosen);
-    Ok(())
-}
-
-fn show_chosen<R: Print>(rt: &R, alloc: Global, directory: &Plain) -> anyhow::Result<()> {
-    print!(rt; "chosen, each at its stamp:")?;
-    let epochs = directory.epochs(alloc)?;
-    for chosen in epochs.iter() {
-        print!(rt;
-            " {} {},",
-            chosen.generation.epoch().get(),
-            chosen.stamp.get()
-        )?;
-    }
-    println!(rt; " newest {}", directory.newest().generation.epoch().get())?;
     Ok(())
 }
 
@@ -140,7 +116,7 @@ fn asked<R: Wait>(
     seen: u64,
     to: NodeId,
     epoch: Epoch,
-) -> anyhow::Result<Result<u64, DirectoryFault>> {
+) -> anyhow::Result<Result<Stamp, DirectoryFault>> {
     let tag = Tag::new(0).context("no tag")?;
     let ask = Ask::Log(LogAsk::Peek {
         epoch,
@@ -148,21 +124,15 @@ fn asked<R: Wait>(
         after: Version::ZERO,
         most: Most::new(1).context("no most")?,
     });
-    let told = directory.call(rt, alloc, stamp(seen)?, NodeId::Storage { tag }, to, ask);
-    Ok(stamp_of(&told))
+    let at = stamp(seen)?;
+    let answer = directory.call(rt, alloc, at, NodeId::Storage { tag }, to, ask);
+    Ok(stamp_of(&answer))
 }
 
-fn stamp_of<T>(told: &Result<(Stamp, T), DirectoryFault>) -> Result<u64, DirectoryFault> {
+fn stamp_of<T>(told: &Result<(Stamp, T), DirectoryFault>) -> Result<Stamp, DirectoryFault> {
     match told {
-        Ok((at, _)) => Ok(at.get()),
+        Ok((at, _)) => Ok(*at),
         Err(fault) => Err(*fault),
-    }
-}
-
-fn show_answer<R: Print>(rt: &R, answer: &Result<u64, DirectoryFault>) -> io::Result<()> {
-    match answer {
-        Ok(at) => println!(rt; "{at}"),
-        Err(fault) => println!(rt; "{fault:?}"),
     }
 }
 
@@ -176,8 +146,7 @@ fn show_answers<R: Wait + Print>(
     for &(number, index) in logs {
         let epoch = epoch(number)?;
         let answer = asked(rt, alloc, directory, 3, NodeId::Log { epoch, index }, epoch)?;
-        print!(rt; "log {index} of {number}: ")?;
-        show_answer(rt, &answer)?;
+        println!(rt; "log {index} of {number}: {answer:?}")?;
     }
     Ok(())
 }
@@ -186,36 +155,32 @@ fn show_answers<R: Wait + Print>(
 /// later epoch answer once they came at stamp 8, and above it. The journals are then those of two logs and a sequencer
 /// of the start, entries or none, and that of the later log that was asked.
 fn show_logs<R: Wait + Print>(rt: &R, alloc: Global, directory: Plain) -> anyhow::Result<()> {
-    show_answers(
-        rt,
-        alloc,
-        &directory,
-        &[(257, 0), (257, 2), (1025, 0), (513, 0)],
+    let before = [(257, 0), (257, 2), (1025, 0), (513, 0)];
+    show_answers(rt, alloc, &directory, &before)?;
+    let later = epoch(513)?;
+    directory.publish_logs(rt, later, logs(alloc, later)?, stamp(8)?);
+    let second = LogId {
+        epoch: later,
+        index: 1,
+    };
+    println!(rt;
+        "log 1 of 513 is there: {}",
+        directory.log(second).is_some()
     )?;
-    come(rt, alloc, &directory)?;
     show_answers(rt, alloc, &directory, &[(513, 1), (513, 2)])?;
     let journals = directory.into_journals(alloc)?;
     println!(rt; "journals: {}", journals.len())?;
     Ok(())
 }
 
-fn come<R: Wait + Print>(rt: &R, alloc: Global, directory: &Plain) -> anyhow::Result<()> {
-    let (later, at) = (epoch(513)?, stamp(8)?);
-    directory.publish_logs(rt, later, logs(alloc, later)?, at);
-    let id = LogId {
-        epoch: later,
-        index: 1,
-    };
-    println!(rt; "log 1 of 513 is there: {}", directory.log(id).is_some())?;
-    Ok(())
-}
-
-/// Asks of another kind, to cells that are not there, and once no stamp is left, each have their fault.
+/// Asks of another kind, to cells that are not there, and once no stamp is left, each have their fault; and so have
+/// crashes. A sequencer that crashed is lost: it answers that from then on.
 fn show_refusals<R: Wait + Print>(rt: &R, alloc: Global, directory: &Plain) -> anyhow::Result<()> {
     let epoch = epoch(257)?;
     let cell = NodeId::Cell { index: 0 };
     let log = NodeId::Log { epoch, index: 0 };
     let proxy = NodeId::Proxy { epoch, number: 0 };
+    let sequencer = NodeId::Sequencer { epoch };
     let last = (1 << 40) - 1;
     let asks = [
         (3, cell),
@@ -225,32 +190,16 @@ fn show_refusals<R: Wait + Print>(rt: &R, alloc: Global, directory: &Plain) -> a
         (3, log),
     ];
     for (seen, to) in &asks {
-        show_answer(rt, &asked(rt, alloc, directory, *seen, *to, epoch)?)?;
+        println!(rt;
+            "asked: {:?}",
+            asked(rt, alloc, directory, *seen, *to, epoch)?
+        )?;
     }
-    for node in &[cell, proxy, log] {
-        show_crash(rt, alloc, directory, node)?;
-    }
-    Ok(())
-}
-
-/// The stamp of a node's crash, or why it does not crash.
-fn show_crash<R: Wait + Print>(
-    rt: &R,
-    alloc: Global,
-    directory: &Plain,
-    node: &NodeId,
-) -> anyhow::Result<()> {
-    print!(rt; "crashed: ")?;
-    match directory.crash(rt, alloc, stamp(3)?, *node) {
-        Ok(at) => println!(rt; "{}", at.get())?,
-        Err(fault) => println!(rt; "{fault:?}")?,
+    for node in &[cell, proxy, log, sequencer, sequencer] {
+        println!(rt;
+            "crashed: {:?}",
+            directory.crash(rt, alloc, stamp(3)?, *node)
+        )?;
     }
     Ok(())
-}
-
-/// A sequencer that crashed is lost: it answers that from then on, asked or crashed again.
-fn show_crashes<R: Wait + Print>(rt: &R, alloc: Global, directory: &Plain) -> anyhow::Result<()> {
-    let node = NodeId::Sequencer { epoch: epoch(257)? };
-    show_crash(rt, alloc, directory, &node)?;
-    show_crash(rt, alloc, directory, &node)
 }

@@ -1,35 +1,36 @@
-//! What happens in a run, of which threads wait.
+//! What happens in a run, of which threads wait, and what is counted of it.
+use crate::rows::Event;
 use fr_base::Memory;
 use std::alloc::Global;
 use std::sync::Wait;
 use std::sync::atomic::{AtomicU64, Ordering};
 use std::time::Duration;
 
-/// Something that happens in a run.
-#[derive(Clone, Copy, PartialEq, Eq)]
-pub(crate) enum Event {
-    /// A log of this epoch answered the push of a mark.
-    Marked(u64),
-    /// A log of this epoch let go of what it was asked to.
-    Popped(u64),
-    /// Log (257, 0) answered so many pushes of batches.
-    Pushed(u64),
-    /// Logs answered so many pushes, of batches or marks, in all.
-    AllPushed(u64),
-    /// The log of this number of epoch 257 answered the push of this version.
-    Holds(u8, u64),
-    /// The log of this number of epoch 257 answered a peek.
-    Peeked(u8),
-    /// Some log of epoch 257 did.
-    AnyPeeked,
-    /// A workload is to hand out the batch of this number, or has none left.
-    Due(u32),
-    /// Log (257, 0) was lost.
-    Lost,
-    /// A log serves the first push of a batch that two logs are to meet in.
-    ServesPush,
-    /// A log serves the first peek that they are to meet in.
-    ServesPeek,
+/// What is counted of a run.
+#[derive(Default, Drop)]
+pub(crate) struct Counts {
+    /// How many of the two asks in which logs are to meet found that the other one was being served.
+    pub(crate) met: AtomicU64,
+    /// How often log (257, 0) was opened again, and a frail cell.
+    pub(crate) reopened: AtomicU64,
+    pub(crate) frail: AtomicU64,
+    /// How many logs were made as they are wanted, and how many otherwise.
+    pub(crate) as_wanted: AtomicU64,
+    pub(crate) otherwise: AtomicU64,
+    /// How many waits were in vain.
+    pub(crate) in_vain: AtomicU64,
+    /// How many pushes of batches log (257, 0) answered, and how many pushes all logs did.
+    pub(crate) pushes: AtomicU64,
+    pub(crate) all_pushes: AtomicU64,
+}
+
+/// One more; the number that the counter comes to.
+pub(crate) fn count(counter: &AtomicU64) -> u64 {
+    counter.fetch_add(1, Ordering::SeqCst).saturating_add(1)
+}
+
+pub(crate) fn counted(counter: &AtomicU64) -> u64 {
+    counter.load(Ordering::SeqCst)
 }
 
 /// How often a thread looks for an event, at most, and how many milliseconds it sleeps between two looks unless it is
@@ -50,45 +51,31 @@ struct Flag {
 pub(crate) struct Events<'a, R> {
     rt: &'a R,
     flags: Vec<Flag>,
-    missed: AtomicU64,
+    counts: &'a Counts,
 }
 
 impl<'a, R: Wait> Events<'a, R> {
-    pub(crate) fn new(rt: &'a R, alloc: Global) -> Self {
-        Events {
-            rt,
-            flags: Vec::new(alloc),
-            missed: AtomicU64::new(0),
+    /// These events, none of which happened.
+    pub(crate) fn new(
+        rt: &'a R,
+        alloc: Global,
+        awaited: &[Event],
+        counts: &'a Counts,
+    ) -> Result<Self, Memory> {
+        let mut flags = Vec::new(alloc);
+        for &event in awaited {
+            let raised = AtomicU64::new(0);
+            flags.push(Flag { event, raised })?;
         }
-    }
-
-    /// One event more, which did not happen.
-    pub(crate) fn add(&mut self, event: Event) -> Result<(), Memory> {
-        self.flags.push(Flag {
-            event,
-            raised: AtomicU64::new(0),
-        })?;
-        Ok(())
-    }
-
-    /// The same of one that may be none.
-    pub(crate) fn add_if(&mut self, event: Option<Event>) -> Result<(), Memory> {
-        match event {
-            Some(event) => self.add(event),
-            None => Ok(()),
-        }
+        Ok(Events { rt, flags, counts })
     }
 
     fn flag(&self, event: Event) -> Option<&AtomicU64> {
-        for flag in self.flags.iter() {
-            if flag.event == event {
-                return Some(&flag.raised);
-            }
-        }
-        None
+        let flag = self.flags.iter().find(|flag| flag.event == event)?;
+        Some(&flag.raised)
     }
 
-    /// It happens.
+    /// It happens. Nobody waits for one that is not among these.
     pub(crate) fn raise(&self, event: Event) {
         if let Some(flag) = self.flag(event) {
             flag.store(1, Ordering::SeqCst);
@@ -96,39 +83,28 @@ impl<'a, R: Wait> Events<'a, R> {
         }
     }
 
-    /// Whether it happened.
-    pub(crate) fn is_raised(&self, event: Event) -> bool {
-        match self.flag(event) {
-            Some(flag) => flag.load(Ordering::SeqCst) == 1,
-            None => false,
+    /// Whether it happened, if it is one.
+    pub(crate) fn has(&self, event: Option<Event>) -> bool {
+        match event {
+            Some(event) => matches!(self.flag(event), Some(flag) if counted(flag) == 1),
+            None => true,
         }
     }
 
-    /// Waits until an event happened; false if it did not in all that time, which is counted. Nobody waits for one that
-    /// is not among these.
-    pub(crate) fn wait(&self, event: Event) -> bool {
-        let Some(flag) = self.flag(event) else {
-            return false;
+    /// Waits until it happened, if it is one; false if it did not in all that time, which is counted.
+    pub(crate) fn wait(&self, event: Option<Event>) -> bool {
+        let Some(event) = event else {
+            return true;
         };
-        for _ in 0..LOOKS {
-            if flag.load(Ordering::SeqCst) == 1 {
-                return true;
+        if let Some(flag) = self.flag(event) {
+            for _ in 0..LOOKS {
+                if counted(flag) == 1 {
+                    return true;
+                }
+                flag.park_timeout(self.rt, 0, Duration::from_millis(MILLISECONDS));
             }
-            flag.park_timeout(self.rt, 0, Duration::from_millis(MILLISECONDS));
         }
-        let _before = self.missed.fetch_add(1, Ordering::SeqCst);
+        count(&self.counts.in_vain);
         false
-    }
-
-    /// The same of one that may be none.
-    pub(crate) fn wait_if(&self, event: Option<Event>) {
-        if let Some(event) = event {
-            let _happened = self.wait(event);
-        }
-    }
-
-    /// How many waits were in vain.
-    pub(crate) fn missed(&self) -> u64 {
-        self.missed.load(Ordering::SeqCst)
     }
 }

@@ -1,85 +1,17 @@
 //! Racks of which a cell or a store fails once, a device fails, or a part is refused, by their names.
 ghost use Rattle.std.specs.Prelude.{◌≡◌};
 
-use anyhow::{Context, bail};
+use crate::events::{Counts, count};
+use crate::rows::RackWord;
 use fr_base::{InMemory, LogId, Node, NodeFault, Reopened, Tag};
-use fr_device::{Device, FaultyDevice};
 use fr_log::Log;
+use fr_record::{Device, FaultyDevice};
 use fr_register::{Cell, CellAsk, CellTell};
 use fr_runtime::Rack;
-use fr_runtime_disks::{Devices, FileRack, MemoryDevices};
+use fr_runtime_storm::{Devices, FileRack, MemoryDevices};
 use fr_undo::StoreFault;
 use std::alloc::Global;
-use std::sync::atomic::{AtomicU64, Ordering};
-use test_stores::FailsOnce;
-
-/// What the nodes of a run are over.
-#[derive(Clone, Copy)]
-pub(crate) enum RackWord {
-    Map,
-    Sql,
-    Frail(Frail),
-    Fails(Fails),
-}
-
-impl RackWord {
-    /// The rack of a name, and a number that it may have.
-    pub(crate) fn read(name: &str, number: &str) -> anyhow::Result<Self> {
-        Ok(match name {
-            "map" => RackWord::Map,
-            "sql" => RackWord::Sql,
-            "log_once" => RackWord::Fails(Fails::Once(count(number)?)),
-            "log_from" => RackWord::Fails(Fails::From(count(number)?)),
-            "breaks" => RackWord::Frail(Frail::Store(call(number)?, false)),
-            "breaks_done" => RackWord::Frail(Frail::Store(call(number)?, true)),
-            "cell_fails" => RackWord::Frail(Frail::Cell(index(number)?)),
-            _ => RackWord::Frail(refused(name, index(number)?)?),
-        })
-    }
-}
-
-/// What a name says to be refused.
-fn refused(name: &str, number: u8) -> anyhow::Result<Frail> {
-    Ok(match name {
-        "cell_refused" => Frail::NoCell(number, NodeFault::Device),
-        "cell_unfit" => Frail::NoCell(number, NodeFault::Memory),
-        "log_full" => Frail::NoLog(257, number, NodeFault::Full),
-        "log_refused" => Frail::NoLog(513, number, NodeFault::Device),
-        "log_unfit" => Frail::NoLog(513, number, NodeFault::Memory),
-        "store_refused" => Frail::NoStore(number, StoreFault::Device),
-        "store_unfit" => Frail::NoStore(number, StoreFault::Memory),
-        _ => bail!("no such rack"),
-    })
-}
-
-fn count(digits: &str) -> anyhow::Result<u64> {
-    digits.parse::<u64>().context("no call")
-}
-
-fn call(digits: &str) -> anyhow::Result<u32> {
-    digits.parse::<u32>().context("no call of a store")
-}
-
-fn index(digits: &str) -> anyhow::Result<u8> {
-    digits.parse::<u8>().context("no number of a node")
-}
-
-/// What fails or is refused in memory.
-#[derive(Clone, Copy)]
-pub(crate) enum Frail {
-    /// The device of each store, in one call. A storage server makes no call of its store but those that write, until its
-    /// turns are over, and the first of them sets the state with which it starts. So the device fails in the call of this
-    /// number after that one, which is done or not.
-    Store(u32, bool),
-    /// The cell of this number, at each write of ballot 513.
-    Cell(u8),
-    /// The cell of this number is refused.
-    NoCell(u8, NodeFault),
-    /// Each log of this number of an epoch is.
-    NoLog(u64, u8, NodeFault),
-    /// The store of this tag is.
-    NoStore(u8, StoreFault),
-}
+use test_rows::FailsOnce;
 
 /// A cell in memory which, if it is frail, fails at each write of ballot 513, that leaves nothing.
 #[derive(Drop)]
@@ -88,7 +20,7 @@ pub(crate) struct FrailCell<'a> {
     is_frail: bool,
     held: Option<CellAsk>,
     failures: u64,
-    reopened: &'a AtomicU64,
+    counts: &'a Counts,
 }
 
 fn is_write(ask: &CellAsk) -> bool {
@@ -133,7 +65,7 @@ impl Node for FrailCell<'_> {
 
     fn reopen(&mut self, _alloc: Global) -> Result<Reopened, NodeFault> {
         if self.is_frail {
-            let _before = self.reopened.fetch_add(1, Ordering::SeqCst);
+            count(&self.counts.frail);
         }
         self.held = None;
         Ok(Reopened::Before)
@@ -144,35 +76,11 @@ impl Node for FrailCell<'_> {
     }
 }
 
-/// All in memory, but for what fails or is refused. How often a frail cell is opened again is counted.
+/// All in memory, but for what a word says to fail or to be refused.
 #[derive(Drop)]
 pub(crate) struct FrailRack<'a> {
-    pub(crate) frail: Frail,
-    pub(crate) reopened: &'a AtomicU64,
-}
-
-impl FrailRack<'_> {
-    /// Whether a cell is the frail one.
-    fn is_frail(&self, index: u8) -> bool {
-        match self.frail {
-            Frail::Cell(other) => other == index,
-            _ => false,
-        }
-    }
-
-    /// Why a log is refused, if it is.
-    fn fault_of_log(&self, id: &LogId) -> Option<NodeFault> {
-        match self.frail {
-            Frail::NoLog(epoch, index, fault) => {
-                if id.epoch.get() == epoch && id.index == index {
-                    Some(fault)
-                } else {
-                    None
-                }
-            }
-            _ => None,
-        }
-    }
+    pub(crate) word: RackWord,
+    pub(crate) counts: &'a Counts,
 }
 
 impl<'a> Rack for FrailRack<'a> {
@@ -187,60 +95,53 @@ impl<'a> Rack for FrailRack<'a> {
     ghost CanRefuseStore = { λ rack fault. Unit {0} };
 
     fn cell(&self, alloc: Global, index: u8) -> Result<FrailCell<'a>, NodeFault> {
-        match self.frail {
-            Frail::NoCell(other, fault) if other == index => Err(fault),
-            _ => Ok(FrailCell {
+        match self.word {
+            RackWord::CellRefused(other) if other == index => Err(NodeFault::Device),
+            RackWord::CellUnfit(other) if other == index => Err(NodeFault::Memory),
+            word => Ok(FrailCell {
                 cell: InMemory::new(Cell::new(alloc)),
-                is_frail: self.is_frail(index),
+                is_frail: matches!(word, RackWord::CellFails(other) if other == index),
                 held: None,
                 failures: 0,
-                reopened: self.reopened,
+                counts: self.counts,
             }),
         }
     }
 
     fn log(&self, alloc: Global, id: LogId, m: u8, k: u8) -> Result<InMemory<Log>, NodeFault> {
-        match self.fault_of_log(&id) {
-            Some(fault) => Err(fault),
-            None => Ok(InMemory::new(Log::new(alloc, id, m, k))),
+        match (self.word, id.epoch.get()) {
+            (RackWord::LogFull(other), 257) if other == id.index => Err(NodeFault::Full),
+            (RackWord::LogRefused(other), 513) if other == id.index => Err(NodeFault::Device),
+            (RackWord::LogUnfit(other), 513) if other == id.index => Err(NodeFault::Memory),
+            _ => Ok(InMemory::new(Log::new(alloc, id, m, k))),
         }
     }
 
     fn store(&self, alloc: Global, tag: Tag) -> Result<FailsOnce, StoreFault> {
-        match self.frail {
-            Frail::NoStore(other, fault) if other == tag.get() => Err(fault),
-            Frail::Store(call, is_done) => Ok(FailsOnce::new(alloc, call, is_done)),
+        match self.word {
+            RackWord::StoreRefused(other) if other == tag.get() => Err(StoreFault::Device),
+            RackWord::StoreUnfit(other) if other == tag.get() => Err(StoreFault::Memory),
+            RackWord::Breaks(call) => Ok(FailsOnce::new(alloc, call, false)),
+            RackWord::BreaksDone(call) => Ok(FailsOnce::new(alloc, call, true)),
             _ => Ok(FailsOnce::new(alloc, u32::MAX, false)),
         }
     }
 }
 
-/// In which calls the device of log (257, 0) fails, counted from 1.
-#[derive(Clone, Copy)]
-pub(crate) enum Fails {
-    Once(u64),
-    From(u64),
-}
-
-/// Devices of which that of log (257, 0) fails, and the others work.
+/// Devices of which that of log (257, 0) fails as a word says, and the others work.
 #[derive(Drop)]
 pub(crate) struct FrailDevices<V: Devices> {
     devices: V,
-    fails: Fails,
+    word: RackWord,
 }
 
-fn sound<D: Device + Drop>(device: D) -> FaultyDevice<D>
+fn failing<D: Device + Drop>(device: D, word: RackWord) -> FaultyDevice<D>
     ensures { result.device ≡ device }
 {
-    FaultyDevice::once(device, 0)
-}
-
-fn failing<D: Device + Drop>(device: D, fails: Fails) -> FaultyDevice<D>
-    ensures { result.device ≡ device }
-{
-    match fails {
-        Fails::Once(n) => FaultyDevice::once(device, n),
-        Fails::From(n) => FaultyDevice::from(device, n),
+    match word {
+        RackWord::LogOnce(call) => FaultyDevice::once(device, call),
+        RackWord::LogFrom(call) => FaultyDevice::from(device, call),
+        _ => FaultyDevice::once(device, 0),
     }
 }
 
@@ -252,23 +153,20 @@ impl<V: Devices> Devices for FrailDevices<V> {
     ghost CanRefuse = { λ d fault. V.CanRefuse d.devices fault };
 
     fn cell(&self, alloc: Global, index: u8) -> Result<FaultyDevice<V::Device>, NodeFault> {
-        Ok(sound(self.devices.cell(alloc, index)?))
+        Ok(failing(self.devices.cell(alloc, index)?, RackWord::Map))
     }
 
     fn log(&self, alloc: Global, id: &LogId) -> Result<FaultyDevice<V::Device>, NodeFault> {
-        let device = self.devices.log(alloc, id)?;
-        if id.epoch.get() == 257 && id.index == 0 {
-            Ok(failing(device, self.fails))
-        } else {
-            Ok(sound(device))
-        }
+        let is_frail = id.epoch.get() == 257 && id.index == 0;
+        let word = if is_frail { self.word } else { RackWord::Map };
+        Ok(failing(self.devices.log(alloc, id)?, word))
     }
 }
 
 /// Record files on such devices in memory.
-pub(crate) fn files(fails: Fails) -> FileRack<FrailDevices<MemoryDevices>> {
+pub(crate) fn files(word: RackWord) -> FileRack<FrailDevices<MemoryDevices>> {
     FileRack::on(FrailDevices {
         devices: MemoryDevices,
-        fails,
+        word,
     })
 }

@@ -1,30 +1,19 @@
-//! Runs of the table over racks, and what is printed of them.
-use crate::events::{Event, Events};
-use crate::racks::{Fails, Frail, FrailRack, RackWord, files};
-use crate::rows::{Numbers, Recovery, Row, Struck};
+//! Runs of rows over racks, and what is printed of them.
+use crate::events::{Counts, Events, counted};
+use crate::racks::{FrailRack, files};
+use crate::rows::{Event, RackWord, Row};
 use crate::script::Script;
-use crate::shown::{of_these, show_told};
-use crate::watched::{Watch, WatchedRack};
+use crate::watched::WatchedRack;
 use anyhow::{Context, bail};
-use fr_audit_script::write_script;
-use fr_base::{Ballot, Bytes, Epoch, Memory, Shape, Step};
+use fr_base::{Ballot, Bytes, Memory, Shape, Step};
 use fr_mutation::Batch;
 use fr_proxy::Outcome;
-use fr_runtime::{Cluster, Config, Orders, PlainRack, Rack, Report, RunFault, Workload};
-use fr_runtime_disks::DiskRack;
-use fr_runtime_storm::{DrawnOrders, Draws, Storm};
+use fr_runtime::{Cluster, Config, Orders, PlainRack, Rack, Report, Workload};
+use fr_runtime_storm::{DiskRack, DrawnOrders, Draws, Storm};
+use fr_script::audit::write_script;
 use std::alloc::Global;
 use std::sync::Wait;
-use std::sync::atomic::{AtomicU64, Ordering};
 use std::thread::Threads;
-
-/// A run that is to be: its row, its recoveries, and the events of which threads wait.
-#[derive(Drop)]
-struct Scene<'a, R> {
-    row: &'a Row,
-    recoveries: &'a [Recovery],
-    events: &'a Events<'a, R>,
-}
 
 /// Runs a row over its rack.
 pub(crate) fn play<R: Threads + Wait + Print + Sync>(
@@ -32,101 +21,121 @@ pub(crate) fn play<R: Threads + Wait + Print + Sync>(
     alloc: Global,
     row: &Row,
 ) -> anyhow::Result<()> {
-    let recoveries = recoveries_of(alloc, row)?;
-    let events = events_of(rt, alloc, row, recoveries.as_slice())?;
+    let counts = Counts::default();
+    let events = Events::new(rt, alloc, row.awaited.as_slice(), &counts)?;
     let scene = Scene {
+        rt,
+        alloc,
         row,
-        recoveries: recoveries.as_slice(),
         events: &events,
+        counts: &counts,
     };
-    match row.rack {
-        RackWord::Map => over(rt, alloc, &scene, PlainRack)?,
-        RackWord::Sql => over(rt, alloc, &scene, DiskRack::new())?,
-        RackWord::Fails(fails) => over_files(rt, alloc, &scene, fails)?,
-        RackWord::Frail(frail) => over_frail(rt, alloc, &scene, frail)?,
+    scene.play()?;
+    let named = [
+        ("met", &counts.met),
+        ("opened again", &counts.reopened),
+        ("frail cells", &counts.frail),
+        ("as wanted", &counts.as_wanted),
+        ("otherwise", &counts.otherwise),
+        ("in vain", &counts.in_vain),
+    ];
+    for (name, counter) in named {
+        println!(rt; "{name}: {}", counted(counter))?;
     }
-    println!(rt; "waits in vain: {}", events.missed())?;
     Ok(())
 }
 
-fn over_files<R: Threads + Wait + Print + Sync>(
-    rt: &R,
-    alloc: Global,
-    scene: &Scene<'_, R>,
-    fails: Fails,
-) -> anyhow::Result<()> {
-    over(rt, alloc, scene, files(fails))
-}
-
-fn over_frail<R: Threads + Wait + Print + Sync>(
-    rt: &R,
-    alloc: Global,
-    scene: &Scene<'_, R>,
-    frail: Frail,
-) -> anyhow::Result<()> {
-    let reopened = AtomicU64::new(0);
-    let rack = FrailRack {
-        frail,
-        reopened: &reopened,
-    };
-    over(rt, alloc, scene, rack)?;
-    println!(rt;
-        "frail cells opened again: {}",
-        reopened.load(Ordering::SeqCst)
-    )?;
-    Ok(())
-}
-
-/// The recoveries of a row, and those of a chain: each begins once a log of the generation before let go of what the
-/// storage server has.
-fn recoveries_of(alloc: Global, row: &Row) -> Result<Vec<Recovery>, Memory> {
-    let mut all = Vec::new(alloc);
-    for recovery in row.recoveries.iter() {
-        all.push(*recovery)?;
-    }
-    let mut before = 257_u64;
-    for _ in 0..row.chain {
-        let ballot = before.saturating_add(256);
-        all.push(Recovery {
-            ballot,
-            shape: None,
-            waits: Some(Event::Popped(before)),
-        })?;
-        before = ballot;
-    }
-    Ok(all)
-}
-
-/// The events of which threads of a run wait.
-fn events_of<'a, R: Wait>(
+/// A run that is to be.
+#[derive(Drop)]
+struct Scene<'a, R> {
     rt: &'a R,
     alloc: Global,
-    row: &Row,
-    recoveries: &[Recovery],
-) -> Result<Events<'a, R>, Memory> {
-    let mut events = Events::new(rt, alloc);
-    for recovery in recoveries {
-        events.add(Event::Marked(recovery.ballot))?;
-        events.add_if(recovery.waits)?;
-    }
-    for rule in row.rules.iter() {
-        events.add_if(rule.once)?;
-        events.add_if(rule.waits)?;
-    }
-    if let Struck::LostAfter(event) = row.struck {
-        events.add(event)?;
-    }
-    if let Some((_, event)) = row.pulled {
-        events.add(event)?;
-    }
-    for index in 0..row.numbers.logs {
-        for version in 2..=row.fed {
-            events.add(Event::Holds(index, version))?;
+    row: &'a Row,
+    events: &'a Events<'a, R>,
+    counts: &'a Counts,
+}
+
+impl<'a, R: Threads + Wait + Print + Sync> Scene<'a, R> {
+    fn play(&self) -> anyhow::Result<()> {
+        match self.row.rack {
+            RackWord::Map => self.over(PlainRack),
+            RackWord::Sql => self.over(DiskRack::new()),
+            RackWord::LogOnce(_) | RackWord::LogFrom(_) => self.over(files(self.row.rack)),
+            word => self.over(FrailRack {
+                word,
+                counts: self.counts,
+            }),
         }
     }
-    events.add(Event::ServesPush)?;
-    events.add(Event::ServesPeek)?;
-    Ok(events)
+
+    /// Runs it over the nodes of a rack. In a storm its batches are drawn.
+    fn over<K: Rack + Sync + Drop>(&self, rack: K) -> anyhow::Result<()> {
+        match self.row.storm {
+            Some((seed, _)) => self.over_drawn(rack, seed),
+            None => self.over_numbered(rack),
+        }
+    }
+
+    fn over_numbered<K: Rack + Sync + Drop>(&self, rack: K) -> anyhow::Result<()> {
+        let (row, mut works) = (self.row, Vec::new(self.alloc));
+        for number in 0..row.works {
+            let orders = Orders::new(self.alloc, number, row.storages, row.batches);
+            works.push(self.staged(orders))?;
+        }
+        self.with_works(rack, works)
+    }
+
+    fn over_drawn<K: Rack + Sync + Drop>(&self, rack: K, seed: u64) -> anyhow::Result<()> {
+        let (row, mut works) = (self.row, Vec::new(self.alloc));
+        if row.storages == 0 || row.storages > 32 {
+            bail!("no storage server, or too many");
+        }
+        for number in 0..row.works {
+            let orders = DrawnOrders::new(self.alloc, seed, number, row.storages, row.batches);
+            works.push(self.staged(orders))?;
+        }
+        self.with_works(rack, works)
+    }
+
+    fn staged<W: Workload>(&self, work: W) -> Staged<'a, W, R> {
+        Staged {
+            work,
+            row: self.row,
+            events: self.events,
+            given: 0,
+        }
+    }
+
+    /// Runs it with these workloads, and prints the script of its journals, and what each workload gave and was told; or
+    /// its fault.
+    fn with_works<K: Rack + Sync + Drop, W: Workload + Send + Drop>(
+        &self,
+        rack: K,
+        works: Vec<Staged<'a, W, R>>,
+    ) -> anyhow::Result<()> {
+        let (rt, alloc, row) = (self.rt, self.alloc, self.row);
+        let script = Script {
+            row,
+            events: self.events,
+            counts: self.counts,
+            storm: storm_of(row)?,
+            is_at_once: row.at_once,
+        };
+        let rack = WatchedRack {
+            rack,
+            script: &script,
+        };
+        let ballots = ballots(alloc, row)?;
+        let cluster = Cluster {
+            config: config(alloc, row)?,
+            ballots: ballots.as_slice(),
+            turns: row.turns,
+        };
+        match cluster.run(rt, alloc, rack, works, &script) {
+            Ok((report, works)) => tell(rt, alloc, report, works.as_slice()),
+            Err(fault) => Ok(println!(rt; "fault: {fault:?}")?),
+        }
+    }
 }
 
 /// A workload that waits before some of its batches, and how many it handed out.
@@ -135,7 +144,6 @@ struct Staged<'a, W, R> {
     work: W,
     row: &'a Row,
     events: &'a Events<'a, R>,
-    next: u32,
     given: u32,
 }
 
@@ -145,8 +153,7 @@ impl<W: Workload, R: Wait> Workload for Staged<'_, W, R> {
     ghost heard = { λ s. W.heard s.work };
 
     fn next(&mut self) -> Result<Option<(Step, Batch)>, Memory> {
-        awaits(self.row, self.events, self.next);
-        self.next = self.next.saturating_add(1);
+        awaits(self.row, self.events, self.given);
         let next = self.work.next()?;
         if next.is_some() {
             self.given = self.given.saturating_add(1);
@@ -159,65 +166,40 @@ impl<W: Workload, R: Wait> Workload for Staged<'_, W, R> {
     }
 }
 
-impl<'a, W: Workload, R: Wait> Staged<'a, W, R> {
-    fn new(work: W, scene: &Scene<'a, R>) -> Self {
-        Staged {
-            work,
-            row: scene.row,
-            events: scene.events,
-            next: 0,
-            given: 0,
-        }
-    }
-}
-
 /// Waits for what the batch of this number waits for.
 fn awaits<R: Wait>(row: &Row, events: &Events<'_, R>, number: u32) {
     events.raise(Event::Due(number));
-    for (before, event) in row.holds.iter() {
-        if *before == number {
-            let _happened = events.wait(*event);
+    for &(before, event) in row.holds.iter() {
+        if before == number {
+            events.wait(Some(event));
         }
     }
 }
 
-/// Where the shards begin: the first at the empty key, shard i at the byte 8 i.
-fn begins(alloc: Global, storages: u8) -> Result<Vec<Bytes>, Memory> {
+/// The shards begin at the empty key, and at the byte 8 i.
+fn config(alloc: Global, row: &Row) -> anyhow::Result<Config> {
     let mut begins = Vec::new(alloc);
     begins.push(Bytes::empty(alloc))?;
-    for number in 1..storages {
+    for number in 1..row.storages {
         begins.push(Bytes::from_slice(alloc, &[(number & 0x1f) * 8])?)?;
     }
-    Ok(begins)
-}
-
-fn config(alloc: Global, numbers: &Numbers) -> anyhow::Result<Config> {
-    let begins = begins(alloc, numbers.storages)?;
-    let (coordinators, logs) = (numbers.coordinators, numbers.logs);
-    Ok(Config::new(coordinators, logs, numbers.degree, begins, numbers.proxies)?)
+    Ok(Config::new(row.coordinators, row.logs, row.degree, begins, row.proxies)?)
 }
 
 /// The ballots, each with the shape of its generation.
-fn ballots(alloc: Global, recoveries: &[Recovery]) -> anyhow::Result<Vec<(Ballot, Option<Shape>)>> {
+fn ballots(alloc: Global, row: &Row) -> anyhow::Result<Vec<(Ballot, Option<Shape>)>> {
     let mut ballots = Vec::new(alloc);
-    for recovery in recoveries {
+    for recovery in row.recoveries.iter() {
         let ballot = Ballot::new(recovery.ballot).context("no ballot")?;
-        ballots.push((ballot, shape_of(recovery)?))?;
+        ballots.push((ballot, recovery.shape.and_then(|(m, k)| Shape::new(m, k))))?;
     }
     Ok(ballots)
-}
-
-fn shape_of(recovery: &Recovery) -> anyhow::Result<Option<Shape>> {
-    match recovery.shape {
-        Some((m, k)) => Ok(Some(Shape::new(m, k).context("no shape")?)),
-        None => Ok(None),
-    }
 }
 
 /// The storm of a row, of strength 0 if it has none.
 fn storm_of(row: &Row) -> anyhow::Result<Storm> {
     let (seed, strength) = row.storm.unwrap_or((1, 0));
-    let (coordinators, logs) = (row.numbers.coordinators, row.numbers.logs);
+    let (coordinators, logs) = (row.coordinators, row.logs);
     if coordinators == 0 || logs == 0 {
         bail!("no cell, or no log");
     }
@@ -232,125 +214,16 @@ fn storm_of(row: &Row) -> anyhow::Result<Storm> {
     }))
 }
 
-/// Runs a scene over the nodes of a rack, and prints what comes of it. In a storm its batches are drawn.
-fn over<K: Rack + Sync + Drop, R: Threads + Wait + Print + Sync>(
-    rt: &R,
-    alloc: Global,
-    scene: &Scene<'_, R>,
-    rack: K,
-) -> anyhow::Result<()> {
-    match scene.row.storm {
-        Some((seed, _)) => over_drawn(rt, alloc, scene, rack, seed),
-        None => over_numbered(rt, alloc, scene, rack),
-    }
-}
-
-fn over_numbered<K: Rack + Sync + Drop, R: Threads + Wait + Print + Sync>(
-    rt: &R,
-    alloc: Global,
-    scene: &Scene<'_, R>,
-    rack: K,
-) -> anyhow::Result<()> {
-    let mut works = Vec::new(alloc);
-    let numbers = &scene.row.numbers;
-    for number in 0..scene.row.works {
-        let orders = Orders::new(alloc, number, numbers.storages, numbers.batches);
-        works.push(Staged::new(orders, scene))?;
-    }
-    with_works(rt, alloc, scene, rack, works)
-}
-
-fn over_drawn<K: Rack + Sync + Drop, R: Threads + Wait + Print + Sync>(
-    rt: &R,
-    alloc: Global,
-    scene: &Scene<'_, R>,
-    rack: K,
-    seed: u64,
-) -> anyhow::Result<()> {
-    let mut works = Vec::new(alloc);
-    let (shards, batches) = (scene.row.numbers.storages, scene.row.numbers.batches);
-    if shards == 0 || shards > 32 {
-        bail!("no storage server, or too many");
-    }
-    for number in 0..scene.row.works {
-        let orders = DrawnOrders::new(alloc, seed, number, shards, batches);
-        works.push(Staged::new(orders, scene))?;
-    }
-    with_works(rt, alloc, scene, rack, works)
-}
-
-/// Runs a scene with these workloads.
-fn with_works<
-    'a,
-    K: Rack + Sync + Drop,
-    W: Workload + Send + Drop,
-    R: Threads + Wait + Print + Sync,
->(
-    rt: &R,
-    alloc: Global,
-    scene: &Scene<'a, R>,
-    rack: K,
-    works: Vec<Staged<'a, W, R>>,
-) -> anyhow::Result<()> {
-    let watch = Watch::new(scene.row, scene.recoveries, scene.events);
-    let rack = WatchedRack::new(rack, &watch);
-    match ran(rt, alloc, scene, rack, works)? {
-        Ok((report, works)) => tell(rt, alloc, scene.row, report, works.as_slice())?,
-        Err(fault) => println!(rt; "fault: {fault:?}")?,
-    }
-    let counted = watch.counted();
-    println!(rt;
-        "met: {}, opened again: {}, made: {} as wanted and {} otherwise",
-        counted.met, counted.reopened, counted.as_wanted, counted.otherwise
-    )?;
-    Ok(())
-}
-
-/// What comes of a run: its report, or its fault.
-fn ran<'a, K: Rack + Sync + Drop, W: Workload + Send + Drop, R: Threads + Wait + Print + Sync>(
-    rt: &R,
-    alloc: Global,
-    scene: &Scene<'a, R>,
-    rack: K,
-    works: Vec<Staged<'a, W, R>>,
-) -> anyhow::Result<Result<(Report, Vec<Staged<'a, W, R>>), RunFault>> {
-    let script = Script {
-        row: scene.row,
-        recoveries: scene.recoveries,
-        events: scene.events,
-        first: Epoch::new(257).context("no epoch")?,
-        storm: storm_of(scene.row)?,
-        is_at_once: scene.row.is_at_once,
-        pushes: AtomicU64::new(0),
-        all_pushes: AtomicU64::new(0),
-    };
-    let ballots = ballots(alloc, scene.recoveries)?;
-    let cluster = Cluster {
-        config: config(alloc, &scene.row.numbers)?,
-        ballots: ballots.as_slice(),
-        turns: scene.row.numbers.turns,
-    };
-    Ok(cluster.run(rt, alloc, rack, works, &script))
-}
-
-/// The script of the journals that are to be shown, and what each workload gave and was told.
 fn tell<W: Workload, R: Print>(
     rt: &R,
     alloc: Global,
-    row: &Row,
     report: Report,
     works: &[Staged<'_, W, R>],
 ) -> anyhow::Result<()> {
-    let Report {
-        journals,
-        world,
-        told,
-    } = report;
-    let shown = of_these(alloc, journals, row.shown.as_slice())?;
-    let script = write_script(alloc, world.config(), shown.as_slice())?;
+    let script = write_script(alloc, report.world.config(), report.journals.as_slice())?;
     println!(rt; "{}", str::from_utf8(script.as_slice())?)?;
-    for (work, told) in works.iter().zip(told.iter()) {
-        show_told(rt, work.given, told.as_slice())?;
+    for (work, told) in works.iter().zip(report.told.iter()) {
+        println!(rt; "given: {}, told: {told:?}", work.given)?;
     }
     Ok(())
 }

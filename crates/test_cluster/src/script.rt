@@ -1,33 +1,27 @@
-//! Faults that are written down, over those of a storm, which may be none.
+//! Faults that are written down, over those of a storm, which may be none; and what logs of such a run meet.
 ghost use Rattle.std.specs.Prelude.{◌≡◌};
 
-use crate::events::{Event, Events};
-use crate::rows::{Kind, Recovery, Row, Rule, Struck, To};
+use crate::events::{Counts, Events, count};
+use crate::rows::{Event, Kind, Row, Rule};
 use fr_ask::Ask;
-use fr_base::{Ballot, Epoch, LogId, NodeId, Tag};
+use fr_base::{Ballot, LogId, NodeId, Tag};
 use fr_log::{LogAsk, Push};
 use fr_runtime::{Blow, Chosen, Faults, NoFaults, Verdict};
 use fr_runtime_storm::Storm;
 use std::sync::Wait;
-use std::sync::atomic::{AtomicU64, Ordering};
 
 /// What happens in a run, as its row says.
 #[derive(Drop)]
 pub(crate) struct Script<'a, R> {
     pub(crate) row: &'a Row,
-    pub(crate) recoveries: &'a [Recovery],
     pub(crate) events: &'a Events<'a, R>,
-    pub(crate) first: Epoch,
+    pub(crate) counts: &'a Counts,
     pub(crate) storm: Storm,
     /// Whether recoverers begin at the first turn of their threads, and not as without faults.
     pub(crate) is_at_once: bool,
-    /// How many pushes of batches log (257, 0) answered, and how many pushes all logs did.
-    pub(crate) pushes: AtomicU64,
-    pub(crate) all_pushes: AtomicU64,
 }
 
-/// The kind of an ask.
-pub(crate) fn kind_of(ask: &LogAsk) -> Kind {
+fn kind_of(ask: &LogAsk) -> Kind {
     match ask {
         LogAsk::Push(push) => {
             if push.marked().is_none() {
@@ -45,66 +39,30 @@ pub(crate) fn kind_of(ask: &LogAsk) -> Kind {
 
 /// Whether a rule is of such an ask to this log.
 fn is_of(rule: &Rule, kind: Kind, epoch: u64, index: u8) -> bool {
-    let is_to = match rule.to {
-        To::First(number) => epoch == 257 && index == number,
-        To::AnyFirst => epoch == 257,
-        To::Any => true,
-    };
+    let is_to = rule.epoch.unwrap_or(epoch) == epoch && rule.index.unwrap_or(index) == index;
     is_to && rule.ask == kind
 }
 
-/// The number that a counter comes to, one more than before.
-fn counted(counter: &AtomicU64) -> u64 {
-    counter.fetch_add(1, Ordering::SeqCst).saturating_add(1)
-}
-
 impl<R: Wait> Script<'_, R> {
-    /// What happens to an ask by a rule, if there is one.
-    fn ruled(&self, to: &NodeId, ask: &Ask) -> Option<Verdict> {
-        let Ask::Log(ask) = ask else {
-            return None;
-        };
-        let NodeId::Log { epoch, index } = to else {
-            return None;
-        };
-        let (epoch, index) = (epoch.get(), *index);
-        self.awaits(epoch, index, ask);
+    /// What happens to an ask of a log by a rule, if there is one.
+    fn ruled(&self, epoch: u64, index: u8, ask: &LogAsk) -> Option<Verdict> {
+        self.feed(epoch, index, ask);
         let kind = kind_of(ask);
-        for rule in self.row.rules.iter() {
-            if is_of(rule, kind, epoch, index) {
-                return Some(self.followed(rule));
-            }
+        let mut rules = self.row.rules.iter().copied();
+        let rule = rules.find(|rule| is_of(rule, kind, epoch, index))?;
+        if self.events.has(rule.once) {
+            self.events.wait(rule.waits);
         }
-        None
+        Some(rule.befalls.verdict())
     }
 
-    fn followed(&self, rule: &Rule) -> Verdict {
-        let is_on = match rule.once {
-            Some(event) => self.events.is_raised(event),
-            None => true,
-        };
-        if is_on {
-            self.events.wait_if(rule.waits);
-        }
-        rule.verdict
-    }
-
-    /// A peek waits for the next version, and a storage server whose log let go of what it has, in a chain of
-    /// recoveries, for the mark of the next generation: it has nothing to do before.
-    fn awaits(&self, epoch: u64, index: u8, ask: &LogAsk) {
-        match ask {
-            LogAsk::Peek { after, .. } => {
-                let next = after.get().saturating_add(1).max(2);
-                if epoch == 257 && next <= self.row.fed {
-                    let _holds = self.events.wait(Event::Holds(index, next));
-                }
+    /// A peek waits for the next version.
+    fn feed(&self, epoch: u64, index: u8, ask: &LogAsk) {
+        if let LogAsk::Peek { after, .. } = ask {
+            let next = after.get().saturating_add(1).max(2);
+            if epoch == 257 && next <= self.row.fed {
+                self.events.wait(Some(Event::Holds(index, next)));
             }
-            LogAsk::MarkAsked { .. } => {
-                if self.row.chain > 0 && self.events.is_raised(Event::Popped(epoch)) {
-                    let _is_marked = self.events.wait(Event::Marked(epoch.saturating_add(256)));
-                }
-            }
-            _ => {}
         }
     }
 
@@ -124,44 +82,80 @@ impl<R: Wait> Script<'_, R> {
     }
 
     fn pushed(&self, epoch: u64, index: u8, push: &Push) {
-        let all = counted(&self.all_pushes);
-        self.events.raise(Event::AllPushed(all));
+        self.events
+            .raise(Event::AllPushed(count(&self.counts.all_pushes)));
         if push.marked().is_some() {
             self.events.raise(Event::Marked(epoch));
-            return;
-        }
-        if epoch != 257 {
-            return;
-        }
-        self.events.raise(Event::Holds(index, push.version().get()));
-        if index == 0 {
-            let own = counted(&self.pushes);
-            self.events.raise(Event::Pushed(own));
+        } else if epoch == 257 {
+            self.events.raise(Event::Holds(index, push.version().get()));
+            if index == 0 {
+                self.events.raise(Event::Pushed(count(&self.counts.pushes)));
+            }
         }
     }
 
-    fn log(&self) -> LogId {
-        LogId {
-            epoch: self.first,
-            index: 0,
+    /// A log serves an ask. If logs are to meet, the first push of a batch to log (257, 0) waits for the first peek at
+    /// log (257, 1), and that for the push.
+    pub(crate) fn serves(&self, log: LogId, ask: &LogAsk) {
+        if !self.row.meets || log.epoch.get() != 257 {
+            return;
         }
+        match (kind_of(ask), log.index) {
+            (Kind::Push, 0) => self.meet(Event::ServesPush, Event::ServesPeek),
+            (Kind::Peek, 1) => self.meet(Event::ServesPeek, Event::ServesPush),
+            _ => {}
+        }
+    }
+
+    /// The first time: says that the one ask is served, and waits for the other.
+    fn meet(&self, own: Event, other: Event) {
+        if self.events.has(Some(own)) {
+            return;
+        }
+        self.events.raise(own);
+        if self.events.wait(Some(other)) {
+            count(&self.counts.met);
+        }
+    }
+
+    /// A log is opened again.
+    pub(crate) fn reopens(&self, log: LogId) {
+        if log.epoch.get() == 257 && log.index == 0 {
+            count(&self.counts.reopened);
+        }
+    }
+
+    /// A log is made.
+    pub(crate) fn makes(&self, epoch: u64, m: u8, k: u8) {
+        count(if self.wants(epoch, m, k) {
+            &self.counts.as_wanted
+        } else {
+            &self.counts.otherwise
+        });
+    }
+
+    /// Whether a log of an epoch may be made with these numbers now: of a later epoch once what its recoverer waits for
+    /// has happened.
+    fn wants(&self, epoch: u64, m: u8, k: u8) -> bool {
+        let first = (self.row.logs, self.row.degree);
+        if epoch == 257 {
+            return first == (m, k);
+        }
+        let mut recoveries = self.row.recoveries.iter().copied();
+        let Some(recovery) = recoveries.find(|each| each.ballot == epoch) else {
+            return false;
+        };
+        self.events.has(recovery.waits) && recovery.shape.unwrap_or(first) == (m, k)
     }
 
     /// Log (257, 0) is lost at the first turn, which waits for an event. From the next one on others know it.
-    fn loses(&self, turn: u32, event: Event) -> Option<Blow> {
+    fn loses(&self, turn: u32, event: Event, log: LogId) -> Option<Blow> {
         if turn > 1 {
             self.events.raise(Event::Lost);
             return None;
         }
-        let _happened = self.events.wait(event);
-        Some(Blow::Lose { log: self.log() })
-    }
-
-    fn crash(&self) -> Blow {
-        let LogId { epoch, index } = self.log();
-        Blow::Crash {
-            node: NodeId::Log { epoch, index },
-        }
+        self.events.wait(Some(event));
+        Some(Blow::Lose { log })
     }
 }
 
@@ -171,7 +165,10 @@ impl<R: Wait> Faults for Script<'_, R> {
     ghost begun = { λ s ballot turn. cond s.is_at_once (turn == 1) (turn + 100 == 100 * (ballot / 256)) };
 
     fn verdict(&self, to: NodeId, ask: &Ask) -> Verdict {
-        let ruled = self.ruled(&to, ask);
+        let ruled = match (&to, ask) {
+            (NodeId::Log { epoch, index }, Ask::Log(ask)) => self.ruled(epoch.get(), *index, ask),
+            _ => None,
+        };
         match ruled {
             Some(verdict) => verdict,
             None => self.storm.verdict(to, ask),
@@ -179,19 +176,19 @@ impl<R: Wait> Faults for Script<'_, R> {
     }
 
     fn answered(&self, to: NodeId, ask: &Ask) {
-        let Ask::Log(ask) = ask else {
-            return;
-        };
-        if let NodeId::Log { epoch, index } = to {
-            self.happens(epoch.get(), index, ask);
+        if let (NodeId::Log { epoch, index }, Ask::Log(ask)) = (&to, ask) {
+            self.happens(epoch.get(), *index, ask);
         }
     }
 
     fn strikes(&self, turn: u32, chosen: &[Chosen]) -> Option<Blow> {
-        match self.row.struck {
-            Struck::Never => self.storm.strikes(turn, chosen),
-            Struck::LostAfter(event) => self.loses(turn, event),
-            Struck::CrashesAt(at) => { if at == turn { Some(self.crash()) } else { None } }
+        let (epoch, index) = (chosen.first()?.generation.epoch(), 0);
+        match (self.row.crash, self.row.lose) {
+            (Some(at), _) => (at == turn).then_some(Blow::Crash {
+                node: NodeId::Log { epoch, index },
+            }),
+            (_, Some(event)) => self.loses(turn, event, LogId { epoch, index }),
+            _ => self.storm.strikes(turn, chosen),
         }
     }
 
@@ -200,9 +197,9 @@ impl<R: Wait> Faults for Script<'_, R> {
     }
 
     fn begins(&self, ballot: Ballot, turn: u32) -> bool {
-        for recovery in self.recoveries {
+        for recovery in self.row.recoveries.iter() {
             if recovery.ballot == ballot.get() {
-                self.events.wait_if(recovery.waits);
+                self.events.wait(recovery.waits);
             }
         }
         if self.is_at_once {
@@ -215,7 +212,7 @@ impl<R: Wait> Faults for Script<'_, R> {
     fn pulled(&self, _tag: Tag, turn: u32) {
         if let Some((at, event)) = self.row.pulled {
             if at == turn {
-                let _happened = self.events.wait(event);
+                self.events.wait(Some(event));
             }
         }
     }

@@ -2,27 +2,11 @@
 ghost use Rattle.std.specs.Prelude.{◌≤◌, length};
 
 use fr_base::Memory;
-use fr_device::{Device, DeviceFault, FaultyDevice, MemoryDevice};
-use std::alloc::Global;
+use fr_record::{Device, FaultyDevice, MemoryDevice};
 use std::process::Abort;
 use std::test::Fail;
 
 const ROOM: usize = 64;
-
-/// Writes these bytes from a place on, and does not sync them.
-fn put<D: Device>(device: &mut D, at: usize, bytes: &[u8]) -> Result<(), DeviceFault>
-    requires { at ≤ length (D.disk device.old).content }
-{
-    device.write_at(at, bytes)
-}
-
-fn syncs<D: Device>(device: &mut D) -> bool {
-    device.sync().is_ok()
-}
-
-fn len<D: Device>(device: &mut D) -> Option<usize> {
-    device.len().ok()
-}
 
 fn first_byte<D: Device>(device: &mut D) -> Option<u8>
     requires { 1 ≤ length (D.disk device.old).content }
@@ -36,27 +20,13 @@ fn first_byte<D: Device>(device: &mut D) -> Option<u8>
 
 /// Whether the second call fails, and no other; `capacity` and `failures` are no calls.
 fn fails_once(device: &mut FaultyDevice<MemoryDevice>) -> bool {
-    put(device, 0, &[7]).is_ok()
-        && !syncs(device)
+    device.write_at(0, &[7]).is_ok()
+        && device.sync().is_err()
         && device.calls() == 2
         && device.failures() == 1
-        && syncs(device)
-        && len(device) == Some(1)
+        && device.sync().is_ok()
+        && device.len() == Ok(1)
         && device.capacity() == ROOM
-}
-
-/// The device in memory below one that failed once.
-fn written(rt: &impl Abort, alloc: Global) -> Result<MemoryDevice, Fail> {
-    let mut device = FaultyDevice::once(MemoryDevice::new(alloc, ROOM)?, 2);
-    assert!(rt; fails_once(&mut device));
-    Ok(device.into_inner())
-}
-
-/// Whether each call fails.
-fn fails(device: &mut FaultyDevice<MemoryDevice>) -> bool
-    requires { 1 ≤ length device.old.device.bytes }
-{
-    first_byte(device).is_none() && len(device).is_none() && device.failures() == 2
 }
 
 /// The device in memory below one that failed in each call.
@@ -64,7 +34,8 @@ fn unread(rt: &impl Abort, inner: MemoryDevice) -> MemoryDevice
     requires { 1 ≤ length inner.bytes }
 {
     let mut device = FaultyDevice::from(inner, 1);
-    assert!(rt; fails(&mut device));
+    assert!(rt; first_byte(&mut device).is_none() && device.len().is_err());
+    assert!(rt; device.failures() == 2);
     device.into_inner()
 }
 
@@ -79,8 +50,9 @@ fn keeps(rt: &impl Abort, inner: MemoryDevice, byte: u8) -> bool {
 
 #[test]
 fn a_device_that_fails(rt: HostRuntime) -> Result<(), Fail> {
-    let inner = written(&rt, rt.alloc())?;
-    assert!(rt; keeps(&rt, inner, 7));
+    let mut device = FaultyDevice::once(MemoryDevice::new(rt.alloc(), ROOM)?, 2);
+    assert!(rt; fails_once(&mut device));
+    assert!(rt; keeps(&rt, device.into_inner(), 7));
     Ok(())
 }
 

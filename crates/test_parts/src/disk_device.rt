@@ -1,8 +1,7 @@
 //! Records on a device over a disk in memory that stops at each call, or fails for a while, and then crashes.
 use crate::gap::Gap;
-use fr_device::{Device, DeviceFault};
-use fr_host_device::DiskDevice;
-use fr_record::{RecordFault, Records};
+use fr_host::DiskDevice;
+use fr_record::{Device, DeviceFault, RecordFault, Records};
 use sqlite_disk::{Crash, Disk, Fuse, Memory as MemoryDisk};
 use std::alloc::Global;
 use std::test::Fail;
@@ -24,17 +23,12 @@ fn kept<D: Device>(alloc: Global, file: &mut Records<D>) -> usize {
 
 /// Whether a file has so many of the records, and no other.
 fn has<D: Device>(alloc: Global, file: &mut Records<D>, count: usize) -> bool {
-    if file.len() != count {
-        return false;
-    }
-    for (number, record) in RECORDS.iter().enumerate() {
-        if number < count
-            && !matches!(file.get(alloc, number), Ok(Some(found)) if found.as_slice() == *record)
-        {
+    for (number, record) in RECORDS.iter().take(count).enumerate() {
+        if !matches!(file.get(alloc, number), Ok(Some(found)) if found.as_slice() == *record) {
             return false;
         }
     }
-    true
+    file.len() == count
 }
 
 /// The disk below, after a crash.
@@ -64,10 +58,8 @@ fn made<K: Disk + Drop>(alloc: Global, below: K) -> Option<Records<DiskDevice<K>
     if !below.may_be_used() {
         return None;
     }
-    match DiskDevice::over(alloc, below, ROOM) {
-        Ok(device) => Records::format(alloc, device).ok(),
-        Err(_) => None,
-    }
+    let device = DiskDevice::over(alloc, below, ROOM).ok()?;
+    Records::format(alloc, device).ok()
 }
 
 #[test]
@@ -101,26 +93,24 @@ fn stays_shut<D: Device>(device: &mut D) -> bool {
 }
 
 #[test]
-fn a_disk_below_fails_for_a_while(rt: HostRuntime) {
+fn a_disk_below_fails_for_a_while(rt: HostRuntime) -> Result<(), Fail> {
     let alloc = rt.alloc();
     for before in 5..21u64 {
-        match made(alloc, Gap::new(MemoryDisk::new(alloc), before, 1)) {
-            None => assert!(rt; false, "not made before {before}"),
-            Some(mut file) => {
-                // (each record takes two writes and two syncs)
-                assert!(rt;
-                    kept(alloc, &mut file) == (before as usize).saturating_sub(5) / 4,
-                    "failed after {before}"
-                );
-                assert!(rt;
-                    file.append(alloc, b"x") == Err(RecordFault::Failed),
-                    "failed after {before}"
-                );
-                let mut device = file.into_device();
-                assert!(rt; stays_shut(&mut device), "failed after {before}");
-            }
-        }
+        let Some(mut file) = made(alloc, Gap::new(MemoryDisk::new(alloc), before, 1)) else {
+            return Err(Fail::from("it was not made"));
+        };
+        // (each record takes two writes and two syncs)
+        let number = (before as usize).saturating_sub(5) / 4;
+        assert!(rt; kept(alloc, &mut file) == number, "failed after {before}");
+        let further = file.append(alloc, b"x");
+        assert!(rt;
+            further == Err(RecordFault::Failed),
+            "failed after {before}"
+        );
+        let mut device = file.into_device();
+        assert!(rt; stays_shut(&mut device), "failed after {before}");
     }
+    Ok(())
 }
 
 /// A write past the room is refused, and what is there stays.

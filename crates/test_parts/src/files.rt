@@ -38,23 +38,13 @@ fn found<D: FaithfulDisk + Drop>(
     files: Files<D>,
     script: &str,
 ) -> Result<Vec<u8>, StoreFault> {
-    match SqlFileStore::open(alloc, files) {
-        Ok(store) => Ok(said(alloc, store, script)),
-        Err(fault) => Err(fault),
-    }
-}
-
-fn said<D: FaithfulDisk + Drop>(
-    alloc: Global,
-    mut store: SqlFileStore<D>,
-    script: &str,
-) -> Vec<u8> {
+    let mut store = SqlFileStore::open(alloc, files)?;
     let mut lines = Vec::new(alloc);
     if !runs(alloc, &mut store, script, &mut lines) {
         lines.clear();
     }
     let _files = store.into_files();
-    lines
+    Ok(lines)
 }
 
 /// Whether the store in files says this.
@@ -123,11 +113,12 @@ fn a_store_is_opened_where_one_was_made(rt: HostRuntime) -> Result<(), Fail> {
 }
 
 /// Two batches, a forget that takes the undo row of the first, an undo below the floor and a forget of what is to come.
-const SCRIPT: &str = r#"{"ops":[{"apply":{"version":8,"batch":[{"set":{"key":"61","value":"01"}}]}},
+pub(crate) const SCRIPT: &str =
+    r#"{"ops":[{"apply":{"version":8,"batch":[{"set":{"key":"61","value":"01"}}]}},
     {"apply":{"version":9,"batch":[{"set":{"key":"61","value":"02"}}]}},
     {"forget":{"through":8}},{"undo":{"to":7}},{"forget":{"through":10}}]}"#;
 
-const LINES: &str =
+pub(crate) const LINES: &str =
     "ok 8 floor 0 undo 1\nok 9 floor 0 undo 2\nok 9 floor 8 undo 1\nrefused BelowFloor\nrefused AboveApplied\n61 02\n";
 
 /// What a store shows once so many of the calls were made.
@@ -145,17 +136,6 @@ fn crashed<D: Crash>(mut files: Files<D>) -> Files<D> {
     files.log.crash();
     files.db.crash();
     files
-}
-
-/// How many lines there are.
-fn count(lines: &[u8]) -> usize {
-    let mut count = 0_usize;
-    for byte in lines {
-        if *byte == b'\n' {
-            count = count.saturating_add(1);
-        }
-    }
-    count
 }
 
 /// What a store answers that is to forget what it forgot.
@@ -183,7 +163,7 @@ fn done_on<D: FaithfulDisk + Crash + Drop>(
     let further = forgets_again(alloc, &mut store);
     let left = found(alloc, crashed(store.into_files()), SHOW);
     let lines = lines.as_slice();
-    let done = count(lines);
+    let done = lines.iter().filter(|byte| **byte == b'\n').count();
     let is_right = match (further, left) {
         (Ok(()), Ok(left)) => is_done && is_left(left.as_slice(), done, is_done),
         (Err(StoreFault::Failed), Ok(left)) => !is_done && is_left(left.as_slice(), done, is_done),
@@ -194,14 +174,9 @@ fn done_on<D: FaithfulDisk + Crash + Drop>(
 
 /// Files of which the log, or the database, stops after so many calls.
 fn fused(files: Files<MemoryDisk>, of_log: bool, calls: u64) -> Files<Fuse<MemoryDisk>> {
-    let (log, db) = if of_log {
-        (calls, u64::MAX)
-    } else {
-        (u64::MAX, calls)
-    };
     Files {
-        log: Fuse::new(files.log, log),
-        db: Fuse::new(files.db, db),
+        log: Fuse::new(files.log, if of_log { calls } else { u64::MAX }),
+        db: Fuse::new(files.db, if of_log { u64::MAX } else { calls }),
     }
 }
 

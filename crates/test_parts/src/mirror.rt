@@ -1,7 +1,7 @@
 //! A mirror over a disk in memory that stops at each call, or fails for a while. What is wanted was worked out by hand
 //! from what each call is to do to a file.
 use crate::gap::Gap;
-use fr_host_mirror::Mirror;
+use fr_host::Mirror;
 use sqlite_disk::{Disk, Fuse, Memory as MemoryDisk};
 use std::alloc::Global;
 use std::process::Abort;
@@ -41,12 +41,9 @@ static ROWS: [(Call, &[u8]); 10] = [
 
 /// What the file holds once so many of the calls were made.
 fn after(calls: usize) -> &'static [u8] {
-    match calls {
-        0 => &[],
-        _ => match ROWS.get(calls.saturating_sub(1)) {
-            Some(row) => row.1,
-            None => &[],
-        },
+    match calls.checked_sub(1).and_then(|last| ROWS.get(last)) {
+        Some(row) => row.1,
+        None => &[],
     }
 }
 
@@ -64,13 +61,10 @@ fn does<D: Disk>(disk: &mut D, call: Call) -> bool {
 
 /// Whether a disk reads so, and ends there.
 fn reads<D: Disk>(disk: &mut D, wanted: &[u8]) -> bool {
-    let mut room = [0; 16];
-    let len = wanted.len();
-    if len > room.len() || !disk.may_be_used() {
-        return false;
-    }
-    let is_read = matches!(disk.len(), Ok(found) if found == len);
-    is_read
+    let (mut room, len) = ([0; 16], wanted.len());
+    len <= room.len()
+        && disk.may_be_used()
+        && matches!(disk.len(), Ok(found) if found == len)
         && disk.may_be_used()
         && disk.read_at(0, &mut room[..len]).is_ok()
         && &room[..len] == wanted
@@ -105,10 +99,8 @@ fn stops(rt: &impl Abort, alloc: Global, calls: u64) -> Option<usize> {
         assert!(rt; is_over(&mut mirror), "stopped after {calls}");
     }
     let below = mirror.below().inner().bytes();
-    assert!(rt;
-        below == after(number) || below == after(number.saturating_add(1)),
-        "stopped after {calls}"
-    );
+    let is_left = below == after(number) || below == after(number.saturating_add(1));
+    assert!(rt; is_left, "stopped after {calls}");
     Some(number)
 }
 
@@ -120,12 +112,8 @@ fn a_disk_below_stops_at_each_call(rt: HostRuntime) {
             // (it is measured and read first)
             None => assert!(rt; calls < 2),
             Some(number) => {
-                assert!(rt;
-                    number == met
-                        || number == met.saturating_add(1)
-                        || number == met.saturating_add(2),
-                    "stopped after {calls}"
-                );
+                let is_next = met <= number && number <= met.saturating_add(2);
+                assert!(rt; is_next, "stopped after {calls}");
                 met = number;
             }
         }
@@ -158,10 +146,8 @@ fn goes_on(rt: &impl Abort, alloc: Global, before: u64, failing: u64) -> Option<
             reads(&mut mirror, wanted),
             "failed after {before}, call {number}"
         );
-        assert!(rt;
-            mirror.below().inner().bytes() == *wanted,
-            "failed after {before}, call {number}"
-        );
+        let below = mirror.below().inner().bytes();
+        assert!(rt; below == *wanted, "failed after {before}, call {number}");
     }
     Some(ROWS.len())
 }
@@ -174,11 +160,8 @@ fn a_disk_below_fails_for_a_while(rt: HostRuntime) {
         for before in 2..40u64 {
             match goes_on(&rt, rt.alloc(), before, failing) {
                 None => assert!(rt; false, "not read after {before}"),
-                Some(number) => {
-                    if number == ROWS.len() {
-                        whole = whole.saturating_add(1);
-                    }
-                }
+                Some(number) if number == ROWS.len() => whole = whole.saturating_add(1),
+                Some(_) => {}
             }
         }
         // (of its 11 calls below five are writes and what compares a gap; behind them none fails)
@@ -186,10 +169,17 @@ fn a_disk_below_fails_for_a_while(rt: HostRuntime) {
     }
 }
 
+/// A call, and what the file holds after it.
+static NEXT: [(Call, &[u8]); 3] = [
+    (Call::Write(4, b"ef"), b"aXYdef"),
+    (Call::Sync, b"aXYd"),
+    (Call::Cut(4), b"aXYd"),
+];
+
 /// A write that failed is made anew by the call after it, also if that is another one.
 #[test]
 fn a_write_is_made_anew_before_the_next_call(rt: HostRuntime) -> Result<(), Fail> {
-    for next in [Call::Write(4, b"ef"), Call::Sync, Call::Cut(4)] {
+    for (next, wanted) in &NEXT {
         // (it is measured, read, written and synced before it fails)
         let below = Gap::new(MemoryDisk::new(rt.alloc()), 4, 1);
         let Some(mut mirror) = over(rt.alloc(), below) else {
@@ -198,14 +188,8 @@ fn a_write_is_made_anew_before_the_next_call(rt: HostRuntime) -> Result<(), Fail
         assert!(rt; does(&mut mirror, Call::Write(0, b"abcd")) && does(&mut mirror, Call::Sync));
         assert!(rt; !does(&mut mirror, Call::Write(1, b"XY")));
         assert!(rt; mirror.below().inner().bytes() == b"abcd".as_slice());
-        assert!(rt; does(&mut mirror, next));
-        let wanted = if matches!(next, Call::Write(_, _)) {
-            b"aXYdef".as_slice()
-        } else {
-            b"aXYd".as_slice()
-        };
-        assert!(rt; reads(&mut mirror, wanted));
-        assert!(rt; mirror.below().inner().bytes() == wanted);
+        assert!(rt; does(&mut mirror, *next) && reads(&mut mirror, wanted));
+        assert!(rt; mirror.below().inner().bytes() == *wanted);
     }
     Ok(())
 }

@@ -2,28 +2,21 @@
 use crate::subjects::Nodes;
 use fr_ask::{Ask, Last, Tell};
 use fr_base::{Memory, NodeId};
-use fr_forms::Formed;
 use fr_log::{LogAsk, LogTell, Peeked, PeekedRecord, Push, Seed, SeedRecord};
 use serde_json::Value;
 use std::alloc::Global;
 use std::cmp::Ordering;
-use test_rows::fields::items;
-use test_rows::json::{read_ask, read_last, read_node, read_tell, write_all};
-use test_rows::{NO_FORM, Plays, RowAsk, Scene, ScriptFault, Wrong, no_such_word};
+use test_rows::{
+    Formed, NO_FORM, Plays, RowAsk, RowTold, Wrong, items, no_such_word, read_as, told, write_all,
+};
 
 /// What is copied and has a form.
 pub(crate) trait Copied: Formed {
     /// A copy.
     fn copied(&self) -> Result<Self, Memory>;
-}
-
-/// What is read and told apart too.
-pub(crate) trait Kind: Copied + PartialEq {
-    /// Reads one.
-    fn read(alloc: Global, given: Value) -> Result<Self, ScriptFault>;
 
     /// What a copy of it gives back: the bodies of a push, the records of a seed or of what is peeked, each copied.
-    fn parts(&self, _alloc: Global) -> Result<Value, Wrong> {
+    fn parts(&self, _alloc: Global) -> RowTold {
         Err(NO_FORM)
     }
 
@@ -33,39 +26,33 @@ pub(crate) trait Kind: Copied + PartialEq {
     }
 }
 
-/// Some of a kind.
+/// Some of a kind, which the word of the first row names.
 #[derive(Drop)]
-struct Several<K: Kind> {
-    all: Vec<K>,
+pub(crate) struct Several<C: Copied> {
+    kind: String,
+    all: Vec<C>,
 }
 
-/// Plays rows with some of a kind.
-pub(crate) fn play_several<K: Kind>(
-    alloc: Global,
-    scene: Scene,
-    at: &mut usize,
-) -> Result<(), Wrong> {
-    let several: Result<Several<K>, Wrong> = read_several(alloc, scene.given(alloc)?.take_all());
-    scene.play_made(alloc, &Nodes, several, at)
-}
-
-fn read_several<K: Kind>(alloc: Global, given: Value) -> Result<Several<K>, Wrong> {
-    let mut all = Vec::new(alloc);
-    for item in items(given)? {
-        all.push(K::read(alloc, item)?)?;
+impl<C: Copied + PartialEq> Plays<Several<C>> for Nodes {
+    fn make(&self, row: &mut RowAsk) -> Result<Several<C>, Wrong> {
+        let mut all = Vec::new(row.alloc);
+        for item in items(row.all()?)? {
+            all.push(read_as(row.alloc, item, row.word)?)?;
+        }
+        let kind = String::from_str(row.alloc, row.word)?;
+        Ok(Several { kind, all })
     }
-    Ok(Several { all })
-}
 
-impl<K: Kind> Plays<Several<K>> for Nodes {
-    fn play_row(&self, several: &mut Several<K>, row: &mut RowAsk) -> Result<Value, Wrong> {
+    fn play_row(&self, several: &mut Several<C>, row: &mut RowAsk) -> RowTold {
+        let kind = several.kind.as_str();
         let all = several.all.as_slice();
         match row.word {
-            "same" => read_numbers(row.alloc, all, row.take_all(), How::Same),
-            "before" => read_numbers(row.alloc, all, row.take_all(), How::Before),
-            "behind" => read_numbers(row.alloc, all, row.take_all(), How::Behind),
-            "make" => write_made(K::read(row.alloc, row.take_all())),
-            "parts" => write_parts(row.alloc, K::read(row.alloc, row.take_all())),
+            "same" | "before" | "behind" => numbers(all, kind, row),
+            "make" => {
+                let given = row.all()?;
+                write_made::<C>(read_as(row.alloc, given, kind))
+            }
+            "parts" => write_parts::<C>(row.alloc, row.read(kind)),
             "state" => write_copies(row.alloc, all),
             _ => no_such_word(
                 "rows of asks, tells, lasts or nodes: same, make, parts, before, behind, state",
@@ -74,14 +61,15 @@ impl<K: Kind> Plays<Several<K>> for Nodes {
     }
 }
 
-/// The numbers, from 0, of those that are the same as another one, before it or behind it.
-fn numbers<K: Kind>(alloc: Global, all: &[K], other: &K, how: How) -> Result<Value, Wrong> {
-    let mut numbers = Vec::new(alloc);
+/// The numbers, from 0, of those whose copy is the same as another one, or which stand before it or behind it.
+fn numbers<C: Copied + PartialEq>(all: &[C], kind: &str, row: &mut RowAsk) -> RowTold {
+    let other: C = row.read(kind)?;
+    let mut numbers = Vec::new(row.alloc);
     for (number, one) in all.iter().enumerate() {
-        let is_so = match how {
-            How::Same => is_same(one.copied(), other)?,
-            How::Before => one.stands_to(other)? == Ordering::Less,
-            How::Behind => one.stands_to(other)? == Ordering::Greater,
+        let is_so = match row.word {
+            "same" => is_same(one.copied(), &other)?,
+            "before" => one.stands_to(&other)? == Ordering::Less,
+            _ => one.stands_to(&other)? == Ordering::Greater,
         };
         if is_so {
             numbers.push(Value::from(number))?;
@@ -90,63 +78,40 @@ fn numbers<K: Kind>(alloc: Global, all: &[K], other: &K, how: How) -> Result<Val
     Ok(Value::Array(numbers))
 }
 
-/// How one stands to another.
-#[derive(Clone, Copy)]
-enum How {
-    Same,
-    Before,
-    Behind,
-}
-
-fn read_numbers<K: Kind>(alloc: Global, all: &[K], given: Value, how: How) -> Result<Value, Wrong> {
-    let other = K::read(alloc, given)?;
-    numbers(alloc, all, &other, how)
-}
-
 /// Whether a copy is another one, also by what says that they differ.
-fn is_same<K: Kind>(copy: Result<K, Memory>, other: &K) -> Result<bool, Wrong> {
+fn is_same<C: Copied + PartialEq>(copy: Result<C, Memory>, other: &C) -> Result<bool, Wrong> {
     let copy = copy?;
     Ok(copy == *other && !(copy != *other))
 }
 
 /// Whether there is such a one.
-fn write_made<K: Kind>(read: Result<K, ScriptFault>) -> Result<Value, Wrong> {
+fn write_made<C: Copied>(read: Result<C, Wrong>) -> RowTold {
     match read {
         Ok(_) => Ok(Value::from(true)),
-        Err(ScriptFault::BadScript) => Ok(Value::from(false)),
-        Err(ScriptFault::Memory) => Err(Wrong::Memory),
+        Err(Wrong::Form(_)) => Ok(Value::from(false)),
+        Err(wrong) => Err(wrong),
     }
 }
 
-fn write_parts<K: Kind>(alloc: Global, read: Result<K, ScriptFault>) -> Result<Value, Wrong> {
+fn write_parts<C: Copied>(alloc: Global, read: Result<C, Wrong>) -> RowTold {
     read?.parts(alloc)
 }
 
 /// The forms of copies.
-fn write_copies<C: Copied>(alloc: Global, all: &[C]) -> Result<Value, Wrong> {
+fn write_copies<C: Copied>(alloc: Global, all: &[C]) -> RowTold {
     let mut forms = Vec::new(alloc);
     for one in all {
-        forms.push(form_of(alloc, one.copied())?)?;
+        forms.push(told(alloc, one.copied())?)?;
     }
     Ok(Value::Array(forms))
-}
-
-fn form_of<C: Copied>(alloc: Global, copy: Result<C, Memory>) -> Result<Value, Wrong> {
-    Ok(copy?.to_value(alloc)?)
 }
 
 impl Copied for Ask {
     fn copied(&self) -> Result<Self, Memory> {
         self.copy()
     }
-}
 
-impl Kind for Ask {
-    fn read(alloc: Global, given: Value) -> Result<Self, ScriptFault> {
-        read_ask(alloc, given)
-    }
-
-    fn parts(&self, alloc: Global) -> Result<Value, Wrong> {
+    fn parts(&self, alloc: Global) -> RowTold {
         match self {
             Ask::Log(LogAsk::Push(push)) => write_pushed(alloc, push.copy()),
             Ask::Log(LogAsk::Seed(seed)) => write_seeded(alloc, seed.copy()),
@@ -155,14 +120,12 @@ impl Kind for Ask {
     }
 }
 
-fn write_pushed(alloc: Global, push: Result<Push, Memory>) -> Result<Value, Wrong> {
-    let bodies = push?.into_bodies();
-    Ok(write_all(alloc, bodies.as_slice())?)
+fn write_pushed(alloc: Global, push: Result<Push, Memory>) -> RowTold {
+    Ok(write_all(alloc, push?.into_bodies().as_slice())?)
 }
 
-fn write_seeded(alloc: Global, seed: Result<Seed, Memory>) -> Result<Value, Wrong> {
-    let records = seed?.into_records();
-    write_copies(alloc, records.as_slice())
+fn write_seeded(alloc: Global, seed: Result<Seed, Memory>) -> RowTold {
+    write_copies(alloc, seed?.into_records().as_slice())
 }
 
 impl Copied for SeedRecord {
@@ -175,14 +138,8 @@ impl Copied for Tell {
     fn copied(&self) -> Result<Self, Memory> {
         self.copy()
     }
-}
 
-impl Kind for Tell {
-    fn read(alloc: Global, given: Value) -> Result<Self, ScriptFault> {
-        read_tell(alloc, given)
-    }
-
-    fn parts(&self, alloc: Global) -> Result<Value, Wrong> {
+    fn parts(&self, alloc: Global) -> RowTold {
         match self {
             Tell::Log(LogTell::Peeked(peeked)) => write_peeked(alloc, peeked.copy()),
             _ => Err(NO_FORM),
@@ -190,9 +147,8 @@ impl Kind for Tell {
     }
 }
 
-fn write_peeked(alloc: Global, peeked: Result<Peeked, Memory>) -> Result<Value, Wrong> {
-    let records = peeked?.into_records();
-    write_copies(alloc, records.as_slice())
+fn write_peeked(alloc: Global, peeked: Result<Peeked, Memory>) -> RowTold {
+    write_copies(alloc, peeked?.into_records().as_slice())
 }
 
 impl Copied for PeekedRecord {
@@ -207,21 +163,9 @@ impl Copied for Last {
     }
 }
 
-impl Kind for Last {
-    fn read(alloc: Global, given: Value) -> Result<Self, ScriptFault> {
-        read_last(alloc, given)
-    }
-}
-
 impl Copied for NodeId {
     fn copied(&self) -> Result<Self, Memory> {
         Ok(*self)
-    }
-}
-
-impl Kind for NodeId {
-    fn read(alloc: Global, given: Value) -> Result<Self, ScriptFault> {
-        read_node(alloc, given)
     }
 
     fn stands_to(&self, other: &Self) -> Result<Ordering, Wrong> {

@@ -1,35 +1,44 @@
 //! Shards, which mutations concern which, and which logs hold which tag.
 use crate::contents::write_shard;
-use crate::nodes::{map_of, read_logs};
 use crate::subjects::Nodes;
-use fr_base::{Memory, Tag};
-use fr_cli_json::tree::read_bytes;
-use fr_mutation::Shard;
-use fr_tags::{Body, ShardFault, ShardMap, covers, holders, is_held};
+use fr_base::{Bytes, Memory};
+use fr_mutation::{Batch, Shard};
+use fr_tags::{ShardFault, ShardMap, covers, holders, is_held};
 use serde_json::Value;
 use std::alloc::Global;
-use test_rows::fields::{Fields, tag_of};
-use test_rows::json::{read_batch, read_shards, write_all};
-use test_rows::{Plays, RowAsk, Scene, Wrong, no_such_word, read_sizes, write_name};
+use test_rows::{Plays, RowAsk, RowTold, Wrong, done, no_such_word, read_sizes, told, write_all};
 
-/// Plays rows with a map of shards that begin at these keys.
-pub(crate) fn play_shards(alloc: Global, scene: Scene, at: &mut usize) -> Result<(), Wrong> {
-    let begins = read_shards(alloc, scene.given(alloc)?.take_all())?;
-    scene.play_made(alloc, &Nodes, map_of(begins), at)
+/// How the keys are cut into shards.
+pub(crate) fn read_map(row: &mut RowAsk) -> Result<ShardMap, Wrong> {
+    map_of(row.get("shards")?)
+}
+
+/// The map of shards that begin at these keys.
+fn map_of(begins: Vec<Bytes>) -> Result<ShardMap, Wrong> {
+    match ShardMap::new(begins) {
+        Ok(map) => Ok(map),
+        Err(ShardFault::Memory) => Err(Wrong::Memory),
+        Err(_) => Err(Wrong::Form("these begins make no shards")),
+    }
 }
 
 impl Plays<ShardMap> for Nodes {
-    fn play_row(&self, map: &mut ShardMap, row: &mut RowAsk) -> Result<Value, Wrong> {
+    fn make(&self, row: &mut RowAsk) -> Result<ShardMap, Wrong> {
+        map_of(row.read("shards")?)
+    }
+
+    fn play_row(&self, map: &mut ShardMap, row: &mut RowAsk) -> RowTold {
+        let alloc = row.alloc;
         match row.word {
-            "split" => split(row.alloc, map, row.of(3)),
-            "tags_of" => tags(row.alloc, map, row.take_all()),
-            "tag_of" => tag_at(row.alloc, map, row.all()),
-            "shard_of" => write_found(row.alloc, map.shard_of(row.alloc, tag_of(row.all())?)),
-            "holders" => held_by(row.alloc, row.of(3)),
-            "is_held" => is_held_by(row.of(4)),
-            "covers" => do_cover(row.alloc, row.of(3)),
-            "make" => make(row.alloc, row.take_all()),
-            "state" => write_map(row.alloc, map.copy()),
+            "split" => split(map, row),
+            "tags_of" => tags(map, row),
+            "tag_of" => Ok(Value::from(map.tag_of(&row.read("key")?).get())),
+            "shard_of" => write_found(alloc, map.shard_of(alloc, row.read("tag")?)),
+            "holders" => held_by(row),
+            "is_held" => is_held_by(row),
+            "covers" => do_cover(row),
+            "make" => done(alloc, ShardMap::new(row.read("shards")?).map(|_| ())),
+            "state" => write_map(alloc, map.copy()),
             _ => no_such_word(
                 "rows of shards: split, tags_of, tag_of, shard_of, holders, is_held, covers, make, \
                  state",
@@ -39,51 +48,27 @@ impl Plays<ShardMap> for Nodes {
 }
 
 /// What each log gets of a batch.
-fn split(alloc: Global, map: &ShardMap, fields: &mut Fields) -> Result<Value, Wrong> {
-    let (m, k) = read_sizes(fields)?;
-    let batch = read_batch(alloc, fields.take("batch")?)?;
-    write_logs(alloc, map.split(alloc, &batch, m, k))
-}
-
-fn write_logs(alloc: Global, logs: Result<Vec<Vec<Body>>, Memory>) -> Result<Value, Wrong> {
-    let logs = logs?;
-    let mut made = Vec::new(alloc);
-    for bodies in &logs {
-        made.push(write_all(alloc, bodies.as_slice())?)?;
-    }
-    Ok(Value::Array(made))
+fn split(map: &ShardMap, row: &mut RowAsk) -> RowTold {
+    let (m, k) = read_sizes(row)?;
+    let batch = row.get("batch")?;
+    told(row.alloc, map.split(row.alloc, &batch, m, k))
 }
 
 /// The tags that a batch of one mutation concerns.
-fn tags(alloc: Global, map: &ShardMap, given: Value) -> Result<Value, Wrong> {
-    let batch = read_batch(alloc, given)?;
+fn tags(map: &ShardMap, row: &mut RowAsk) -> RowTold {
+    let batch: Batch = row.read("batch")?;
     match batch.mutations() {
-        [mutation] => write_numbers(alloc, map.tags_of(alloc, mutation)),
+        [mutation] => told(row.alloc, map.tags_of(row.alloc, mutation)),
         _ => Err(Wrong::Form("a batch of one mutation is wanted here")),
     }
 }
 
-/// Numbers of tags.
-fn write_numbers(alloc: Global, tags: Result<Vec<Tag>, Memory>) -> Result<Value, Wrong> {
-    let tags = tags?;
-    let mut made = Vec::new(alloc);
-    for tag in &tags {
-        made.push(Value::from(tag.get()))?;
-    }
-    Ok(Value::Array(made))
-}
-
-fn tag_at(alloc: Global, map: &ShardMap, given: &Value) -> Result<Value, Wrong> {
-    let key = read_bytes(alloc, Some(given))?;
-    Ok(Value::from(map.tag_of(&key).get()))
-}
-
-fn write_map(alloc: Global, map: Result<ShardMap, Memory>) -> Result<Value, Wrong> {
+fn write_map(alloc: Global, map: Result<ShardMap, Memory>) -> RowTold {
     Ok(write_all(alloc, map?.begins())?)
 }
 
 /// A shard, or null if there is none.
-fn write_found(alloc: Global, shard: Result<Option<Shard>, Memory>) -> Result<Value, Wrong> {
+fn write_found(alloc: Global, shard: Result<Option<Shard>, Memory>) -> RowTold {
     match shard? {
         Some(shard) => write_shard(alloc, &shard),
         None => Ok(Value::Null),
@@ -91,40 +76,20 @@ fn write_found(alloc: Global, shard: Result<Option<Shard>, Memory>) -> Result<Va
 }
 
 /// The logs that hold a tag.
-fn held_by(alloc: Global, fields: &Fields) -> Result<Value, Wrong> {
-    let (m, k) = read_sizes(fields)?;
-    let logs = holders(alloc, fields.tag("tag")?, m, k)?;
-    let mut made = Vec::new(alloc);
-    for log in &logs {
-        made.push(Value::from(*log))?;
-    }
-    Ok(Value::Array(made))
+fn held_by(row: &mut RowAsk) -> RowTold {
+    let (m, k) = read_sizes(row)?;
+    told(row.alloc, holders(row.alloc, row.get("tag")?, m, k))
 }
 
-fn is_held_by(fields: &Fields) -> Result<Value, Wrong> {
-    let (m, k) = read_sizes(fields)?;
-    let log = fields.index("log", u8::MAX)?;
-    let tag = fields.tag("tag")?;
+fn is_held_by(row: &mut RowAsk) -> RowTold {
+    let (m, k) = read_sizes(row)?;
+    let (tag, log) = (row.get("tag")?, row.get("log")?);
     Ok(Value::from(is_held(tag, m, k, log)))
 }
 
 /// Whether a set of logs covers all tags.
-fn do_cover(alloc: Global, fields: &mut Fields) -> Result<Value, Wrong> {
-    let (m, k) = read_sizes(fields)?;
-    let logs = read_logs(alloc, fields.take("logs")?)?;
+fn do_cover(row: &mut RowAsk) -> RowTold {
+    let (m, k) = read_sizes(row)?;
+    let logs: Vec<u8> = row.get_as("logs", "numbers")?;
     Ok(Value::from(covers(m, k, logs.as_slice())))
-}
-
-/// Null if these begins make a map, and why not if they do not.
-fn make(alloc: Global, given: Value) -> Result<Value, Wrong> {
-    let begins = read_shards(alloc, given)?;
-    match ShardMap::new(begins) {
-        Ok(_) => Ok(Value::Null),
-        Err(ShardFault::NotSorted) => write_name(alloc, "NotSorted"),
-        Err(ShardFault::Empty) => write_name(alloc, "Empty"),
-        Err(ShardFault::Uncovered) => write_name(alloc, "Uncovered"),
-        Err(ShardFault::TooMany) => write_name(alloc, "TooMany"),
-        Err(ShardFault::BeginTooLong) => write_name(alloc, "BeginTooLong"),
-        Err(ShardFault::Memory) => Err(Wrong::Memory),
-    }
 }

@@ -1,27 +1,107 @@
-//! The end of an epoch, as the replies of its logs tell it.
+//! What is counted until it is enough: the answers of cells to a ballot, the replies of logs that are locked, and what
+//! an epoch takes over.
 use crate::subjects::Nodes;
-use fr_epoch::{EndTally, EpochEnd, Inconsistent, ReplyFault};
+use fr_ask::{Ask, Tell};
+use fr_base::{LogId, Memory, Version};
+use fr_epoch::{EndTally, EpochEnd, Inconsistent};
+use fr_log::{LogAsk, LogTell};
+use fr_register::{CellTell, Progress, ReadTally, WriteTally};
+use fr_tags::MAX_SHARDS;
+use fr_tail::Tail;
 use serde_json::Value;
 use std::alloc::Global;
-use test_rows::fields::Fields;
-use test_rows::object::ObjectMembers;
-use test_rows::{Plays, RowAsk, Scene, Wrong, no_such_word, read_sizes, said, write_name};
+use test_rows::{
+    NO_FORM, Object, Plays, RowAsk, RowTold, Wrong, done, members, named, no_such_word, read_sizes,
+    text_value, told, twice,
+};
 
-/// Plays rows with a tally that no log replied to.
-pub(crate) fn play_tally(alloc: Global, scene: Scene, at: &mut usize) -> Result<(), Wrong> {
-    let tally = read_tally(scene.given(alloc)?.of(2));
-    scene.play_made(alloc, &Nodes, tally, at)
+/// What comes of a row of a tally of cells, of which `write` writes how far it has come.
+macro_rules! play_poll {
+    ($tally:ident, $row:ident, $write:ident) => {
+        match $row.word {
+            "hear" => {
+                let (cell, tell) = ($row.get("cell")?, read_cell_tell($row)?);
+                let progress = $tally.hear(cell, tell)?;
+                twice!($write($row.alloc, progress, $tally))
+            }
+            "heard" => Ok(Value::from($tally.has_heard($row.read("cell")?))),
+            "made" => write_made($row.alloc, $tally.cells(), $tally.ballot().get()),
+            "state" => {
+                let copy = $tally.copy()?;
+                Ok($write($row.alloc, copy.progress(), &copy)?)
+            }
+            _ => no_such_word("rows of a read_tally or a write_tally: hear, heard, made, state"),
+        }
+    };
 }
 
-fn read_tally(fields: &Fields) -> Result<EndTally, Wrong> {
-    let (m, k) = read_sizes(fields)?;
-    Ok(EndTally::new(m, k))
+impl Plays<ReadTally> for Nodes {
+    fn make(&self, row: &mut RowAsk) -> Result<ReadTally, Wrong> {
+        let cells = row.get("cells")?;
+        Ok(ReadTally::new(row.alloc, cells, row.get("ballot")?))
+    }
+
+    fn play_row(&self, tally: &mut ReadTally, row: &mut RowAsk) -> RowTold {
+        play_poll!(tally, row, write_read)
+    }
+}
+
+impl Plays<WriteTally> for Nodes {
+    fn make(&self, row: &mut RowAsk) -> Result<WriteTally, Wrong> {
+        let cells = row.get("cells")?;
+        Ok(WriteTally::new(row.alloc, cells, row.get("ballot")?))
+    }
+
+    fn play_row(&self, tally: &mut WriteTally, row: &mut RowAsk) -> RowTold {
+        play_poll!(tally, row, write_write)
+    }
+}
+
+fn read_cell_tell(row: &mut RowAsk) -> Result<CellTell, Wrong> {
+    match row.get("tell")? {
+        Tell::Cell(tell) => Ok(tell),
+        _ => Err(NO_FORM),
+    }
+}
+
+fn write_made(alloc: Global, cells: u8, ballot: u64) -> RowTold {
+    let numbers = [("cells", u64::from(cells)), ("ballot", ballot)];
+    Ok(members(alloc, &numbers)?.into_value())
+}
+
+fn write_progress(alloc: Global, progress: Progress) -> Result<Value, Memory> {
+    match progress {
+        Progress::Waiting => text_value(alloc, "Waiting"),
+        Progress::Majority => text_value(alloc, "Majority"),
+        Progress::Lost { promised } => {
+            members(alloc, &[("promised", promised.get())])?.named("lost")
+        }
+    }
+}
+
+fn write_write(alloc: Global, progress: Progress, _tally: &WriteTally) -> Result<Value, Memory> {
+    write_progress(alloc, progress)
+}
+
+/// The same, and the greatest ballot that a cell wrote, with its value.
+fn write_read(alloc: Global, progress: Progress, tally: &ReadTally) -> Result<Value, Memory> {
+    let (written, value) = tally.greatest();
+    Object::new(alloc)
+        .with("written", &written)?
+        .with("value", value)?
+        .put("progress", write_progress(alloc, progress))?
+        .value()
 }
 
 impl Plays<EndTally> for Nodes {
-    fn play_row(&self, tally: &mut EndTally, row: &mut RowAsk) -> Result<Value, Wrong> {
+    fn make(&self, row: &mut RowAsk) -> Result<EndTally, Wrong> {
+        let (m, k) = read_sizes(row)?;
+        Ok(EndTally::new(m, k))
+    }
+
+    fn play_row(&self, tally: &mut EndTally, row: &mut RowAsk) -> RowTold {
         match row.word {
-            "reply" => reply(row.alloc, tally, row.of(3)),
+            "reply" => reply(tally, row),
             "state" => write_end(row.alloc, tally.copy().end()),
             _ => no_such_word("rows of an end_tally: reply, state"),
         }
@@ -29,34 +109,74 @@ impl Plays<EndTally> for Nodes {
 }
 
 /// The end after a reply, or why the reply does not count.
-fn reply(alloc: Global, tally: &mut EndTally, fields: &Fields) -> Result<Value, Wrong> {
-    let log = fields.index("log", u8::MAX)?;
-    let durable = fields.version("durable")?;
-    let known = fields.version("known")?;
-    match tally.hear(log, durable, known) {
-        Ok(()) => told_end(alloc, tally),
-        Err(ReplyFault::Stranger) => write_name(alloc, "Stranger"),
-        Err(ReplyFault::Differs) => write_name(alloc, "Differs"),
-    }
-}
-
-/// The end after a reply that was heard. If there is no memory for it, it is written once more, since the reply is not
-/// to be heard again.
-fn told_end(alloc: Global, tally: &EndTally) -> Result<Value, Wrong> {
-    match write_end(alloc, tally.end()) {
-        Ok(end) => Ok(end),
-        Err(_) => said(write_end(alloc, tally.end())),
+fn reply(tally: &mut EndTally, row: &mut RowAsk) -> RowTold {
+    let (log, durable) = (row.get("log")?, row.get("durable")?);
+    match tally.hear(log, durable, row.get("known")?) {
+        Ok(()) => write_end(row.alloc, tally.end()),
+        Err(fault) => named(row.alloc, &fault),
     }
 }
 
 /// Null while the replies do not cover.
-fn write_end(alloc: Global, end: Result<Option<EpochEnd>, Inconsistent>) -> Result<Value, Wrong> {
+fn write_end(alloc: Global, end: Result<Option<EpochEnd>, Inconsistent>) -> RowTold {
     match end {
         Ok(None) => Ok(Value::Null),
-        Ok(Some(EpochEnd { pev, rv })) => {
-            let numbers = [("pev", pev.get()), ("rv", rv.get())];
-            Ok(ObjectMembers::of(alloc, &numbers)?.value())
-        }
-        Err(Inconsistent) => write_name(alloc, "Inconsistent"),
+        Ok(Some(EpochEnd { pev, rv })) => twice!(write_versions(alloc, pev, rv)),
+        Err(fault) => named(alloc, &fault),
     }
+}
+
+fn write_versions(alloc: Global, pev: Version, rv: Version) -> Result<Value, Memory> {
+    members(alloc, &[("pev", pev.get()), ("rv", rv.get())])?.value()
+}
+
+impl Plays<Tail> for Nodes {
+    fn make(&self, row: &mut RowAsk) -> Result<Tail, Wrong> {
+        let tags: u8 = row.get("tags")?;
+        let (pev, rv): (Version, Version) = (row.get("pev")?, row.get("rv")?);
+        let (m, k) = read_sizes(row)?;
+        let responders = row.get("responders")?;
+        if usize::from(tags) <= MAX_SHARDS && pev <= rv && rv.after().is_some() {
+            Ok(Tail::new(row.alloc, tags, m, k, responders, pev, rv)?)
+        } else {
+            Err(NO_FORM)
+        }
+    }
+
+    fn play_row(&self, tail: &mut Tail, row: &mut RowAsk) -> RowTold {
+        match row.word {
+            "hear" => hear(tail, row),
+            "seed" => seed(tail, row),
+            "reached" => Ok(Value::from(tail.reached(row.read("tag")?).get())),
+            "state" => write_complete(row.alloc, tail.copy(row.alloc)),
+            _ => no_such_word("rows of a tail: hear, seed, reached, state"),
+        }
+    }
+}
+
+/// Null if what a log told is taken or changes nothing.
+fn hear(tail: &mut Tail, row: &mut RowAsk) -> RowTold {
+    let log = row.get("log")?;
+    match row.get("tell")? {
+        Tell::Log(LogTell::Peeked(peeked)) => {
+            done(row.alloc, tail.hear(log, peeked.tag(), peeked))
+        }
+        _ => Err(NO_FORM),
+    }
+}
+
+/// What a new log is seeded with; null if the copy is not complete.
+fn seed(tail: &Tail, row: &mut RowAsk) -> RowTold {
+    let (epoch, index) = (row.get("epoch")?, row.get("index")?);
+    let (m, k) = read_sizes(row)?;
+    if !tail.complete() {
+        return Ok(Value::Null);
+    }
+    let seed = tail.seeds_for(row.alloc, LogId { epoch, index }, m, k);
+    told(row.alloc, seed.map(|seed| Ask::Log(LogAsk::Seed(seed))))
+}
+
+fn write_complete(alloc: Global, tail: Result<Tail, Memory>) -> RowTold {
+    let complete = tail?.complete();
+    Ok(Object::new(alloc).with("complete", &complete)?.into_value())
 }

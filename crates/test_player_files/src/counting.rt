@@ -1,5 +1,5 @@
 //! A device that counts its syncs.
-use fr_device::{Device, DeviceFault};
+use fr_record::{Device, DeviceFault};
 
 /// A device that passes all calls on and counts the syncs.
 #[derive(Drop)]

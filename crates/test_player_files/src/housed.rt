@@ -1,100 +1,116 @@
-//! Nodes with their journals.
-use crate::place::write_node_fault;
+//! Nodes with their journals, in memory and over files.
+ghost use Rattle.std.specs.Prelude.{◌≡◌, false, IfOk, None};
+
 use crate::subjects::Files;
-use fr_audit_journal::{Act, Entry, Journal};
-use fr_base::{InMemory, Machine, Memory, Node, NodeFault, Stamp};
-use fr_device::{FaultyDevice, MemoryDevice};
-use fr_forms::Formed;
+use fr_audit_journal::{Act, CallFault, Entry, Housable, Housed, Journal};
+use fr_base::{InMemory, LogId, Machine, Memory, Node, NodeFault, NodeId, Stamp};
 use fr_log::Log;
 use fr_proxy::Sequencer;
+use fr_record::{FaultyDevice, MemoryDevice};
 use fr_record_log::LogNode;
 use fr_record_node::CellNode;
 use fr_register::Cell;
-use fr_runtime_housing::{CallFault, Housable, Housed};
 use serde_json::Value;
 use std::alloc::Global;
-use test_rows::fields::items;
-use test_rows::json::{read_cell_ask, read_log_ask, read_node, read_seq_ask, value_of};
-use test_rows::object::ObjectMembers;
-use test_rows::{NO_FORM, Plays, RowAsk, Wrong, no_such_word, told, told_all, write_name};
+use test_rows::{
+    Formed, NO_FORM, Object, Plays, RowAsk, RowTold, Scene, Wrong, no_such_word, read_log, told,
+};
 
-/// A machine whose asks are read.
-pub(crate) trait Asked: Housable {
-    /// An ask, without the name of its kind.
-    fn read_ask(alloc: Global, given: Value) -> Result<Self::Ask, Wrong>;
+/// How many bytes the device of a file has room for.
+const ROOM: usize = 10_000;
+
+/// Plays rows with cell 0, which was asked some before, in memory, and once more over a file that an earlier node left.
+pub(crate) fn play_housed_cell(scene: Scene, at: &mut usize) -> Result<bool, Wrong> {
+    let alloc = scene.alloc;
+    let mut node = InMemory::new(Cell::new(alloc));
+    serve_before(&mut node, &mut scene.first(), "cell_asks")?;
+    let in_memory = Housed::new(alloc, node, NodeId::Cell { index: 0 });
+    scene.play_made(&Files, Ok(in_memory), at)?;
+    let device = cell_file_after(&mut scene.first())?;
+    let opened = CellNode::open(alloc, device, Cell::new(alloc))?;
+    let over_file = Housed::new(alloc, opened, NodeId::Cell { index: 0 });
+    scene.play_made(&Files, Ok(over_file), at)
 }
 
-impl Asked for Cell {
-    fn read_ask(alloc: Global, given: Value) -> Result<Self::Ask, Wrong> {
-        Ok(read_cell_ask(alloc, given)?)
-    }
+fn cell_file_after(row: &mut RowAsk) -> Result<MemoryDevice, Wrong> {
+    let device = MemoryDevice::new(row.alloc, ROOM)?;
+    let mut node = CellNode::format(row.alloc, device, Cell::new(row.alloc))?;
+    serve_before(&mut node, row, "cell_asks")?;
+    Ok(node.into_device())
 }
 
-impl Asked for Log {
-    fn read_ask(alloc: Global, given: Value) -> Result<Self::Ask, Wrong> {
-        Ok(read_log_ask(alloc, given)?)
-    }
-}
-
-impl Asked for Sequencer {
-    fn read_ask(alloc: Global, given: Value) -> Result<Self::Ask, Wrong> {
-        Ok(read_seq_ask(alloc, given)?)
-    }
-}
-
-/// Asks, without the name of their kind.
-pub(crate) fn read_asks<M: Asked>(alloc: Global, given: Value) -> Result<Vec<M::Ask>, Wrong>
+/// Asks a node, before it has a journal, what is in a list of a kind.
+fn serve_before<N: Node>(node: &mut N, row: &mut RowAsk, kind: &str) -> Result<(), Wrong>
 where
-    M::Ask: Drop,
-{
-    let mut asks = Vec::new(alloc);
-    for item in items(given)? {
-        asks.push(M::read_ask(alloc, item)?)?;
-    }
-    Ok(asks)
-}
-
-/// What a node tells, or why it tells nothing.
-pub(crate) fn ask_node<N: Node>(alloc: Global, node: &mut N, given: Value) -> Result<Value, Wrong>
-where
-    N::Plain: Asked,
-    <N::Plain as Machine>::Ask: Drop,
-    <N::Plain as Machine>::Tell: Formed + Drop,
-{
-    let ask = <N::Plain as Asked>::read_ask(alloc, given)?;
-    match node.serve(alloc, ask) {
-        Ok(tell) => told(alloc, &tell),
-        Err(fault) => write_node_fault(alloc, fault),
-    }
-}
-
-/// The same of a list that it was asked at once.
-pub(crate) fn write_tells<T: Formed + Drop>(
-    alloc: Global,
-    tells: Result<Vec<T>, NodeFault>,
-) -> Result<Value, Wrong> {
-    match tells {
-        Ok(tells) => told_all(alloc, tells.as_slice()),
-        Err(fault) => write_node_fault(alloc, fault),
-    }
-}
-
-/// Asks a node, before it has a journal, what is in a list.
-pub(crate) fn serve_before<N: Node + Drop>(
-    alloc: Global,
-    node: &mut N,
-    given: Value,
-) -> Result<(), Wrong>
-where
-    N::Plain: Asked,
-    <N::Plain as Machine>::Ask: Drop,
+    <N::Plain as Machine>::Ask: Formed,
     <N::Plain as Machine>::Tell: Drop,
 {
-    for item in items(given)? {
-        let ask = <N::Plain as Asked>::read_ask(alloc, item)?;
-        let _told = node.serve(alloc, ask)?;
+    let asks: Vec<<N::Plain as Machine>::Ask> = row.get_as("before", kind)?;
+    row.end()?;
+    for ask in asks {
+        let _told = node.serve(row.alloc, ask)?;
     }
     Ok(())
+}
+
+/// Plays rows with log 0 of an epoch in the same two ways; or over a file whose device fails once, in that call, the
+/// first of which are those that make the file and open it.
+pub(crate) fn play_housed_log(scene: Scene, at: &mut usize) -> Result<bool, Wrong> {
+    let alloc = scene.alloc;
+    let mut row = scene.first();
+    let fresh = read_log(&mut row, 0)?;
+    if let Some(call) = row.maybe("once", "count")? {
+        row.end()?;
+        let failing = Housed::new(alloc, faulty(alloc, &fresh, call)?, id_of(&fresh));
+        return scene.play_made(&Files, Ok(failing), at);
+    }
+    let device = log_file_after(&fresh, &mut row)?;
+    let opened = LogNode::open(alloc, device, fresh.id(), fresh.m(), fresh.k())?;
+    let over_file = Housed::new(alloc, opened, id_of(&fresh));
+    scene.play_made(&Files, Ok(over_file), at)?;
+    let in_memory = Housed::new(alloc, log_after(&mut scene.first())?, id_of(&fresh));
+    scene.play_made(&Files, Ok(in_memory), at)
+}
+
+fn id_of(log: &Log) -> NodeId {
+    let LogId { epoch, index } = log.id();
+    NodeId::Log { epoch, index }
+}
+
+fn log_after(row: &mut RowAsk) -> Result<InMemory<Log>, Wrong> {
+    let mut node = InMemory::new(read_log(row, 0)?);
+    serve_before(&mut node, row, "log_asks")?;
+    Ok(node)
+}
+
+fn log_file_after(fresh: &Log, row: &mut RowAsk) -> Result<MemoryDevice, Wrong> {
+    let device = MemoryDevice::new(row.alloc, ROOM)?;
+    let mut node = LogNode::format(row.alloc, device, fresh.id(), fresh.m(), fresh.k())?;
+    serve_before(&mut node, row, "log_asks")?;
+    Ok(node.into_device())
+}
+
+/// A log over a file.
+type Faulty = LogNode<FaultyDevice<MemoryDevice>>;
+
+fn faulty(alloc: Global, fresh: &Log, call: u64) -> Result<Faulty, NodeFault>
+    ensures works { IfOk result (λ node. ⟦<Faulty as Node>⟧.is_failed node ≡ false) }
+    ensures free { IfOk result (λ node. ⟦<Faulty as Node>⟧.owed node ≡ None) }
+{
+    let device = FaultyDevice::once(MemoryDevice::new(alloc, ROOM)?, call);
+    let mut node = LogNode::format(alloc, device, fresh.id(), fresh.m(), fresh.k())?;
+    let _ = node.reopen(alloc)?;
+    Ok(node)
+}
+
+/// Plays rows with the sequencer of an epoch.
+pub(crate) fn play_housed_sequencer(scene: Scene, at: &mut usize) -> Result<bool, Wrong> {
+    let mut row = scene.first();
+    let (epoch, last) = (row.get("epoch")?, row.get("last")?);
+    row.end()?;
+    let node = InMemory::new(Sequencer::new(scene.alloc, epoch, last));
+    let housed = Housed::new(scene.alloc, node, NodeId::Sequencer { epoch });
+    scene.play_made(&Files, Ok(housed), at)
 }
 
 type CellInMemory = Housed<InMemory<Cell>>;
@@ -105,116 +121,108 @@ type LogInMemory = Housed<InMemory<Log>>;
 
 type LogOverFile = Housed<LogNode<MemoryDevice>>;
 
-type LogThatFails = Housed<LogNode<FaultyDevice<MemoryDevice>>>;
+type LogThatFails = Housed<Faulty>;
 
 type SequencerInMemory = Housed<InMemory<Sequencer>>;
 
 impl Plays<CellInMemory> for Files {
-    fn play_row(&self, housed: &mut CellInMemory, row: &mut RowAsk) -> Result<Value, Wrong> {
+    fn play_row(&self, housed: &mut CellInMemory, row: &mut RowAsk) -> RowTold {
         play_housed(housed, row)
     }
 }
 
 impl Plays<CellOverFile> for Files {
-    fn play_row(&self, housed: &mut CellOverFile, row: &mut RowAsk) -> Result<Value, Wrong> {
+    fn play_row(&self, housed: &mut CellOverFile, row: &mut RowAsk) -> RowTold {
         play_housed(housed, row)
     }
 }
 
 impl Plays<LogInMemory> for Files {
-    fn play_row(&self, housed: &mut LogInMemory, row: &mut RowAsk) -> Result<Value, Wrong> {
+    fn play_row(&self, housed: &mut LogInMemory, row: &mut RowAsk) -> RowTold {
         play_housed(housed, row)
     }
 }
 
 impl Plays<LogOverFile> for Files {
-    fn play_row(&self, housed: &mut LogOverFile, row: &mut RowAsk) -> Result<Value, Wrong> {
+    fn play_row(&self, housed: &mut LogOverFile, row: &mut RowAsk) -> RowTold {
         play_housed(housed, row)
     }
 }
 
 impl Plays<LogThatFails> for Files {
-    fn play_row(&self, housed: &mut LogThatFails, row: &mut RowAsk) -> Result<Value, Wrong> {
+    fn play_row(&self, housed: &mut LogThatFails, row: &mut RowAsk) -> RowTold {
         play_housed(housed, row)
     }
 }
 
 impl Plays<SequencerInMemory> for Files {
-    fn play_row(&self, housed: &mut SequencerInMemory, row: &mut RowAsk) -> Result<Value, Wrong> {
+    fn play_row(&self, housed: &mut SequencerInMemory, row: &mut RowAsk) -> RowTold {
         play_housed(housed, row)
     }
 }
 
 /// A row of a node with its journal.
-fn play_housed<N: Node + Drop>(housed: &mut Housed<N>, row: &mut RowAsk) -> Result<Value, Wrong>
+fn play_housed<N: Node + Drop>(housed: &mut Housed<N>, row: &mut RowAsk) -> RowTold
 where
-    N::Plain: Asked,
-    <N::Plain as Machine>::Ask: Drop,
+    N::Plain: Housable,
+    <N::Plain as Machine>::Ask: Formed,
+    <N::Plain as Machine>::Tell: Drop,
 {
+    let alloc = row.alloc;
     match row.word {
         "ask" => {
-            let stamp = stamp_of(row.of(3).value("stamp")?)?;
-            let from = read_node(row.alloc, row.given.take("from")?)?;
-            let ask = <N::Plain as Asked>::read_ask(row.alloc, row.given.take("ask")?)?;
-            write_told(row.alloc, housed.ask(row.alloc, stamp, from, ask))
+            let (stamp, from) = (row.get("stamp")?, row.get("from")?);
+            let ask = row.get_as("ask", kind_of(housed.journal().node()))?;
+            write_entered(alloc, housed.ask(alloc, stamp, from, ask))
         }
-        "crash" => write_stamp(row.alloc, housed.crash(row.alloc, stamp_of(row.all())?)),
-        "lose" => write_stamp(row.alloc, housed.lose(row.alloc, stamp_of(row.all())?)),
-        "journal" => write_copy(row.alloc, housed.journal().copy()),
+        "crash" => told(alloc, housed.crash(alloc, row.read("stamp")?)),
+        "lose" => told(alloc, housed.lose(alloc, row.read("stamp")?)),
+        "journal" => write_copy(alloc, housed.journal().copy()),
         "count" => Ok(Value::from(housed.journal().entries().len())),
         _ => no_such_word("rows of a node with its journal: ask, crash, lose, journal, count"),
     }
 }
 
-fn stamp_of(given: &Value) -> Result<Stamp, Wrong> {
-    Stamp::new(given.as_u64().ok_or(NO_FORM)?).ok_or(NO_FORM)
-}
-
-/// The stamp with which an ask is entered, or why it is not.
-fn write_told<T: Drop>(alloc: Global, told: Result<(Stamp, T), CallFault>) -> Result<Value, Wrong> {
-    let entered = match told {
-        Ok((stamp, _tell)) => Ok(stamp),
-        Err(fault) => Err(fault),
-    };
-    write_stamp(alloc, entered)
-}
-
-fn write_stamp(alloc: Global, entered: Result<Stamp, CallFault>) -> Result<Value, Wrong> {
-    match entered {
-        Ok(stamp) => Ok(Value::from(stamp.get())),
-        Err(CallFault::Node(fault)) => write_node_fault(alloc, fault),
-        Err(CallFault::StampsSpent) => write_name(alloc, "StampsSpent"),
-        Err(CallFault::Lost) => write_name(alloc, "Lost"),
+/// The kind of what a node is asked.
+fn kind_of(node: NodeId) -> &'static str {
+    match node {
+        NodeId::Cell { .. } => "cell_ask",
+        NodeId::Log { .. } => "log_ask",
+        _ => "seq_ask",
     }
 }
 
+/// The stamp with which an ask is entered, or why it is not.
+fn write_entered<T: Drop>(alloc: Global, entered: Result<(Stamp, T), CallFault>) -> RowTold {
+    let entered = match entered {
+        Ok((stamp, _tell)) => Ok(stamp),
+        Err(fault) => Err(fault),
+    };
+    told(alloc, entered)
+}
+
 /// Of a copy of a journal its node and its entries.
-fn write_copy(alloc: Global, journal: Result<Journal, Memory>) -> Result<Value, Wrong> {
+fn write_copy(alloc: Global, journal: Result<Journal, Memory>) -> RowTold {
     let journal = journal?;
     let mut entries = Vec::new(alloc);
     for entry in journal.entries() {
         entries.push(write_entry(alloc, entry)?)?;
     }
-    let object = ObjectMembers::new(alloc)
-        .and("node", value_of(alloc, &journal.node()))?
-        .with("entries", Value::Array(entries))?;
-    Ok(object.value())
+    let object = Object::new(alloc).put("entries", Ok(Value::Array(entries)))?;
+    Ok(object.with("node", &journal.node())?.into_value())
 }
 
 /// Who asked, what, and what was told, with its stamp; or the stamp under what happened else.
-fn write_entry(alloc: Global, entry: &Entry) -> Result<Value, Wrong> {
-    let stamp = entry.stamp.get();
-    match &entry.act {
+fn write_entry(alloc: Global, entry: &Entry) -> RowTold {
+    let object = Object::new(alloc);
+    let object = match &entry.act {
         Act::Asked { from, ask, tell } => {
-            let object = ObjectMembers::new(alloc)
-                .with("at", Value::from(stamp))?
-                .and("from", value_of(alloc, from))?
-                .and("ask", value_of(alloc, ask))?
-                .and("tell", value_of(alloc, tell))?;
-            Ok(object.value())
+            let asked = object.with("from", from)?.with("ask", ask)?;
+            asked.with("at", &entry.stamp)?.with("tell", tell)?
         }
-        Act::Crashed => Ok(ObjectMembers::of(alloc, &[("crashed", stamp)])?.value()),
-        Act::Lost => Ok(ObjectMembers::of(alloc, &[("lost", stamp)])?.value()),
-        _ => Err(NO_FORM),
-    }
+        Act::Crashed => object.with("crashed", &entry.stamp)?,
+        Act::Lost => object.with("lost", &entry.stamp)?,
+        _ => return Err(NO_FORM),
+    };
+    Ok(object.into_value())
 }

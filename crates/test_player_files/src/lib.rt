@@ -2,17 +2,13 @@
 //! over them.
 #![tactic(auto)]
 
-mod batches;
-mod cells;
-mod changing;
+mod bytes;
 mod counting;
 mod housed;
-mod housing;
-mod logs;
+mod nodes;
 mod place;
 mod records;
 mod scripts;
-mod states;
 mod subjects;
 mod sweeping;
 

@@ -1,23 +1,23 @@
 //! Devices in memory, and the files that are on them.
 use crate::counting::Counting;
 use crate::subjects::Files;
-use crate::sweeping::sweep;
-use fr_base::NodeFault;
-use fr_cli_json::tree::read_bytes;
-use fr_device::{Device, DeviceFault, FaultyDevice, MemoryDevice};
+use crate::sweeping::sweep_calls;
+use fr_base::{Bytes, NodeFault};
+use fr_record::{Device, FaultyDevice, MemoryDevice};
 use serde_json::Value;
 use std::alloc::Global;
-use test_rows::fields::{Fields, index_of, variant};
-use test_rows::object::hex_value;
-use test_rows::{NO_FORM, Plays, RowAsk, Wrong, no_such_word, said, write_name};
+use test_rows::{NO_FORM, Plays, RowAsk, RowTold, Wrong, done, named, no_such_word, said, told};
 
 /// A device under a file: it can fail in a call, and its calls and syncs are counted.
 pub(crate) type Disk = Counting<FaultyDevice<MemoryDevice>>;
 
 /// What is on a device, and how it is asked.
-pub(crate) trait Kept: Drop {
+pub(crate) trait Kept: Sized + Drop {
     /// It, while it is open.
     type File: Drop;
+
+    /// What a first row says of it.
+    fn read(row: &mut RowAsk) -> Result<Self, Wrong>;
 
     /// Makes it on an empty device.
     fn format(&self, alloc: Global, disk: Disk) -> Result<Self::File, NodeFault>;
@@ -29,7 +29,7 @@ pub(crate) trait Kept: Drop {
     fn into_disk(file: Self::File) -> Disk;
 
     /// What comes of a row while it is open.
-    fn play(&self, file: &mut Self::File, row: &mut RowAsk) -> Result<Value, Wrong>;
+    fn play(&self, file: &mut Self::File, row: &mut RowAsk) -> RowTold;
 }
 
 /// A device with what is on it, which is open or not.
@@ -43,53 +43,41 @@ pub(crate) struct Place<K: Kept> {
     syncs: u64,
 }
 
-impl<K: Kept> Place<K> {
-    /// An empty device with this room.
-    pub(crate) fn new(alloc: Global, room: usize, kept: K) -> Result<Self, Wrong> {
-        Ok(Place {
-            kept,
-            room,
-            file: None,
-            device: Some(MemoryDevice::new(alloc, room)?),
-            calls: 0,
-            syncs: 0,
-        })
-    }
+/// What is wrong with a row for which there is no device.
+const NO_DEVICE: Wrong = Wrong::Form("no device is there: a file is open, or could not be");
 
+impl<K: Kept> Place<K> {
     /// The device, which no open file uses.
     fn device(&mut self) -> Result<&mut MemoryDevice, Wrong> {
         match &mut self.device {
             Some(device) => Ok(device),
-            None => Err(Wrong::Form("no device is there: a file is open, or could not be")),
+            None => Err(NO_DEVICE),
         }
     }
 
-    /// The device under a plan of failures, for a file.
-    fn take_disk(&mut self, given: &mut Fields) -> Result<Disk, Wrong> {
-        let plan = read_plan(given)?;
-        match self.device.take() {
-            Some(device) => Ok(Counting::new(plan.over(device))),
-            None => Err(Wrong::Form("no device is there: a file is open, or could not be")),
-        }
-    }
-
-    /// Null if a file is open now, and why not if it is not.
-    fn opened(
-        &mut self,
-        alloc: Global,
-        opened: Result<K::File, NodeFault>,
-    ) -> Result<Value, Wrong> {
-        match opened {
+    /// Null if a file is open now, which is made on the device or was there, and why not if there is none.
+    fn open(&mut self, row: &mut RowAsk) -> RowTold {
+        let plan = read_plan(row)?;
+        let Some(device) = self.device.take() else {
+            return Err(NO_DEVICE);
+        };
+        let disk = Counting::new(plan.over(device));
+        let file = if row.word == "format" {
+            self.kept.format(row.alloc, disk)
+        } else {
+            self.kept.open(row.alloc, disk)
+        };
+        match file {
             Ok(file) => {
                 self.file = Some(file);
                 Ok(Value::Null)
             }
-            Err(fault) => write_node_fault(alloc, fault),
+            Err(fault) => said(named(row.alloc, &fault)),
         }
     }
 
     /// Gives the device back to what a file was on.
-    fn close(&mut self) -> Result<Value, Wrong> {
+    fn close(&mut self) -> RowTold {
         let Some(file) = self.file.take() else {
             return Err(Wrong::Form("no file is open"));
         };
@@ -101,36 +89,22 @@ impl<K: Kept> Place<K> {
         Ok(Value::Null)
     }
 
-    /// Null if a file is on the device now that is made there, and why not if there is none.
-    fn format(&mut self, alloc: Global, given: &mut Fields) -> Result<Value, Wrong> {
-        let disk = self.take_disk(given)?;
-        let made = self.kept.format(alloc, disk);
-        said(self.opened(alloc, made))
-    }
-
-    /// The same of one that the device holds.
-    fn open(&mut self, alloc: Global, given: &mut Fields) -> Result<Value, Wrong> {
-        let disk = self.take_disk(given)?;
-        let found = self.kept.open(alloc, disk);
-        said(self.opened(alloc, found))
-    }
-
     /// A byte is now wherever something was written and not synced.
-    fn crash(&mut self, given: &Value) -> Result<Value, Wrong> {
-        let byte = index_of(given, u8::MAX)?;
+    fn crash(&mut self, row: &mut RowAsk) -> RowTold {
+        let byte = row.read("count")?;
         self.device()?.crash(byte);
         Ok(Value::Null)
     }
 
     /// What comes of a row while no file is open.
-    fn play_closed(&mut self, row: &mut RowAsk) -> Result<Value, Wrong> {
+    fn play_closed(&mut self, row: &mut RowAsk) -> RowTold {
+        let alloc = row.alloc;
         match row.word {
-            "format" => self.format(row.alloc, &mut row.given),
-            "open" => self.open(row.alloc, &mut row.given),
-            "crash" => self.crash(row.all()),
-            "sync" => write_done(row.alloc, self.device()?.sync()),
-            "write" => write_at(row.alloc, self.device()?, row.of(2)),
-            "bytes" => Ok(hex_value(row.alloc, self.device()?.bytes())?),
+            "format" | "open" => self.open(row),
+            "crash" => self.crash(row),
+            "sync" => done(alloc, self.device()?.sync()),
+            "write" => write_at(self.device()?, row),
+            "bytes" => told(alloc, Bytes::from_slice(alloc, self.device()?.bytes())),
             _ => no_such_word(
                 "rows of any file: read, calls, syncs, sweep; of one that is not open: format, open, crash, \
                  sync, write, bytes",
@@ -139,20 +113,17 @@ impl<K: Kept> Place<K> {
     }
 
     /// Null if bytes are such a file, and why not if they are none.
-    fn read(&self, alloc: Global, given: &Value) -> Result<Value, Wrong> {
-        let device = device_of(alloc, self.room, given)?;
+    fn read(&self, row: &mut RowAsk) -> RowTold {
+        let device = device_of(self.room, row)?;
         let disk = Counting::new(FaultyDevice::once(device, 0));
-        match self.kept.open(alloc, disk) {
-            Ok(_) => Ok(Value::Null),
-            Err(fault) => write_node_fault(alloc, fault),
-        }
+        done(row.alloc, self.kept.open(row.alloc, disk).map(|_| ()))
     }
 }
 
 /// A device with this room that holds bytes.
-fn device_of(alloc: Global, room: usize, given: &Value) -> Result<MemoryDevice, Wrong> {
-    let bytes = read_bytes(alloc, Some(given))?;
-    let mut device = MemoryDevice::new(alloc, room)?;
+fn device_of(room: usize, row: &mut RowAsk) -> Result<MemoryDevice, Wrong> {
+    let bytes: Bytes = row.read("bytes")?;
+    let mut device = MemoryDevice::new(row.alloc, room)?;
     if device.write_at(0, bytes.as_slice()).is_ok() && device.sync().is_ok() {
         Ok(device)
     } else {
@@ -161,13 +132,27 @@ fn device_of(alloc: Global, room: usize, given: &Value) -> Result<MemoryDevice, 
 }
 
 impl<K: Kept> Plays<Place<K>> for Files {
-    fn play_row(&self, place: &mut Place<K>, row: &mut RowAsk) -> Result<Value, Wrong> {
+    fn make(&self, row: &mut RowAsk) -> Result<Place<K>, Wrong> {
+        let kept = K::read(row)?;
+        let room: u64 = row.get("room")?;
+        let room = usize::try_from(room).or(Err(NO_FORM))?;
+        Ok(Place {
+            kept,
+            room,
+            file: None,
+            device: Some(MemoryDevice::new(row.alloc, room)?),
+            calls: 0,
+            syncs: 0,
+        })
+    }
+
+    fn play_row(&self, place: &mut Place<K>, row: &mut RowAsk) -> RowTold {
         match row.word {
-            "read" => place.read(row.alloc, row.all()),
+            "read" => place.read(row),
             "calls" => Ok(Value::from(place.calls)),
             "syncs" => Ok(Value::from(place.syncs)),
             "close" => place.close(),
-            "sweep" => sweep(row.alloc, &place.kept, place.room, row.of(2)),
+            "sweep" => sweep_calls(&place.kept, place.room, row),
             _ => match &mut place.file {
                 Some(file) => place.kept.play(file, row),
                 None => place.play_closed(row),
@@ -194,62 +179,26 @@ impl Plan {
     }
 }
 
-/// Of null the plan that no call fails.
-fn read_plan(given: &mut Fields) -> Result<Plan, Wrong> {
-    if given.all().is_null() {
-        return Ok(Plan::Once(0));
-    }
-    let (name, call) = variant(given.take_all())?;
-    plan_of(name.as_str(), call.all())
-}
-
-fn plan_of(name: &str, call: &Value) -> Result<Plan, Wrong> {
-    let call = u64::from(index_of(call, u8::MAX)?);
-    match name {
-        "once" => Ok(Plan::Once(call)),
-        "from" => Ok(Plan::From(call)),
-        _ => Err(NO_FORM),
+/// Of nothing the plan that no call fails.
+fn read_plan(row: &mut RowAsk) -> Result<Plan, Wrong> {
+    let once = row.maybe("once", "count")?;
+    match row.maybe("from", "count")? {
+        Some(call) if once.is_none() => Ok(Plan::From(call)),
+        Some(_) => Err(NO_FORM),
+        None => Ok(Plan::Once(once.unwrap_or(0))),
     }
 }
 
 /// Writes bytes from a place on, and does not sync them.
-fn write_at(alloc: Global, device: &mut MemoryDevice, fields: &Fields) -> Result<Value, Wrong> {
-    let at = usize::from(fields.index("at", u8::MAX)?);
-    let bytes = fields.bytes(alloc, "bytes")?;
-    if at <= device.bytes().len() {
-        write_done(alloc, device.write_at(at, bytes.as_slice()))
+fn write_at(device: &mut MemoryDevice, row: &mut RowAsk) -> RowTold {
+    let at: u8 = row.get("at")?;
+    let bytes: Bytes = row.get("bytes")?;
+    if usize::from(at) <= device.bytes().len() {
+        done(
+            row.alloc,
+            device.write_at(usize::from(at), bytes.as_slice()),
+        )
     } else {
         Err(Wrong::Form("the device is not so long"))
-    }
-}
-
-/// Null if a device did it, and why not if it did not.
-fn write_done(alloc: Global, done: Result<(), DeviceFault>) -> Result<Value, Wrong> {
-    match done {
-        Ok(()) => Ok(Value::Null),
-        Err(DeviceFault::Device) => write_name(alloc, "Device"),
-        Err(DeviceFault::Full) => write_name(alloc, "Full"),
-    }
-}
-
-/// The name of a fault.
-pub(crate) fn write_node_fault(alloc: Global, fault: NodeFault) -> Result<Value, Wrong> {
-    match fault {
-        NodeFault::Device => said(write_name(alloc, "Device")),
-        NodeFault::Full => write_name(alloc, "Full"),
-        NodeFault::Failed => write_name(alloc, "Failed"),
-        NodeFault::Broken => write_name(alloc, "Broken"),
-        NodeFault::Memory => Err(Wrong::Memory),
-    }
-}
-
-/// The greatest room of a device: that of the nodes of a cluster over files.
-const MOST_ROOM: usize = 16_777_216;
-
-/// The room of a device, at most 16,777,216 bytes.
-pub(crate) fn read_room(fields: &Fields) -> Result<usize, Wrong> {
-    match usize::try_from(fields.number("room")?) {
-        Ok(room) if room <= MOST_ROOM => Ok(room),
-        _ => Err(NO_FORM),
     }
 }

@@ -1,30 +1,23 @@
 //! Record files.
 ghost use Rattle.std.specs.Prelude.{◌<◌, ◌^◌, All, IfOk, length};
 
-use crate::place::{Disk, Kept, Place, read_room, write_node_fault};
-use crate::subjects::Files;
+use crate::place::{Disk, Kept};
 use fr_base::{Bytes, NodeFault};
-use fr_cli_json::tree::read_bytes;
 use fr_record::{RecordFault, Records};
 use serde_json::Value;
 use std::alloc::Global;
-use test_rows::fields::{Fields, index_of, items};
-use test_rows::object::hex_value;
-use test_rows::{NO_FORM, RowAsk, Scene, Wrong, no_such_word};
-
-/// Plays rows with a record file that is not there yet.
-pub(crate) fn play_records(alloc: Global, scene: Scene, at: &mut usize) -> Result<(), Wrong> {
-    let room = read_room(scene.given(alloc)?.of(1))?;
-    let place = Place::new(alloc, room, RecordFile);
-    scene.play_made(alloc, &Files, place, at)
-}
+use test_rows::{NO_FORM, RowAsk, RowTold, Wrong, done, no_such_word, told};
 
 /// A record file.
 #[derive(Drop)]
-struct RecordFile;
+pub(crate) struct RecordFile;
 
 impl Kept for RecordFile {
     type File = Records<Disk>;
+
+    fn read(_row: &mut RowAsk) -> Result<Self, Wrong> {
+        Ok(RecordFile)
+    }
 
     fn format(&self, alloc: Global, disk: Disk) -> Result<Records<Disk>, NodeFault> {
         Records::format(alloc, disk).map_err(|fault| node_fault(fault))
@@ -38,15 +31,19 @@ impl Kept for RecordFile {
         file.into_device()
     }
 
-    fn play(&self, file: &mut Records<Disk>, row: &mut RowAsk) -> Result<Value, Wrong> {
+    fn play(&self, file: &mut Records<Disk>, row: &mut RowAsk) -> RowTold {
+        let alloc = row.alloc;
         match row.word {
-            "append" => append(row.alloc, file, row.all()),
-            "group" => append_group(row.alloc, file, row.take_all()),
-            "put" => put(row.alloc, file, row.of(2)),
-            "get" => get(row.alloc, file, row.all()),
+            "append" => append(file, row),
+            "group" => done(
+                alloc,
+                file.append_group(alloc, &read_group(alloc, row.read("records")?)?),
+            ),
+            "put" => put(file, row),
+            "get" => get(file, row),
             "count" => Ok(Value::from(file.len())),
             "failed" => Ok(Value::from(file.is_failed())),
-            "reopen" => write_done(row.alloc, file.reopen(row.alloc)),
+            "reopen" => done(alloc, file.reopen(alloc)),
             _ => no_such_word(
                 "rows of a record file: append, group, put, get, count, failed, reopen, close, read, \
                  calls, syncs",
@@ -58,36 +55,33 @@ impl Kept for RecordFile {
 /// The longest record of a scenario.
 const LONGEST: usize = 65_535;
 
-fn append(alloc: Global, file: &mut Records<Disk>, given: &Value) -> Result<Value, Wrong> {
-    let record = read_bytes(alloc, Some(given))?;
-    append_short(alloc, file, record.as_slice())
+fn append(file: &mut Records<Disk>, row: &mut RowAsk) -> RowTold {
+    let record: Bytes = row.read("bytes")?;
+    append_short(row.alloc, file, record.as_slice())
 }
 
-fn append_short(alloc: Global, file: &mut Records<Disk>, record: &[u8]) -> Result<Value, Wrong> {
+fn append_short(alloc: Global, file: &mut Records<Disk>, record: &[u8]) -> RowTold {
     if record.len() <= LONGEST {
-        write_done(alloc, file.append(alloc, record))
+        done(alloc, file.append(alloc, record))
     } else {
         Err(NO_FORM)
     }
 }
 
-fn get(alloc: Global, file: &mut Records<Disk>, given: &Value) -> Result<Value, Wrong> {
-    let number = usize::from(index_of(given, u8::MAX)?);
-    write_found(alloc, file.get(alloc, number))
-}
-
-fn append_group(alloc: Global, file: &mut Records<Disk>, given: Value) -> Result<Value, Wrong> {
-    let group = read_group(alloc, given)?;
-    write_done(alloc, file.append_group(alloc, &group))
+/// Null if there are no more records.
+fn get(file: &mut Records<Disk>, row: &mut RowAsk) -> RowTold {
+    let number: u8 = row.read("number")?;
+    told(row.alloc, file.get(row.alloc, usize::from(number)))
 }
 
 /// Adds records, alone or as a group, behind so many others, if they are not there yet. They are there whole or not at
 /// all.
-fn put(alloc: Global, file: &mut Records<Disk>, fields: &mut Fields) -> Result<Value, Wrong> {
-    let at = usize::from(fields.index("at", u8::MAX)?);
-    let group = read_group(alloc, fields.take("records")?)?;
+fn put(file: &mut Records<Disk>, row: &mut RowAsk) -> RowTold {
+    let at: u8 = row.get("at")?;
+    let at = usize::from(at);
+    let group = read_group(row.alloc, row.get("records")?)?;
     if file.len() == at {
-        add(alloc, file, &group)
+        add(row.alloc, file, &group)
     } else if file.len() >= at.saturating_add(group.len()) {
         Ok(Value::Null)
     } else {
@@ -95,46 +89,28 @@ fn put(alloc: Global, file: &mut Records<Disk>, fields: &mut Fields) -> Result<V
     }
 }
 
-fn add(alloc: Global, file: &mut Records<Disk>, group: &Vec<Vec<u8>>) -> Result<Value, Wrong>
+fn add(alloc: Global, file: &mut Records<Disk>, group: &Vec<Vec<u8>>) -> RowTold
     requires { All (λ v. length v.items < 2 ^ 32) group.now.items }
 {
     match group.as_slice() {
         [record] => append_short(alloc, file, record.as_slice()),
-        _ => write_done(alloc, file.append_group(alloc, group)),
+        _ => done(alloc, file.append_group(alloc, group)),
     }
 }
 
-/// Records in hex.
-fn read_group(alloc: Global, given: Value) -> Result<Vec<Vec<u8>>, Wrong>
+/// Records, none of which is too long.
+fn read_group(alloc: Global, records: Vec<Bytes>) -> Result<Vec<Vec<u8>>, Wrong>
     ensures { IfOk result (λ group. All (λ v. length v.items < 2 ^ 32) group.items) }
 {
     let mut group = Vec::new(alloc);
-    for item in items(given)? {
-        let record = read_bytes(alloc, Some(&item))?;
-        let record = record.as_slice();
+    for item in records {
+        let record = item.as_slice();
         if record.len() > LONGEST {
             return Err(NO_FORM);
         }
         group.push(Vec::from_slice(alloc, record)?)?;
     }
     Ok(group)
-}
-
-/// Null if it was done, and why not if it was not.
-fn write_done(alloc: Global, done: Result<(), RecordFault>) -> Result<Value, Wrong> {
-    match done {
-        Ok(()) => Ok(Value::Null),
-        Err(fault) => write_node_fault(alloc, node_fault(fault)),
-    }
-}
-
-/// Null if there are no more records.
-fn write_found(alloc: Global, found: Result<Option<Bytes>, RecordFault>) -> Result<Value, Wrong> {
-    match found {
-        Ok(Some(record)) => Ok(hex_value(alloc, record.as_slice())?),
-        Ok(None) => Ok(Value::Null),
-        Err(fault) => write_node_fault(alloc, node_fault(fault)),
-    }
 }
 
 /// The fault of a node that has the same name.

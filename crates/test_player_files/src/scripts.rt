@@ -1,20 +1,16 @@
 //! Scripts of the commands that run from a script alone, and what these print.
-ghost use Rattle.std.specs.Prelude.{◌<◌, length};
-
 use crate::subjects::Files;
+use fr_base::Bytes;
 use fr_cli_apply::{ApplyOptions, StoreKind, run_apply};
 use fr_cli_end::{EndOptions, run_end};
 use fr_cli_json::CliFault;
-use fr_cli_json::tree::read_bytes;
 use serde_json::Value;
 use std::alloc::{AllocError, Global};
-use test_rows::fields::Fields;
-use test_rows::object::write_text;
-use test_rows::{NO_FORM, Plays, RowAsk, Scene, Wrong, no_such_word, of_nothing, read_sizes};
+use test_rows::{NO_FORM, Plays, RowAsk, RowTold, Wrong, no_such_word, read_sizes, text_value};
 
 /// A command.
 #[derive(Clone, Copy)]
-enum Command {
+pub(crate) enum Command {
     Apply,
     End(EndOptions),
 }
@@ -22,58 +18,45 @@ enum Command {
 /// What a command answers of a script, and what it prints.
 type Ran = (Result<u8, CliFault>, Vec<u8>);
 
-/// The words of which a script follows as it is.
-static TEXTS: [&str; 4] = ["run", "fronts", "changed", "without"];
-
-/// Plays rows with `apply` or `end`.
-pub(crate) fn play_command(alloc: Global, scene: Scene, at: &mut usize) -> Result<(), Wrong> {
-    let command = match scene.word() {
-        "apply" => of_nothing(alloc, scene, Command::Apply),
-        _ => read_end(scene.given(alloc)?.of(2)),
-    };
-    scene.texts_by(&TEXTS).play_made(alloc, &Files, command, at)
-}
-
-fn read_end(fields: &Fields) -> Result<Command, Wrong> {
-    let (m, k) = read_sizes(fields)?;
-    match EndOptions::new(m, k) {
-        Some(options) => Ok(Command::End(options)),
-        None => Err(NO_FORM),
-    }
-}
-
 impl Plays<Command> for Files {
-    fn play_row(&self, command: &mut Command, row: &mut RowAsk) -> Result<Value, Wrong> {
+    fn make(&self, row: &mut RowAsk) -> Result<Command, Wrong> {
+        if row.word == "apply" {
+            return Ok(Command::Apply);
+        }
+        let (m, k) = read_sizes(row)?;
+        Ok(Command::End(EndOptions::new(m, k).ok_or(NO_FORM)?))
+    }
+
+    fn play_row(&self, command: &mut Command, row: &mut RowAsk) -> RowTold {
         match row.word {
-            "run" | "text" => run_text(row.alloc, *command, row.all()),
-            "bytes" => run_bytes(row.alloc, *command, row.all()),
-            "fronts" => run_fronts(row.alloc, *command, text_of(row.all())?.as_bytes()),
-            "changed" => run_changed(row.alloc, command, text_of(row.all())?.as_bytes()),
-            "without" => run_without(row.alloc, command, text_of(row.all())?.as_bytes()),
+            "run" => run_both(row.alloc, *command, row.text().as_bytes()),
+            "text" => run_text(*command, row),
+            "bytes" => run_bytes(*command, row),
+            "fronts" => run_fronts(row.alloc, *command, row.text().as_bytes()),
+            "changed" => run_changed(row.alloc, command, row.text().as_bytes()),
+            "without" => run_without(row.alloc, command, row.text().as_bytes()),
             "state" => Ok(Value::Null),
             _ => no_such_word("rows of apply and end: run, text, bytes, fronts, changed, without"),
         }
     }
 }
 
-fn text_of(given: &Value) -> Result<&str, Wrong> {
-    given.as_str().ok_or(NO_FORM)
+fn run_text(command: Command, row: &mut RowAsk) -> RowTold {
+    let text: String = row.read("text")?;
+    run_both(row.alloc, command, text.as_bytes())
 }
 
-fn run_text(alloc: Global, command: Command, given: &Value) -> Result<Value, Wrong> {
-    run_both(alloc, command, text_of(given)?.as_bytes())
-}
-
-fn run_bytes(alloc: Global, command: Command, given: &Value) -> Result<Value, Wrong> {
-    run_both(alloc, command, read_bytes(alloc, Some(given))?.as_slice())
+fn run_bytes(command: Command, row: &mut RowAsk) -> RowTold {
+    let bytes: Bytes = row.read("bytes")?;
+    run_both(row.alloc, command, bytes.as_slice())
 }
 
 /// What comes of a script, read straight and by way of the tree of its JSON: the lines in a list, or the fault as it is
 /// printed.
-fn run_both(alloc: Global, command: Command, script: &[u8]) -> Result<Value, Wrong> {
+fn run_both(alloc: Global, command: Command, script: &[u8]) -> RowTold {
     match ran_both(alloc, command, script)? {
         (Ok(_), lines) => write_lines(alloc, lines.as_slice()),
-        (Err(fault), _) => write_fault(alloc, fault),
+        (Err(fault), _) => Ok(Value::String(format!(in alloc; "{fault}")?)),
     }
 }
 
@@ -126,7 +109,7 @@ fn twice(alloc: Global, command: Command, script: &[u8]) -> Result<Option<Vec<u8
 }
 
 /// Lines, each of which ends; or as one text if the last one does not.
-fn write_lines(alloc: Global, lines: &[u8]) -> Result<Value, Wrong> {
+fn write_lines(alloc: Global, lines: &[u8]) -> RowTold {
     let text = std::str::from_utf8(lines).or(Err(NO_FORM))?;
     let mut all = Vec::new(alloc);
     if text.is_empty() {
@@ -136,17 +119,13 @@ fn write_lines(alloc: Global, lines: &[u8]) -> Result<Value, Wrong> {
         return Err(Wrong::Form("the last line does not end"));
     };
     for line in text.split('\n') {
-        all.push(write_text(alloc, line)?)?;
+        all.push(text_value(alloc, line)?)?;
     }
     Ok(Value::Array(all))
 }
 
-fn write_fault(alloc: Global, fault: CliFault) -> Result<Value, Wrong> {
-    Ok(Value::String(format!(in alloc; "{fault}")?))
-}
-
 /// Null if each front of a script is none, and else the length of the first one that is not so.
-fn run_fronts(alloc: Global, command: Command, script: &[u8]) -> Result<Value, Wrong> {
+fn run_fronts(alloc: Global, command: Command, script: &[u8]) -> RowTold {
     for len in 0..script.len() {
         if ran_both(alloc, command, &script[..len])?.0 != Err(CliFault::BadScript) {
             return Ok(Value::from(len));
@@ -156,39 +135,30 @@ fn run_fronts(alloc: Global, command: Command, script: &[u8]) -> Result<Value, W
 }
 
 /// Null: each byte of a script is changed to each other one, and read both ways.
-fn run_changed(alloc: Global, command: &Command, script: &[u8]) -> Result<Value, Wrong> {
-    for place in 0..script.len() {
+fn run_changed(alloc: Global, command: &Command, script: &[u8]) -> RowTold {
+    let mut changed = script.to_vec(alloc)?;
+    for (place, byte) in script.iter().enumerate() {
         for value in 0..=255_u8 {
-            let changed = with_byte(alloc, script, place, value)?;
+            put_byte(&mut changed, place, value);
             let _ran = ran_both(alloc, *command, changed.as_slice())?;
         }
+        put_byte(&mut changed, place, *byte);
     }
     Ok(Value::Null)
 }
 
-/// A copy with another byte at a place.
-fn with_byte(alloc: Global, bytes: &[u8], place: usize, value: u8) -> Result<Vec<u8>, AllocError> {
-    let mut changed = bytes.to_vec(alloc)?;
-    if let Some(byte) = changed.get_mut(place) {
+fn put_byte(bytes: &mut Vec<u8>, place: usize, value: u8) {
+    if let Some(byte) = bytes.get_mut(place) {
         *byte = value;
     }
-    Ok(changed)
 }
 
 /// Null: each byte of a script is taken out, and the rest read both ways.
-fn run_without(alloc: Global, command: &Command, script: &[u8]) -> Result<Value, Wrong> {
+fn run_without(alloc: Global, command: &Command, script: &[u8]) -> RowTold {
     for place in 0..script.len() {
-        let shorter = without_byte(alloc, script, place)?;
+        let mut shorter = script[..place].to_vec(alloc)?;
+        shorter.extend_from_slice(&script[place + 1..])?;
         let _ran = ran_both(alloc, *command, shorter.as_slice())?;
     }
     Ok(Value::Null)
-}
-
-/// A copy without the byte at a place.
-fn without_byte(alloc: Global, bytes: &[u8], place: usize) -> Result<Vec<u8>, AllocError>
-    requires { place < length bytes.now }
-{
-    let mut shorter = bytes[..place].to_vec(alloc)?;
-    shorter.extend_from_slice(&bytes[place + 1..])?;
-    Ok(shorter)
 }

@@ -1,25 +1,27 @@
-//! Scenarios: texts that say what a machine is asked and what it tells, as rows, and how rows are played against what
-//! a player makes of the first one.
+//! What tests share. Scenarios: texts that say what a machine is asked and what it tells, as rows, and how rows are played
+//! against what a player makes of the first one. And a store whose device fails in one call.
 #![tactic(auto)]
 
-pub mod fields;
+mod asks;
+mod failing;
 mod forms;
-pub mod json;
 mod lines;
 mod names;
-pub mod object;
 mod play;
 mod report;
 mod rows;
 mod subject;
+mod telling;
 mod wrong;
 
+pub use asks::{RowAsk, items, read_as};
+pub use failing::FailsOnce;
 pub use forms::{
-    of_nothing, played, read_log, read_shape_in, read_sizes, write_last_state, write_name,
-    write_state_of,
+    members, read_log, read_shape, read_sizes, write_generation, write_last_state, write_state_of,
 };
-pub use fr_forms::ScriptFault;
+pub use fr_forms::{Formed, Object, text_value, write_all};
 pub use play::{Player, play_file};
 pub use report::ScenarioReport;
-pub use subject::{Plays, RowAsk, Scene, no_such_word};
-pub use wrong::{NO_FORM, Wrong, said, told, told_all};
+pub use subject::{Plays, Scene, compare, json_of};
+pub use telling::{RowTold, done, name_of, named, no_such_word, told, write};
+pub use wrong::{NO_FORM, Wrong, said};

@@ -12,8 +12,8 @@ use std::alloc::Global;
 
 /// What plays scenarios.
 pub trait Player {
-    /// Makes what the first row says, and plays the others with it.
-    fn play(&self, alloc: Global, scene: Scene<'_>, at: &mut usize) -> Result<(), Wrong>;
+    /// Makes what the first row says, and plays the others with it; false if it is about something else.
+    fn play(&self, scene: Scene<'_>, at: &mut usize) -> Result<bool, Wrong>;
 }
 
 /// Plays each scenario of a text, and says of each in the report, by the name of its file, whether it holds.
@@ -125,5 +125,11 @@ fn play_all<P: Player>(
         return Err(Wrong::Form("a scenario without rows"));
     };
     *at = first.line;
-    player.play(alloc, Scene::new(first, rows)?, at)
+    if player.play(Scene::new(alloc, first, rows)?, at)? {
+        Ok(())
+    } else {
+        Err(Wrong::Form(
+            "no scenario begins with this word: scenarios/README.md lists those that do",
+        ))
+    }
 }

@@ -1,8 +1,6 @@
 //! Scenarios and their rows.
 use crate::names::Names;
-use crate::object::write_text;
 use crate::wrong::Wrong;
-use serde_json::Value;
 use std::alloc::{AllocError, Global};
 
 /// A row, from the line on which it begins.
@@ -26,18 +24,6 @@ pub(crate) struct Parts<'t> {
     pub(crate) word: &'t str,
     pub(crate) given: &'t str,
     pub(crate) wanted: Option<&'t str>,
-}
-
-impl Parts<'_> {
-    /// What is given, as JSON; of a word of texts the text itself, which may be no JSON.
-    pub(crate) fn given_to(&self, alloc: Global, text_words: &[&str]) -> Result<Value, Wrong> {
-        for word in text_words {
-            if self.word == *word {
-                return Ok(write_text(alloc, self.given)?);
-            }
-        }
-        json_or_null(alloc, self.given)
-    }
 }
 
 impl Scenario {
@@ -108,23 +94,5 @@ fn parts_of<'t>(asked: &'t str, wanted: Option<&'t str>) -> Parts<'t> {
             given: "",
             wanted,
         },
-    }
-}
-
-/// The JSON that a text is.
-pub(crate) fn json_of(alloc: Global, text: &str) -> Result<Value, Wrong> {
-    match Value::from_slice(alloc, text.as_bytes()) {
-        Ok(value) => Ok(value),
-        Err(error) if error.is_memory() => Err(Wrong::Memory),
-        Err(_) => Err(Wrong::Form("this is no JSON")),
-    }
-}
-
-/// The same, and null if there is no text.
-pub(crate) fn json_or_null(alloc: Global, text: &str) -> Result<Value, Wrong> {
-    if text.is_empty() {
-        Ok(Value::Null)
-    } else {
-        json_of(alloc, text)
     }
 }

@@ -1,57 +1,38 @@
 //! What scenarios are about, and how their rows are played.
 ghost use Rattle.std.specs.Prelude.{◌≡◌, ◌↔◌, IsOk};
 
-use crate::fields::Fields;
-use crate::rows::{Parts, Row, json_of, json_or_null};
-use crate::wrong::{Wrong, said};
+use crate::asks::RowAsk;
+use crate::rows::{Parts, Row};
+use crate::telling::RowTold;
+use crate::wrong::{NO_FORM, Wrong, said};
 use serde_json::Value;
 use std::alloc::Global;
 
 /// What plays the rows of scenarios about a `T`.
 pub trait Plays<T> {
+    /// What a first row makes.
+    fn make(&self, _row: &mut RowAsk) -> Result<T, Wrong> {
+        Err(NO_FORM)
+    }
+
     /// What comes of a row, in its form. If it answers `Memory` nothing was done, if it answers `InPart` a part: it is
     /// asked once more.
-    fn play_row(&self, subject: &mut T, row: &mut RowAsk) -> Result<Value, Wrong>;
-}
-
-/// What a row asks: a word, and what is given with it, null if that is nothing.
-#[derive(Drop)]
-pub struct RowAsk<'t> {
-    pub alloc: Global,
-    pub word: &'t str,
-    pub given: Fields,
-}
-
-impl RowAsk<'_> {
-    /// What is given, which is to be an object of this many members.
-    pub fn of(&mut self, count: usize) -> &mut Fields {
-        self.given.of(count)
-    }
-
-    /// What is given, whatever it is, lent.
-    pub fn all(&self) -> &Value {
-        self.given.all()
-    }
-
-    /// Takes out what is given, whatever it is.
-    pub fn take_all(&mut self) -> Value {
-        self.given.take_all()
-    }
+    fn play_row(&self, subject: &mut T, row: &mut RowAsk) -> RowTold;
 }
 
 /// A scenario that is to be played: its first row, which makes what it is about, and the others.
 #[derive(Clone, Copy)]
 pub struct Scene<'t> {
+    pub alloc: Global,
     made: Parts<'t>,
     rows: &'t [Row],
     seen_by: &'static str,
-    text_words: &'static [&'static str],
     is_once: bool,
 }
 
 impl<'t> Scene<'t> {
     /// The scenario of these rows, or what is wrong with their number or with the first one.
-    pub(crate) fn new(first: &'t Row, rows: &'t [Row]) -> Result<Self, Wrong> {
+    pub(crate) fn new(alloc: Global, first: &'t Row, rows: &'t [Row]) -> Result<Self, Wrong> {
         let made = first.parts();
         if made.wanted.is_some() {
             return Err(Wrong::Form("the first row makes something, and has no arrow"));
@@ -60,10 +41,10 @@ impl<'t> Scene<'t> {
             return Err(Wrong::Form("no row follows that compares anything"));
         }
         Ok(Scene {
+            alloc,
             made,
             rows,
             seen_by: "state",
-            text_words: &[],
             is_once: false,
         })
     }
@@ -73,14 +54,6 @@ impl<'t> Scene<'t> {
     pub fn seen_by(self, word: &'static str) -> Self {
         Scene {
             seen_by: word,
-            ..self
-        }
-    }
-
-    /// The same, in which what rows of these words give is a text, and is there as it is.
-    pub fn texts_by(self, words: &'static [&'static str]) -> Self {
-        Scene {
-            text_words: words,
             ..self
         }
     }
@@ -98,67 +71,71 @@ impl<'t> Scene<'t> {
         self.made.word
     }
 
-    /// What is given with it, null if that is nothing.
-    pub fn given(&self, alloc: Global) -> Result<Fields, Wrong> {
-        Ok(Fields::new(json_or_null(alloc, self.made.given)?, 0))
+    /// The first row.
+    pub fn first(&self) -> RowAsk<'t> {
+        RowAsk::new(self.alloc, self.made.word, self.made.given)
     }
 
-    /// Plays the other rows with what the first one makes.
+    /// Plays the other rows with what the first one makes: true, or why they do not hold.
+    pub fn play<T: Drop, P: Plays<T>>(&self, player: &P, at: &mut usize) -> Result<bool, Wrong> {
+        let mut first = self.first();
+        let made = player.make(&mut first);
+        first.end()?;
+        self.play_made(player, made, at)
+    }
+
+    /// The same with what was made.
     pub fn play_made<T: Drop, P: Plays<T>>(
         &self,
-        alloc: Global,
         player: &P,
         made: Result<T, Wrong>,
         at: &mut usize,
-    ) -> Result<(), Wrong> {
+    ) -> Result<bool, Wrong> {
         let mut subject = made?;
-        self.play(alloc, player, &mut subject, at)
+        self.play_rows(player, &mut subject, at)
     }
 
     /// Plays the other rows in turn, up to one of which something else comes than is wanted. `at` is the line of the
     /// row that was played last.
-    pub fn play<T, P: Plays<T>>(
+    fn play_rows<T, P: Plays<T>>(
         &self,
-        alloc: Global,
         player: &P,
         subject: &mut T,
         at: &mut usize,
-    ) -> Result<(), Wrong> {
+    ) -> Result<bool, Wrong> {
         for row in self.rows {
             *at = row.line;
-            let parts = row.parts();
-            if self.is_once {
-                play_row(alloc, player, subject, &parts, self.text_words)?;
-            } else {
-                self.play_or_again(alloc, player, subject, &parts)?;
-            }
+            self.play_or_again(player, subject, &row.parts())?;
         }
-        Ok(())
+        Ok(true)
     }
 
     /// Plays a row, and once more if there was no memory for it.
     fn play_or_again<T, P: Plays<T>>(
         &self,
-        alloc: Global,
         player: &P,
         subject: &mut T,
         parts: &Parts,
     ) -> Result<(), Wrong> {
-        let before = seen(alloc, player, subject, self.seen_by);
-        match play_row(alloc, player, subject, parts, self.text_words) {
+        if self.is_once {
+            return play_row(self.alloc, player, subject, parts);
+        }
+        let before = self.seen(player, subject);
+        match play_row(self.alloc, player, subject, parts) {
             Err(Wrong::Memory) => {
-                compare_seen(seen(alloc, player, subject, self.seen_by), before)?;
-                play_row(alloc, player, subject, parts, self.text_words)
+                compare_seen(self.seen(player, subject), before)?;
+                play_row(self.alloc, player, subject, parts)
             }
-            Err(Wrong::InPart) => play_row(alloc, player, subject, parts, self.text_words),
+            Err(Wrong::InPart) => play_row(self.alloc, player, subject, parts),
             played => played,
         }
     }
-}
 
-/// What a row of an unknown word answers.
-pub fn no_such_word(words: &'static str) -> Result<Value, Wrong> {
-    Err(Wrong::Form(words))
+    /// What is seen of a subject; none if there is no memory to tell it.
+    fn seen<T, P: Plays<T>>(&self, player: &P, subject: &mut T) -> Option<Vec<u8>> {
+        let mut row = RowAsk::new(self.alloc, self.seen_by, "");
+        text_of(self.alloc, player.play_row(subject, &mut row)).ok()
+    }
 }
 
 /// Plays a row. If it answers `Memory` it may be played again.
@@ -167,65 +144,49 @@ fn play_row<T, P: Plays<T>>(
     player: &P,
     subject: &mut T,
     parts: &Parts,
-    text_words: &[&str],
 ) -> Result<(), Wrong> {
     let Some(wanted) = parts.wanted else {
         return Err(Wrong::Form("no arrow and what is wanted behind it"));
     };
     let wanted = text_of(alloc, json_of(alloc, wanted))?;
-    let given = parts.given_to(alloc, text_words)?;
-    let told = tell(alloc, player, subject, parts.word, given)?;
+    let mut row = RowAsk::new(alloc, parts.word, parts.given);
+    let told = text_of_told(alloc, player.play_row(subject, &mut row))?;
+    row.end()?;
     compare(told, wanted)
 }
 
-/// What comes of a row, as text.
-fn tell<T, P: Plays<T>>(
-    alloc: Global,
-    player: &P,
-    subject: &mut T,
-    word: &str,
-    given: Value,
-) -> Result<Vec<u8>, Wrong> {
-    let told = tell_value(alloc, player, subject, word, given)?;
+/// What was told, as text.
+fn text_of_told(alloc: Global, told: RowTold) -> Result<Vec<u8>, Wrong> {
+    let told = told?;
     match told.to_vec(alloc) {
         Ok(text) => Ok(text),
         Err(_) => said(text_of(alloc, Ok(told))),
     }
 }
 
-fn tell_value<T, P: Plays<T>>(
-    alloc: Global,
-    player: &P,
-    subject: &mut T,
-    word: &str,
-    given: Value,
-) -> Result<Value, Wrong> {
-    let given = Fields::new(given, 0);
-    player.play_row(subject, &mut RowAsk { alloc, word, given })
-}
-
 /// A value as text, if there is one.
-fn text_of(alloc: Global, value: Result<Value, Wrong>) -> Result<Vec<u8>, Wrong> {
+fn text_of(alloc: Global, value: RowTold) -> Result<Vec<u8>, Wrong> {
     Ok(value?.to_vec(alloc)?)
 }
 
-/// What a row of a word shows of a subject; none if there is no memory to tell it.
-fn seen<T, P: Plays<T>>(alloc: Global, player: &P, subject: &mut T, word: &str) -> Option<Vec<u8>> {
-    text_of(alloc, tell_value(alloc, player, subject, word, Value::Null)).ok()
+/// The JSON that a text is.
+pub fn json_of(alloc: Global, text: &str) -> RowTold {
+    match Value::from_slice(alloc, text.as_bytes()) {
+        Ok(value) => Ok(value),
+        Err(error) if error.is_memory() => Err(Wrong::Memory),
+        Err(_) => Err(Wrong::Form("this is no JSON")),
+    }
 }
 
 fn compare_seen(now: Option<Vec<u8>>, before: Option<Vec<u8>>) -> Result<(), Wrong> {
-    let Some(before) = before else {
-        return Ok(());
-    };
-    match now {
-        Some(now) => compare(now, before),
-        None => Ok(()),
+    match (now, before) {
+        (Some(now), Some(before)) => compare(now, before),
+        _ => Ok(()),
     }
 }
 
 /// Whether what was told is what is wanted, both written in one way.
-fn compare(told: Vec<u8>, wanted: Vec<u8>) -> Result<(), Wrong>
+pub fn compare(told: Vec<u8>, wanted: Vec<u8>) -> Result<(), Wrong>
     ensures { IsOk result ↔ (told.items ≡ wanted.items) }
 {
     if told.as_slice() == wanted.as_slice() {

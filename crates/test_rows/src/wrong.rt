@@ -1,8 +1,6 @@
 //! Why a row does not hold.
 use fr_base::{Memory, NodeFault};
-use fr_cli_json::CliFault;
-use fr_forms::{Formed, ScriptFault, write_all};
-use serde_json::Value;
+use fr_forms::ScriptFault;
 use std::alloc::{AllocError, AllocFailed, Global};
 
 /// Why a row does not hold.
@@ -26,27 +24,6 @@ pub fn said<T: Drop>(value: Result<T, Wrong>) -> Result<T, Wrong> {
         Err(Wrong::Memory) => Err(Wrong::Unsaid),
         value => value,
     }
-}
-
-/// What is told of something that was done, in its form. If there is no memory for the form it is made once more, since
-/// the row is not to be played again.
-pub fn told<T: Formed>(alloc: Global, told: &T) -> Result<Value, Wrong> {
-    match told.to_value(alloc) {
-        Ok(value) => Ok(value),
-        Err(_) => said(written(told.to_value(alloc))),
-    }
-}
-
-/// The same of a list.
-pub fn told_all<T: Formed>(alloc: Global, told: &[T]) -> Result<Value, Wrong> {
-    match write_all(alloc, told) {
-        Ok(value) => Ok(value),
-        Err(_) => said(written(write_all(alloc, told))),
-    }
-}
-
-fn written(value: Result<Value, Memory>) -> Result<Value, Wrong> {
-    Ok(value?)
 }
 
 /// What is wrong with what is in no form that is known.
@@ -89,15 +66,6 @@ impl From<ScriptFault> for Wrong {
         match fault {
             ScriptFault::Memory => Wrong::Memory,
             ScriptFault::BadScript => NO_FORM,
-        }
-    }
-}
-
-impl From<CliFault> for Wrong {
-    fn from(fault: CliFault) -> Wrong {
-        match fault {
-            CliFault::Memory => Wrong::Memory,
-            CliFault::BadScript | CliFault::Input | CliFault::Output => NO_FORM,
         }
     }
 }

@@ -2,7 +2,6 @@
 //! with status 1 if one does not hold, or if the example does not come out.
 #![tactic(auto)]
 
-mod answers;
 mod events;
 mod example;
 mod found;
@@ -17,24 +16,14 @@ use test_rows::{Player, ScenarioReport, Scene, Wrong, play_file};
 /// The players of all subjects.
 struct Players;
 
-/// What a scenario can be about.
-const SUBJECTS: &str =
-    "a scenario begins with: apply, asks, audit_script, batch, cell, cell_file, coordinated_state, end, end_tally, \
-     housed_cell, housed_log, housed_sequencer, lasts, log, log_file, nodes, proxy, read_tally, record_file, \
-     recoverer, rows, sequencer, shard, shards, storage, failing_storage, store, stores, failing_store, tail, \
-     tells, world, write_tally";
-
 impl Player for Players {
-    fn play(&self, alloc: Global, scene: Scene<'_>, at: &mut usize) -> Result<(), Wrong> {
-        if test_player::play(alloc, scene, at)?
-            || test_player_files::play(alloc, scene, at)?
-            || worlds::play(alloc, scene, at)?
-            || scripts::play(alloc, scene, at)?
-        {
-            Ok(())
-        } else {
-            Err(Wrong::Form(SUBJECTS))
-        }
+    fn play(&self, scene: Scene<'_>, at: &mut usize) -> Result<bool, Wrong> {
+        Ok(
+            test_player::play(scene, at)?
+                || test_player_files::play(scene, at)?
+                || worlds::play(scene, at)?
+                || scripts::play(scene, at)?,
+        )
     }
 }
 

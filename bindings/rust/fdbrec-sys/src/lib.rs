@@ -24,17 +24,58 @@ pub const NOT_MINE: u32 = 12;
 pub const TOO_OLD: u32 = 13;
 pub const FUTURE_VERSION: u32 = 14;
 
+/// The numbers of a proxy; `known` is through which version all is committed.
+#[repr(C)]
+#[derive(Clone, Copy, Debug)]
+pub struct fdbrec_proxy_numbers {
+    pub epoch: u64,
+    pub known: u64,
+    pub number: u8,
+    pub m: u8,
+    pub k: u8,
+}
+
+/// The numbers of a push of one tag.
+#[repr(C)]
+#[derive(Clone, Copy, Debug)]
+pub struct fdbrec_push_numbers {
+    pub epoch: u64,
+    pub prev: u64,
+    pub version: u64,
+    pub known: u64,
+    pub tag: u8,
+}
+
+/// The numbers of a peek.
+#[repr(C)]
+#[derive(Clone, Copy, Debug)]
+pub struct fdbrec_peek_numbers {
+    pub epoch: u64,
+    pub after: u64,
+    pub tag: u8,
+    pub most: u8,
+}
+
+/// A key of a shard, and the version at which it is read. No pointer is null, of whichever length.
+#[repr(C)]
+#[derive(Clone, Copy, Debug)]
+pub struct fdbrec_key_at {
+    pub begin: *const u8,
+    pub begin_len: usize,
+    pub end: *const u8,
+    pub end_len: usize,
+    pub key: *const u8,
+    pub key_len: usize,
+    pub version: u64,
+}
+
 extern "C" {
     pub fn fdbrec_cell_new(of: *mut *mut fdbrec_part) -> u32;
     pub fn fdbrec_log_new(of: *mut *mut fdbrec_part, epoch: u64, index: u8, m: u8, k: u8) -> u32;
     pub fn fdbrec_sequencer_new(of: *mut *mut fdbrec_part, epoch: u64, last: u64) -> u32;
     pub fn fdbrec_proxy_new(
         of: *mut *mut fdbrec_part,
-        epoch: u64,
-        number: u8,
-        m: u8,
-        k: u8,
-        known: u64,
+        at: *const fdbrec_proxy_numbers,
         shards: *const u8,
         shards_len: usize,
     ) -> u32;
@@ -101,21 +142,14 @@ extern "C" {
     ) -> u32;
     pub fn fdbrec_log_push(
         of: *mut *mut fdbrec_part,
-        epoch: u64,
-        prev: u64,
-        version: u64,
-        known: u64,
-        tag: u8,
+        at: *const fdbrec_push_numbers,
         batch: *const u8,
         batch_len: usize,
         held: *mut u64,
     ) -> u32;
     pub fn fdbrec_log_peek(
         of: *mut *mut fdbrec_part,
-        epoch: u64,
-        tag: u8,
-        after: u64,
-        most: u8,
+        at: *const fdbrec_peek_numbers,
         out: *mut u8,
         out_len: usize,
         len: *mut usize,
@@ -132,13 +166,7 @@ extern "C" {
     ) -> u32;
     pub fn fdbrec_storage_read(
         of: *mut *mut fdbrec_part,
-        begin: *const u8,
-        begin_len: usize,
-        end: *const u8,
-        end_len: usize,
-        key: *const u8,
-        key_len: usize,
-        version: u64,
+        what: *const fdbrec_key_at,
         out: *mut u8,
         out_len: usize,
         len: *mut usize,

@@ -41,21 +41,21 @@ impl Log {
     /// Pushes a version with the batch of one tag. The log tells which version it holds, or refuses.
     pub fn push(&mut self, epoch: u64, prev: u64, version: u64, known: u64, tag: u8, batch: &Batch) -> Result<u64> {
         let (bytes, mut held) = (batch.as_bytes(), 0);
-        // SAFETY: `held` is this call's own, and the bytes are another one's.
-        self.0.call(|at| unsafe {
-            sys::fdbrec_log_push(at, epoch, prev, version, known, tag, bytes.as_ptr(), bytes.len(), &mut held)
-        })?;
+        let numbers = sys::fdbrec_push_numbers { epoch, prev, version, known, tag };
+        // SAFETY: `numbers` and `held` are this call's own, and the bytes are another one's.
+        self.0.call(|at| unsafe { sys::fdbrec_log_push(at, &numbers, bytes.as_ptr(), bytes.len(), &mut held) })?;
         Ok(held)
     }
 
     /// Gives records of a tag above a version, at most so many, or refuses.
     pub fn peek(&mut self, epoch: u64, tag: u8, after: u64, most: u8) -> Result<Peeked<'_>> {
         let (mut upto, mut known) = (0, 0);
-        // SAFETY: what is written to is each time this call's own, or the handle's.
+        let numbers = sys::fdbrec_peek_numbers { epoch, after, tag, most };
+        // SAFETY: `numbers` is this call's own, and what is written to is each time this call's own, or the handle's.
         let left = self.0.bytes(
             |at, room| unsafe {
                 let (out, size, used) = (room.at(), room.size(), room.used());
-                sys::fdbrec_log_peek(at, epoch, tag, after, most, out, size, used, &mut upto, &mut known)
+                sys::fdbrec_log_peek(at, &numbers, out, size, used, &mut upto, &mut known)
             },
             |at, room| unsafe { sys::fdbrec_log_answer(at, room.at(), room.size(), room.used(), &mut 0, &mut 0) },
         );

@@ -110,11 +110,9 @@ impl Proxy {
     /// A proxy that took nothing yet, of a generation of `m` logs with each tag on `k`. `known` is through which version
     /// all is committed; `shards` is the list of the keys, in hex, at which the shards begin.
     pub fn new(epoch: u64, number: u8, m: u8, k: u8, known: u64, shards: &str) -> Result<Self> {
-        // SAFETY: the handle is new, and its own.
-        Handle::new(|at| unsafe {
-            sys::fdbrec_proxy_new(at, epoch, number, m, k, known, shards.as_ptr(), shards.len())
-        })
-        .map(Proxy)
+        let numbers = sys::fdbrec_proxy_numbers { epoch, known, number, m, k };
+        // SAFETY: the handle is new, and its own, as are the numbers.
+        Handle::new(|at| unsafe { sys::fdbrec_proxy_new(at, &numbers, shards.as_ptr(), shards.len()) }).map(Proxy)
     }
 
     /// Takes a batch, whose version is to be `step` above the last one given. It refuses if one is under way, or it
@@ -153,22 +151,18 @@ impl Storage {
     /// begins, and the one where the next shard does, if there is a next one.
     pub fn read(&mut self, shard: (&[u8], Option<&[u8]>), key: &[u8], version: u64) -> Result<Option<Vec<u8>>> {
         let (begin, end) = (shard.0, shard.1.unwrap_or_default());
-        // SAFETY: the handle and its room are its own, and the keys are another one's.
-        let read = |at, room: &mut Room| unsafe {
-            sys::fdbrec_storage_read(
-                at,
-                begin.as_ptr(),
-                begin.len(),
-                end.as_ptr(),
-                end.len(),
-                key.as_ptr(),
-                key.len(),
-                version,
-                room.at(),
-                room.size(),
-                room.used(),
-            )
+        let what = sys::fdbrec_key_at {
+            begin: begin.as_ptr(),
+            begin_len: begin.len(),
+            end: end.as_ptr(),
+            end_len: end.len(),
+            key: key.as_ptr(),
+            key_len: key.len(),
+            version,
         };
+        // SAFETY: the handle and its room are its own, and the keys are another one's, lent until the call is done.
+        let read =
+            |at, room: &mut Room| unsafe { sys::fdbrec_storage_read(at, &what, room.at(), room.size(), room.used()) };
         match self.0.bytes(read, read) {
             Ok(value) => Ok(Some(value.to_vec())),
             Err(sys::NONE) => Ok(None),

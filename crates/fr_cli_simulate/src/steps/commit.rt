@@ -5,8 +5,8 @@ use crate::steps::push::{Said, push_to};
 use fr_ask::{Ask, SeqAsk};
 use fr_base::{Epoch, Memory, NodeId, Step, Version};
 use fr_mutation::{Batch, BatchFault, Mutation};
-use fr_run_event::{Event, NotEnabled};
-use fr_simulate_script::Commit;
+use fr_run::{Event, NotEnabled};
+use fr_script::simulate::Commit;
 use fr_world::World;
 use std::alloc::Global;
 

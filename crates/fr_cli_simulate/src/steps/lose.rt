@@ -2,7 +2,7 @@
 use crate::exchange::why_not;
 use crate::names::event_name;
 use fr_base::{LogId, Memory};
-use fr_run_event::{Event, NotEnabled};
+use fr_run::{Event, NotEnabled};
 use fr_world::World;
 use std::alloc::Global;
 

@@ -5,7 +5,7 @@ use fr_ask::Ask;
 use fr_base::{Epoch, Memory, NodeId, Version};
 use fr_log::LogAsk;
 use fr_proxy::Outcome;
-use fr_simulate_script::Resend;
+use fr_script::simulate::Resend;
 use fr_world::World;
 use std::alloc::Global;
 

@@ -1,8 +1,8 @@
 //! The step `read`: a storage server answers a read at a version, and nothing happens in the world.
 use crate::names::event_name;
 use fr_base::{Bytes, Memory};
-use fr_run_event::NotEnabled;
-use fr_simulate_script::Read;
+use fr_run::NotEnabled;
+use fr_script::simulate::Read;
 use fr_storage::ReadFault;
 use fr_world::World;
 use std::alloc::Global;

@@ -5,8 +5,8 @@ use crate::pending::{LOGS, Purpose, asks_of, is_wanted, take};
 use crate::steps::peeks::copy;
 use fr_ask::Ask;
 use fr_base::{Ballot, Memory, NodeId, Shape};
-use fr_run_event::{Event, NotEnabled, phase_text};
-use fr_simulate_script::Recover;
+use fr_run::{Event, NotEnabled, phase_text};
+use fr_script::simulate::Recover;
 use fr_world::World;
 use std::alloc::Global;
 

@@ -2,17 +2,18 @@
 //! If memory runs out the world is given up, so no hear needs a copy of the server.
 ghost use Rattle.std.specs.Prelude.{◌≡◌, None, IfOk, IsOk};
 ghost use Rattle.fr_base.specs.declared.place.NodeId.TheVariants as node;
-ghost use Rattle.fr_run_event.specs.Step.{turn_of};
-ghost use Rattle.fr_run_event.specs.declared.event.Event.TheVariants as event;
-ghost use Rattle.fr_run_event.specs.declared.not_enabled.NotEnabled.TheVariants as not_enabled;
+ghost use Rattle.fr_run.specs.Step.{turn_of};
+ghost use Rattle.fr_run.specs.declared.event.Event.TheVariants as event;
+ghost use Rattle.fr_run.specs.declared.not_enabled.NotEnabled.TheVariants as not_enabled;
 
 use crate::exchange::deliver;
 use crate::names::Refusal;
 use fr_ask::{Ask, Tell};
 use fr_base::{Memory, NodeId, Tag, Version};
 use fr_log::{LogAsk, LogRefusal, LogTell, Most};
-use fr_run_event::{Answer, Event, NotEnabled};
-use fr_simulate_script::Pull;
+use fr_run::{Answer, Event, NotEnabled};
+use fr_script::simulate::Pull;
+use fr_storage::mark_ask;
 use fr_world::World;
 use std::alloc::Global;
 
@@ -184,15 +185,8 @@ fn ask_of(world: &World, wish: Wish, pull: &Pull) -> Option<LogAsk> {
                 most,
             })
         }
-        Wish::Mark => Some(LogAsk::MarkAsked { epoch }),
-        Wish::Pop => {
-            let through = storage.floor();
-            Some(LogAsk::Pop {
-                epoch,
-                tag,
-                through,
-            })
-        }
+        Wish::Mark => Some(mark_ask(epoch)),
+        Wish::Pop => Some(storage.pop_ask(epoch)),
     }
 }
 

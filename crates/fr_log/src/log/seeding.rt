@@ -20,8 +20,7 @@ impl Log {
             LogAsk::Seed(seed) => self.seed_refusal(seed).is_none() && self.seed.is_none(),
             LogAsk::Push(push) => self.push_refusal(push).is_none() && !self.is_push_held(push),
             LogAsk::Lock { epoch } => self.lock_refusal(*epoch).is_none() && !self.stopped,
-            LogAsk::Peek { .. } | LogAsk::MarkAsked { .. } => false,
-            LogAsk::Pop { .. } => self.lets_go(ask),
+            _ => self.lets_go(ask),
         }
     }
 

@@ -6,8 +6,7 @@ ghost use Rattle.fr_record_node.specs.Reading.{IsRead};
 use crate::fault::{RecordReadFault, node_fault};
 use crate::recorded::Recorded;
 use fr_base::NodeFault;
-use fr_device::Device;
-use fr_record::Records;
+use fr_record::{Device, Records};
 use std::alloc::Global;
 
 /// Takes the changes of all records of a file, in order. It costs the length of the file.

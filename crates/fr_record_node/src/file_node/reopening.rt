@@ -1,6 +1,6 @@
 //! Opening a node again.
 ghost use Rattle.std.specs.Prelude.{◌≡◌, ◌≢◌, ◌⊎◌, ◌||◌, ◌+◌, ◌-◌, ◌^◌, min, [], All, Ok, Err, Some, None, OnOk, OnErr, IfErr, IsTrue, false};
-ghost use Rattle.fr_device.specs.Moments.{Throughout, LeavesOnly};
+ghost use Rattle.fr_record.specs.Moments.{Throughout, LeavesOnly};
 ghost use Rattle.fr_base.specs.Faults.{met_device};
 ghost use Rattle.fr_record.specs.File.{IsAtRest};
 ghost use Rattle.fr_record_node.specs.Several.{after_all, written_all};
@@ -11,8 +11,7 @@ use crate::fault::node_fault;
 use crate::file_node::serving::take_all;
 use crate::recorded::Recorded;
 use fr_base::{Machine, NodeFault, Reopened};
-use fr_device::Device;
-use fr_record::{Records, left_law};
+use fr_record::{Device, Records, left_law};
 use std::alloc::Global;
 
 /// Opens a file again in which no group is in flight: its records are those that it had.

@@ -1,6 +1,6 @@
 //! Asks one after another, and their records in one group.
 ghost use Rattle.std.specs.Prelude.{◌≡◌, ◌≢◌, ◌⊎◌, ◌++◌, ◌∷◌, ◌+◌, ◌-◌, ◌<◌, ◌^◌, min, [], List, All, length, Ok, Err, Some, OnOk, OnErr, IfOk, IfErr, IsTrue, false};
-ghost use Rattle.fr_device.specs.Moments.{Throughout, LeavesOnly};
+ghost use Rattle.fr_record.specs.Moments.{Throughout, LeavesOnly};
 ghost use Rattle.fr_base.specs.Faults.{met_device};
 ghost use Rattle.fr_record.specs.File.{IsAtRest};
 ghost use Rattle.fr_record.specs.Group.{records_of};
@@ -11,8 +11,7 @@ ghost use Rattle.fr_record_node.specs.Node.{InFlight, HasNoRoom, is_trouble};
 use crate::fault::node_fault;
 use crate::recorded::Recorded;
 use fr_base::{Machine, Memory, NodeFault};
-use fr_device::Device;
-use fr_record::{Records, left_law};
+use fr_record::{Device, Records, left_law};
 use std::alloc::Global;
 
 /// What asks were told, and their records.

@@ -5,8 +5,8 @@ ghost use Rattle.sqlite.specs.Files.{file_state, IsOpened, Finds};
 ghost use Rattle.fr_undo.specs.State.{StoreState, IsStoreState, fresh};
 ghost use Rattle.fr_undo.specs.Calls.{IsTrouble, LeftAsIs};
 ghost use Rattle.fr_sql_rows.specs.Connection.{IsAtRest};
-ghost use Rattle.fr_sql_work.specs.Calls.{MeetsAll};
-ghost use Rattle.fr_sql_open.specs.Found.{IsFound};
+ghost use Rattle.fr_sql_calls.specs.WorkCalls.{MeetsAll};
+ghost use Rattle.fr_sql_rows.specs.Found.{IsFound};
 ghost use Rattle.fr_sql_store.specs.Tables.{state_in, state_of, MayLeave, StoreLeaves};
 ghost use Rattle.fr_sql_store.specs.Files.{HoldStore};
 
@@ -14,8 +14,9 @@ mod opening;
 
 use crate::sql_store::SqlStore;
 use fr_sql_calls::Marks;
-use fr_sql_open::{Found, find, has_no_table, open_again};
-use fr_sql_rows::{Backing, FaithfulDisk, Refusals, fault_of};
+use fr_sql_rows::{
+    Backing, FaithfulDisk, Found, Refusals, fault_of, find, has_no_table, open_again,
+};
 use fr_undo::{ShardStore, StoreFault};
 pub use opening::OpenFault;
 use sqlite::{Connection, Error, FileStore, Files, Options};

@@ -33,8 +33,8 @@ impl<S: ShardStore> Storage<S> {
     {
         storage_law();
         match answer {
-            LogAnswer::Marked(state) => self.hear_marked(alloc, state),
-            LogAnswer::Peeked(epoch, peeked) => self.hear_peeked(alloc, epoch, &peeked),
+            LogAnswer::Mark(state) => self.hear_marked(alloc, state),
+            LogAnswer::Records(epoch, peeked) => self.hear_peeked(alloc, epoch, &peeked),
         }
     }
 

@@ -1,8 +1,8 @@
 //! Asks come to cells, logs and sequencers.
 ghost use Rattle.std.specs.Prelude.{◌≡◌, true, IfOk, Ok, OnErr};
-ghost use Rattle.fr_run_event.specs.Limits.{AskHasLimits};
-ghost use Rattle.fr_run_event.specs.Step.{if_sent};
-ghost use Rattle.fr_run_event.specs.declared.event.Event.TheVariants as event;
+ghost use Rattle.fr_run.specs.Limits.{AskHasLimits};
+ghost use Rattle.fr_run.specs.Step.{if_sent};
+ghost use Rattle.fr_run.specs.declared.event.Event.TheVariants as event;
 ghost use Rattle.fr_run.specs.Nodes.{cell_at, log_at, seq_at};
 ghost use Rattle.fr_run.specs.Run.{IsTurn};
 ghost use Rattle.fr_run.specs.Turn as history;
@@ -11,16 +11,16 @@ ghost use Rattle.fr_proxy.specs.Sequencer as seq;
 ghost use Rattle.fr_register.specs.Cell as cell;
 ghost use Rattle.fr_world.specs.Stepping.{Steps, Refuses, RefusesTurn};
 ghost use Rattle.fr_world.specs.World.{stepped_by};
-ghost use Rattle.fr_world_kept.specs.Kept.{state_of, IsKept};
+ghost use Rattle.fr_world_nodes.specs.Kept.{state_of, IsKept};
 
 use super::why_not_up;
 use fr_ask::{Ask, SeqAsk, Tell};
 use fr_base::{Epoch, LogId, NodeId};
 use fr_log::LogAsk;
 use fr_register::CellAsk;
-use fr_run_event::laws::step_law;
-use fr_run_event::{Answer, NotEnabled};
-use fr_world_kept::Nodes;
+use fr_run::event_laws::step_law;
+use fr_run::{Answer, NotEnabled};
+use fr_world_nodes::Nodes;
 use fr_world_nodes::storages::storage_may_ask;
 use std::alloc::Global;
 

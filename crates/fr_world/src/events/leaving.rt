@@ -1,14 +1,14 @@
 //! Nodes crash, and logs are lost.
 ghost use Rattle.std.specs.Prelude.{◌≡◌, OnErr};
-ghost use Rattle.fr_run_event.specs.declared.event.Event.TheVariants as event;
+ghost use Rattle.fr_run.specs.declared.event.Event.TheVariants as event;
 ghost use Rattle.fr_world.specs.Stepping.{Steps, Refuses};
-ghost use Rattle.fr_world_kept.specs.Kept.{state_of, IsKept};
+ghost use Rattle.fr_world_nodes.specs.Kept.{state_of, IsKept};
 
 use super::why_not_up;
 use fr_base::{LogId, NodeId};
-use fr_run_event::laws::step_law;
-use fr_run_event::{Answer, NotEnabled};
-use fr_world_kept::Nodes;
+use fr_run::event_laws::step_law;
+use fr_run::{Answer, NotEnabled};
+use fr_world_nodes::Nodes;
 
 /// A node crashes: a sequencer, a proxy or a recoverer is gone; another node is as it was.
 pub(crate) fn crashed(nodes: &mut Nodes, node: NodeId) -> Result<Answer, NotEnabled>

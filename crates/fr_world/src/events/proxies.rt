@@ -1,17 +1,17 @@
 //! Proxies are given batches, and hear.
 ghost use Rattle.std.specs.Prelude.{◌≡◌, OnErr};
 ghost use Rattle.fr_base.specs.declared.place.NodeId.TheVariants as node;
-ghost use Rattle.fr_run_event.specs.declared.event.Event.TheVariants as event;
+ghost use Rattle.fr_run.specs.declared.event.Event.TheVariants as event;
 ghost use Rattle.fr_world.specs.Stepping.{Steps, Refuses};
-ghost use Rattle.fr_world_kept.specs.Kept.{state_of, IsKept};
+ghost use Rattle.fr_world_nodes.specs.Kept.{state_of, IsKept};
 
 use super::why_not_up;
 use fr_ask::Tell;
 use fr_base::{Epoch, NodeId, Step, Version};
 use fr_mutation::Batch;
-use fr_run_event::laws::step_law;
-use fr_run_event::{Answer, NotEnabled};
-use fr_world_kept::Nodes;
+use fr_run::event_laws::step_law;
+use fr_run::{Answer, NotEnabled};
+use fr_world_nodes::Nodes;
 use fr_world_nodes::proxies::not_taken;
 use std::alloc::Global;
 

@@ -1,21 +1,21 @@
 //! Storage servers hear.
 ghost use Rattle.std.specs.Prelude.{◌≡◌, IfErr, IfOk, None, Ok, OnErr, OnOk, Some};
 ghost use Rattle.fr_base.specs.declared.place.NodeId.TheVariants as node;
-ghost use Rattle.fr_run_event.specs.Step.{heard_by_storage};
-ghost use Rattle.fr_run_event.specs.declared.event.Event.TheVariants as event;
-ghost use Rattle.fr_run_event.specs.declared.not_enabled.NotEnabled.TheVariants as not_enabled;
+ghost use Rattle.fr_run.specs.Step.{heard_by_storage};
+ghost use Rattle.fr_run.specs.declared.event.Event.TheVariants as event;
+ghost use Rattle.fr_run.specs.declared.not_enabled.NotEnabled.TheVariants as not_enabled;
 ghost use Rattle.fr_run.specs.Nodes.{storage_at};
 ghost use Rattle.fr_run.specs.Run.{IsHeardBy};
 ghost use Rattle.fr_world.specs.Stepping.{Steps, Refuses, RefusesTurn};
 ghost use Rattle.fr_world.specs.World.{stepped_by};
-ghost use Rattle.fr_world_kept.specs.Kept.{state_of, IsKept};
+ghost use Rattle.fr_world_nodes.specs.Kept.{state_of, IsKept};
 
 use super::why_not_up;
 use fr_ask::Tell;
 use fr_base::{NodeId, Tag, Version};
-use fr_run_event::laws::step_law;
-use fr_run_event::{Answer, NotEnabled};
-use fr_world_kept::Nodes;
+use fr_run::event_laws::step_law;
+use fr_run::{Answer, NotEnabled};
+use fr_world_nodes::Nodes;
 use std::alloc::Global;
 
 /// A tell comes to a storage server, which may break off its hear at a version.

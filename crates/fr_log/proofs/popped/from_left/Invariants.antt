@@ -1,6 +1,6 @@
 use Rattle.std.proofs.Common.{◌≡◌, length}
 use Rattle.std.specs.Prelude.{filter}
-use Rattle.fr_log.specs.Popped.{is_left}
+use Rattle.fr_log.specs.Left.{is_left}
 use Rattle.fr_log.proofs.popped.from_left.Given as goal
 
 -- what is left of the rest is all that is left

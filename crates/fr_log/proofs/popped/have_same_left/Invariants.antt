@@ -2,7 +2,7 @@ use Rattle.std.proofs.Common.{◌≡◌, drop}
 use Rattle.std.specs.Prelude.{filter}
 use Rattle.std.specs.Cmp.Lexicographic.{pointwise}
 use Rattle.fr_log.specs.Records.{is_same_seed_record}
-use Rattle.fr_log.specs.Popped.{is_left, IsLeftAtFirst}
+use Rattle.fr_log.specs.Left.{is_left, IsLeftAtFirst}
 use Rattle.fr_log.proofs.popped.have_same_left.Given as goal
 
 -- the answer is that of the records that are left

@@ -1,5 +1,5 @@
 use Rattle.std.proofs.Common.{◌≡◌, ◌+◌, drop}
-use Rattle.fr_log.specs.Popped.{place_in}
+use Rattle.fr_log.specs.Left.{place_in}
 use Rattle.fr_log.proofs.popped.place_of.Given as goal
 
 -- the entries so far are of lesser tags

@@ -1,5 +1,5 @@
 use Rattle.std.proofs.Common.{◌≡◌, drop}
-use Rattle.fr_log.specs.Popped.{popped_of}
+use Rattle.fr_log.specs.Left.{popped_of}
 use Rattle.fr_log.proofs.popped.popped_of.Given as goal
 
 -- none of the entries so far is of the tag

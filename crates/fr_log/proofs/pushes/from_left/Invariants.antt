@@ -1,5 +1,5 @@
 use Rattle.std.proofs.Common.{◌≡◌, length}
-use Rattle.fr_log.specs.Popped.{left_bodies}
+use Rattle.fr_log.specs.Left.{left_bodies}
 use Rattle.fr_log.proofs.pushes.from_left.Given as goal
 
 -- what is left of the rest is all that is left

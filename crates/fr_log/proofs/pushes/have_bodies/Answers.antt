@@ -6,7 +6,7 @@ use Rattle.std.proofs.lemmas.List.{take_rest}
 use Rattle.fr_mutation.specs.Equal.{is_same_batch}
 use Rattle.fr_tags.specs.Bodies.{is_same_body}
 use Rattle.fr_log.specs.Fields.{two}
-use Rattle.fr_log.specs.Popped.{popped_at, left_bodies, IsBodyLeftAtFirst}
+use Rattle.fr_log.specs.Left.{popped_at, left_bodies, IsBodyLeftAtFirst}
 use Rattle.fr_log.specs.Pushes.{batch_at}
 use Rattle.fr_log.proofs.Shelves.{left_from, left_met, left_unmet, left_last, left_same, popped_skips, no_bodies, as_yes, as_no}
 use Rattle.fr_log.proofs.pushes.have_bodies.Goals as goal

@@ -1,7 +1,7 @@
 use Rattle.std.proofs.Common.{◌≡◌, drop}
 use Rattle.std.specs.Cmp.Lexicographic.{pointwise}
 use Rattle.fr_tags.specs.Bodies.{is_same_body}
-use Rattle.fr_log.specs.Popped.{left_bodies, IsBodyLeftAtFirst}
+use Rattle.fr_log.specs.Left.{left_bodies, IsBodyLeftAtFirst}
 use Rattle.fr_log.specs.Pushes.{bodies_from}
 use Rattle.fr_log.proofs.pushes.have_bodies.Given as goal
 

@@ -1,5 +1,5 @@
 use Rattle.std.proofs.Common.{◌≡◌, ℕ, ◌<◌, ◌≤◌, length}
-use Rattle.fr_log.specs.Popped.{popped_at}
+use Rattle.fr_log.specs.Left.{popped_at}
 use Rattle.fr_log.specs.Pushes.{shelf_of, above}
 use Rattle.fr_log.proofs.pushes.sweep_all.Given as goal
 

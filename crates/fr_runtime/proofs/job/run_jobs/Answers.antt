@@ -4,7 +4,7 @@ use denote.Param.Send.{sendable}
 use mir.Syntax.{named}
 use Rattle.std.proofs.Crossing.{crosses}
 use Rattle.std.specs.Prelude.{IfOk}
-use Rattle.fr_run_event.proofs.config.Config.TheSendSync as config
+use Rattle.fr_run.proofs.config.Config.TheSendSync as config
 use Rattle.fr_runtime_station.proofs.Sent.{directory-sync}
 use Rattle.fr_runtime.specs.Job.{Did}
 use Rattle.fr_runtime.proofs.Captures.{bound-send, bound-sync, captures-sync}
@@ -16,7 +16,7 @@ use Rattle.fr_runtime.proofs.job.run_jobs.Lts as lts
 pub work_each-requires-sync-F : goal.work_each-requires-sync-F
 work_each-requires-sync-F g c κs within =
     let bounds = c.type_bounds in
-    let all = captures-sync (lts.name-31 g.row.C g.row.L g.row.K g.row.S g.row.W g.row.F g.row.R g.row.K-Store g.C.laws g.L.laws g.K.laws g.S.laws g.W.laws g.F.laws g.R.laws g.K.Store.laws g.C.Node g.C.Node-dict g.bound-2 g.bound-2-dict g.L.Node g.L.Node-dict g.bound-4 g.bound-4-dict g.K.Rack g.K.Rack-dict g.K.Store.ShardStore g.K.Store.ShardStore-dict g.S.ShardStore g.S.ShardStore-dict g.W.Workload g.W.Workload-dict g.F.Faults g.F.Faults-dict g.R.Threads g.R.Threads-dict g.R.Wait g.R.Wait-dict g.C.Destruct-dict g.L.Destruct-dict g.S.Destruct-dict g.W.Destruct-dict g.K.Store.Destruct-dict) (lts.of-22 g.row.C g.row.L g.row.K g.row.S g.row.W g.row.F g.row.R g.row.K-Store g.C.laws g.L.laws g.K.laws g.S.laws g.W.laws g.F.laws g.R.laws g.K.Store.laws g.C.Node g.C.Node-dict g.bound-2 g.bound-2-dict g.L.Node g.L.Node-dict g.bound-4 g.bound-4-dict g.K.Rack g.K.Rack-dict g.K.Store.ShardStore g.K.Store.ShardStore-dict g.S.ShardStore g.S.ShardStore-dict g.W.Workload g.W.Workload-dict g.F.Faults g.F.Faults-dict g.R.Threads g.R.Threads-dict g.R.Wait g.R.Wait-dict g.C.Destruct-dict g.L.Destruct-dict g.S.Destruct-dict g.W.Destruct-dict g.K.Store.Destruct-dict (record { mir = named 6; lft = κs.1.1.1.1.1.1.0 }) (record { mir = named 7; lft = κs.1.1.1.1.1.1.1.0 }) (record { mir = named 8; lft = κs.1.1.1.1.1.1.1.1.0 }) (record { mir = named 9; lft = κs.1.1.1.1.1.1.1.1.1.0 }) (record { mir = named 10; lft = κs.1.1.1.1.1.1.1.1.1.1.0 })) (search (sendable, crosses) depth 40, (search (sendable, crosses) depth 40, (search (sendable, crosses, config.the_sync) depth 40, (search (sendable, crosses, directory-sync) depth 40, (search (sendable, crosses) depth 40, (search (sendable, crosses) depth 40, (search (sendable, crosses) depth 40, tt))))))) in
+    let all = captures-sync (lts.name-33 g.row.C g.row.L g.row.K g.row.S g.row.W g.row.F g.row.R g.row.K-Store g.C.laws g.L.laws g.K.laws g.S.laws g.W.laws g.F.laws g.R.laws g.K.Store.laws g.C.Node g.C.Node-dict g.bound-2 g.bound-2-dict g.L.Node g.L.Node-dict g.bound-4 g.bound-4-dict g.K.Rack g.K.Rack-dict g.K.Store.ShardStore g.K.Store.ShardStore-dict g.S.ShardStore g.S.ShardStore-dict g.W.Workload g.W.Workload-dict g.F.Faults g.F.Faults-dict g.R.Threads g.R.Threads-dict g.R.Wait g.R.Wait-dict g.C.Destruct-dict g.L.Destruct-dict g.S.Destruct-dict g.W.Destruct-dict g.K.Store.Destruct-dict) (lts.of-20 g.row.C g.row.L g.row.K g.row.S g.row.W g.row.F g.row.R g.row.K-Store g.C.laws g.L.laws g.K.laws g.S.laws g.W.laws g.F.laws g.R.laws g.K.Store.laws g.C.Node g.C.Node-dict g.bound-2 g.bound-2-dict g.L.Node g.L.Node-dict g.bound-4 g.bound-4-dict g.K.Rack g.K.Rack-dict g.K.Store.ShardStore g.K.Store.ShardStore-dict g.S.ShardStore g.S.ShardStore-dict g.W.Workload g.W.Workload-dict g.F.Faults g.F.Faults-dict g.R.Threads g.R.Threads-dict g.R.Wait g.R.Wait-dict g.C.Destruct-dict g.L.Destruct-dict g.S.Destruct-dict g.W.Destruct-dict g.K.Store.Destruct-dict (record { mir = named 6; lft = κs.1.1.1.1.1.1.0 }) (record { mir = named 7; lft = κs.1.1.1.1.1.1.1.0 }) (record { mir = named 8; lft = κs.1.1.1.1.1.1.1.1.0 }) (record { mir = named 9; lft = κs.1.1.1.1.1.1.1.1.1.0 }) (record { mir = named 10; lft = κs.1.1.1.1.1.1.1.1.1.1.0 })) (search (sendable, crosses) depth 40, (search (sendable, crosses) depth 40, (search (sendable, crosses, config.the_sync) depth 40, (search (sendable, crosses, directory-sync) depth 40, (search (sendable, crosses) depth 40, (search (sendable, crosses) depth 40, (search (sendable, crosses) depth 40, tt))))))) in
     record { shared = all.shared }
 
 -- what it asks of the types of the function around it is what their bounds say

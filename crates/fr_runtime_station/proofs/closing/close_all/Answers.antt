@@ -8,9 +8,9 @@ pub loop-station-preserved : goal.loop-station-preserved
 loop-station-preserved g c = record {
   can = tt;
   ends = tt;
-  answers = c.in_ok-close.ensures.answers;
+  answers = c.in_ok-put_closed.ensures.answers;
   more = grind (arith, common_steps);
-  each = λ e. each-more (length c.loop-station.journals.items) (length c.close.new.journals.items) (length (into_iter_items c.loop-station.station-iterator)) (length (into_iter_items c.next.new.self)) (length c.args.journals.now.items + length c.args.stations.items) (ap length c.in-Some.ensures.steps.0) (c.in_ok-close.ensures.each e) (c.loop-station.invariant.each e);
+  each = λ e. each-more (length c.loop-station.journals.items) (length c.put_closed.new.journals.items) (length (into_iter_items c.loop-station.station-iterator)) (length (into_iter_items c.next.new.self)) (length c.args.journals.now.items + length c.args.stations.items) (ap length c.in-Some.ensures.steps.0) (c.in_ok-put_closed.ensures.each e) (c.loop-station.invariant.each e);
 }
 
 pub returns-clause-each : goal.returns-clause-each

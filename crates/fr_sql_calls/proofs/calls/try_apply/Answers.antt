@@ -1,7 +1,7 @@
 use Rattle.std.proofs.Common.{sym, subst}
 use Rattle.sqlite.specs.Effect.{Database}
 use Rattle.sqlite.specs.Held.{state}
-use Rattle.fr_sql_work.specs.Work.{Fits}
+use Rattle.fr_sql_calls.specs.Work.{Fits}
 use Rattle.fr_undo.specs.Undo.{extended}
 use Rattle.fr_sql_calls.specs.Tables.{state_in}
 use Rattle.fr_sql_calls.specs.Calls.{LeadsTo}

@@ -4,7 +4,7 @@ use Rattle.std.specs.BTreeMap as tree
 use Rattle.sqlite.specs.Held.{state}
 use Rattle.fr_base.specs.Bytes.{bytes_cmp}
 use Rattle.fr_sql_rows.specs.Rows.{value_in}
-use Rattle.fr_sql_work.specs.Calls.{Looks}
+use Rattle.fr_sql_calls.specs.WorkCalls.{Looks}
 use Rattle.fr_sql_calls.specs.Known.{has_row}
 use Rattle.fr_sql_calls.proofs.known.held_at.Given as goal
 

@@ -5,7 +5,7 @@ use Rattle.sqlite.specs.Held.{state}
 use Rattle.fr_base.specs.Bytes.{bytes_cmp}
 use Rattle.fr_mutation.specs.Mutation.{touched}
 use Rattle.fr_sql_rows.specs.Rows.{value_in}
-use Rattle.fr_sql_work.specs.Calls.{Looks}
+use Rattle.fr_sql_calls.specs.WorkCalls.{Looks}
 use Rattle.fr_sql_calls.proofs.known.held_by.Given as goal
 
 -- what is known and what is left to be looked up are what all of the batch touches

@@ -1,7 +1,7 @@
 use Rattle.std.proofs.Common.{◌∙◌}
 use Rattle.sqlite.specs.Held.{state}
 use Rattle.fr_sql_rows.specs.Rows.{value_in}
-use Rattle.fr_sql_work.proofs.WorkLemmas.{get_contents}
+use Rattle.fr_sql_calls.proofs.WorkLemmas.{get_contents}
 use Rattle.fr_sql_calls.proofs.KnownLemmas.{key_known, key_looked}
 use Rattle.fr_sql_calls.proofs.known.look_key.Goals as goal
 

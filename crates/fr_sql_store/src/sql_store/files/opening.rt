@@ -6,15 +6,14 @@ ghost use Rattle.sqlite.specs.Files.{file_state, IsOpened, Finds};
 ghost use Rattle.fr_undo.specs.State.{StoreState, fresh};
 ghost use Rattle.fr_undo.specs.Calls.{IsTrouble};
 ghost use Rattle.fr_sql_rows.specs.Connection.{IsAtRest};
-ghost use Rattle.fr_sql_work.specs.Calls.{MeetsAll};
+ghost use Rattle.fr_sql_calls.specs.WorkCalls.{MeetsAll};
 ghost use Rattle.fr_sql_store.specs.Tables.{state_in, state_of};
 ghost use Rattle.fr_sql_store.specs.Files.{HoldStore};
 ghost use Rattle.fr_sql_store.specs.Opening.{IsHeldOrMade, IsOpenFault};
 
 use crate::sql_store::files::SEED;
 use crate::sql_store::{SqlStore, is_device};
-use fr_sql_open::{find, has_no_table, open_again};
-use fr_sql_rows::{Backing, FaithfulDisk, fault_of};
+use fr_sql_rows::{Backing, FaithfulDisk, fault_of, find, has_no_table, open_again};
 use fr_undo::{ShardStore, StoreFault};
 use sqlite::{Connection, Error, ErrorCode, FileStore, Files, Options};
 use sqlite_trees::store::Store;

@@ -1,6 +1,6 @@
 use Rattle.fr_storage.proofs.Breaks.{marked_breaks, peeked_breaks, first_follows, follows_on}
 use Rattle.fr_storage.proofs.Hears.{peeked_keeps_state, marked_keeps_tag, marked_refused, peeked_refused}
-use Rattle.fr_storage.proofs.Marked.{marked_follows}
+use Rattle.fr_storage.proofs.Rollback.{marked_follows}
 use Rattle.fr_storage.proofs.Peeked.{peeked_follows}
 use Rattle.fr_storage.proofs.laws.follow_law.Goals as goal
 

@@ -1,7 +1,7 @@
 use Rattle.std.proofs.Common.{sym, subst}
-use Rattle.fr_run_event.specs.declared.event.Event.{Event}
+use Rattle.fr_run.specs.declared.event.Event.{Event}
 use Rattle.fr_world.specs.Stepping.{Refuses}
-use Rattle.fr_world_kept.specs.Kept.{state_of}
+use Rattle.fr_world_nodes.specs.Kept.{state_of}
 use Rattle.fr_world.proofs.step.happen.Goals as goal
 
 -- the event is the one that its kind's own function has

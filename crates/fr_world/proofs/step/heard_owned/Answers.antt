@@ -1,8 +1,8 @@
 use Rattle.std.proofs.Common.{sym, subst}
 use Rattle.fr_base.specs.declared.place.NodeId.{NodeId}
-use Rattle.fr_run_event.specs.declared.event.Event.TheVariants as event
+use Rattle.fr_run.specs.declared.event.Event.TheVariants as event
 use Rattle.fr_world.specs.Stepping.{Refuses}
-use Rattle.fr_world_kept.specs.Kept.{state_of}
+use Rattle.fr_world_nodes.specs.Kept.{state_of}
 use Rattle.fr_world.proofs.step.heard_owned.Goals as goal
 
 -- the node that hears is the one that its kind's own function has

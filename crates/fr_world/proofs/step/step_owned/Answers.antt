@@ -1,6 +1,6 @@
 use Rattle.std.proofs.Common.{subst}
 use Rattle.fr_world.specs.Stepping.{Steps, Refuses}
-use Rattle.fr_world_kept.specs.Kept.{WorldState, state_of}
+use Rattle.fr_world_nodes.specs.Kept.{WorldState, state_of}
 use Rattle.fr_world.proofs.step.step_owned.Goals as goal
 
 -- what is made ready is the world before

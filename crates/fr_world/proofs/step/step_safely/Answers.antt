@@ -1,5 +1,5 @@
 use Rattle.fr_run_headline.specs.Safety.{IsSafe}
-use Rattle.fr_world_kept.specs.Kept.{state_of}
+use Rattle.fr_world_nodes.specs.Kept.{state_of}
 use Rattle.fr_world.proofs.Grows.{is_config, grown}
 use Rattle.fr_world.proofs.step.step_safely.Goals as goal
 

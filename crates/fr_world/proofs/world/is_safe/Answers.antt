@@ -1,4 +1,4 @@
-use Rattle.fr_world_kept.specs.Kept.{state_of}
+use Rattle.fr_world_nodes.specs.Kept.{state_of}
 use Rattle.fr_world.proofs.Grows.{is_config}
 use Rattle.fr_world.proofs.world.is_safe.Goals as goal
 

@@ -2,7 +2,7 @@ use Rattle.std.proofs.Common.{◌≡◌, true, Some, ap, sym, subst, ◌∙◌}
 use Rattle.std.specs.Prelude.{slice_get}
 use Rattle.std.proofs.lemmas.Option.{slice_get-get_or}
 use Rattle.fr_run.specs.Turn.{asks_of}
-use Rattle.fr_run_event.specs.Tests as tests
+use Rattle.fr_run.specs.Tests as tests
 use Rattle.fr_world_turns.specs.Finding.{at_place}
 use Rattle.fr_world_turns.specs.Turns.{turn_of}
 use Rattle.fr_world_turns.proofs.Founds.{SentAreFound, asks_entered, gives_at, sent_more, take_whole}

@@ -1,6 +1,6 @@
 use Rattle.std.proofs.Common.{◌≡◌, drop}
 use Rattle.std.specs.List.{list_any}
-use Rattle.fr_run_event.specs.Tests as tests
+use Rattle.fr_run.specs.Tests as tests
 use Rattle.fr_world_turns.specs.Finding.{at_place}
 use Rattle.fr_world_turns.proofs.finding.has_gone.Given as goal
 

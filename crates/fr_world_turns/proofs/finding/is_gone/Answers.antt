@@ -1,6 +1,6 @@
 use Rattle.std.proofs.Common.{drop, ap, ◌∙◌}
 use Rattle.std.specs.List.{list_any}
-use Rattle.fr_run_event.specs.Tests.{goes, is_gone}
+use Rattle.fr_run.specs.Tests.{goes, is_gone}
 use Rattle.fr_world_turns.specs.Finding.{some_under}
 use Rattle.fr_world_turns.specs.Keys.{gone_key}
 use Rattle.fr_world_turns.specs.Turns.{turn_of, history_of}

@@ -1,4 +1,4 @@
-use Rattle.fr_run_event.specs.Tests as tests
+use Rattle.fr_run.specs.Tests as tests
 use Rattle.fr_world_turns.specs.Turns.{turn_of}
 use Rattle.fr_world_turns.proofs.Lists.{NoneFrom}
 use Rattle.fr_world_turns.proofs.finding.some_gives.Given as goal

@@ -1,5 +1,5 @@
 use Rattle.std.proofs.Common.{sym, ◌∙◌, ◌-◌}
-use Rattle.fr_run_event.specs.Tests.{tells}
+use Rattle.fr_run.specs.Tests.{tells}
 use Rattle.fr_world_turns.specs.Turns.{turn_of}
 use Rattle.fr_world_turns.proofs.Lists.{none_before, none_of, one_of}
 use Rattle.fr_world_turns.proofs.finding.some_tells.Goals as goal

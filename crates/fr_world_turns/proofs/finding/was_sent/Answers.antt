@@ -1,6 +1,6 @@
 use Rattle.std.proofs.Common.{drop, ap, sym, ◌∙◌}
 use Rattle.std.specs.List.{list_any}
-use Rattle.fr_run_event.specs.Tests.{gives, was_sent}
+use Rattle.fr_run.specs.Tests.{gives, was_sent}
 use Rattle.fr_world_turns.specs.Finding.{some_under}
 use Rattle.fr_world_turns.specs.Keys.{ask_key}
 use Rattle.fr_world_turns.specs.Turns.{turn_of, history_of}

@@ -1,6 +1,6 @@
 use Rattle.std.proofs.Common.{drop, ap, ◌∙◌}
 use Rattle.std.specs.List.{list_any}
-use Rattle.fr_run_event.specs.Tests.{tells, was_told}
+use Rattle.fr_run.specs.Tests.{tells, was_told}
 use Rattle.fr_world_turns.specs.Finding.{some_under}
 use Rattle.fr_world_turns.specs.Keys.{tell_key}
 use Rattle.fr_world_turns.specs.Turns.{turn_of, history_of}

@@ -4,7 +4,7 @@ use Rattle.std.specs.List.{insert}
 use Rattle.std.proofs.lemmas.Bool.{eqb-true, eqb-false}
 use Rattle.std.proofs.lemmas.List.{get_or_default}
 use Rattle.fr_log.specs.declared.popped.PoppedTag.{PoppedTag}
-use Rattle.fr_log.specs.Popped.{raised, place_in}
+use Rattle.fr_log.specs.Left.{raised, place_in}
 use Rattle.fr_log.proofs.Popping.{raised_set, raised_insert}
 use Rattle.fr_log.proofs.popped.PoppedTags.raise.Goals as goal
 use Rattle.fr_log.proofs.popped.PoppedTags.raise.Goals.{else-at-len-via-then-at-len+else-eq, else-at-len-via-else-at-len}

@@ -2,7 +2,7 @@ use Rattle.std.proofs.Common.{◌&&◌, sym, ◌∙◌, ap}
 use Rattle.std.specs.Cmp.Lexicographic.{pointwise}
 use Rattle.fr_tags.specs.Bodies.{is_same_body}
 use Rattle.fr_log.specs.Fields.{three}
-use Rattle.fr_log.specs.Popped.{left_bodies}
+use Rattle.fr_log.specs.Left.{left_bodies}
 use Rattle.fr_log.specs.Search.{is_found}
 use Rattle.fr_log.specs.Pushes.{bodies_from}
 use Rattle.fr_log.proofs.Held.{found_is}

@@ -1,5 +1,5 @@
 use Rattle.std.proofs.Common.{map, ap, ◌∙◌}
-use Rattle.fr_log.specs.Popped.{left_push}
+use Rattle.fr_log.specs.Left.{left_push}
 use Rattle.fr_log.proofs.Held.{swept_indexed, swept_held}
 use Rattle.fr_log.proofs.pushes.Pushes.sweep.Goals as goal
 

@@ -1,7 +1,7 @@
 use Rattle.std.proofs.Common.{rules, ap, ◌∙◌, sym, subst}
 use Rattle.std.proofs.lemmas.Fn.{filter_same}
 use Rattle.fr_log.specs.Seed.{SeedContent, IsSeed}
-use Rattle.fr_log.specs.Popped.{is_left, left_seed}
+use Rattle.fr_log.specs.Left.{is_left, left_seed}
 use Rattle.fr_log.proofs.Letting.{left_is_seed}
 use Rattle.fr_log.proofs.seed.Seed.sweep.Goals as goal
 

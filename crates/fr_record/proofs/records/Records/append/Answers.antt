@@ -1,5 +1,5 @@
 use Rattle.std.proofs.Common.{rules, ◌+◌, length, ◌≡◌, ap, sym, subst, ◌∙◌, ◌∷◌, [], ◌++◌}
-use Rattle.fr_device.specs.Moments.{Throughout}
+use Rattle.fr_record.specs.Moments.{Throughout}
 use Rattle.fr_record.specs.File.{IsLeft, behind}
 use Rattle.fr_record.specs.Table.{IsFile, records_at, places}
 use Rattle.fr_record.proofs.Grown.{kept, at_rest, while_put, failed_file, failed_records, grown_file, grown_found, one_short}

@@ -1,6 +1,6 @@
 use Rattle.std.proofs.Common.{rules, ◌+◌, ◌≡◌, ◌<◌, ◌-◌, ap, sym, subst, ◌∙◌, ◌++◌, length}
 use Rattle.std.specs.List.{between}
-use Rattle.fr_device.specs.Moments.{LeavesOnly, Throughout}
+use Rattle.fr_record.specs.Moments.{LeavesOnly, Throughout}
 use Rattle.fr_record.specs.File.{IsLeft, IsAtRest}
 use Rattle.fr_record.specs.Group.{records_of, places_of}
 use Rattle.fr_record.specs.Table.{IsFile, records_at}

@@ -1,5 +1,5 @@
 use Rattle.std.proofs.Common.{◌≡◌, subst, false}
-use Rattle.fr_device.specs.Moments.{LeavesOnly}
+use Rattle.fr_record.specs.Moments.{LeavesOnly}
 use Rattle.fr_record.specs.File.{IsAtRest}
 use Rattle.fr_record.proofs.Grown.{kept}
 use Rattle.fr_record.proofs.records.Records.len.Goals as goal

@@ -1,5 +1,5 @@
 use Rattle.std.proofs.Common.{refl, ap, sym, subst, ◌∙◌, ◌∷◌, Err}
-use Rattle.fr_device.specs.Moments.{LeavesOnly, Throughout}
+use Rattle.fr_record.specs.Moments.{LeavesOnly, Throughout}
 use Rattle.fr_record.specs.File.{StandsFor, IsLeft, IsAtRest}
 use Rattle.fr_record.proofs.ReadLemmas.{failed_front}
 use Rattle.fr_record.proofs.Grown.{kept}

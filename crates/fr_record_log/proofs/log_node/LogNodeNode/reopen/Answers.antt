@@ -1,5 +1,5 @@
 use Rattle.std.proofs.Common.{◌≡◌, ◌⊎◌, Some, subst}
-use Rattle.fr_device.specs.Moments.{Throughout}
+use Rattle.fr_record.specs.Moments.{Throughout}
 use Rattle.fr_record_node.specs.Replay.{Opens}
 use Rattle.fr_record_log.specs.LogFile.{fresh_of, replay_log}
 use Rattle.fr_record_log.proofs.log_node.LogNodeNode.reopen.Goals as goal

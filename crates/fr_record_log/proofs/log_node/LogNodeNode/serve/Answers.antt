@@ -1,5 +1,5 @@
 use Rattle.std.proofs.Common.{◌≡◌, ◌⊎◌, false, subst}
-use Rattle.fr_device.specs.Moments.{Throughout}
+use Rattle.fr_record.specs.Moments.{Throughout}
 use Rattle.fr_log.specs.Step.{after_ask}
 use Rattle.fr_record_node.specs.Replay.{Opens}
 use Rattle.fr_record_log.specs.LogFile.{fresh_of, replay_log}

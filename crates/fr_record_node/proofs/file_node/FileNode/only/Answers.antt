@@ -1,5 +1,5 @@
 use Rattle.std.proofs.Common.{◌≡◌, ◌⊎◌, sym, subst, ◌∙◌}
-use Rattle.fr_device.specs.Moments.{Throughout}
+use Rattle.fr_record.specs.Moments.{Throughout}
 use Rattle.fr_record_node.specs.Replay.{Opens}
 use Rattle.fr_record_node.proofs.Lemmas.{unmoved}
 use Rattle.fr_record_node.proofs.file_node.FileNode.only.Goals as goal

@@ -1,6 +1,6 @@
 use Rattle.std.proofs.Common.{rules, ◌≡◌, ◌⊎◌, Err, true, refl, sym, ap, subst, ◌∙◌}
 use Rattle.std.specs.Prelude.{All}
-use Rattle.fr_device.specs.Moments.{Throughout, LeavesOnly}
+use Rattle.fr_record.specs.Moments.{Throughout, LeavesOnly}
 use Rattle.fr_record_node.specs.Several.{after_all, written_all}
 use Rattle.fr_record_node.specs.Replay.{Opens}
 use Rattle.fr_record_node.specs.Node.{InFlight, owed_of, after_held, written_held, AreAsks}

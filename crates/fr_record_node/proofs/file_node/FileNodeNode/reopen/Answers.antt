@@ -1,5 +1,5 @@
 use Rattle.std.proofs.Common.{rules, ◌≡◌, ◌⊎◌, ◌||◌, None, Some, true, inl, refl, ap, subst, ◌∙◌}
-use Rattle.fr_device.specs.Moments.{Throughout}
+use Rattle.fr_record.specs.Moments.{Throughout}
 use Rattle.fr_base.specs.Faults.{is_device}
 use Rattle.fr_record_node.specs.Replay.{Opens}
 use Rattle.fr_record_node.specs.Several.{written_all}

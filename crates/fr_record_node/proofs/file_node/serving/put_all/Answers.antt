@@ -1,5 +1,5 @@
 use Rattle.std.proofs.Common.{◌≡◌, ◌++◌, Some, sym, ap, ◌∙◌, subst}
-use Rattle.fr_device.specs.Moments.{Throughout}
+use Rattle.fr_record.specs.Moments.{Throughout}
 use Rattle.fr_record.specs.Group.{records_of}
 use Rattle.fr_record_node.specs.Node.{InFlight}
 use Rattle.fr_record_node.specs.Several.{after_all, written_all}

@@ -1,5 +1,5 @@
 use Rattle.std.proofs.Common.{arith, ◌≡◌}
-use Rattle.fr_runtime_housing.specs.Housing.{last_number}
+use Rattle.fr_audit_journal.specs.Housing.{last_number}
 use Rattle.fr_runtime_threads.proofs.Accounts.{last-is}
 use Rattle.fr_runtime_threads.proofs.notes.Notes.enter.Goals as goal
 

@@ -2,10 +2,10 @@ use Rattle.std.proofs.Common.{◌≡◌, sym, ◌∙◌, subst}
 use Rattle.std.specs.Prelude.{◌||◌}
 use Rattle.fr_ask.specs.declared.ask.Ask.TheVariants as ask
 use Rattle.fr_base.specs.declared.place.NodeId.TheVariants as node
-use Rattle.fr_run_event.specs.Limits.{AskHasLimits}
-use Rattle.fr_run_event.specs.Tests.{was_sent, storage_may_ask}
+use Rattle.fr_run.specs.Limits.{AskHasLimits}
+use Rattle.fr_run.specs.Tests.{was_sent, storage_may_ask}
 use Rattle.fr_world_nodes.specs.Parts.{AreStorages}
-use Rattle.fr_world_kept.specs.Kept.{state_of}
+use Rattle.fr_world_nodes.specs.Kept.{state_of}
 use Rattle.fr_world.proofs.Delivered.{cell_may, log_may, sequencer_may, sent_of, up_of, or_first, or_second}
 use Rattle.fr_world.proofs.events.delivered.delivered.Goals as goal
 use Rattle.fr_world.proofs.events.delivered.delivered.Goals.{then-sent, else-sent}

@@ -1,7 +1,7 @@
 use Rattle.std.proofs.Common.{◌≡◌, true, sym, ◌∙◌}
 use Rattle.fr_base.specs.declared.place.NodeId.TheVariants as node
-use Rattle.fr_run_event.specs.Tests.{was_told}
-use Rattle.fr_world_kept.specs.Kept.{state_of}
+use Rattle.fr_run.specs.Tests.{was_told}
+use Rattle.fr_world_nodes.specs.Kept.{state_of}
 use Rattle.fr_world.proofs.ToProxies.{proxy_may_hear}
 use Rattle.fr_world.proofs.events.proxies.heard_by_proxy.Goals as goal
 

@@ -1,8 +1,8 @@
 use Rattle.std.proofs.Common.{◌∙◌, sym}
 use Rattle.fr_base.specs.declared.place.NodeId.TheVariants as node
 use Rattle.fr_run.specs.Nodes.{proxy_at}
-use Rattle.fr_run_event.specs.Step.{submitted}
-use Rattle.fr_world_kept.specs.Kept.{state_of}
+use Rattle.fr_run.specs.Step.{submitted}
+use Rattle.fr_world_nodes.specs.Kept.{state_of}
 use Rattle.fr_world.proofs.ToProxies.{proxy_up}
 use Rattle.fr_world.proofs.Ups.{refused_up}
 use Rattle.fr_world.proofs.events.proxies.submitted.Goals as goal

@@ -1,5 +1,5 @@
 use Rattle.std.proofs.Common.{sym, ◌∙◌}
-use Rattle.fr_world_kept.specs.Kept.{state_of}
+use Rattle.fr_world_nodes.specs.Kept.{state_of}
 use Rattle.fr_world.proofs.Heard.{storage_may_hear}
 use Rattle.fr_world.proofs.events.served.heard_in_place.Goals as goal
 

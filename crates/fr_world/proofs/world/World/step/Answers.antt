@@ -1,6 +1,6 @@
 use Rattle.std.proofs.Common.{ap, subst, ◌∙◌}
 use Rattle.fr_run_headline.specs.Safety.{IsGrownFrom}
-use Rattle.fr_world_kept.specs.Kept.{WorldState, state_of}
+use Rattle.fr_world_nodes.specs.Kept.{WorldState, state_of}
 use Rattle.fr_world.proofs.world.World.step.Goals as goal
 
 -- the nodes in the box are those of the world

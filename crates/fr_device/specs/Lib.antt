@@ -1,5 +1,0 @@
-pub mod Disk
-pub mod Moments
-pub mod Count
-pub mod Memory
-pub mod Faulty

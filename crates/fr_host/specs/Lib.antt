@@ -1,0 +1,4 @@
+pub mod Device
+pub mod Below
+pub mod Due
+pub mod Mirror

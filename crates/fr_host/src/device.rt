@@ -1,0 +1,113 @@
+//! A device over a disk below, which is read once.
+ghost use Rattle.std.specs.Prelude.{◌≡◌, ◌≤◌, false, length, Err, IsTrue};
+ghost use Rattle.std.specs.Vec.{vec_capacity};
+ghost use Rattle.fr_record.specs.Count.{counted};
+ghost use Rattle.fr_host.specs.Device.{disk_by, IsMarked, Left};
+
+mod over;
+
+use crate::marks::{keep, mark, overwrite};
+use fr_record::{Device, DeviceFault};
+use sqlite_disk::Disk;
+
+/// A device whose reads come from memory and whose writes go to a disk below too, which is read once. A byte is kept from
+/// the sync on to which that disk said yes. After its first write or sync that is refused each call answers `Device`,
+/// reads too: a kernel may drop what it could not write, so what the disk holds is not known until it is read again.
+#[derive(Drop)]
+pub struct DiskDevice<K: Disk> {
+    bytes: Vec<u8>,
+    /// Of each byte, whether it was synced since it was written.
+    marks: Vec<bool>,
+    /// All marks below this place are set.
+    from: usize,
+    kept_len: usize,
+    capacity: usize,
+    below: K,
+    is_shut: bool,
+    failures: u64,
+    ghost marked: { IsMarked bytes.items marks.items from kept_len },
+    ghost within: { length bytes.items ≤ capacity },
+    ghost room: { (capacity ≤ vec_capacity bytes) × (capacity ≤ vec_capacity marks) },
+    ghost usable: { is_shut ≡ false → IsTrue (K.Disk.is_usable below) },
+    ghost same: { IsTrue (K.Disk.is_clean below) → is_shut ≡ false → K.Disk.seen below ≡ bytes.items },
+    ghost leaves: { IsTrue (K.Disk.is_clean below) → Left (K.Disk.may_leave below) (disk_by bytes.items marks.items kept_len) },
+}
+
+/// A failure, which is counted.
+fn failed<T>(failures: &mut u64) -> Result<T, DeviceFault>
+    ensures fault { result ≡ Err DeviceFault.Device }
+    ensures counted { failures.new ≡ counted failures.old result }
+{
+    *failures = failures.saturating_add(1);
+    Err(DeviceFault::Device)
+}
+
+impl<K: Disk + Drop> Device for DiskDevice<K> {
+    ghost use Rattle.fr_host.specs.Device.{disk_by, IsStep};
+
+    ghost disk = { λ d. disk_by d.bytes.items d.marks.items d.kept_len };
+
+    ghost capacity_of = { λ d. d.capacity };
+
+    ghost failures_of = { λ d. d.failures };
+
+    ghost Led = { λ d e. IsStep (disk_by d.bytes.items d.marks.items d.kept_len) (disk_by e.bytes.items e.marks.items e.kept_len) };
+
+    fn read_at(&mut self, at: usize, buffer: &mut [u8]) -> Result<(), DeviceFault> {
+        if self.is_shut {
+            return failed(&mut self.failures);
+        }
+        buffer.copy_from_slice(&self.bytes[at..at + buffer.len()]);
+        Ok(())
+    }
+
+    fn write_at(&mut self, at: usize, bytes: &[u8]) -> Result<(), DeviceFault> {
+        if self.is_shut {
+            return failed(&mut self.failures);
+        }
+        if bytes.len() > self.capacity - at {
+            return Err(DeviceFault::Full);
+        }
+        if bytes.is_empty() {
+            return Ok(());
+        }
+        overwrite(&mut self.bytes, at, bytes);
+        mark(&mut self.marks, at, bytes.len());
+        self.from = self.from.min(at);
+        if self.below.write_at(at, bytes).is_err() {
+            self.is_shut = true;
+            return failed(&mut self.failures);
+        }
+        Ok(())
+    }
+
+    fn sync(&mut self) -> Result<(), DeviceFault> {
+        if self.is_shut {
+            return failed(&mut self.failures);
+        }
+        if self.below.sync().is_err() {
+            self.is_shut = true;
+            return failed(&mut self.failures);
+        }
+        let from = self.from;
+        keep(&mut self.marks, from);
+        self.from = self.bytes.len();
+        self.kept_len = self.bytes.len();
+        Ok(())
+    }
+
+    fn len(&mut self) -> Result<usize, DeviceFault> {
+        if self.is_shut {
+            return failed(&mut self.failures);
+        }
+        Ok(self.bytes.len())
+    }
+
+    fn capacity(&self) -> usize {
+        self.capacity
+    }
+
+    fn failures(&self) -> u64 {
+        self.failures
+    }
+}

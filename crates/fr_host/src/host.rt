@@ -1,0 +1,68 @@
+//! A device over a file of the host.
+ghost use Rattle.std.specs.Prelude.{◌≡◌, max, length, IfOk};
+ghost use Rattle.fr_record.specs.Disk.{IsDurable};
+
+use crate::device::DiskDevice;
+use crate::fault::HostFault;
+use fr_record::Device;
+use sqlite_disk::{Disk, Files};
+use sqlite_std_file::{FileFrom, OpenError, Unknown};
+use std::alloc::Global;
+use std::io;
+
+/// A device over a file of the host.
+pub type HostDevice = DiskDevice<FileFrom<Unknown>>;
+
+/// Opens a file of the host as a device with so much room, or that of its bytes if they are more. It is made if it is
+/// missing, locked until the device is dropped, synced with its folder, and read whole. A second file, of its name and
+/// `-wal`, is made beside it and stays empty: the library opens the two files of a database, and has no call for one.
+///
+/// # Errors
+///
+/// By the name of what is wrong with the file: see [`HostFault`].
+pub fn open(
+    rt: &HostRuntime,
+    alloc: Global,
+    path: &str,
+    room: usize,
+) -> Result<HostDevice, HostFault>
+    ensures durable { IfOk result (λ d. IsDurable (⟦<HostDevice as Device>⟧.disk d)) }
+    ensures capacity { IfOk result (λ d. ⟦<HostDevice as Device>⟧.capacity_of d ≡ max room (length (⟦<HostDevice as Device>⟧.disk d).content)) }
+    ensures failures { IfOk result (λ d. ⟦<HostDevice as Device>⟧.failures_of d ≡ 0) }
+{
+    let Files { mut log, db } = match sqlite_std_file::open(rt, path, Unknown) {
+        Ok(files) => files,
+        Err(error) => return Err(unopened(error)),
+    };
+    match log.len() {
+        Ok(0) => {}
+        Ok(_) => return Err(HostFault::Database),
+        Err(error) => return Err(fault_of(error)),
+    }
+    match DiskDevice::over(alloc, db, room) {
+        Ok(device) => Ok(device),
+        Err(error) => Err(fault_of(error)),
+    }
+}
+
+/// Why a file was not opened.
+fn unopened(error: OpenError) -> HostFault {
+    match error {
+        OpenError::Busy => HostFault::Busy,
+        OpenError::HotJournal => HostFault::Database,
+        OpenError::OutOfMemory => HostFault::Memory,
+        OpenError::Io(error) => fault_of(error),
+    }
+}
+
+/// What an error of the host is to the caller.
+fn fault_of(error: io::Error) -> HostFault {
+    match error.kind() {
+        io::ErrorKind::NotFound | io::ErrorKind::NotADirectory => HostFault::Missing,
+        io::ErrorKind::Unsupported | io::ErrorKind::IsADirectory => HostFault::NotPlain,
+        io::ErrorKind::PermissionDenied | io::ErrorKind::ReadOnlyFilesystem => HostFault::Denied,
+        io::ErrorKind::StorageFull | io::ErrorKind::QuotaExceeded => HostFault::Full,
+        io::ErrorKind::OutOfMemory => HostFault::Memory,
+        _ => HostFault::Failed,
+    }
+}

@@ -1,0 +1,198 @@
+//! Writes, cuts and syncs of both.
+ghost use Rattle.std.specs.Prelude.{◌≡◌, ◌+◌, ◌≤◌, ◌<◌, ◌^◌, ℕ, List, None, Some, false, OnOk, OnErr, IsTrue, length};
+ghost use Rattle.sqlite_disk.specs.Disk.{Holds, Torn, Mixed, Cut, Follows, Only};
+ghost use Rattle.sqlite_disk.specs.Refusal.{finds_no_room};
+ghost use Rattle.fr_host.specs.Due.{Leaves};
+
+use crate::bytes::{compare, fill, grow, put};
+use crate::due::Due;
+use crate::mirror::{Mirror, not_made};
+use sqlite_disk::Disk;
+use std::io;
+
+impl<D: Disk + Drop> Mirror<D> {
+    /// Whether the disk below takes a write, and a crash still leaves of it what it said first. It is asked before each
+    /// write, since one sync a commit is enough only if a crash leaves each byte old or new.
+    fn may_write(&self) -> bool
+        ensures usable { IsTrue result → IsTrue (D.Disk.is_usable self.now.below) }
+        ensures mixing { IsTrue result → IsTrue self.now.mixes → IsTrue (D.Disk.is_mixing self.now.below) }
+    {
+        self.below.may_be_used() && (!self.mixes || self.below.mixes())
+    }
+
+    /// Makes the write anew that failed below, if there is one.
+    fn mend(&mut self) -> io::Result<()>
+        requires whole { self.old.is_torn ≡ false }
+        ensures done { OnOk result (self.new.due ≡ None) }
+        ensures bytes { self.new.bytes.items ≡ self.old.bytes.items }
+        ensures torn { self.new.is_torn ≡ false }
+        ensures mixing { self.new.mixes ≡ self.old.mixes }
+        ensures lost { self.new.is_lost ≡ self.old.is_lost }
+        ensures faults { self.new.faults ≡ self.old.faults }
+        ensures refused { self.new.refused ≡ self.old.refused }
+        ensures calm { IsTrue (D.Disk.is_clean self.new.below) → IsTrue (D.Disk.is_clean self.old.below) }
+        ensures key { D.Disk.key_of self.new.below ≡ D.Disk.key_of self.old.below }
+        ensures crash { (c : List ℕ) → Leaves self.new.mixes self.new.due self.new.bytes.items (D.Disk.may_leave self.new.below) c
+            → Leaves self.old.mixes self.old.due self.old.bytes.items (D.Disk.may_leave self.old.below) c }
+    {
+        match self.due {
+            Some(due) => self.redo(due),
+            None => Ok(()),
+        }
+    }
+
+    /// Makes a write anew that failed below.
+    fn redo(&mut self, due: Due) -> io::Result<()>
+        requires whole { self.old.is_torn ≡ false }
+        requires due { self.old.due ≡ Some due }
+        ensures done { OnOk result (self.new.due ≡ None) }
+        ensures bytes { self.new.bytes.items ≡ self.old.bytes.items }
+        ensures torn { self.new.is_torn ≡ false }
+        ensures mixing { self.new.mixes ≡ self.old.mixes }
+        ensures lost { self.new.is_lost ≡ self.old.is_lost }
+        ensures faults { self.new.faults ≡ self.old.faults }
+        ensures refused { self.new.refused ≡ self.old.refused }
+        ensures calm { IsTrue (D.Disk.is_clean self.new.below) → IsTrue (D.Disk.is_clean self.old.below) }
+        ensures key { D.Disk.key_of self.new.below ≡ D.Disk.key_of self.old.below }
+        ensures crash { (c : List ℕ) → Leaves self.new.mixes self.new.due self.new.bytes.items (D.Disk.may_leave self.new.below) c
+            → Leaves self.old.mixes self.old.due self.old.bytes.items (D.Disk.may_leave self.old.below) c }
+    {
+        if !self.may_write() {
+            return not_made();
+        }
+        self.below.write_at(due.at, &self.bytes[due.at..due.end])?;
+        compare(&mut self.below, &self.bytes, due.old_len, due.at)?;
+        self.due = None;
+        Ok(())
+    }
+
+    /// Writes to the copy alone, and notes that the disk below lacks it.
+    fn place(&mut self, at: usize, bytes: &[u8]) -> io::Result<()>
+        requires some { 0 < length bytes.now }
+        requires fits { at + length bytes.now < 2 ^ 64 }
+        requires whole { self.old.is_torn ≡ false }
+        requires none { self.old.due ≡ None }
+        ensures written { OnOk result (Holds self.new.bytes.items at bytes.now) }
+        ensures due { OnOk result (self.new.due ≡ Some (record { at = at; end = at + length bytes.now; old_len = length self.old.bytes.items })) }
+        ensures refused_due { OnErr result (self.new.due ≡ None) }
+        ensures refused_bytes { OnErr result (self.new.bytes.items ≡ self.old.bytes.items) }
+        ensures others { Torn at (length bytes.now) self.old.bytes.items self.new.bytes.items }
+        ensures each { Mixed at bytes.now self.old.bytes.items self.new.bytes.items }
+        ensures torn { self.new.is_torn ≡ false }
+        ensures below { self.new.below ≡ self.old.below }
+        ensures mixing { self.new.mixes ≡ self.old.mixes }
+        ensures lost { self.new.is_lost ≡ self.old.is_lost }
+        ensures faults { self.new.faults ≡ self.old.faults }
+        ensures refused { self.new.refused ≡ self.old.refused }
+    {
+        let old_len = self.bytes.len();
+        let end = at + bytes.len();
+        grow(&mut self.bytes, end)?;
+        put(&mut self.bytes, at, bytes);
+        self.due = Some(Due { at, end, old_len });
+        Ok(())
+    }
+
+    pub(crate) fn write(&mut self, at: usize, bytes: &[u8]) -> io::Result<()>
+        ensures written { OnOk result (0 < length bytes.now → Holds self.new.bytes.items at bytes.now) }
+        ensures others { Torn at (length bytes.now) self.old.bytes.items self.new.bytes.items }
+        ensures mixing { self.new.mixes ≡ self.old.mixes }
+        ensures each { Mixed at bytes.now self.old.bytes.items self.new.bytes.items }
+        ensures mixed { IsTrue self.old.mixes → Follows (Mixed at bytes.now)
+            (Leaves self.old.mixes self.old.due self.old.bytes.items (D.Disk.may_leave self.old.below))
+            (Leaves self.new.mixes self.new.due self.new.bytes.items (D.Disk.may_leave self.new.below)) }
+        ensures lost { self.new.is_lost ≡ self.old.is_lost }
+        ensures faults { self.new.faults ≡ self.old.faults }
+        ensures refused { self.new.refused ≡ self.old.refused }
+        ensures calm { IsTrue (D.Disk.is_clean self.new.below) → IsTrue (D.Disk.is_clean self.old.below) }
+        ensures key { D.Disk.key_of self.new.below ≡ D.Disk.key_of self.old.below }
+        ensures crash { Follows (Torn at (length bytes.now))
+            (Leaves self.old.mixes self.old.due self.old.bytes.items (D.Disk.may_leave self.old.below))
+            (Leaves self.new.mixes self.new.due self.new.bytes.items (D.Disk.may_leave self.new.below)) }
+    {
+        if self.is_torn || bytes.len() > usize::MAX - at {
+            return not_made();
+        }
+        if bytes.is_empty() {
+            return Ok(());
+        }
+        self.mend()?;
+        self.place(at, bytes)?;
+        self.mend()
+    }
+
+    pub(crate) fn cut(&mut self, len: usize) -> io::Result<()>
+        ensures len { OnOk result (length self.new.bytes.items ≡ len) }
+        ensures others { Cut len self.old.bytes.items self.new.bytes.items }
+        ensures mixing { self.new.mixes ≡ self.old.mixes }
+        ensures lost { self.new.is_lost ≡ self.old.is_lost }
+        ensures faults { self.new.faults ≡ self.old.faults }
+        ensures refused { self.new.refused ≡ self.old.refused }
+        ensures calm { IsTrue (D.Disk.is_clean self.new.below) → IsTrue (D.Disk.is_clean self.old.below) }
+        ensures key { D.Disk.key_of self.new.below ≡ D.Disk.key_of self.old.below }
+        ensures crash { Follows (Cut len)
+            (Leaves self.old.mixes self.old.due self.old.bytes.items (D.Disk.may_leave self.old.below))
+            (Leaves self.new.mixes self.new.due self.new.bytes.items (D.Disk.may_leave self.new.below)) }
+    {
+        if self.is_torn {
+            return not_made();
+        }
+        self.mend()?;
+        if !self.below.may_be_used() {
+            return not_made();
+        }
+        self.cut_whole(len)
+    }
+
+    /// A cut of a disk that lacks no write.
+    fn cut_whole(&mut self, len: usize) -> io::Result<()>
+        requires whole { self.old.is_torn ≡ false }
+        requires none { self.old.due ≡ None }
+        requires usable { IsTrue (D.Disk.is_usable self.old.below) }
+        ensures len { OnOk result (length self.new.bytes.items ≡ len) }
+        ensures others { Cut len self.old.bytes.items self.new.bytes.items }
+        ensures due { self.new.due ≡ None }
+        ensures mixing { self.new.mixes ≡ self.old.mixes }
+        ensures lost { self.new.is_lost ≡ self.old.is_lost }
+        ensures faults { self.new.faults ≡ self.old.faults }
+        ensures refused { self.new.refused ≡ self.old.refused }
+        ensures calm { IsTrue (D.Disk.is_clean self.new.below) → IsTrue (D.Disk.is_clean self.old.below) }
+        ensures key { D.Disk.key_of self.new.below ≡ D.Disk.key_of self.old.below }
+        ensures crash { Follows (Cut len) (D.Disk.may_leave self.old.below) (D.Disk.may_leave self.new.below) }
+    {
+        let old = self.bytes.len();
+        grow(&mut self.bytes, len)?;
+        self.is_torn = true;
+        self.below.set_len(len)?;
+        if old < len {
+            fill(&mut self.below, &mut self.bytes, old, len)?;
+        } else {
+            self.bytes.truncate(len);
+        }
+        self.is_torn = false;
+        Ok(())
+    }
+
+    pub(crate) fn settle(&mut self) -> io::Result<()>
+        ensures bytes { self.new.bytes.items ≡ self.old.bytes.items }
+        ensures mixing { self.new.mixes ≡ self.old.mixes }
+        ensures lost { self.new.is_lost ≡ self.old.is_lost }
+        ensures faults { self.new.faults ≡ self.old.faults }
+        ensures refused { self.new.refused ≡ self.old.refused }
+        ensures calm { IsTrue (D.Disk.is_clean self.new.below) → IsTrue (D.Disk.is_clean self.old.below) }
+        ensures key { D.Disk.key_of self.new.below ≡ D.Disk.key_of self.old.below }
+        ensures durable { OnOk result (IsTrue (D.Disk.is_clean self.new.below) → Only self.old.bytes.items
+            (Leaves self.new.mixes self.new.due self.new.bytes.items (D.Disk.may_leave self.new.below))) }
+        ensures crash { (c : List ℕ) → Leaves self.new.mixes self.new.due self.new.bytes.items (D.Disk.may_leave self.new.below) c
+            → Leaves self.old.mixes self.old.due self.old.bytes.items (D.Disk.may_leave self.old.below) c }
+    {
+        if self.is_torn {
+            return not_made();
+        }
+        self.mend()?;
+        if !self.below.may_be_used() {
+            return not_made();
+        }
+        self.below.sync()
+    }
+}

@@ -1,0 +1,3 @@
+mod Served
+mod Asked
+mod Leads

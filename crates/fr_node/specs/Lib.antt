@@ -1,0 +1,10 @@
+pub mod Kinds
+pub mod Faults
+pub mod Turns
+pub mod Passive
+pub mod Answers
+pub mod Leads
+pub mod Begun
+pub mod Steps
+pub mod Nodes
+pub mod Pulls

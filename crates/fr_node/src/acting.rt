@@ -1,0 +1,132 @@
+//! Nodes that a process serves.
+ghost use Rattle.std.specs.Prelude.{◌≡◌, ◌++◌, true, IfOk, OnOk};
+ghost use Rattle.fr_node.specs.Turns.{IfCrashed, IfRefused, IsBack, IsTaken, Refuses, RefusesRead, UnlessCrashed};
+
+use crate::fault::NodeTurnFault;
+use crate::turn::{Hearing, Newest, NodeTurn};
+use crate::wants::Wants;
+use fr_ask::Last;
+use fr_audit_journal::Entry;
+use fr_base::{Bytes, NodeId, Stamp, Version};
+use std::alloc::Global;
+
+/// A node that a process serves: each turn that it takes is one entry more of its journal, and that entry is answered.
+pub trait Acting {
+    ghost use Rattle.std.specs.Prelude.{ℕ, Bool, List, Option};
+    ghost use Rattle.fr_base.specs.declared.place.NodeId.{NodeId};
+    ghost use Rattle.fr_ask.specs.declared.ask.Ask.{Ask};
+    ghost use Rattle.fr_ask.specs.declared.last.Last.{Last};
+    ghost use Rattle.fr_audit_journal.specs.declared.act.Entry.{Entry};
+    ghost use Rattle.fr_node.specs.declared.turn.NodeTurn.{NodeTurn};
+    ghost use Rattle.fr_node.specs.declared.turn.Newest.{Newest};
+    ghost use Rattle.fr_node.specs.declared.turn.Hearing.{Hearing};
+    ghost use Rattle.fr_node.specs.declared.fault.TurnRefusal.{TurnRefusal};
+    ghost use Rattle.fr_node.specs.declared.fault.Crash.{Crash};
+
+    /// The node.
+    ghost node: { Self → NodeId };
+
+    /// What it did, the oldest first.
+    ghost entries: { Self → List Entry };
+
+    /// Its state, as others see it.
+    ghost last_of: { Self → Last };
+
+    /// Whether it works: no file or store of it has failed.
+    ghost works: { Self → Bool };
+
+    /// The reason why a turn is refused, above a stamp, if there is one.
+    ghost refusal: { Self → ℕ → NodeTurn → Option TurnRefusal };
+
+    /// The reason why it is not started again, above a stamp, if there is one.
+    ghost back_refusal: { Self → ℕ → Option Hearing → Option TurnRefusal };
+
+    /// What it asks in a turn, if the logs of an epoch may be asked for their mark.
+    ghost wanted: { Self → ℕ → Option Newest → List (NodeId × Ask) };
+
+    /// The value that a key had at a version.
+    ghost value_at: { Self → List ℕ → ℕ → Option (List ℕ) };
+
+    /// The reason why it does not say which value a key had at a version, if there is one.
+    ghost read_refusal: { Self → List ℕ → ℕ → Option TurnRefusal };
+
+    /// Why such a node may be unable to go on.
+    ghost CanCrash: { Crash → Type 0 };
+
+    /// The node.
+    fn place(&self) -> NodeId
+        ensures { result ≡ node self.now };
+
+    /// Takes a turn, above the stamp that the asker has seen, and answers what is entered. A turn that is refused
+    /// changes nothing that others see.
+    fn act(&mut self, alloc: Global, at: Stamp, turn: NodeTurn) -> Result<Entry, NodeTurnFault>
+        requires works { works self.old ≡ true }
+        ensures node { node self.new ≡ node self.old }
+        ensures taken { IfOk result (λ entry. IsTaken (entries self.old) (entries self.new) at turn entry) }
+        ensures works { UnlessCrashed result (works self.new ≡ true) }
+        ensures refused { Refuses (refusal self.old at turn) result }
+        ensures left { IfRefused result (entries self.new ≡ entries self.old) }
+        ensures stands { IfRefused result (last_of self.new ≡ last_of self.old) }
+        ensures crashed { IfCrashed result CanCrash };
+
+    /// Enters that its process was killed and started again over its files, above the stamp that the asker has seen.
+    /// `hearing` is the hear that was under way, if one was. It answers the entries: what it took of that hear, if it
+    /// took any, and that it crashed. Nothing else changes.
+    fn back(
+        &mut self,
+        alloc: Global,
+        at: Stamp,
+        hearing: Option<Hearing>,
+    ) -> Result<Vec<Entry>, NodeTurnFault>
+        requires works { works self.old ≡ true }
+        ensures node { node self.new ≡ node self.old }
+        ensures entries { IfOk result (λ answered. entries self.new ≡ entries self.old ++ answered.items) }
+        ensures back { IfOk result (λ answered. IsBack at hearing answered.items) }
+        ensures stands { UnlessCrashed result (last_of self.new ≡ last_of self.old) }
+        ensures works { UnlessCrashed result (works self.new ≡ true) }
+        ensures refused { Refuses (back_refusal self.old at hearing) result }
+        ensures left { IfRefused result (entries self.new ≡ entries self.old) }
+        ensures crashed { IfCrashed result CanCrash };
+
+    /// Its state, as others see it.
+    fn last(&mut self, alloc: Global) -> Result<Last, NodeTurnFault>
+        requires works { works self.old ≡ true }
+        ensures node { node self.new ≡ node self.old }
+        ensures last { IfOk result (λ last. last ≡ last_of self.old) }
+        ensures entries { entries self.new ≡ entries self.old }
+        ensures stands { OnOk result (last_of self.new ≡ last_of self.old) }
+        ensures works { OnOk result (works self.new ≡ true) }
+        ensures crashed { IfCrashed result CanCrash }
+        ensures never_refused { IfRefused result ⊥ };
+
+    /// The value that a key had at a version. It is no turn: nothing is entered, and nothing changes.
+    fn read(
+        &mut self,
+        alloc: Global,
+        key: &Bytes,
+        version: Version,
+    ) -> Result<Option<Bytes>, NodeTurnFault>
+        requires works { works self.old ≡ true }
+        ensures node { node self.new ≡ node self.old }
+        ensures value { IfOk result (λ value. value ≡ value_at self.old key.now version) }
+        ensures entries { entries self.new ≡ entries self.old }
+        ensures stands { UnlessCrashed result (last_of self.new ≡ last_of self.old) }
+        ensures works { UnlessCrashed result (works self.new ≡ true) }
+        ensures refused { RefusesRead (read_refusal self.old key.now version) result }
+        ensures crashed { IfCrashed result CanCrash };
+
+    /// Whether each turn is answered with what the node then asks. So it is of a proxy and of a recoverer, whose asks
+    /// follow from what they heard.
+    fn tells_wants(&self) -> bool;
+
+    /// What it asks in a turn, with the newest epoch whose logs it may ask for their mark.
+    fn wants(
+        &self,
+        alloc: Global,
+        turn: u32,
+        newest: Option<Newest>,
+    ) -> Result<Wants, NodeTurnFault>
+        ensures asks { IfOk result (λ asks. asks ≡ wanted self.now turn newest) }
+        ensures crashed { IfCrashed result CanCrash }
+        ensures never_refused { IfRefused result ⊥ };
+}

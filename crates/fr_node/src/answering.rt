@@ -1,0 +1,46 @@
+//! Machines of nodes that answer asks: cells, logs and sequencers.
+ghost use Rattle.std.specs.Prelude.{◌≡◌, Some, IfSome};
+
+use fr_ask::{Ask, SeqAsk};
+use fr_audit_journal::Housable;
+use fr_log::{Log, LogAsk};
+use fr_proxy::Sequencer;
+use fr_register::{Cell, CellAsk};
+
+/// A machine that can tell its own asks among those of all kinds.
+pub trait Answering: Housable {
+    /// This ask as one of the machine's own; none if it is another kind's. It takes no memory.
+    fn unwrap(ask: Ask) -> Option<Self::Ask>
+        ensures value { result ≡ Self.unwrapped ask }
+        ensures back { IfSome result (λ own. Self.wrapped own ≡ ask) };
+}
+
+impl Answering for Cell {
+    fn unwrap(ask: Ask) -> Option<CellAsk> {
+        match ask {
+            Ask::Cell(ask) => Some(ask),
+            Ask::Log(_) => None,
+            Ask::Seq(_) => None,
+        }
+    }
+}
+
+impl Answering for Log {
+    fn unwrap(ask: Ask) -> Option<LogAsk> {
+        match ask {
+            Ask::Cell(_) => None,
+            Ask::Log(ask) => Some(ask),
+            Ask::Seq(_) => None,
+        }
+    }
+}
+
+impl Answering for Sequencer {
+    fn unwrap(ask: Ask) -> Option<SeqAsk> {
+        match ask {
+            Ask::Cell(_) => None,
+            Ask::Log(_) => None,
+            Ask::Seq(ask) => Some(ask),
+        }
+    }
+}

@@ -1,0 +1,30 @@
+//! Nodes that a process serves, turn by turn: what each enters in its journal, and what it answers. Cells, logs and
+//! sequencers answer asks; proxies, recoverers and storage servers ask others.
+#![tactic(auto)]
+
+mod acting;
+mod answering;
+mod begun;
+mod fault;
+mod passive;
+mod proxies;
+mod pulls;
+mod reads;
+mod recoverers;
+mod reply;
+mod stamps;
+mod storages;
+mod turn;
+mod wants;
+
+pub use acting::Acting;
+pub use answering::Answering;
+pub use fault::{Crash, NodeTurnFault, TurnRefusal};
+pub use passive::{Passive, crash_at};
+pub use proxies::ProxyNode;
+pub use recoverers::RecovererNode;
+pub use reply::{NodeReply, NodeRequest, answer};
+pub use stamps::stamp_above;
+pub use storages::StorageNode;
+pub use turn::{Hearing, Kind, Newest, NodeTurn};
+pub use wants::Wants;

@@ -1,0 +1,248 @@
+//! Nodes that answer asks, each with its journal.
+ghost use Rattle.std.specs.Prelude.{◌≡◌, ◌<◌, ◌++◌, ◌∷◌, [], false, true, IfOk, OnOk, OnErr};
+ghost use Rattle.fr_audit_journal.specs.declared.act.Act.{Act};
+ghost use Rattle.fr_audit_journal.specs.Replays.{Replays, ends_by_crash, steps};
+ghost use Rattle.fr_node.specs.declared.fault.Crash.{Crash};
+ghost use Rattle.fr_node.specs.Passive.{back_refusal, IsOnlyCrash};
+ghost use Rattle.fr_node.specs.Turns.{IfCrashed, IsBack, Refuses};
+
+use crate::acting::Acting;
+use crate::answering::Answering;
+use crate::fault::{NodeTurnFault, TurnRefusal};
+use crate::stamps::stamp_above;
+use crate::turn::{Hearing, Newest, NodeTurn};
+use crate::wants::Wants;
+use fr_ask::{Last, Named};
+use fr_audit_journal::{Act, Entry, Housable, Journal};
+use fr_base::{Bytes, Machine, Memory, Node, NodeId, Stamp, Version};
+use std::alloc::Global;
+use std::marker::Model;
+use std::snapshot::Snapshot;
+
+/// A cell, a log or a sequencer, with its journal. Contracts see the node, its name, the state in which its process
+/// found it, and what it did since.
+#[derive(Drop)]
+pub struct Passive<N: Node>
+where
+    N::Plain: Answering,
+{
+    node: N,
+    journal: Journal,
+    first: Snapshot<N::Plain>,
+    has_files: bool,
+}
+
+impl<N: Node> Model for Passive<N>
+where
+    N::Plain: Answering,
+{
+    ghost use Rattle.std.specs.Prelude.{◌≡◌, false, true};
+    ghost use Rattle.fr_audit_journal.specs.Replays.{ends_by_crash, steps};
+    ghost use Rattle.fr_node.specs.Passive.{PassiveState, IsServed};
+
+    ghost Value = { PassiveState N N.Plain };
+
+    ghost view = { λ p. record { node = p.node; place = p.journal.node; first = p.first.value; entries = p.journal.entries; has_files = p.has_files } };
+
+    ghost invariant = { λ p. IsServed (steps N.Plain.wrapped N.Plain.unwrapped N.Plain.wrapped_tell N.Plain.told N.Plain.after)
+        p.journal.node p.first.value p.journal.entries (N.state p.node)
+        × (p.has_files ≡ true → ends_by_crash p.journal.node ≡ false) };
+}
+
+impl<N: Node> Passive<N>
+where
+    N::Plain: Answering,
+    <N::Plain as Machine>::Ask: Drop,
+{
+    /// A node in memory that did nothing yet. It ends with its process.
+    pub fn new(alloc: Global, node: N, id: NodeId) -> Self
+        ensures node { result.node ≡ node }
+        ensures place { result.place ≡ id }
+        ensures first { result.first ≡ N.state node }
+        ensures entries { result.entries ≡ [] }
+        ensures has_files { result.has_files ≡ false }
+    {
+        let first = Snapshot::of(node.plain());
+        Passive {
+            node,
+            journal: Journal::new(alloc, id),
+            first,
+            has_files: false,
+        }
+    }
+
+    /// A node that did nothing yet in this process, over files that outlast it: a cell or a log.
+    pub fn over_files(alloc: Global, node: N, id: NodeId) -> Self
+        requires stays { ends_by_crash id ≡ false }
+        ensures node { result.node ≡ node }
+        ensures place { result.place ≡ id }
+        ensures first { result.first ≡ N.state node }
+        ensures entries { result.entries ≡ [] }
+        ensures has_files { result.has_files ≡ true }
+    {
+        let first = Snapshot::of(node.plain());
+        Passive {
+            node,
+            journal: Journal::new(alloc, id),
+            first,
+            has_files: true,
+        }
+    }
+
+    /// What it did. It leads from the state in which its process found the node to the one in which it is.
+    pub fn journal(&self) -> &Journal
+        ensures place { result.now.node ≡ self.now.place }
+        ensures entries { result.now.entries ≡ self.now.entries }
+        ensures replays { Replays (steps N.Plain.wrapped N.Plain.unwrapped N.Plain.wrapped_tell N.Plain.told
+            N.Plain.after) self.now.place self.now.first result.now.entries (N.state self.now.node) }
+    {
+        let _rise = self.journal.entries();
+        &self.journal
+    }
+}
+
+/// Enters that a node crashed, and was started again over its files.
+fn started_again(
+    alloc: Global,
+    journal: &mut Journal,
+    at: Stamp,
+    has_files: bool,
+    hearing: &Option<Hearing>,
+) -> Result<Vec<Entry>, NodeTurnFault>
+    ensures place { journal.new.node ≡ journal.old.node }
+    ensures entries { IfOk result (λ answered. journal.new.entries ≡ journal.old.entries ++ answered.items) }
+    ensures back { IfOk result (λ answered. IsBack at hearing.now answered.items) }
+    ensures only { IfOk result (λ answered. IsOnlyCrash answered.items) }
+    ensures files { OnOk result (has_files ≡ true) }
+    ensures refused { Refuses (back_refusal has_files journal.old.entries at hearing.now) result }
+    ensures err { OnErr result (journal.new.entries ≡ journal.old.entries) }
+    ensures crashed { IfCrashed result (λ why. why ≡ Crash.Memory) }
+{
+    if !has_files || hearing.is_some() {
+        return Err(NodeTurnFault::Refused(TurnRefusal::NotTaken));
+    }
+    let Some(stamp) = stamp_above(journal, at) else {
+        return Err(NodeTurnFault::Refused(TurnRefusal::StampsSpent));
+    };
+    let answered = only_crash(alloc, stamp)?;
+    journal.reserve()?;
+    journal.push_reserved(crash_at(stamp));
+    Ok(answered)
+}
+
+/// A list of the entry of a crash.
+fn only_crash(alloc: Global, stamp: Stamp) -> Result<Vec<Entry>, Memory>
+    ensures { IfOk result (λ list. list.items ≡ record { stamp = stamp; act = Act.Crashed } ∷ []) }
+{
+    let mut list = Vec::new(alloc);
+    list.push(crash_at(stamp))?;
+    Ok(list)
+}
+
+/// The entry of a crash.
+pub fn crash_at(stamp: Stamp) -> Entry
+    ensures { result ≡ record { stamp = stamp; act = Act.Crashed } }
+{
+    Entry {
+        stamp,
+        act: Act::Crashed,
+    }
+}
+
+impl<N: Node> Acting for Passive<N>
+where
+    N::Plain: Answering,
+    <N::Plain as Machine>::Ask: Drop,
+{
+    ghost use Rattle.std.specs.Prelude.{[], not, None, Some};
+    ghost use Rattle.fr_node.specs.declared.fault.TurnRefusal.TheVariants as refusal;
+    ghost use Rattle.fr_node.specs.Passive.{IsCrash, back_refusal, passive_refusal};
+
+    ghost node = { λ p. p.place };
+
+    ghost entries = { λ p. p.entries };
+
+    ghost last_of = { λ p. N.Plain.last_of (N.state p.node) };
+
+    ghost works = { λ p. not (N.is_failed p.node) };
+
+    ghost refusal = { λ p at turn. passive_refusal N.Plain.unwrapped p.entries at turn };
+
+    ghost back_refusal = { λ p at hearing. back_refusal p.has_files p.entries at hearing };
+
+    ghost wanted = { λ p turn newest. [] };
+
+    ghost value_at = { λ p key version. None };
+
+    ghost read_refusal = { λ p key version. Some refusal.NotTaken };
+
+    ghost CanCrash = { IsCrash N.CanMeet };
+
+    fn place(&self) -> NodeId {
+        self.journal.node()
+    }
+
+    fn act(&mut self, alloc: Global, at: Stamp, turn: NodeTurn) -> Result<Entry, NodeTurnFault> {
+        let (from, ask) = match turn {
+            NodeTurn::Ask { from, ask } => (from, ask),
+            NodeTurn::Hear { .. } => return Err(NodeTurnFault::Refused(TurnRefusal::NotTaken)),
+            NodeTurn::Submit { .. } => return Err(NodeTurnFault::Refused(TurnRefusal::NotTaken)),
+            NodeTurn::Begin => return Err(NodeTurnFault::Refused(TurnRefusal::NotTaken)),
+        };
+        let Some(own) = N::Plain::unwrap(ask) else {
+            return Err(NodeTurnFault::Refused(TurnRefusal::OtherAsk));
+        };
+        let Some(stamp) = stamp_above(&self.journal, at) else {
+            return Err(NodeTurnFault::Refused(TurnRefusal::StampsSpent));
+        };
+        self.journal.reserve()?;
+        let served = N::Plain::copy_ask(&own)?;
+        let tell = self.node.serve(alloc, served)?;
+        let entry = Entry {
+            stamp,
+            act: Act::Asked {
+                from,
+                ask: N::Plain::wrap(own),
+                tell: N::Plain::wrap_tell(tell),
+            },
+        };
+        let answered = entry.copy();
+        self.journal.push_reserved(entry);
+        Ok(answered?)
+    }
+
+    fn back(
+        &mut self,
+        alloc: Global,
+        at: Stamp,
+        hearing: Option<Hearing>,
+    ) -> Result<Vec<Entry>, NodeTurnFault> {
+        started_again(alloc, &mut self.journal, at, self.has_files, &hearing)
+    }
+
+    fn last(&mut self, alloc: Global) -> Result<Last, NodeTurnFault> {
+        Ok(self.node.plain().last(alloc)?)
+    }
+
+    fn read(
+        &mut self,
+        _alloc: Global,
+        _key: &Bytes,
+        _version: Version,
+    ) -> Result<Option<Bytes>, NodeTurnFault> {
+        Err(NodeTurnFault::Refused(TurnRefusal::NotTaken))
+    }
+
+    fn tells_wants(&self) -> bool {
+        false
+    }
+
+    fn wants(
+        &self,
+        alloc: Global,
+        _turn: u32,
+        _newest: Option<Newest>,
+    ) -> Result<Wants, NodeTurnFault> {
+        Ok(Wants::none(alloc))
+    }
+}

@@ -1,0 +1,210 @@
+//! Proxies, each with its journal.
+ghost use Rattle.std.specs.Prelude.{◌≡◌, [], IfOk};
+ghost use Rattle.fr_base.specs.declared.place.NodeId.{NodeId};
+ghost use Rattle.fr_node.specs.Leads.{LeadsTo};
+ghost use Rattle.fr_node.specs.Nodes.{IsMemory, proxy_refusal};
+ghost use Rattle.fr_node.specs.Steps.{ProxyStep};
+ghost use Rattle.fr_node.specs.declared.turn.NodeTurn.{NodeTurn};
+ghost use Rattle.fr_node.specs.Turns.{IfCrashed, IfRefused, IsTaken, Refuses};
+
+use crate::{Acting, Hearing, Newest, NodeTurn, NodeTurnFault, TurnRefusal, Wants, stamp_above};
+use fr_ask::{Last, Tell};
+use fr_audit_journal::{Act, Entry, Journal};
+use fr_base::{Bytes, NodeId, Stamp, Step, Version};
+use fr_mutation::Batch;
+use fr_proxy::{Proxy, SubmitFault};
+use fr_run::last_of_proxy;
+use std::alloc::Global;
+use std::marker::Model;
+use std::snapshot::Snapshot;
+
+/// A proxy, with its journal. Contracts see the proxy, its name, its state when its process began, and what it did
+/// since.
+#[derive(Drop)]
+pub struct ProxyNode {
+    proxy: Proxy,
+    journal: Journal,
+    first: Snapshot<Proxy>,
+}
+
+impl Model for ProxyNode {
+    ghost use Rattle.fr_proxy.specs.Proxy.{ProxyState};
+    ghost use Rattle.fr_node.specs.Nodes.{Active};
+    ghost use Rattle.fr_node.specs.Leads.{LeadsTo};
+    ghost use Rattle.fr_node.specs.Steps.{ProxyStep};
+
+    ghost Value = { Active ProxyState };
+
+    ghost view = { λ p. record { state = p.proxy; place = p.journal.node; first = p.first.value; entries = p.journal.entries } };
+
+    ghost invariant = { λ p. LeadsTo ProxyStep p.first.value p.journal.entries p.proxy };
+}
+
+impl ProxyNode {
+    /// A proxy that did nothing yet.
+    pub fn new(alloc: Global, proxy: Proxy) -> Self
+        ensures state { result.state ≡ proxy }
+        ensures first { result.first ≡ proxy }
+        ensures place { result.place ≡ NodeId.Proxy proxy.epoch proxy.number }
+        ensures entries { result.entries ≡ [] }
+    {
+        let id = NodeId::Proxy {
+            epoch: proxy.epoch(),
+            number: proxy.number(),
+        };
+        let first = Snapshot::of(&proxy);
+        ProxyNode {
+            proxy,
+            journal: Journal::new(alloc, id),
+            first,
+        }
+    }
+
+    /// What it did. It leads from the proxy that the process began with to the one that it has.
+    pub fn journal(&self) -> &Journal
+        ensures place { result.now.node ≡ self.now.place }
+        ensures entries { result.now.entries ≡ self.now.entries }
+        ensures leads { LeadsTo ProxyStep self.now.first result.now.entries self.now.state }
+    {
+        &self.journal
+    }
+
+    /// Takes a batch, and enters it.
+    fn submit(&mut self, at: Stamp, step: Step, batch: Batch) -> Result<Entry, NodeTurnFault>
+        ensures place { self.new.place ≡ self.old.place }
+        ensures taken { IfOk result (λ entry. IsTaken self.old.entries self.new.entries at (NodeTurn.Submit step batch) entry) }
+        ensures refused { Refuses (proxy_refusal self.old.state self.old.entries at (NodeTurn.Submit step batch)) result }
+        ensures left { IfRefused result (self.new ≡ self.old) }
+        ensures crashed { IfCrashed result IsMemory }
+    {
+        match self.proxy.submit_fault() {
+            Some(SubmitFault::TwoOpen) => return Err(NodeTurnFault::Refused(TurnRefusal::TwoOpen)),
+            Some(_) => return Err(NodeTurnFault::Refused(TurnRefusal::Over)),
+            None => {}
+        }
+        let Some(stamp) = stamp_above(&self.journal, at) else {
+            return Err(NodeTurnFault::Refused(TurnRefusal::StampsSpent));
+        };
+        self.journal.reserve()?;
+        let taken = batch.copy()?;
+        let entry = Entry {
+            stamp,
+            act: Act::Submitted { step, batch },
+        };
+        let answered = entry.copy()?;
+        let Ok(_asked) = self.proxy.submit(step, taken) else {
+            unreachable!();
+        };
+        self.journal.push_reserved(entry);
+        Ok(answered)
+    }
+
+    /// Hears what a node told it, and enters that.
+    fn hear(
+        &mut self,
+        alloc: Global,
+        at: Stamp,
+        from: NodeId,
+        tell: Tell,
+    ) -> Result<Entry, NodeTurnFault>
+        ensures place { self.new.place ≡ self.old.place }
+        ensures taken { IfOk result (λ entry. IsTaken self.old.entries self.new.entries at (NodeTurn.Hear from tell) entry) }
+        ensures refused { Refuses (proxy_refusal self.old.state self.old.entries at (NodeTurn.Hear from tell)) result }
+        ensures left { IfRefused result (self.new ≡ self.old) }
+        ensures crashed { IfCrashed result IsMemory }
+    {
+        let Some(stamp) = stamp_above(&self.journal, at) else {
+            return Err(NodeTurnFault::Refused(TurnRefusal::StampsSpent));
+        };
+        self.journal.reserve()?;
+        let (outcome, _asks) = self.proxy.hear(alloc, from, &tell)?;
+        let entry = Entry {
+            stamp,
+            act: Act::Heard {
+                from,
+                tell,
+                taken: None,
+                outcome: Some(outcome),
+            },
+        };
+        let answered = entry.copy();
+        self.journal.push_reserved(entry);
+        Ok(answered?)
+    }
+}
+
+impl Acting for ProxyNode {
+    ghost use Rattle.fr_node.specs.declared.fault.TurnRefusal.TheVariants as refusal;
+    ghost use Rattle.std.specs.Prelude.{true, None, Some};
+    ghost use Rattle.fr_proxy.specs.Proxy.{pending};
+    ghost use Rattle.fr_run.specs.Last as last;
+    ghost use Rattle.fr_node.specs.Nodes.{IsMemory, proxy_refusal};
+
+    ghost node = { λ p. p.place };
+
+    ghost entries = { λ p. p.entries };
+
+    ghost last_of = { λ p. last.last_of_proxy p.state };
+
+    ghost works = { λ p. true };
+
+    ghost refusal = { λ p at turn. proxy_refusal p.state p.entries at turn };
+
+    ghost back_refusal = { λ node at hearing. Some refusal.NotTaken };
+
+    ghost wanted = { λ p turn newest. pending p.state };
+
+    ghost value_at = { λ node key version. None };
+
+    ghost read_refusal = { λ node key version. Some refusal.NotTaken };
+
+    ghost CanCrash = { IsMemory };
+
+    fn place(&self) -> NodeId {
+        self.journal.node()
+    }
+
+    fn act(&mut self, alloc: Global, at: Stamp, turn: NodeTurn) -> Result<Entry, NodeTurnFault> {
+        match turn {
+            NodeTurn::Submit { step, batch } => self.submit(at, step, batch),
+            NodeTurn::Hear { from, tell } => self.hear(alloc, at, from, tell),
+            NodeTurn::Ask { .. } => Err(NodeTurnFault::Refused(TurnRefusal::NotTaken)),
+            NodeTurn::Begin => Err(NodeTurnFault::Refused(TurnRefusal::NotTaken)),
+        }
+    }
+
+    fn back(
+        &mut self,
+        _alloc: Global,
+        _at: Stamp,
+        _hearing: Option<Hearing>,
+    ) -> Result<Vec<Entry>, NodeTurnFault> {
+        Err(NodeTurnFault::Refused(TurnRefusal::NotTaken))
+    }
+
+    fn last(&mut self, _alloc: Global) -> Result<Last, NodeTurnFault> {
+        Ok(last_of_proxy(&self.proxy))
+    }
+
+    fn read(
+        &mut self,
+        _alloc: Global,
+        _key: &Bytes,
+        _version: Version,
+    ) -> Result<Option<Bytes>, NodeTurnFault> {
+        Err(NodeTurnFault::Refused(TurnRefusal::NotTaken))
+    }
+
+    fn tells_wants(&self) -> bool {
+        true
+    }
+
+    fn wants(
+        &self,
+        alloc: Global,
+        _turn: u32,
+        _newest: Option<Newest>,
+    ) -> Result<Wants, NodeTurnFault> {
+        Ok(Wants::from_vec(self.proxy.pending(alloc)?))
+    }
+}

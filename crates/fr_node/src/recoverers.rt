@@ -1,0 +1,222 @@
+//! Recoverers, each with its journal.
+ghost use Rattle.std.specs.Prelude.{◌≡◌, [], false, IfOk};
+ghost use Rattle.fr_base.specs.declared.place.NodeId.{NodeId};
+ghost use Rattle.fr_node.specs.Leads.{LeadsTo};
+ghost use Rattle.fr_node.specs.Nodes.{IsMemory, recoverer_refusal};
+ghost use Rattle.fr_node.specs.Steps.{RecStep};
+ghost use Rattle.fr_node.specs.declared.turn.NodeTurn.{NodeTurn};
+ghost use Rattle.fr_node.specs.Turns.{IfCrashed, IfRefused, IsTaken, Refuses};
+
+use crate::{Acting, Hearing, Newest, NodeTurn, NodeTurnFault, TurnRefusal, Wants, stamp_above};
+use fr_ask::{Last, Tell};
+use fr_audit_journal::{Act, Entry, Journal};
+use fr_base::{Bytes, NodeId, Shape, Stamp, Version};
+use fr_epoch::Recoverer;
+use fr_run::last_of_recoverer;
+use std::alloc::Global;
+use std::marker::Model;
+use std::snapshot::Snapshot;
+
+/// A recoverer, the shape of the generation that it is to open, if it was given one, and its journal. Contracts see
+/// the recoverer and whether it began, its name, its state when its process began, and what it did since.
+#[derive(Drop)]
+pub struct RecovererNode {
+    recoverer: Recoverer,
+    shape: Option<Shape>,
+    journal: Journal,
+    first: Snapshot<Recoverer>,
+    has_begun: bool,
+}
+
+impl Model for RecovererNode {
+    ghost use Rattle.std.specs.Prelude.{◌≡◌, false};
+    ghost use Rattle.fr_node.specs.Nodes.{Active};
+    ghost use Rattle.fr_node.specs.Leads.{LeadsTo};
+    ghost use Rattle.fr_node.specs.Steps.{RecStep, Recovering};
+
+    ghost Value = { Active Recovering };
+
+    ghost view = { λ r. record {
+      state = record { recoverer = r.recoverer; has_begun = r.has_begun };
+      place = r.journal.node;
+      first = record { recoverer = r.first.value; has_begun = false };
+      entries = r.journal.entries;
+    } };
+
+    ghost invariant = { λ r. (r.shape ≡ r.first.value.shape)
+        × LeadsTo (RecStep r.first.value.shape) (record { recoverer = r.first.value; has_begun = false }) r.journal.entries
+        (record { recoverer = r.recoverer; has_begun = r.has_begun }) };
+}
+
+impl RecovererNode {
+    /// A recoverer that has not begun. It is to open a generation of this shape, or of its parent's if none is given.
+    pub fn new(alloc: Global, recoverer: Recoverer, shape: Option<Shape>) -> Self
+        requires shape { shape ≡ recoverer.shape }
+        ensures recoverer { result.state.recoverer ≡ recoverer }
+        ensures has_begun { result.state.has_begun ≡ false }
+        ensures first { result.first.recoverer ≡ recoverer }
+        ensures place { result.place ≡ NodeId.Recoverer recoverer.ballot }
+        ensures entries { result.entries ≡ [] }
+    {
+        let ballot = recoverer.ballot();
+        let first = Snapshot::of(&recoverer);
+        RecovererNode {
+            recoverer,
+            shape,
+            journal: Journal::new(alloc, NodeId::Recoverer { ballot }),
+            first,
+            has_begun: false,
+        }
+    }
+
+    /// What it did. It leads from the recoverer that the process began with to the one that it has.
+    pub fn journal(&self) -> &Journal
+        ensures place { result.now.node ≡ self.now.place }
+        ensures entries { result.now.entries ≡ self.now.entries }
+        ensures leads { LeadsTo (RecStep self.now.first.recoverer.shape) self.now.first result.now.entries self.now.state }
+    {
+        &self.journal
+    }
+
+    /// Begins, and enters that.
+    fn begin(&mut self, at: Stamp) -> Result<Entry, NodeTurnFault>
+        ensures place { self.new.place ≡ self.old.place }
+        ensures taken { IfOk result (λ entry. IsTaken self.old.entries self.new.entries at NodeTurn.Begin entry) }
+        ensures refused { Refuses (recoverer_refusal self.old.state.has_begun self.old.entries at NodeTurn.Begin) result }
+        ensures left { IfRefused result (self.new ≡ self.old) }
+        ensures crashed { IfCrashed result IsMemory }
+    {
+        if self.has_begun {
+            return Err(NodeTurnFault::Refused(TurnRefusal::Begun));
+        }
+        let Some(stamp) = stamp_above(&self.journal, at) else {
+            return Err(NodeTurnFault::Refused(TurnRefusal::StampsSpent));
+        };
+        let entry = Entry {
+            stamp,
+            act: Act::Begun { shape: self.shape },
+        };
+        let answered = entry.copy()?;
+        self.journal.reserve()?;
+        self.has_begun = true;
+        self.journal.push_reserved(entry);
+        Ok(answered)
+    }
+
+    /// Hears what a node told it, and enters that.
+    fn hear(
+        &mut self,
+        alloc: Global,
+        at: Stamp,
+        from: NodeId,
+        tell: Tell,
+    ) -> Result<Entry, NodeTurnFault>
+        ensures place { self.new.place ≡ self.old.place }
+        ensures taken { IfOk result (λ entry. IsTaken self.old.entries self.new.entries at (NodeTurn.Hear from tell) entry) }
+        ensures refused { Refuses (recoverer_refusal self.old.state.has_begun self.old.entries at (NodeTurn.Hear from tell)) result }
+        ensures left { IfRefused result (self.new ≡ self.old) }
+        ensures crashed { IfCrashed result IsMemory }
+    {
+        if !self.has_begun {
+            return Err(NodeTurnFault::Refused(TurnRefusal::NotBegun));
+        }
+        let Some(stamp) = stamp_above(&self.journal, at) else {
+            return Err(NodeTurnFault::Refused(TurnRefusal::StampsSpent));
+        };
+        self.journal.reserve()?;
+        let heard = tell.copy()?;
+        let _asks = self.recoverer.hear(alloc, from, heard)?;
+        let entry = Entry {
+            stamp,
+            act: Act::Heard {
+                from,
+                tell,
+                taken: None,
+                outcome: None,
+            },
+        };
+        let answered = entry.copy();
+        self.journal.push_reserved(entry);
+        Ok(answered?)
+    }
+}
+
+impl Acting for RecovererNode {
+    ghost use Rattle.fr_node.specs.declared.fault.TurnRefusal.TheVariants as refusal;
+    ghost use Rattle.std.specs.Prelude.{true, None, Some, [], if◌then◌else◌};
+    ghost use Rattle.fr_epoch.specs.Asks.{pending};
+    ghost use Rattle.fr_run.specs.Last as last;
+    ghost use Rattle.fr_node.specs.Nodes.{IsMemory, recoverer_refusal};
+
+    ghost node = { λ r. r.place };
+
+    ghost entries = { λ r. r.entries };
+
+    ghost last_of = { λ r. last.last_of_recoverer r.state.recoverer };
+
+    ghost works = { λ r. true };
+
+    ghost refusal = { λ r at turn. recoverer_refusal r.state.has_begun r.entries at turn };
+
+    ghost back_refusal = { λ node at hearing. Some refusal.NotTaken };
+
+    ghost wanted = { λ r turn newest. if r.state.has_begun then pending r.state.recoverer else [] };
+
+    ghost value_at = { λ node key version. None };
+
+    ghost read_refusal = { λ node key version. Some refusal.NotTaken };
+
+    ghost CanCrash = { IsMemory };
+
+    fn place(&self) -> NodeId {
+        self.journal.node()
+    }
+
+    fn act(&mut self, alloc: Global, at: Stamp, turn: NodeTurn) -> Result<Entry, NodeTurnFault> {
+        match turn {
+            NodeTurn::Begin => self.begin(at),
+            NodeTurn::Hear { from, tell } => self.hear(alloc, at, from, tell),
+            NodeTurn::Ask { .. } => Err(NodeTurnFault::Refused(TurnRefusal::NotTaken)),
+            NodeTurn::Submit { .. } => Err(NodeTurnFault::Refused(TurnRefusal::NotTaken)),
+        }
+    }
+
+    fn back(
+        &mut self,
+        _alloc: Global,
+        _at: Stamp,
+        _hearing: Option<Hearing>,
+    ) -> Result<Vec<Entry>, NodeTurnFault> {
+        Err(NodeTurnFault::Refused(TurnRefusal::NotTaken))
+    }
+
+    fn last(&mut self, alloc: Global) -> Result<Last, NodeTurnFault> {
+        Ok(last_of_recoverer(alloc, &self.recoverer)?)
+    }
+
+    fn read(
+        &mut self,
+        _alloc: Global,
+        _key: &Bytes,
+        _version: Version,
+    ) -> Result<Option<Bytes>, NodeTurnFault> {
+        Err(NodeTurnFault::Refused(TurnRefusal::NotTaken))
+    }
+
+    fn tells_wants(&self) -> bool {
+        true
+    }
+
+    fn wants(
+        &self,
+        alloc: Global,
+        _turn: u32,
+        _newest: Option<Newest>,
+    ) -> Result<Wants, NodeTurnFault> {
+        if self.has_begun {
+            Ok(Wants::from_vec(self.recoverer.pending(alloc)?))
+        } else {
+            Ok(Wants::none(alloc))
+        }
+    }
+}

@@ -1,0 +1,175 @@
+//! What a process is asked of its node, and what it answers.
+ghost use Rattle.std.specs.Prelude.{◌≡◌, true, None, IfOk, IfSome};
+ghost use Rattle.fr_node.specs.declared.reply.NodeRequest.{NodeRequest};
+ghost use Rattle.fr_node.specs.Answers.{IsAnswer, order_refusal};
+ghost use Rattle.fr_node.specs.Turns.{IfCrashed, IfRefused, Refuses, UnlessCrashed};
+
+use crate::acting::Acting;
+use crate::fault::NodeTurnFault;
+use crate::turn::{Hearing, Kind, Newest, NodeTurn};
+use crate::wants::Wants;
+use fr_ask::Last;
+use fr_audit_journal::Entry;
+use fr_base::{Bytes, NodeId, Stamp, Version};
+use std::alloc::Global;
+
+/// What a line asks a process of its node.
+#[derive(Debug, Drop)]
+pub enum NodeRequest {
+    /// Which node it is, and its state.
+    Init,
+    /// Its state.
+    Last,
+    /// What it asks in a turn.
+    Wants { turn: u32, newest: Option<Newest> },
+    /// The value that a key had at a version.
+    Read { key: Bytes, version: Version },
+    /// To take a turn, above a stamp.
+    Take { at: Stamp, turn: NodeTurn },
+    /// To enter that it was started again over its files, above a stamp; with the hear that was under way, if one was.
+    Back { at: Stamp, hearing: Option<Hearing> },
+}
+
+/// What a process answers.
+#[derive(Debug, Drop)]
+pub enum NodeReply {
+    /// The node, and its state.
+    Init {
+        node: NodeId,
+        last: Last,
+    },
+    /// Its state.
+    Last {
+        last: Last,
+    },
+    /// What it asks.
+    Wants {
+        wants: Wants,
+    },
+    /// The value, if the key had one.
+    Read {
+        value: Option<Bytes>,
+    },
+    /// What is entered of a turn of a kind, the node's state then, and what it asks, if it asks others.
+    Taken {
+        kind: Kind,
+        entry: Entry,
+        last: Last,
+        wants: Option<Wants>,
+    },
+    /// What was entered when it was started again, and its state.
+    Back {
+        entries: Vec<Entry>,
+        last: Last,
+    },
+}
+
+/// Does what is asked of a node, and answers it.
+pub fn answer<T: Acting>(
+    alloc: Global,
+    node: &mut T,
+    order: NodeRequest,
+) -> Result<NodeReply, NodeTurnFault>
+    requires works { T.works node.old ≡ true }
+    ensures node { T.node node.new ≡ T.node node.old }
+    ensures answered { IfOk result (λ reply. IsAnswer
+        (record { node = T.node node.old; entries = T.entries node.old; last = T.last_of node.old; wanted = T.wanted node.old; read = T.value_at node.old })
+        (record { node = T.node node.new; entries = T.entries node.new; last = T.last_of node.new; wanted = T.wanted node.new; read = T.value_at node.new })
+        order reply) }
+    ensures works { UnlessCrashed result (T.works node.new ≡ true) }
+    ensures refused { Refuses (order_refusal (T.refusal node.old) (T.back_refusal node.old) (T.read_refusal node.old) order) result }
+    ensures left { IfRefused result (T.entries node.new ≡ T.entries node.old) }
+    ensures stands { IfRefused result (T.last_of node.new ≡ T.last_of node.old) }
+    ensures crashed { IfCrashed result T.CanCrash }
+{
+    match order {
+        NodeRequest::Init => {
+            let place = node.place();
+            let last = node.last(alloc)?;
+            Ok(NodeReply::Init { node: place, last })
+        }
+        NodeRequest::Last => {
+            let last = node.last(alloc)?;
+            Ok(NodeReply::Last { last })
+        }
+        NodeRequest::Wants { turn, newest } => {
+            let wants = node.wants(alloc, turn, newest)?;
+            Ok(NodeReply::Wants { wants })
+        }
+        NodeRequest::Read { key, version } => {
+            let value = node.read(alloc, &key, version)?;
+            Ok(NodeReply::Read { value })
+        }
+        NodeRequest::Take { at, turn } => take(alloc, node, at, turn),
+        NodeRequest::Back { at, hearing } => take_back(alloc, node, at, hearing),
+    }
+}
+
+/// Has a node take a turn.
+fn take<T: Acting>(
+    alloc: Global,
+    node: &mut T,
+    at: Stamp,
+    turn: NodeTurn,
+) -> Result<NodeReply, NodeTurnFault>
+    requires works { T.works node.old ≡ true }
+    ensures node { T.node node.new ≡ T.node node.old }
+    ensures answered { IfOk result (λ reply. IsAnswer
+        (record { node = T.node node.old; entries = T.entries node.old; last = T.last_of node.old; wanted = T.wanted node.old; read = T.value_at node.old })
+        (record { node = T.node node.new; entries = T.entries node.new; last = T.last_of node.new; wanted = T.wanted node.new; read = T.value_at node.new })
+        (NodeRequest.Take at turn) reply) }
+    ensures works { UnlessCrashed result (T.works node.new ≡ true) }
+    ensures refused { Refuses (T.refusal node.old at turn) result }
+    ensures left { IfRefused result (T.entries node.new ≡ T.entries node.old) }
+    ensures stands { IfRefused result (T.last_of node.new ≡ T.last_of node.old) }
+    ensures crashed { IfCrashed result T.CanCrash }
+{
+    let kind = turn.kind();
+    let entry = node.act(alloc, at, turn)?;
+    let last = node.last(alloc)?;
+    let wants = wants_of(alloc, node)?;
+    Ok(NodeReply::Taken {
+        kind,
+        entry,
+        last,
+        wants,
+    })
+}
+
+/// Has a node say that it was started again.
+fn take_back<T: Acting>(
+    alloc: Global,
+    node: &mut T,
+    at: Stamp,
+    hearing: Option<Hearing>,
+) -> Result<NodeReply, NodeTurnFault>
+    requires works { T.works node.old ≡ true }
+    ensures node { T.node node.new ≡ T.node node.old }
+    ensures answered { IfOk result (λ reply. IsAnswer
+        (record { node = T.node node.old; entries = T.entries node.old; last = T.last_of node.old; wanted = T.wanted node.old; read = T.value_at node.old })
+        (record { node = T.node node.new; entries = T.entries node.new; last = T.last_of node.new; wanted = T.wanted node.new; read = T.value_at node.new })
+        (NodeRequest.Back at hearing) reply) }
+    ensures works { UnlessCrashed result (T.works node.new ≡ true) }
+    ensures refused { Refuses (T.back_refusal node.old at hearing) result }
+    ensures left { IfRefused result (T.entries node.new ≡ T.entries node.old) }
+    ensures stands { IfRefused result (T.last_of node.new ≡ T.last_of node.old) }
+    ensures crashed { IfCrashed result T.CanCrash }
+{
+    let entries = node.back(alloc, at, hearing)?;
+    let last = node.last(alloc)?;
+    Ok(NodeReply::Back { entries, last })
+}
+
+/// What a node asks once it took a turn, if it says so with each.
+fn wants_of<T: Acting>(alloc: Global, node: &T) -> Result<Option<Wants>, NodeTurnFault>
+    ensures asks { IfOk result (λ asks. IfSome asks (λ wants. wants ≡ T.wanted node.now 0 None)) }
+    ensures crashed { IfCrashed result T.CanCrash }
+    ensures never_refused { IfRefused result ⊥ }
+{
+    if node.tells_wants() {
+        let wants = node.wants(alloc, 0, None)?;
+        Ok(Some(wants))
+    } else {
+        Ok(None)
+    }
+}

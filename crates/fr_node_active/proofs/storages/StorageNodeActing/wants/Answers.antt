@@ -1,9 +1,0 @@
--- The asks are those of the server that others see.
-use Rattle.std.proofs.Common.{ap, ◌∙◌}
-use Rattle.fr_node_active.specs.Nodes.{ActiveStorage}
-use Rattle.fr_node_active.specs.Pulls.{asks_of}
-use Rattle.fr_node_active.proofs.storages.StorageNodeActing.wants.Goals as goal
-
-pub returns-clause-asks : goal.returns-clause-asks
-returns-clause-asks g c =
-    c.from_vec.ensures ∙ (c.in_ok-asks_at.ensures ∙ ap (λ (s : ActiveStorage g.row.S.Denot). asks_of s.storage c.args.turn c.args.newest) c.self.view_is)

@@ -1,4 +1,0 @@
-pub mod Issued
-pub mod IssuedLaws
-pub mod Contents
-pub mod Laws

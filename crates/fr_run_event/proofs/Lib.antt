@@ -1,4 +1,0 @@
-pub mod Tests
-pub mod Turns
-pub mod Events
-pub mod Replays

@@ -1,6 +1,0 @@
-use Rattle.fr_run_event.proofs.Turns.{event_is_turn}
-use Rattle.fr_run_event.proofs.Events.{turn_is_event}
-use Rattle.fr_run_event.proofs.laws.step_law.Goals as goal
-
-pub returns : goal.returns
-returns c = record { turn = event_is_turn; event = turn_is_event }

@@ -1,4 +1,0 @@
-//! A run that has what the laws of runs speak of.
-#![tactic(auto)]
-
-pub mod laws;

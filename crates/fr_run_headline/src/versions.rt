@@ -1,0 +1,159 @@
+//! Laws of versions.
+ghost use Rattle.fr_run_headline.specs.BehindLaws.{AcknowledgedIsKept, BehindIsSeeded, BelowIsHeldBehind, BelowStaysBelow};
+ghost use Rattle.fr_run_headline.specs.BehindLaws.{AcknowledgedIsRecovered, AcknowledgedIsReplied, BelowIsRecovered, BelowIsReplied};
+ghost use Rattle.fr_run_headline.specs.BehindLaws.{ChosenStaysBelow, FrontIsState, GenerationsAreOwn};
+ghost use Rattle.fr_run_headline.specs.BoundLaws.{AcknowledgedIsHeldLater, AcknowledgedIsSafe, AcknowledgedIsTakenOver};
+ghost use Rattle.fr_run_headline.specs.BoundLaws.{BelowIsHeldLater, BelowIsTakenOver, KnownIsDurable, PlansAreLines, RepliesAgree};
+ghost use Rattle.fr_run_headline.specs.BoundLaws.{HeldIsThere, MarkedIsState, SeededIsSeeded};
+ghost use Rattle.fr_run_headline.specs.BoundLaws.{LogKnownIsBelow, ProxyKnownIsBelow, PushKnownIsBelow};
+ghost use Rattle.fr_run_headline.specs.BoundLaws.{NumbersAreCounted, NumbersAreOwn, ProxiesAreSound, ProxyPushesAreParts};
+ghost use Rattle.fr_run_headline.specs.LogLaws.{EndIsOfReplies, LockedStandsStill, LogsAreOwn, PushesAreOwn};
+ghost use Rattle.fr_run_headline.specs.LogLaws.{RepliesStandStill, SeedIsReached, SeedsAreOwn};
+ghost use Rattle.fr_run_headline.specs.NumberLaws.{NumbersChain, NumbersTold};
+ghost use Rattle.fr_run_headline.specs.SeededLaws.{AllCountedIsSeeded, ChosenIsSeeded, CountedIsSeeded, SentIsSeeded, WritingIsSeeded};
+ghost use Rattle.fr_run_headline.specs.ShownLaws.{DropsArePopped, LockedIsPopped, ShownIsPopped};
+ghost use Rattle.fr_run_headline.specs.TellLaws.{MarkedIsChosen, PeekedIsAsked, PeekedIsOwn};
+
+use fr_run::laws::node_laws;
+
+/// The numbers of each open epoch are one chain from its mark on.
+pub fn number_law()
+    ensures chain { NumbersChain }
+    ensures told { NumbersTold }
+{
+    node_laws();
+}
+
+/// Each push and each seed that was sent to a log is of its epoch.
+pub fn sent_law()
+    ensures pushes { PushesAreOwn }
+    ensures seeds { SeedsAreOwn }
+{
+    node_laws();
+}
+
+/// Each log holds its epoch's mark and numbers, through its durable version and in their order.
+pub fn logs_law()
+    ensures own { LogsAreOwn }
+{
+    node_laws();
+}
+
+/// What a log told at a lock is so for good, and what a recoverer heard of it.
+pub fn locks_law()
+    ensures told { LockedStandsStill }
+    ensures replies { RepliesStandStill }
+{
+    node_laws();
+}
+
+/// What a log told at a lock to be popped is, and so is what a recoverer was shown. If a plan drops generations, the
+/// first one that it leaves starts, for each tag, at most one version above what a log of the epoch that it ends has
+/// popped.
+pub fn shown_law()
+    ensures told { LockedIsPopped }
+    ensures shown { ShownIsPopped }
+    ensures dropped { DropsArePopped }
+{
+    node_laws();
+}
+
+/// The end of an epoch is that of the replies to its locks, and what is taken over was numbered.
+pub fn ends_law()
+    ensures end { EndIsOfReplies }
+    ensures reached { SeedIsReached }
+{
+    node_laws();
+}
+
+/// What each proxy has under way, and what it pushed.
+pub fn proxies_law()
+    ensures numbers { NumbersAreOwn }
+    ensures counted { NumbersAreCounted }
+    ensures proxies { ProxiesAreSound }
+    ensures pushes { ProxyPushesAreParts }
+{
+    node_laws();
+}
+
+/// What a log told is so: that it holds a push, that it is seeded, and what its mark is, the state of an epoch
+/// that is chosen. Records that it told were asked for, and those told to a storage server are of its own tag.
+pub fn told_law()
+    ensures held { HeldIsThere }
+    ensures seeded { SeededIsSeeded }
+    ensures marked { MarkedIsState }
+    ensures chosen { MarkedIsChosen }
+    ensures asked { PeekedIsAsked }
+    ensures own { PeekedIsOwn }
+{
+    node_laws();
+}
+
+/// What is acknowledged or known in an epoch has been reached by each of its logs, or is below its first version.
+pub fn known_law()
+    ensures acknowledged { AcknowledgedIsSafe }
+    ensures proxies { ProxyKnownIsBelow }
+    ensures pushes { PushKnownIsBelow }
+    ensures logs { LogKnownIsBelow }
+{
+    node_laws();
+}
+
+/// What is known in an epoch is held by each of its seeded logs, and is taken over by each plan over it.
+pub fn order_law()
+    ensures durable { KnownIsDurable }
+    ensures replies { RepliesAgree }
+    ensures below { BelowIsTakenOver }
+    ensures acknowledged { AcknowledgedIsTakenOver }
+    ensures lines { PlansAreLines }
+    ensures below_later { BelowIsHeldLater }
+    ensures acknowledged_later { AcknowledgedIsHeldLater }
+{
+    node_laws();
+}
+
+/// The logs of an epoch are all seeded before its state is written anywhere, and so are those of each epoch
+/// that is chosen.
+pub fn seeded_law()
+    ensures counted { CountedIsSeeded }
+    ensures all { AllCountedIsSeeded }
+    ensures writing { WritingIsSeeded }
+    ensures sent { SentIsSeeded }
+    ensures chosen { ChosenIsSeeded }
+{
+    node_laws();
+}
+
+/// The generations of an epoch's state are in order, each its own epoch's. The front of them through any one is the
+/// state of that one's epoch. The logs of each but the last are seeded, whether or not it was chosen.
+pub fn behind_law()
+    ensures own { GenerationsAreOwn }
+    ensures front { FrontIsState }
+    ensures seeded { BehindIsSeeded }
+{
+    node_laws();
+}
+
+/// A version is *below* in an epoch if each of its logs came to it, or it is below the epoch's first. Such a version
+/// is held in each generation that comes after the epoch's on a line, and is below in each later chosen epoch. So
+/// each recovery of a greater ballot takes over what was acknowledged in any epoch.
+pub fn below_law()
+    ensures held { BelowIsHeldBehind }
+    ensures stays { BelowStaysBelow }
+    ensures chosen { ChosenStaysBelow }
+    ensures acknowledged { AcknowledgedIsKept }
+{
+    node_laws();
+}
+
+/// Each log that replied to a recoverer holds what is below in any chosen epoch of a lower ballot, and what was
+/// acknowledged in any. So it is at most the recovery version of each later epoch, and of each later recoverer whose
+/// replies cover, also of one that they leave lost.
+pub fn replied_law()
+    ensures below { BelowIsReplied }
+    ensures below_over { BelowIsRecovered }
+    ensures acknowledged { AcknowledgedIsReplied }
+    ensures acknowledged_over { AcknowledgedIsRecovered }
+{
+    node_laws();
+}

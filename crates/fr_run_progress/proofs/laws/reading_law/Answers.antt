@@ -1,5 +1,0 @@
-use Rattle.fr_run_progress.proofs.Reading.{reading_ends}
-use Rattle.fr_run_progress.proofs.laws.reading_law.Goals as goal
-
-pub returns : goal.returns
-returns c = reading_ends c.node_laws.ensures c.lost_law.ensures.only

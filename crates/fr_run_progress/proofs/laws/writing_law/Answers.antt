@@ -1,5 +1,0 @@
-use Rattle.fr_run_progress.proofs.Writing.{writing_ends}
-use Rattle.fr_run_progress.proofs.laws.writing_law.Goals as goal
-
-pub returns : goal.returns
-returns c = writing_ends c.node_laws.ensures c.pending_law.ensures.sent c.lost_law.ensures.two c.cover_law.ensures.counted

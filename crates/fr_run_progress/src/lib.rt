@@ -1,4 +1,0 @@
-//! That recoveries can go on: what every run has of it so far.
-#![tactic(auto)]
-
-pub mod laws;

@@ -1,4 +1,0 @@
-pub mod Losses
-pub mod Snapshots
-pub mod Reads
-pub mod Serving

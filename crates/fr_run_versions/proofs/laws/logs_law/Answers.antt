@@ -1,5 +1,0 @@
-use Rattle.fr_run_versions.proofs.Logs.{logs_are_own}
-use Rattle.fr_run_versions.proofs.laws.logs_law.Goals as goal
-
-pub returns : goal.returns
-returns c = record { own = logs_are_own c.node_laws.ensures }

@@ -1,5 +1,0 @@
-use Rattle.fr_seat.proofs.turns.hear_line.Goals as goal
-
--- the node and the tell that were read
-pub returns-in-Ok-hear-clause-done : goal.returns-in-Ok-hear-clause-done
-returns-in-Ok-hear-clause-done c = λ _. (c.in-Ok.heard.0, c.in-Ok.heard.1, c.in-Ok-hear.ensures.heard)

@@ -1,4 +1,0 @@
-pub mod Answers
-pub mod Made
-pub mod Reads
-pub mod Turns

@@ -1,0 +1,266 @@
+//! What one transaction is to make of the tables, and the statements that make it.
+ghost use Rattle.std.specs.Prelude.{◌≡◌, ◌+◌, None, OnOk, IfOk, IsTrue};
+ghost use Rattle.std.specs.FinMap as map;
+ghost use Rattle.sqlite.specs.Held.{state};
+ghost use Rattle.fr_undo.specs.Undo.{same_value};
+ghost use Rattle.fr_sql_rows.specs.Rows.{value_in, before_in, undo_in};
+ghost use Rattle.fr_sql_rows.specs.Connection.{IsLaidOut, IsInside, CommitsNothing, Stays, Sets, Notes};
+ghost use Rattle.fr_sql_calls.specs.Work.{Writes, WritesOne, Rows, Meta, Does, Fits, HasRoom, NotesOne, KnowChanged, differs};
+
+use fr_base::{Bytes, Version};
+use fr_sql_rows::{Backing, Refused, kv, meta, one_more, undo};
+use fr_undo::Change;
+use sqlite::Transaction;
+use std::collections::BTreeMap;
+
+/// What becomes of the undo rows.
+#[derive(Debug, Drop)]
+pub enum RowWork {
+    /// They stay.
+    Keep,
+    /// Each key that a change gives something else than it held gets one, at this version.
+    Note(Version),
+    /// Those above this version go.
+    DropAbove(Version),
+    /// Those through this version go.
+    DropThrough(Version),
+}
+
+/// What becomes of the row of `meta`.
+#[derive(Debug, Drop)]
+pub enum MetaWork {
+    /// It takes the version applied and the floor.
+    Versions { applied: Version, floor: Version },
+    /// It takes the state bytes.
+    State { bytes: Bytes },
+}
+
+/// What one transaction makes of the tables.
+#[derive(Debug, Drop)]
+pub struct Work {
+    /// What the keys take.
+    pub changes: BTreeMap<Bytes, Change>,
+    /// What becomes of the undo rows.
+    pub rows: RowWork,
+    /// What becomes of the row of `meta`.
+    pub meta: MetaWork,
+}
+
+/// Gives a key what its change says.
+fn put_one<S: Backing>(
+    tx: &mut Transaction<'_, S>,
+    key: &Bytes,
+    change: &Change,
+) -> Result<usize, Refused>
+    requires inside { IsInside (state S.Store tx.old.conn.now) }
+    requires laid { IsLaidOut (state S.Store tx.old.conn.now).now }
+    requires known { change.now.before ≡ value_in ((state S.Store tx.old.conn.now).now.trees 0) key.now }
+    ensures same_reference { tx.new.conn.ghost_name ≡ tx.old.conn.ghost_name }
+    ensures ok { OnOk result (Sets key.now change.now.after (state S.Store tx.old.conn.now).now (state S.Store tx.new.conn.now).now) }
+    ensures inside { OnOk result (IsInside (state S.Store tx.new.conn.now)) }
+    ensures stays { Stays (state S.Store tx.old.conn.now) (state S.Store tx.new.conn.now) }
+    ensures survives { CommitsNothing (state S.Store tx.old.conn.now) (state S.Store tx.new.conn.now) }
+{
+    match &change.after {
+        Some(value) => kv::set(tx, key, value, change.before.is_some()),
+        None => kv::remove(tx, key),
+    }
+}
+
+/// Gives a key what its change says, if that is something else than it held.
+fn write_one<S: Backing>(
+    tx: &mut Transaction<'_, S>,
+    key: &Bytes,
+    change: &Change,
+) -> Result<(), Refused>
+    requires inside { IsInside (state S.Store tx.old.conn.now) }
+    requires laid { IsLaidOut (state S.Store tx.old.conn.now).now }
+    requires known { IsTrue (differs change.now) → change.now.before ≡ value_in ((state S.Store tx.old.conn.now).now.trees 0) key.now }
+    ensures same_reference { tx.new.conn.ghost_name ≡ tx.old.conn.ghost_name }
+    ensures ok { OnOk result (WritesOne key.now change.now (state S.Store tx.old.conn.now).now (state S.Store tx.new.conn.now).now) }
+    ensures inside { OnOk result (IsInside (state S.Store tx.new.conn.now)) }
+    ensures stays { Stays (state S.Store tx.old.conn.now) (state S.Store tx.new.conn.now) }
+    ensures survives { CommitsNothing (state S.Store tx.old.conn.now) (state S.Store tx.new.conn.now) }
+{
+    if is_same_value(&change.before, &change.after) {
+        return Ok(());
+    }
+    put_one(tx, key, change)?;
+    Ok(())
+}
+
+/// Gives each key what its change says.
+fn write_all<S: Backing>(
+    tx: &mut Transaction<'_, S>,
+    changes: &BTreeMap<Bytes, Change>,
+) -> Result<(), Refused>
+    requires inside { IsInside (state S.Store tx.old.conn.now) }
+    requires laid { IsLaidOut (state S.Store tx.old.conn.now).now }
+    requires know { KnowChanged changes.now (value_in ((state S.Store tx.old.conn.now).now.trees 0)) }
+    ensures same_reference { tx.new.conn.ghost_name ≡ tx.old.conn.ghost_name }
+    ensures ok { OnOk result (Writes changes.now (state S.Store tx.old.conn.now).now (state S.Store tx.new.conn.now).now) }
+    ensures inside { OnOk result (IsInside (state S.Store tx.new.conn.now)) }
+    ensures stays { Stays (state S.Store tx.old.conn.now) (state S.Store tx.new.conn.now) }
+    ensures survives { CommitsNothing (state S.Store tx.old.conn.now) (state S.Store tx.new.conn.now) }
+{
+    for (key, change) in changes.iter() {
+        write_one(tx, key, change)?;
+    }
+    Ok(())
+}
+
+/// Whether two values, or nones, are one.
+fn is_same_value(a: &Option<Bytes>, b: &Option<Bytes>) -> bool
+    ensures { result ≡ same_value a.now b.now }
+{
+    match (a, b) {
+        (None, None) => true,
+        (Some(a), Some(b)) => a == b,
+        _ => false,
+    }
+}
+
+/// Adds the undo row of a key.
+fn note<S: Backing>(
+    tx: &mut Transaction<'_, S>,
+    version: Version,
+    key: &Bytes,
+    before: &Option<Bytes>,
+) -> Result<usize, Refused>
+    requires inside { IsInside (state S.Store tx.old.conn.now) }
+    requires laid { IsLaidOut (state S.Store tx.old.conn.now).now }
+    requires absent { before_in ((state S.Store tx.old.conn.now).now.trees 2) (version, key.now) ≡ None }
+    ensures same_reference { tx.new.conn.ghost_name ≡ tx.old.conn.ghost_name }
+    ensures ok { OnOk result (Notes version key.now before.now (state S.Store tx.old.conn.now).now (state S.Store tx.new.conn.now).now) }
+    ensures inside { OnOk result (IsInside (state S.Store tx.new.conn.now)) }
+    ensures stays { Stays (state S.Store tx.old.conn.now) (state S.Store tx.new.conn.now) }
+    ensures survives { CommitsNothing (state S.Store tx.old.conn.now) (state S.Store tx.new.conn.now) }
+{
+    match before {
+        Some(before) => undo::note_value(tx, version, key, before),
+        None => undo::note_none(tx, version, key),
+    }
+}
+
+/// Adds the undo row of a key, if its change gives it something else than it held, and counts it.
+fn note_one<S: Backing>(
+    tx: &mut Transaction<'_, S>,
+    version: Version,
+    key: &Bytes,
+    change: &Change,
+    rows: usize,
+) -> Result<usize, Refused>
+    requires inside { IsInside (state S.Store tx.old.conn.now) }
+    requires laid { IsLaidOut (state S.Store tx.old.conn.now).now }
+    requires absent { before_in ((state S.Store tx.old.conn.now).now.trees 2) (version, key.now) ≡ None }
+    ensures same_reference { tx.new.conn.ghost_name ≡ tx.old.conn.ghost_name }
+    ensures ok { OnOk result (NotesOne version key.now change.now (state S.Store tx.old.conn.now).now (state S.Store tx.new.conn.now).now) }
+    ensures rows { IfOk result (λ more. rows ≡ map.len (undo_in ((state S.Store tx.old.conn.now).now.trees 2))
+        → more ≡ map.len (undo_in ((state S.Store tx.new.conn.now).now.trees 2))) }
+    ensures inside { OnOk result (IsInside (state S.Store tx.new.conn.now)) }
+    ensures stays { Stays (state S.Store tx.old.conn.now) (state S.Store tx.new.conn.now) }
+    ensures survives { CommitsNothing (state S.Store tx.old.conn.now) (state S.Store tx.new.conn.now) }
+{
+    if is_same_value(&change.before, &change.after) {
+        return Ok(rows);
+    }
+    let more = one_more(rows)?;
+    note(tx, version, key, &change.before)?;
+    Ok(more)
+}
+
+/// Adds the undo rows of the keys that changes give something else than they held, and counts them.
+fn note_all<S: Backing>(
+    tx: &mut Transaction<'_, S>,
+    version: Version,
+    changes: &BTreeMap<Bytes, Change>,
+    rows: usize,
+) -> Result<usize, Refused>
+    requires inside { IsInside (state S.Store tx.old.conn.now) }
+    requires laid { IsLaidOut (state S.Store tx.old.conn.now).now }
+    requires room { HasRoom (RowWork.Note version) (state S.Store tx.old.conn.now).now }
+    ensures same_reference { tx.new.conn.ghost_name ≡ tx.old.conn.ghost_name }
+    ensures ok { OnOk result (Rows changes.now (RowWork.Note version) (state S.Store tx.old.conn.now).now (state S.Store tx.new.conn.now).now) }
+    ensures rows { IfOk result (λ more. rows ≡ map.len (undo_in ((state S.Store tx.old.conn.now).now.trees 2))
+        → more ≡ map.len (undo_in ((state S.Store tx.new.conn.now).now.trees 2))) }
+    ensures inside { OnOk result (IsInside (state S.Store tx.new.conn.now)) }
+    ensures stays { Stays (state S.Store tx.old.conn.now) (state S.Store tx.new.conn.now) }
+    ensures survives { CommitsNothing (state S.Store tx.old.conn.now) (state S.Store tx.new.conn.now) }
+{
+    let mut count = rows;
+    for (key, change) in changes.iter() {
+        let more = note_one(tx, version, key, change, count)?;
+        count = more;
+    }
+    Ok(count)
+}
+
+/// Makes of the undo rows what they are to become, and counts those that are there then.
+fn fill_rows<S: Backing>(
+    tx: &mut Transaction<'_, S>,
+    work: &RowWork,
+    changes: &BTreeMap<Bytes, Change>,
+    rows: usize,
+) -> Result<usize, Refused>
+    requires inside { IsInside (state S.Store tx.old.conn.now) }
+    requires laid { IsLaidOut (state S.Store tx.old.conn.now).now }
+    requires room { HasRoom work.now (state S.Store tx.old.conn.now).now }
+    ensures same_reference { tx.new.conn.ghost_name ≡ tx.old.conn.ghost_name }
+    ensures ok { OnOk result (Rows changes.now work.now (state S.Store tx.old.conn.now).now (state S.Store tx.new.conn.now).now) }
+    ensures rows { IfOk result (λ more. rows ≡ map.len (undo_in ((state S.Store tx.old.conn.now).now.trees 2))
+        → more ≡ map.len (undo_in ((state S.Store tx.new.conn.now).now.trees 2))) }
+    ensures inside { OnOk result (IsInside (state S.Store tx.new.conn.now)) }
+    ensures stays { Stays (state S.Store tx.old.conn.now) (state S.Store tx.new.conn.now) }
+    ensures survives { CommitsNothing (state S.Store tx.old.conn.now) (state S.Store tx.new.conn.now) }
+{
+    match work {
+        RowWork::Keep => Ok(rows),
+        RowWork::Note(version) => note_all(tx, *version, changes, rows),
+        RowWork::DropAbove(version) => {
+            let gone = undo::drop_above(tx, *version)?;
+            Ok(rows.saturating_sub(gone))
+        }
+        RowWork::DropThrough(version) => {
+            let gone = undo::drop_through(tx, *version)?;
+            Ok(rows.saturating_sub(gone))
+        }
+    }
+}
+
+/// Makes of the row of `meta` what it is to become.
+fn fill_meta<S: Backing>(tx: &mut Transaction<'_, S>, work: &MetaWork) -> Result<usize, Refused>
+    requires inside { IsInside (state S.Store tx.old.conn.now) }
+    requires laid { IsLaidOut (state S.Store tx.old.conn.now).now }
+    ensures same_reference { tx.new.conn.ghost_name ≡ tx.old.conn.ghost_name }
+    ensures ok { OnOk result (Meta work.now (state S.Store tx.old.conn.now).now (state S.Store tx.new.conn.now).now) }
+    ensures inside { OnOk result (IsInside (state S.Store tx.new.conn.now)) }
+    ensures stays { Stays (state S.Store tx.old.conn.now) (state S.Store tx.new.conn.now) }
+    ensures survives { CommitsNothing (state S.Store tx.old.conn.now) (state S.Store tx.new.conn.now) }
+{
+    match work {
+        MetaWork::Versions { applied, floor } => meta::note_versions(tx, *applied, *floor),
+        MetaWork::State { bytes } => meta::note_bytes(tx, bytes),
+    }
+}
+
+/// Makes of the tables what they are to become, in a transaction, and counts the undo rows that are there then.
+pub(crate) fn fill<S: Backing>(
+    tx: &mut Transaction<'_, S>,
+    work: &Work,
+    rows: usize,
+) -> Result<usize, Refused>
+    requires inside { IsInside (state S.Store tx.old.conn.now) }
+    requires fits { Fits work.now (state S.Store tx.old.conn.now).now }
+    ensures same_reference { tx.new.conn.ghost_name ≡ tx.old.conn.ghost_name }
+    ensures ok { OnOk result (Does work.now (state S.Store tx.old.conn.now).now (state S.Store tx.new.conn.now).now) }
+    ensures rows { IfOk result (λ more. rows ≡ map.len (undo_in ((state S.Store tx.old.conn.now).now.trees 2))
+        → more ≡ map.len (undo_in ((state S.Store tx.new.conn.now).now.trees 2))) }
+    ensures inside { OnOk result (IsInside (state S.Store tx.new.conn.now)) }
+    ensures stays { Stays (state S.Store tx.old.conn.now) (state S.Store tx.new.conn.now) }
+    ensures survives { CommitsNothing (state S.Store tx.old.conn.now) (state S.Store tx.new.conn.now) }
+{
+    let count = fill_rows(tx, &work.rows, &work.changes, rows)?;
+    write_all(tx, &work.changes)?;
+    fill_meta(tx, &work.meta)?;
+    Ok(count)
+}

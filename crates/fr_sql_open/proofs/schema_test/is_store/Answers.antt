@@ -1,6 +1,0 @@
-use Rattle.std.proofs.Common.{◌∙◌}
-use Rattle.fr_sql_open.proofs.TextLemmas.{own_is}
-use Rattle.fr_sql_open.proofs.schema_test.is_store.Goals as goal
-
-pub returns : goal.returns
-returns c = λ h. c.is_own.ensures h ∙ own_is

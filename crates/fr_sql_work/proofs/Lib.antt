@@ -1,3 +1,0 @@
-pub mod CountLemmas
-pub mod StepLemmas
-pub mod WorkLemmas
