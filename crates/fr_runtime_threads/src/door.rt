@@ -299,12 +299,8 @@ impl Hearer for Door {
 
     ghost seen = { λ d. d.notes.seen };
 
-    fn place(&self) -> NodeId {
-        self.notes.place()
-    }
-
-    fn now(&self) -> Stamp {
-        self.notes.seen()
+    fn notes(&self) -> &Notes {
+        &self.notes
     }
 
     fn may_come(&self, _ask: &Ask) -> bool {
@@ -315,14 +311,7 @@ impl Hearer for Door {
         self.notes.see(at);
     }
 
-    fn hear(
-        &mut self,
-        alloc: Global,
-        at: Stamp,
-        from: NodeId,
-        tell: Tell,
-    ) -> Result<(), TurnFault> {
-        self.notes.see(at);
+    fn hear(&mut self, alloc: Global, from: NodeId, tell: Tell) -> Result<(), TurnFault> {
         let Some(stamp) = self.notes.next()? else {
             return Ok(());
         };

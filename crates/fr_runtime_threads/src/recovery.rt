@@ -47,12 +47,8 @@ impl Hearer for Recovery {
 
     ghost seen = { λ r. r.notes.seen };
 
-    fn place(&self) -> NodeId {
-        self.notes.place()
-    }
-
-    fn now(&self) -> Stamp {
-        self.notes.seen()
+    fn notes(&self) -> &Notes {
+        &self.notes
     }
 
     fn may_come(&self, _ask: &Ask) -> bool {
@@ -63,14 +59,7 @@ impl Hearer for Recovery {
         self.notes.see(at);
     }
 
-    fn hear(
-        &mut self,
-        alloc: Global,
-        at: Stamp,
-        from: NodeId,
-        tell: Tell,
-    ) -> Result<(), TurnFault> {
-        self.notes.see(at);
+    fn hear(&mut self, alloc: Global, from: NodeId, tell: Tell) -> Result<(), TurnFault> {
         let Some(stamp) = self.notes.next()? else {
             return Ok(());
         };

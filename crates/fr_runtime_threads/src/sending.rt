@@ -1,10 +1,11 @@
 //! Asks on their way, and what happens to them.
-ghost use Rattle.std.specs.Prelude.{◌≡◌, ◌≤◌, IfOk, IfSome, OnOk};
+ghost use Rattle.std.specs.Prelude.{◌≡◌, ◌≤◌, max, IfOk, IfSome, OnOk};
 ghost use Rattle.fr_runtime_threads.specs.Hears.{HasHeard};
 
 use crate::Rack;
 use crate::fault::TurnFault;
 use crate::late::{Late, Letter, Message};
+use crate::notes::Notes;
 use crate::site::Site;
 use fr_ask::{Ask, Tell};
 use fr_base::{Memory, NodeId, Stamp};
@@ -39,13 +40,10 @@ pub(crate) trait Hearer {
     /// The greatest stamp that the node's thread has seen.
     ghost seen: { Self → ℕ };
 
-    /// The node that asks.
-    fn place(&self) -> NodeId
-        ensures { result ≡ node self.now };
-
-    /// The greatest stamp that the node's thread has seen.
-    fn now(&self) -> Stamp
-        ensures { result ≡ seen self.now };
+    /// The node's journal, and the greatest stamp that its thread has seen.
+    fn notes(&self) -> &Notes
+        ensures node { result.now.journal.node ≡ node self.now }
+        ensures seen { result.now.seen ≡ seen self.now };
 
     /// Whether an ask that it gave may still come to a node: a storage server asks no log of a generation that its
     /// state has no more to let go of anything.
@@ -58,7 +56,7 @@ pub(crate) trait Hearer {
         ensures given { given self.new ≡ given self.old }
         ensures told { told self.new ≡ told self.old }
         ensures entries { entries self.new ≡ entries self.old }
-        ensures seen { at ≤ seen self.new };
+        ensures seen { seen self.new ≡ max (seen self.old) at };
 
     /// Hears what a node told at this stamp, and enters that, if there is a stamp above it.
     fn hear(&mut self, alloc: Global, at: Stamp, from: NodeId, tell: Tell) -> Result<(), TurnFault>
@@ -82,7 +80,7 @@ pub(crate) fn send<K: Rack, F: Faults, R: Wait, H: Hearer>(
     ensures given { H.given hearer.new ≡ H.given hearer.old }
     ensures told { H.told hearer.new ≡ H.told hearer.old }
 {
-    let by = hearer.place();
+    let by = hearer.notes().place();
     match site.faults.verdict(*to, ask) {
         Verdict::DropAsk => Ok(()),
         Verdict::DropTell => {
@@ -175,7 +173,7 @@ fn exchange<K: Rack, F: Faults, R: Wait, H: Hearer>(
     }
 }
 
-/// Has the one that asked hear what it is told, unless the thread has gone over to another node since.
+/// Has the one that asked hear what it is told at this stamp, unless the thread has gone over to another node since.
 fn hear<K: Rack, F: Faults, R: Wait, H: Hearer>(
     site: &Site<'_, K, F, R>,
     hearer: &mut H,
@@ -188,9 +186,12 @@ fn hear<K: Rack, F: Faults, R: Wait, H: Hearer>(
     ensures shape { H.shape hearer.new ≡ H.shape hearer.old }
     ensures given { H.given hearer.new ≡ H.given hearer.old }
     ensures told { H.told hearer.new ≡ H.told hearer.old }
+    ensures hears { H.node hearer.old ≡ by → OnOk result (HasHeard (H.entries hearer.old)
+        (H.entries hearer.new) (max (H.seen hearer.old) at) from tell) }
 {
-    if hearer.place() == by {
-        hearer.hear(site.alloc, at, from, tell)
+    if hearer.notes().place() == by {
+        hearer.see(at);
+        hearer.hear(site.alloc, from, tell)
     } else {
         Ok(())
     }
@@ -215,7 +216,7 @@ fn call<K: Rack, F: Faults, R: Wait, H: Hearer>(
     let sent = ask.copy()?;
     let told = site
         .directory
-        .call(site.rt, site.alloc, hearer.now(), by, *to, sent)
+        .call(site.rt, site.alloc, hearer.notes().seen(), by, *to, sent)
         .ok();
     if let Some((at, _)) = &told {
         hearer.see(*at);
