@@ -1,14 +1,12 @@
 //! Cells, in bytes.
 ghost use Rattle.std.specs.Prelude.{◌≡◌};
 ghost use Rattle.fr_register.specs.declared.ask.CellAsk.TheVariants as cell_ask;
-ghost use Rattle.fr_ask.specs.declared.ask.Ask.TheVariants as ask;
-ghost use Rattle.fr_part.specs.Seat.{seat_after};
 ghost use Rattle.fr_part.specs.Answers.{IsCellRefused, IsPromised, IsPromisedShort, IsTwoValues, IsWritten};
-ghost use Rattle.fr_part.specs.Calls.{IsTurn, Over};
+ghost use Rattle.fr_part.specs.Calls.{Over};
+ghost use Rattle.fr_c.specs.Turns.{IsCellTurn};
 
 use fr_part::Handle;
 use fr_part::calls::cells::{give_read, read_cell, write_cell};
-use fr_part::calls::status::EMPTY;
 use std::alloc::Global;
 
 /// Reads a cell at a ballot. `number` is the ballot of the last write, or if refused the one promised.
@@ -21,8 +19,7 @@ pub extern "C" fn fdbrec_cell_read(
     out: &mut [u8],
     len: &mut usize,
 ) -> u32
-    ensures turn { Over of.old.value of.new.value result
-        (λ old new. IsTurn result old new (new ≡ seat_after old (ask.Cell (cell_ask.Read ballot)))) }
+    ensures turn { IsCellTurn of.old.value of.new.value result (cell_ask.Read ballot) }
     ensures ok { Over of.old.value of.new.value result
         (λ old new. result ≡ 0 → IsPromised new.said number.new out.new len.new) }
     ensures short { Over of.old.value of.new.value result
@@ -30,12 +27,7 @@ pub extern "C" fn fdbrec_cell_read(
     ensures refused { Over of.old.value of.new.value result
         (λ old new. result ≡ 5 → IsCellRefused new.said number.new) }
 {
-    let Some(mut seat) = of.take(alloc) else {
-        return EMPTY;
-    };
-    let status = read_cell(alloc, &mut seat, ballot, number, out, len);
-    of.put(seat);
-    status
+    with_seat!(alloc, of, seat => read_cell(alloc, &mut seat, ballot, number, out, len))
 }
 
 /// Gives the answer of the last read again. It is no turn.
@@ -55,12 +47,7 @@ pub extern "C" fn fdbrec_cell_answer(
     ensures refused { Over of.old.value of.new.value result
         (λ old new. result ≡ 5 → IsCellRefused new.said number.new) }
 {
-    let Some(seat) = of.take(alloc) else {
-        return EMPTY;
-    };
-    let status = give_read(&seat.said, number, out, len);
-    of.put(seat);
-    status
+    with_seat!(alloc, of, seat => give_read(&seat.said, number, out, len))
 }
 
 /// Writes a value into a cell under a ballot. `number` is that ballot, or if refused the one promised.
@@ -72,17 +59,11 @@ pub extern "C" fn fdbrec_cell_write(
     value: &[u8],
     number: &mut u64,
 ) -> u32
-    ensures turn { Over of.old.value of.new.value result
-        (λ old new. IsTurn result old new (new ≡ seat_after old (ask.Cell (cell_ask.Write ballot value.now)))) }
+    ensures turn { IsCellTurn of.old.value of.new.value result (cell_ask.Write ballot value.now) }
     ensures ok { Over of.old.value of.new.value result (λ old new. result ≡ 0 → IsWritten new.said number.new) }
     ensures refused { Over of.old.value of.new.value result
         (λ old new. result ≡ 5 → IsCellRefused new.said number.new) }
     ensures two_values { Over of.old.value of.new.value result (λ old new. result ≡ 10 → IsTwoValues new.said) }
 {
-    let Some(mut seat) = of.take(alloc) else {
-        return EMPTY;
-    };
-    let status = write_cell(alloc, &mut seat, ballot, value, number);
-    of.put(seat);
-    status
+    with_seat!(alloc, of, seat => write_cell(alloc, &mut seat, ballot, value, number))
 }

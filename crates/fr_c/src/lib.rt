@@ -2,6 +2,20 @@
 //! leaves in the memory of its caller.
 #![tactic(auto)]
 
+/// What a call comes to with the machine of a handle, which the handle then has again. An empty handle says so.
+macro_rules! with_seat {
+    ($alloc:ident, $of:ident, $seat:ident => $call:expr) => {
+        match $of.take($alloc) {
+            Some(mut $seat) => {
+                let status = $call;
+                $of.put($seat);
+                status
+            }
+            None => fr_part::calls::status::EMPTY,
+        }
+    };
+}
+
 mod audits;
 mod cells;
 mod logs;

@@ -8,7 +8,6 @@ ghost use Rattle.fr_part.specs.Calls.{IsTurn, Over};
 
 use fr_part::Handle;
 use fr_part::calls::logs::{PeekNumbers, PushNumbers, give_peeked, peek_tag, push_body};
-use fr_part::calls::status::EMPTY;
 use std::alloc::Global;
 
 /// Pushes the batch of one tag to a log. `held` is the version that the log answers to hold. A push of several tags is
@@ -26,12 +25,7 @@ pub extern "C" fn fdbrec_log_push(
         new ≡ seat_after old (ask.Log (log_ask.Push (push_of at.now ms)))))) }
     ensures ok { Over of.old.value of.new.value result (λ old new. result ≡ 0 → IsHeld new.said held.new) }
 {
-    let Some(mut seat) = of.take(alloc) else {
-        return EMPTY;
-    };
-    let status = push_body(alloc, &mut seat, at, batch, held);
-    of.put(seat);
-    status
+    with_seat!(alloc, of, seat => push_body(alloc, &mut seat, at, batch, held))
 }
 
 /// Peeks a log for the records of a tag above a version, at most as many as it says.
@@ -53,12 +47,7 @@ pub extern "C" fn fdbrec_log_peek(
     ensures short { Over of.old.value of.new.value result
         (λ old new. result ≡ 3 → IsPeekedShort new.said out.new len.new upto.new known.new) }
 {
-    let Some(mut seat) = of.take(alloc) else {
-        return EMPTY;
-    };
-    let status = peek_tag(alloc, &mut seat, at, out, len, upto, known);
-    of.put(seat);
-    status
+    with_seat!(alloc, of, seat => peek_tag(alloc, &mut seat, at, out, len, upto, known))
 }
 
 /// Gives the answer of the last peek again. It is no turn.
@@ -77,10 +66,5 @@ pub extern "C" fn fdbrec_log_answer(
     ensures short { Over of.old.value of.new.value result
         (λ old new. result ≡ 3 → IsPeekedShort new.said out.new len.new upto.new known.new) }
 {
-    let Some(seat) = of.take(alloc) else {
-        return EMPTY;
-    };
-    let status = give_peeked(alloc, &seat.said, out, len, upto, known);
-    of.put(seat);
-    status
+    with_seat!(alloc, of, seat => give_peeked(alloc, &seat.said, out, len, upto, known))
 }

@@ -8,7 +8,6 @@ ghost use Rattle.fr_part.specs.ReadCalls.{IsPast, shard_from, unread_said, unrea
 ghost use Rattle.fr_part.specs.Calls.{IfFound, Over};
 
 use fr_part::Handle;
-use fr_part::calls::status::EMPTY;
 use fr_part::calls::storages::{KeyAt, read_in};
 use std::alloc::Global;
 
@@ -46,10 +45,5 @@ pub extern "C" fn fdbrec_storage_read(
     ensures refused { Over of.old.value of.new.value result (λ old new. result ≢ 1 → result ≢ 6 → unread_said result
         ≡ option_map unread_status (unread_of new.part (shard_from what.now.begin.now what.now.end.now) what.now.key.now what.now.version)) }
 {
-    let Some(mut seat) = of.take(alloc) else {
-        return EMPTY;
-    };
-    let status = read_in(alloc, &mut seat.part, what, out, len);
-    of.put(seat);
-    status
+    with_seat!(alloc, of, seat => read_in(alloc, &mut seat.part, what, out, len))
 }

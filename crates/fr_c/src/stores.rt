@@ -7,7 +7,6 @@ ghost use Rattle.fr_part.specs.Answers.{IfBatch, IsGiven, IsShort};
 ghost use Rattle.fr_part.specs.Calls.{IfFound, Over, refuses};
 
 use fr_part::Handle;
-use fr_part::calls::status::EMPTY;
 use fr_part::calls::stores::{apply_to, forget_in, get_in, undo_in};
 use std::alloc::Global;
 
@@ -24,12 +23,7 @@ pub extern "C" fn fdbrec_store_apply(
         (λ old new. result ≡ 0 → IfBatch batch.now
         (λ ms. BecomesStore old.part new.part (λ s. extended s version ms))) }
 {
-    let Some(mut seat) = of.take(alloc) else {
-        return EMPTY;
-    };
-    let status = apply_to(alloc, &mut seat.part, version, batch);
-    of.put(seat);
-    status
+    with_seat!(alloc, of, seat => apply_to(alloc, &mut seat.part, version, batch))
 }
 
 /// Undoes all versions of a store above one, which is not to be below the floor.
@@ -39,12 +33,7 @@ pub extern "C" fn fdbrec_store_undo(alloc: Global, of: &mut Handle, version: u64
     ensures done { Over of.old.value of.new.value result
         (λ old new. result ≡ 0 → BecomesStore old.part new.part (λ s. undone s version)) }
 {
-    let Some(mut seat) = of.take(alloc) else {
-        return EMPTY;
-    };
-    let status = undo_in(alloc, &mut seat.part, version);
-    of.put(seat);
-    status
+    with_seat!(alloc, of, seat => undo_in(alloc, &mut seat.part, version))
 }
 
 /// Has a store forget how to undo below a version.
@@ -54,12 +43,7 @@ pub extern "C" fn fdbrec_store_forget(alloc: Global, of: &mut Handle, version: u
     ensures done { Over of.old.value of.new.value result
         (λ old new. result ≡ 0 → BecomesStore old.part new.part (λ s. forgotten s version)) }
 {
-    let Some(mut seat) = of.take(alloc) else {
-        return EMPTY;
-    };
-    let status = forget_in(alloc, &mut seat.part, version);
-    of.put(seat);
-    status
+    with_seat!(alloc, of, seat => forget_in(alloc, &mut seat.part, version))
 }
 
 /// Gives the value of a key of a store.
@@ -81,10 +65,5 @@ pub extern "C" fn fdbrec_store_get(
     ensures none { Over of.old.value of.new.value result
         (λ old new. result ≡ 11 → IfStore new.part (λ s. map.get s.contents key.now ≡ None)) }
 {
-    let Some(seat) = of.take(alloc) else {
-        return EMPTY;
-    };
-    let status = get_in(alloc, &seat.part, key, out, len);
-    of.put(seat);
-    status
+    with_seat!(alloc, of, seat => get_in(alloc, &seat.part, key, out, len))
 }

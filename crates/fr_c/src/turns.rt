@@ -3,9 +3,9 @@ ghost use Rattle.std.specs.Prelude.{◌≡◌, ◌<◌, true, length, take};
 ghost use Rattle.fr_part.specs.Seat.{SubmitsIn};
 ghost use Rattle.fr_part.specs.Answers.{IfBatch, IsJson};
 ghost use Rattle.fr_part.specs.Calls.{AnyAsk, AnyHear, IsTurn, Over, is_told, refuses};
+ghost use Rattle.fr_c.specs.Turns.{GivesLine};
 
 use fr_part::Handle;
-use fr_part::calls::status::EMPTY;
 use fr_part::calls::turns::{LineOf, ask_line, hear_line, submit_to, tell_line};
 use std::alloc::Global;
 
@@ -22,12 +22,7 @@ pub extern "C" fn fdbrec_ask(
     ensures ok { result ≡ 0 → IsJson (take len.new out.new) }
     ensures short { result ≡ 3 → length out.new < len.new }
 {
-    let Some(mut seat) = of.take(alloc) else {
-        return EMPTY;
-    };
-    let status = ask_line(alloc, &mut seat, line, out, len);
-    of.put(seat);
-    status
+    with_seat!(alloc, of, seat => ask_line(alloc, &mut seat, line, out, len))
 }
 
 /// Has a machine hear what a line says, a node and what it tells, and gives the line of what it then asks.
@@ -44,12 +39,7 @@ pub extern "C" fn fdbrec_hear(
     ensures ok { result ≡ 0 → IsJson (take len.new out.new) }
     ensures short { result ≡ 3 → length out.new < len.new }
 {
-    let Some(mut seat) = of.take(alloc) else {
-        return EMPTY;
-    };
-    let status = hear_line(alloc, &mut seat, line, out, len);
-    of.put(seat);
-    status
+    with_seat!(alloc, of, seat => hear_line(alloc, &mut seat, line, out, len))
 }
 
 /// Has a proxy take a batch, whose version is to be `step` above the last one given, and gives the line of what it
@@ -69,12 +59,7 @@ pub extern "C" fn fdbrec_submit(
     ensures ok { result ≡ 0 → IsJson (take len.new out.new) }
     ensures short { result ≡ 3 → length out.new < len.new }
 {
-    let Some(mut seat) = of.take(alloc) else {
-        return EMPTY;
-    };
-    let status = submit_to(alloc, &mut seat, step, batch, out, len);
-    of.put(seat);
-    status
+    with_seat!(alloc, of, seat => submit_to(alloc, &mut seat, step, batch, out, len))
 }
 
 /// Gives the line of what a machine said in its last turn again. It is no turn.
@@ -85,11 +70,9 @@ pub extern "C" fn fdbrec_answer(
     out: &mut [u8],
     len: &mut usize,
 ) -> u32
-    ensures same { of.new.value ≡ of.old.value }
-    ensures ok { result ≡ 0 → IsJson (take len.new out.new) }
-    ensures short { result ≡ 3 → length out.new < len.new }
+    ensures line { GivesLine of.old.value of.new.value result out.new len.new }
 {
-    tell(alloc, of, LineOf::Said, out, len)
+    with_seat!(alloc, of, seat => tell_line(alloc, &seat, LineOf::Said, out, len))
 }
 
 /// Gives the line of what a machine asks now.
@@ -100,11 +83,9 @@ pub extern "C" fn fdbrec_next(
     out: &mut [u8],
     len: &mut usize,
 ) -> u32
-    ensures same { of.new.value ≡ of.old.value }
-    ensures ok { result ≡ 0 → IsJson (take len.new out.new) }
-    ensures short { result ≡ 3 → length out.new < len.new }
+    ensures line { GivesLine of.old.value of.new.value result out.new len.new }
 {
-    tell(alloc, of, LineOf::Next, out, len)
+    with_seat!(alloc, of, seat => tell_line(alloc, &seat, LineOf::Next, out, len))
 }
 
 /// Gives the line of where a machine stands.
@@ -115,23 +96,7 @@ pub extern "C" fn fdbrec_last(
     out: &mut [u8],
     len: &mut usize,
 ) -> u32
-    ensures same { of.new.value ≡ of.old.value }
-    ensures ok { result ≡ 0 → IsJson (take len.new out.new) }
-    ensures short { result ≡ 3 → length out.new < len.new }
+    ensures line { GivesLine of.old.value of.new.value result out.new len.new }
 {
-    tell(alloc, of, LineOf::Last, out, len)
-}
-
-/// Gives a line of the machine of a handle.
-fn tell(alloc: Global, of: &mut Handle, which: LineOf, out: &mut [u8], len: &mut usize) -> u32
-    ensures same { of.new.value ≡ of.old.value }
-    ensures ok { result ≡ 0 → IsJson (take len.new out.new) }
-    ensures short { result ≡ 3 → length out.new < len.new }
-{
-    let Some(seat) = of.take(alloc) else {
-        return EMPTY;
-    };
-    let status = tell_line(alloc, &seat, which, out, len);
-    of.put(seat);
-    status
+    with_seat!(alloc, of, seat => tell_line(alloc, &seat, LineOf::Last, out, len))
 }

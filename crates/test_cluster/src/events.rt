@@ -19,9 +19,6 @@ pub(crate) struct Counts {
     pub(crate) otherwise: AtomicU64,
     /// How many waits were in vain.
     pub(crate) in_vain: AtomicU64,
-    /// How many pushes of batches log (257, 0) answered, and how many pushes all logs did.
-    pub(crate) pushes: AtomicU64,
-    pub(crate) all_pushes: AtomicU64,
 }
 
 /// One more; the number that the counter comes to.
@@ -52,6 +49,9 @@ pub(crate) struct Events<'a, R> {
     rt: &'a R,
     flags: Vec<Flag>,
     counts: &'a Counts,
+    /// How many pushes of batches log (257, 0) answered, and how many pushes all logs did.
+    pushes: AtomicU64,
+    all_pushes: AtomicU64,
 }
 
 impl<'a, R: Wait> Events<'a, R> {
@@ -67,7 +67,13 @@ impl<'a, R: Wait> Events<'a, R> {
             let raised = AtomicU64::new(0);
             flags.push(Flag { event, raised })?;
         }
-        Ok(Events { rt, flags, counts })
+        Ok(Events {
+            rt,
+            flags,
+            counts,
+            pushes: AtomicU64::new(0),
+            all_pushes: AtomicU64::new(0),
+        })
     }
 
     fn flag(&self, event: Event) -> Option<&AtomicU64> {
@@ -81,6 +87,16 @@ impl<'a, R: Wait> Events<'a, R> {
             flag.store(1, Ordering::SeqCst);
             flag.wake_all();
         }
+    }
+
+    /// Log (257, 0) answered one more push of a batch.
+    pub(crate) fn raise_pushed(&self) {
+        self.raise(Event::Pushed(count(&self.pushes)));
+    }
+
+    /// Logs answered one more push, of a batch or a mark.
+    pub(crate) fn raise_all_pushed(&self) {
+        self.raise(Event::AllPushed(count(&self.all_pushes)));
     }
 
     /// Whether it happened, if it is one.

@@ -82,14 +82,13 @@ impl<R: Wait> Script<'_, R> {
     }
 
     fn pushed(&self, epoch: u64, index: u8, push: &Push) {
-        self.events
-            .raise(Event::AllPushed(count(&self.counts.all_pushes)));
+        self.events.raise_all_pushed();
         if push.marked().is_some() {
             self.events.raise(Event::Marked(epoch));
         } else if epoch == 257 {
             self.events.raise(Event::Holds(index, push.version().get()));
             if index == 0 {
-                self.events.raise(Event::Pushed(count(&self.counts.pushes)));
+                self.events.raise_pushed();
             }
         }
     }

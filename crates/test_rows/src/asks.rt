@@ -2,14 +2,20 @@
 use crate::subject::json_of;
 use crate::wrong::{NO_FORM, Wrong};
 use fr_cli_json::tree::into_items;
-use fr_forms::Form::{Flag, Hex, List, Number, OrNull, OrZero, Text};
+use fr_forms::Form::{Ask, Flag, Hex, List, Number, OrNull, OrZero, Tell, Text};
 use fr_forms::{Form, Formed, read_one, table};
 use serde_json::Value;
 use std::alloc::Global;
 use std::mem::replace;
 
 /// The kinds of values that are small, and the names of members under which one of a kind is given.
-static KINDS: [(&str, Form); 13] = [
+static KINDS: [(&str, Form); 19] = [
+    ("asks ask", Ask),
+    ("tells tell", Tell),
+    ("nodes node from to by", table::NODE),
+    ("cell_ask", table::CELL_ASK),
+    ("cell_asks", List(&table::CELL_ASK)),
+    ("seq_ask", table::SEQ_ASK),
     ("shards records", table::SHARDS),
     ("bytes key begin", table::HEX),
     ("end", OrNull(&Hex(usize::MAX))),
@@ -29,50 +35,18 @@ static KINDS: [(&str, Form); 13] = [
 static COUNT: Form = Number(0, 255);
 
 // (Each of these is named by one function alone: a proof that names a form writes out all that is nested in it.)
-static ASK: Form = table::ASK;
-
-static TELL: Form = table::TELL;
-
 static LAST: Form = table::LAST;
-
-static NODE: Form = table::NODE;
-
-static CELL_ASK: Form = table::CELL_ASK;
-
-static CELL_ASKS: Form = List(&table::CELL_ASK);
 
 static LOG_ASK: Form = table::LOG_ASK;
 
 static LOG_ASKS: Form = List(&table::LOG_ASK);
 
-static SEQ_ASK: Form = table::SEQ_ASK;
-
 static STATE: Form = table::STATE;
 
 static BATCH: Form = table::BATCH;
 
-fn ask() -> &'static Form {
-    &ASK
-}
-
-fn tell() -> &'static Form {
-    &TELL
-}
-
 fn last() -> &'static Form {
     &LAST
-}
-
-fn node() -> &'static Form {
-    &NODE
-}
-
-fn cell_ask() -> &'static Form {
-    &CELL_ASK
-}
-
-fn cell_asks() -> &'static Form {
-    &CELL_ASKS
 }
 
 fn log_ask() -> &'static Form {
@@ -81,10 +55,6 @@ fn log_ask() -> &'static Form {
 
 fn log_asks() -> &'static Form {
     &LOG_ASKS
-}
-
-fn seq_ask() -> &'static Form {
-    &SEQ_ASK
 }
 
 fn state() -> &'static Form {
@@ -98,15 +68,9 @@ fn batch() -> &'static Form {
 /// What stands under a name.
 fn form_of(name: &str) -> &'static Form {
     match name {
-        "asks" | "ask" => ask(),
-        "tells" | "tell" => tell(),
         "lasts" => last(),
-        "nodes" | "node" | "from" | "to" | "by" => node(),
-        "cell_ask" => cell_ask(),
-        "cell_asks" => cell_asks(),
         "log_ask" => log_ask(),
         "log_asks" => log_asks(),
-        "seq_ask" => seq_ask(),
         "state" => state(),
         "batch" => batch(),
         _ => small_form_of(name),
