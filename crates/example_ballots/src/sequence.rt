@@ -44,19 +44,11 @@ pub fn in_turn(
     let mut left = Cell::new(alloc);
     let mut middle = Cell::new(alloc);
     let mut right = Cell::new(alloc);
-    let first_attempt = read_and_write(alloc, first, first_value, 0, &mut left, 1, &mut middle)?;
-    let second_attempt = read_and_write(
-        alloc,
-        second,
-        second_value,
-        1,
-        &mut middle,
-        2,
-        &mut right,
-    )?;
+    let earlier = read_and_write(alloc, first, first_value, 0, &mut left, 1, &mut middle)?;
+    let later = read_and_write(alloc, second, second_value, 1, &mut middle, 2, &mut right)?;
     Ok(SceneEnd {
-        first: first_attempt,
-        second: second_attempt,
+        first: earlier,
+        second: later,
         cells: Cells {
             left,
             middle,
