@@ -19,8 +19,8 @@ break_server-requires-clause-works c =
     let n = c.args.self.now in
     let same : c.from-number.result ≡ c.args.tag = c.from-number.ensures ∙ c.get.ensures.value in
     let l = ltb-true c.args.tag (length n.config.begins) c.requires.heard.actor.there in
-    c.requires.kept.storages_are.work c.args.tag c.index_mut.result.now
-    (server_there n.config n.turns.turns n.storages.items c.requires.kept.storages_are c.args.tag c.from-number.result same l c.index_mut.result.now c.index_mut.ensures.value)
+    c.requires.kept.storages_are.work c.args.tag c.index_mut-server.result.now
+    (server_there n.config n.turns.turns n.storages.items c.requires.kept.storages_are c.args.tag c.from-number.result same l c.index_mut-server.result.now c.index_mut-server.ensures.value)
 
 -- it is the one of what happened, which can break off
 pub break_server-requires-clause-breaks : goal.break_server-requires-clause-breaks
@@ -28,17 +28,17 @@ break_server-requires-clause-breaks c =
     let n = c.args.self.now in
     let same : c.from-number.result ≡ c.args.tag = c.from-number.ensures ∙ c.get.ensures.value in
     let l = ltb-true c.args.tag (length n.config.begins) c.requires.heard.actor.there in
-    let is = c.requires.kept.storages_are.each c.args.tag c.index_mut.result.now
-    (server_there n.config n.turns.turns n.storages.items c.requires.kept.storages_are c.args.tag c.from-number.result same l c.index_mut.result.now c.index_mut.ensures.value) in
+    let is = c.requires.kept.storages_are.each c.args.tag c.index_mut-server.result.now
+    (server_there n.config n.turns.turns n.storages.items c.requires.kept.storages_are c.args.tag c.from-number.result same l c.index_mut-server.result.now c.index_mut-server.ensures.value) in
     subst (λ (s : StorageState). may_break s c.args.from c.args.tell c.args.version ≡ true) (sym is) c.requires.breaks
 
-old : (c : goal.After-push_reserved) → server_of c.index_mut.result.now ≡ nodes.storage_at c.args.self.now.config c.args.self.now.turns.turns c.args.tag
+old : (c : goal.After-push_reserved) → server_of c.index_mut-server.result.now ≡ nodes.storage_at c.args.self.now.config c.args.self.now.turns.turns c.args.tag
 old c =
     let n = c.args.self.now in
     let same : c.from-number.result ≡ c.args.tag = c.from-number.ensures ∙ c.get.ensures.value in
     let l = ltb-true c.args.tag (length n.config.begins) c.requires.heard.actor.there in
-    c.requires.kept.storages_are.each c.args.tag c.index_mut.result.now
-    (server_there n.config n.turns.turns n.storages.items c.requires.kept.storages_are c.args.tag c.from-number.result same l c.index_mut.result.now c.index_mut.ensures.value)
+    c.requires.kept.storages_are.each c.args.tag c.index_mut-server.result.now
+    (server_there n.config n.turns.turns n.storages.items c.requires.kept.storages_are c.args.tag c.from-number.result same l c.index_mut-server.result.now c.index_mut-server.ensures.value)
 
 -- the turn is entered
 later : (c : goal.After-push_reserved) → c.push_reserved.new.self.turns
@@ -66,7 +66,7 @@ stays c =
     let turn = break_turn n.config h c.args.tag c.args.from c.args.tell c.args.version c.requires.heard c.requires.breaks in
     storage_world c.node_laws.ensures n.config h c.push_reserved.new.self.turns c.args.tag c.from-number.result c.args.from c.args.tell (Some c.args.version)
     (fault_of (nodes.storage_at n.config h c.args.tag) c.args.from c.args.tell) n.cells.items n.logs n.sequencers n.proxies n.recoverers n.storages.items
-    c.index_mut.result.now c.break_server.new.server c.requires.kept turn same (old c) c.in_ok-break_server.ensures.state c.in_ok-break_server.ensures.works (later c)
+    c.index_mut-server.result.now c.break_server.new.server c.requires.kept turn same (old c) c.in_ok-break_server.ensures.state c.in_ok-break_server.ensures.works (later c)
 
 pub returns-clause-stays : goal.returns-clause-stays
 returns-clause-stays = stays
