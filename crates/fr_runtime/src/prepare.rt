@@ -25,6 +25,8 @@ fn asked<N: Node + Drop>(
     node: N,
     ask: <N::Plain as Machine>::Ask,
 ) -> Result<N, NodeFault>
+where
+    <N::Plain as Machine>::Tell: Drop,
     requires works { N.is_failed node ≡ false }
     requires free { N.owed node ≡ None }
     ensures works { IfOk result (λ asked. N.is_failed asked ≡ false) }
