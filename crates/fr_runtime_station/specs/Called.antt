@@ -91,11 +91,6 @@ IsCrash C L stamp node result = ⊥
 abbrev pub IsLoss : (L : Type 0) → ℕ → Result ℕ CallFault → Type 0
 IsLoss L stamp result = IsBlow L act.Lost log_steps stamp result
 
--- what a directory answers for a node that it called
-abbrev pub of_called : {T : Type 0} → Result T CallFault → Result T DirectoryFault
-of_called (Ok value) = Ok value
-of_called (Err why) = Err (fault.Call why)
-
 -- why a directory answers nothing: what the node that was called says, if it was called
 abbrev pub IsUncalled : (Result (ℕ × Tell) CallFault → Type 0) → DirectoryFault → Type 0
 IsUncalled Call (fault.Call why) = Call (Err why)
@@ -133,3 +128,22 @@ may_lack p (place.Cell index) = nat_le p.cells index
 may_lack p (place.Log epoch index) = if is_first p epoch then nat_le p.logs index else true
 may_lack p (place.Sequencer epoch) = not (is_first p epoch)
 may_lack p node = false
+
+-- what a directory of these places answers to an ask
+pub record IsAnswered (C L : Type 0) (places : Places) (stamp : ℕ) (from to : NodeId) (a : Ask) (result : Result (ℕ × Tell) DirectoryFault) : Type 0 where
+  pub above : IfOk result (λ got. stamp < got.0)
+  pub told : IfOk result (λ got. IsAnswer a got.1)
+  pub kind : (result ≡ Err fault.NotAsked) ↔ (is_asked_of to a ≡ false)
+  pub there : (result ≡ Err fault.NotThere) → may_lack places to ≡ true
+  pub lacking : must_lack places to ≡ true → is_asked_of to a ≡ true → result ≡ Err fault.NotThere
+  pub called : IfOk result (λ got. IsCall C L stamp from a (Ok got))
+  pub uncalled : IfErr result (IsUncalled (IsCall C L stamp from a))
+
+-- the same of a crash
+pub record IsCrashAnswered (C L : Type 0) (places : Places) (stamp : ℕ) (node : NodeId) (result : Result ℕ DirectoryFault) : Type 0 where
+  pub above : IfOk result (λ at. stamp < at)
+  pub kind : (result ≡ Err fault.NotAsked) ↔ (answers node ≡ false)
+  pub there : (result ≡ Err fault.NotThere) → may_lack places node ≡ true
+  pub lacking : must_lack places node ≡ true → answers node ≡ true → result ≡ Err fault.NotThere
+  pub crashed : IfOk result (λ at. IsCrash C L stamp node (Ok at))
+  pub uncrashed : IfErr result (IsUnstruck (IsCrash C L stamp node))

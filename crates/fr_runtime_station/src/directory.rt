@@ -1,8 +1,9 @@
 //! All nodes that answer asks, where threads find them.
 ghost use Rattle.std.specs.Prelude.{◌≡◌, ◌≢◌, ◌⊎◌, ◌↔◌, ◌≤◌, ◌<◌, ◌+◌, length, map, false, slice_get, IfErr, IfOk, IfSome, None, Ok, Err, Some, true};
+ghost use Rattle.fr_ask.specs.declared.ask.Ask.TheVariants as asked;
 ghost use Rattle.fr_base.specs.declared.place.NodeId.TheVariants as node;
 ghost use Rattle.fr_runtime_station.specs.Answering.{IsAnswer, IsClosingTrouble, all_answer, answers, is_asked_of};
-ghost use Rattle.fr_runtime_station.specs.Called.{IsCall, IsCrash, IsLoss, IsUncalled, IsUnstruck, is_first, may_come, may_lack, must_lack, of_called};
+ghost use Rattle.fr_runtime_station.specs.Called.{IsAnswered, IsCall, IsCrash, IsCrashAnswered, IsLoss, IsUncalled, IsUnstruck, is_first, may_come, may_lack, must_lack};
 ghost use Rattle.fr_runtime_station.specs.Named.{cells_named, logs_named};
 ghost use Rattle.fr_runtime_station.specs.Places.{places_of};
 ghost use Rattle.fr_runtime_station.specs.declared.directory_fault.DirectoryFault.{DirectoryFault};
@@ -16,12 +17,12 @@ use crate::directory_fault::DirectoryFault;
 use crate::epoch_nodes::{EpochNodes, all_to_come};
 use crate::first_nodes::FirstNodes;
 use crate::station::Station;
-use fr_ask::{Ask, Tell};
-use fr_audit_journal::{CallFault, Housed, Journal};
+use fr_ask::{Ask, SeqAsk, Tell};
+use fr_audit_journal::{Housed, Journal};
 use fr_base::{Epoch, InMemory, LogId, Memory, Node, NodeFault, NodeId, Stamp};
-use fr_log::Log;
+use fr_log::{Log, LogAsk};
 use fr_proxy::Sequencer;
-use fr_register::Cell;
+use fr_register::{Cell, CellAsk};
 use fr_state::Generation;
 use std::alloc::Global;
 use std::sync::Wait;
@@ -35,16 +36,6 @@ pub struct Directory<C: Node<Plain = Cell>, L: Node<Plain = Log>> {
     cells: Cells<C>,
     first: FirstNodes<L>,
     later: Vec<EpochNodes<L>>,
-}
-
-/// What the node that was called answers.
-fn told<T>(answer: Result<T, CallFault>) -> Result<T, DirectoryFault>
-    ensures { result ≡ of_called answer }
-{
-    match answer {
-        Ok(value) => Ok(value),
-        Err(fault) => Err(DirectoryFault::Call(fault)),
-    }
 }
 
 impl<C: Node<Plain = Cell> + Drop, L: Node<Plain = Log> + Drop> Directory<C, L> {
@@ -215,28 +206,84 @@ impl<C: Node<Plain = Cell> + Drop, L: Node<Plain = Log> + Drop> Directory<C, L> 
         ensures called { IfOk result (λ got. IsCall C L stamp from ask (Ok got)) }
         ensures uncalled { IfErr result (IsUncalled (IsCall C L stamp from ask)) }
     {
-        match (to, ask) {
-            (NodeId::Cell { index }, Ask::Cell(ask)) => match self.cell(index) {
-                Some(cell) => told(cell.call(rt, alloc, stamp, from, ask)),
-                None => Err(DirectoryFault::NotThere),
+        match ask {
+            Ask::Cell(ask) => self.call_cell(rt, alloc, stamp, from, to, ask),
+            Ask::Log(ask) => self.call_log(rt, alloc, stamp, from, to, ask),
+            Ask::Seq(ask) => self.call_sequencer(rt, alloc, stamp, from, to, ask),
+        }
+    }
+
+    fn call_cell<R: Wait>(
+        &self,
+        rt: &R,
+        alloc: Global,
+        stamp: Stamp,
+        from: NodeId,
+        to: NodeId,
+        ask: CellAsk,
+    ) -> Result<(Stamp, Tell), DirectoryFault>
+        ensures { IsAnswered C L (places_of self.now) stamp from to (asked.Cell ask) result }
+    {
+        let NodeId::Cell { index } = to else {
+            return Err(DirectoryFault::NotAsked);
+        };
+        match self.cell(index) {
+            Some(cell) => match cell.call(rt, alloc, stamp, from, ask) {
+                Ok(got) => Ok(got),
+                Err(fault) => Err(DirectoryFault::Call(fault)),
             },
-            (NodeId::Log { epoch, index }, Ask::Log(ask)) => {
-                match self.log(LogId { epoch, index }) {
-                    Some((log, there)) => {
-                        let given = log.call(rt, alloc, stamp.max(there), from, ask);
-                        if let Ok(got) = &given {
-                            log.wake(&got.1);
-                        }
-                        told(given)
-                    }
-                    None => Err(DirectoryFault::NotThere),
+            None => Err(DirectoryFault::NotThere),
+        }
+    }
+
+    fn call_log<R: Wait>(
+        &self,
+        rt: &R,
+        alloc: Global,
+        stamp: Stamp,
+        from: NodeId,
+        to: NodeId,
+        ask: LogAsk,
+    ) -> Result<(Stamp, Tell), DirectoryFault>
+        ensures { IsAnswered C L (places_of self.now) stamp from to (asked.Log ask) result }
+    {
+        let NodeId::Log { epoch, index } = to else {
+            return Err(DirectoryFault::NotAsked);
+        };
+        match self.log(LogId { epoch, index }) {
+            Some((log, there)) => match log.call(rt, alloc, stamp.max(there), from, ask) {
+                Ok(got) => {
+                    log.wake(&got.1);
+                    Ok(got)
+                }
+                Err(fault) => Err(DirectoryFault::Call(fault)),
+            },
+            None => Err(DirectoryFault::NotThere),
+        }
+    }
+
+    fn call_sequencer<R: Wait>(
+        &self,
+        rt: &R,
+        alloc: Global,
+        stamp: Stamp,
+        from: NodeId,
+        to: NodeId,
+        ask: SeqAsk,
+    ) -> Result<(Stamp, Tell), DirectoryFault>
+        ensures { IsAnswered C L (places_of self.now) stamp from to (asked.Seq ask) result }
+    {
+        let NodeId::Sequencer { epoch } = to else {
+            return Err(DirectoryFault::NotAsked);
+        };
+        match self.sequencer(epoch) {
+            Some((sequencer, there)) => {
+                match sequencer.call(rt, alloc, stamp.max(there), from, ask) {
+                    Ok(got) => Ok(got),
+                    Err(fault) => Err(DirectoryFault::Call(fault)),
                 }
             }
-            (NodeId::Sequencer { epoch }, Ask::Seq(ask)) => match self.sequencer(epoch) {
-                Some((node, there)) => told(node.call(rt, alloc, stamp.max(there), from, ask)),
-                None => Err(DirectoryFault::NotThere),
-            },
-            _ => Err(DirectoryFault::NotAsked),
+            None => Err(DirectoryFault::NotThere),
         }
     }
 
@@ -259,23 +306,69 @@ impl<C: Node<Plain = Cell> + Drop, L: Node<Plain = Log> + Drop> Directory<C, L> 
         ensures uncrashed { IfErr result (IsUnstruck (IsCrash C L stamp node)) }
     {
         match node {
-            NodeId::Cell { index } => match self.cell(index) {
-                Some(cell) => told(cell.crash(rt, alloc, stamp)),
-                None => Err(DirectoryFault::NotThere),
+            NodeId::Cell { index } => self.crash_cell(rt, alloc, stamp, index),
+            NodeId::Log { epoch, index } => {
+                self.crash_log(rt, alloc, stamp, LogId { epoch, index })
+            }
+            NodeId::Sequencer { epoch } => self.crash_sequencer(rt, alloc, stamp, epoch),
+            _ => Err(DirectoryFault::NotAsked),
+        }
+    }
+
+    fn crash_cell<R: Wait>(
+        &self,
+        rt: &R,
+        alloc: Global,
+        stamp: Stamp,
+        index: u8,
+    ) -> Result<Stamp, DirectoryFault>
+        ensures { IsCrashAnswered C L (places_of self.now) stamp (node.Cell index) result }
+    {
+        match self.cell(index) {
+            Some(cell) => match cell.crash(rt, alloc, stamp) {
+                Ok(at) => Ok(at),
+                Err(fault) => Err(DirectoryFault::Call(fault)),
             },
-            NodeId::Log { epoch, index } => match self.log(LogId { epoch, index }) {
-                Some((log, there)) => told(log.crash(rt, alloc, stamp.max(there))),
-                None => Err(DirectoryFault::NotThere),
+            None => Err(DirectoryFault::NotThere),
+        }
+    }
+
+    fn crash_log<R: Wait>(
+        &self,
+        rt: &R,
+        alloc: Global,
+        stamp: Stamp,
+        id: LogId,
+    ) -> Result<Stamp, DirectoryFault>
+        ensures { IsCrashAnswered C L (places_of self.now) stamp (node.Log id.epoch id.index) result }
+    {
+        match self.log(id) {
+            Some((log, there)) => match log.crash(rt, alloc, stamp.max(there)) {
+                Ok(at) => Ok(at),
+                Err(fault) => Err(DirectoryFault::Call(fault)),
             },
-            NodeId::Sequencer { epoch } => match self.sequencer(epoch) {
-                Some((sequencer, there)) => {
-                    let at = told(sequencer.crash(rt, alloc, stamp.max(there)))?;
+            None => Err(DirectoryFault::NotThere),
+        }
+    }
+
+    fn crash_sequencer<R: Wait>(
+        &self,
+        rt: &R,
+        alloc: Global,
+        stamp: Stamp,
+        epoch: Epoch,
+    ) -> Result<Stamp, DirectoryFault>
+        ensures { IsCrashAnswered C L (places_of self.now) stamp (node.Sequencer epoch) result }
+    {
+        match self.sequencer(epoch) {
+            Some((sequencer, there)) => match sequencer.crash(rt, alloc, stamp.max(there)) {
+                Ok(at) => {
                     self.let_go(epoch);
                     Ok(at)
                 }
-                None => Err(DirectoryFault::NotThere),
+                Err(fault) => Err(DirectoryFault::Call(fault)),
             },
-            _ => Err(DirectoryFault::NotAsked),
+            None => Err(DirectoryFault::NotThere),
         }
     }
 
@@ -298,11 +391,13 @@ impl<C: Node<Plain = Cell> + Drop, L: Node<Plain = Log> + Drop> Directory<C, L> 
         ensures unlost { IfErr result (IsUnstruck (IsLoss L stamp)) }
     {
         match self.log(id) {
-            Some((log, there)) => {
-                let at = told(log.lose(rt, alloc, stamp.max(there)))?;
-                log.let_go();
-                Ok(at)
-            }
+            Some((log, there)) => match log.lose(rt, alloc, stamp.max(there)) {
+                Ok(at) => {
+                    log.let_go();
+                    Ok(at)
+                }
+                Err(fault) => Err(DirectoryFault::Call(fault)),
+            },
             None => Err(DirectoryFault::NotThere),
         }
     }
