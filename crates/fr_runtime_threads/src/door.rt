@@ -287,17 +287,13 @@ impl Hearer for Door {
     ghost use Rattle.std.specs.Prelude.{None};
     ghost use Rattle.fr_runtime_threads.specs.Account.{account};
 
-    ghost node = { λ d. d.notes.journal.node };
+    ghost notes = { λ d. d.notes };
 
     ghost shape = { λ d. None };
 
     ghost given = { λ d. (account d.notes.journal.entries).given };
 
     ghost told = { λ d. d.told.items };
-
-    ghost entries = { λ d. d.notes.journal.entries };
-
-    ghost seen = { λ d. d.notes.seen };
 
     fn notes(&self) -> &Notes {
         &self.notes

@@ -34,17 +34,13 @@ struct Puller<S: ShardStore> {
 impl<S: ShardStore> Hearer for Puller<S> {
     ghost use Rattle.std.specs.Prelude.{[], None};
 
-    ghost node = { λ p. p.notes.journal.node };
+    ghost notes = { λ p. p.notes };
 
     ghost shape = { λ p. None };
 
     ghost given = { λ p. [] };
 
     ghost told = { λ p. [] };
-
-    ghost entries = { λ p. p.notes.journal.entries };
-
-    ghost seen = { λ p. p.notes.seen };
 
     fn notes(&self) -> &Notes {
         &self.notes

@@ -35,17 +35,13 @@ struct Recovery {
 impl Hearer for Recovery {
     ghost use Rattle.std.specs.Prelude.{[]};
 
-    ghost node = { λ r. r.notes.journal.node };
+    ghost notes = { λ r. r.notes };
 
     ghost shape = { λ r. r.shape };
 
     ghost given = { λ r. [] };
 
     ghost told = { λ r. [] };
-
-    ghost entries = { λ r. r.notes.journal.entries };
-
-    ghost seen = { λ r. r.notes.seen };
 
     fn notes(&self) -> &Notes {
         &self.notes
@@ -245,7 +241,7 @@ fn take_turns<K: Rack, F: Faults, R: Wait>(
     let mut late = Late::new(site.alloc);
     let mut shown = Shown::Nothing;
     for turn in from..=turns {
-        if site.faults.ends(recovery.place(), turn) {
+        if site.faults.ends(recovery.notes().place(), turn) {
             recovery.crash()?;
             return Ok(false);
         }
