@@ -4,15 +4,13 @@ use Rattle.fr_register.specs.CellState.{CellState}
 use Rattle.fr_register.specs.Tally.{progress_of}
 use Rattle.fr_register.specs.declared.poll.Progress.{Progress}
 use Rattle.example_ballots.specs.declared.phases.ReadOutcome.{ReadOutcome}
+use Rattle.example_ballots.specs.declared.scenes.Attempt.{Attempt}
 use Rattle.example_ballots.specs.Phase.{after_read, after_write, read_of_two, write_of_two, found_by}
-
--- a cell that holds this value under a ballot and then promised another
-abbrev pub promised_over : ℕ → List ℕ → ℕ → CellState
-promised_over b x c = record { promised = c; written = b; value = x }
+use Rattle.example_ballots.specs.Scene.{after_attempt, attempt_of}
 
 -- a cell that promised this ballot and was never written
 abbrev pub promised : ℕ → CellState
-promised b = promised_over 0 [] b
+promised b = record { promised = b; written = 0; value = [] }
 
 pub read_cell : (b n : ℕ) (c s d : CellState) → b ≡ n → c ≡ s → d ≡ after_read c b → d ≡ after_read s n
 read_cell b n c s d e k h = h ∙ (ap (λ u. after_read c u) e ∙ ap (λ u. after_read u n) k)
@@ -29,3 +27,11 @@ pub write_came_to : (b n i j : ℕ) (x : List ℕ) (c s d t : CellState) (p : Pr
     p ≡ progress_of (write_of_two b x i c j d).poll → p ≡ progress_of (write_of_two n x i s j t).poll
 write_came_to b n i j x c s d t p e k m h =
     h ∙ (ap (λ u. progress_of (write_of_two u x i c j d).poll) e ∙ (ap (λ u. progress_of (write_of_two n x i u j d).poll) k ∙ ap (λ u. progress_of (write_of_two n x i s j u).poll) m))
+
+pub attempted_cell : (b n : ℕ) (x : List ℕ) (c s d : CellState) → b ≡ n → c ≡ s → d ≡ after_attempt c b x → d ≡ after_attempt s n x
+attempted_cell b n x c s d e k h = h ∙ (ap (λ u. after_attempt c u x) e ∙ ap (λ u. after_attempt u n x) k)
+
+pub attempted : (b n i j : ℕ) (x : List ℕ) (c s d t : CellState) (a : Attempt) → b ≡ n → c ≡ s → d ≡ t →
+    a ≡ attempt_of b x i c j d → a ≡ attempt_of n x i s j t
+attempted b n i j x c s d t a e k m h =
+    h ∙ (ap (λ u. attempt_of u x i c j d) e ∙ (ap (λ u. attempt_of n x i u j d) k ∙ ap (λ u. attempt_of n x i s j u) m))

@@ -3,6 +3,8 @@ use Rattle.std.specs.Prelude.{ℕ, List, []}
 use Rattle.fr_register.specs.CellState.{CellState}
 use Rattle.fr_register.specs.declared.poll.Progress.{Progress}
 use Rattle.fr_register.specs.declared.poll.Progress.TheVariants.{Majority}
+use Rattle.fr_register.specs.Tally.{progress_of}
+use Rattle.example_ballots.specs.Phase.{after_read, after_write, found_by, read_of_two, write_of_two}
 use Rattle.example_ballots.specs.declared.phases.ReadOutcome.{ReadOutcome}
 use Rattle.example_ballots.specs.declared.scenes.Attempt.{Attempt}
 
@@ -21,3 +23,11 @@ attempt f p = record { found = f; wrote = p }
 -- a cell whose last ask was the write of this value under this ballot
 abbrev pub held : ℕ → List ℕ → CellState
 held b x = record { promised = b; written = b; value = x }
+
+-- a ballot that reads two of three cells and then writes a value to them
+abbrev pub attempt_of : ℕ → List ℕ → ℕ → CellState → ℕ → CellState → Attempt
+attempt_of b x i c j d = attempt (found_by (read_of_two b i c j d)) (progress_of (write_of_two b x i (after_read c b) j (after_read d b)).poll)
+
+-- a cell after the read of a ballot and then its write of a value
+abbrev pub after_attempt : CellState → ℕ → List ℕ → CellState
+after_attempt c b x = after_write (after_read c b) b x

@@ -67,7 +67,7 @@ pub fn read_two(
     ask_read(alloc, ballot, other_index, other, &mut tally)?;
     let (written, value) = tally.greatest();
     Ok(ReadOutcome {
-        progress: tally.progress(),
+        progress: tally.poll().progress(),
         written,
         value: value.copy()?,
     })
@@ -90,5 +90,5 @@ pub fn write_two(
     let mut tally = WriteTally::new(alloc, 3, ballot);
     ask_write(alloc, ballot, value, one_index, one, &mut tally)?;
     ask_write(alloc, ballot, value, other_index, other, &mut tally)?;
-    Ok(tally.progress())
+    Ok(tally.poll().progress())
 }

@@ -42,31 +42,15 @@ pub fn run_audit<R: Read, W: Write>(
     ensures unwritten { (result ≡ Err CliFault.BadScript) ⊎ (result ≡ Err CliFault.Input)
         → writer.new ≡ writer.old }
 {
-    let judged = run_audit_explained(alloc, reader, writer)?;
+    let mut calls = CallCounts::new();
+    let judged = audit_counted(alloc, &mut calls, &mut String::new(alloc), reader, writer)?;
     Ok(judged.status)
 }
 
 /// As [`run_audit`], and says what a fault is: the entry or the node, what its journal says and what the rules say
-/// there. Of a run nothing is said.
-pub fn run_audit_explained<R: Read, W: Write>(
-    alloc: Global,
-    reader: &mut R,
-    writer: &mut W,
-) -> Result<Judged, CliFault>
-    ensures line { IfOk result (λ judged. (c : history.Config) × (js : List JournalState)
-        × (judged.status ≡ status_of (audited c js))
-        × Appends (W.contents writer.old) (W.contents writer.new) (line_of (audited c js))) }
-    ensures unwritten { (result ≡ Err CliFault.BadScript) ⊎ (result ≡ Err CliFault.Input)
-        → writer.new ≡ writer.old }
-    ensures unsaid { IfOk result (λ judged. judged.status ≡ 0 → judged.why ≡ None) }
-{
-    let mut calls = CallCounts::new();
-    audit_counted(alloc, &mut calls, &mut String::new(alloc), reader, writer)
-}
-
-/// As [`run_audit_explained`], with the calls of the reader and of the writer counted in `calls`, which has none yet.
-/// `Input` is answered only if a read failed or 2^30 of them found no end, `Output` only if a write or a flush failed.
-/// Of a bad script `place` says where it is bad.
+/// there. Of a run nothing is said. The calls of the reader and of the writer are counted in `calls`, which has none
+/// yet. `Input` is answered only if a read failed or 2^30 of them found no end, `Output` only if a write or a flush
+/// failed. Of a bad script `place` says where it is bad.
 pub fn audit_counted<R: Read, W: Write>(
     alloc: Global,
     calls: &mut CallCounts,

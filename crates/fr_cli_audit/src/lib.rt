@@ -7,6 +7,6 @@ mod differing;
 mod explained;
 mod lines;
 
-pub use audits::{Judged, audit_counted, run_audit, run_audit_explained};
+pub use audits::{Judged, audit_counted, run_audit};
 pub use explained::finding_text;
 pub use lines::fault_text;

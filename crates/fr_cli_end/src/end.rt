@@ -26,8 +26,7 @@ pub fn run_end<R: Read, W: Write>(
     ensures prints { Prints replies_of (lines_of options.logs options.degree) (R.remaining reader.old) (R.remaining reader.new)
         W.contents writer.old writer.new result }
 {
-    let mut calls = CallCounts::new();
-    end_counted(alloc, options, &mut calls, reader, writer)
+    end_counted(alloc, options, &mut CallCounts::new(), reader, writer)
 }
 
 /// As [`run_end`], with the calls of the reader and of the writer counted in `calls`, which has none yet. `Input` is

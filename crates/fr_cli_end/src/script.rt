@@ -5,6 +5,7 @@ ghost use Rattle.fr_cli_end.specs.Script.{replies_of};
 use crate::{tokens, tree};
 use fr_cli_json::CliFault;
 use fr_cli_json::tokens::Unread;
+use fr_cli_json::tree::read_value;
 use fr_epoch::Reply;
 use std::alloc::Global;
 
@@ -18,6 +19,7 @@ pub(crate) fn read_script(alloc: Global, input: Vec<u8>) -> Result<Vec<Reply>, C
     match tokens::read_script(alloc, input.as_slice()) {
         Ok(replies) => Ok(replies),
         Err(Unread::Memory) => Err(CliFault::Memory),
-        Err(Unread::Unusual) => tree::read_script(alloc, input),
+        // The input is let go before the replies are made.
+        Err(Unread::Unusual) => tree::read_replies(alloc, read_value(alloc, input)?),
     }
 }

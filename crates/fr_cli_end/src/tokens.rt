@@ -1,7 +1,7 @@
 //! The script of `end`, read from the tokens of its text.
 ghost use Rattle.std.specs.Prelude.{◌≡◌, ◌<◌, ℕ, length, Some, IfOk, OnOk};
 ghost use Rattle.fr_cli_json.specs.Tokens.{Gives};
-ghost use Rattle.fr_cli_end.specs.Script.{index_of, reply_of, replies_in, replies_from, replies_of};
+ghost use Rattle.fr_cli_end.specs.Script.{index_of, reply_of, replies_in, replies_of};
 
 use fr_cli_json::tokens::{
     Unread, close_object, open_array, open_object, read_number, read_version, take_key,
@@ -10,7 +10,7 @@ use fr_epoch::Reply;
 use json::{Reader, Scratch};
 use std::alloc::Global;
 
-/// Reads the script that an input is, if it has the usual form.
+/// Reads the script that an input is, if it has the usual form: an object of the member `replies` alone.
 pub(crate) fn read_script(alloc: Global, input: &[u8]) -> Result<Vec<Reply>, Unread>
     ensures { IfOk result (λ replies. replies_of input.now ≡ Some replies.items) }
 {
@@ -19,22 +19,14 @@ pub(crate) fn read_script(alloc: Global, input: &[u8]) -> Result<Vec<Reply>, Unr
     };
     let mut scratch = Scratch::new(alloc);
     let mut reader = Reader::new(text, &mut scratch)?;
-    let replies = read_whole(alloc, &mut reader)?;
+    open_object(&mut reader)?;
+    take_key(&mut reader, "replies")?;
+    let replies = read_replies(alloc, &mut reader)?;
+    close_object(&mut reader)?;
     match reader.next() {
         None => Ok(replies),
         Some(_) => Err(Unread::Unusual),
     }
-}
-
-/// Reads an object of the member `replies` alone.
-fn read_whole(alloc: Global, reader: &mut Reader<'_>) -> Result<Vec<Reply>, Unread>
-    ensures { IfOk result (λ replies. Gives replies_from 127 reader.old replies.items reader.new) }
-{
-    open_object(reader)?;
-    take_key(reader, "replies")?;
-    let replies = read_replies(alloc, reader)?;
-    close_object(reader)?;
-    Ok(replies)
 }
 
 /// Reads a list of replies.

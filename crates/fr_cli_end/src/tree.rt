@@ -1,26 +1,16 @@
 //! The script of `end`, read from the tree of its JSON.
 ghost use Rattle.std.specs.Prelude.{◌≡◌, ◌⊎◌, Err, None, Some, IfOk, IfErr};
 ghost use Rattle.serde_json.specs.View.{view};
-ghost use Rattle.fr_cli_end.specs.Script.{index_of, reply_of, replies_from, replies_of};
+ghost use Rattle.fr_cli_end.specs.Script.{index_of, reply_of, replies_from};
 
 use fr_cli_json::CliFault;
-use fr_cli_json::tree::{into_items, read_value, read_version, take_member};
+use fr_cli_json::tree::{into_items, read_version, take_member};
 use fr_epoch::Reply;
 use serde_json::Value;
 use std::alloc::Global;
 
-/// Reads the script that an input is. The input is let go before the replies are made.
-pub(crate) fn read_script(alloc: Global, input: Vec<u8>) -> Result<Vec<Reply>, CliFault>
-    ensures ok { IfOk result (λ replies. replies_of input.items ≡ Some replies.items) }
-    ensures bad { result ≡ Err CliFault.BadScript → replies_of input.items ≡ None }
-    ensures fault { IfErr result (λ e. (e ≡ CliFault.BadScript) ⊎ (e ≡ CliFault.Memory)) }
-{
-    let value = read_value(alloc, input)?;
-    read_replies(alloc, value)
-}
-
 /// Reads the replies of a script, and lets go of each item once it is read.
-fn read_replies(alloc: Global, mut script: Value) -> Result<Vec<Reply>, CliFault>
+pub(crate) fn read_replies(alloc: Global, mut script: Value) -> Result<Vec<Reply>, CliFault>
     ensures ok { IfOk result (λ replies. replies_from (view script) ≡ Some replies.items) }
     ensures bad { result ≡ Err CliFault.BadScript → replies_from (view script) ≡ None }
     ensures fault { IfErr result (λ e. (e ≡ CliFault.BadScript) ⊎ (e ≡ CliFault.Memory)) }

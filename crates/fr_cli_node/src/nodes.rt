@@ -176,7 +176,7 @@ fn serve_cell<R: Read, W: Write>(
     writer: &mut W,
 ) -> Result<(), NodeEnd> {
     let node = InMemory::new(cell);
-    let mut cell = Passive::new(alloc, node, NodeId::Cell { index });
+    let mut cell = Passive::new(alloc, node, NodeId::Cell { index }, false);
     serve(alloc, MAX_LINE, &mut cell, reader, writer)
 }
 
@@ -208,7 +208,7 @@ fn log_in_memory<R: Read, W: Write>(
         fresh_log(alloc, epoch, index, &words.shape)?
     };
     let place = NodeId::Log { epoch, index };
-    let mut log = Passive::new(alloc, InMemory::new(log), place);
+    let mut log = Passive::new(alloc, InMemory::new(log), place, false);
     serve(alloc, MAX_LINE, &mut log, reader, writer)
 }
 
@@ -315,7 +315,7 @@ where
     requires stays { ends_by_crash place ≡ false }
     requires works { N.is_failed node ≡ false }
 {
-    let mut served = Passive::over_files(alloc, node, place);
+    let mut served = Passive::new(alloc, node, place, true);
     serve(alloc, MAX_LINE, &mut served, reader, writer)
 }
 
@@ -327,7 +327,7 @@ fn serve_sequencer<R: Read, W: Write>(
     writer: &mut W,
 ) -> Result<(), NodeEnd> {
     let node = InMemory::new(Sequencer::new(alloc, epoch, last));
-    let mut sequencer = Passive::new(alloc, node, NodeId::Sequencer { epoch });
+    let mut sequencer = Passive::new(alloc, node, NodeId::Sequencer { epoch }, false);
     serve(alloc, MAX_LINE, &mut sequencer, reader, writer)
 }
 

@@ -12,7 +12,7 @@ use crate::standing::Draft;
 use fr_ask::Ask;
 use fr_base::{Ballot, Epoch, LogId, Memory, NodeId, Tag, Version};
 use fr_log::{LogAsk, Most, Push};
-use fr_register::{CellAsk, CellValue, ReadTally, WriteTally};
+use fr_register::{CellAsk, CellPoll, CellValue, ReadTally, WriteTally};
 use fr_state::{CoordState, Generation, encode};
 use fr_tags::{MAX_SHARDS, is_held, tag_at};
 use fr_tail::Tail;
@@ -26,24 +26,13 @@ pub(crate) fn reads(
 ) -> Result<Vec<(NodeId, Ask)>, Memory>
     ensures { IfOk result (λ asks. asks.items ≡ map (read_ask ballot) (unheard tally.now.poll)) }
 {
-    let cells = unread(alloc, tally)?;
+    let cells = silent(alloc, tally.poll())?;
     let mut asks = Vec::with_capacity(alloc, cells.len())?;
     for index in cells.as_slice() {
         let to = NodeId::Cell { index: *index };
         asks.push((to, Ask::Cell(CellAsk::Read { ballot })))?;
     }
     Ok(asks)
-}
-
-/// The cells that were not heard to promise.
-fn unread(alloc: Global, tally: &ReadTally) -> Result<Vec<u8>, Memory>
-    ensures { IfOk result (λ cells. cells.items ≡ unheard tally.now.poll) }
-{
-    Ok(
-        (0..tally.cells())
-            .filter(|index| !tally.has_heard(*index))
-            .collect(alloc)?,
-    )
 }
 
 /// The locks of the logs that did not reply.
@@ -117,7 +106,7 @@ pub(crate) fn writes(
     ensures { IfOk result (λ asks. asks.items ≡ map (write_ask ballot (spelling state.now)) (unheard tally.now.poll)) }
 {
     let value = value_of(alloc, state)?;
-    let cells = unwritten(alloc, tally)?;
+    let cells = silent(alloc, tally.poll())?;
     writes_to(alloc, ballot, &value, cells.as_slice())
 }
 
@@ -142,13 +131,13 @@ fn writes_to(
     Ok(asks)
 }
 
-/// The cells that are not known to hold the write.
-fn unwritten(alloc: Global, tally: &WriteTally) -> Result<Vec<u8>, Memory>
-    ensures { IfOk result (λ cells. cells.items ≡ unheard tally.now.poll) }
+/// The cells that were not heard.
+fn silent(alloc: Global, poll: &CellPoll) -> Result<Vec<u8>, Memory>
+    ensures { IfOk result (λ cells. cells.items ≡ unheard poll.now) }
 {
     Ok(
-        (0..tally.cells())
-            .filter(|index| !tally.has_heard(*index))
+        (0..poll.cells())
+            .filter(|index| !poll.has_heard(*index))
             .collect(alloc)?,
     )
 }

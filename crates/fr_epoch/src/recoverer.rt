@@ -143,7 +143,7 @@ impl Recoverer {
     pub fn coordinators(&self) -> u8
         ensures { result ≡ self.now.reads.poll.cells }
     {
-        self.standing.reads.cells()
+        self.standing.reads.poll().cells()
     }
 
     /// How the keys are cut into shards.

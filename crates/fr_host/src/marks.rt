@@ -1,5 +1,5 @@
 //! Bytes, and of each whether it is kept, in lists that have room.
-ghost use Rattle.std.specs.Prelude.{◌≡◌, ◌⊎◌, ◌+◌, ◌<◌, ◌≤◌, max, false, true, length, get_or, IfOk};
+ghost use Rattle.std.specs.Prelude.{◌≡◌, ◌⊎◌, ◌+◌, ◌-◌, ◌<◌, ◌≤◌, ◌++◌, max, false, true, length, get_or, replicate, IfOk};
 ghost use Rattle.std.specs.Vec.{vec_capacity};
 ghost use Rattle.sqlite_disk.specs.Disk.{Holds};
 ghost use Rattle.fr_record.specs.Disk.{written};
@@ -19,6 +19,21 @@ pub(crate) fn all_kept(alloc: Global, len: usize, capacity: usize) -> Result<Vec
     Ok(marks)
 }
 
+/// Sees that a list that has room for them has so many items.
+fn lengthen<T: Copy>(list: &mut Vec<T>, len: usize, value: T)
+    requires { len ≤ vec_capacity list.old }
+    ensures len { length list.new.items ≡ max (length list.old.items) len }
+    ensures items { list.new.items ≡ list.old.items ++ replicate (len - length list.old.items) value }
+    ensures capacity { vec_capacity list.old ≤ vec_capacity list.new }
+{
+    if list.len() < len {
+        match list.resize(len, value) {
+            Ok(()) => {}
+            Err(_) => unreachable!(),
+        }
+    }
+}
+
 /// Writes bytes over those from a place on, and past the end.
 pub(crate) fn overwrite(bytes: &mut Vec<u8>, at: usize, new: &[u8])
     requires within { at ≤ length bytes.old.items }
@@ -30,16 +45,9 @@ pub(crate) fn overwrite(bytes: &mut Vec<u8>, at: usize, new: &[u8])
         → get_or bytes.new.items i 0 ≡ get_or bytes.old.items i 0 }
     ensures capacity { vec_capacity bytes.old ≤ vec_capacity bytes.new }
 {
-    let kept = bytes.len() - at;
-    if kept < new.len() {
-        bytes.truncate(at);
-        match bytes.extend_from_slice(new) {
-            Ok(()) => {}
-            Err(_) => unreachable!(),
-        }
-    } else {
-        bytes[at..at + new.len()].copy_from_slice(new);
-    }
+    let end = at + new.len();
+    lengthen(bytes, end, 0);
+    bytes[at..end].copy_from_slice(new);
 }
 
 /// Marks `n` places from one on, and past the end, as not kept.
@@ -51,16 +59,8 @@ pub(crate) fn mark(marks: &mut Vec<bool>, at: usize, n: usize)
     ensures outside { (i : _) → (i < at) ⊎ (at + n ≤ i) → get_or marks.new.items i false ≡ get_or marks.old.items i false }
     ensures capacity { vec_capacity marks.old ≤ vec_capacity marks.new }
 {
-    let kept = marks.len() - at;
-    if kept < n {
-        marks.truncate(at);
-        match marks.resize(at + n, false) {
-            Ok(()) => {}
-            Err(_) => unreachable!(),
-        }
-    } else {
-        marks[at..at + n].fill(false);
-    }
+    lengthen(marks, at + n, false);
+    marks[at..at + n].fill(false);
 }
 
 /// Marks all places from one on as kept.

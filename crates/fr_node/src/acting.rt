@@ -3,7 +3,7 @@ ghost use Rattle.std.specs.Prelude.{◌≡◌, ◌++◌, true, IfOk, OnOk};
 ghost use Rattle.fr_node.specs.Turns.{IfCrashed, IfRefused, IsBack, IsTaken, Refuses, RefusesRead, UnlessCrashed};
 
 use crate::fault::NodeTurnFault;
-use crate::turn::{Hearing, Newest, NodeTurn};
+use crate::turn::{Hearing, NodeTurn, Round};
 use crate::wants::Wants;
 use fr_ask::Last;
 use fr_audit_journal::Entry;
@@ -52,6 +52,10 @@ pub trait Acting {
 
     /// Why such a node may be unable to go on.
     ghost CanCrash: { Crash → Type 0 };
+
+    /// Whether each turn is answered with what the node then asks. So it is of a proxy and of a recoverer, whose asks
+    /// follow from what they heard.
+    const TELLS_WANTS: bool = false;
 
     /// The node.
     fn place(&self) -> NodeId
@@ -115,18 +119,9 @@ pub trait Acting {
         ensures refused { RefusesRead (read_refusal self.old key.now version) result }
         ensures crashed { IfCrashed result CanCrash };
 
-    /// Whether each turn is answered with what the node then asks. So it is of a proxy and of a recoverer, whose asks
-    /// follow from what they heard.
-    fn tells_wants(&self) -> bool;
-
-    /// What it asks in a turn, with the newest epoch whose logs it may ask for their mark.
-    fn wants(
-        &self,
-        alloc: Global,
-        turn: u32,
-        newest: Option<Newest>,
-    ) -> Result<Wants, NodeTurnFault>
-        ensures asks { IfOk result (λ asks. asks ≡ wanted self.now turn newest) }
+    /// What it asks in a round.
+    fn wants(&self, alloc: Global, round: Round) -> Result<Wants, NodeTurnFault>
+        ensures asks { IfOk result (λ asks. asks ≡ wanted self.now round.turn round.newest) }
         ensures crashed { IfCrashed result CanCrash }
         ensures never_refused { IfRefused result ⊥ };
 }

@@ -26,5 +26,5 @@ pub use recoverers::RecovererNode;
 pub use reply::{NodeReply, NodeRequest, answer};
 pub use stamps::stamp_above;
 pub use storages::StorageNode;
-pub use turn::{Hearing, Kind, Newest, NodeTurn};
+pub use turn::{Hearing, Kind, Newest, NodeTurn, Round};
 pub use wants::Wants;

@@ -10,7 +10,7 @@ use crate::acting::Acting;
 use crate::answering::Answering;
 use crate::fault::{NodeTurnFault, TurnRefusal};
 use crate::stamps::stamp_above;
-use crate::turn::{Hearing, Newest, NodeTurn};
+use crate::turn::{Hearing, NodeTurn, Round};
 use crate::wants::Wants;
 use fr_ask::{Last, Named};
 use fr_audit_journal::{Act, Entry, Housable, Journal};
@@ -54,38 +54,22 @@ where
     N::Plain: Answering,
     <N::Plain as Machine>::Ask: Drop,
 {
-    /// A node in memory that did nothing yet. It ends with its process.
-    pub fn new(alloc: Global, node: N, id: NodeId) -> Self
+    /// A node that did nothing yet in this process. With files it outlasts the process, as a cell and a log may; in
+    /// memory it ends with it.
+    pub fn new(alloc: Global, node: N, id: NodeId, has_files: bool) -> Self
+        requires stays { has_files ≡ true → ends_by_crash id ≡ false }
         ensures node { result.node ≡ node }
         ensures place { result.place ≡ id }
         ensures first { result.first ≡ N.state node }
         ensures entries { result.entries ≡ [] }
-        ensures has_files { result.has_files ≡ false }
+        ensures has_files { result.has_files ≡ has_files }
     {
         let first = Snapshot::of(node.plain());
         Passive {
             node,
             journal: Journal::new(alloc, id),
             first,
-            has_files: false,
-        }
-    }
-
-    /// A node that did nothing yet in this process, over files that outlast it: a cell or a log.
-    pub fn over_files(alloc: Global, node: N, id: NodeId) -> Self
-        requires stays { ends_by_crash id ≡ false }
-        ensures node { result.node ≡ node }
-        ensures place { result.place ≡ id }
-        ensures first { result.first ≡ N.state node }
-        ensures entries { result.entries ≡ [] }
-        ensures has_files { result.has_files ≡ true }
-    {
-        let first = Snapshot::of(node.plain());
-        Passive {
-            node,
-            journal: Journal::new(alloc, id),
-            first,
-            has_files: true,
+            has_files,
         }
     }
 
@@ -233,16 +217,7 @@ where
         Err(NodeTurnFault::Refused(TurnRefusal::NotTaken))
     }
 
-    fn tells_wants(&self) -> bool {
-        false
-    }
-
-    fn wants(
-        &self,
-        alloc: Global,
-        _turn: u32,
-        _newest: Option<Newest>,
-    ) -> Result<Wants, NodeTurnFault> {
+    fn wants(&self, alloc: Global, _round: Round) -> Result<Wants, NodeTurnFault> {
         Ok(Wants::none(alloc))
     }
 }

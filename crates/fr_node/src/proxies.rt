@@ -7,7 +7,7 @@ ghost use Rattle.fr_node.specs.Steps.{ProxyStep};
 ghost use Rattle.fr_node.specs.declared.turn.NodeTurn.{NodeTurn};
 ghost use Rattle.fr_node.specs.Turns.{IfCrashed, IfRefused, IsTaken, Refuses};
 
-use crate::{Acting, Hearing, Newest, NodeTurn, NodeTurnFault, TurnRefusal, Wants, stamp_above};
+use crate::{Acting, Hearing, NodeTurn, NodeTurnFault, Round, TurnRefusal, Wants, stamp_above};
 use fr_ask::{Last, Tell};
 use fr_audit_journal::{Act, Entry, Journal};
 use fr_base::{Bytes, NodeId, Stamp, Step, Version};
@@ -160,6 +160,8 @@ impl Acting for ProxyNode {
 
     ghost CanCrash = { IsMemory };
 
+    const TELLS_WANTS: bool = true;
+
     fn place(&self) -> NodeId {
         self.journal.node()
     }
@@ -195,16 +197,7 @@ impl Acting for ProxyNode {
         Err(NodeTurnFault::Refused(TurnRefusal::NotTaken))
     }
 
-    fn tells_wants(&self) -> bool {
-        true
-    }
-
-    fn wants(
-        &self,
-        alloc: Global,
-        _turn: u32,
-        _newest: Option<Newest>,
-    ) -> Result<Wants, NodeTurnFault> {
+    fn wants(&self, alloc: Global, _round: Round) -> Result<Wants, NodeTurnFault> {
         Ok(Wants::from_vec(self.proxy.pending(alloc)?))
     }
 }

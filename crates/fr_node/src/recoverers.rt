@@ -1,5 +1,6 @@
 //! Recoverers, each with its journal.
 ghost use Rattle.std.specs.Prelude.{◌≡◌, [], false, IfOk};
+ghost use Rattle.fr_audit_journal.specs.declared.act.Act.{Act};
 ghost use Rattle.fr_base.specs.declared.place.NodeId.{NodeId};
 ghost use Rattle.fr_node.specs.Leads.{LeadsTo};
 ghost use Rattle.fr_node.specs.Nodes.{IsMemory, recoverer_refusal};
@@ -7,7 +8,7 @@ ghost use Rattle.fr_node.specs.Steps.{RecStep};
 ghost use Rattle.fr_node.specs.declared.turn.NodeTurn.{NodeTurn};
 ghost use Rattle.fr_node.specs.Turns.{IfCrashed, IfRefused, IsTaken, Refuses};
 
-use crate::{Acting, Hearing, Newest, NodeTurn, NodeTurnFault, TurnRefusal, Wants, stamp_above};
+use crate::{Acting, Hearing, NodeTurn, NodeTurnFault, Round, TurnRefusal, Wants, stamp_above};
 use fr_ask::{Last, Tell};
 use fr_audit_journal::{Act, Entry, Journal};
 use fr_base::{Bytes, NodeId, Shape, Stamp, Version};
@@ -92,15 +93,10 @@ impl RecovererNode {
         let Some(stamp) = stamp_above(&self.journal, at) else {
             return Err(NodeTurnFault::Refused(TurnRefusal::StampsSpent));
         };
-        let entry = Entry {
-            stamp,
-            act: Act::Begun { shape: self.shape },
-        };
-        let answered = entry.copy()?;
         self.journal.reserve()?;
         self.has_begun = true;
-        self.journal.push_reserved(entry);
-        Ok(answered)
+        self.journal.push_reserved(begun_at(stamp, self.shape));
+        Ok(begun_at(stamp, self.shape))
     }
 
     /// Hears what a node told it, and enters that.
@@ -141,6 +137,16 @@ impl RecovererNode {
     }
 }
 
+/// The entry of a recoverer that began.
+fn begun_at(stamp: Stamp, shape: Option<Shape>) -> Entry
+    ensures { result ≡ record { stamp = stamp; act = Act.Begun shape } }
+{
+    Entry {
+        stamp,
+        act: Act::Begun { shape },
+    }
+}
+
 impl Acting for RecovererNode {
     ghost use Rattle.fr_node.specs.declared.fault.TurnRefusal.TheVariants as refusal;
     ghost use Rattle.std.specs.Prelude.{true, None, Some, [], if◌then◌else◌};
@@ -167,6 +173,8 @@ impl Acting for RecovererNode {
     ghost read_refusal = { λ node key version. Some refusal.NotTaken };
 
     ghost CanCrash = { IsMemory };
+
+    const TELLS_WANTS: bool = true;
 
     fn place(&self) -> NodeId {
         self.journal.node()
@@ -203,16 +211,7 @@ impl Acting for RecovererNode {
         Err(NodeTurnFault::Refused(TurnRefusal::NotTaken))
     }
 
-    fn tells_wants(&self) -> bool {
-        true
-    }
-
-    fn wants(
-        &self,
-        alloc: Global,
-        _turn: u32,
-        _newest: Option<Newest>,
-    ) -> Result<Wants, NodeTurnFault> {
+    fn wants(&self, alloc: Global, _round: Round) -> Result<Wants, NodeTurnFault> {
         if self.has_begun {
             Ok(Wants::from_vec(self.recoverer.pending(alloc)?))
         } else {

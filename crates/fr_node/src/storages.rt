@@ -16,7 +16,7 @@ use crate::begun::part_of;
 use crate::pulls::asks_at;
 use crate::reads::{end_of, last_said, value_said};
 use crate::{
-    Acting, Crash, Hearing, Newest, NodeTurn, NodeTurnFault, TurnRefusal, Wants, crash_at,
+    Acting, Crash, Hearing, NodeTurn, NodeTurnFault, Round, TurnRefusal, Wants, crash_at,
     stamp_above,
 };
 use fr_ask::{Last, Tell};
@@ -330,16 +330,7 @@ impl<S: ShardStore> Acting for StorageNode<S> {
         self.value_at(alloc, key, version)
     }
 
-    fn tells_wants(&self) -> bool {
-        false
-    }
-
-    fn wants(
-        &self,
-        alloc: Global,
-        turn: u32,
-        newest: Option<Newest>,
-    ) -> Result<Wants, NodeTurnFault> {
-        Ok(Wants::from_vec(asks_at(alloc, &self.storage, turn, newest)?))
+    fn wants(&self, alloc: Global, round: Round) -> Result<Wants, NodeTurnFault> {
+        Ok(Wants::from_vec(asks_at(alloc, &self.storage, round.turn, round.newest)?))
     }
 }

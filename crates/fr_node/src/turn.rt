@@ -49,6 +49,13 @@ pub struct Newest {
     pub logs: u8,
 }
 
+/// A round of asks: its number, and the newest epoch whose logs may be asked for their mark, if one is known.
+#[derive(Clone, Copy, Debug, PartialEq, Eq)]
+pub struct Round {
+    pub turn: u32,
+    pub newest: Option<Newest>,
+}
+
 /// A hear that was under way when the process of a storage server ended: who told what, and the version applied before
 /// it.
 #[derive(Debug, Drop)]

@@ -1,10 +1,9 @@
 //! A device that fails when it is told to.
 ghost use Rattle.std.specs.Prelude.{◌≡◌, not, true, false};
-ghost use Rattle.fr_record.specs.Count.{counted};
 ghost use Rattle.fr_record.specs.Faulty.{one_more, is_next_due};
 
 use crate::device::Device;
-use crate::device_fault::DeviceFault;
+use crate::device_fault::{DeviceFault, count};
 use std::marker::Model;
 
 /// A device that passes its calls on, but for those that are to fail: these answer `Device` and do
@@ -100,21 +99,6 @@ impl<D: Device> FaultyDevice<D> {
             call != self.due
         }
     }
-
-    /// Counts an answer.
-    fn count<T: Drop>(&mut self, given: Result<T, DeviceFault>) -> Result<T, DeviceFault>
-        ensures result { result ≡ given }
-        ensures device { self.new.device ≡ self.old.device }
-        ensures calls { self.new.calls ≡ self.old.calls }
-        ensures due { self.new.due ≡ self.old.due }
-        ensures is_lasting { self.new.is_lasting ≡ self.old.is_lasting }
-        ensures failures { self.new.failures ≡ counted self.old.failures result }
-    {
-        if let Err(DeviceFault::Device) = &given {
-            self.failures = self.failures.saturating_add(1);
-        }
-        given
-    }
 }
 
 impl<D: Device> Device for FaultyDevice<D> {
@@ -130,34 +114,34 @@ impl<D: Device> Device for FaultyDevice<D> {
 
     fn read_at(&mut self, at: usize, buffer: &mut [u8]) -> Result<(), DeviceFault> {
         if !self.works() {
-            return self.count(Err(DeviceFault::Device));
+            return count(&mut self.failures, Err(DeviceFault::Device));
         }
         let result = self.device.read_at(at, buffer);
-        self.count(result)
+        count(&mut self.failures, result)
     }
 
     fn write_at(&mut self, at: usize, bytes: &[u8]) -> Result<(), DeviceFault> {
         if !self.works() {
-            return self.count(Err(DeviceFault::Device));
+            return count(&mut self.failures, Err(DeviceFault::Device));
         }
         let result = self.device.write_at(at, bytes);
-        self.count(result)
+        count(&mut self.failures, result)
     }
 
     fn sync(&mut self) -> Result<(), DeviceFault> {
         if !self.works() {
-            return self.count(Err(DeviceFault::Device));
+            return count(&mut self.failures, Err(DeviceFault::Device));
         }
         let result = self.device.sync();
-        self.count(result)
+        count(&mut self.failures, result)
     }
 
     fn len(&mut self) -> Result<usize, DeviceFault> {
         if !self.works() {
-            return self.count(Err(DeviceFault::Device));
+            return count(&mut self.failures, Err(DeviceFault::Device));
         }
         let result = self.device.len();
-        self.count(result)
+        count(&mut self.failures, result)
     }
 
     fn capacity(&self) -> usize {

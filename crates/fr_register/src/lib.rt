@@ -13,7 +13,7 @@ mod write_tally;
 pub use ask::{CellAsk, CellTell};
 pub use cell::Cell;
 pub use laws::{answer_law, cell_law, faithful_law, parent_law, register_law, tally_law};
-pub use poll::Progress;
+pub use poll::{CellPoll, Progress};
 pub use read_tally::ReadTally;
 pub use value::CellValue;
 pub use write_tally::WriteTally;

@@ -1,6 +1,6 @@
 //! The tally of promises, which finds what a ballot writes over.
 ghost use Rattle.std.specs.Prelude.{◌≡◌, false, IfOk, OnErr, IsOk};
-ghost use Rattle.fr_register.specs.Tally.{progress_of, is_heard, new_read, hear_read, is_promise, takes_room};
+ghost use Rattle.fr_register.specs.Tally.{progress_of, new_read, hear_read, is_promise, takes_room};
 
 use crate::ask::CellTell;
 use crate::poll::{CellPoll, Progress};
@@ -40,6 +40,13 @@ impl ReadTally {
         }
     }
 
+    /// The ballot whose reads it tallies.
+    pub fn ballot(&self) -> Ballot
+        ensures { result ≡ self.now.ballot }
+    {
+        self.ballot
+    }
+
     /// Hears a tell of the cell of this index. Only a promise that counts takes memory, and out of
     /// memory nothing changes.
     pub fn hear(&mut self, index: u8, tell: CellTell) -> Result<Progress, Memory>
@@ -76,32 +83,11 @@ impl ReadTally {
         (self.greatest_ballot, &self.greatest_value)
     }
 
-    /// How far it has come.
-    pub fn progress(&self) -> Progress
-        ensures { result ≡ progress_of self.now.poll }
+    /// How many cells it asks, which of them gave a promise that counted, and how far it has come.
+    pub fn poll(&self) -> &CellPoll
+        ensures { result.now ≡ self.now.poll }
     {
-        self.poll.progress()
-    }
-
-    /// Whether this cell gave a promise that counted, or the refusal that ended the tally.
-    pub fn has_heard(&self, index: u8) -> bool
-        ensures { result ≡ is_heard self.now.poll index }
-    {
-        self.poll.has_heard(index)
-    }
-
-    /// How many cells it asks.
-    pub fn cells(&self) -> u8
-        ensures { result ≡ self.now.poll.cells }
-    {
-        self.poll.cells()
-    }
-
-    /// The ballot whose reads it tallies.
-    pub fn ballot(&self) -> Ballot
-        ensures { result ≡ self.now.ballot }
-    {
-        self.ballot
+        &self.poll
     }
 
     /// An equal tally.

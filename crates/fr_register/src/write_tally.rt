@@ -1,6 +1,6 @@
 //! The tally of writes, which finds what is chosen.
 ghost use Rattle.std.specs.Prelude.{◌≡◌, false, IfOk, OnErr, IsOk};
-ghost use Rattle.fr_register.specs.Tally.{progress_of, is_heard, new_write, hear_write, is_written, takes_room};
+ghost use Rattle.fr_register.specs.Tally.{progress_of, new_write, hear_write, is_written, takes_room};
 
 use crate::ask::CellTell;
 use crate::poll::{CellPoll, Progress};
@@ -58,25 +58,11 @@ impl WriteTally {
         Ok(self.poll.progress())
     }
 
-    /// How far it has come.
-    pub fn progress(&self) -> Progress
-        ensures { result ≡ progress_of self.now.poll }
+    /// How many cells it asks, which of them gave a `Written` that counted, and how far it has come.
+    pub fn poll(&self) -> &CellPoll
+        ensures { result.now ≡ self.now.poll }
     {
-        self.poll.progress()
-    }
-
-    /// Whether this cell gave a `Written` that counted, or the refusal that ended the tally.
-    pub fn has_heard(&self, index: u8) -> bool
-        ensures { result ≡ is_heard self.now.poll index }
-    {
-        self.poll.has_heard(index)
-    }
-
-    /// How many cells it asks.
-    pub fn cells(&self) -> u8
-        ensures { result ≡ self.now.poll.cells }
-    {
-        self.poll.cells()
+        &self.poll
     }
 
     /// The ballot whose write it tallies.

@@ -5,7 +5,7 @@ ghost use Rattle.fr_runtime.specs.Orders.{begin_of, order_of, orders_of};
 use fr_base::{Bytes, Memory, Step};
 use fr_mutation::{Batch, Mutation};
 use fr_proxy::Outcome;
-use fr_runtime_threads::{Order, Workload};
+use fr_runtime_threads::{Order, Workload, batch_of_one};
 use std::alloc::Global;
 
 /// Batches of one set each, with a step of 1: batch j, from 0, sets the key of two bytes, 8 (j mod the number of
@@ -65,15 +65,11 @@ impl Orders {
     fn batch(&self) -> Result<Batch, Memory>
         ensures { IfOk result (λ batch. batch ≡ (order_of self.now.number self.now.shards self.now.next).batch) }
     {
-        let mut mutations = Vec::new(self.alloc);
-        mutations.push(Mutation::Set {
+        let mutation = Mutation::Set {
             key: Bytes::from_slice(self.alloc, &[self.begin(), self.number])?,
             value: Bytes::from_slice(self.alloc, &self.next.to_be_bytes())?,
-        })?;
-        match Batch::new(mutations) {
-            Ok(batch) => batch.share(),
-            Err(_) => unreachable!(),
-        }
+        };
+        batch_of_one(self.alloc, mutation)
     }
 }
 

@@ -6,7 +6,7 @@ ghost use Rattle.fr_runtime_station.specs.Named.{cells_named, logs_named};
 use crate::fault::Unfinished;
 use fr_audit_journal::Housed;
 use fr_base::{
-    Ballot, Epoch, InMemory, LogId, Memory, Node, NodeFault, NodeId, Shape, Tag, Version,
+    Ballot, Epoch, InMemory, LogId, Machine, Memory, Node, NodeFault, NodeId, Shape, Tag, Version,
 };
 use fr_log::{Log, LogAsk, Push, Seed};
 use fr_proxy::Sequencer;
@@ -19,48 +19,49 @@ use fr_storage::Storage;
 use fr_world_nodes::start::{first_epoch, generation, version_one};
 use std::alloc::Global;
 
-/// A cell that holds the first state.
-fn started_cell<N: Node<Plain = Cell> + Drop>(
+/// A node that answered an ask of the start.
+fn asked<N: Node + Drop>(
     alloc: Global,
     node: N,
-    state: &CoordState,
+    ask: <N::Plain as Machine>::Ask,
 ) -> Result<N, NodeFault>
+where
+    <N::Plain as Machine>::Tell: Drop,
     requires works { N.is_failed node ≡ false }
     requires free { N.owed node ≡ None }
-    ensures works { IfOk result (λ started. N.is_failed started ≡ false) }
-    ensures free { IfOk result (λ started. N.owed started ≡ None) }
+    ensures works { IfOk result (λ asked. N.is_failed asked ≡ false) }
+    ensures free { IfOk result (λ asked. N.owed asked ≡ None) }
 {
     let mut node = node;
-    let Some(value) = CellValue::new(encode(alloc, state)?) else {
-        unreachable!();
-    };
-    let ballot = first_epoch().ballot();
-    let _ = node.serve(alloc, CellAsk::Write { ballot, value })?;
+    let _ = node.serve(alloc, ask)?;
     Ok(node)
 }
 
-/// A log of the first epoch, seeded with nothing, with the mark at version 1.
-fn started_log<N: Node<Plain = Log> + Drop>(
-    alloc: Global,
-    node: N,
-    state: &CoordState,
-) -> Result<N, NodeFault>
-    requires works { N.is_failed node ≡ false }
-    requires free { N.owed node ≡ None }
-    ensures works { IfOk result (λ started. N.is_failed started ≡ false) }
-    ensures free { IfOk result (λ started. N.owed started ≡ None) }
-{
-    let mut node = node;
+/// What has a cell hold the first state.
+fn first_write(alloc: Global, state: &CoordState) -> Result<CellAsk, Memory> {
+    let ballot = first_epoch().ballot();
+    let Some(value) = CellValue::new(encode(alloc, state)?) else {
+        unreachable!();
+    };
+    Ok(CellAsk::Write { ballot, value })
+}
+
+/// What seeds a log of the first epoch with nothing.
+fn first_seed(alloc: Global) -> LogAsk {
     let epoch = first_epoch();
-    let Some(seed) = Seed::new(epoch, version_one(), Version::ZERO, Vec::new(alloc)) else {
-        unreachable!();
-    };
-    let _ = node.serve(alloc, LogAsk::Seed(seed))?;
-    let Some(mark) = Push::mark(alloc, epoch, Version::ZERO, Version::ZERO, state.copy()?) else {
-        unreachable!();
-    };
-    let _ = node.serve(alloc, LogAsk::Push(mark))?;
-    Ok(node)
+    match Seed::new(epoch, version_one(), Version::ZERO, Vec::new(alloc)) {
+        Some(seed) => LogAsk::Seed(seed),
+        None => unreachable!(),
+    }
+}
+
+/// What has a log of the first epoch hold the mark at version 1.
+fn first_mark(alloc: Global, state: &CoordState) -> Result<LogAsk, Memory> {
+    let epoch = first_epoch();
+    match Push::mark(alloc, epoch, Version::ZERO, Version::ZERO, state.copy()?) {
+        Some(mark) => Ok(LogAsk::Push(mark)),
+        None => unreachable!(),
+    }
 }
 
 /// The cells of the start, each in its place.
@@ -75,7 +76,7 @@ fn cells<K: Rack>(
 {
     let mut all = Vec::new(alloc);
     for index in 0..config.coordinators() {
-        let node = started_cell(alloc, rack.cell(alloc, index)?, state)?;
+        let node = asked(alloc, rack.cell(alloc, index)?, first_write(alloc, state)?)?;
         let place = NodeId::Cell { index };
         let housed = Housed::new(alloc, node, place);
         put(&mut all, Station::new(housed))?;
@@ -98,7 +99,8 @@ fn log_station<K: Rack>(
     let epoch = first_epoch();
     let id = LogId { epoch, index };
     let fresh = rack.log(alloc, id, config.logs(), config.degree())?;
-    let node = started_log(alloc, fresh, state)?;
+    let seeded = asked(alloc, fresh, first_seed(alloc))?;
+    let node = asked(alloc, seeded, first_mark(alloc, state)?)?;
     let housed = Housed::new(alloc, node, NodeId::Log { epoch, index });
     Ok(Station::new(housed))
 }

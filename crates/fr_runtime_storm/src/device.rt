@@ -1,10 +1,9 @@
 //! A device that refuses writes and syncs.
 ghost use Rattle.std.specs.Prelude.{◌≡◌, not};
-ghost use Rattle.fr_record.specs.Count.{counted};
 ghost use Rattle.fr_runtime_storm.specs.Frailty.{after_call, is_due};
 
 use crate::frailty::{Fuse, RefusedCalls};
-use fr_record::{Device, DeviceFault};
+use fr_record::{Device, DeviceFault, count};
 use std::sync::atomic::Ordering;
 
 /// A device that passes its calls on, but for the writes and syncs that its fuse refuses: these answer `Device` and do
@@ -46,19 +45,6 @@ impl<'a, D: Device> FrailDevice<'a, D> {
         }
         !is_refused
     }
-
-    /// Counts an answer.
-    fn count<T: Drop>(&mut self, given: Result<T, DeviceFault>) -> Result<T, DeviceFault>
-        ensures result { result ≡ given }
-        ensures fuse { self.new.fuse ≡ self.old.fuse }
-        ensures device { self.new.device ≡ self.old.device }
-        ensures failures { self.new.failures ≡ counted self.old.failures result }
-    {
-        if let Err(DeviceFault::Device) = &given {
-            self.failures = self.failures.saturating_add(1);
-        }
-        given
-    }
 }
 
 impl<D: Device> Device for FrailDevice<'_, D> {
@@ -74,28 +60,30 @@ impl<D: Device> Device for FrailDevice<'_, D> {
 
     fn read_at(&mut self, at: usize, buffer: &mut [u8]) -> Result<(), DeviceFault> {
         let result = self.device.read_at(at, buffer);
-        self.count(result)
+        count(&mut self.failures, result)
     }
 
     fn write_at(&mut self, at: usize, bytes: &[u8]) -> Result<(), DeviceFault> {
-        if !self.works() {
-            return self.count(Err(DeviceFault::Device));
-        }
-        let result = self.device.write_at(at, bytes);
-        self.count(result)
+        let result = if self.works() {
+            self.device.write_at(at, bytes)
+        } else {
+            Err(DeviceFault::Device)
+        };
+        count(&mut self.failures, result)
     }
 
     fn sync(&mut self) -> Result<(), DeviceFault> {
-        if !self.works() {
-            return self.count(Err(DeviceFault::Device));
-        }
-        let result = self.device.sync();
-        self.count(result)
+        let result = if self.works() {
+            self.device.sync()
+        } else {
+            Err(DeviceFault::Device)
+        };
+        count(&mut self.failures, result)
     }
 
     fn len(&mut self) -> Result<usize, DeviceFault> {
         let result = self.device.len();
-        self.count(result)
+        count(&mut self.failures, result)
     }
 
     fn capacity(&self) -> usize {

@@ -19,6 +19,19 @@ pub struct FrailDisk<'a, D: Disk> {
     refusals: &'a RefusedCalls,
 }
 
+/// Counts a write, and fails if it is refused.
+fn spend(fuse: &mut Fuse, refused: &mut u64, refusals: &RefusedCalls) -> io::Result<()>
+    ensures faults { CountsFault result refused.old refused.new }
+    ensures kind { finds_no_room result ≡ false }
+{
+    if !fuse.blows() {
+        return Ok(());
+    }
+    let _before = refusals.files.fetch_add(1, Ordering::SeqCst);
+    *refused = refused.saturating_add(1);
+    Err(io::Error::other("the write is refused"))
+}
+
 impl<'a, D: Disk> FrailDisk<'a, D> {
     /// A file with this fuse. What it refuses is counted beside it.
     pub fn new(inner: D, fuse: Fuse, refusals: &'a RefusedCalls) -> Self
@@ -33,19 +46,6 @@ impl<'a, D: Disk> FrailDisk<'a, D> {
             refusals,
         }
     }
-}
-
-/// Counts a write, and fails if it is refused.
-fn spend(fuse: &mut Fuse, refused: &mut u64, refusals: &RefusedCalls) -> io::Result<()>
-    ensures faults { CountsFault result refused.old refused.new }
-    ensures kind { finds_no_room result ≡ false }
-{
-    if !fuse.blows() {
-        return Ok(());
-    }
-    let _before = refusals.files.fetch_add(1, Ordering::SeqCst);
-    *refused = refused.saturating_add(1);
-    Err(io::Error::other("the write is refused"))
 }
 
 impl<D: Disk> Disk for FrailDisk<'_, D> {

@@ -6,7 +6,7 @@ ghost use Rattle.fr_runtime_storm.specs.Orders.{after_batches, begin_of, drawn_o
 use fr_base::{Bytes, Memory, Step};
 use fr_mutation::{AtomicOp, Batch, Mutation};
 use fr_proxy::Outcome;
-use fr_runtime_threads::{Order, Workload};
+use fr_runtime_threads::{Order, Workload, batch_of_one};
 use rand_core::SeedableRng;
 use rand_core::utils::NextWord;
 use rand_pcg::Pcg32;
@@ -133,12 +133,7 @@ fn batch(alloc: Global, shards: u8, word: u32, operand: u32) -> Result<Batch, Me
     requires few { shards ≤ 32 }
     ensures { IfOk result (λ batch. batch ≡ mutation_of shards word operand ∷ []) }
 {
-    let mut mutations = Vec::new(alloc);
-    mutations.push(mutation(alloc, shards, word, operand)?)?;
-    match Batch::new(mutations) {
-        Ok(batch) => batch.share(),
-        Err(_) => unreachable!(),
-    }
+    batch_of_one(alloc, mutation(alloc, shards, word, operand)?)
 }
 
 impl Workload for DrawnOrders {

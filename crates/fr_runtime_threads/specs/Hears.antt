@@ -6,7 +6,7 @@ use Rattle.fr_proxy.specs.declared.outcome.Outcome.{Outcome}
 use Rattle.fr_audit_journal.specs.declared.act.Act.TheVariants.{Heard}
 use Rattle.fr_audit_journal.specs.declared.act.Entry.{Entry}
 
--- it is entered that a node was told this, at a stamp above that of the tell
+-- it is entered that a node was told this, at a stamp above this one
 pub record IsEntered (old new : List Entry) (at : ℕ) (from : NodeId) (tell : Tell) : Type 0 where
   pub stamp : ℕ
   pub taken : Option ℕ
@@ -14,6 +14,6 @@ pub record IsEntered (old new : List Entry) (at : ℕ) (from : NodeId) (tell : T
   pub above : at < stamp
   pub entries : new ≡ old ++ record { stamp = stamp; act = Heard from tell taken outcome } ∷ []
 
--- it is; or its thread has seen the last stamp that there is, and nothing is entered
-abbrev pub HasHeard : List Entry → List Entry → ℕ → ℕ → NodeId → Tell → Type 0
-HasHeard old new seen at from tell = IsEntered old new at from tell ⊎ ((2 ^ 40 ≤ seen + 1) × (new ≡ old))
+-- it is, above the greatest stamp that its thread has seen; or that is the last one that there is, and nothing is entered
+abbrev pub HasHeard : List Entry → List Entry → ℕ → NodeId → Tell → Type 0
+HasHeard old new seen from tell = IsEntered old new seen from tell ⊎ ((2 ^ 40 ≤ seen + 1) × (new ≡ old))

@@ -195,7 +195,7 @@ impl<W: Workload + Drop> Client<W> {
         ensures first { self.new.first ≡ self.old.first }
         ensures number { self.new.number ≡ self.old.number }
     {
-        if !self.door.is_gone() && site.faults.ends(self.door.place(), number) {
+        if !self.door.is_gone() && site.faults.ends(self.door.notes().place(), number) {
             self.door.crash()?;
             if self.door.is_open() {
                 site.directory.let_go(self.door.epoch());

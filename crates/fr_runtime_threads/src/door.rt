@@ -287,7 +287,7 @@ impl Hearer for Door {
     ghost use Rattle.std.specs.Prelude.{None};
     ghost use Rattle.fr_runtime_threads.specs.Account.{account};
 
-    ghost node = { λ d. d.notes.journal.node };
+    ghost notes = { λ d. d.notes };
 
     ghost shape = { λ d. None };
 
@@ -295,16 +295,8 @@ impl Hearer for Door {
 
     ghost told = { λ d. d.told.items };
 
-    ghost entries = { λ d. d.notes.journal.entries };
-
-    ghost seen = { λ d. d.notes.seen };
-
-    fn place(&self) -> NodeId {
-        self.notes.place()
-    }
-
-    fn now(&self) -> Stamp {
-        self.notes.seen()
+    fn notes(&self) -> &Notes {
+        &self.notes
     }
 
     fn may_come(&self, _ask: &Ask) -> bool {
@@ -315,14 +307,7 @@ impl Hearer for Door {
         self.notes.see(at);
     }
 
-    fn hear(
-        &mut self,
-        alloc: Global,
-        at: Stamp,
-        from: NodeId,
-        tell: Tell,
-    ) -> Result<(), TurnFault> {
-        self.notes.see(at);
+    fn hear(&mut self, alloc: Global, from: NodeId, tell: Tell) -> Result<(), TurnFault> {
         let Some(stamp) = self.notes.next()? else {
             return Ok(());
         };

@@ -20,7 +20,7 @@ mod workload;
 pub use client::{Served, serve};
 pub use crashes::crash;
 pub use fault::TurnFault;
-pub use order::Order;
+pub use order::{Order, batch_of_one};
 pub use pulling::pull;
 pub use rack::{PlainRack, Rack};
 pub use recovery::recover;

@@ -1,5 +1,5 @@
 //! The journal of a node that one thread owns.
-ghost use Rattle.std.specs.Prelude.{◌≡◌, ◌≤◌, ◌<◌, ◌+◌, ◌^◌, ◌++◌, ◌∷◌, [], Some, IfOk, IfSome, IsSome, None, Ok};
+ghost use Rattle.std.specs.Prelude.{◌≡◌, ◌≤◌, max, ◌<◌, ◌+◌, ◌^◌, ◌++◌, ◌∷◌, [], Some, IfOk, IfSome, IsSome, None, Ok};
 ghost use Rattle.fr_audit_journal.specs.Journal.{IsAbove};
 ghost use Rattle.fr_audit_journal.specs.Housing.{last_number};
 ghost use Rattle.fr_runtime_threads.specs.Begins.{StartsWithBegun};
@@ -61,7 +61,7 @@ impl Notes {
     /// The thread has seen this stamp.
     pub(crate) fn see(&mut self, stamp: Stamp)
         ensures journal { self.new.journal ≡ self.old.journal }
-        ensures seen { stamp ≤ self.new.seen }
+        ensures seen { self.new.seen ≡ max self.old.seen stamp }
     {
         self.seen = self.seen.max(stamp);
     }

@@ -1,13 +1,30 @@
 //! Batches on their way to a proxy.
-use fr_base::Step;
-use fr_mutation::Batch;
+ghost use Rattle.std.specs.Prelude.{◌≡◌, ◌∷◌, [], IfOk, None};
+ghost use Rattle.fr_mutation.specs.Limits.{batch_fault};
+
+use fr_base::{Memory, Step};
+use fr_mutation::{Batch, Mutation};
 use fr_proxy::Outcome;
+use std::alloc::Global;
 
 /// A batch, and how far above the version before it is to be.
 #[derive(Debug, Drop)]
 pub struct Order {
     pub step: Step,
     pub batch: Batch,
+}
+
+/// The batch of one mutation that is within the limits, copies of which take no room of their own.
+pub fn batch_of_one(alloc: Global, mutation: Mutation) -> Result<Batch, Memory>
+    requires within { batch_fault (mutation ∷ []) ≡ None }
+    ensures { IfOk result (λ batch. batch ≡ mutation ∷ []) }
+{
+    let mut mutations = Vec::new(alloc);
+    mutations.push(mutation)?;
+    match Batch::new(mutations) {
+        Ok(batch) => batch.share(),
+        Err(_) => unreachable!(),
+    }
 }
 
 /// What became of the batch that a proxy took last.

@@ -34,7 +34,7 @@ struct Puller<S: ShardStore> {
 impl<S: ShardStore> Hearer for Puller<S> {
     ghost use Rattle.std.specs.Prelude.{[], None};
 
-    ghost node = { λ p. p.notes.journal.node };
+    ghost notes = { λ p. p.notes };
 
     ghost shape = { λ p. None };
 
@@ -42,16 +42,8 @@ impl<S: ShardStore> Hearer for Puller<S> {
 
     ghost told = { λ p. [] };
 
-    ghost entries = { λ p. p.notes.journal.entries };
-
-    ghost seen = { λ p. p.notes.seen };
-
-    fn place(&self) -> NodeId {
-        self.notes.place()
-    }
-
-    fn now(&self) -> Stamp {
-        self.notes.seen()
+    fn notes(&self) -> &Notes {
+        &self.notes
     }
 
     fn may_come(&self, ask: &Ask) -> bool {
@@ -67,14 +59,7 @@ impl<S: ShardStore> Hearer for Puller<S> {
         self.notes.see(at);
     }
 
-    fn hear(
-        &mut self,
-        alloc: Global,
-        at: Stamp,
-        from: NodeId,
-        tell: Tell,
-    ) -> Result<(), TurnFault> {
-        self.notes.see(at);
+    fn hear(&mut self, alloc: Global, from: NodeId, tell: Tell) -> Result<(), TurnFault> {
         let Some(stamp) = self.notes.next()? else {
             return Ok(());
         };

@@ -35,7 +35,7 @@ struct Recovery {
 impl Hearer for Recovery {
     ghost use Rattle.std.specs.Prelude.{[]};
 
-    ghost node = { λ r. r.notes.journal.node };
+    ghost notes = { λ r. r.notes };
 
     ghost shape = { λ r. r.shape };
 
@@ -43,16 +43,8 @@ impl Hearer for Recovery {
 
     ghost told = { λ r. [] };
 
-    ghost entries = { λ r. r.notes.journal.entries };
-
-    ghost seen = { λ r. r.notes.seen };
-
-    fn place(&self) -> NodeId {
-        self.notes.place()
-    }
-
-    fn now(&self) -> Stamp {
-        self.notes.seen()
+    fn notes(&self) -> &Notes {
+        &self.notes
     }
 
     fn may_come(&self, _ask: &Ask) -> bool {
@@ -63,14 +55,7 @@ impl Hearer for Recovery {
         self.notes.see(at);
     }
 
-    fn hear(
-        &mut self,
-        alloc: Global,
-        at: Stamp,
-        from: NodeId,
-        tell: Tell,
-    ) -> Result<(), TurnFault> {
-        self.notes.see(at);
+    fn hear(&mut self, alloc: Global, from: NodeId, tell: Tell) -> Result<(), TurnFault> {
         let Some(stamp) = self.notes.next()? else {
             return Ok(());
         };
@@ -256,7 +241,7 @@ fn take_turns<K: Rack, F: Faults, R: Wait>(
     let mut late = Late::new(site.alloc);
     let mut shown = Shown::Nothing;
     for turn in from..=turns {
-        if site.faults.ends(recovery.place(), turn) {
+        if site.faults.ends(recovery.notes().place(), turn) {
             recovery.crash()?;
             return Ok(false);
         }

@@ -1,10 +1,11 @@
 //! Asks on their way, and what happens to them.
-ghost use Rattle.std.specs.Prelude.{◌≡◌, ◌≤◌, IfOk, IfSome, OnOk};
+ghost use Rattle.std.specs.Prelude.{◌≡◌, ◌≤◌, max, IfOk, IfSome, OnOk};
 ghost use Rattle.fr_runtime_threads.specs.Hears.{HasHeard};
 
 use crate::Rack;
 use crate::fault::TurnFault;
 use crate::late::{Late, Letter, Message};
+use crate::notes::Notes;
 use crate::site::Site;
 use fr_ask::{Ask, Tell};
 use fr_base::{Memory, NodeId, Stamp};
@@ -14,15 +15,14 @@ use std::sync::Wait;
 
 /// A node that sends asks and hears what it is told.
 pub(crate) trait Hearer {
-    ghost use Rattle.std.specs.Prelude.{ℕ, List, Option};
-    ghost use Rattle.fr_audit_journal.specs.declared.act.Entry.{Entry};
+    ghost use Rattle.std.specs.Prelude.{List, Option};
     ghost use Rattle.fr_base.specs.Shape.{ShapeContent};
-    ghost use Rattle.fr_base.specs.declared.place.NodeId.{NodeId};
     ghost use Rattle.fr_proxy.specs.declared.outcome.Outcome.{Outcome};
+    ghost use Rattle.fr_runtime_threads.specs.declared.notes.Notes.{Notes};
     ghost use Rattle.fr_runtime_threads.specs.declared.order.Order.{Order};
 
-    /// The node that asks.
-    ghost node: { Self → NodeId };
+    /// The node's journal, and the greatest stamp that its thread has seen.
+    ghost notes: { Self → Notes };
 
     /// The shape of the generation that the node is to open, if it is a recoverer that was given one.
     ghost shape: { Self → Option ShapeContent };
@@ -33,19 +33,9 @@ pub(crate) trait Hearer {
     /// What the node's workload was told of its batches.
     ghost told: { Self → List Outcome };
 
-    /// What is entered in the node's journal.
-    ghost entries: { Self → List Entry };
-
-    /// The greatest stamp that the node's thread has seen.
-    ghost seen: { Self → ℕ };
-
-    /// The node that asks.
-    fn place(&self) -> NodeId
-        ensures { result ≡ node self.now };
-
-    /// The greatest stamp that the node's thread has seen.
-    fn now(&self) -> Stamp
-        ensures { result ≡ seen self.now };
+    /// The node's journal, and the greatest stamp that its thread has seen.
+    fn notes(&self) -> &Notes
+        ensures { result.now ≡ notes self.now };
 
     /// Whether an ask that it gave may still come to a node: a storage server asks no log of a generation that its
     /// state has no more to let go of anything.
@@ -53,20 +43,20 @@ pub(crate) trait Hearer {
 
     /// The node's thread has seen this stamp: what is entered from then on comes after it.
     fn see(&mut self, at: Stamp)
-        ensures node { node self.new ≡ node self.old }
+        ensures journal { (notes self.new).journal ≡ (notes self.old).journal }
+        ensures seen { (notes self.new).seen ≡ max (notes self.old).seen at }
         ensures shape { shape self.new ≡ shape self.old }
         ensures given { given self.new ≡ given self.old }
-        ensures told { told self.new ≡ told self.old }
-        ensures entries { entries self.new ≡ entries self.old }
-        ensures seen { at ≤ seen self.new };
+        ensures told { told self.new ≡ told self.old };
 
-    /// Hears what a node told at this stamp, and enters that, if there is a stamp above it.
-    fn hear(&mut self, alloc: Global, at: Stamp, from: NodeId, tell: Tell) -> Result<(), TurnFault>
-        ensures node { node self.new ≡ node self.old }
+    /// Hears what a node told, and enters that, if there is a stamp above the greatest one that its thread has seen.
+    fn hear(&mut self, alloc: Global, from: NodeId, tell: Tell) -> Result<(), TurnFault>
+        ensures node { (notes self.new).journal.node ≡ (notes self.old).journal.node }
+        ensures hears { OnOk result (HasHeard (notes self.old).journal.entries
+            (notes self.new).journal.entries (notes self.old).seen from tell) }
         ensures shape { shape self.new ≡ shape self.old }
         ensures given { given self.new ≡ given self.old }
-        ensures told { told self.new ≡ told self.old }
-        ensures hears { OnOk result (HasHeard (entries self.old) (entries self.new) (seen self.new) at from tell) };
+        ensures told { told self.new ≡ told self.old };
 }
 
 /// Sends an ask, and has its sender hear what it is told, as the faults say. What is late is kept.
@@ -77,12 +67,12 @@ pub(crate) fn send<K: Rack, F: Faults, R: Wait, H: Hearer>(
     to: &NodeId,
     ask: &Ask,
 ) -> Result<(), TurnFault>
-    ensures node { H.node hearer.new ≡ H.node hearer.old }
+    ensures node { (H.notes hearer.new).journal.node ≡ (H.notes hearer.old).journal.node }
     ensures shape { H.shape hearer.new ≡ H.shape hearer.old }
     ensures given { H.given hearer.new ≡ H.given hearer.old }
     ensures told { H.told hearer.new ≡ H.told hearer.old }
 {
-    let by = hearer.place();
+    let by = hearer.notes().place();
     match site.faults.verdict(*to, ask) {
         Verdict::DropAsk => Ok(()),
         Verdict::DropTell => {
@@ -119,7 +109,7 @@ pub(crate) fn bring_late<K: Rack, F: Faults, R: Wait, H: Hearer>(
     hearer: &mut H,
     late: &mut Late,
 ) -> Result<(), TurnFault>
-    ensures node { H.node hearer.new ≡ H.node hearer.old }
+    ensures node { (H.notes hearer.new).journal.node ≡ (H.notes hearer.old).journal.node }
     ensures shape { H.shape hearer.new ≡ H.shape hearer.old }
     ensures given { H.given hearer.new ≡ H.given hearer.old }
     ensures told { H.told hearer.new ≡ H.told hearer.old }
@@ -137,7 +127,7 @@ fn bring<K: Rack, F: Faults, R: Wait, H: Hearer>(
     hearer: &mut H,
     letter: Letter,
 ) -> Result<(), TurnFault>
-    ensures node { H.node hearer.new ≡ H.node hearer.old }
+    ensures node { (H.notes hearer.new).journal.node ≡ (H.notes hearer.old).journal.node }
     ensures shape { H.shape hearer.new ≡ H.shape hearer.old }
     ensures given { H.given hearer.new ≡ H.given hearer.old }
     ensures told { H.told hearer.new ≡ H.told hearer.old }
@@ -163,7 +153,7 @@ fn exchange<K: Rack, F: Faults, R: Wait, H: Hearer>(
     to: &NodeId,
     ask: &Ask,
 ) -> Result<(), TurnFault>
-    ensures node { H.node hearer.new ≡ H.node hearer.old }
+    ensures node { (H.notes hearer.new).journal.node ≡ (H.notes hearer.old).journal.node }
     ensures shape { H.shape hearer.new ≡ H.shape hearer.old }
     ensures given { H.given hearer.new ≡ H.given hearer.old }
     ensures told { H.told hearer.new ≡ H.told hearer.old }
@@ -175,7 +165,7 @@ fn exchange<K: Rack, F: Faults, R: Wait, H: Hearer>(
     }
 }
 
-/// Has the one that asked hear what it is told, unless the thread has gone over to another node since.
+/// Has the one that asked hear what it is told at this stamp, unless the thread has gone over to another node since.
 fn hear<K: Rack, F: Faults, R: Wait, H: Hearer>(
     site: &Site<'_, K, F, R>,
     hearer: &mut H,
@@ -184,13 +174,16 @@ fn hear<K: Rack, F: Faults, R: Wait, H: Hearer>(
     from: NodeId,
     tell: Tell,
 ) -> Result<(), TurnFault>
-    ensures node { H.node hearer.new ≡ H.node hearer.old }
+    ensures node { (H.notes hearer.new).journal.node ≡ (H.notes hearer.old).journal.node }
     ensures shape { H.shape hearer.new ≡ H.shape hearer.old }
     ensures given { H.given hearer.new ≡ H.given hearer.old }
     ensures told { H.told hearer.new ≡ H.told hearer.old }
+    ensures hears { (H.notes hearer.old).journal.node ≡ by → OnOk result (HasHeard (H.notes hearer.old).journal.entries
+        (H.notes hearer.new).journal.entries (max (H.notes hearer.old).seen at) from tell) }
 {
-    if hearer.place() == by {
-        hearer.hear(site.alloc, at, from, tell)
+    if hearer.notes().place() == by {
+        hearer.see(at);
+        hearer.hear(site.alloc, from, tell)
     } else {
         Ok(())
     }
@@ -205,17 +198,17 @@ fn call<K: Rack, F: Faults, R: Wait, H: Hearer>(
     to: &NodeId,
     ask: &Ask,
 ) -> Result<Option<(Stamp, Tell)>, Memory>
-    ensures node { H.node hearer.new ≡ H.node hearer.old }
+    ensures node { (H.notes hearer.new).journal.node ≡ (H.notes hearer.old).journal.node }
     ensures shape { H.shape hearer.new ≡ H.shape hearer.old }
     ensures given { H.given hearer.new ≡ H.given hearer.old }
     ensures told { H.told hearer.new ≡ H.told hearer.old }
-    ensures entries { H.entries hearer.new ≡ H.entries hearer.old }
-    ensures seen { IfOk result (λ told. IfSome told (λ told. told.0 ≤ H.seen hearer.new)) }
+    ensures journal { (H.notes hearer.new).journal ≡ (H.notes hearer.old).journal }
+    ensures seen { IfOk result (λ told. IfSome told (λ told. told.0 ≤ (H.notes hearer.new).seen)) }
 {
     let sent = ask.copy()?;
     let told = site
         .directory
-        .call(site.rt, site.alloc, hearer.now(), by, *to, sent)
+        .call(site.rt, site.alloc, hearer.notes().seen(), by, *to, sent)
         .ok();
     if let Some((at, _)) = &told {
         hearer.see(*at);

@@ -1,5 +1,5 @@
 //! One event.
-ghost use Rattle.std.specs.Prelude.{◌≡◌, OnErr, OnOk};
+ghost use Rattle.std.specs.Prelude.{◌≡◌, true, OnErr, OnOk};
 ghost use Rattle.fr_run.specs.declared.event.Event.TheVariants as event;
 ghost use Rattle.fr_run.specs.Run.{IsRun};
 ghost use Rattle.fr_run_headline.specs.Committed.{AcknowledgedIsNeverUndone, RolledBackIsExact};
@@ -11,7 +11,7 @@ use crate::events::ballots::{begun, heard_by_recoverer};
 use crate::events::delivered::delivered;
 use crate::events::leaving::{crashed, lost};
 use crate::events::proxies::{heard_by_proxy, submitted};
-use crate::events::served::{heard_by_storage, heard_in_place};
+use crate::events::served::heard_by_storage;
 use crate::events::why_not_up;
 use fr_ask::Tell;
 use fr_base::{NodeId, Version};
@@ -20,19 +20,26 @@ use fr_run_headline::laws::safety_law;
 use fr_world_nodes::Nodes;
 use std::alloc::Global;
 
-/// Makes the turn that an event is, or says why it cannot happen, which changes nothing.
-pub(crate) fn step(alloc: Global, nodes: &mut Nodes, event: Event) -> Result<Answer, NotEnabled>
+/// Makes the turn that an event is, or says why it cannot happen. If it cannot or memory runs out, nodes that are kept
+/// are as they were, for which a storage server that hears is copied first; others are given up.
+pub(crate) fn step(
+    alloc: Global,
+    nodes: &mut Nodes,
+    keeps: bool,
+    event: Event,
+) -> Result<Answer, NotEnabled>
     requires kept { IsKept nodes.old }
     ensures turn { Steps (state_of nodes.old) (state_of nodes.new) event result }
     ensures refused { Refuses (state_of nodes.old) event result }
     ensures err { OnErr result (state_of nodes.new ≡ state_of nodes.old) }
-    ensures stays { IsKept nodes.new }
+    ensures stays { OnOk result (IsKept nodes.new) }
+    ensures keeps { keeps ≡ true → IsKept nodes.new }
 {
     get_ready(alloc, nodes, &event);
-    happen(alloc, nodes, event)
+    happen(alloc, nodes, keeps, event)
 }
 
-/// As [`step`], and says what is promised of the nodes that it leaves.
+/// As [`step`] of nodes that are kept, and says what is promised of those that it leaves.
 pub(crate) fn step_safely(
     alloc: Global,
     nodes: &mut Nodes,
@@ -50,61 +57,7 @@ pub(crate) fn step_safely(
     ensures grows { IsGrownFrom (state_of nodes.new).config (state_of nodes.old).turns (state_of nodes.new).turns }
 {
     safety_law();
-    step(alloc, nodes, event)
-}
-
-/// As [`step`], with no copy of a storage server: if the event cannot happen or memory runs out the nodes are given
-/// up.
-pub(crate) fn step_owned(
-    alloc: Global,
-    nodes: &mut Nodes,
-    event: Event,
-) -> Result<Answer, NotEnabled>
-    requires kept { IsKept nodes.old }
-    ensures turn { Steps (state_of nodes.old) (state_of nodes.new) event result }
-    ensures refused { Refuses (state_of nodes.old) event result }
-    ensures stays { OnOk result (IsKept nodes.new) }
-{
-    get_ready(alloc, nodes, &event);
-    happen_owned(alloc, nodes, event)
-}
-
-/// Makes the turn that an event is, with no copy of a storage server.
-fn happen_owned(alloc: Global, nodes: &mut Nodes, event: Event) -> Result<Answer, NotEnabled>
-    requires kept { IsKept nodes.old }
-    ensures turn { Steps (state_of nodes.old) (state_of nodes.new) event result }
-    ensures refused { Refuses (state_of nodes.old) event result }
-    ensures stays { OnOk result (IsKept nodes.new) }
-{
-    match event {
-        Event::Hear {
-            by,
-            from,
-            tell,
-            taken,
-        } => heard_owned(alloc, nodes, by, from, tell, taken),
-        _ => happen(alloc, nodes, event),
-    }
-}
-
-/// A tell comes to a node, with no copy of a storage server.
-fn heard_owned(
-    alloc: Global,
-    nodes: &mut Nodes,
-    by: NodeId,
-    from: NodeId,
-    tell: Tell,
-    taken: Option<Version>,
-) -> Result<Answer, NotEnabled>
-    requires kept { IsKept nodes.old }
-    ensures turn { Steps (state_of nodes.old) (state_of nodes.new) (event.Hear by from tell taken) result }
-    ensures refused { Refuses (state_of nodes.old) (event.Hear by from tell taken) result }
-    ensures stays { OnOk result (IsKept nodes.new) }
-{
-    match by {
-        NodeId::Storage { tag } => heard_in_place(alloc, nodes, tag, from, tell, taken),
-        _ => heard(alloc, nodes, by, from, tell, taken),
-    }
+    step(alloc, nodes, true, event)
 }
 
 /// Sees to it that what an event needs is found without a walk over all turns, which changes nothing that is seen of a
@@ -149,12 +102,13 @@ fn is_lately_given(nodes: &Nodes, event: &Event) -> bool {
 }
 
 /// Makes the turn that an event is.
-fn happen(alloc: Global, nodes: &mut Nodes, event: Event) -> Result<Answer, NotEnabled>
+fn happen(alloc: Global, keeps: bool, nodes: &mut Nodes, event: Event) -> Result<Answer, NotEnabled>
     requires kept { IsKept nodes.old }
     ensures turn { Steps (state_of nodes.old) (state_of nodes.new) event result }
     ensures refused { Refuses (state_of nodes.old) event result }
     ensures err { OnErr result (state_of nodes.new ≡ state_of nodes.old) }
-    ensures stays { IsKept nodes.new }
+    ensures stays { OnOk result (IsKept nodes.new) }
+    ensures keeps { keeps ≡ true → IsKept nodes.new }
 {
     let _within = event.node();
     match event {
@@ -165,7 +119,7 @@ fn happen(alloc: Global, nodes: &mut Nodes, event: Event) -> Result<Answer, NotE
             from,
             tell,
             taken,
-        } => heard(alloc, nodes, by, from, tell, taken),
+        } => heard(alloc, nodes, keeps, by, from, tell, taken),
         Event::Submit {
             epoch,
             proxy,
@@ -181,6 +135,7 @@ fn happen(alloc: Global, nodes: &mut Nodes, event: Event) -> Result<Answer, NotE
 fn heard(
     alloc: Global,
     nodes: &mut Nodes,
+    keeps: bool,
     by: NodeId,
     from: NodeId,
     tell: Tell,
@@ -190,7 +145,8 @@ fn heard(
     ensures turn { Steps (state_of nodes.old) (state_of nodes.new) (event.Hear by from tell taken) result }
     ensures refused { Refuses (state_of nodes.old) (event.Hear by from tell taken) result }
     ensures err { OnErr result (state_of nodes.new ≡ state_of nodes.old) }
-    ensures stays { IsKept nodes.new }
+    ensures stays { OnOk result (IsKept nodes.new) }
+    ensures keeps { keeps ≡ true → IsKept nodes.new }
 {
     match by {
         NodeId::Proxy { epoch, number } => {
@@ -199,7 +155,7 @@ fn heard(
         NodeId::Recoverer { ballot } => {
             heard_by_recoverer(alloc, nodes, ballot, from, tell, taken)
         }
-        NodeId::Storage { tag } => heard_by_storage(alloc, nodes, tag, from, tell, taken),
+        NodeId::Storage { tag } => { heard_by_storage(alloc, nodes, keeps, tag, from, tell, taken) }
         _ => Err(why_unheard(nodes, &by)),
     }
 }

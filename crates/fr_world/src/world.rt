@@ -14,7 +14,7 @@ ghost use Rattle.fr_world_nodes.specs.Parts.{server_of};
 ghost use Rattle.fr_world_nodes.specs.Reads.{IsReadAt};
 ghost use Rattle.fr_world_turns.specs.Turns.{history_of};
 
-use crate::step::{step_owned, step_safely};
+use crate::step::{step, step_safely};
 use fr_ask::{Ask, Last, Tell};
 use fr_base::{Ballot, Bytes, Epoch, Memory, NodeId, Tag, Version};
 use fr_epoch::Recoverer;
@@ -91,7 +91,7 @@ impl World {
         ensures refused { RefusesTurn (next_turn self event) result }
     {
         let mut nodes = self.nodes;
-        let answer = step_owned(alloc, &mut nodes, event)?;
+        let answer = step(alloc, &mut nodes, false, event)?;
         Ok((World { nodes }, answer))
     }
 

@@ -1,5 +1,5 @@
 //! The storage servers of a world.
-ghost use Rattle.std.specs.Prelude.{◌≡◌, ◌==◌, ◌&&◌, List, false, true, not, is_some, IfOk, IsTrue, None, OnOk, Some};
+ghost use Rattle.std.specs.Prelude.{◌≡◌, ◌==◌, ◌&&◌, List, false, true, not, is_some, IfOk, IsTrue, None, OnErr, OnOk, Some};
 ghost use Rattle.std.specs.List.{list_any};
 ghost use Rattle.fr_run.specs.Nodes.{whole_hear, part_hear, storage_hear};
 ghost use Rattle.fr_run.specs.Run.{fault_of, fault_of_log};
@@ -22,32 +22,33 @@ use fr_storage::{ReadFault, Storage, StorageFault};
 use fr_undo::MapStore;
 use std::alloc::Global;
 
-/// A server after a hear, and why it refused what it heard.
-#[derive(Drop)]
-pub struct ServerHeard {
-    pub server: Storage<MapStore>,
-    pub fault: Option<StorageFault>,
-}
-
-/// A copy of the server after a tell, which changes it only if a log told it. The server itself is unchanged.
+/// Tells a server what a node told, which changes it only if a log did, and answers why it refuses that. Out of memory
+/// a server that is kept is as it was, since a copy is told first; another may be left failed, with a part of what it
+/// heard.
 pub fn tell_server(
     alloc: Global,
-    server: &Storage<MapStore>,
+    keeps: bool,
+    server: &mut Storage<MapStore>,
     from: &NodeId,
     tell: &Tell,
-) -> Result<ServerHeard, Memory>
-    requires { server.now.failed ≡ false }
-    ensures fault { IfOk result (λ heard. heard.fault ≡ fault_of (server_of server.now) from.now tell.now) }
-    ensures state { IfOk result (λ heard. server_of heard.server ≡ storage_hear None (server_of server.now) from.now tell.now) }
-    ensures works { IfOk result (λ heard. heard.server.failed ≡ false) }
+) -> Result<Option<StorageFault>, Memory>
+    requires { server.old.failed ≡ false }
+    ensures fault { IfOk result (λ fault. fault ≡ fault_of (server_of server.old) from.now tell.now) }
+    ensures state { OnOk result (server_of server.new ≡ storage_hear None (server_of server.old) from.now tell.now) }
+    ensures works { OnOk result (server.new.failed ≡ false) }
+    ensures err { keeps ≡ true → OnErr result (server.new ≡ server.old) }
 {
-    let mut server = server.copy(alloc)?;
-    let fault = tell_in_place(alloc, &mut server, from, tell)?;
-    Ok(ServerHeard { server, fault })
+    if !keeps {
+        return told(alloc, server, from, tell);
+    }
+    let mut copy = server.copy(alloc)?;
+    let fault = told(alloc, &mut copy, from, tell)?;
+    *server = copy;
+    Ok(fault)
 }
 
-/// As [`tell_server`], with no copy of the server: out of memory it may be left failed, with a part of what it heard.
-pub fn tell_in_place(
+/// Tells a server what a node told, and answers why it refuses that. Out of memory it may be left failed.
+fn told(
     alloc: Global,
     server: &mut Storage<MapStore>,
     from: &NodeId,
@@ -138,29 +139,10 @@ fn breaks_in(server: &Storage<MapStore>, epoch: Epoch, tell: &LogTell, version: 
     }
 }
 
-/// A copy of the server after a tell, where the hear breaks off at a version at which it can. The server itself is
-/// unchanged.
+/// As [`tell_server`], where the hear breaks off at a version at which it can.
 pub fn break_server(
     alloc: Global,
-    server: &Storage<MapStore>,
-    from: &NodeId,
-    tell: &Tell,
-    version: Version,
-) -> Result<Storage<MapStore>, Memory>
-    requires works { server.now.failed ≡ false }
-    requires breaks { may_break (server_of server.now) from.now tell.now version ≡ true }
-    ensures state { IfOk result (λ s. server_of s ≡ storage_hear (Some version) (server_of server.now) from.now tell.now) }
-    ensures works { IfOk result (λ s. s.failed ≡ false) }
-{
-    let mut server = server.copy(alloc)?;
-    break_in_place(alloc, &mut server, from, tell, version)?;
-    Ok(server)
-}
-
-/// As [`break_server`], with no copy of the server: out of memory it may be left failed, with a part of what it
-/// heard.
-pub fn break_in_place(
-    alloc: Global,
+    keeps: bool,
     server: &mut Storage<MapStore>,
     from: &NodeId,
     tell: &Tell,
@@ -170,12 +152,17 @@ pub fn break_in_place(
     requires breaks { may_break (server_of server.old) from.now tell.now version ≡ true }
     ensures state { OnOk result (server_of server.new ≡ storage_hear (Some version) (server_of server.old) from.now tell.now) }
     ensures works { OnOk result (server.new.failed ≡ false) }
+    ensures err { keeps ≡ true → OnErr result (server.new ≡ server.old) }
 {
-    if break_from(alloc, server, from, tell, version)? {
-        Ok(())
+    let is_broken = if keeps {
+        let mut copy = server.copy(alloc)?;
+        let is_broken = break_from(alloc, &mut copy, from, tell, version)?;
+        *server = copy;
+        is_broken
     } else {
-        unreachable!()
-    }
+        break_from(alloc, server, from, tell, version)?
+    };
+    if is_broken { Ok(()) } else { unreachable!() }
 }
 
 /// Tells a server what a node told it, and breaks off at a version; answers whether it can. Out of memory the server

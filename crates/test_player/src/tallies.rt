@@ -24,11 +24,11 @@ macro_rules! play_poll {
                 let progress = $tally.hear(cell, tell)?;
                 twice!($write($row.alloc, progress, $tally))
             }
-            "heard" => Ok(Value::from($tally.has_heard($row.read("cell")?))),
-            "made" => write_made($row.alloc, $tally.cells(), $tally.ballot().get()),
+            "heard" => Ok(Value::from($tally.poll().has_heard($row.read("cell")?))),
+            "made" => write_made($row.alloc, $tally.poll().cells(), $tally.ballot().get()),
             "state" => {
                 let copy = $tally.copy()?;
-                Ok($write($row.alloc, copy.progress(), &copy)?)
+                Ok($write($row.alloc, copy.poll().progress(), &copy)?)
             }
             _ => no_such_word("rows of a read_tally or a write_tally: hear, heard, made, state"),
         }

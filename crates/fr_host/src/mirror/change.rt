@@ -35,28 +35,9 @@ impl<D: Disk + Drop> Mirror<D> {
         ensures crash { (c : List ℕ) → Leaves self.new.mixes self.new.due self.new.bytes.items (D.Disk.may_leave self.new.below) c
             → Leaves self.old.mixes self.old.due self.old.bytes.items (D.Disk.may_leave self.old.below) c }
     {
-        match self.due {
-            Some(due) => self.redo(due),
-            None => Ok(()),
-        }
-    }
-
-    /// Makes a write anew that failed below.
-    fn redo(&mut self, due: Due) -> io::Result<()>
-        requires whole { self.old.is_torn ≡ false }
-        requires due { self.old.due ≡ Some due }
-        ensures done { OnOk result (self.new.due ≡ None) }
-        ensures bytes { self.new.bytes.items ≡ self.old.bytes.items }
-        ensures torn { self.new.is_torn ≡ false }
-        ensures mixing { self.new.mixes ≡ self.old.mixes }
-        ensures lost { self.new.is_lost ≡ self.old.is_lost }
-        ensures faults { self.new.faults ≡ self.old.faults }
-        ensures refused { self.new.refused ≡ self.old.refused }
-        ensures calm { IsTrue (D.Disk.is_clean self.new.below) → IsTrue (D.Disk.is_clean self.old.below) }
-        ensures key { D.Disk.key_of self.new.below ≡ D.Disk.key_of self.old.below }
-        ensures crash { (c : List ℕ) → Leaves self.new.mixes self.new.due self.new.bytes.items (D.Disk.may_leave self.new.below) c
-            → Leaves self.old.mixes self.old.due self.old.bytes.items (D.Disk.may_leave self.old.below) c }
-    {
+        let Some(due) = self.due else {
+            return Ok(());
+        };
         if !self.may_write() {
             return not_made();
         }

@@ -1,5 +1,5 @@
 //! Storage servers hear.
-ghost use Rattle.std.specs.Prelude.{◌≡◌, IfErr, IfOk, None, Ok, OnErr, OnOk, Some};
+ghost use Rattle.std.specs.Prelude.{◌≡◌, true, IfErr, IfOk, None, Ok, OnErr, OnOk, Some};
 ghost use Rattle.fr_base.specs.declared.place.NodeId.TheVariants as node;
 ghost use Rattle.fr_run.specs.Step.{heard_by_storage};
 ghost use Rattle.fr_run.specs.declared.event.Event.TheVariants as event;
@@ -18,20 +18,23 @@ use fr_run::{Answer, NotEnabled};
 use fr_world_nodes::Nodes;
 use std::alloc::Global;
 
-/// A tell comes to a storage server, which may break off its hear at a version.
+/// A tell comes to a storage server, which may break off its hear at a version. Out of memory nodes that are kept are
+/// as they were; others are given up.
 pub(crate) fn heard_by_storage(
     alloc: Global,
     nodes: &mut Nodes,
+    keeps: bool,
     tag: Tag,
     from: NodeId,
     tell: Tell,
     taken: Option<Version>,
 ) -> Result<Answer, NotEnabled>
     requires kept { IsKept nodes.old }
+    ensures keeps { keeps ≡ true → IsKept nodes.new }
     ensures turn { Steps (state_of nodes.old) (state_of nodes.new) (event.Hear (node.Storage tag) from tell taken) result }
     ensures refused { Refuses (state_of nodes.old) (event.Hear (node.Storage tag) from tell taken) result }
     ensures err { OnErr result (state_of nodes.new ≡ state_of nodes.old) }
-    ensures stays { IsKept nodes.new }
+    ensures stays { OnOk result (IsKept nodes.new) }
 {
     step_law();
     let by = NodeId::Storage { tag };
@@ -43,8 +46,8 @@ pub(crate) fn heard_by_storage(
         return Err(NotEnabled::NeverSent);
     }
     match taken {
-        None => hear_whole(alloc, nodes, tag, from, tell),
-        Some(version) => hear_in_part(alloc, nodes, tag, from, tell, version),
+        None => hear_whole(alloc, nodes, keeps, tag, from, tell),
+        Some(version) => hear_in_part(alloc, nodes, keeps, tag, from, tell, version),
     }
 }
 
@@ -52,6 +55,7 @@ pub(crate) fn heard_by_storage(
 fn hear_whole(
     alloc: Global,
     nodes: &mut Nodes,
+    keeps: bool,
     tag: Tag,
     from: NodeId,
     tell: Tell,
@@ -63,9 +67,10 @@ fn hear_whole(
         tell None) ≡ Ok (state_of nodes.new, answer)) }
     ensures refused { IfErr result (λ why. why ≡ not_enabled.Memory) }
     ensures err { OnErr result (state_of nodes.new ≡ state_of nodes.old) }
-    ensures stays { IsKept nodes.new }
+    ensures keeps { keeps ≡ true → IsKept nodes.new }
+    ensures stays { OnOk result (IsKept nodes.new) }
 {
-    match nodes.tell_storage(alloc, tag, from, tell)? {
+    match nodes.tell_storage(alloc, keeps, tag, from, tell)? {
         Some(fault) => Ok(Answer::Refused(fault)),
         None => Ok(Answer::Done),
     }
@@ -75,6 +80,7 @@ fn hear_whole(
 fn hear_in_part(
     alloc: Global,
     nodes: &mut Nodes,
+    keeps: bool,
     tag: Tag,
     from: NodeId,
     tell: Tell,
@@ -89,88 +95,12 @@ fn hear_in_part(
         (storage_at (state_of nodes.old).config (state_of nodes.old).turns tag) tag from tell
         (Some version)) result }
     ensures err { OnErr result (state_of nodes.new ≡ state_of nodes.old) }
-    ensures stays { IsKept nodes.new }
-{
-    if !nodes.may_break(tag, &from, &tell, version) {
-        return Err(NotEnabled::NeverSent);
-    }
-    nodes.break_storage(alloc, tag, from, tell, version)?;
-    Ok(Answer::Done)
-}
-
-/// As [`heard_by_storage`], with no copy of the server: out of memory the nodes are given up.
-pub(crate) fn heard_in_place(
-    alloc: Global,
-    nodes: &mut Nodes,
-    tag: Tag,
-    from: NodeId,
-    tell: Tell,
-    taken: Option<Version>,
-) -> Result<Answer, NotEnabled>
-    requires kept { IsKept nodes.old }
-    ensures turn { Steps (state_of nodes.old) (state_of nodes.new) (event.Hear (node.Storage tag) from tell taken) result }
-    ensures refused { Refuses (state_of nodes.old) (event.Hear (node.Storage tag) from tell taken) result }
-    ensures stays { OnOk result (IsKept nodes.new) }
-{
-    step_law();
-    let by = NodeId::Storage { tag };
-    if let Some(why) = why_not_up(nodes, &by) {
-        return Err(why);
-    }
-    let told_by = from;
-    if !nodes.was_told(told_by, by, &tell) {
-        return Err(NotEnabled::NeverSent);
-    }
-    match taken {
-        None => hear_whole_in_place(alloc, nodes, tag, from, tell),
-        Some(version) => hear_in_part_in_place(alloc, nodes, tag, from, tell, version),
-    }
-}
-
-/// As [`hear_whole`], with no copy of the server.
-fn hear_whole_in_place(
-    alloc: Global,
-    nodes: &mut Nodes,
-    tag: Tag,
-    from: NodeId,
-    tell: Tell,
-) -> Result<Answer, NotEnabled>
-    requires kept { IsKept nodes.old }
-    requires heard { IsHeardBy (state_of nodes.old).config (state_of nodes.old).turns (node.Storage tag) from tell }
-    ensures turn { IfOk result (λ answer. stepped_by (state_of nodes.old)
-        (heard_by_storage (storage_at (state_of nodes.old).config (state_of nodes.old).turns tag) tag from
-        tell None) ≡ Ok (state_of nodes.new, answer)) }
-    ensures refused { IfErr result (λ why. why ≡ not_enabled.Memory) }
-    ensures stays { OnOk result (IsKept nodes.new) }
-{
-    match nodes.tell_storage_in_place(alloc, tag, from, tell)? {
-        Some(fault) => Ok(Answer::Refused(fault)),
-        None => Ok(Answer::Done),
-    }
-}
-
-/// As [`hear_in_part`], with no copy of the server.
-fn hear_in_part_in_place(
-    alloc: Global,
-    nodes: &mut Nodes,
-    tag: Tag,
-    from: NodeId,
-    tell: Tell,
-    version: Version,
-) -> Result<Answer, NotEnabled>
-    requires kept { IsKept nodes.old }
-    requires heard { IsHeardBy (state_of nodes.old).config (state_of nodes.old).turns (node.Storage tag) from tell }
-    ensures turn { IfOk result (λ answer. stepped_by (state_of nodes.old)
-        (heard_by_storage (storage_at (state_of nodes.old).config (state_of nodes.old).turns tag) tag from
-        tell (Some version)) ≡ Ok (state_of nodes.new, answer)) }
-    ensures refused { RefusesTurn (heard_by_storage
-        (storage_at (state_of nodes.old).config (state_of nodes.old).turns tag) tag from tell
-        (Some version)) result }
+    ensures keeps { keeps ≡ true → IsKept nodes.new }
     ensures stays { OnOk result (IsKept nodes.new) }
 {
     if !nodes.may_break(tag, &from, &tell, version) {
         return Err(NotEnabled::NeverSent);
     }
-    nodes.break_storage_in_place(alloc, tag, from, tell, version)?;
+    nodes.break_storage(alloc, keeps, tag, from, tell, version)?;
     Ok(Answer::Done)
 }

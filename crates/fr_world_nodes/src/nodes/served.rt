@@ -8,9 +8,7 @@ ghost use Rattle.fr_run.specs.Turn as history;
 ghost use Rattle.fr_world_nodes.specs.Kept.{state_of, with_turn, IsKept};
 
 use super::Nodes;
-use crate::storages::{
-    ServerHeard, break_in_place, break_server, may_break, tell_in_place, tell_server,
-};
+use crate::storages::{break_server, may_break, tell_server};
 use fr_ask::Tell;
 use fr_base::{Memory, NodeId, Tag, Version};
 use fr_run::laws::node_laws;
@@ -19,10 +17,12 @@ use fr_world_turns::Turn;
 use std::alloc::Global;
 
 impl Nodes {
-    /// A tell comes to a storage server; answers why it refuses that.
+    /// A tell comes to a storage server; answers why it refuses that. Out of memory nodes that are kept are as they
+    /// were; others are given up.
     pub fn tell_storage(
         &mut self,
         alloc: Global,
+        keeps: bool,
         tag: Tag,
         from: NodeId,
         tell: Tell,
@@ -36,50 +36,13 @@ impl Nodes {
             ≡ with_turn (state_of self.old) (history.StorageHeard tag from tell None
             (fault_of (nodes.storage_at (state_of self.old).config (state_of self.old).turns tag) from tell))) }
         ensures err { OnErr result (state_of self.new ≡ state_of self.old) }
-        ensures stays { IsKept self.new }
-    {
-        node_laws();
-        self.turns.reserve()?;
-        let number = usize::from(tag.get());
-        let ServerHeard { server, fault } = tell_server(
-            alloc,
-            &self.storages[number],
-            &from,
-            &tell,
-        )?;
-        self.storages[number] = server;
-        self.turns.push_reserved(Turn::Storage {
-            tag,
-            from,
-            tell,
-            taken: None,
-            fault,
-        });
-        Ok(fault)
-    }
-
-    /// As [`Nodes::tell_storage`], with no copy of the server: out of memory the nodes are given up.
-    pub fn tell_storage_in_place(
-        &mut self,
-        alloc: Global,
-        tag: Tag,
-        from: NodeId,
-        tell: Tell,
-    ) -> Result<Option<StorageFault>, Memory>
-        requires kept { IsKept self.old }
-        requires turn { IsTurn (state_of self.old).config (state_of self.old).turns
-            (history.StorageHeard tag from tell None
-            (fault_of (nodes.storage_at (state_of self.old).config (state_of self.old).turns tag) from tell)) }
-        ensures fault { IfOk result (λ fault. fault ≡ fault_of (nodes.storage_at (state_of self.old).config (state_of self.old).turns tag) from tell) }
-        ensures world { OnOk result (state_of self.new
-            ≡ with_turn (state_of self.old) (history.StorageHeard tag from tell None
-            (fault_of (nodes.storage_at (state_of self.old).config (state_of self.old).turns tag) from tell))) }
         ensures stays { OnOk result (IsKept self.new) }
+        ensures keeps { keeps ≡ true → IsKept self.new }
     {
         node_laws();
         self.turns.reserve()?;
         let number = usize::from(tag.get());
-        let fault = tell_in_place(alloc, &mut self.storages[number], &from, &tell)?;
+        let fault = tell_server(alloc, keeps, &mut self.storages[number], &from, &tell)?;
         self.turns.push_reserved(Turn::Storage {
             tag,
             from,
@@ -100,10 +63,11 @@ impl Nodes {
         may_break(&self.storages[number], from, tell, version)
     }
 
-    /// A tell comes to a storage server, which breaks off its hear at a version at which it can.
+    /// As [`Nodes::tell_storage`], of a server that breaks off its hear at a version at which it can.
     pub fn break_storage(
         &mut self,
         alloc: Global,
+        keeps: bool,
         tag: Tag,
         from: NodeId,
         tell: Tell,
@@ -116,44 +80,14 @@ impl Nodes {
             ≡ with_turn (state_of self.old) (history.StorageHeard tag from tell (Some version)
             (fault_of (nodes.storage_at (state_of self.old).config (state_of self.old).turns tag) from tell))) }
         ensures err { OnErr result (state_of self.new ≡ state_of self.old) }
-        ensures stays { IsKept self.new }
-    {
-        node_laws();
-        self.turns.reserve()?;
-        let number = usize::from(tag.get());
-        let server = break_server(alloc, &self.storages[number], &from, &tell, version)?;
-        self.storages[number] = server;
-        self.turns.push_reserved(Turn::Storage {
-            tag,
-            from,
-            tell,
-            taken: Some(version),
-            fault: None,
-        });
-        Ok(())
-    }
-
-    /// As [`Nodes::break_storage`], with no copy of the server: out of memory the nodes are given up.
-    pub fn break_storage_in_place(
-        &mut self,
-        alloc: Global,
-        tag: Tag,
-        from: NodeId,
-        tell: Tell,
-        version: Version,
-    ) -> Result<(), Memory>
-        requires kept { IsKept self.old }
-        requires heard { IsHeardBy (state_of self.old).config (state_of self.old).turns (node.Storage tag) from tell }
-        requires breaks { may_break (nodes.storage_at (state_of self.old).config (state_of self.old).turns tag) from tell version ≡ true }
-        ensures world { OnOk result (state_of self.new
-            ≡ with_turn (state_of self.old) (history.StorageHeard tag from tell (Some version)
-            (fault_of (nodes.storage_at (state_of self.old).config (state_of self.old).turns tag) from tell))) }
         ensures stays { OnOk result (IsKept self.new) }
+        ensures keeps { keeps ≡ true → IsKept self.new }
     {
         node_laws();
         self.turns.reserve()?;
         let number = usize::from(tag.get());
-        break_in_place(alloc, &mut self.storages[number], &from, &tell, version)?;
+        let server = &mut self.storages[number];
+        break_server(alloc, keeps, server, &from, &tell, version)?;
         self.turns.push_reserved(Turn::Storage {
             tag,
             from,

@@ -1,46 +1,23 @@
--- The cells and what each ballot learned, step by step.
-use Rattle.std.proofs.Common.{◌≡◌, refl}
-use Rattle.fr_register.specs.declared.poll.Progress.TheVariants.{Majority}
-use Rattle.example_ballots.proofs.Steps.{promised, promised_over, read_cell, written_cell, read_found, write_came_to}
-use Rattle.example_ballots.specs.Scene.{found, found_nothing, held}
+-- The cells and what each ballot came to, one attempt after the other.
+use Rattle.std.proofs.Common.{◌≡◌}
+use Rattle.example_ballots.proofs.Steps.{attempted, attempted_cell}
+use Rattle.example_ballots.specs.Scene.{held}
 use Rattle.example_ballots.proofs.sequence.in_turn.Goals as goal
 
-left_1 : (c : goal.In_ok-second_wrote) → c.read_two.new.one ≡ promised 256
-left_1 c = read_cell _ _ _ _ _ c.ballots-first.ensures.first c.new-left.ensures c.in_ok-first_found.ensures.one
-
-middle_1 : (c : goal.In_ok-second_wrote) → c.read_two.new.other ≡ promised 256
-middle_1 c = read_cell _ _ _ _ _ c.ballots-first.ensures.first c.new-middle.ensures c.in_ok-first_found.ensures.other
-
-middle_2 : (c : goal.In_ok-second_wrote) → c.write_two.new.other ≡ held 256 c.args.first_value.now
-middle_2 c = written_cell _ _ _ _ _ _ c.ballots-first.ensures.first (middle_1 c) c.in_ok-first_wrote.ensures.other
-
-middle_3 : (c : goal.In_ok-second_wrote) → c.read_two-2.new.one ≡ promised_over 256 c.args.first_value.now 512
-middle_3 c = read_cell _ _ _ _ _ c.ballots-first.ensures.second (middle_2 c) c.in_ok-second_found.ensures.one
-
-right_1 : (c : goal.In_ok-second_wrote) → c.read_two-2.new.other ≡ promised 512
-right_1 c = read_cell _ _ _ _ _ c.ballots-first.ensures.second c.new-right.ensures c.in_ok-second_found.ensures.other
+middle_1 : (c : goal.In_ok-later) → c.read_and_write.new.other ≡ held 256 c.args.first_value.now
+middle_1 c = attempted_cell _ _ _ _ _ _ c.ballots-first.ensures.first c.new-middle.ensures c.in_ok-earlier.ensures.cells.1
 
 pub returns-clause-first : goal.returns-clause-first
-returns-clause-first c =
-    let learned : c.in_ok-first_found.first_found ≡ found_nothing =
-    read_found _ _ 0 1 _ _ _ _ _ c.ballots-first.ensures.first c.new-left.ensures c.new-middle.ensures c.in_ok-first_found.ensures.found in
-    let wrote : c.in_ok-first_wrote.first_wrote ≡ Majority =
-    write_came_to _ _ 0 1 c.args.first_value.now _ _ _ _ _ c.ballots-first.ensures.first (left_1 c) (middle_1 c) c.in_ok-first_wrote.ensures.progress in
-    rw (learned, wrote) refl
+returns-clause-first c = attempted _ _ 0 1 c.args.first_value.now _ _ _ _ _ c.ballots-first.ensures.first c.new-left.ensures c.new-middle.ensures c.in_ok-earlier.ensures.attempt
 
 pub returns-clause-second : goal.returns-clause-second
-returns-clause-second c =
-    let learned : c.in_ok-second_found.second_found ≡ found 256 c.args.first_value.now =
-    read_found _ _ 1 2 _ _ _ _ _ c.ballots-first.ensures.second (middle_2 c) c.new-right.ensures c.in_ok-second_found.ensures.found in
-    let wrote : c.in_ok-second_wrote.second_wrote ≡ Majority =
-    write_came_to _ _ 1 2 c.args.second_value.now _ _ _ _ _ c.ballots-first.ensures.second (middle_3 c) (right_1 c) c.in_ok-second_wrote.ensures.progress in
-    rw (learned, wrote) refl
+returns-clause-second c = attempted _ _ 1 2 c.args.second_value.now _ _ _ _ _ c.ballots-first.ensures.second (middle_1 c) c.new-right.ensures c.in_ok-later.ensures.attempt
 
 pub returns-clause-left : goal.returns-clause-left
-returns-clause-left c = written_cell _ _ _ _ _ _ c.ballots-first.ensures.first (left_1 c) c.in_ok-first_wrote.ensures.one
+returns-clause-left c = attempted_cell _ _ _ _ _ _ c.ballots-first.ensures.first c.new-left.ensures c.in_ok-earlier.ensures.cells.0
 
 pub returns-clause-middle : goal.returns-clause-middle
-returns-clause-middle c = written_cell _ _ _ _ _ _ c.ballots-first.ensures.second (middle_3 c) c.in_ok-second_wrote.ensures.one
+returns-clause-middle c = attempted_cell _ _ _ _ _ _ c.ballots-first.ensures.second (middle_1 c) c.in_ok-later.ensures.cells.0
 
 pub returns-clause-right : goal.returns-clause-right
-returns-clause-right c = written_cell _ _ _ _ _ _ c.ballots-first.ensures.second (right_1 c) c.in_ok-second_wrote.ensures.other
+returns-clause-right c = attempted_cell _ _ _ _ _ _ c.ballots-first.ensures.second c.new-right.ensures c.in_ok-later.ensures.cells.1

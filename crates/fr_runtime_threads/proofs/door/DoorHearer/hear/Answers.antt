@@ -11,7 +11,7 @@ invariant_of-self-2 c =
     let es = old.notes.journal.entries in
     let o = c.in_ok-outcome.outcome in
     let e : Entry = record { stamp = c.in-Some.stamp; act = Heard c.args.from c.args.tell None (Some o) } in
-    let n : c.enter.new.self.journal.entries ≡ es ++ e ∷ [] = c.enter.ensures.entries ∙ ap (λ l. l ++ e ∷ []) (c.next.ensures.entries ∙ ap (λ j. j.entries) c.see.ensures.journal) in
+    let n : c.enter.new.self.journal.entries ≡ es ++ e ∷ [] = c.enter.ensures.entries ∙ ap (λ l. l ++ e ∷ []) c.next.ensures.entries in
     let h = heard es c.enter.new.self.journal.entries e o n refl in
     record {
       tells = heard-told es c.enter.new.self.journal.entries o old.told.items old.under_way c.after_saying-self.result h old.tells old.opens c.after_saying-self.ensures;
@@ -23,5 +23,5 @@ returns-clause-given c =
     let es = c.args.self.now.notes.journal.entries in
     let o = c.in_ok-outcome.outcome in
     let e : Entry = record { stamp = c.in-Some.stamp; act = Heard c.args.from c.args.tell None (Some o) } in
-    let n : c.enter.new.self.journal.entries ≡ es ++ e ∷ [] = c.enter.ensures.entries ∙ ap (λ l. l ++ e ∷ []) (c.next.ensures.entries ∙ ap (λ j. j.entries) c.see.ensures.journal) in
+    let n : c.enter.new.self.journal.entries ≡ es ++ e ∷ [] = c.enter.ensures.entries ∙ ap (λ l. l ++ e ∷ []) c.next.ensures.entries in
     ap (λ (a : Account). a.given) (heard es c.enter.new.self.journal.entries e o n refl)
