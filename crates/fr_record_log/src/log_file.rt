@@ -1,6 +1,7 @@
 //! The changes of a log as records of its file.
-ghost use Rattle.std.specs.Prelude.{◌≡◌, true, false, Ok, Err, None, Some, OnOk, OnErr, IsErr};
+ghost use Rattle.std.specs.Prelude.{◌≡◌, Err, None, Some, OnOk, OnErr};
 ghost use Rattle.fr_record_node.specs.declared.fault.RecordReadFault.{RecordReadFault};
+ghost use Rattle.fr_record_log.specs.declared.change.Change.{Change};
 ghost use Rattle.fr_log.specs.LogState.{swept};
 ghost use Rattle.fr_record_log.specs.LogFile.{taken, IsSettledLog};
 
@@ -11,7 +12,7 @@ use crate::reading::change_at;
 use crate::spelling::spelled_ask;
 use fr_base::{Machine, Memory};
 use fr_log::laws::{chain_law, letting_law, place_law};
-use fr_log::{Checkpoint, Log, LogAsk, LogTell};
+use fr_log::{Checkpoint, Log, LogAsk, LogTell, PoppedTag, SeedRecord};
 use fr_record_node::{RecordReadFault, Recorded};
 use std::alloc::Global;
 use std::marker::Model;
@@ -78,48 +79,69 @@ impl Machine for FileLog {
     }
 }
 
-/// What reading a record comes to that a log took or did not.
-fn read_by(is_taken: Result<bool, Memory>) -> Result<(), RecordReadFault>
-    ensures ok { OnOk result (is_taken ≡ Ok true) }
-    ensures broken { (result ≡ Err RecordReadFault.Broken) → is_taken ≡ Ok false }
-    ensures memory { (result ≡ Err RecordReadFault.Memory) → IsErr is_taken }
-{
-    match is_taken {
-        Ok(true) => Ok(()),
-        Ok(false) => Err(RecordReadFault::Broken),
-        Err(_) => Err(RecordReadFault::Memory),
-    }
-}
-
-/// Does by a record what it says, and nothing if no ask of this log wrote it.
-fn take(log: &mut Log, alloc: Global, change: Change) -> Result<(), RecordReadFault>
+/// Takes an ask that changes the log.
+fn take_ask(log: &mut Log, alloc: Global, ask: LogAsk) -> Result<(), RecordReadFault>
     requires { IsSettledLog log.old }
-    ensures ok { OnOk result (taken log.old change ≡ Some log.new) }
-    ensures broken { (result ≡ Err RecordReadFault.Broken) → taken log.old change ≡ None }
+    ensures ok { OnOk result (taken log.old (Change.Asked ask) ≡ Some log.new) }
+    ensures broken { (result ≡ Err RecordReadFault.Broken) → taken log.old (Change.Asked ask) ≡ None }
     ensures err { OnErr result (log.new ≡ log.old) }
     ensures settled { IsSettledLog log.new }
 {
     chain_law();
     letting_law();
     log_within_limits(log);
-    match change {
-        Change::Asked(ask) => {
-            ask_within_limits(&ask);
-            if !log.is_changed_by(&ask) {
-                return Err(RecordReadFault::Broken);
-            }
-            if log.step(alloc, ask).is_err() {
-                return Err(RecordReadFault::Memory);
-            }
-        }
-        Change::Seeded(next) => read_by(log.take_seeded(next))?,
-        Change::LetGo(popped) => {
-            read_by(log.take_popped(popped))?;
-            log.settle();
-        }
+    ask_within_limits(&ask);
+    if !log.is_changed_by(&ask) {
+        return Err(RecordReadFault::Broken);
     }
+    match log.step(alloc, ask) {
+        Ok(_) => {
+            log_within_limits(log);
+            Ok(())
+        }
+        Err(_) => Err(RecordReadFault::Memory),
+    }
+}
+
+/// Takes one record more into the seed.
+fn take_seeded(log: &mut Log, next: SeedRecord) -> Result<(), RecordReadFault>
+    requires { IsSettledLog log.old }
+    ensures ok { OnOk result (taken log.old (Change.Seeded next) ≡ Some log.new) }
+    ensures broken { (result ≡ Err RecordReadFault.Broken) → taken log.old (Change.Seeded next) ≡ None }
+    ensures err { OnErr result (log.new ≡ log.old) }
+    ensures settled { IsSettledLog log.new }
+{
+    letting_law();
     log_within_limits(log);
-    Ok(())
+    match log.take_seeded(next) {
+        Ok(true) => {
+            log_within_limits(log);
+            Ok(())
+        }
+        Ok(false) => Err(RecordReadFault::Broken),
+        Err(_) => Err(RecordReadFault::Memory),
+    }
+}
+
+/// Pops a tag further.
+fn take_popped(log: &mut Log, popped: PoppedTag) -> Result<(), RecordReadFault>
+    requires { IsSettledLog log.old }
+    ensures ok { OnOk result (taken log.old (Change.LetGo popped) ≡ Some log.new) }
+    ensures broken { (result ≡ Err RecordReadFault.Broken) → taken log.old (Change.LetGo popped) ≡ None }
+    ensures err { OnErr result (log.new ≡ log.old) }
+    ensures settled { IsSettledLog log.new }
+{
+    letting_law();
+    log_within_limits(log);
+    match log.take_popped(popped) {
+        Ok(true) => {
+            log.settle();
+            log_within_limits(log);
+            Ok(())
+        }
+        Ok(false) => Err(RecordReadFault::Broken),
+        Err(_) => Err(RecordReadFault::Memory),
+    }
 }
 
 impl Recorded for FileLog {
@@ -203,6 +225,10 @@ impl Recorded for FileLog {
             Ok(change) => change,
             Err(fault) => return Err(fault),
         };
-        take(&mut self.log, alloc, change)
+        match change {
+            Change::Asked(ask) => take_ask(&mut self.log, alloc, ask),
+            Change::Seeded(next) => take_seeded(&mut self.log, next),
+            Change::LetGo(popped) => take_popped(&mut self.log, popped),
+        }
     }
 }
