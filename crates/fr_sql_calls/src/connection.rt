@@ -126,10 +126,10 @@ pub fn between<'x, S: Backing>(
 ) -> Result<Vec<(Bytes, Bytes)>, Trouble>
     requires rest { IsAtRest (state S.Store conn.old) }
     requires laid { IsLaidOut (state S.Store conn.old).now }
+    ensures looks { Looks (state S.Store conn.old) (state S.Store conn.new) result }
     ensures rows { IfOk result (λ rows. rows.items
         ≡ map.entries (map.retain_keys (contents_in ((state S.Store conn.old).now.trees 0))
         (is_between begin.now end.now))) }
-    ensures looks { Looks (state S.Store conn.old) (state S.Store conn.new) result }
 {
     match kv::between(alloc, conn, begin, end) {
         Ok(rows) => Ok(rows),

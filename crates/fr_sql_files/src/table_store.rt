@@ -170,6 +170,7 @@ impl<S: FileTables> ShardStore for TableStore<S> {
         key: &Bytes,
         version: Version,
     ) -> Result<Option<Bytes>, StoreFault>
+        ensures told { IfErr result (IsTold self.old self.new) }
         ensures value { IfOk result (λ value. value ≡ value_undone (shown_by S.Store self.old) version key.now) }
         ensures within { OnOk result (((shown_by S.Store self.old).floor ≤ version) × (version ≤ (shown_by S.Store self.old).applied)) }
         ensures below_floor { (result ≡ Err StoreFault.BelowFloor) ↔ ((has_failed self.old ≡ false) × (version < (shown_by S.Store self.old).floor)) }
@@ -178,7 +179,6 @@ impl<S: FileTables> ShardStore for TableStore<S> {
         ensures trouble { IfErr result (λ fault. fault ≢ StoreFault.Failed → fault ≢ StoreFault.BelowFloor
             → fault ≢ StoreFault.AboveApplied → IsTrouble MeetsAll fault) }
         ensures keeps { WritesNothing (shown_by S.Store) has_failed (Leaves S.Store S.KeptLeaves) self.old self.new result }
-        ensures told { IfErr result (IsTold self.old self.new) }
     {
         match &mut self.link {
             Link::Open(store) => store.get_at(alloc, key, version),
