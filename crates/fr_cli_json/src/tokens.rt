@@ -15,7 +15,7 @@ use fast_float::Numeral;
 use fr_base::{Bytes, Version};
 use json::{Invalid, Reader, Token};
 pub use mutations::read_batch;
-use std::alloc::Global;
+use std::alloc::{AllocError, AllocFailed, Global};
 
 /// Why tokens gave no script.
 #[derive(Clone, Copy, Debug, PartialEq, Eq)]
@@ -26,25 +26,17 @@ pub enum Unread {
     Memory,
 }
 
-/// A refused growth of memory is the variant `Memory` of these.
-#[macro_export]
-macro_rules! memory_is_refused {
-    ($($fault:ident)+) => {$(
-        impl From<std::alloc::AllocError> for $fault {
-            fn from(_error: std::alloc::AllocError) -> $fault {
-                $fault::Memory
-            }
-        }
-
-        impl<T: Drop> From<std::alloc::AllocFailed<T>> for $fault {
-            fn from(_error: std::alloc::AllocFailed<T>) -> $fault {
-                $fault::Memory
-            }
-        }
-    )+};
+impl From<AllocError> for Unread {
+    fn from(_error: AllocError) -> Unread {
+        Unread::Memory
+    }
 }
 
-memory_is_refused! { Unread }
+impl<T: Drop> From<AllocFailed<T>> for Unread {
+    fn from(_error: AllocFailed<T>) -> Unread {
+        Unread::Memory
+    }
+}
 
 impl From<Invalid> for Unread {
     fn from(_error: Invalid) -> Unread {

@@ -1,6 +1,6 @@
 //! Why JSON is not in its form.
 use fr_base::Memory as NoMemory;
-use fr_cli_json::memory_is_refused;
+use std::alloc::{AllocError, AllocFailed};
 use thiserror::Error;
 
 /// Why no value was read. Their numbers are 1 and 2, in the order of these variants.
@@ -14,7 +14,17 @@ pub enum ScriptFault {
     Memory,
 }
 
-memory_is_refused! { ScriptFault }
+impl From<AllocError> for ScriptFault {
+    fn from(_error: AllocError) -> ScriptFault {
+        ScriptFault::Memory
+    }
+}
+
+impl<T: Drop> From<AllocFailed<T>> for ScriptFault {
+    fn from(_error: AllocFailed<T>) -> ScriptFault {
+        ScriptFault::Memory
+    }
+}
 
 impl From<NoMemory> for ScriptFault {
     fn from(_error: NoMemory) -> ScriptFault {

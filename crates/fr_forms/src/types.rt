@@ -13,24 +13,195 @@ use fr_tags::Body;
 use serde_json::Value;
 use std::alloc::Global;
 
-/// Types whose values are read and written as their rows say.
-macro_rules! formed {
-    ($($type:ident)+) => {$(
-        impl Formed for $type {
-            fn from_row(alloc: Global, row: Row<'_>) -> Result<Self, Unread> {
-                kind!($type read alloc row)
-            }
+impl Formed for NodeId {
+    fn from_row(alloc: Global, row: Row<'_>) -> Result<Self, Unread> {
+        kind!(NodeId read alloc row)
+    }
 
-            fn to_value(&self, alloc: Global) -> Result<Value, Memory> {
-                kind!($type write self alloc)
-            }
-        }
-    )+};
+    fn to_value(&self, alloc: Global) -> Result<Value, Memory> {
+        kind!(NodeId write self alloc)
+    }
 }
 
-formed! { NodeId Ask Tell CellAsk CellTell LogAsk Seed SeedRecord Body LogTell PoppedTag Peeked PeekedRecord }
+impl Formed for Ask {
+    fn from_row(alloc: Global, row: Row<'_>) -> Result<Self, Unread> {
+        kind!(Ask read alloc row)
+    }
 
-formed! { LogRefusal SeqAsk SeqTell SeqRefusal Generation Outcome }
+    fn to_value(&self, alloc: Global) -> Result<Value, Memory> {
+        kind!(Ask write self alloc)
+    }
+}
+
+impl Formed for Tell {
+    fn from_row(alloc: Global, row: Row<'_>) -> Result<Self, Unread> {
+        kind!(Tell read alloc row)
+    }
+
+    fn to_value(&self, alloc: Global) -> Result<Value, Memory> {
+        kind!(Tell write self alloc)
+    }
+}
+
+impl Formed for CellAsk {
+    fn from_row(alloc: Global, row: Row<'_>) -> Result<Self, Unread> {
+        kind!(CellAsk read alloc row)
+    }
+
+    fn to_value(&self, alloc: Global) -> Result<Value, Memory> {
+        kind!(CellAsk write self alloc)
+    }
+}
+
+impl Formed for CellTell {
+    fn from_row(alloc: Global, row: Row<'_>) -> Result<Self, Unread> {
+        kind!(CellTell read alloc row)
+    }
+
+    fn to_value(&self, alloc: Global) -> Result<Value, Memory> {
+        kind!(CellTell write self alloc)
+    }
+}
+
+impl Formed for LogAsk {
+    fn from_row(alloc: Global, row: Row<'_>) -> Result<Self, Unread> {
+        kind!(LogAsk read alloc row)
+    }
+
+    fn to_value(&self, alloc: Global) -> Result<Value, Memory> {
+        kind!(LogAsk write self alloc)
+    }
+}
+
+impl Formed for Seed {
+    fn from_row(alloc: Global, row: Row<'_>) -> Result<Self, Unread> {
+        kind!(Seed read alloc row)
+    }
+
+    fn to_value(&self, alloc: Global) -> Result<Value, Memory> {
+        kind!(Seed write self alloc)
+    }
+}
+
+impl Formed for SeedRecord {
+    fn from_row(alloc: Global, row: Row<'_>) -> Result<Self, Unread> {
+        kind!(SeedRecord read alloc row)
+    }
+
+    fn to_value(&self, alloc: Global) -> Result<Value, Memory> {
+        kind!(SeedRecord write self alloc)
+    }
+}
+
+impl Formed for Body {
+    fn from_row(alloc: Global, row: Row<'_>) -> Result<Self, Unread> {
+        kind!(Body read alloc row)
+    }
+
+    fn to_value(&self, alloc: Global) -> Result<Value, Memory> {
+        kind!(Body write self alloc)
+    }
+}
+
+impl Formed for LogTell {
+    fn from_row(alloc: Global, row: Row<'_>) -> Result<Self, Unread> {
+        kind!(LogTell read alloc row)
+    }
+
+    fn to_value(&self, alloc: Global) -> Result<Value, Memory> {
+        kind!(LogTell write self alloc)
+    }
+}
+
+impl Formed for PoppedTag {
+    fn from_row(alloc: Global, row: Row<'_>) -> Result<Self, Unread> {
+        kind!(PoppedTag read alloc row)
+    }
+
+    fn to_value(&self, alloc: Global) -> Result<Value, Memory> {
+        kind!(PoppedTag write self alloc)
+    }
+}
+
+impl Formed for Peeked {
+    fn from_row(alloc: Global, row: Row<'_>) -> Result<Self, Unread> {
+        kind!(Peeked read alloc row)
+    }
+
+    fn to_value(&self, alloc: Global) -> Result<Value, Memory> {
+        kind!(Peeked write self alloc)
+    }
+}
+
+impl Formed for PeekedRecord {
+    fn from_row(alloc: Global, row: Row<'_>) -> Result<Self, Unread> {
+        kind!(PeekedRecord read alloc row)
+    }
+
+    fn to_value(&self, alloc: Global) -> Result<Value, Memory> {
+        kind!(PeekedRecord write self alloc)
+    }
+}
+
+impl Formed for LogRefusal {
+    fn from_row(alloc: Global, row: Row<'_>) -> Result<Self, Unread> {
+        kind!(LogRefusal read alloc row)
+    }
+
+    fn to_value(&self, alloc: Global) -> Result<Value, Memory> {
+        kind!(LogRefusal write self alloc)
+    }
+}
+
+impl Formed for SeqAsk {
+    fn from_row(alloc: Global, row: Row<'_>) -> Result<Self, Unread> {
+        kind!(SeqAsk read alloc row)
+    }
+
+    fn to_value(&self, alloc: Global) -> Result<Value, Memory> {
+        kind!(SeqAsk write self alloc)
+    }
+}
+
+impl Formed for SeqTell {
+    fn from_row(alloc: Global, row: Row<'_>) -> Result<Self, Unread> {
+        kind!(SeqTell read alloc row)
+    }
+
+    fn to_value(&self, alloc: Global) -> Result<Value, Memory> {
+        kind!(SeqTell write self alloc)
+    }
+}
+
+impl Formed for SeqRefusal {
+    fn from_row(alloc: Global, row: Row<'_>) -> Result<Self, Unread> {
+        kind!(SeqRefusal read alloc row)
+    }
+
+    fn to_value(&self, alloc: Global) -> Result<Value, Memory> {
+        kind!(SeqRefusal write self alloc)
+    }
+}
+
+impl Formed for Generation {
+    fn from_row(alloc: Global, row: Row<'_>) -> Result<Self, Unread> {
+        kind!(Generation read alloc row)
+    }
+
+    fn to_value(&self, alloc: Global) -> Result<Value, Memory> {
+        kind!(Generation write self alloc)
+    }
+}
+
+impl Formed for Outcome {
+    fn from_row(alloc: Global, row: Row<'_>) -> Result<Self, Unread> {
+        kind!(Outcome read alloc row)
+    }
+
+    fn to_value(&self, alloc: Global) -> Result<Value, Memory> {
+        kind!(Outcome write self alloc)
+    }
+}
 
 /// A phase that is no text, which no world gives, is written as the empty one.
 impl Formed for Last {

@@ -45,22 +45,75 @@ impl Formed for bool {
     }
 }
 
-/// Numbers that are read by `new`, of a row's number or byte, and written by `get`.
-macro_rules! numbered {
-    ($($type:ident $row:ident),+) => {$(
-        impl Formed for $type {
-            fn from_row(_alloc: Global, row: Row<'_>) -> Result<Self, Unread> {
-                $type::new(row.$row()).ok_or(Unread::Unusual)
-            }
+impl Formed for Version {
+    fn from_row(_alloc: Global, row: Row<'_>) -> Result<Self, Unread> {
+        Version::new(row.number()).ok_or(Unread::Unusual)
+    }
 
-            fn to_value(&self, _alloc: Global) -> Result<Value, Memory> {
-                Ok(Value::from(self.get() as u64))
-            }
-        }
-    )+};
+    fn to_value(&self, _alloc: Global) -> Result<Value, Memory> {
+        Ok(Value::from(self.get()))
+    }
 }
 
-numbered! { Version number, Epoch number, Ballot number, Step number, Stamp number, Tag byte, Most byte }
+impl Formed for Epoch {
+    fn from_row(_alloc: Global, row: Row<'_>) -> Result<Self, Unread> {
+        Epoch::new(row.number()).ok_or(Unread::Unusual)
+    }
+
+    fn to_value(&self, _alloc: Global) -> Result<Value, Memory> {
+        Ok(Value::from(self.get()))
+    }
+}
+
+impl Formed for Ballot {
+    fn from_row(_alloc: Global, row: Row<'_>) -> Result<Self, Unread> {
+        Ballot::new(row.number()).ok_or(Unread::Unusual)
+    }
+
+    fn to_value(&self, _alloc: Global) -> Result<Value, Memory> {
+        Ok(Value::from(self.get()))
+    }
+}
+
+impl Formed for Step {
+    fn from_row(_alloc: Global, row: Row<'_>) -> Result<Self, Unread> {
+        Step::new(row.number()).ok_or(Unread::Unusual)
+    }
+
+    fn to_value(&self, _alloc: Global) -> Result<Value, Memory> {
+        Ok(Value::from(self.get()))
+    }
+}
+
+impl Formed for Stamp {
+    fn from_row(_alloc: Global, row: Row<'_>) -> Result<Self, Unread> {
+        Stamp::new(row.number()).ok_or(Unread::Unusual)
+    }
+
+    fn to_value(&self, _alloc: Global) -> Result<Value, Memory> {
+        Ok(Value::from(self.get()))
+    }
+}
+
+impl Formed for Tag {
+    fn from_row(_alloc: Global, row: Row<'_>) -> Result<Self, Unread> {
+        Tag::new(row.byte()).ok_or(Unread::Unusual)
+    }
+
+    fn to_value(&self, _alloc: Global) -> Result<Value, Memory> {
+        Ok(Value::from(self.get() as u64))
+    }
+}
+
+impl Formed for Most {
+    fn from_row(_alloc: Global, row: Row<'_>) -> Result<Self, Unread> {
+        Most::new(row.byte()).ok_or(Unread::Unusual)
+    }
+
+    fn to_value(&self, _alloc: Global) -> Result<Value, Memory> {
+        Ok(Value::from(self.get() as u64))
+    }
+}
 
 impl Formed for Bytes {
     fn from_row(alloc: Global, row: Row<'_>) -> Result<Self, Unread> {
