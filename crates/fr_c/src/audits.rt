@@ -24,11 +24,13 @@ pub extern "C" fn fdbrec_audit(alloc: Global, script: &[u8], out: &mut [u8], len
     let mut script = script;
     let mut line = Vec::new(alloc);
     match run_audit(alloc, &mut script, &mut line) {
-        Ok(0) => if give(&line, out, len) { OK } else { SHORT },
-        Ok(_) => if give(&line, out, len) {
-            REFUSED
-        } else {
-            SHORT
+        Ok(judged) => match judged.status {
+            0 => if give(&line, out, len) { OK } else { SHORT },
+            _ => if give(&line, out, len) {
+                REFUSED
+            } else {
+                SHORT
+            },
         },
         Err(CliFault::BadScript) => BAD_TEXT,
         Err(_) => MEMORY,

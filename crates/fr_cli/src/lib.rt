@@ -14,7 +14,7 @@ mod words;
 use fr_cli_apply::own_words;
 pub use fr_cli_apply::{ApplyOptions, BAD_WORDS, Ending, StoreWord, run_apply, run_apply_on};
 pub use fr_cli_apply_sql::{DbFault, FileFault, run_apply_db, run_apply_sql, run_rows_db};
-pub use fr_cli_audit::run_audit;
+pub use fr_cli_audit::{Judged, run_audit};
 pub use fr_cli_cluster::{ClusterOptions, ClusterWords, DEFAULTS, run_cluster, run_cluster_on};
 pub use fr_cli_end::{EndOptions, run_end};
 pub use fr_cli_json::CliFault;

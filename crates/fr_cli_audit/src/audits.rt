@@ -27,7 +27,7 @@ pub struct Judged {
 }
 
 /// Audits the journals of a script, and writes one line: that they are a run of the script's config, or the first
-/// fault.
+/// fault. Of that it says what it is: the entry or the node, what its journal says and what the rules say there.
 ///
 /// The status is 0 for a run, and 1 for a fault. A script is read whole before the line is written, so what is no
 /// script writes nothing.
@@ -35,22 +35,26 @@ pub fn run_audit<R: Read, W: Write>(
     alloc: Global,
     reader: &mut R,
     writer: &mut W,
-) -> Result<u8, CliFault>
-    ensures line { IfOk result (λ status. (c : history.Config) × (js : List JournalState)
-        × (status ≡ status_of (audited c js))
+) -> Result<Judged, CliFault>
+    ensures line { IfOk result (λ judged. (c : history.Config) × (js : List JournalState)
+        × (judged.status ≡ status_of (audited c js))
         × Appends (W.contents writer.old) (W.contents writer.new) (line_of (audited c js))) }
     ensures unwritten { (result ≡ Err CliFault.BadScript) ⊎ (result ≡ Err CliFault.Input)
         → writer.new ≡ writer.old }
+    ensures unsaid { IfOk result (λ judged. judged.status ≡ 0 → judged.why ≡ None) }
 {
-    let mut calls = CallCounts::new();
-    let judged = audit_counted(alloc, &mut calls, &mut String::new(alloc), reader, writer)?;
-    Ok(judged.status)
+    audit_counted(
+        alloc,
+        &mut CallCounts::new(),
+        &mut String::new(alloc),
+        reader,
+        writer,
+    )
 }
 
-/// As [`run_audit`], and says what a fault is: the entry or the node, what its journal says and what the rules say
-/// there. Of a run nothing is said. The calls of the reader and of the writer are counted in `calls`, which has none
-/// yet. `Input` is answered only if a read failed or 2^30 of them found no end, `Output` only if a write or a flush
-/// failed. Of a bad script `place` says where it is bad.
+/// As [`run_audit`], with the calls of the reader and of the writer counted in `calls`, which has none yet. `Input` is
+/// answered only if a read failed or 2^30 of them found no end, `Output` only if a write or a flush failed. Of a bad
+/// script `place` says where it is bad.
 pub fn audit_counted<R: Read, W: Write>(
     alloc: Global,
     calls: &mut CallCounts,
