@@ -1,5 +1,6 @@
 """What the sources weigh: the counts by which the repository is kept small (docs/tables --weight)."""
 import collections
+import itertools
 import re
 
 from making.sources import Crates, files_of, read
@@ -20,7 +21,7 @@ FAMILIES = (
     ("examples", "example_"),
 )
 ASKS = (("MarkAsked|Marked|NoMark", "mark"), ("Pop|Popped", "pop"))
-PARAMETERS, BODY, RUN = 7, 40, 10
+PARAMETERS, BODY, RUN, PLACES = 7, 40, 10, 8
 FUNCTION = re.compile(r"^( *)((?:pub(?:\([a-z]+\))? )?)(?:const |unsafe |extern \"C\" )*fn (\w+)", re.M)
 TYPE = re.compile(r"^pub (?:struct|enum|trait|type) (\w+)", re.M)
 WORD = re.compile(r"[A-Za-z_]\w*|\d+|\"[^\"]*\"")
@@ -85,25 +86,41 @@ def lines_of(path, as_what):
             yield number, as_what(line)
 
 
-def repeated(paths, as_what=shape_of):
-    """Pairs of places that are alike over so many lines and more, each as long as it can be. What stands in n places
-    counts n (n - 1) / 2 times; runs with few lines of different shapes are left out."""
-    lines = {path: list(lines_of(path, as_what)) for path in paths}
+def runs_of(lines):
+    """Where each run of so many lines stands; runs with few lines of different shapes are left out."""
     places = collections.defaultdict(list)
     for path, rows in lines.items():
         for at in range(len(rows) - RUN + 1):
-            run = tuple(shape for _, shape in rows[at : at + RUN])
+            run = tuple(line for _, line in rows[at : at + RUN])
             if len(set(run)) > RUN // 2:
                 places[run].append((path, at))
+    return places.values()
+
+
+def repeated(paths):
+    """Pairs of places that are the same word for word over so many lines and more, each as long as it can be. What
+    stands in n places counts n (n - 1) / 2 times."""
+    lines = {path: list(lines_of(path, lambda line: line)) for path in paths}
     found = set()
-    for starts in places.values():
-        for one in range(len(starts)):
-            for other in range(one):
-                (path, at), (second, there) = starts[one], starts[other]
-                before = at and there and lines[path][at - 1][1] == lines[second][there - 1][1]
-                if not before and (path != second or abs(at - there) >= RUN):
-                    found.add((second, lines[second][there][0], path, lines[path][at][0]))
+    for starts in runs_of(lines):
+        for (path, at), (second, there) in itertools.combinations(reversed(starts), 2):
+            before = at and there and lines[path][at - 1][1] == lines[second][there - 1][1]
+            if not before and (path != second or abs(at - there) >= RUN):
+                found.add((second, lines[second][there][0], path, lines[path][at][0]))
     return sorted(found)
+
+
+def alike(paths):
+    """Pairs of files, or of a file with itself, that have such a run of lines of the same shapes, each with where the
+    first one is. Lines without a word are passed over, and what stands in more than eight places."""
+    lines = {path: [it for it in lines_of(path, shape_of) if "x" in it[1]] for path in paths}
+    found = {}
+    for starts in runs_of(lines):
+        for (path, at), (second, there) in itertools.combinations(starts, 2):
+            if len(starts) <= PLACES and (path != second or abs(at - there) >= RUN):
+                place = (lines[path][at][0], lines[second][there][0])
+                found[path, second] = min(place, found.get((path, second), place))
+    return [(path, at, second, there) for (path, second), (at, there) in sorted(found.items())]
 
 
 def sources(part):
@@ -141,15 +158,15 @@ def weight():
         for name in TYPE.findall(read(path)):
             types[name].add(path)
     twice = sorted(name for name, paths in types.items() if len(paths) > 1)
-    pairs = repeated(code)
+    pairs = alike(code)
     said.append(f"| public functions with more than {PARAMETERS} parameters | {len(wide)} |")
     said.append(f"| bodies over {BODY} lines | {len(long)} |")
     said.append(f"| public types that share a name | {len(twice)} |")
-    same = repeated(code, lambda line: line)
-    said.append(f"| pairs of places in code with lines of the same shapes, {RUN} and more | {len(pairs)} |")
+    same = repeated(code)
+    said.append(f"| pairs of files of code with lines of the same shapes, {RUN} and more | {len(pairs)} |")
     said.append(f"| pairs of places in code that are the same word for word, {RUN} lines and more | {len(same)} |")
     said += ["", *(f"{path}: {name} has {count} parameters" for path, name, _, count, _ in wide)]
     said += [f"{path}: {name} has {lines} lines" for path, name, _, _, lines in long]
     said += [f"{name}: {', '.join(sorted(types[name]))}" for name in twice]
-    said += [f"{path}:{at} is like {second}:{there}" for second, there, path, at in pairs]
+    said += [f"{path}:{at} is like {second}:{there}" for path, at, second, there in pairs]
     return said
