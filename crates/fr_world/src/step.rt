@@ -102,7 +102,7 @@ fn is_lately_given(nodes: &Nodes, event: &Event) -> bool {
 }
 
 /// Makes the turn that an event is.
-fn happen(alloc: Global, keeps: bool, nodes: &mut Nodes, event: Event) -> Result<Answer, NotEnabled>
+fn happen(alloc: Global, nodes: &mut Nodes, keeps: bool, event: Event) -> Result<Answer, NotEnabled>
     requires kept { IsKept nodes.old }
     ensures turn { Steps (state_of nodes.old) (state_of nodes.new) event result }
     ensures refused { Refuses (state_of nodes.old) event result }
