@@ -1,5 +1,6 @@
 //! What a process is asked of its node, and what it answers.
 ghost use Rattle.std.specs.Prelude.{◌≡◌, true, None, IfOk, IfSome};
+ghost use Rattle.fr_node.specs.declared.reply.NodeRequest.{NodeRequest};
 ghost use Rattle.fr_node.specs.Answers.{IsAnswer, order_refusal};
 ghost use Rattle.fr_node.specs.Turns.{IfCrashed, IfRefused, Refuses, UnlessCrashed};
 
@@ -99,24 +100,44 @@ pub fn answer<T: Acting>(
             let value = node.read(alloc, &key, version)?;
             Ok(NodeReply::Read { value })
         }
-        NodeRequest::Take { at, turn } => {
-            let kind = turn.kind();
-            let entry = node.act(alloc, at, turn)?;
-            let last = node.last(alloc)?;
-            let wants = wants_of(alloc, node)?;
-            Ok(NodeReply::Taken {
-                kind,
-                entry,
-                last,
-                wants,
-            })
-        }
+        NodeRequest::Take { at, turn } => take(alloc, node, at, turn),
         NodeRequest::Back { at, hearing } => {
             let entries = node.back(alloc, at, hearing)?;
             let last = node.last(alloc)?;
             Ok(NodeReply::Back { entries, last })
         }
     }
+}
+
+/// Has a node take a turn.
+fn take<T: Acting>(
+    alloc: Global,
+    node: &mut T,
+    at: Stamp,
+    turn: NodeTurn,
+) -> Result<NodeReply, NodeTurnFault>
+    requires works { T.works node.old ≡ true }
+    ensures node { T.node node.new ≡ T.node node.old }
+    ensures answered { IfOk result (λ reply. IsAnswer
+        (record { node = T.node node.old; entries = T.entries node.old; last = T.last_of node.old; wanted = T.wanted node.old; read = T.value_at node.old })
+        (record { node = T.node node.new; entries = T.entries node.new; last = T.last_of node.new; wanted = T.wanted node.new; read = T.value_at node.new })
+        (NodeRequest.Take at turn) reply) }
+    ensures works { UnlessCrashed result (T.works node.new ≡ true) }
+    ensures refused { Refuses (T.refusal node.old at turn) result }
+    ensures left { IfRefused result (T.entries node.new ≡ T.entries node.old) }
+    ensures stands { IfRefused result (T.last_of node.new ≡ T.last_of node.old) }
+    ensures crashed { IfCrashed result T.CanCrash }
+{
+    let kind = turn.kind();
+    let entry = node.act(alloc, at, turn)?;
+    let last = node.last(alloc)?;
+    let wants = wants_of(alloc, node)?;
+    Ok(NodeReply::Taken {
+        kind,
+        entry,
+        last,
+        wants,
+    })
 }
 
 /// What a node asks once it took a turn, if it says so with each.
