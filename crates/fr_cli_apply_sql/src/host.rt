@@ -1,10 +1,11 @@
 //! Files of the host, and the commands on a store in them.
 use crate::db::{apply_on_files, show_files};
 use crate::fault::{DbFault, FileFault};
-use crate::memory_file::files_of;
+use crate::memory_file::{MemoryFile, files_of};
 use fr_cli_json::{CallCounts, CliFault};
 use fr_host::Mirror;
 use fr_sql_files::{OpenFault, SqlFileStore};
+use fr_undo::StoreFault;
 use sqlite_disk::{Disk, Files};
 use sqlite_std_file::{FileFrom, OpenError, Unknown, open};
 use std::alloc::{AllocError, Global};
@@ -117,14 +118,28 @@ fn bytes_of(alloc: Global, file: &mut HostFile) -> io::Result<Vec<u8>> {
     Ok(bytes)
 }
 
-/// Whether files hold something else than a store, and have no log: this is tried in memory, so that nothing is written.
+/// A copy of files, in memory: what is tried on it is not written into them.
+fn copy_of(alloc: Global, files: &mut Files<HostFile>) -> io::Result<Files<MemoryFile>> {
+    let log = bytes_of(alloc, &mut files.log)?;
+    Ok(files_of(log, bytes_of(alloc, &mut files.db)?))
+}
+
+/// Whether files hold something else than a store, and have no log.
 fn hold_another(alloc: Global, files: &mut Files<HostFile>) -> io::Result<bool> {
     if !files.may_be_used() || files.log.len()? > 0 || files.db.len()? == 0 {
         return Ok(false);
     }
-    let copy = files_of(alloc, bytes_of(alloc, &mut files.db)?);
-    let opened = SqlFileStore::open_or_create(alloc, copy);
+    let opened = SqlFileStore::open_or_create(alloc, copy_of(alloc, files)?);
     Ok(matches!(opened, Err(OpenFault::NoStore)))
+}
+
+/// Whether files hold a store already.
+fn hold_store(alloc: Global, files: &mut Files<HostFile>) -> io::Result<bool> {
+    match SqlFileStore::open(alloc, copy_of(alloc, files)?) {
+        Ok(_) => Ok(true),
+        Err(StoreFault::Memory) => Err(ErrorKind::OutOfMemory.into()),
+        Err(_) => Ok(false),
+    }
 }
 
 /// The files of a name, unless they can be seen to hold no store, which are left as they were.
@@ -153,7 +168,8 @@ pub fn run_apply_db<R: Read, W: Write>(
     Ok(0)
 }
 
-/// Shows the store in the file of a name: see [`show_files`]. The status is 0. No file is made.
+/// Shows the store in the file of a name: see [`show_files`]. The status is 0. No file is made, and no store: a database
+/// without tables is refused as `NoStore`.
 pub fn run_rows_db<W: Write>(
     rt: &HostRuntime,
     alloc: Global,
@@ -166,7 +182,12 @@ pub fn run_rows_db<W: Write>(
         Place::Empty => return Err(DbFault::Files(FileFault::NoStore)),
         Place::Held => (),
     }
-    let files = store_files(rt, alloc, name)?;
+    let mut files = host_files(rt, alloc, name)?;
+    match hold_store(alloc, &mut files) {
+        Ok(true) => {}
+        Ok(false) => return Err(DbFault::Files(FileFault::NoStore)),
+        Err(error) => return Err(unread(error)),
+    }
     show_files(alloc, files, &mut calls, writer)?;
     Ok(0)
 }

@@ -140,14 +140,17 @@ const BLANK: [u8; 108] = [
     0, 0, 0, 0, 0, 0, 0, 0, 0, 0, 0, 46, 118, 136, 13, 0, 0, 0, 0, 4, 0, 0,
 ];
 
-/// A database file of these bytes, with an empty log.
-pub(crate) fn files_of(alloc: Global, bytes: Vec<u8>) -> Files<MemoryFile> {
+/// The two files of a database of these bytes.
+pub(crate) fn files_of(log: Vec<u8>, db: Vec<u8>) -> Files<MemoryFile> {
     Files {
         log: MemoryFile {
-            bytes: Vec::new(alloc),
+            bytes: log,
             faults: 0,
         },
-        db: MemoryFile { bytes, faults: 0 },
+        db: MemoryFile {
+            bytes: db,
+            faults: 0,
+        },
     }
 }
 
@@ -155,5 +158,5 @@ pub(crate) fn files_of(alloc: Global, bytes: Vec<u8>) -> Files<MemoryFile> {
 pub(crate) fn blank_files(alloc: Global) -> Result<Files<MemoryFile>, AllocError> {
     let mut page = vec![in alloc; 0; PAGE_SIZE]?;
     page[..BLANK.len()].copy_from_slice(&BLANK);
-    Ok(files_of(alloc, page))
+    Ok(files_of(Vec::new(alloc), page))
 }
