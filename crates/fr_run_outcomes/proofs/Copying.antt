@@ -66,7 +66,7 @@ last_above after v [] l all = l
 last_above after v (r ∷ rs) l all = last_above after r.version rs (All-head (λ x. after < x.version) r rs all) (All-tail (λ x. after < x.version) r rs all)
 
 -- a peek below what the log holds goes on
-peek_rises : (l : LogState) (tag after most : ℕ) → after < durable_of l → after < (peek_of l tag after most).upto
+pub peek_rises : (l : LogState) (tag after most : ℕ) → after < durable_of l → after < (peek_of l tag after most).upto
 peek_rises l tag after most less = go (nat_lt most (length (records_above l tag after)))
   where
     go : (b : Bool) → after < cond b (fold (λ version r. r.version) (durable_of l) (take most (records_above l tag after))) (durable_of l)
@@ -74,7 +74,7 @@ peek_rises l tag after most less = go (nat_lt most (length (records_above l tag 
     go false = less
 
 -- a seeded log that holds the tag answers a peek of its epoch that does not start too early, unless it is removed
-peeks : (l : LogState) (e tag after most : ℕ) → l.epoch ≡ e → is_some l.seed ≡ true → holds l tag ≡ true → first_of l.seed ≤ after + 1 → (x : Bool) → nat_lt after (popped_at l.popped tag) ≡ x
+pub peeks : (l : LogState) (e tag after most : ℕ) → l.epoch ≡ e → is_some l.seed ≡ true → holds l tag ≡ true → first_of l.seed ≤ after + 1 → (x : Bool) → nat_lt after (popped_at l.popped tag) ≡ x
     → answer_of l (Peek e tag after most) ≡ cond x (Refused (Removed (popped_at l.popped tag))) (Peeked (peek_of l tag after most))
 peeks l e tag after most own seeded held starts x removed =
     ap (λ o. answer_unless o (Peeked (peek_of l tag after most))) (

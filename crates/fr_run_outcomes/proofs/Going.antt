@@ -83,6 +83,28 @@ rec_still_up laws c b h later k a up = record {
   up = still_up c b h later k (node.Recoverer a) up.up;
 }
 
+-- what a recoverer read stays, once it has its parent
+record HasReads (c : Config) (h : List Turn) (a : ℕ) (r : RecState) : Type 0 where
+  recoverer : RecState
+  at : rec_at c h a ≡ Some recoverer
+  parent : recoverer.parent ≡ r.parent
+  reads : recoverer.reads ≡ r.reads
+
+reads_more : Laws → (c : Config) (more h : List Turn) → IsRun c (more ++ h) → (a : ℕ) (r : RecState) → rec_at c h a ≡ Some r → is_some r.parent ≡ true → HasReads c (more ++ h) a r
+reads_more laws c [] h run a r at some = record { recoverer = r; at = at; parent = refl; reads = refl }
+reads_more laws c (t ∷ more) h run a r at some =
+    let k = reads_more laws c more h run.1 a r at some in
+    let g = rec_grows laws c (more ++ h) t run.1 run.0 a k.recoverer k.at in
+    let has : is_some k.recoverer.parent ≡ true = ap is_some k.parent ∙ some in
+    record { recoverer = g.later; at = g.is; parent = g.grows.parent has ∙ k.parent; reads = g.grows.reads has ∙ k.reads }
+
+pub reads_stay : Laws → (c : Config) (b : ℕ) (h later : List Turn) → GoesOn c b h later → (a : ℕ) (r : RecState) → rec_at c h a ≡ Some r → is_some r.parent ≡ true → (n : RecState) → rec_at c later a ≡ Some n → n.reads ≡ r.reads
+reads_stay laws c b h later k a r at some n there =
+    let m = reads_more laws c k.more h (subst (IsRun c) (sym k.is) k.is_run) a r at some in
+    let two : Some n ≡ Some m.recoverer = sym there ∙ ap (λ l. rec_at c l a) (sym k.is) ∙ m.at in
+    let one : n ≡ m.recoverer = cc in
+    ap (λ (x : RecState). x.reads) one ∙ m.reads
+
 -- a recoverer that never began is not gone
 pub never_gone : Laws → (c : Config) (h : List Turn) → IsRun c h → (b : ℕ) → rec_at c h b ≡ None → Contains h (Gone (node.Recoverer b)) → ⊥
 never_gone laws c h run b none k = (let d : true ≡ false = sym (was_there h run k) ∙ ap is_some none in true≢false d)

@@ -50,7 +50,7 @@ seeded_by laws c h run e i there x (p ∷ ps) is mark = (push_is_reached laws c 
 -- ---- a storage server hears it
 
 -- none is gone
-no_storage_gone : (c : Config) (h : List Turn) → IsRun c h → (tag : ℕ) → Contains h (Gone (node.Storage tag)) → ⊥
+pub no_storage_gone : (c : Config) (h : List Turn) → IsRun c h → (tag : ℕ) → Contains h (Gone (node.Storage tag)) → ⊥
 no_storage_gone c [] run tag k = Contains-none k
 no_storage_gone c (t ∷ h) run tag k = elim (Contains-cases t h (Gone (node.Storage tag)) k) [
   | inl now ↦ (subst (IsTurn c h) now run.0).1
@@ -93,6 +93,7 @@ heard state taken c h config e i x tag inside run = record {
         (All-cons LosesNothing (LogTurn (node.Storage tag) e i (MarkAsked e) (Marked x)) [] (λ who d. absurd (cc)) (All-nil LosesNothing));
     low = λ j le. le;
   };
+  leaves = record { cells = refl; recoverers = λ b. refl; lost = λ b. refl };
   keeps = ends;
 }
   where

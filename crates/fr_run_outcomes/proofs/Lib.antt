@@ -19,6 +19,9 @@ pub mod Seeding
 pub mod Writing
 pub mod Recovering
 pub mod Hearing
+pub mod Marking
+pub mod Pulling
+pub mod Returning
 pub mod Losses
 pub mod Snapshots
 pub mod Settling

@@ -1,7 +1,7 @@
 -- A log that is gone is among the lost ones.
-use Rattle.std.proofs.Common.{◌≡◌, ℕ, Bool, true, false, cond, ◌==◌, List, [], ◌∷◌, ◌++◌, inl, inr, refl, sym, ◌∙◌, ap, subst}
+use Rattle.std.proofs.Common.{◌≡◌, ℕ, Bool, true, false, cond, ◌==◌, List, [], ◌∷◌, ◌++◌, inl, inr, ◌⊎◌, refl, sym, ◌∙◌, ap, subst}
 use Rattle.std.specs.List.{All, Contains}
-use Rattle.std.proofs.lemmas.Bool.{eq-eqb}
+use Rattle.std.proofs.lemmas.Bool.{eq-eqb, eqb-true}
 use Rattle.fr_base.specs.declared.place.NodeId.{NodeId}
 use Rattle.fr_base.specs.declared.place.NodeId.TheVariants as node
 use Rattle.fr_tags.specs.Placement.{is_among}
@@ -46,6 +46,46 @@ gone_is_lost (t ∷ h) e i k = elim (Contains-cases t h (Gone (node.Log e i)) k)
 
 pub lost_is_among : (h : List Turn) (e i : ℕ) → Contains h (Gone (node.Log e i)) → is_among (lost_logs h e) i ≡ true
 lost_is_among h e i k = among-from_Contains (lost_logs h e) i (gone_is_lost h e i k)
+
+-- and the lost ones are gone
+of_with : (who : NodeId) (e : ℕ) (logs : List ℕ) (i : ℕ) → Contains (lost_with who e logs) i → (who ≡ node.Log e i) ⊎ Contains logs i
+of_with (node.Cell j) e logs i k = inr k
+of_with (node.Log x j) e logs i k = go (x == e) refl k
+  where
+    go : (b : Bool) → (x == e) ≡ b → Contains (cond b (j ∷ logs) logs) i → (node.Log x j ≡ node.Log e i) ⊎ Contains logs i
+    go true same k = elim (Contains-cases j logs i k) [ inl is ↦ inl (ap (λ y. node.Log y j) (eqb-true x e same) ∙ ap (node.Log e) is) | inr rest ↦ inr rest ]
+    go false other k = inr k
+of_with (node.Sequencer x) e logs i k = inr k
+of_with (node.Proxy x p) e logs i k = inr k
+of_with (node.Recoverer b) e logs i k = inr k
+of_with (node.Storage t) e logs i k = inr k
+
+of_after : (t : Turn) (e : ℕ) (logs : List ℕ) (i : ℕ) → Contains (lost_after t e logs) i → (t ≡ Gone (node.Log e i)) ⊎ Contains logs i
+of_after (Begun b shape asks) e logs i k = inr k
+of_after (CellTurn from j a u) e logs i k = inr k
+of_after (LogTurn from x j a u) e logs i k = inr k
+of_after (SeqTurn from x a u) e logs i k = inr k
+of_after (Submitted x p n batch asks) e logs i k = inr k
+of_after (ProxyHeard x p from u outcome asks) e logs i k = inr k
+of_after (RecHeard b from u asks) e logs i k = inr k
+of_after (StorageHeard y from u taken fault) e logs i k = inr k
+of_after (Gone who) e logs i k = elim (of_with who e logs i k) [ inl is ↦ inl (ap Gone is) | inr rest ↦ inr rest ]
+of_after (Crashed who) e logs i k = inr k
+
+gone_of_lost : (h : List Turn) (e i : ℕ) → Contains (lost_logs h e) i → Contains h (Gone (node.Log e i))
+gone_of_lost [] e i k = absurd (Contains-none k)
+gone_of_lost (t ∷ h) e i k = elim (of_after t e (lost_logs h e) i k) [
+  | inl now ↦ subst (λ u. Contains (u ∷ h) (Gone (node.Log e i))) (sym now) (Contains-here (Gone (node.Log e i)) h)
+  | inr before ↦ Contains-later t h (Gone (node.Log e i)) (gone_of_lost h e i before)
+]
+
+-- so none is lost of an epoch of which none is gone
+pub none_lost : (h : List Turn) (e : ℕ) → ((i : ℕ) → Contains h (Gone (node.Log e i)) → ⊥) → lost_logs h e ≡ []
+none_lost h e never = go (lost_logs h e) refl
+  where
+    go : (xs : List ℕ) → lost_logs h e ≡ xs → xs ≡ []
+    go [] is = refl
+    go (x ∷ xs) is = absurd (never x (gone_of_lost h e x (subst (λ ys. Contains ys x) (sym is) (Contains-here x xs))))
 
 -- where nothing is lost the lost ones stay
 same_with : (t : Turn) (e : ℕ) (logs : List ℕ) → LosesNothing t → lost_after t e logs ≡ logs

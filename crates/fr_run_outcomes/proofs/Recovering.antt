@@ -1,10 +1,11 @@
 -- A ballot that begins comes to be chosen, if each phase of its recovery goes on.
 use Rattle.std.proofs.Common.{◌≡◌, ℕ, ◌<◌, ◌≤◌, Bool, true, false, cond, nat_lt, ◌==◌, List, [], ◌∷◌, None, Some, inl, inr, ◌⊎◌, refl, sym, ◌∙◌, ap, subst, arith}
+use Rattle.std.specs.Prelude.{is_some}
 use Rattle.std.specs.List.{Contains}
 use Rattle.std.proofs.lemmas.Bool.{le-ltb, eqb-true, true≢false}
 use Rattle.std.proofs.lemmas.List.Elements.{All-weaker}
 use Rattle.fr_base.specs.declared.place.NodeId.TheVariants as node
-use Rattle.fr_register.specs.Poll.{Stamped}
+use Rattle.fr_register.specs.Poll.{Stamped, ReadState}
 use Rattle.fr_tags.specs.Placement.{log_count, covers, is_held}
 use Rattle.fr_tags.specs.CoverLaw.{CoveringMeetsEachTag}
 use Rattle.fr_state.specs.Reading.{reading}
@@ -23,17 +24,17 @@ use Rattle.fr_run_headline.specs.LogLaws.{tally, tally_in}
 use Rattle.fr_run_headline.proofs.Ends.{end_is_of_replies}
 use Rattle.fr_run_headline.proofs.Logs.{absent_before}
 use Rattle.fr_run_outcomes.specs.Going.{GoesOn}
-use Rattle.fr_run_outcomes.specs.Reading.{ReadsOn, ReadingEnds}
+use Rattle.fr_run_outcomes.specs.Reading.{pair_at, ReadsOn, ReadingEnds}
 use Rattle.fr_run_outcomes.specs.Locking.{IsFewLost, RepliedAreUp, HasPlan, HasNoRoom, LocksOn, LockingEnds}
 use Rattle.fr_run_outcomes.specs.Copying.{HolderIsUp, CopiesOn, CopyingEnds, SeedsOn, SeedingEnds}
 use Rattle.fr_run_outcomes.specs.Writing.{WritesOn, WritingEnds}
 use Rattle.fr_run_outcomes.specs.Recovering.{RecoversOn, NoDeadEnd}
-use Rattle.fr_run_outcomes.proofs.Going.{goes_further, still_up, rec_still_up}
+use Rattle.fr_run_outcomes.proofs.Going.{goes_further, still_up, rec_still_up, reads_stay}
 use Rattle.fr_run_outcomes.proofs.Lose.{still_lost}
 use Rattle.fr_run_outcomes.proofs.Copies.{IsOfReplies, made_from, of_replies}
 
 -- a log that was never there is not gone
-no_log_gone : Laws → (c : Config) (h : List Turn) → IsRun c h → (e i : ℕ) → nat_lt i (logs_at c h e) ≡ false → Contains h (Gone (node.Log e i)) → ⊥
+pub no_log_gone : Laws → (c : Config) (h : List Turn) → IsRun c h → (e i : ℕ) → nat_lt i (logs_at c h e) ≡ false → Contains h (Gone (node.Log e i)) → ⊥
 no_log_gone laws c [] run e i absent k = Contains-none k
 no_log_gone laws c (t ∷ h) run e i absent k = elim (Contains-cases t h (Gone (node.Log e i)) k) [
   | inl now ↦ true≢false (sym (subst (IsTurn c h) now run.0).0.there ∙ absent_before laws c h t run.1 run.0 e i absent)
@@ -41,7 +42,7 @@ no_log_gone laws c (t ∷ h) run e i absent k = elim (Contains-cases t h (Gone (
 ]
 
 -- a ballot that has not begun has no logs
-none_there : (c : Config) (h : List Turn) (b i : ℕ) → MayBegin b → rec_at c h b ≡ None → nat_lt i (logs_at c h b) ≡ false
+pub none_there : (c : Config) (h : List Turn) (b i : ℕ) → MayBegin b → rec_at c h b ≡ None → nat_lt i (logs_at c h b) ≡ false
 none_there c h b i may none = go (b == first_epoch) refl
   where
     go : (x : Bool) → (b == first_epoch) ≡ x → nat_lt i (cond x c.m (logs_in (plan_at c h b))) ≡ false
@@ -107,12 +108,17 @@ no_dead_end k c h config run b shape none may is_shape first others majority low
     all_up : RepliedAreUp locked.later found.parent locked.recoverer
     all_up = locked.replied (λ x has. absurd (Contains-none (subst (λ xs. Contains xs x) found.none has)))
 
-    from_plan : HasPlan locked.recoverer → RecoversOn c h b
+    -- what was read is what the first cell had
+    was_found : (later : List Turn) → GoesOn c b found.later later → (n : RecState) → rec_at c later b ≡ Some n → n.reads.greatest ≡ pair_at c h first
+    was_found later k' n there = ap (λ (x : ReadState). x.greatest) (reads_stay k.laws c b found.later later k' b found.recoverer found.at (ap is_some found.parent_is) n there) ∙ found.found
+
+    from_plan : HasPlan locked.recoverer → RecoversOn c h b first
     from_plan (phase, (q, plan)) = record {
       later = written.later;
       goes_on = goes_further c b h seeded.later written.later to_seeded written.goes_on;
       recoverer = written.recoverer;
       at = written.at;
+      found = was_found written.later (goes_further c b found.later seeded.later written.later (goes_further c b found.later copied.later seeded.later (goes_further c b found.later locked.later copied.later locked.goes_on copied.goes_on) seeded.goes_on) written.goes_on) written.recoverer written.at;
       ended = inl written.chosen;
     }
       where
@@ -135,6 +141,6 @@ no_dead_end k c h config run b shape none may is_shape first others majority low
             (rec_still_up k.laws c b found.later seeded.later (goes_further c b found.later copied.later seeded.later (goes_further c b found.later locked.later copied.later locked.goes_on copied.goes_on) seeded.goes_on) b found.up)
             (first ∷ others) majority (All-weaker (λ i. (cell_at c h i).promised ≤ b) (λ i. (cell_at c seeded.later i).promised ≤ b) to_seeded.low (first ∷ others) low)
 
-    go : HasPlan locked.recoverer ⊎ HasNoRoom locked.recoverer → RecoversOn c h b
+    go : HasPlan locked.recoverer ⊎ HasNoRoom locked.recoverer → RecoversOn c h b first
     go (inl planned) = from_plan planned
-    go (inr room) = record { later = locked.later; goes_on = to_locked; recoverer = locked.recoverer; at = locked.at; ended = inr room }
+    go (inr room) = record { later = locked.later; goes_on = to_locked; recoverer = locked.recoverer; at = locked.at; found = was_found locked.later locked.goes_on locked.recoverer locked.at; ended = inr room }

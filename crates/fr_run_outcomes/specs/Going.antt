@@ -2,9 +2,10 @@
 use Rattle.std.specs.Prelude.{◌≡◌, ◌≤◌, ℕ, List, ◌++◌, All}
 use Rattle.fr_base.specs.declared.place.NodeId.{NodeId}
 use Rattle.fr_run.specs.Config.{Config}
-use Rattle.fr_run.specs.Turn.{Turn, Gone}
-use Rattle.fr_run.specs.Nodes.{cell_at}
+use Rattle.fr_run.specs.Turn.{Turn, Gone, cell_turns}
+use Rattle.fr_run.specs.Nodes.{cell_at, rec_at}
 use Rattle.fr_run.specs.Run.{IsRun}
+use Rattle.fr_run_headline.specs.Retrievable.{lost_logs}
 
 -- a turn in which nothing is lost and nothing crashes for good
 abbrev pub LosesNothing : Turn → Type 0
@@ -17,3 +18,9 @@ pub record GoesOn (c : Config) (b : ℕ) (h later : List Turn) : Type 0 where
   pub is_run : IsRun c later
   pub lossless : All LosesNothing more
   pub low : (i : ℕ) → (cell_at c h i).promised ≤ b → (cell_at c later i).promised ≤ b
+
+-- on the way no cell was asked, no recoverer began or heard anything, and no log was lost. So the same states are chosen
+pub record LeavesChosen (c : Config) (h later : List Turn) : Type 0 where
+  pub cells : cell_turns later ≡ cell_turns h
+  pub recoverers : (b : ℕ) → rec_at c later b ≡ rec_at c h b
+  pub lost : (e : ℕ) → lost_logs later e ≡ lost_logs h e

@@ -8,6 +8,9 @@ pub mod Copying
 pub mod Writing
 pub mod Recovering
 pub mod Hearing
+pub mod Marking
+pub mod Pulling
+pub mod Returning
 pub mod Losses
 pub mod Snapshots
 pub mod Reads

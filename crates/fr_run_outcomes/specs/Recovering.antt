@@ -12,17 +12,20 @@ use Rattle.fr_run.specs.Run.{MayBegin, IsRun}
 use Rattle.fr_run.specs.StateLaws.{IsConfig}
 use Rattle.fr_run_outcomes.specs.Going.{GoesOn}
 use Rattle.fr_run_outcomes.specs.Locking.{IsFewLost, HasNoRoom}
+use Rattle.fr_run_outcomes.specs.Reading.{pair_at}
 
 -- of the last generation of the state that a cell has fewer than k logs are lost
 abbrev pub HasLogsLeft : Config → List Turn → ℕ → Type 0
 HasLogsLeft c h i = (s : CoordinatedState) (g : LogGeneration) → reading (cell_at c h i).value ≡ Ok s → last_of s.gens ≡ Some g → IsFewLost h g
 
--- a run goes on without a loss to a moment at which the state of a ballot is chosen, or its recoverer has found that there is no room
-pub record RecoversOn (c : Config) (h : List Turn) (b : ℕ) : Type 0 where
+-- a run goes on without a loss to a moment at which the state of a ballot is chosen, or its recoverer has found that there is no room. What it read is the pair
+-- of one cell
+pub record RecoversOn (c : Config) (h : List Turn) (b cell : ℕ) : Type 0 where
   pub later : List Turn
   pub goes_on : GoesOn c b h later
   pub recoverer : RecState
   pub at : rec_at c later b ≡ Some recoverer
+  pub found : recoverer.reads.greatest ≡ pair_at c h cell
   pub ended : (recoverer.phase ≡ Chosen) ⊎ HasNoRoom recoverer
 
 -- so does each one, for each ballot that may begin and above which no cell of some majority promised, if the greatest state that these cells have, that of the
@@ -31,4 +34,4 @@ abbrev pub NoDeadEnd : Type 0
 NoDeadEnd =
     (c : Config) (h : List Turn) → IsConfig c → IsRun c h → (b : ℕ) (shape : Option ShapeContent) → rec_at c h b ≡ None → MayBegin b → IfSome shape IsShape
     → (first : ℕ) (others : List ℕ) → IsMajority c.cells (first ∷ others) → All (λ i. (cell_at c h i).promised ≤ b) (first ∷ others)
-    → All (λ i. (cell_at c h i).written ≤ (cell_at c h first).written) others → HasLogsLeft c h first → RecoversOn c h b
+    → All (λ i. (cell_at c h i).written ≤ (cell_at c h first).written) others → HasLogsLeft c h first → RecoversOn c h b first
