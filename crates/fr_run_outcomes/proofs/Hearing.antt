@@ -1,15 +1,17 @@
 -- A storage server that asks a log for its epoch's mark keeps that epoch's state, unless it keeps a greater one's.
-use Rattle.std.proofs.Common.{◌≡◌, ℕ, ◌<◌, Bool, true, false, cond, not, nat_lt, List, [], ◌∷◌, length, None, Some, inl, inr, ◌⊎◌, refl, sym, ◌∙◌, ap, subst}
+use Rattle.std.proofs.Common.{◌≡◌, ℕ, ◌<◌, Bool, true, false, cond, not, nat_lt, ◌==◌, ◌&&◌, List, [], ◌∷◌, length, Option, None, Some, inl, inr, ◌⊎◌, refl, sym, ◌∙◌, ap, subst}
 use Rattle.std.specs.Prelude.{is_some, is_none}
 use Rattle.std.specs.List.{Contains}
-use Rattle.std.proofs.lemmas.Bool.{eq-eqb, ltb-true, lt-ltb}
+use Rattle.std.proofs.lemmas.Bool.{eq-eqb, ne_eqb, ltb-true, lt-ltb}
 use Rattle.std.proofs.lemmas.List.Elements.{All-nil, All-cons}
 use Rattle.fr_base.specs.declared.place.NodeId.TheVariants as node
 use Rattle.fr_state.specs.Generations.{CoordinatedState}
 use Rattle.fr_log.specs.Push.{PushContent}
 use Rattle.fr_log.specs.LogState.{LogState, mark_among}
-use Rattle.fr_log.specs.Step.{answer_of, answer_unless, mark_answer}
+use Rattle.fr_log.specs.Refusal.{mark_refusal}
+use Rattle.fr_log.specs.Step.{answer_of, answer_unless, next_of, next_unless, mark_answer}
 use Rattle.fr_log.specs.declared.ask.LogAsk.TheVariants.{MarkAsked}
+use Rattle.fr_log.specs.declared.ask.LogRefusal.{LogRefusal}
 use Rattle.fr_log.specs.declared.ask.LogRefusal.TheVariants.{WrongEpoch, Unseeded, NoMark}
 use Rattle.fr_log.specs.declared.ask.LogTell.TheVariants.{Marked}
 use Rattle.fr_ask.specs.declared.tell.Tell.TheVariants as tell
@@ -41,6 +43,14 @@ tells l e x own seeded mark =
     ∙ ap (λ y. cond y (Some Unseeded) (cond (is_none (mark_among l.pushes)) (Some NoMark) None)) (some_not_none l.seed seeded)
     ∙ ap (λ o. cond (is_none o) (Some NoMark) None) mark)
     ∙ ap mark_answer mark
+
+-- and stays as it was
+mark_leaves : (l : LogState) (e : ℕ) → next_of l (MarkAsked e) ≡ l
+mark_leaves l e = go (mark_refusal l e)
+  where
+    go : (o : Option LogRefusal) → next_unless o l l ≡ l
+    go None = refl
+    go (Some why) = refl
 
 -- one that has a mark is seeded
 seeded_by : Laws → (c : Config) (h : List Turn) → IsRun c h → (e i : ℕ) → i < logs_at c h e → (x : CoordinatedState) → (ps : List PushContent) → (log_at c h e i).pushes ≡ ps → mark_among ps ≡ Some x → is_some (log_at c h e i).seed ≡ true
@@ -94,9 +104,20 @@ heard state taken c h config e i x tag inside run = record {
     low = λ j le. le;
   };
   leaves = record { cells = refl; recoverers = λ b. refl; lost = λ b. refl };
+  others = record { logs = λ y j. log_same y j; storages = λ u other. other_same u other };
   keeps = ends;
 }
   where
+    log_same : (y j : ℕ) → log_at c (StorageHeard tag (node.Log e i) (tell.Log (Marked x)) None (marked_fault (storage_at c h tag) x) ∷ LogTurn (node.Storage tag) e i (MarkAsked e) (Marked x) ∷ h) y j ≡ log_at c h y j
+    log_same y j = go ((e == y) && (i == j))
+      where
+        go : (b : Bool) → cond b (next_of (log_at c h y j) (MarkAsked e)) (log_at c h y j) ≡ log_at c h y j
+        go true = mark_leaves (log_at c h y j) e
+        go false = refl
+
+    other_same : (u : ℕ) → (u ≡ tag → ⊥) → storage_at c (StorageHeard tag (node.Log e i) (tell.Log (Marked x)) None (marked_fault (storage_at c h tag) x) ∷ LogTurn (node.Storage tag) e i (MarkAsked e) (Marked x) ∷ h) u ≡ storage_at c h u
+    other_same u other = ap (λ y. cond y (storage_hear None (storage_at c h u) (node.Log e i) (tell.Log (Marked x))) (storage_at c h u)) (ne_eqb tag u (λ is. other (sym is)))
+
     told : Told (LogTurn (node.Storage tag) e i (MarkAsked e) (Marked x) ∷ h) (node.Log e i) (node.Storage tag) (tell.Log (Marked x))
     told = inl (refl, refl, refl)
 

@@ -2,8 +2,8 @@
 use Rattle.std.proofs.Common.{◌≡◌, ℕ, zero, suc, drop, ◌+◌, ◌-◌, ◌<◌, ◌≤◌, Bool, true, false, cond, not, nat_lt, min, max, fold, ◌==◌, ◌&&◌, List, [], ◌∷◌, length, Option, None, Some, inl, inr, ◌⊎◌, refl, sym, ◌∙◌, ap, subst, arith}
 use Rattle.std.specs.Prelude.{IfSome, is_some}
 use Rattle.std.specs.List.{Contains, All, range_with_len}
-use Rattle.std.proofs.lemmas.Bool.{eq-eqb, lt-ltb, le-ltb, ltb-true, ltb-false, true≢false}
-use Rattle.std.proofs.lemmas.List.Elements.{All-nil, All-cons, All-weaker, All-contains}
+use Rattle.std.proofs.lemmas.Bool.{cases_eq, eq-eqb, ne_eqb, lt-ltb, le-ltb, ltb-true, ltb-false, true≢false}
+use Rattle.std.proofs.lemmas.List.Elements.{All-nil, All-cons, All-head, All-tail, All-weaker, All-contains}
 use Rattle.fr_base.specs.declared.place.NodeId.TheVariants as node
 use Rattle.fr_register.specs.Chosen.{IsChosen}
 use Rattle.fr_register.specs.Poll.{Stamped}
@@ -16,7 +16,7 @@ use Rattle.fr_log.specs.declared.ask.LogAsk.TheVariants.{Peek}
 use Rattle.fr_log.specs.declared.ask.LogRefusal.{LogRefusal}
 use Rattle.fr_log.specs.declared.ask.LogTell.TheVariants.{Peeked}
 use Rattle.fr_log.specs.Left.{popped_at}
-use Rattle.fr_log.specs.LogState.{LogState, first_of, durable_of, holds}
+use Rattle.fr_log.specs.LogState.{LogState, first_of, durable_of, holds, mark_among}
 use Rattle.fr_log.specs.Peeked.{PeekedContent}
 use Rattle.fr_log.specs.Refusal.{refusal_of}
 use Rattle.fr_log.specs.Seed.{SeedContent}
@@ -29,7 +29,7 @@ use Rattle.fr_storage.specs.Position.{PeekedApplied}
 use Rattle.fr_storage.specs.Storage.{StorageState, own_epoch, after_calls, is_epoch, cut_at, peeked_fault, peeked_calls, reached_by, target_of, unless_fault, after_peeked}
 use Rattle.fr_run.specs.Config.{Config, first_epoch, first_state, first_cell}
 use Rattle.fr_run.specs.Turn.{Turn, LogTurn, StorageHeard, Gone, Told, cell_turns}
-use Rattle.fr_run.specs.Nodes.{rec_at, plan_in, generation_at, logs_at, log_after, log_at, storage_hear, storage_at}
+use Rattle.fr_run.specs.Nodes.{rec_at, plan_in, generation_at, logs_in, logs_at, log_at, storage_hear, storage_at}
 use Rattle.fr_run.specs.Run.{IsUp, IsRun}
 use Rattle.fr_run.specs.States.{state_in, state_of, line_of, pair_of, IsChosenEpoch, IsLatest}
 use Rattle.fr_run.specs.StateLaws.{IsConfig}
@@ -46,13 +46,15 @@ use Rattle.fr_run_headline.proofs.Agreement.{planned_epoch}
 use Rattle.fr_run_headline.proofs.Known.{logs_know}
 use Rattle.fr_run_headline.proofs.Lists.{HasList, planned_list}
 use Rattle.fr_run_headline.proofs.Named.{IsNamed, log_named}
-use Rattle.fr_run_outcomes.specs.Going.{LosesNothing, GoesOn, LeavesChosen}
+use Rattle.fr_run_outcomes.specs.Going.{LosesNothing, GoesOn, LeavesChosen, LeavesOthers}
 use Rattle.fr_run_outcomes.specs.Hearing.{HearsOn, MarkIsHeard}
 use Rattle.fr_run_outcomes.specs.Marking.{MarksOn, MarkIsHeld}
-use Rattle.fr_run_outcomes.specs.Pulling.{PullsOn, CommittedIsPulled, ChosenIsServed}
+use Rattle.fr_run_outcomes.specs.Pulling.{IsServed, PullsOn, CommittedIsPulled, AllPullOn, ChosenIsServed}
 use Rattle.fr_run_outcomes.proofs.Copying.{peek_rises, peeks}
-use Rattle.fr_run_outcomes.proofs.Going.{stands, goes_further}
+use Rattle.fr_run_outcomes.proofs.Counts.{below_all}
+use Rattle.fr_run_outcomes.proofs.Going.{stands, goes_further, log_still_up}
 use Rattle.fr_run_outcomes.proofs.Hearing.{no_storage_gone}
+use Rattle.fr_run_outcomes.proofs.Lists.{in_range}
 
 -- ---- the same states are chosen
 
@@ -61,6 +63,12 @@ all_left c h = record { cells = refl; recoverers = λ b. refl; lost = λ e. refl
 
 left_further : (c : Config) (h mid later : List Turn) → LeavesChosen c h mid → LeavesChosen c mid later → LeavesChosen c h later
 left_further c h mid later first second = record { cells = second.cells ∙ first.cells; recoverers = λ b. second.recoverers b ∙ first.recoverers b; lost = λ e. second.lost e ∙ first.lost e }
+
+none_changed : (c : Config) (h : List Turn) (tag : ℕ) → LeavesOthers c h h tag
+none_changed c h tag = record { logs = λ e i. refl; storages = λ u other. refl }
+
+others_further : (c : Config) (h mid later : List Turn) (tag : ℕ) → LeavesOthers c h mid tag → LeavesOthers c mid later tag → LeavesOthers c h later tag
+others_further c h mid later tag first second = record { logs = λ e i. second.logs e i ∙ first.logs e i; storages = λ u other. second.storages u other ∙ first.storages u other }
 
 left_state : (c : Config) (h later : List Turn) → LeavesChosen c h later → (e : ℕ) → state_of c later e ≡ state_of c h e
 left_state c h later k e = ap (λ o. cond (e == first_epoch) (first_state c) (state_in c (plan_in o))) (k.recoverers e)
@@ -158,10 +166,15 @@ log_same c h e i tag x j = go ((e == x) && (i == j))
     go true = peek_leaves (log_at c h x j) e tag (storage_at c h tag).store.applied 100
     go false = refl
 
-least_same : (c : Config) (h : List Turn) (e i tag x : ℕ) → least_durable c (hears c h e i tag ∷ asks c h e i tag ∷ h) x ≡ least_durable c h x
-least_same c h e i tag x =
-    fold_same (λ v j. min v (durable_of (log_at c (hears c h e i tag ∷ asks c h e i tag ∷ h) x j))) (λ v j. min v (durable_of (log_at c h x j))) (range_with_len 0 (logs_at c h x))
-    (durable_of (log_at c (hears c h e i tag ∷ asks c h e i tag ∷ h) x 0)) (durable_of (log_at c h x 0)) (ap durable_of (log_same c h e i tag x 0)) (λ v j. ap (λ l. min v (durable_of l)) (log_same c h e i tag x j))
+other_same : (c : Config) (h : List Turn) (e i tag u : ℕ) → (u ≡ tag → ⊥) → storage_at c (hears c h e i tag ∷ asks c h e i tag ∷ h) u ≡ storage_at c h u
+other_same c h e i tag u other = ap (λ y. cond y (storage_hear None (storage_at c h u) (node.Log e i) (tell.Log (Peeked (told_by c h e i tag)))) (storage_at c h u)) (ne_eqb tag u (λ is. other (sym is)))
+
+-- so do the versions that they hold
+least_left : (c : Config) (h later : List Turn) → LeavesChosen c h later → ((e i : ℕ) → log_at c later e i ≡ log_at c h e i) → (x : ℕ) → least_durable c later x ≡ least_durable c h x
+least_left c h later k logs x =
+    fold_same (λ v j. min v (durable_of (log_at c later x j))) (λ v j. min v (durable_of (log_at c h x j))) (range_with_len 0 (logs_at c later x))
+    (durable_of (log_at c later x 0)) (durable_of (log_at c h x 0)) (ap durable_of (logs x 0)) (λ v j. ap (λ l. min v (durable_of l)) (logs x j))
+    ∙ ap (λ o. fold (λ v j. min v (durable_of (log_at c h x j))) (durable_of (log_at c h x 0)) (range_with_len 0 (cond (x == first_epoch) c.m (logs_in (plan_in o))))) (k.recoverers x)
 
 -- ---- the way
 
@@ -177,6 +190,7 @@ record PullsSo (c : Config) (e tag target : ℕ) (h : List Turn) (low : ℕ) : T
   later : List Turn
   goes_on : (b : ℕ) → GoesOn c b h later
   leaves : LeavesChosen c h later
+  others : LeavesOthers c h later tag
   pulling : IsPulling c e tag target later
   applied : low ≤ (storage_at c later tag).store.applied
 
@@ -201,12 +215,13 @@ pull_from rules c h config e tag target inside k got = record {
     low = λ j le. le;
   };
   leaves = leaves;
+  others = record { logs = log_same c h got.source.epoch got.log tag; storages = other_same c h got.source.epoch got.log tag };
   pulling = record {
     run = whole;
     latest = left_latest c h (hears c h got.source.epoch got.log tag ∷ asks c h got.source.epoch got.log tag ∷ h) leaves e k.latest;
     few = left_few c h (hears c h got.source.epoch got.log tag ∷ asks c h got.source.epoch got.log tag ∷ h) leaves e k.few;
     keeps = ap (λ (s : StorageState). s.state) now ∙ state_kept (storage_at c h tag) got.source.epoch (told_by c h got.source.epoch got.log tag) ∙ k.keeps;
-    least = least_same c h got.source.epoch got.log tag e ∙ k.least;
+    least = least_left c h (hears c h got.source.epoch got.log tag ∷ asks c h got.source.epoch got.log tag ∷ h) leaves (log_same c h got.source.epoch got.log tag) e ∙ k.least;
   };
   applied = higher;
 }
@@ -298,19 +313,20 @@ pull_further rules c h config e tag target inside k n near more = go (nat_lt (st
       later = rest.later;
       goes_on = λ b. goes_further c b h one.later rest.later (one.goes_on b) (rest.goes_on b);
       leaves = left_further c h one.later rest.later one.leaves rest.leaves;
+      others = others_further c h one.later rest.later tag one.others rest.others;
       pulling = rest.pulling;
       applied = rest.applied;
     }
 
     go : (b : Bool) → nat_lt (storage_at c h tag).store.applied target ≡ b → PullsSo c e tag target h target
-    go false e' = record { later = h; goes_on = λ b. stands c b h k.run; leaves = all_left c h; pulling = k; applied = ltb-false (storage_at c h tag).store.applied target e' }
+    go false e' = record { later = h; goes_on = λ b. stands c b h k.run; leaves = all_left c h; others = none_changed c h tag; pulling = k; applied = ltb-false (storage_at c h tag).store.applied target e' }
     go true e' =
         let one = pull_one rules c h config e tag target inside k (ltb-true (storage_at c h tag).store.applied target e') in
         let high = one.applied in
         further one (more one (omega (arith, high, near)))
 
 pull_all : PullRules → (c : Config) (h : List Turn) → IsConfig c → (e tag target : ℕ) → tag < length c.begins → IsPulling c e tag target h → (n : ℕ) → target ≤ (storage_at c h tag).store.applied + n → PullsSo c e tag target h target
-pull_all rules c h config e tag target inside k zero near = record { later = h; goes_on = λ b. stands c b h k.run; leaves = all_left c h; pulling = k; applied = omega (arith, near) }
+pull_all rules c h config e tag target inside k zero near = record { later = h; goes_on = λ b. stands c b h k.run; leaves = all_left c h; others = none_changed c h tag; pulling = k; applied = omega (arith, near) }
 pull_all rules c h config e tag target inside k (suc n) near =
     pull_further rules c h config e tag target inside k n near (λ one high. pull_all rules c one.later config e tag target inside one.pulling n high)
 
@@ -322,38 +338,105 @@ committed_is_pulled rules c h config run e latest few tag inside keeps = done (p
       later = o.later;
       goes_on = o.goes_on;
       leaves = o.leaves;
-      keeps = o.pulling.keeps;
-      applied = (let high = o.applied in let least = o.pulling.least in omega (arith, high, least));
+      others = o.others;
+      served = record { keeps = o.pulling.keeps; applied = (let high = o.applied in let least = o.pulling.least in omega (arith, high, least)) };
     }
 
--- ---- from the choice of a state on
+-- ---- every storage server
 
-pub chosen_is_served : PullRules → MarkIsHeld → MarkIsHeard → ChosenIsServed
-chosen_is_served rules marking hearing c h config run b r at phase latest few i up running tag inside = marked (marking c h config run b r at phase i up running)
+-- what it has stays, while no log changes, nor it
+still_served : (c : Config) (h later : List Turn) (e tag u : ℕ) → LeavesChosen c h later → LeavesOthers c h later tag → (u ≡ tag → ⊥) → IsServed c h e u → IsServed c later e u
+still_served c h later e tag u k others other was =
+    let same = others.storages u other in
+    let least = least_left c h later k others.logs e in
+    let version : (storage_at c later u).store.applied ≡ (storage_at c h u).store.applied = ap (λ (s : StorageState). s.store.applied) same in
+    let high = was.applied in
+    record { keeps = ap (λ (s : StorageState). s.state) same ∙ was.keeps ∙ sym (left_state c h later k e); applied = omega (arith, least, version, high) }
+
+-- a moment at which a log has the latest epoch's mark, and fewer than k logs of each generation are lost
+record IsMarked (c : Config) (b i : ℕ) (x : CoordinatedState) (h : List Turn) : Type 0 where
+  run : IsRun c h
+  latest : IsLatest c h b
+  few : AreFewLost c h b
+  up : IsUp c h (node.Log b i)
+  marked : mark_among (log_at c h b i).pushes ≡ Some x
+
+-- a server keeps no state of a greater epoch
+never_greater : PullRules → (c : Config) (h : List Turn) → IsConfig c → IsRun c h → (b tag : ℕ) → IsLatest c h b → own_epoch (state_of c h b) < own_epoch (storage_at c h tag).state → ⊥
+never_greater rules c h config run b tag latest less =
+    let most = latest.greatest (own_epoch (storage_at c h tag).state) (rules.storages c h config run tag).chosen in
+    let own = chosen_is_planned rules.laws.contents.nodes c h run b latest.chosen in
+    let is : own_epoch (state_of c h b) ≡ b = planned_epoch rules.laws c h config run b own.0 own.1 in
+    omega (arith, less, most, is)
+
+serve_one : PullRules → MarkIsHeard → (c : Config) (h : List Turn) → IsConfig c → (b i : ℕ) (x : CoordinatedState) → IsMarked c b i x h → (tag : ℕ) → tag < length c.begins → PullsOn c h b tag
+serve_one rules hearing c h config b i x k tag inside = heard (hearing c h config k.run b i x k.up k.marked tag inside)
   where
-    -- a server keeps no state of a greater epoch
-    never : (later : List Turn) → IsRun c later → IsLatest c later b → own_epoch (state_of c later b) < own_epoch (storage_at c later tag).state → ⊥
-    never later run' latest' less =
-        let most = latest'.greatest (own_epoch (storage_at c later tag).state) (rules.storages c later config run' tag).chosen in
-        let own = chosen_is_planned rules.laws.contents.nodes c later run' b latest'.chosen in
-        let is : own_epoch (state_of c later b) ≡ b = planned_epoch rules.laws c later config run' b own.0 own.1 in
-        omega (arith, less, most, is)
-
-    heard : (m : MarksOn c h b i (state_of c h b)) → HearsOn c m.later b tag → PullsOn c h b tag
-    heard m o =
-        let left = left_further c h m.later o.later m.leaves o.leaves in
-        let now = left_latest c h o.later left b latest in
-        let is_run = (o.goes_on b).is_run in
-        pulled m o (committed_is_pulled rules c o.later config is_run b now (left_few c h o.later left b few) tag inside (elim o.keeps [ inl same ↦ same | inr less ↦ absurd (never o.later is_run now less) ]))
+    heard : HearsOn c h b tag → PullsOn c h b tag
+    heard o = pulled (committed_is_pulled rules c o.later config (o.goes_on b).is_run b now (left_few c h o.later o.leaves b k.few) tag inside
+        (elim o.keeps [ inl same ↦ same | inr less ↦ absurd (never_greater rules c o.later config (o.goes_on b).is_run b tag now less) ]))
       where
-        pulled : (m : MarksOn c h b i (state_of c h b)) (o : HearsOn c m.later b tag) → PullsOn c o.later b tag → PullsOn c h b tag
-        pulled m o k = record {
-          later = k.later;
-          goes_on = λ a. goes_further c a h m.later k.later (m.goes_on a) (goes_further c a m.later o.later k.later (o.goes_on a) (k.goes_on a));
-          leaves = left_further c h m.later k.later m.leaves (left_further c m.later o.later k.later o.leaves k.leaves);
-          keeps = k.keeps;
-          applied = k.applied;
+        now : IsLatest c o.later b
+        now = left_latest c h o.later o.leaves b k.latest
+
+        pulled : PullsOn c o.later b tag → PullsOn c h b tag
+        pulled p = record {
+          later = p.later;
+          goes_on = λ a. goes_further c a h o.later p.later (o.goes_on a) (p.goes_on a);
+          leaves = left_further c h o.later p.later o.leaves p.leaves;
+          others = others_further c h o.later p.later tag o.others p.others;
+          served = p.served;
         }
 
-    marked : MarksOn c h b i (state_of c h b) → PullsOn c h b tag
-    marked m = heard m (hearing c m.later config (m.goes_on b).is_run b i (state_of c h b) m.up m.marked tag inside)
+record TagsServed (c : Config) (b i : ℕ) (x : CoordinatedState) (h : List Turn) (tags : List ℕ) : Type 0 where
+  later : List Turn
+  goes_on : (a : ℕ) → GoesOn c a h later
+  leaves : LeavesChosen c h later
+  marked : IsMarked c b i x later
+  each : All (IsServed c later b) tags
+
+serve_more : PullRules → MarkIsHeard → (c : Config) (h : List Turn) → IsConfig c → (b i : ℕ) (x : CoordinatedState) (tag : ℕ) (tags : List ℕ) → tag < length c.begins → TagsServed c b i x h tags → TagsServed c b i x h (tag ∷ tags)
+serve_more rules hearing c h config b i x tag tags inside rest = more (serve_one rules hearing c rest.later config b i x rest.marked tag inside)
+  where
+    more : PullsOn c rest.later b tag → TagsServed c b i x h (tag ∷ tags)
+    more p = record {
+      later = p.later;
+      goes_on = λ a. goes_further c a h rest.later p.later (rest.goes_on a) (p.goes_on a);
+      leaves = left_further c h rest.later p.later rest.leaves p.leaves;
+      marked = record {
+        run = (p.goes_on b).is_run;
+        latest = left_latest c rest.later p.later p.leaves b rest.marked.latest;
+        few = left_few c rest.later p.later p.leaves b rest.marked.few;
+        up = log_still_up rules.laws.contents.nodes c b rest.later p.later (p.goes_on b) b i rest.marked.up;
+        marked = ap (λ (l : LogState). mark_among l.pushes) (p.others.logs b i) ∙ rest.marked.marked;
+      };
+      each = All-cons (IsServed c p.later b) tag tags p.served (All-weaker (IsServed c rest.later b) (IsServed c p.later b) kept tags rest.each);
+    }
+      where
+        kept : (u : ℕ) → IsServed c rest.later b u → IsServed c p.later b u
+        kept u was = elim (cases_eq u tag) [
+          | inl same ↦ subst (IsServed c p.later b) (sym same) p.served
+          | inr other ↦ still_served c rest.later p.later b tag u p.leaves p.others other was
+        ]
+
+serve_all : PullRules → MarkIsHeard → (c : Config) (h : List Turn) → IsConfig c → (b i : ℕ) (x : CoordinatedState) → IsMarked c b i x h → (tags : List ℕ) → All (λ t. t < length c.begins) tags → TagsServed c b i x h tags
+serve_all rules hearing c h config b i x k [] inside = record { later = h; goes_on = λ a. stands c a h k.run; leaves = all_left c h; marked = k; each = All-nil (IsServed c h b) }
+serve_all rules hearing c h config b i x k (t ∷ tags) inside =
+    serve_more rules hearing c h config b i x t tags (All-head (λ u. u < length c.begins) t tags inside) (serve_all rules hearing c h config b i x k tags (All-tail (λ u. u < length c.begins) t tags inside))
+
+pub chosen_is_served : PullRules → MarkIsHeld → MarkIsHeard → ChosenIsServed
+chosen_is_served rules marking hearing c h config run b r at phase latest few i up running = marked (marking c h config run b r at phase i up running)
+  where
+    marked : MarksOn c h b i (state_of c h b) → AllPullOn c h b
+    marked m = all (serve_all rules hearing c m.later config b i (state_of c h b) now (range_with_len 0 (length c.begins)) (below_all (length c.begins)))
+      where
+        now : IsMarked c b i (state_of c h b) m.later
+        now = record { run = (m.goes_on b).is_run; latest = left_latest c h m.later m.leaves b latest; few = left_few c h m.later m.leaves b few; up = m.up; marked = m.marked }
+
+        all : TagsServed c b i (state_of c h b) m.later (range_with_len 0 (length c.begins)) → AllPullOn c h b
+        all k = record {
+          later = k.later;
+          goes_on = λ a. goes_further c a h m.later k.later (m.goes_on a) (k.goes_on a);
+          leaves = left_further c h m.later k.later m.leaves k.leaves;
+          each = λ tag inside. All-contains (IsServed c k.later b) (range_with_len 0 (length c.begins)) tag k.each (in_range (length c.begins) tag inside);
+        }

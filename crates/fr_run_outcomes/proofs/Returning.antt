@@ -56,7 +56,7 @@ use Rattle.fr_run_headline.proofs.LogRule.{log_holds}
 use Rattle.fr_run_outcomes.specs.Going.{GoesOn}
 use Rattle.fr_run_outcomes.specs.Locking.{IsFewLost, HasNoRoom}
 use Rattle.fr_run_outcomes.specs.Recovering.{RecoversOn, NoDeadEnd}
-use Rattle.fr_run_outcomes.specs.Pulling.{PullsOn, ChosenIsServed}
+use Rattle.fr_run_outcomes.specs.Pulling.{AllPullOn, ChosenIsServed}
 use Rattle.fr_run_outcomes.specs.Returning.{HasEachLeft, ServesOn, FillsOn, ServiceReturns}
 use Rattle.fr_run_outcomes.proofs.Lists.{map_from, flat_from}
 use Rattle.fr_run_outcomes.proofs.Counts.{count_by-range, count_short}
@@ -337,7 +337,7 @@ few_left rules c h config run b first may none left o q plan =
 -- ---- service
 
 pub service_returns : ReturnRules → ServiceReturns
-service_returns rules c h config run b shape none may is_shape first others majority low below left tag inside = ended recovered.ended
+service_returns rules c h config run b shape none may is_shape first others majority low below left = ended recovered.ended
   where
     recovered : RecoversOn c h b first
     recovered = rules.recovers c h config run b shape none may is_shape first others majority low below (λ s g read last. last_is (IsFewLost h) s.gens g last (left s read))
@@ -345,7 +345,7 @@ service_returns rules c h config run b shape none may is_shape first others majo
     still_low : AreLow c recovered.later b (first ∷ others)
     still_low = All-weaker (λ i. (cell_at c h i).promised ≤ b) (λ i. (cell_at c recovered.later i).promised ≤ b) recovered.goes_on.low (first ∷ others) low
 
-    served : recovered.recoverer.phase ≡ Chosen → ServesOn c h b tag
+    served : recovered.recoverer.phase ≡ Chosen → ServesOn c h b
     served phase = by recovered.recoverer.plan refl written
       where
         written : is_written_in recovered.recoverer.plan recovered.recoverer.seeded ≡ true
@@ -366,20 +366,19 @@ service_returns rules c h config run b shape none may is_shape first others majo
         up : IsUp c recovered.later (node.Log b 0)
         up = record { there = lt-ltb 0 (logs_at c recovered.later b) there; up = still_up c b h recovered.later recovered.goes_on (node.Log b 0) (no_log_gone rules.laws c h run b 0 (none_there c h b 0 may none)) }
 
-        pulled : PullsOn c recovered.later b tag → ServesOn c h b tag
+        pulled : AllPullOn c recovered.later b → ServesOn c h b
         pulled k = record {
           later = k.later;
           goes_on = goes_further c b h recovered.later k.later recovered.goes_on (k.goes_on b);
           latest = left_latest c recovered.later k.later k.leaves b latest;
-          keeps = k.keeps;
-          applied = k.applied;
+          each = k.each;
         }
 
-        by : (o : Option Plan) → recovered.recoverer.plan ≡ o → is_written_in o recovered.recoverer.seeded ≡ true → ServesOn c h b tag
+        by : (o : Option Plan) → recovered.recoverer.plan ≡ o → is_written_in o recovered.recoverer.seeded ≡ true → ServesOn c h b
         by None plan e = absurd (true≢false (sym e))
         by (Some q) plan e = pulled (rules.served c recovered.later config recovered.goes_on.is_run b recovered.recoverer recovered.at phase latest (few_left rules c h config run b first may none left recovered q plan) 0 up
-            (unlocked rules c recovered.later config recovered.goes_on.is_run b recovered.recoverer recovered.at (first ∷ others) majority still_low 0 there) tag inside)
+            (unlocked rules c recovered.later config recovered.goes_on.is_run b recovered.recoverer recovered.at (first ∷ others) majority still_low 0 there))
 
-    ended : (recovered.recoverer.phase ≡ Chosen) ⊎ HasNoRoom recovered.recoverer → ServesOn c h b tag ⊎ FillsOn c h b
+    ended : (recovered.recoverer.phase ≡ Chosen) ⊎ HasNoRoom recovered.recoverer → ServesOn c h b ⊎ FillsOn c h b
     ended (inl phase) = inl (served phase)
     ended (inr room) = inr (record { later = recovered.later; goes_on = recovered.goes_on; recoverer = recovered.recoverer; at = recovered.at; room = room })

@@ -3,7 +3,7 @@ use Rattle.std.specs.Prelude.{◌≡◌, ◌≤◌, ℕ, List, ◌++◌, All}
 use Rattle.fr_base.specs.declared.place.NodeId.{NodeId}
 use Rattle.fr_run.specs.Config.{Config}
 use Rattle.fr_run.specs.Turn.{Turn, Gone, cell_turns}
-use Rattle.fr_run.specs.Nodes.{cell_at, rec_at}
+use Rattle.fr_run.specs.Nodes.{cell_at, rec_at, log_at, storage_at}
 use Rattle.fr_run.specs.Run.{IsRun}
 use Rattle.fr_run_headline.specs.Retrievable.{lost_logs}
 
@@ -24,3 +24,8 @@ pub record LeavesChosen (c : Config) (h later : List Turn) : Type 0 where
   pub cells : cell_turns later ≡ cell_turns h
   pub recoverers : (b : ℕ) → rec_at c later b ≡ rec_at c h b
   pub lost : (e : ℕ) → lost_logs later e ≡ lost_logs h e
+
+-- nor did a log change, or the storage server of another tag
+pub record LeavesOthers (c : Config) (h later : List Turn) (tag : ℕ) : Type 0 where
+  pub logs : (e i : ℕ) → log_at c later e i ≡ log_at c h e i
+  pub storages : (other : ℕ) → (other ≡ tag → ⊥) → storage_at c later other ≡ storage_at c h other

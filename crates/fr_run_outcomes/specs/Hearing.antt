@@ -10,13 +10,14 @@ use Rattle.fr_run.specs.Nodes.{log_at, storage_at}
 use Rattle.fr_run.specs.Run.{IsUp, IsRun}
 use Rattle.fr_run.specs.States.{state_of}
 use Rattle.fr_run.specs.StateLaws.{IsConfig}
-use Rattle.fr_run_outcomes.specs.Going.{GoesOn, LeavesChosen}
+use Rattle.fr_run_outcomes.specs.Going.{GoesOn, LeavesChosen, LeavesOthers}
 
 -- a run goes on without a loss to a moment at which the storage server of a tag keeps the state of an epoch, or one whose own epoch is greater
 pub record HearsOn (c : Config) (h : List Turn) (e tag : ℕ) : Type 0 where
   pub later : List Turn
   pub goes_on : (b : ℕ) → GoesOn c b h later
   pub leaves : LeavesChosen c h later
+  pub others : LeavesOthers c h later tag
   pub keeps : ((storage_at c later tag).state ≡ state_of c later e) ⊎ (own_epoch (state_of c later e) < own_epoch (storage_at c later tag).state)
 
 -- so does each one in which a log of the epoch is up and has its mark first

@@ -10,16 +10,20 @@ use Rattle.fr_run.specs.States.{state_of, IsLatest}
 use Rattle.fr_run.specs.StateLaws.{IsConfig}
 use Rattle.fr_run_headline.specs.Issued.{least_durable}
 use Rattle.fr_run_headline.specs.Retrievable.{AreFewLost}
-use Rattle.fr_run_outcomes.specs.Going.{GoesOn, LeavesChosen}
+use Rattle.fr_run_outcomes.specs.Going.{GoesOn, LeavesChosen, LeavesOthers}
 
--- a run goes on without a loss to a moment at which the storage server of a tag keeps the state of an epoch, and has
--- applied all that each log of the epoch holds
+-- a storage server keeps the state of an epoch, and has applied all that each log of the epoch holds
+pub record IsServed (c : Config) (h : List Turn) (e tag : ℕ) : Type 0 where
+  pub keeps : (storage_at c h tag).state ≡ state_of c h e
+  pub applied : least_durable c h e ≤ (storage_at c h tag).store.applied
+
+-- a run goes on without a loss to a moment at which the storage server of a tag does
 pub record PullsOn (c : Config) (h : List Turn) (e tag : ℕ) : Type 0 where
   pub later : List Turn
   pub goes_on : (b : ℕ) → GoesOn c b h later
   pub leaves : LeavesChosen c h later
-  pub keeps : (storage_at c later tag).state ≡ state_of c later e
-  pub applied : least_durable c later e ≤ (storage_at c later tag).store.applied
+  pub others : LeavesOthers c h later tag
+  pub served : IsServed c later e tag
 
 -- so does each one in which a storage server keeps the state of the latest epoch, if fewer than k logs of each
 -- generation of it are lost
@@ -28,9 +32,18 @@ CommittedIsPulled =
     (c : Config) (h : List Turn) → IsConfig c → IsRun c h → (latest : ℕ) → IsLatest c h latest → AreFewLost c h latest → (tag : ℕ) → tag < length c.begins
     → (storage_at c h tag).state ≡ state_of c h latest → PullsOn c h latest tag
 
--- and each one in which the latest epoch is that of a recoverer which knows it to be chosen, if besides one log of the
--- epoch is up and was not locked: the log takes the mark, the server hears it, and then pulls
+-- a run goes on without a loss to a moment at which every storage server keeps the state of an epoch, and has applied all
+-- that each log of the epoch holds
+pub record AllPullOn (c : Config) (h : List Turn) (e : ℕ) : Type 0 where
+  pub later : List Turn
+  pub goes_on : (b : ℕ) → GoesOn c b h later
+  pub leaves : LeavesChosen c h later
+  pub each : (tag : ℕ) → tag < length c.begins → IsServed c later e tag
+
+-- so does each one in which the latest epoch is that of a recoverer which knows it to be chosen, if fewer than k logs of
+-- each generation of it are lost, and one log of its own is up and was not locked: that log takes the mark, each server
+-- hears it, and then pulls
 abbrev pub ChosenIsServed : Type 0
 ChosenIsServed =
     (c : Config) (h : List Turn) → IsConfig c → IsRun c h → (b : ℕ) (r : RecState) → rec_at c h b ≡ Some r → r.phase ≡ Chosen → IsLatest c h b → AreFewLost c h b
-    → (i : ℕ) → IsUp c h (node.Log b i) → (log_at c h b i).stopped ≡ false → (tag : ℕ) → tag < length c.begins → PullsOn c h b tag
+    → (i : ℕ) → IsUp c h (node.Log b i) → (log_at c h b i).stopped ≡ false → AllPullOn c h b
