@@ -168,7 +168,7 @@ new_granted : (l : LogState) (q : Plan) → l.stopped ≡ false → durable_of l
 new_granted l q running before same =
     ap (λ x. cond x (Some Stopped) (cond (nat_lt q.generation.seeded_to (durable_of l) || not (q.generation.seeded_to == seeded_to_of l.seed)) (Some Stale) (cond (nat_lt (durable_of l) q.generation.seeded_to) (Some (Gap (durable_of l))) None))) running
     ∙ ap (λ x. cond (x || not (q.generation.seeded_to == seeded_to_of l.seed)) (Some Stale) (cond (nat_lt (durable_of l) q.generation.seeded_to) (Some (Gap (durable_of l))) None))
-        (le-ltb q.generation.seeded_to (durable_of l) (omega (arith, before, same)))
+    (le-ltb q.generation.seeded_to (durable_of l) (omega (arith, before, same)))
     ∙ ap (λ x. cond (not x) (Some Stale) (cond (nat_lt (durable_of l) q.generation.seeded_to) (Some (Gap (durable_of l))) None)) (eq-eqb q.generation.seeded_to (seeded_to_of l.seed) same)
     ∙ ap (λ x. cond x (Some (Gap (durable_of l))) None) (le-ltb (durable_of l) q.generation.seeded_to (omega (arith, before, same)))
 

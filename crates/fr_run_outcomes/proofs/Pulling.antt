@@ -287,12 +287,12 @@ pull_from rules c h config e tag target inside k got = record {
     higher : (storage_at c h tag).store.applied + 1 ≤ (storage_at c (hears c h got.source.epoch got.log tag ∷ asks c h got.source.epoch got.log tag ∷ h) tag).store.applied
     higher =
         let is : (storage_at c (hears c h got.source.epoch got.log tag ∷ asks c h got.source.epoch got.log tag ∷ h) tag).store.applied
-            ≡ max (reached_by (storage_at c h tag) got.source.epoch (told_by c h got.source.epoch got.log tag)) (target_of (storage_at c h tag) got.source.epoch (told_by c h got.source.epoch got.log tag))
-            = ap (λ (s : StorageState). s.store.applied) now ∙ rules.applied (storage_at c h tag) got.source.epoch (told_by c h got.source.epoch got.log tag) (not_refused (storage_at c h tag) got.source (told_by c h got.source.epoch got.log tag) source refl) in
+        ≡ max (reached_by (storage_at c h tag) got.source.epoch (told_by c h got.source.epoch got.log tag)) (target_of (storage_at c h tag) got.source.epoch (told_by c h got.source.epoch got.log tag))
+        = ap (λ (s : StorageState). s.store.applied) now ∙ rules.applied (storage_at c h tag) got.source.epoch (told_by c h got.source.epoch got.log tag) (not_refused (storage_at c h tag) got.source (told_by c h got.source.epoch got.log tag) source refl) in
         let durable = got.durable in
         let up : (storage_at c h tag).store.applied < target_of (storage_at c h tag) got.source.epoch (told_by c h got.source.epoch got.log tag) =
-            rises (storage_at c h tag).store.applied (told_by c h got.source.epoch got.log tag).upto (end_of (storage_at c h tag).state.gens got.source.epoch) bounds.2
-            (peek_rises (log_at c h got.source.epoch got.log) tag (storage_at c h tag).store.applied 100 (omega (arith, durable))) in
+        rises (storage_at c h tag).store.applied (told_by c h got.source.epoch got.log tag).upto (end_of (storage_at c h tag).state.gens got.source.epoch) bounds.2
+        (peek_rises (log_at c h got.source.epoch got.log) tag (storage_at c h tag).store.applied 100 (omega (arith, durable))) in
         omega (arith, is, up)
 
 pull_one : PullRules → (c : Config) (h : List Turn) → IsConfig c → (e tag target : ℕ) → tag < length c.begins → IsPulling c e tag target h → (storage_at c h tag).store.applied < target
