@@ -57,8 +57,8 @@ class Log:
         took, names = self.chain(crates)
         if self.parts:
             return wrapped(
-                f"From {runs} runs of the gate on {day}, on {processors} processors, beside other work: each crate "
-                f"was proved from nothing in one of them, and what it took is counted once. All took {whole:.0f} "
+                f"From {'a run' if runs == '1' else f'{runs} runs'} of the gate on {day}, on {processors} processors, "
+                f"beside other work: each crate was proved from nothing once. All took {whole:.0f} "
                 f"minutes of a processor, {', '.join(parts)} and {self.of_kind('rest'):.0f} for sums of libraries. "
                 f"One unit is what fr_base's own proof took beside them, {unit:.2f} minutes in {count} proofs on "
                 f"average: the whole took {whole / unit:.0f} units, and the longest chain {took / unit:.0f} "
