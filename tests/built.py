@@ -2,6 +2,7 @@
 
 import fcntl
 import os
+import random
 import re
 import shutil
 import subprocess
@@ -11,6 +12,9 @@ import time
 
 sys.dont_write_bytecode = True
 TOP = os.path.dirname(os.path.dirname(os.path.realpath(__file__)))
+sys.path.insert(0, f"{TOP}/tools")
+
+from launcher import unproved  # noqa: E402
 
 
 def skip(why):
@@ -49,16 +53,32 @@ def newer(crates, made):
 
 
 def program(crate="fdbrec"):
-    """The built program of a crate, as `rt ci` and `rt run` leave it; where there is none the test is skipped. The
-    environment's BUILT_NAME, the name in capitals, is taken as it stands."""
+    """The program of a crate: that which the environment's BUILT_NAME names, the name in capitals; or the proved one, as
+    `rt ci` and `rt run` leave it; or one that was compiled without proofs and kept. Where there is none the test is
+    skipped."""
     given = os.environ.get(f"BUILT_{crate.upper()}")
-    path = given or f"{TOP}/crates/{crate}/out/{crate}"
-    if not os.access(path, os.X_OK):
-        skip(f"{os.path.relpath(path, TOP)} is not built: rt ci leaves it there")
-    source = None if given else newer(below(crate), path)
-    if source:
-        skip(f"{os.path.relpath(path, TOP)} is older than {source}: rt ci builds it anew")
-    return os.path.abspath(path)
+    if given:
+        return os.path.abspath(given)
+    path = f"{TOP}/crates/{crate}/out/{crate}"
+    if os.access(path, os.X_OK) and not newer(below(crate), path):
+        return os.path.abspath(path)
+    found = unproved.kept(crate)
+    if not found:
+        why = "./test compiles it, which needs a Rattle kit" if not shutil.which("rt") else "./test compiles it"
+        skip(f"there is no program of crates/{crate}, or a source is newer: {why}")
+    return found
+
+
+def share(rows, least=1):
+    """The rows that are run: all of them; or over programs that are compiled without proofs, whose checks make them
+    slow, a share that is drawn by the seed of ./test. It has at least so many rows."""
+    seed, part = os.environ.get("TEST_SEED"), os.environ.get("TEST_SHARE")
+    rows = list(rows)
+    if seed is None or part is None:
+        return rows
+    count = min(len(rows), max(least, round(len(rows) / int(part))))
+    chosen = sorted(random.Random(f"{seed} {sys.argv[0]}").sample(range(len(rows)), count))
+    return [rows[at] for at in chosen]
 
 
 def archive(crate):
