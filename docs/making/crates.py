@@ -1,4 +1,4 @@
-"""docs/CRATES.md: each crate, what it is and stands on, its size and its minutes."""
+"""The crates: what each is and uses, its size and its minutes (docs/tables --crates; docs/making/minutes.txt)."""
 import os
 import re
 import sys
@@ -7,47 +7,21 @@ from making.definitions import Module
 from making.layers import FAMILIES, family_of
 from making.sources import TOP, files_of, read, wrapped
 
-PAGE = "docs/CRATES.md"
-COLUMNS = "Crate, What it is, Stands on, Code, Definitions, Proofs, Tests, A first check, A change, Minutes"
-SIZES = f"| {COLUMNS.replace(', ', ' | ')} |"
+MINUTES = "docs/making/minutes.txt"
+MINUTES_HEAD = "# minutes of a processor that each crate's own proof took, as docs/tables --log wrote them"
+COLUMNS = "code", "definitions", "proofs", "tests", "minutes", "first check", "a change"
 HEAD = (
-    "`docs/tables` makes this page of the sources. What a crate is, is the first sentence of its source, if it is "
-    "long without what follows its colon. It stands on the crates named, and on those on which these stand. Code, "
-    "definitions and proofs are in lines.",
-    "*Minutes* are of one processor, in the runs that [GATE.md](GATE.md) names: a library's proof; of tests also their "
-    "build and their run; of a program both compilers. Those of a crate that was several then are the sum of theirs; a "
-    "crate without minutes was in none of these runs. A *first check* of a crate proves all that it stands on too; a "
-    "*change* in it has all crates above proved again.",
-    "[ARCHITECTURE.md](ARCHITECTURE.md) says what the families are for. `docs/tables --modules CRATE..` prints what "
-    "each module of definitions states, `docs/tables --tests CRATE..` the names of the tests.",
+    "Code, definitions and proofs are counted in lines. Minutes are those of one processor, from the runs of the gate "
+    "that docs/GATE.md names. A crate's own minutes are the proof of a library; for a crate of tests its build and its "
+    "run too; for a program both compilers too. A crate without minutes was in none of these runs. A first check of a "
+    "crate also proves every crate below it; after a change in it every crate above it is proved again.",
+    "'on' names the crates that a crate uses, without those that another one of them stands on already.",
 )
 
 
-def rows_of(text):
-    """The rows of the tables of crates, by their first cell."""
-    rows, is_inside = {}, False
-    for line in text.split("\n"):
-        is_head = line.startswith("| Crate |") and line.endswith("| A first check | A change | Minutes |")
-        is_inside = is_head or is_inside and line.startswith("|")
-        cells = [it.strip() for it in line.strip("|").split("|")]
-        if is_inside and not is_head and cells[0].strip("-"):
-            rows[cells[0]] = cells
-    return rows
-
-
-# a sentence of more words ends at its colon, if so many stand before it
-LONG, LEAST = 12, 4
-
-
 def sentence(text):
-    """The first sentence of a comment, as a cell of a table."""
+    """The first sentence of a comment."""
     return re.split(r"(?<=[^.])\. ", text, maxsplit=1)[0].rstrip(".")
-
-
-def short(text):
-    """A sentence, without what stands behind its colon if it is long."""
-    front = text.partition(": ")[0]
-    return front if len(text.split()) > LONG and len(front.split()) >= LEAST else text
 
 
 def head_of(crate):
@@ -72,46 +46,69 @@ def sizes(crate):
     return code + [tests]
 
 
-def minutes(crates, log):
-    """What each crate took: as a log has it, or else as the page has it."""
+def minutes(crates, log=None):
+    """What each crate took: as a log has it, or else as the file has it."""
     if log:
         return {it: log.minutes(it) for it in crates.names}
-    page = read(PAGE)
-    if re.search("^(?:<<<<<<<|>>>>>>>)", page, re.M):
-        sys.exit(f"{PAGE}: a merge is under way there, and the minutes would be lost: take one side first")
-    rows = rows_of(page)
-    return {it: float(rows[it][9]) if it in rows and rows[it][9] else 0 for it in crates.names}
+    text = read(MINUTES)
+    if re.search("^(?:<<<<<<<|>>>>>>>)", text, re.M):
+        sys.exit(f"{MINUTES}: a merge is under way there, and the minutes would be lost: take one side first")
+    took = {it[1]: float(it[2]) for it in re.finditer(r"^(\w+) (\d+\.\d)$", text, re.M)}
+    return {it: took.get(it, 0) for it in crates.names}
 
 
-class Row:
-    """A crate, with what it took and the crates below and above it."""
+def minutes_text(took):
+    """The file: a line `CRATE MINUTES` for each crate that has some."""
+    return "\n".join([MINUTES_HEAD, *(f"{crate} {it:.1f}" for crate, it in took.items() if round(it, 1))]) + "\n"
 
-    def __init__(self, crates, name, took, below):
-        self.name, self.counts, self.took = name, sizes(name), took[name]
-        self.stands_on = crates.direct(name)
+
+class Minutes:
+    """What each crate took, and with the crates below it (a first check) or above it (a change)."""
+
+    def __init__(self, crates, took):
         # (in tenths, as whole numbers: so no order of adding shows)
-        first = sum(round(10 * took[low]) for low in below[name])
-        change = sum(round(10 * took[high]) for high in crates.names if name in below[high])
+        self.own = {it: round(10 * took[it]) for it in crates.names}
+        self.below = {it: crates.below(it) | {it} for it in crates.names}
+
+    def first(self, name):
         # (a half is rounded up, as ./fdbrec does)
-        self.first, self.change = str((first + 5) // 10), str((change + 5) // 10)
+        return (sum(self.own[it] for it in self.below[name]) + 5) // 10
 
-    def line(self):
-        numbers = [f"{n:,}" if n else "" for n in self.counts]
-        said = [self.name, short(sentence(head_of(self.name))), ", ".join(self.stands_on)]
-        return row([*said, *numbers, self.first, self.change, f"{self.took:.1f}" if self.took else ""])
+    def change(self, name):
+        return (sum(took for it, took in self.own.items() if name in self.below[it]) + 5) // 10
 
 
-def row(cells):
-    return "|" + "|".join(f" {it} " if it else " " for it in cells) + "|"
+def faults(crates):
+    """The crates whose source does not say what they are."""
+    return [f"crates/{it}/src: the source begins with no comment" for it in crates.names if not head_of(it)]
 
 
-def table(rows):
-    """The crates by families, of each the lowest first."""
-    said = [SIZES, "|---|---|---|" + "---:|" * 7]
-    for name, _, _ in reversed(FAMILIES):
-        said.append(row([f"**{name}**"] + [""] * 9))
-        said += [it.line() for it in rows if family_of(it.name) == name]
-    return said
+def listed(crates, named):
+    """Some crates, or all, by families, of each the lowest first: lines of `docs/tables --crates`."""
+    took = Minutes(crates, minutes(crates))
+    chosen = [it for it in crates.names if not named or it in named]
+    counts = {it: sizes(it) for it in chosen}
+    wide = max(len(it) for it in chosen) + 2
+    for it in HEAD:
+        yield from [*wrapped(it).split("\n"), ""]
+    yield " " * wide + "".join(f"{it:>13}" for it in COLUMNS)
+    for family, _, _ in reversed(FAMILIES):
+        names = [it for it in chosen if family_of(it) == family]
+        if names:
+            yield from ["", family]
+        for name in names:
+            numbers = [f"{it:,}" if it else "" for it in counts[name]]
+            numbers += [f"{took.own[name] / 10:.1f}" if took.own[name] else "", took.first(name), took.change(name)]
+            yield f"{name:{wide}}" + "".join(f"{it:>13}" for it in numbers)
+            yield from wrapped(sentence(head_of(name)) + ".", "    ", "    ").split("\n")
+            if on := crates.direct(name):
+                yield from wrapped("on " + ", ".join(on), "    ", "    ").split("\n")
+    code, definitions, proofs, tests = (sum(it[at] for it in counts.values()) for at in range(4))
+    yield ""
+    yield (
+        f"in all {len(chosen)} crates, {code:,} lines of code, {definitions:,} of definitions and {proofs:,} of "
+        f"proofs, {tests} tests, {sum(took.own[it] for it in chosen) / 10:.0f} minutes"
+    )
 
 
 def modules(crates, named):
@@ -121,22 +118,3 @@ def modules(crates, named):
             name = os.path.basename(file).removesuffix(".antt")
             if name != "Lib":
                 yield f"{crate}/specs/{name}.antt: {sentence(Module(crate, name, read(file)).head)}"
-
-
-def crates_page(crates, log, faults):
-    heads = {it: sentence(head_of(it)) for it in crates.names}
-    faults += [f"{PAGE}: the source of {it} begins with no comment" for it in crates.names if not heads[it]]
-    faults += [f"{PAGE}: the comment of {it} has a line that ends a cell" for it in crates.names if "|" in heads[it]]
-    took, below = minutes(crates, log), {it: crates.below(it) | {it} for it in crates.names}
-    rows = [Row(crates, it, took, below) for it in crates.names]
-    said = ["# Crates", ""]
-    for it in HEAD:
-        said += [*wrapped(it).split("\n"), ""]
-    said += [*table(rows), ""]
-    code, definitions, proofs, tests = (sum(it.counts[at] for it in rows) for at in range(4))
-    whole = sum(it.took for it in rows)
-    said += wrapped(
-        f"In all {len(rows)} crates, {code:,} lines of code, {definitions:,} of definitions and {proofs:,} of proofs, "
-        f"{tests} tests, {whole:.0f} minutes."
-    ).split("\n")
-    return "\n".join(said + [""])

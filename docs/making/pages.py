@@ -1,5 +1,6 @@
 """What a run of the gate took, the paragraph of docs/GATE.md on it, and the minutes in other pages."""
 import re
+import sys
 
 from making.sources import read, wrapped
 
@@ -47,6 +48,7 @@ class Log:
         return f"Above {CRATE_UNITS} units: {', '.join(named) or 'none'}."
 
     def said(self, crates):
+        """The paragraph of docs/GATE.md."""
         unit = self.took.get(("proof", "fr_base"), 0) or 1
         if self.parts:
             day, processors, runs, count, seconds = self.parts
@@ -56,22 +58,24 @@ class Log:
         parts = [f"{name} {self.of_kind(kind):.0f}" for name, kind in kinds]
         took, names = self.chain(crates)
         if self.parts:
-            return wrapped(
-                f"From {'a run' if runs == '1' else f'{runs} runs'} of the gate on {day}, on {processors} processors, "
-                f"beside other work: each crate was proved from nothing once. All took {whole:.0f} "
-                f"minutes of a processor, {', '.join(parts)} and {self.of_kind('rest'):.0f} for sums of libraries. "
-                f"One unit is what fr_base's own proof took beside them, {unit:.2f} minutes in {count} proofs on "
-                f"average: the whole took {whole / unit:.0f} units, and the longest chain {took / unit:.0f} "
-                f"({', '.join(names)}). {self.over(crates, unit)}"
+            how = (
+                f"Measured in {'a run' if runs == '1' else 'runs'} of the gate on {day}, on {processors} processors "
+                "beside other work; each crate was proved from nothing once. All"
             )
-        commit, day, processors, seconds, status = self.run
-        ended = "passed" if status == "0" else "was cut off" if status == "cut" else "failed"
+            mean = f"{unit:.2f} minutes, the mean of {count} proofs"
+        else:
+            commit, day, processors, seconds, status = self.run
+            ended = "passed" if status == "0" else "was cut off" if status == "cut" else "failed"
+            how = (
+                f"Measured in a run of the gate from nothing on {day}, over commit {commit}, on {processors} "
+                f"processors: it {ended} after {int(seconds) / 60:.0f} minutes. It"
+            )
+            mean = f"{unit:.1f} minutes"
         return wrapped(
-            f"From a run of the gate from nothing on {day}, over what {commit} holds, on {processors} processors: it "
-            f"{ended} after {int(seconds) / 60:.0f} minutes and took {whole:.0f} of a processor, {', '.join(parts)} "
-            f"and {self.of_kind('rest'):.0f} for sums of libraries. One unit is fr_base's own proof in the same run, "
-            f"{unit:.1f} minutes: the whole took {whole / unit:.0f} units, and the longest chain {took / unit:.0f} "
-            f"({', '.join(names)}). {self.over(crates, unit)}"
+            f"{how} took {whole:.0f} minutes of a processor: {', '.join(parts)}, and {self.of_kind('rest'):.0f} for "
+            f"the sums of libraries. One unit is the time of fr_base's own proof in the same run, here {mean}. The "
+            f"whole took {whole / unit:.0f} units. The longest chain of crates that wait for one another took "
+            f"{took / unit:.0f} ({', '.join(names)}). {self.over(crates, unit)}"
         )
 
 
@@ -87,12 +91,15 @@ def gate(crates, log):
     return f"{head}{RUN_START}\n{log.said(crates)}\n{RUN_END}{rest.partition(RUN_END)[2]}"
 
 
-# pages in which a number before `<!-- first check of CRATE -->` or `<!-- change in CRATE -->` is that of docs/CRATES.md
+# pages in which a number before `<!-- first check of CRATE -->` or `<!-- change in CRATE -->` is made of the minutes
 MINUTED = ("README.md", "docs/START.md", "docs/NODES.md", "docs/LIBRARY.md")
 MINUTE = re.compile(r"\d+(?=<!-- (first check of|change in) (\w+) -->)")
 
 
-def minuted(path, rows):
-    """A page with the minutes of these crates, as the rows of docs/CRATES.md have them."""
-    place = {"first check of": 7, "change in": 8}
-    return MINUTE.sub(lambda it: rows[it[2]][place[it[1]]], read(path))
+def minuted(path, took):
+    """A page with the minutes of the crates that it names."""
+    text, of = read(path), {"first check of": took.first, "change in": took.change}
+    for it in MINUTE.finditer(text):
+        if it[2] not in took.own:
+            sys.exit(f"{path}: a comment has the minutes of {it[2]}, which is no crate")
+    return MINUTE.sub(lambda it: str(of[it[1]](it[2])), text)

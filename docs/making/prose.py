@@ -1,10 +1,12 @@
-"""How long the pages are, and how long their sentences: what of the style of CONTRIBUTING.md can be counted."""
+"""What can be counted of the style of CONTRIBUTING.md: the length of sentences, words that a plainer one could replace,
+and vague words. Blocks of code and comments are not counted, and what stands between backquotes is one word."""
 import re
 
-from making.sources import TOP, read
+from making.sources import read
 
-BUDGETS = "docs/making/budgets.txt"
 LONG = 40
+# how many words a page may have that is made of the sources: whoever believes the theorem has to read all of them
+GENERATED = {"docs/BELIEVE.md": 16000}
 # what a plainer word says; each row is a form, as a regular expression, and that word
 LISTED = (
     (r"\bwant(?:s|ed|ing)? (?:of|for) memory\b|\bmemory (?:is|was|be) wanting\b", "out of memory"),
@@ -15,41 +17,13 @@ LISTED = (
     (r"\bthousandths? of a second\b", "milliseconds"),
     (r"\b(?:thrice|lest|wherefore|thereof|therein|whereby)\b", "a word of today"),
     (r"\bas far as this tells\b|\bwhich is to say that\b|\bso to say\b", "nothing"),
+    (r"\bthat which\b|\bthose of which\b|\bthat of which\b", "the thing's name"),
 )
+LISTED = tuple((re.compile(form, re.I), plain) for form, plain in LISTED)
 # where a sentence ends and the next one begins; a crate's name may begin one
 STOP = re.compile(r"(?<=[.?!])[)\"”]*\s+(?=[\"“(]?(?:[A-Z\d]|fr_|test_|example_|fdbrec|bench/))")
-LISTED = tuple((re.compile(form, re.I), plain) for form, plain in LISTED)
-
-
-class Row:
-    """What a page may have: its budget of words, and of words, long sentences and listed words what it has at most;
-    and, if that is said, of lines."""
-
-    def __init__(self, line):
-        self.page, budget, *most = line.split()
-        self.budget = int(budget)
-        self.most = [int(it) for it in most[:3]]
-        self.lines = int(most[3]) if most[3:] else None
-
-    def line(self):
-        numbers = self.most + [self.lines] * (self.lines is not None)
-        return f"{self.page:40}{self.budget:6}" + "".join(f"{it:8}" for it in numbers)
-
-
-WHOLE = re.compile(r"^in all +(\d+)$", re.M)
-
-
-def is_row(line):
-    return line.strip() and not line.startswith("#") and not WHOLE.match(line)
-
-
-def rows():
-    return [Row(it) for it in read(BUDGETS).split("\n") if is_row(it)]
-
-
-def whole():
-    """How many words all pages of the table have, and may have."""
-    return sum(measured(it.page)[0] for it in rows()), int(WHOLE.search(read(BUDGETS))[1])
+# what a reader has to look back for, as the first word of a sentence
+LEADING = re.compile(r"(?:Else|So|Of|That)\b")
 
 
 def blocks(text):
@@ -88,75 +62,36 @@ def sentences(text):
             yield number, it
 
 
-def measured(page):
-    """The words of a page, its sentences that are too long and its listed words, each with its line."""
-    text = read(page)
-    count = sum(len(words(it)) for _, it in blocks(text))
-    long = [(number, it) for number, it in sentences(text) if len(words(it)) > LONG]
-    listed = []
-    for number, it in sentences(text):
-        listed += [(number, found[0], instead) for form, instead in LISTED for found in form.finditer(it)]
-    return count, long, listed
-
-
-KINDS = ("words", "long sentences", "listed words")
-
-
 def prose_faults(pages):
-    """What is above what the table allows, and pages that it lacks or that are gone."""
-    table = rows()
-    named = [it.page for it in table]
-    faults = [f"{BUDGETS}: it has no row for {it}" for it in pages if it not in named]
-    faults += [f"{BUDGETS}: it has a row for {it}, which is no page" for it in named if it not in pages]
-    for row in table:
-        if row.page in pages:
-            count, long, listed = measured(row.page)
-            for now, most, kind in zip((count, len(long), len(listed)), row.most, KINDS):
-                if now > most:
-                    faults.append(f"{row.page}: {now:,} {kind}, where {BUDGETS} allows {most:,}")
-                    faults += [f"{row.page}:{at}: {' '.join(it.split()[:9])} .." for at, it in long if kind == KINDS[1]]
-                    faults += [f"{row.page}:{at}: {it}: {say}" for at, it, say in listed if kind == KINDS[2]]
-            if row.lines is not None and (lines := read(row.page).count("\n")) > row.lines:
-                faults.append(f"{row.page}: {lines} lines, where {BUDGETS} allows {row.lines}")
-    if not faults and (all_of := whole())[0] > all_of[1]:
-        faults.append(f"{BUDGETS}: all pages have {all_of[0]:,} words, where it allows {all_of[1]:,}")
+    """Sentences that are too long and words that a plainer one could replace, each with its place."""
+    faults = []
+    for page in pages:
+        for number, it in sentences(read(page)):
+            count = len(words(it))
+            if count > LONG:
+                faults.append(f"{page}:{number}: {count} words: {' '.join(it.split()[:9])} ..")
+            for form, instead in LISTED:
+                faults += [f"{page}:{number}: {found[0]!r}: {instead}" for found in form.finditer(it)]
     return faults
 
 
-def prose_notes(is_full):
-    """What is not as it is to be, though the table allows it: in full or as three lines."""
-    over, long_of, listed_of, less, places = [], [], [], [], []
-    for row in rows():
-        count, long, listed = measured(row.page)
-        over += [f"{row.page} {count:,} of {row.budget:,}"] * (count > row.budget)
-        long_of += [f"{row.page} {len(long)}"] * bool(long)
-        listed_of += [f"{row.page} {len(listed)}"] * bool(listed)
-        less += [row.page] * any(now < it for now, it in zip(allowed(row, count, long, listed), row.most))
-        places += [f"{row.page}:{at}: {len(words(it))} words: {' '.join(it.split()[:9])} .." for at, it in long]
-        places += [f"{row.page}:{at}: {it!r}: {instead}" for at, it, instead in listed]
-    named = ("words, over budget", over), (f"sentences over {LONG} words", long_of), ("listed words", listed_of)
-    notes = [f"{name}: {', '.join(pages)}" for name, pages in named if pages]
-    notes += [f"what {BUDGETS} allows of {', '.join(less)} can go down: ./check --lower"] * bool(less)
-    if is_full:
-        count, most = whole()
-        notes.append(f"{count:,} words in all, of {most:,}")
-    return notes + (places if is_full else [])
+def prose_counts(pages):
+    """Of each page its words, how often it says *what* in 1,000 of them, and how many sentences begin with Else, So, Of
+    or That: for information alone."""
+    for page in pages:
+        said = [it for _, it in sentences(read(page))]
+        count = sum(len(words(it)) for it in said)
+        what = sum(len(re.findall(r"\bwhat\b", it, re.I)) for it in said)
+        leading = sum(bool(LEADING.match(it)) for it in said)
+        rate = 1000 * what / max(count, 1)
+        yield f"{page}: {count:,} words, {rate:.0f} 'what' in 1,000, {leading} begin with Else, So, Of or That"
 
 
-def allowed(row, count, long, listed):
-    """What a page needs today: one that is within its budget may use all of it."""
-    return max(count, row.budget), len(long), len(listed)
-
-
-def lower():
-    """Writes the table with lower numbers, where pages are below; it never writes a higher one."""
-    lines, text = [], read(BUDGETS)
-    for line in text.split("\n"):
-        if is_row(line):
-            row = Row(line)
-            now = allowed(row, *measured(row.page))
-            row.most = [min(it, most) for it, most in zip(now, row.most)]
-            line = row.line()
-        lines.append(line)
-    with open(f"{TOP}/{BUDGETS}", "w", encoding="utf-8") as it:
-        it.write("\n".join(lines))
+def generated_faults(made):
+    """The pages made of the sources that have more words than they may; MADE has the texts."""
+    faults = []
+    for page, most in GENERATED.items():
+        count = sum(len(words(it)) for _, it in blocks(made[page]))
+        if count > most:
+            faults.append(f"{page}: {count:,} words, where docs/making/prose.py allows {most:,}")
+    return faults
