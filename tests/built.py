@@ -53,8 +53,8 @@ def newer(crates, made):
 
 
 def program(crate="fdbrec"):
-    """The program of a crate: that which the environment's BUILT_NAME names, the name in capitals; or the proved one, as
-    `rt ci` and `rt run` leave it; or one that was compiled without proofs and kept. Where there is none the test is
+    """The program of a crate: that which the environment's BUILT_NAME names, the name in capitals; or the proved one,
+    as `rt ci` and `rt run` leave it; or one that was compiled without proofs and kept. Where there is none the test is
     skipped."""
     given = os.environ.get(f"BUILT_{crate.upper()}")
     if given:

@@ -1,5 +1,5 @@
-"""./fdbrec: judges the words, and runs the program that they name; where it is not built, proves and builds it first, or
-compiles it without proofs."""
+"""./fdbrec: judges the words, and runs the program that they name; where it is not built, proves and builds it first,
+or compiles it without proofs."""
 import fcntl
 import os
 import re

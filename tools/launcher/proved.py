@@ -90,7 +90,7 @@ class Build:
                 ended.notify()
 
         while waiting or self.now:
-            ready = [it for it in waiting if not failed and all(each in self.proved for each in uses[it] if each in names)]
+            ready = [] if failed else [it for it in waiting if not set(uses[it]) & set(names) - set(self.proved)]
             ready = ready[: most - len(self.now)]
             share = processors // max(1, len(self.now) + len(ready))
             for crate in ready:

@@ -72,7 +72,10 @@ NODE = Command(
         Command("log", (_wide("epoch"), _number("index", 0, 15, is_required=True), *_NEEDED, _START, _DIR)),
         Command("sequencer", (_wide("epoch"), _wide("last"))),
         Command("storage", (_number("tag", 0, 31, is_required=True), _CONFIG, _DIR)),
-        Command("proxy", (_wide("epoch"), _number("number", 0, 15, is_required=True), _wide("known"), *_SHAPE, _CONFIG)),
+        Command(
+            "proxy",
+            (_wide("epoch"), _number("number", 0, 15, is_required=True), _wide("known"), *_SHAPE, _CONFIG),
+        ),
         Command("recoverer", (_wide("ballot"), *_SHAPE, _CONFIG)),
     ),
 )
