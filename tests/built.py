@@ -14,6 +14,7 @@ sys.dont_write_bytecode = True
 TOP = os.path.dirname(os.path.dirname(os.path.realpath(__file__)))
 sys.path.insert(0, f"{TOP}/tools")
 
+from launcher import archive as archives  # noqa: E402
 from launcher import unproved  # noqa: E402
 
 
@@ -69,6 +70,11 @@ def program(crate="fdbrec"):
     return found
 
 
+def patience(seconds):
+    """How long a program may take: checked ones take some times as long as proved ones."""
+    return seconds * 6 if "TEST_SHARE" in os.environ else seconds
+
+
 def share(rows, least=1):
     """The rows that are run: all of them; or over programs that are compiled without proofs, whose checks make them
     slow, a share that is drawn by the seed of ./test. It has at least so many rows."""
@@ -92,7 +98,7 @@ def archive(crate):
     with open(f"{os.path.dirname(path)}/lock-archive", "w", encoding="utf-8") as lock:
         fcntl.flock(lock, fcntl.LOCK_EX)
         if not os.path.exists(path) or newer(below(crate), path):
-            make_archive(crate, path)
+            return make_archive(crate, path)
     return path
 
 
@@ -103,10 +109,14 @@ def rlib(crate):
 
 def make_archive(crate, path):
     """Proves and compiles a static library over the libraries below it, as `rt ci` leaves them. If one is not there, or
-    is older than its source, the test is skipped: to prove them all takes hours."""
+    is older than its source, it is the archive that was compiled without proofs, or the test is skipped: to prove them
+    all takes hours."""
     libraries = [it for it in below(crate) if it != crate]
     lacking = [it for it in libraries if not os.path.isdir(rlib(it)) or newer([it], rlib(it))]
     if lacking:
+        found = archives.kept(crate)
+        if found:
+            return found
         lost = os.path.relpath(rlib(lacking[0]), TOP)
         skip(f"{os.path.relpath(path, TOP)} is not built (./build-library), nor is {lost} below it (rt ci)")
     if shutil.which("rt") is None:
@@ -129,6 +139,7 @@ def make_archive(crate, path):
         sys.exit(1)
     os.replace(f"{path}.new", path)
     print(f"{os.path.relpath(path, TOP)} was proved and compiled in {time.monotonic() - began:.0f} s", flush=True)
+    return path
 
 
 def passes(words, **how):
