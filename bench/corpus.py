@@ -1,6 +1,4 @@
 """The scripts that stand in the repository, and made ones, for bench/fuzz and bench/twins."""
-import importlib.machinery
-import importlib.util
 import json
 import os
 import re
@@ -10,6 +8,10 @@ import tempfile
 
 BENCH = os.path.dirname(os.path.realpath(__file__))
 TOP = os.path.dirname(BENCH)
+sys.path.insert(0, os.path.join(TOP, "docs"))
+
+from making import validated  # noqa: E402
+
 COMMANDS = ("apply", "end", "simulate", "audit")
 # Scenarios have values 1,000 levels deep.
 sys.setrecursionlimit(20_000)
@@ -131,9 +133,5 @@ def bytes_of(path):
 
 def forms():
     """Each script that the tests take or call bad: its command, whether it is taken, and its bytes."""
-    path = os.path.join(TOP, "docs", "schema", "validate")
-    loader = importlib.machinery.SourceFileLoader("validate", path)
-    module = importlib.util.module_from_spec(importlib.util.spec_from_loader("validate", loader))
-    loader.exec_module(module)
-    for command, is_taken, script in module.tested():
+    for command, is_taken, script in validated.tested():
         yield command, is_taken, script.encode()

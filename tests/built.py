@@ -87,6 +87,12 @@ def share(rows, least=1):
     return [rows[at] for at in chosen]
 
 
+def there(crate="fdbrec"):
+    """The built program of a crate, or None, where a test has something else to look at then."""
+    path = os.environ.get(f"BUILT_{crate.upper()}", f"{TOP}/crates/{crate}/out/{crate}")
+    return program(crate) if os.access(path, os.X_OK) else None
+
+
 def archive(crate):
     """The same of a crate that is a static library, as ./build-library leaves it. Of such a crate `rt ci` leaves only
     the libraries below it; over these it is made here. A second test waits until that is done."""

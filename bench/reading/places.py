@@ -1,16 +1,13 @@
 """Where a script is bad, by docs/FORMATS.md: `said_of(command, script)` is what stands behind `bad script`, or None of
 a script that is taken. Forms are those of `forms.py`; whether values that are in their forms go together is asked of the
 schemas, one part at a time."""
-import importlib.machinery
-import importlib.util
 import json
 import math
-import os
 import re
 
-from reading.forms import SCRIPTS
+from .forms import SCRIPTS
+from .schemas import SCHEMAS
 
-TOP = os.path.dirname(os.path.dirname(os.path.dirname(os.path.realpath(__file__))))
 DEEPEST, SHOWN = 127, 40
 NO_JSON, NOT_TOGETHER = ", which is no JSON here", ", whose parts do not go together"
 BLANKS = re.compile(r"[ \t\r\n]*")
@@ -206,17 +203,6 @@ def described(form):
         "flag": lambda: "true or false",
         "text": lambda: "a text",
     }[kind]()
-
-
-def validator():
-    path = f"{TOP}/docs/schema/validate"
-    loader = importlib.machinery.SourceFileLoader("validate", path)
-    module = importlib.util.module_from_spec(importlib.util.spec_from_loader("validate", loader))
-    loader.exec_module(module)
-    return module
-
-
-SCHEMAS = validator().Schemas()
 
 
 def not_together(value, reference, path):

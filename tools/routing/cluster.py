@@ -6,7 +6,7 @@ import os
 
 from . import drawing
 from .members import Members
-from .processes import spoken
+from .processes import Trouble, spoken
 
 FIRST = 257
 FLYING = 14  # so many messages fly at most, beside those that are kept to come late
@@ -130,20 +130,35 @@ class Cluster:
         for to, ask in it.wants:
             word = next(iter(ask.get("log", {"": 0})))
             if word == "lock":
-                self.ends[ballot] = ask["log"]["lock"]["epoch"]
+                self.ends[ballot] = self.opened(it, ask["log"]["lock"]["epoch"])
             if word == "seed" and self.members.find(to) is None:
-                self.shape(ballot)
-                self.make_log(ballot, to["log"]["index"])
+                self.seeded(it, to["log"])
         phase = it.last["recoverer"]["phase"]
         if was is None or phase == was["recoverer"]["phase"]:
             return
         self.counts["lost"] += phase.startswith("lost")
         if phase.startswith("chosen"):
+            if ballot in self.chosen:
+                raise Trouble(f"{it.text} is chosen a second time: {phase}")
             _, _, pev, _, rv = phase.split(" ")
             self.counts["chosen"] += 1
             self.chosen[ballot] = int(rv)
             self.shape(ballot)
             self.open_epoch(ballot, int(rv) + 1, int(pev))
+
+    def opened(self, it, epoch):
+        """An epoch that a recoverer locks, which has to be one."""
+        if epoch not in self.shapes:
+            raise Trouble(f"{it.text} wants to lock epoch {epoch}, which there is not")
+        return epoch
+
+    def seeded(self, it, log):
+        """A log comes to be that a recoverer wants to seed."""
+        ballot = it.its["ballot"]
+        self.shape(ballot)
+        if log["epoch"] != ballot or log["index"] >= self.shapes[ballot][0]:
+            raise Trouble(f"{it.text} wants to seed log {log['epoch']} {log['index']}, which is none of its own")
+        self.make_log(ballot, log["index"])
 
     def shape(self, ballot):
         """A generation has the shape that its recoverer was given, or that of the one which it ends."""

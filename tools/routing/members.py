@@ -1,8 +1,8 @@
 """The nodes of a cluster: their processes, their journals, and what becomes of both at a kill."""
 
-import json
 import os
 
+from . import answers
 from .processes import Process, Trouble, spoken
 
 ENTERING = ("ask", "hear", "submit")  # the lines that are given again after a kill
@@ -90,13 +90,10 @@ class Members:
     def took(self, it, given, body):
         """Takes in what a node answered."""
         word = given["type"]
-        if body.get("type") == "error":
+        answers.look(it, given, body)
+        if body["type"] == "error":
             self.failed(it, given, body)
             return
-        if body.get("type") != f"{word}_ok":
-            raise Trouble(f"{it.text} answers {word} by {json.dumps(body)[:300]}")
-        if word == "init" and body.get("node") != it.name:
-            raise Trouble(f"{it.text} says at its start that it is {body.get('node')}")
         entries = body.get("entries", [body["entry"]] if "entry" in body else [])
         was, it.last = it.last, body.get("last", it.last)
         it.wants = body.get("wants", it.wants)
@@ -116,19 +113,18 @@ class Members:
         self.enter(it, {"act": act, "stamp": self.stamp + 1})
 
     def failed(self, it, given, body):
-        code = body.get("code")
+        code = body["code"]
         if given["type"] == "begin" and code == 10:
             words = dict(zip(it.words, it.words[1:]))
             shape = {name: int(words[f"--{name}"]) for name in ("degree", "logs") if f"--{name}" in words}
             self.act(it, {"begun": shape})
         elif code != 14:
-            raise Trouble(f"{it.text} answers {given['type']} by error {code}: {body.get('text')}")
+            raise Trouble(f"{it.text} answers {given['type']} by error {code}: {body['text']}")
 
     # ---- kills
 
     def kill(self, it):
         """Kills a node, and takes what its pipe still holds."""
-        self.counts["kills"] += 1
         it.process.kill()
         while it.process.open:
             took = it.process.answer()

@@ -9,6 +9,7 @@ import subprocess
 NUMBERS = {"cell": ["index"], "log": ["epoch", "index"], "sequencer": ["epoch"], "proxy": ["epoch", "number"]}
 NUMBERS |= {"recoverer": ["ballot"], "storage": ["tag"]}
 PATIENCE = 60  # seconds for one answer, on a machine that has other work
+LONGEST = 268_435_456  # bytes of a line
 ROOM = 30000  # so many bytes may lie in a pipe: a node that waits for its answer to be read never stops the router
 
 
@@ -57,6 +58,8 @@ class Process:
             if not data:
                 return None
             self.buffer += data
+            if len(self.buffer) > LONGEST:
+                raise Trouble(f"{self.text} answers by a line of more than {LONGEST} bytes")
         line, _, self.buffer = self.buffer.partition(b"\n")
         return line
 
@@ -66,17 +69,32 @@ class Process:
         if line is None:
             return None
         number, given = self.open[0]
-        try:
-            its = json.loads(line)
-            body = its["body"]
-            is_so = its["src"] == self.text and its["dest"] == "router" and body["in_reply_to"] == number
-        except (ValueError, KeyError, TypeError):
-            is_so = False
-        if not is_so:
-            raise Trouble(f"{self.text} answers line {number} by {line[:300]!r}")
+        body, lack = self.body_of(line, number)
+        if lack:
+            raise Trouble(f"{self.text} answers {given['type']}, line {number}, by {line[:200]!r}: {lack}")
         del self.open[0]
         self.lying = self.lying if self.open else 0
         return given, body
+
+    def body_of(self, line, number):
+        """The body of a line that answers the one of this number; or what makes it another line."""
+        try:
+            its = json.loads(line.decode("utf-8"))
+        except UnicodeDecodeError:
+            return None, "it is no UTF-8"
+        except RecursionError:
+            return None, "it is nested too deeply"
+        except ValueError as why:
+            return None, f"it is no JSON: {why}"
+        if not isinstance(its, dict) or not isinstance(its.get("body"), dict):
+            return None, "it is no object with a body, or the body is no object"
+        for name, wanted in (("src", self.text), ("dest", "router")):
+            if its.get(name) != wanted:
+                return None, f"its {name} is not {wanted}"
+        found = its["body"].get("in_reply_to")
+        if type(found) is not int or found != number:
+            return None, f"its in_reply_to is not {number}"
+        return its["body"], None
 
     def kill(self):
         self.it.send_signal(signal.SIGKILL)

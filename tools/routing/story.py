@@ -196,6 +196,7 @@ class Story(Cluster):
             self.give(message)
         if it.process.open:
             time.sleep(10 ** dice.uniform(-5, -2.3))
+        self.counts["kills"] += 1
         self.members.kill(it)
 
     # ---- the end
