@@ -2,7 +2,6 @@
 program would refuse in a moment is refused at once."""
 import os
 import sqlite3
-import subprocess
 import sys
 
 from . import crates
@@ -84,12 +83,11 @@ def read_input():
 
 
 def look_at_script(command, given, top=crates.TOP):
-    """Refuses what is no script of a command, by the place at which it is none."""
-    words = [f"{top}/docs/schema/validate", command, "-"]
+    """Refuses what is no script of a command, by the place at which it is none, as the program says it."""
+    sys.path.insert(0, f"{top}/bench")
+    from reading import commands
+
     try:
-        ran = subprocess.run(words, input=given, stdout=subprocess.PIPE, stderr=subprocess.DEVNULL)
-    except OSError:
-        return
-    if ran.returncode == 1:
-        why = ran.stdout.decode(errors="replace").strip().removeprefix(f"- is no script of {command}: ")
-        raise Refused(f"bad script: {why.removeprefix('bad script: ')}", 2)
+        commands.script_of(command, given)
+    except commands.BadScript as why:
+        raise Refused(f"bad script: {why}", 2) from None
