@@ -14,7 +14,7 @@ sys.path.insert(0, f"{built.TOP}/bench")
 from reading import judging
 from reading.drawing import Drawn
 
-PATIENCE = 60
+PATIENCE = built.patience(60)
 
 
 def text(it):
