@@ -49,8 +49,9 @@ Object.assign(Run.prototype, {
   },
 
   noteStorage(entry, what, got) {
-    const { node, at } = entry, { origins } = node;
+    const { node, at } = entry, { origins, curve } = node;
     entry.applied = got.applied;
+    if (curve[curve.length - 1][1] !== node.machine.version) curve.push([at, node.machine.version]);
     for (const version of got.applied) {
       const batch = this.byVersion.get(`${this.originOf(got.epoch, version)}:${version}`) || null;
       origins.push([version, batch, at]);
@@ -105,6 +106,7 @@ Object.assign(Run.prototype, {
     }
     if (machine.isChosen() && recovery.chosen === null) {
       recovery.chosen = at;
+      this.nextOf.set(recovery.parent, recovery);
       this.open(machine.ballot, machine.own().m, machine.rv + 1, machine.pev, at);
     }
     if (machine.phase.startsWith("lost")) recovery.lost ??= at;

@@ -5,7 +5,7 @@ class Run {
   /** What bench/explore packed: columns of all entries in their order, and tables of what they name by numbers. */
   constructor({ asks, config, entries, lasts, nodes, sends, tells, tolds, whats }, isWhole = true) {
     Object.assign(this, { asks, config, sends, tells, tolds, values: nodes, whats, nodes: new Map() });
-    Object.assign(this, { batches: [], byVersion: new Map(), recoveries: [], rollbacks: [], plans: new Map(), fault: null });
+    Object.assign(this, { batches: [], byVersion: new Map(), recoveries: [], rollbacks: [], plans: new Map(), nextOf: new Map(), fault: null });
     // asks that were sent: by their numbers among the sends, those that no journal has by their text, and in order
     Object.assign(this, { sent: new Array(sends.length / 3), unheard: new Map(), issued: [] });
     // the last entry that told something, by the number among the tolds
@@ -73,6 +73,8 @@ class Run {
       const it = this.node({ storage: { tag } });
       it.begin(new Storage(tag, first), -1);
       it.origins = [];
+      // where it stood from which entry on: [entry, version applied]
+      it.curve = [[-1, 0]];
     });
     this.makeLogs(FIRST, logs, degree, -1, (log) => {
       log.seeded({ epoch: FIRST, first: 1, records: [], seeded_to: 0 });
@@ -104,6 +106,11 @@ class Run {
       if (!this.fault) this.read += 1;
     }
     if (!this.isDone && (this.fault || this.read === this.entries.length)) this.end();
+  }
+
+  /** The recovery that was chosen behind an epoch, or none. */
+  recoveryAfter(epoch) {
+    return this.nextOf.get(epoch);
   }
 
   /** How many entries can be shown: those that were read, and once that is done those behind a fault too. */
