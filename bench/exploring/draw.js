@@ -1,7 +1,8 @@
 "use strict";
 // The picture: lanes with what is in view. A column is one entry that is shown; what stands outside is not drawn.
 
-const AXIS = 32, BAND = 18;
+// (and how many columns at most on both sides of the step say which lanes are wanted)
+const AXIS = 32, BAND = 18, NEAR = 60;
 const WORDS = '12px system-ui, "DejaVu Sans", sans-serif', SMALL = '11px system-ui, "DejaVu Sans", sans-serif', BOLD = "bold " + SMALL;
 const INKS = ["paper", "panel", "ink", "soft", "line", "now", "ask", "tell", "bad", "late", "again", "band", "row", "own", "good", "hit", "epoch0", "epoch1"];
 
@@ -56,16 +57,20 @@ class Picture {
   /** Which groups are open in this view, and where each lane stands. */
   layOut() {
     const [from, upto] = this.view(), { step, chosen, folds, open: was, entryAt } = this;
-    const room = Math.max(6, Math.floor((this.high - this.head() - 3 * FOLDED) / LEAST_LANE));
-    this.open = openGroups(this.groups, { from: entryAt[from] ?? 0, upto: entryAt[upto] ?? 0, step, chosen, folds, room, was });
-    this.rows = rowsOf(this.groups, this.open, this.isSpread);
+    const room = Math.max(6, Math.floor((this.high - this.head() - 2 * FOLDED) / LEAST_LANE));
+    const middle = Math.max(from, Math.min(upto, Math.floor(this.column(step)))), near = [-NEAR, NEAR].map((it) => entryAt[Math.max(from, Math.min(upto, middle + it))] ?? 0);
+    const view = { from: entryAt[from] ?? 0, upto: entryAt[upto] ?? 0, near, chosen, folds, room, was, read: this.run.read }, there = new Map();
+    const shown = (group) => there.get(group) ?? (there.set(group, present(group, view)), there.get(group));
+    this.open = openGroups(this.groups, view, shown);
+    for (const it of this.nodes) it.row = null;
+    this.rows = rowsOf(this.groups, this.open, this.isSpread, shown);
     const { lane, whole } = placeRows(this.rows, this.high - this.head());
     [this.lane, this.whole] = [lane, whole];
     this.top = Math.max(0, Math.min(this.top, whole + this.head() - this.high));
   }
   /** Where the bands of epochs, of recoveries and the flags of rollbacks stand above the lanes. */
   head() {
-    return AXIS + BAND * (1 + this.bandRows + (this.run.rollbacks.length ? 1 : 0)) + 6;
+    return AXIS + BAND * (1 + this.bandRows + (this.run.rollbacks.length ? 1 : 0)) + 10;
   }
   xOf(column) {
     return this.gutter + (column - this.x + 0.5) * this.scale;
@@ -211,7 +216,7 @@ class Picture {
   }
   /** A rollback has the strongest mark: a flag above, and a line through all lanes. */
   drawFlag(it) {
-    const { pen, ink } = this, x = this.xOf(this.column(it.at)), y = this.head() - BAND - 5;
+    const { pen, ink } = this, x = this.xOf(this.column(it.at)), y = this.head() - BAND - 9;
     if (x < this.gutter || x > this.wide + 60) return;
     const text = this.scale >= 9 ? `rollback ${it.from} → ${it.to}` : "";
     pen.font = BOLD;
@@ -231,7 +236,7 @@ class Picture {
     for (const it of this.run.rollbacks) {
       const x = this.xOf(this.column(it.at));
       pen.lineWidth = this.scale < 3 ? 1 : 2;
-      this.path([[x, this.head() - 6], [x, this.yOf(it.node)]]);
+      this.path([[x, this.head() - 10], [x, this.yOf(it.node)]]);
     }
     pen.lineWidth = 1;
   }
@@ -258,7 +263,7 @@ class Picture {
     pen.fillStyle = ink.soft;
     pen.font = SMALL;
     const rows = [["entry", 9], ["stamp", 22], ["epochs", AXIS + BAND / 2], ...(this.bandRows ? [["recoveries", AXIS + 1.5 * BAND]] : [])];
-    for (const [text, y] of [...rows, ...(this.run.rollbacks.length ? [["rollbacks", head - BAND / 2 - 5]] : [])]) pen.fillText(text, 16, y);
+    for (const [text, y] of [...rows, ...(this.run.rollbacks.length ? [["rollbacks", head - BAND / 2 - 9]] : [])]) pen.fillText(text, 16, y);
     pen.font = WORDS;
     this.within(0, head - 4, () => this.rows.forEach((it) => this.drawName(it)));
     pen.strokeStyle = ink.line;
@@ -274,9 +279,9 @@ class Picture {
       this.fitted([`▸ ${rowName(row)}`, `▸ ${rowName(row).replace("epochs ", "")}`], 2, middle, gutter - 4);
       return this.spot(0, y, this.wide, y + row.high, { tip: () => foldTip(row), row, isWeak: true });
     }
-    const { node, group } = row, isChosen = node === this.chosen, isFirst = group.nodes[0] === node;
+    const { node, group } = row, isChosen = node === this.chosen, isFirst = this.rows.find((it) => it.group === group) === row, isLast = this.rows.findLast((it) => it.group === group) === row;
     pen.fillStyle = isChosen ? ink.now : group.epoch === null ? ink.line : ink.own;
-    pen.fillRect(isChosen ? 8 : 10, y + (isFirst ? 4 : 0), isChosen ? 4 : 2, row.high - (isFirst ? 4 : 0) - (group.nodes[group.nodes.length - 1] === node ? 4 : 0));
+    pen.fillRect(isChosen ? 8 : 10, y + (isFirst ? 4 : 0), isChosen ? 4 : 2, row.high - (isFirst ? 4 : 0) - (isLast ? 4 : 0));
     pen.fillStyle = node.born > this.step || node.gone <= this.step ? ink.soft : ink.ink;
     if (isFirst && group.key !== "storage servers") pen.fillText("▾", 0, middle);
     pen.font = (isChosen ? "bold " : "") + WORDS;
@@ -285,10 +290,12 @@ class Picture {
     this.spot(0, y, isFirst ? 14 : 0, y + row.high, { tip: () => `Fold ${group.key}`, fold: group });
     this.spot(isFirst ? 14 : 0, y, gutter, y + row.high, { tip: () => `${node.name}${goneText(this.run, node, this.step)}. ${KINDS[node.kind]}`, node });
   }
-  label(text, x, y, most = Infinity, isStrong = false) {
+  /** Writes the longest of some texts that fits, with a rim that keeps it apart from lines. */
+  label(texts, x, y, most = Infinity, isStrong = false) {
     const { pen, ink } = this;
     pen.font = isStrong ? BOLD : SMALL;
-    if (pen.measureText(text).width > most) return (pen.font = WORDS);
+    const text = [texts].flat().find((it) => pen.measureText(it).width <= most);
+    if (text === undefined) return (pen.font = WORDS);
     pen.strokeStyle = ink.paper;
     pen.lineWidth = 3;
     pen.strokeText(text, x, y);

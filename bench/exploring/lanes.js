@@ -2,7 +2,7 @@
 // Which lanes the picture has: groups of nodes, those that are folded, and the bands of epochs and recoveries above them.
 
 const LANE_ORDER = ["recoverer", "sequencer", "proxy", "log"];
-const LEAST_LANE = 26, MOST_LANE = 44, FOLDED = 20;
+const LEAST_LANE = 22, MOST_LANE = 44, FOLDED = 20;
 
 /** What a node of each kind is for. */
 const KINDS = {
@@ -24,37 +24,52 @@ function groupsOf(run) {
     groups.get(key).nodes.push(node);
     node.group = groups.get(key);
   }
-  for (const { node, at } of run.entries) node.group.entries.push(at);
+  for (const { node } of run.entries) node.unread = [];
+  for (const { node, at } of run.entries) {
+    node.group.entries.push(at);
+    if (at >= run.read) node.unread.push(at);
+  }
   const rank = (it) => ({ "storage servers": -2, coordinators: -1 }[it.key] ?? it.epoch);
   for (const it of groups.values()) it.nodes.sort((a, b) => place(a) - place(b));
   return [...groups.values()].sort((a, b) => rank(a) - rank(b));
 }
 
-/** How far the nearest of some rising numbers is. */
-function distance(numbers, from) {
-  const at = countThrough(numbers, from);
-  return Math.min(from - (numbers[at - 1] ?? -Infinity), (numbers[at] ?? Infinity) - from);
+/** How many of some rising numbers are from one to another. */
+function countWithin(numbers, from, upto) {
+  return countThrough(numbers, upto) - countThrough(numbers, from - 1);
 }
 
 /** Which groups have lanes of their own: storage servers, the chosen node's, what the user opened, and as many of those
- * that do something in view as there is room for, the nearest to the step first. */
-function openGroups(groups, { from, upto, step, chosen, folds, room, was }) {
+ * that do something in view as there is room for, first those that do most near the step. */
+function openGroups(groups, { from, upto, near, chosen, folds, room, was }, shown) {
   const isSet = (it) => folds.get(it.key) ?? (it.key === "storage servers" || (chosen && chosen.group === it) || null);
   const open = new Set(groups.filter((it) => isSet(it) === true));
-  let left = room - [...open].reduce((sum, it) => sum + it.nodes.length, 0);
-  const isBusy = (it) => isSet(it) === null && countThrough(it.entries, upto) > countThrough(it.entries, from - 1);
-  const far = (it) => distance(it.entries, step) * (was.has(it) ? 0.25 : 1);
-  const busy = groups.filter(isBusy).map((it) => [far(it), it]).sort((a, b) => a[0] - b[0]);
+  let left = room - [...open].reduce((sum, it) => sum + shown(it).length, 0);
+  const isBusy = (it) => isSet(it) === null && countWithin(it.entries, from, upto) > 0;
+  // (one that is open stays so until another one does half as much again)
+  const does = (it) => countWithin(it.entries, ...near) * (was.has(it) ? 1.5 : 1);
+  const busy = groups.filter(isBusy).map((it) => [does(it), it]).sort((a, b) => b[0] - a[0]);
   for (const [, it] of busy) {
-    if (it.nodes.length > left) continue;
+    const high = shown(it).length;
+    if (high > left) continue;
     open.add(it);
-    left -= it.nodes.length;
+    left -= high;
   }
   return open;
 }
 
-/** Rows from top to bottom: one for each node of an open group, one for a folded group or several in a row. */
-function rowsOf(groups, open, isSpread) {
+/** Whether a node is there in a part of the run, or has an entry in it. */
+function isThere(node, from, upto) {
+  return countWithin(node.entries, from, upto) > 0 || (node.born <= upto && node.gone >= from);
+}
+
+/** The nodes of a group that are there in view, or chosen. */
+function present(group, { from, upto, chosen, read }) {
+  return group.nodes.filter((it) => it === chosen || isThere(it, from, upto) || (upto >= read && it.unread.some((at) => at >= from && at <= upto)));
+}
+
+/** Rows from top to bottom: one for each node of an open group that is there, one for a folded group or several in a row. */
+function rowsOf(groups, open, isSpread, shown) {
   const rows = [];
   let front = [];
   const flush = () => {
@@ -63,10 +78,10 @@ function rowsOf(groups, open, isSpread) {
     front = [];
   };
   for (const group of groups) {
-    if (!open.has(group) && group.epoch !== null) front.push(group);
+    if ((!open.has(group) || !shown(group).length) && group.epoch !== null) front.push(group);
     else {
       flush();
-      if (open.has(group)) rows.push(...group.nodes.map((node) => ({ node, group })));
+      if (open.has(group)) rows.push(...shown(group).map((node) => ({ node, group })));
       else rows.push({ groups: [group] });
     }
   }

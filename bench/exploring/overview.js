@@ -83,7 +83,18 @@ class Overview {
     this.drawEpochs();
     this.drawRecoveries();
     this.drawChart();
+    this.drawUnread();
     this.drawEvents();
+  }
+  /** What stands behind a fault, and is not read. */
+  drawUnread() {
+    const { pen, picture } = this, { run, ink } = picture, x = this.xOf(picture.column(run.read) - 0.5);
+    if (!run.fault || run.read >= run.shown) return;
+    pen.fillStyle = ink.panel;
+    pen.fillRect(x, GLANCE.epochs, this.right - x, this.high - GLANCE.epochs - GLANCE.foot);
+    pen.fillStyle = ink.soft;
+    const from = this.xAt(run.read) + 12;
+    this.fitted(["behind the fault: not read", "not read"], from, GLANCE.events + 9.5, this.right - from - 2);
   }
   /** What the area and the lines of the chart are. */
   drawKey() {

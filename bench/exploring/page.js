@@ -125,7 +125,7 @@ class Page {
     at("words").replaceChildren(...withTerms(words));
     at("moment").classList.toggle("main", Boolean(entry && entry.rollback));
     if (!entry || step >= run.read) return at("meaning").replaceChildren();
-    const { shape } = markOf(entry), [name, meaning] = MEANINGS[shape];
+    const { shape } = markOf(entry), [name, meaning] = meaningOfMark(entry);
     at("meaning").replaceChildren(this.sample(element("span", [element("b", name), `: ${meaning}`]), (pen) => SHAPES[shape](pen, 17, 8, 1), shape));
   }
 

@@ -8,16 +8,18 @@ Object.assign(Picture.prototype, {
     for (const it of run.batches) {
       const a = this.column(it.at), b = it.ended === null ? count : this.column(it.ended);
       if (b < seen[0] || a > seen[1]) continue;
-      this.bar(it.node, a, b, `${batchName(it)}: ${it.fate}`, BARS[it.fate], () => `${batchName(it)}: ${it.fate}. ${FATES[it.fate]} It is: ${batchText(it.batch)}.`, it.at);
+      const texts = [`${batchName(it)}: ${it.fate}`, `batch ${it.number}: ${it.fate}`, `batch ${it.number}`, `${it.number}`];
+      this.bar(it.node, a, b, texts, BARS[it.fate], () => `${batchName(it)}: ${it.fate}. ${FATES[it.fate]} It is: ${batchText(it.batch)}.`, it.at);
     }
     for (const it of run.rollbacks) {
       const a = this.column(it.since ?? it.at), b = this.column(it.at);
       if (b < seen[0] || a > seen[1] || !it.versions.length) continue;
-      this.bar(it.node, a, b, `taken back: ${versionsText(it.versions)}`, BARS["taken back"], () => rollbackTip(it), it.at);
+      const texts = [`taken back: ${versionsText(it.versions)}`, "taken back"];
+      this.bar(it.node, a, b, texts, BARS["taken back"], () => rollbackTip(it), it.at);
     }
   },
 
-  bar(node, a, b, text, { dash, colour, fill, wide: line = 1 }, tip, go) {
+  bar(node, a, b, texts, { dash, colour, fill, wide: line = 1 }, tip, go) {
     const { pen, ink } = this;
     if (!this.isInView(node) || this.isFolded(node)) return;
     const x = this.xOf(a), wide = Math.max(3, this.xOf(b) - x), y = this.yOf(node) - 6, isStrong = line > 1;
@@ -31,7 +33,7 @@ Object.assign(Picture.prototype, {
     pen.strokeRect(x, y, wide, 12);
     pen.setLineDash([]);
     pen.lineWidth = 1;
-    if (this.scale >= 9) this.labels.push([text, Math.max(x, this.gutter) + 9, y - 6, Math.max(wide, this.scale * 3), isStrong]);
+    if (this.scale >= 9) this.labels.push([texts, Math.max(x, this.gutter) + 9, y - 6, Math.min(x + wide, this.wide) - Math.max(x, this.gutter) - 8, isStrong]);
     this.spot(x, y - 2, x + wide, y + 14, { tip, go, isWeak: true });
   },
 
@@ -166,8 +168,14 @@ function goneText(run, node, step) {
   return node.gone <= step ? `, which ${run.entries[node.gone].word === "lost" ? "was lost for good" : "crashed"} at entry ${node.gone}` : "";
 }
 
+/** What the mark of an entry is: its name and what it means. */
+function meaningOfMark(entry) {
+  const { shape } = markOf(entry);
+  return shape === "dot" ? DOTS[entry.node.kind] : MEANINGS[shape];
+}
+
 function entryTip(run, entry) {
-  const [name] = MEANINGS[markOf(entry).shape];
+  const [name] = meaningOfMark(entry);
   return `Entry ${entry.at}, ${name}: ${entryText(run, entry)}`;
 }
 

@@ -121,6 +121,16 @@ const MEANINGS = {
   lost: ["never came", "It was sent, and no journal has it."],
 };
 
+/** What a dot is at a node of each kind. */
+const DOTS = {
+  sequencer: ["numbered", "The sequencer gives the batch its version."],
+  log: ["held", "The log holds the batch durably."],
+  storage: ["applied", "The storage server applies the records that it had not applied yet."],
+  proxy: ["reply", "The proxy takes in a reply for its batch."],
+  recoverer: ["reply", "The recoverer takes in a reply that it waits for."],
+  cell: ["reply", "The coordinator answers."],
+};
+
 /** Words of a text with what they mean: terms, and reasons by their names. */
 const MEANT = new RegExp(`\\b(${[...Object.keys(REASONS).filter((it) => /^[A-Z]|_/.test(it)), "pev", "rv", "floor", "undo rows", "taken back", "discarded", "outcome unknown"].join("|")})\\b`, "g");
 

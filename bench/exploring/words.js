@@ -73,7 +73,7 @@ function whyNotOfStorage(by, word, said) {
   const { tag, floor, state } = by.machine;
   if (word === "mark_asked") return null;
   if (!["peek", "pop"].includes(word)) return [`${by.name} is a storage server, and asks to ${word}.`];
-  if (said.tag !== tag) return [`${by.name} asks for tag ${said.tag}, and its own is ${tag}.`];
+  if (said.tag !== tag) return [`${by.name} asks for shard ${said.tag}, and its own is ${tag}.`];
   if (word === "peek") return null;
   if (said.through > floor) return [`${by.name} lets its records go through ${said.through}, and its floor is ${floor}: no more than that is its for good.`];
   return state.gens.some((it) => it.epoch === said.epoch) ? null : [`${by.name} lets records of epoch ${said.epoch} go, a generation that it has not.`];
@@ -95,6 +95,7 @@ function mutationText(mutation) {
   const [name, what] = variant(mutation);
   if (name === "clear") return `clear ${bytesText(what.begin)} to ${bytesText(what.end)}`;
   const key = bytesText(what.key), value = bytesText(what.value ?? what.param);
+  if (name === "add") return `add ${value} to ${key}`;
   return name === "set" ? `set ${key} to ${value}` : `${name.replaceAll("_", " ")} ${key} with ${value}`;
 }
 
@@ -109,7 +110,7 @@ function stateText(state) {
 }
 
 function bodiesText(bodies) {
-  return bodies.length ? bodies.map(([tag, batch]) => `tag ${tag}: ${batchText(batch)}`).join(" | ") : "no body";
+  return bodies.length ? bodies.map(([tag, batch]) => `shard ${tag}: ${batchText(batch)}`).join(" | ") : "no body";
 }
 
 function askText(ask) {
@@ -120,9 +121,9 @@ function askText(ask) {
   if (word === "push" && it.mark !== null) return `to hold the mark ${it.prev} → ${it.version} of epoch ${it.epoch}, with known ${it.known}`;
   if (word === "push") return `to hold version ${it.version} after ${it.prev}, with known ${it.known} (${bodiesText(it.bodies)})`;
   if (word === "lock") return `to lock`;
-  if (word === "peek") return `for records of tag ${it.tag} above ${it.after}`;
+  if (word === "peek") return `for records of shard ${it.tag} above ${it.after}`;
   if (word === "mark_asked") return "for its mark";
-  if (word === "pop") return `to let tag ${it.tag} go through ${it.through}`;
+  if (word === "pop") return `to let shard ${it.tag} go through ${it.through}`;
   return `for a number, as request ${it.request}, ${it.step} above the last one`;
 }
 
@@ -134,7 +135,7 @@ function tellText(tell) {
   if (word === "two_values") return "refused, another value is written under that ballot";
   if (word === "seeded") return "seeded";
   if (word === "held") return `version ${it.version} is held`;
-  if (word === "locked") return `locked: durable ${it.durable}, known ${it.known}` + (it.popped ? `, popped ${it.popped.map((each) => each.join(" through ")).join(", ")}` : "");
+  if (word === "locked") return `locked: durable ${it.durable}, known ${it.known}` + (it.popped ? `, popped ${it.popped.map((each) => `shard ${each.join(" through ")}`).join(", ")}` : "");
   if (word === "peeked") return `${recordsText(it.records)}, complete through ${it.upto}, known ${it.known}`;
   if (word === "marked") return `the state of generations ${stateText(it.state)}`;
   if (word === "popped") return `let go through ${it.through}`;
@@ -160,7 +161,7 @@ function entryText(run, entry) {
   if (word === "asked") return `${by} asks ${node.name} ${askText(what.ask)}${tail}. The reply: ${tellText(what.tell)}.`;
   if (word === "heard") return `${node.name} hears from ${by}: ${tellText(what.tell)}${tail}.${heardText(entry)}`;
   if (word === "submitted") return `A client hands ${node.name} a batch: ${batchText(what.batch)}.`;
-  if (word === "begun") return `${node.name} begins` + ("logs" in what ? `, to open a generation of ${what.logs} logs, each tag on ${what.degree}.` : ".");
+  if (word === "begun") return `${node.name} begins` + ("logs" in what ? `, to open a generation of ${what.logs} logs, each shard on ${what.degree}.` : ".");
   return `${node.name} ${word === "lost" ? "is lost for good" : "crashes"}.`;
 }
 
