@@ -255,4 +255,8 @@ Object.assign(Page.prototype, {
   },
 });
 
-const page = new Page();
+let page = null;
+unpacked(at("journals")).then(
+  (data) => (page = new Page(data)),
+  (fault) => ((at("verdict").className = "bad"), (at("verdict").textContent = "not read"), (at("sums").textContent = `This browser cannot unpack the run: ${fault}`))
+);

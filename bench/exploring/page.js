@@ -4,7 +4,7 @@
 const at = (id) => document.getElementById(id);
 
 // for how many milliseconds a run is read before the page first shows it, and then each time between keys and clicks
-const FIRST_READ = 250, NEXT_READ = 40;
+const FIRST_READ = 200, NEXT_READ = 80;
 // from how many entries on the page shows those alone that bring something new
 const LONG = 300;
 
@@ -14,11 +14,19 @@ const VERDICTS = {
   wait: "The page reads the journals, and says then whether they keep the rules.",
 };
 
+/** What bench/explore packed: as it stands, or, of a long run, deflated and in base64. */
+async function unpacked({ dataset, textContent: text }) {
+  if (dataset.form !== "deflate") return JSON.parse(text);
+  const letters = atob(text), bytes = new Uint8Array(letters.length);
+  for (let at = 0; at < letters.length; at++) bytes[at] = letters.charCodeAt(at);
+  return JSON.parse(await new Response(new Blob([bytes]).stream().pipeThrough(new DecompressionStream("deflate"))).text());
+}
+
 class Page {
-  constructor() {
+  constructor(data) {
     const begun = performance.now();
     this.name = at("name").textContent;
-    this.run = new Run(JSON.parse(at("journals").textContent), false);
+    this.run = new Run(data, false);
     this.readFor(FIRST_READ);
     this.words = new URLSearchParams(location.hash.slice(1));
     this.isThemeSet = this.words.has("theme");
