@@ -1,5 +1,5 @@
 "use strict";
-// What stands beside the lanes: the state of a node, the story of the run, and what a search found.
+// What stands beside the lanes: the state of a node.
 
 function element(name, content = "", attributes = {}) {
   const it = document.createElement(name);
@@ -27,8 +27,8 @@ const LINES = {
     known: `${it.known}`,
     seed: it.seed === null ? "none" : `first ${it.seed.first}, through ${it.seed.seeded_to}`,
     locked: it.stopped ? "yes: it takes no push" : "no",
-    popped: [...it.popped].map(([tag, through]) => `tag ${tag} through ${through}`).join(", ") || "nothing",
-    holds: `${countText(it.count, "push", "pushes")}, each tag on ${it.k} of ${it.m} logs`,
+    popped: [...it.popped].map(([tag, through]) => `shard ${tag} through ${through}`).join(", ") || "nothing",
+    holds: `${countText(it.count, "push", "pushes")}, each shard on ${it.k} of ${it.m} logs`,
   }),
   sequencer: (it) => ({
     last: `${it.latest}`,
@@ -41,14 +41,14 @@ const LINES = {
     "held by": it.open ? `${[...it.held].sort().map((at) => `log ${at}`).join(", ") || "none"}, of ${it.m}` : "none",
   }),
   recoverer: (it) => ({
-    phase: it.last().phase,
-    promised: `${it.reads.size} of ${it.cells} cells`,
+    phase: phaseText(it.last().phase),
+    promised: `${it.reads.size} of ${it.cells} coordinators`,
     parent: it.parent ? `generations ${stateText(stateShown(it.parent))}` : "not read yet",
     pev: it.pev === null ? "not fixed yet" : `${it.pev}`,
     rv: it.rv === null ? "not fixed yet" : `${it.rv}`,
-    copied: it.parts.map((part, tag) => `tag ${tag} through ${part.reached}`).join(", ") || "nothing",
+    copied: it.parts.map((part, tag) => `shard ${tag} through ${part.reached}`).join(", ") || "nothing",
     seeded: it.plan ? `${it.seeded.size} of ${it.own().m} logs` : "none",
-    written: `${it.written.size} of ${it.cells} cells`,
+    written: `${it.written.size} of ${it.cells} coordinators`,
     marked: it.plan ? `${it.marked.size} of ${it.own().m} logs` : "none",
   }),
   storage: (it) => ({
@@ -61,14 +61,19 @@ const LINES = {
   }),
 };
 
+function phaseText(phase) {
+  const [word, why] = phase.split(" ");
+  return word === "lost" ? `lost, ${why}: ${REASONS[why] ?? ""}` : phase;
+}
+
 /** The tables of a machine's state: a caption, heads and rows. */
 function tablesOf(kind, it) {
   if (kind === "log") return [["Versions held, the newest first", ["version", "after", "known", "bodies"], pushesOf(it)]];
   if (kind === "recoverer") return [["Replies of locked logs", ["log", "durable", "known"], [...it.replies].map(([at, each]) => [at, each.durable, each.known])]];
   if (kind === "proxy") return it.open ? [["Its batch", ["mutation"], it.batch.batch.map((each) => [mutationText(each)])]] : [];
   if (kind !== "storage") return [];
-  const rows = [...it.rows].sort((a, b) => (a[0] < b[0] ? -1 : 1)).map(([key, value]) => [key || "-", value || "-"]);
-  const undo = [...it.undo].reverse().map(([version, key, before]) => [version, key || "-", before === null ? "no value" : before || "-"]);
+  const rows = [...it.rows].sort((a, b) => (a[0] < b[0] ? -1 : 1)).map(([key, value]) => [bytesText(key), bytesText(value)]);
+  const undo = [...it.undo].reverse().map(([version, key, before]) => [version, bytesText(key), valueText(before)]);
   return [["Rows", ["key", "value"], rows], ["Undo rows, the newest first", ["version", "key", "value before"], undo]];
 }
 
@@ -86,7 +91,7 @@ function pushesOf(log) {
 function tableOf([caption, heads, rows]) {
   const most = 60, shown = rows.slice(0, most).map((row) => element("tr", row.map((it) => element("td", String(it)))));
   const more = rows.length > most ? ` (${most} of ${rows.length})` : rows.length ? "" : ": none";
-  const head = rows.length ? [element("thead", element("tr", heads.map((it) => element("th", it, { scope: "col" }))))] : [];
+  const head = rows.length ? [element("thead", element("tr", heads.map((it) => element("th", termOf(it), { scope: "col" }))))] : [];
   return element("table", [element("caption", caption + more), ...head, element("tbody", shown)]);
 }
 
@@ -97,70 +102,9 @@ function showState(run, node, step, place) {
   if (lines === null) return place.append(element("p", "It is not there yet."));
   for (const name in lines) {
     const isNew = old !== null && old[name] !== lines[name];
-    list.append(element("dt", name), element("dd", isNew ? [element("b", lines[name]), element("span", ` (was ${old[name]})`, { class: "was" })] : lines[name]));
+    const now = withTerms(lines[name]);
+    list.append(element("dt", termOf(name)), element("dd", isNew ? [element("b", now), element("span", ` (was ${old[name]})`, { class: "was" })] : now));
   }
-  if (node.gone <= step) list.append(element("dt", "gone"), element("dd", `${run.entries[node.gone].word} at entry ${node.gone}`));
+  if (node.gone <= step) list.append(element("dt", termOf("gone")), element("dd", `${run.entries[node.gone].word} at entry ${node.gone}`));
   place.append(list, ...tablesOf(node.kind, run.machineAt(node, step)).map(tableOf));
 }
-
-// ---- the story, and what is found: { head } or { at, words }
-
-function storyOf(run) {
-  const items = [];
-  for (const it of run.recoveries) {
-    const { name } = it.node, shape = it.shape ? `, to open ${it.shape.m} logs, each tag on ${it.shape.k}` : "";
-    items.push({ at: it.begun, words: `${name} begins${shape}` });
-    if (it.rv !== null && it.planned !== undefined) items.push({ at: it.planned, words: `${name} ends epoch ${it.parent}: pev ${it.pev}, rv ${it.rv}` });
-    if (it.chosen !== null) items.push({ at: it.chosen, words: `epoch ${it.ballot} is chosen: it takes over through ${it.rv}` });
-    if (it.mark !== null) items.push({ at: it.mark, words: `a log holds the mark of epoch ${it.ballot}` });
-    if (it.lost !== null) items.push({ at: it.lost, words: `${name}: ${recoveryEnd(it)}` });
-  }
-  for (const it of run.rollbacks) items.push({ at: it.at, words: `${it.node.name} rolls back from ${it.from} to ${it.to} for epoch ${it.epoch}: ${undoneText(it)}` });
-  for (const it of run.batches) if (it.outcome === "ended") items.push({ at: it.ended, words: `batch ${it.number} ends${it.version === null ? "" : ` at version ${it.version}`}: nothing is said of it` });
-  for (const entry of run.entries) if (entry.word === "crashed" || entry.word === "lost") items.push({ at: entry.at, words: entryText(run, entry) });
-  if (run.fault) items.push({ at: Math.max(0, run.fault.at), words: `the audit's line: ${run.fault.line}` });
-  return items.sort((a, b) => a.at - b.at);
-}
-
-/** What a search finds; the way of each batch that it names stands first. */
-function found(run, text) {
-  const [, word, rest] = /^\s*(batch|version|v|key|node|entry)?\s*(.*?)\s*$/i.exec(text) || [];
-  const kind = (word || (/^\d+$/.test(rest) ? "version" : "node")).toLowerCase(), number = Number(rest);
-  if (kind === "entry") return number < run.entries.length && rest !== "" ? [lineOf(run, run.entries[number])] : [];
-  if (kind === "batch") return run.batches.filter((it) => it.number === number).flatMap((it) => wayItems(run, it));
-  const test = { version: hasVersion(number), v: hasVersion(number), key: hasKey(rest.toLowerCase()), node: hasNode(rest) }[kind];
-  const ofVersion = ["version", "v"].includes(kind) ? (it) => it.version === number : (it) => kind === "key" && actsOn(it.batch, rest.toLowerCase());
-  const ways = run.batches.filter(ofVersion).slice(0, 20).flatMap((it) => wayItems(run, it));
-  const entries = run.entries.filter((it) => it.at < run.read && it.news && test(it));
-  const head = entries.length ? [{ head: `Entries that bring news of it: ${entries.length}` }] : [];
-  return [...ways, ...head, ...entries.map((it) => lineOf(run, it))];
-}
-
-function lineOf(run, entry) {
-  return { at: entry.at, words: entryText(run, entry) };
-}
-
-function wayItems(run, it) {
-  const head = { head: `Batch ${it.number}, ${it.node.name}${it.version === null ? "" : `, version ${it.version}`}: ${fateOf(it)}` };
-  return [head, ...wayOf(run, it).map(([at, words]) => ({ at, words }))];
-}
-
-const hasVersion = (version) => (entry) => {
-  const { what, applied, rollback, word } = entry;
-  if (rollback) return rollback.versions.includes(version);
-  if (applied && applied.includes(version)) return true;
-  const [ask, it] = what.ask ? variant(variant(what.ask)[1]) : ["", {}], tell = what.tell ? variant(variant(what.tell)[1])[1] : {};
-  if (word === "heard") return tell.version === version || (what.outcome && variant(what.outcome)[1].version === version);
-  return (ask === "push" && it.version === version) || tell.version === version || (ask === "seed" && it.records.some((each) => each.version === version));
-};
-
-const hasKey = (key) => ({ what, rollback, applied, word }) => {
-  if (word === "submitted") return actsOn(what.batch, key);
-  if (rollback) return rollback.rows.some((it) => it[1] === key);
-  const [ask, it] = what.ask ? variant(variant(what.ask)[1]) : ["", {}];
-  if (ask === "push") return it.bodies.some(([, batch]) => actsOn(batch, key));
-  if (ask === "seed") return it.records.some((each) => actsOn(each.batch, key));
-  return Boolean(applied && applied.length) && what.tell.log.peeked.records.some((each) => applied.includes(each.version) && actsOn(each.batch, key));
-};
-
-const hasNode = (name) => ({ node }) => name !== "" && node.name === name;

@@ -1,141 +1,11 @@
 "use strict";
 // A run: the entries of all journals in the order of the audit, taken one by one by the rules, with what each brought.
 
-const ORDER = ["cell", "log", "sequencer", "proxy", "recoverer", "storage"];
-
-function numbersIn(what) {
-  return [what.epoch ?? what.ballot ?? 0, what.index ?? what.number ?? what.tag ?? 0];
-}
-
-/** One node: its name, its machine as it stands now, and copies of it from before. */
-class RunNode {
-  constructor(value) {
-    [this.kind, this.what] = variant(value);
-    // its number among the nodes that the journals name, or none
-    this.number = -1;
-    const [epoch, number] = numbersIn(this.what);
-    this.place = [ORDER.indexOf(this.kind), epoch, number];
-    this.epoch = this.what.epoch ?? this.what.ballot ?? null;
-    this.name = [this.kind, ...["epoch", "ballot", "index", "number", "tag"].filter((it) => it in this.what).map((it) => this.what[it])].join(" ");
-    Object.assign(this, { entries: [], machine: null, copies: [], born: Infinity, gone: Infinity, wanted: [], last: undefined });
-  }
-  begin(machine, at) {
-    this.machine = machine;
-    this.born = at;
-    this.copies = [{ count: 0, machine: machine.copy() }];
-  }
-  /** Sets which of the asks that it sent it wants a tell of. */
-  want(asks) {
-    for (const it of this.wanted) it.isWanted = false;
-    for (const it of asks) it.isWanted = true;
-    this.wanted = asks;
-  }
-  /** Keeps a copy now and then, so that any state is a few steps behind one. */
-  keep() {
-    const size = this.kind === "storage" ? this.machine.rows.size + this.machine.undo.length : 0;
-    const count = this.entries.length, last = this.copies[this.copies.length - 1].count;
-    if (count - last >= Math.max(64, size / 8)) this.copies.push({ count, machine: this.machine.copy() });
-  }
-}
-
-function isBefore(a, b) {
-  for (let at = 0; at < 3; at++) if (a[at] !== b[at]) return a[at] - b[at];
-  return 0;
-}
-
-/** Makes an act of a machine, and answers what comes of it. */
-function done(machine, word, what) {
-  if (word === "asked") {
-    const [kind, ask] = variant(what.ask), [name, said] = variant(ask);
-    return { [kind]: machine.ask(name, said) };
-  }
-  if (word === "heard") return machine.hear(what.from, what.tell, what.taken);
-  return word === "submitted" ? machine.submit(what) : null;
-}
-
-/** Writes into a list what is another one once a machine stands elsewhere: its parts that rise, or that change once. */
-function standing(kind, it, into) {
-  if (kind === "log") {
-    into[0] = it.count;
-    into[1] = it.stopped;
-    into[2] = it.seed === null;
-    into[3] = it.popped.size;
-    if (it.popped.size) for (const through of it.popped.values()) into[3] += through;
-  } else if (kind === "sequencer") {
-    into[0] = it.latest;
-  } else if (kind === "proxy") {
-    into[0] = it.request;
-    into[1] = it.open;
-    into[2] = it.ended;
-    into[3] = it.place === null;
-    into[4] = it.held.size;
-  } else if (kind === "storage") {
-    into[0] = it.version;
-    into[1] = it.floor;
-    into[2] = newestOf(it.state).epoch;
-  } else if (kind === "cell") {
-    into[0] = it.promised;
-    into[1] = it.written;
-  } else {
-    into[0] = it.phase;
-    into[1] = it.reads.size;
-    into[2] = it.replies.size;
-    into[3] = it.written.size;
-    into[4] = it.seeded.size;
-    into[5] = it.marked.size;
-    into[6] = it.parts.reduce((sum, part) => sum + part.reached, 0);
-  }
-  return into;
-}
-
-/** How many parts those of a kind have. The lists are used for all kinds, and what another one left stands behind them. */
-const PARTS = { cell: 2, log: 4, sequencer: 1, proxy: 5, storage: 3, recoverer: 7 };
-
-/** Whether a machine of a kind stands elsewhere. */
-function isElsewhere(kind, before, after) {
-  for (let at = 0; at < PARTS[kind]; at++) if (before[at] !== after[at]) return true;
-  return false;
-}
-
-const ACTS = ["asked", "heard", "submitted", "begun", "crashed", "lost"];
-
-/** One entry. What it says is made where it is looked at. */
-class Entry {
-  constructor(run, at, columns) {
-    // (one by one: there are many entries, and lists on both sides would be made for each)
-    this.run = run;
-    this.at = at;
-    this.stamp = columns.stamps[at];
-    this.node = run.named[columns.nodes[at]];
-    this.word = ACTS[columns.words[at]];
-    this.send = columns.sends[at];
-    this.told = columns.tolds[at];
-    this.whatAt = columns.whats[at];
-    this.from = this.word === "asked" ? run.named[run.sends[3 * this.send]] : this.word === "heard" ? run.named[run.tolds[3 * this.told]] : null;
-    // from where its arrow comes; whether what is told here was heard, and the entry that told the same before
-    this.x0 = at;
-    this.toldBefore = -1;
-    this.isUndated = this.isHeard = this.news = this.late = this.again = false;
-    this.why = this.applied = this.rollback = null;
-  }
-  get ask() {
-    return this.run.asks[this.run.sends[3 * this.send + 2]];
-  }
-  get tell() {
-    return this.run.tells[this.run.tolds[3 * this.told + 2]];
-  }
-  get what() {
-    if (this.word === "asked") return { ask: this.ask, from: this.run.values[this.from.number], tell: this.tell };
-    const what = this.run.whats[this.whatAt];
-    return this.word === "heard" ? { from: this.run.values[this.from.number], outcome: what[1], taken: what[0], tell: this.tell } : what;
-  }
-}
-
 class Run {
   /** What bench/explore packed: columns of all entries in their order, and tables of what they name by numbers. */
   constructor({ asks, config, entries, lasts, nodes, sends, tells, tolds, whats }, isWhole = true) {
     Object.assign(this, { asks, config, sends, tells, tolds, values: nodes, whats, nodes: new Map() });
-    Object.assign(this, { batches: [], byVersion: new Map(), recoveries: [], rollbacks: [], plans: new Map(), fault: null });
+    Object.assign(this, { batches: [], byVersion: new Map(), recoveries: [], rollbacks: [], plans: new Map(), nextOf: new Map(), fault: null });
     // asks that were sent: by their numbers among the sends, those that no journal has by their text, and in order
     Object.assign(this, { sent: new Array(sends.length / 3), unheard: new Map(), issued: [] });
     // the last entry that told something, by the number among the tolds
@@ -203,6 +73,8 @@ class Run {
       const it = this.node({ storage: { tag } });
       it.begin(new Storage(tag, first), -1);
       it.origins = [];
+      // where it stood from which entry on: [entry, version applied]
+      it.curve = [[-1, 0]];
     });
     this.makeLogs(FIRST, logs, degree, -1, (log) => {
       log.seeded({ epoch: FIRST, first: 1, records: [], seeded_to: 0 });
@@ -234,6 +106,11 @@ class Run {
       if (!this.fault) this.read += 1;
     }
     if (!this.isDone && (this.fault || this.read === this.entries.length)) this.end();
+  }
+
+  /** The recovery that was chosen behind an epoch, or none. */
+  recoveryAfter(epoch) {
+    return this.nextOf.get(epoch);
   }
 
   /** How many entries can be shown: those that were read, and once that is done those behind a fault too. */
@@ -355,115 +232,6 @@ class Run {
   lastTold(from, to, word) {
     const found = from.entries.map((at) => this.entries[at]).filter((it) => it.word === "asked" && it.from === to && word in variant(it.tell)[1]);
     return found.length ? found[found.length - 1].tell : undefined;
-  }
-
-  asked(entry, what, tell) {
-    const { at, from } = entry, sent = this.sent[entry.send], latest = from.entries[from.entries.length - 1] ?? -1;
-    entry.again = Boolean(sent && sent.count > 0);
-    entry.late = Boolean(sent && !sent.isWanted);
-    entry.isUndated = !sent;
-    if (sent) entry.x0 = sent.count === 0 ? sent.issued : latest;
-    if (sent) sent.count += 1;
-    entry.toldBefore = this.toldLast[entry.told];
-    this.toldLast[entry.told] = at;
-    this.noteAsked(entry, what, variant(tell)[1], from);
-  }
-
-  /** What an ask did to a batch or a recovery. */
-  noteAsked(entry, what, told, from) {
-    const { node, at } = entry, [word, said] = variant(variant(what.ask)[1]);
-    if ("refused" in told || "two_values" in told) return this.noteRefused(entry, word, told);
-    if (!entry.news) return;
-    if (word === "next" && from.batch) Object.assign(from.batch, { given: at, version: told.numbered.version });
-    if (word === "push" && said.mark !== null && from.recovery) from.recovery.mark ??= at;
-    const batch = word === "push" && said.mark === null ? this.byVersion.get(`${node.what.epoch}:${said.version}`) : null;
-    if (batch) batch.held.push([node, at]);
-  }
-
-  /** A refusal is news where the last one of that node and asker was another one. */
-  noteRefused(entry, word, told) {
-    const why = "two_values" in told ? "TwoValues" : "why" in told.refused ? whyText(told.refused.why) : `promised ${told.refused.promised}`;
-    const key = `${entry.from.name} ${word} ${why}`;
-    entry.why = why;
-    if (entry.node.lastRefusal !== key) entry.news = true;
-    entry.node.lastRefusal = key;
-  }
-
-  heard(entry, what, got) {
-    const { node } = entry, last = this.toldLast[entry.told];
-    let place = last;
-    while (place >= 0 && this.entries[place].isHeard) place = this.entries[place].toldBefore;
-    entry.again = place < 0;
-    entry.x0 = place < 0 ? last : place;
-    this.entries[entry.x0].isHeard = true;
-    if (node.kind === "storage") this.noteStorage(entry, what, got);
-    if (node.kind === "proxy") this.noteProxy(entry, got);
-    if (node.kind === "recoverer") this.noteRecoverer(entry);
-    entry.late = !entry.again && !entry.news && (node.kind !== "storage" || entry.why !== null);
-    if (entry.news) this.entries[entry.x0].news = true;
-  }
-
-  noteStorage(entry, what, got) {
-    const { node, at } = entry, { origins } = node;
-    entry.applied = got.applied;
-    for (const version of got.applied) {
-      const batch = this.byVersion.get(`${this.originOf(got.epoch, version)}:${version}`) || null;
-      origins.push([version, batch, at]);
-      if (batch) batch.applied.push([node, at]);
-    }
-    entry.why = got.why || null;
-    if (entry.why && node.lastRefusal !== entry.why) entry.news = true;
-    node.lastRefusal = entry.why;
-    if (got.cut === undefined || got.to >= got.from) return;
-    const taken = [];
-    while (origins.length && origins[origins.length - 1][0] > got.to) taken.push(origins.pop());
-    for (const [, batch] of taken) if (batch) batch.undone.push([node, at]);
-    entry.rollback = { at, node, from: got.from, to: got.to, versions: taken.map((it) => it[0]).reverse(), rows: got.undone };
-    entry.rollback.since = taken.length ? taken[taken.length - 1][2] : null;
-    entry.rollback.epoch = newestOf(stateIn(what.tell.log.marked.state)).epoch;
-    this.rollbacks.push(entry.rollback);
-  }
-
-  /** The epoch that numbered a version which a log of an epoch has: that one, or the one that it was copied from. */
-  originOf(epoch, version) {
-    for (let plan = this.plans.get(epoch); plan && version <= plan.rv; plan = this.plans.get(epoch)) epoch = plan.parent;
-    return epoch;
-  }
-
-  submitted(entry, what) {
-    const { node, at } = entry;
-    const batch = { number: this.batches.length + 1, node, request: node.machine.request, step: what.step, batch: what.batch, at };
-    node.batch = Object.assign(batch, { given: null, version: null, numbered: null, held: [], outcome: null, ended: null, applied: [], undone: [] });
-    this.batches.push(batch);
-    this.issue(node, at);
-  }
-
-  noteProxy(entry, outcome) {
-    const { node, at } = entry, { machine, batch } = node, [word] = variant(outcome);
-    if (entry.news && machine.open && batch.numbered === null && machine.place !== null) {
-      Object.assign(batch, { numbered: at, version: machine.place.version });
-      this.byVersion.set(`${machine.epoch}:${batch.version}`, batch);
-    }
-    if (word !== "waiting") Object.assign(batch, { outcome: word, ended: at });
-    if (entry.news) this.issue(node, at);
-  }
-
-  noteRecoverer(entry) {
-    if (!entry.news) return;
-    const { node, at } = entry, { machine, recovery } = node;
-    if (machine.rv !== null && recovery.rv === null)
-      Object.assign(recovery, { planned: at, pev: machine.pev, rv: machine.rv, parent: machine.old().epoch });
-    if (machine.plan !== null && machine.isCopied() && recovery.copied === null) {
-      recovery.copied = at;
-      this.plans.set(machine.ballot, { parent: machine.old().epoch, rv: machine.rv, pev: machine.pev });
-      this.makeLogs(machine.ballot, machine.own().m, machine.own().k, at);
-    }
-    if (machine.isChosen() && recovery.chosen === null) {
-      recovery.chosen = at;
-      this.open(machine.ballot, machine.own().m, machine.rv + 1, machine.pev, at);
-    }
-    if (machine.phase.startsWith("lost")) recovery.lost ??= at;
-    this.issue(node, at);
   }
 
   /** The first node, in order, that stands elsewhere at last than its journal says. */

@@ -6,6 +6,12 @@ function whyText(why) {
   return numbers.length ? `${name} ${numbers.join(" ")}` : name;
 }
 
+/** Why something is refused: its name with what it means. */
+function reasonText(why) {
+  const meaning = REASONS[why.split(" ")[0]];
+  return meaning ? `${why} (${meaning})` : why;
+}
+
 /** What stands at a place of a value of JSON, cut where it is long. */
 function shortText(value) {
   const text = value === undefined ? "nothing" : JSON.stringify(value);
@@ -67,7 +73,7 @@ function whyNotOfStorage(by, word, said) {
   const { tag, floor, state } = by.machine;
   if (word === "mark_asked") return null;
   if (!["peek", "pop"].includes(word)) return [`${by.name} is a storage server, and asks to ${word}.`];
-  if (said.tag !== tag) return [`${by.name} asks for tag ${said.tag}, and its own is ${tag}.`];
+  if (said.tag !== tag) return [`${by.name} asks for shard ${said.tag}, and its own is ${tag}.`];
   if (word === "peek") return null;
   if (said.through > floor) return [`${by.name} lets its records go through ${said.through}, and its floor is ${floor}: no more than that is its for good.`];
   return state.gens.some((it) => it.epoch === said.epoch) ? null : [`${by.name} lets records of epoch ${said.epoch} go, a generation that it has not.`];
@@ -87,8 +93,10 @@ function whyNotHeard(run, node, { tell, told: number, what: { taken } }, by) {
 
 function mutationText(mutation) {
   const [name, what] = variant(mutation);
-  if (name === "clear") return `clear ${what.begin || "-"} to ${what.end || "-"}`;
-  return `${name.replaceAll("_", " ")} ${what.key || "-"} ${what.value ?? what.param}`;
+  if (name === "clear") return `clear ${bytesText(what.begin)} to ${bytesText(what.end)}`;
+  const key = bytesText(what.key), value = bytesText(what.value ?? what.param);
+  if (name === "add") return `add ${value} to ${key}`;
+  return name === "set" ? `set ${key} to ${value}` : `${name.replaceAll("_", " ")} ${key} with ${value}`;
 }
 
 function batchText(batch) {
@@ -102,7 +110,7 @@ function stateText(state) {
 }
 
 function bodiesText(bodies) {
-  return bodies.length ? bodies.map(([tag, batch]) => `tag ${tag}: ${batchText(batch)}`).join(" | ") : "no body";
+  return bodies.length ? bodies.map(([tag, batch]) => `shard ${tag}: ${batchText(batch)}`).join(" | ") : "no body";
 }
 
 function askText(ask) {
@@ -113,21 +121,21 @@ function askText(ask) {
   if (word === "push" && it.mark !== null) return `to hold the mark ${it.prev} → ${it.version} of epoch ${it.epoch}, with known ${it.known}`;
   if (word === "push") return `to hold version ${it.version} after ${it.prev}, with known ${it.known} (${bodiesText(it.bodies)})`;
   if (word === "lock") return `to lock`;
-  if (word === "peek") return `for records of tag ${it.tag} above ${it.after}`;
+  if (word === "peek") return `for records of shard ${it.tag} above ${it.after}`;
   if (word === "mark_asked") return "for its mark";
-  if (word === "pop") return `to let tag ${it.tag} go through ${it.through}`;
+  if (word === "pop") return `to let shard ${it.tag} go through ${it.through}`;
   return `for a number, as request ${it.request}, ${it.step} above the last one`;
 }
 
 function tellText(tell) {
   const [word, it] = variant(variant(tell)[1]);
-  if (word === "refused") return `refused: ${"why" in it ? whyText(it.why) : `promised ${it.promised}`}`;
+  if (word === "refused") return `refused, ${"why" in it ? reasonText(whyText(it.why)) : `since it has promised ballot ${it.promised}`}`;
   if (word === "promise") return `promised; written by ballot ${it.written}`;
   if (word === "written") return `written by ballot ${it.ballot}`;
-  if (word === "two_values") return "another value is written by that ballot";
+  if (word === "two_values") return "refused, another value is written under that ballot";
   if (word === "seeded") return "seeded";
   if (word === "held") return `version ${it.version} is held`;
-  if (word === "locked") return `locked: durable ${it.durable}, known ${it.known}` + (it.popped ? `, popped ${it.popped.map((each) => each.join(" through ")).join(", ")}` : "");
+  if (word === "locked") return `locked: durable ${it.durable}, known ${it.known}` + (it.popped ? `, popped ${it.popped.map((each) => `shard ${each.join(" through ")}`).join(", ")}` : "");
   if (word === "peeked") return `${recordsText(it.records)}, complete through ${it.upto}, known ${it.known}`;
   if (word === "marked") return `the state of generations ${stateText(it.state)}`;
   if (word === "popped") return `let go through ${it.through}`;
@@ -142,57 +150,37 @@ function recordsText(records) {
 
 function outcomeText(outcome) {
   const [word, it] = variant(outcome);
-  return word === "committed" ? ` It says: committed at version ${it.version}.` : word === "ended" ? " It says: ended." : "";
+  return word === "committed" ? ` The batch is acknowledged at version ${it.version}.` : word === "ended" ? " It stops: its client gets no answer." : "";
 }
 
 /** What an entry is, in one or two sentences. */
 function entryText(run, entry) {
   const { node, word, what } = entry, by = "from" in what ? run.node(what.from).name : "";
-  const flags = [entry.again && "again", entry.late && "late: it changes nothing"].filter(Boolean).join(", ");
+  const flags = [entry.again && "again", entry.late && "late: nobody waits for it"].filter(Boolean).join(", ");
   const tail = flags ? ` (${flags})` : "";
-  if (word === "asked") return `${by} asks ${node.name} ${askText(what.ask)}${tail}. It tells: ${tellText(what.tell)}.`;
-  if (word === "heard") return `${node.name} hears of ${by}: ${tellText(what.tell)}${tail}.${heardText(entry)}`;
-  if (word === "submitted") return `The workload hands ${node.name} a batch: ${batchText(what.batch)}.`;
-  if (word === "begun") return `${node.name} begins` + ("logs" in what ? `, to open a generation of ${what.logs} logs, each tag on ${what.degree}.` : ".");
+  if (word === "asked") return `${by} asks ${node.name} ${askText(what.ask)}${tail}. The reply: ${tellText(what.tell)}.`;
+  if (word === "heard") return `${node.name} hears from ${by}: ${tellText(what.tell)}${tail}.${heardText(entry)}`;
+  if (word === "submitted") return `A client hands ${node.name} a batch: ${batchText(what.batch)}.`;
+  if (word === "begun") return `${node.name} begins` + ("logs" in what ? `, to open a generation of ${what.logs} logs, each shard on ${what.degree}.` : ".");
   return `${node.name} ${word === "lost" ? "is lost for good" : "crashes"}.`;
 }
 
 function heardText(entry) {
   const { node, what, rollback } = entry;
   if (node.kind === "proxy") return outcomeText(what.outcome);
-  if (entry.why) return ` It refuses that: ${entry.why}.`;
+  if (entry.why) return ` It refuses that: ${reasonText(entry.why)}.`;
   const broke = what.taken === null ? "" : ` It broke off at version ${what.taken}.`;
   if (rollback) return ` It rolls back from ${rollback.from} to ${rollback.to} for epoch ${rollback.epoch}: ${undoneText(rollback)}.${broke}`;
   const applied = entry.applied && entry.applied.length ? ` It applies ${entry.applied.length > 6 ? `${entry.applied.length} versions` : `version${entry.applied.length > 1 ? "s" : ""} ${entry.applied.join(", ")}`}.` : "";
   return applied + broke;
 }
 
+function valueText(value) {
+  return value === null ? "no value" : bytesText(value);
+}
+
 function undoneText({ versions, rows }) {
-  const back = rows.slice(0, 4).map(([, key, had, before]) => `key ${key || "-"} from ${had ?? "none"} back to ${before ?? "none"}`);
+  const back = rows.slice(0, 4).map(([, key, had, before]) => `key ${bytesText(key)} from ${valueText(had)} back to ${valueText(before)}`);
   const more = rows.length > 4 ? `; and ${rows.length - 4} more` : "";
-  return (versions.length ? `version${versions.length > 1 ? "s" : ""} ${versions.join(", ")} undone` : "no batch undone") + (back.length ? ` (${back.join("; ")}${more})` : "");
-}
-
-// ---- the way of a batch
-
-/** Each step of a batch, from the workload to rows, or to where it was taken back: pairs of an entry and words. */
-function wayOf(run, it) {
-  const way = [[it.at, `handed to ${it.node.name}: ${batchText(it.batch)}`]];
-  if (it.given !== null) way.push([it.given, `numbered ${it.version} by sequencer ${it.node.what.epoch}`]);
-  for (const [log, at] of it.held) way.push([at, `held by ${log.name}`]);
-  if (it.ended !== null) way.push([it.ended, it.outcome === "committed" ? `acknowledged at version ${it.version}` : "ended: nothing is said of it"]);
-  for (const [server, at] of it.applied) way.push([at, `applied by ${server.name}`]);
-  for (const [server, at] of it.undone) way.push([at, `taken back by ${server.name}`]);
-  for (const each of run.recoveries) if (each.chosen !== null && each.parent === it.node.what.epoch && it.version !== null) {
-    const survives = it.version <= each.rv;
-    way.push([each.chosen, `epoch ${each.ballot} is chosen through ${each.rv}: version ${it.version} ${survives ? "is taken over" : "does not survive"}`]);
-  }
-  if (it.outcome === null && !it.undone.length) way.push([null, "under way at last"]);
-  return way.sort((a, b) => (a[0] ?? Infinity) - (b[0] ?? Infinity));
-}
-
-function fateOf(it) {
-  if (it.undone.length) return "taken back";
-  if (it.outcome === "committed") return it.applied.length ? "acknowledged and applied" : "acknowledged";
-  return it.outcome === "ended" ? "ended" : "under way";
+  return (versions.length ? `${versionsText(versions)} taken back` : "no batch of its shard") + (back.length ? ` (${back.join("; ")}${more})` : "");
 }
