@@ -49,7 +49,7 @@ const ID = /^(\d{1,6})$/, FETCH = /^(\d)-(\d{1,3}-\d{1,2})$/;
 
 function fetched(world, text, word) {
   const [tag, log] = numbersIn(text, FETCH);
-  world.fetch(world.up(`s${tag}`), world.node(`l${log}`), word);
+  world.askLog(world.up(`s${tag}`), world.node(`l${log}`), word);
 }
 
 const CHOICES = {

@@ -69,7 +69,7 @@ class Page {
   enter(choice) {
     const news = choose(this.world, choice), sentences = sentencesOf(this.world, news);
     this.choices.push(choice);
-    this.story.push({ at: this.choices.length, choice, sentences });
+    this.story.push({ at: this.choices.length, choice, sentences, nodes: news.map((it) => it.node).filter(Boolean) });
   }
   /** Makes one choice and shows what comes of it. */
   make(choice, slow = SPEEDS[at("speed").value]) {
@@ -148,6 +148,7 @@ class Page {
     if (!this.queue.length) {
       this.isMoving = false;
       this.show(0);
+      this.reveal();
       if (this.isPlaying) this.timer = setTimeout(() => this.playOn(), 5 * SPEEDS[at("speed").value] + 1600);
       return;
     }
@@ -220,11 +221,23 @@ class Page {
     listFlight(this.world, at("flight"), this);
     listStory(this.story, at("story"), this);
     at("flying").textContent = this.world.flight.length;
-    const { count, broken } = promiseOf(this.world);
-    at("promise").className = broken.length ? "bad" : "good";
-    at("promise").textContent = broken.length ? `${broken.length} acknowledged and not kept` : count ? `${count} acknowledged, all kept` : "nothing acknowledged yet";
+    this.showPromise();
     this.showCard();
     this.buttons();
+  }
+  /** On a small screen, brings the node of the last step into view. */
+  reveal() {
+    const last = this.story[this.story.length - 1], node = last && last.nodes[last.nodes.length - 1];
+    const shown = node && innerWidth <= 760 && this.board.host.querySelector(`[data-key="n:${node.code}"]`);
+    if (!shown) return;
+    const { top, bottom } = shown.getBoundingClientRect(), low = at("told").getBoundingClientRect().top;
+    if (top < 60 || bottom > low - 30) scrollBy({ top: (top + bottom) / 2 - low / 2 - 20, behavior: CALM.matches ? "auto" : "smooth" });
+  }
+  showPromise() {
+    const { count, broken } = promiseOf(this.world), isGone = this.world.of("storage").some((it) => goneFrom(this.world, it) !== null);
+    at("promise").className = broken.length || isGone ? "bad" : count ? "good" : "none";
+    const words = broken.length ? `${broken.length} of ${count} acknowledged not kept` : isGone ? `${count} acknowledged, part of it on no log` : `${count} acknowledged, all kept`;
+    at("promise").textContent = count || broken.length || isGone ? words : "nothing acknowledged yet";
   }
   showNow() {
     const last = this.story[this.story.length - 1];
@@ -232,7 +245,7 @@ class Page {
     at("count").textContent = `step ${this.choices.length}`;
   }
   showScene() {
-    const { done, own } = this.standing(), steps = this.steps(), said = steps[done - 1], isOwn = own.length > 0 && this.nextOfScene() === undefined && !this.isMoving;
+    const { done, own } = this.standing(), steps = this.steps(), said = steps[done - 1], isOwn = this.scene && own.length > 0 && this.nextOfScene() === undefined && !this.isMoving;
     for (const it of at("scenes").children) it.setAttribute("aria-current", it.dataset.scene === (this.scene ? this.scene.name : ""));
     const title = this.scene ? (said ? said.title : this.scene.title) : "Your own run", words = this.scene ? (said ? said.text : this.scene.about) : "Click a proxy to submit a batch, a message to deliver, lose, repeat or delay it, a node to crash it. Step lets the cluster go on by itself.";
     at("title").textContent = title;

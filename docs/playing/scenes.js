@@ -32,7 +32,7 @@ class Script {
     for (let next = onward(this.world); next; next = onward(this.world)) this.do(next);
   }
   /** Has a storage server fetch once, and delivers only that. */
-  fetch(choice) {
+  read(choice) {
     this.do(choice);
     this.pass((it) => it.from.kind === "storage" || it.to.kind === "storage");
   }
@@ -55,20 +55,19 @@ const SCENES = [
   {
     name: "rollback",
     title: "The rollback",
-    about: "A storage server runs ahead of what survives, and must take it back.",
+    about: "A batch is acknowledged once all three logs hold it; a storage server may apply it before that. Press Next, and watch batch 2.",
     play(it) {
-      it.says("Before it begins", "A batch is acknowledged once all three logs hold it; a storage server may apply it before that. Press Next, and watch batch 2.");
       it.do("u1-0-Sa5");
       it.pass(of("p1-0"));
       it.says("Acknowledged", "Batch 1 sets a to 5. All three logs hold it, so its client is told: this must never be lost.");
-      it.fetch("g0-1-0");
+      it.read("g0-1-0");
       it.says("Applied", "Storage a–m asks log 0 for what is new, and applies batch 1. It keeps an undo row, for log 0 has not heard yet that version 2 is committed.");
       it.do("u1-0-Sa7");
       it.pass(between("p1-0", "q1"));
       it.hold(either(between("p1-0", "l1-1"), between("p1-0", "l1-2")));
       it.pass(of("p1-0"));
       it.says("One log of three", "Batch 2 sets a to 7, but its pushes to logs 1 and 2 are slow. Only log 0 holds it, and nothing is acknowledged.");
-      it.fetch("g0-1-0");
+      it.read("g0-1-0");
       it.says("Ahead of the others", "Storage a–m asks log 0 and applies batch 2: a is 7. That is allowed, since it keeps an undo row: before version 3, a was 5.");
       it.do("kq1", "b");
       it.pass(isOfCell);
@@ -79,8 +78,8 @@ const SCENES = [
       it.pass(isOfCell);
       it.pass(both(of("r2"), isOfLog));
       it.says("Epoch 2 is chosen", "Two of three coordinators have the new list, so it stands, whatever crashes now. It takes over through version 2, and each new log begins with a mark.");
-      it.fetch("m0-2-0");
-      it.says("The rollback", "Storage a–m hears the mark, and takes batch 2 back: a is 5 again, from its undo row. No client was ever told that batch 2 is there.");
+      it.read("m0-2-0");
+      it.says("Taken back", "Storage a–m hears the mark, and takes batch 2 back: a is 5 again, from its undo row. No client was ever told that batch 2 is there.");
       it.free(of("l1-1", "l1-2"));
       it.do("u2-0-Sa9");
       it.quiet();
@@ -90,7 +89,7 @@ const SCENES = [
   {
     name: "contend",
     title: "Two recoverers contend",
-    about: "Two recoveries at once; a majority of promises lets one of them win.",
+    about: "A recovery may begin at any time, and so may a second one. What keeps them from opening two epochs that contradict one another?",
     play(it) {
       it.do("u1-0-Sa5An3");
       it.pass(not(isOfStorage));
@@ -117,7 +116,7 @@ const SCENES = [
   {
     name: "late",
     title: "A late reply",
-    about: "The reply that completes a commit arrives after its epoch has ended.",
+    about: "The reply that completes a commit arrives after its epoch has ended. May the old proxy still acknowledge the batch?",
     play(it) {
       it.do("u1-0-Sa5");
       it.pass(between("p1-0", "q1"));
@@ -133,10 +132,10 @@ const SCENES = [
       it.says("Epoch 2 takes it over", "Epoch 2 is chosen, and takes over through version 2. Its logs were seeded with batch 1: it is there before the mark.");
       it.do("m0-2-0");
       it.pass(isOfStorage);
-      it.fetch("g0-2-0");
+      it.read("g0-2-0");
       it.says("Applied", "Storage a–m moves to epoch 2 and reads batch 1 from a log there. For the proxy of epoch 1 it is still open.");
       it.free((each) => each.to.code === "p1-0");
-      it.says("The late reply", "At last the reply of log 2 arrives, and the old proxy acknowledges batch 1. That is true: a batch on all logs is taken over by every recovery.");
+      it.says("The reply arrives", "At last the reply of log 2 is there, and the old proxy acknowledges batch 1. That is true: a batch on all logs is taken over by every recovery.");
       it.do("u1-0-Sb2");
       it.pass(of("p1-0"));
       it.says("But nothing new", "Its next batch gets a number from the old sequencer, but every log of epoch 1 is locked. The old proxy ends, and says nothing of batch 2.");
@@ -145,14 +144,14 @@ const SCENES = [
   {
     name: "lost",
     title: "A log is lost",
-    about: "One disk is gone for good. With k = 2, every shard is on another log.",
+    about: "The disk of one log is gone for good. With k = 2 every shard is on one more log, and a recovery finds it there.",
     play(it) {
       it.do("u1-0-Sa5Sn8");
       it.pass(not(isOfStorage));
-      it.fetch("g0-1-0");
+      it.read("g0-1-0");
       it.says("One server lags", "Batch 1 is acknowledged. Storage a–m has applied its part; storage n–z has not asked yet.");
       it.do("L1-1");
-      it.says("A log is lost", "Log 1 is gone, with its disk. It had both shards; but a–m is on log 0 too, and n–z on log 2.");
+      it.says("Log 1 is gone", "Log 1 is lost, with its disk. It had both shards; but a–m is on log 0 too, and n–z on log 2.");
       it.do("u1-0-An2");
       it.pass(of("p1-0"));
       it.says("No further acknowledgement", "Batch 2 is on logs 0 and 2, and log 1 never answers. So nothing more is acknowledged in epoch 1.");
@@ -169,7 +168,7 @@ const SCENES = [
   {
     name: "shape",
     title: "A shape that changes",
-    about: "Each generation has its own number of logs m and copies k.",
+    about: "Each generation has its own number of logs, m, and keeps each shard on k of them. A recovery can change both.",
     play(it) {
       it.do("u1-0-Sa5Sn8");
       it.quiet();
@@ -195,17 +194,17 @@ const SCENES = [
   {
     name: "gone",
     title: "k logs are lost",
-    about: "Something acknowledged is gone. Why that is allowed, and what still holds.",
+    about: "Two logs of three are lost, and something acknowledged is gone. See why that is allowed, and what still holds.",
     play(it) {
       it.do("u1-0-Sa5Sn8");
       it.pass(not(isOfStorage));
-      it.fetch("g0-1-0");
+      it.read("g0-1-0");
       it.says("Acknowledged", "Batch 1 is on all three logs, and its client was told. Storage a–m has applied it; storage n–z has not asked yet.");
       it.do("L1-1");
       it.says("One log", "Log 1 is lost. That is fewer than k = 2, so batch 1 can still be had: its part of n–z is on log 2.");
       it.do("L1-2");
       it.says("Two logs: k of them", "Log 2 is lost as well, and with it the last copy of what batch 1 does to n–z. An acknowledged batch is gone, in part.");
-      it.fetch("g1-1-2");
+      it.read("g1-1-2");
       it.says("Nobody can answer", "Storage n–z asks, and nobody is there. The promise is kept while fewer than k logs of a generation are lost; k says how much loss one pays for.");
       it.do("b");
       it.quiet();

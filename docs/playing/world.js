@@ -258,7 +258,7 @@ class World {
     this.tell("lost", { node });
   }
   /** A storage server asks a log: for records, for the mark, or to let its records go. */
-  fetch(server, log, word) {
+  askLog(server, log, word) {
     const { tag, version, floor, state } = server.machine, { epoch } = log;
     if (word === "pop" && !state.gens.some((it) => it.epoch === epoch)) throw new Unfit(`${server.label} has no generation ${epochOf(epoch)}`);
     const ask = { peek: { peek: { after: version, epoch, most: MOST_PEEKED, tag } }, mark: { mark_asked: { epoch } }, pop: { pop: { epoch, tag, through: floor } } };
