@@ -53,8 +53,7 @@ class Page {
 
   /** Takes a list of choices from the start; what cannot be made ends it, and is said. */
   replay(choices) {
-    this.world = new World();
-    [this.choices, this.story] = [[], []];
+    this.anew();
     for (const it of choices) {
       try {
         this.enter(it);
@@ -65,6 +64,10 @@ class Page {
       }
     }
     this.show(0);
+  }
+  anew() {
+    this.world = new World();
+    [this.choices, this.story] = [[], []];
   }
   enter(choice) {
     const news = choose(this.world, choice), sentences = sentencesOf(this.world, news);
