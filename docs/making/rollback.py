@@ -9,10 +9,10 @@ from html import escape
 from making.sources import TOP, read
 
 SOURCE = "examples/audit_numbers_again.json"
-WIDE, HIGH, LEFT, COLUMN = 820, 404, 168, 92
+WIDE, HIGH, LEFT, COLUMN = 820, 408, 176, 118
 TOKEN, TALL = 56, 24
 # where rows stand: what the client is told, two logs of each epoch, the storage server
-ROWS = {"client": 74, (257, 0): 138, (257, 1): 170, (513, 0): 234, (513, 1): 266, "storage": 330}
+ROWS = {"client": 74, (257, 0): 138, (257, 1): 170, (513, 0): 238, (513, 1): 270, "storage": 334}
 COLOURS = {"1": ("#1d5fd0", "#7fb0ff"), "2": ("#b4480a", "#ffab70"), "3": ("#6b3fc4", "#c0a2ff")}
 STYLE = """
 text{font:14px system-ui,-apple-system,"Segoe UI","DejaVu Sans",sans-serif;fill:var(--ink)}
@@ -33,9 +33,10 @@ class Film:
     """Beats, each with its seconds and words, and things with the beats at which they are there."""
 
     def __init__(self):
-        self.beats, self.things = [], []
+        self.beats, self.things, self.under = [], [], []
 
     def beat(self, seconds, words, kind=""):
+        assert len(words) <= 80, f"docs/rollback.svg: no room for {words}"
         self.beats.append((seconds, words, kind))
         return len(self.beats) - 1
 
@@ -123,7 +124,7 @@ class Drawn:
 
     def __init__(self):
         self.film = film = Film()
-        self.start = film.beat(1.8, "A batch is acknowledged once both logs hold it.")
+        self.start = film.beat(1.6, "A batch is acknowledged once both logs hold it.")
         self.still = None
         self.open, self.said = {}, {}
         for place, row in ROWS.items():
@@ -136,8 +137,8 @@ class Drawn:
     def batch(self, number, batch):
         ((_, it),) = batch[0].items()
         words = f"set {bytes.fromhex(it['key']).decode()} to {int(it['value'], 16)}"
-        beat = self.film.beat(1.3, f"Batch {number}: {words}.")
-        x = LEFT + 18 + 212 * (number - 1)
+        beat = self.film.beat(0.9, f"Batch {number}: {words}.")
+        x = LEFT + 4 + 206 * (number - 1)
         self.film.thing(at(x, ROWS["client"], token(number)), beat)
         self.said[number] = (x + TOKEN + 8, beat)
         # (until it is acknowledged; one that never is stays so)
@@ -150,24 +151,24 @@ class Drawn:
     def held(self, number, what):
         version, place, count = what
         mark = f"The new epoch begins with a mark, at version {version}."
-        words = mark if number is None else f"Log {place[1]} holds batch {number}" + (": both do." if count == 2 else ".")
-        beat = self.film.beat(0.9 if count == 2 or number is None else 1.1, words)
+        words = mark if number is None else f"Log {place[1]} holds batch {number}" + (": now both logs do." if count == 2 else ".")
+        beat = self.film.beat(0.8, words)
         x, y = column(version), ROWS[place]
         start = (0, -26) if number is None else (self.said[number][0] - TOKEN - 8 - x, ROWS["client"] - y)
         self.film.thing(at(x, y, token(number)), beat, start=start)
 
     def acknowledged(self, number, _):
-        beat = self.film.beat(1.5, f"Both logs hold batch {number}: its client is told.", "good")
+        beat = self.film.beat(1.4, f"Both logs hold batch {number}: its client is told.", "good")
         shown, since, _, start, end = self.film.things[self.open[number]]
         self.film.things[self.open[number]] = (shown, since, beat, start, end)
         self.film.thing(self.words(number, "✓ acknowledged", "good name"), beat)
 
     def applied(self, found, after):
         open_too = [number for version, number in found if version > after["floor"]]
-        words = f"The storage server applies {' and '.join(f'batch {number}' for _, number in found)}"
         is_ahead = open_too and self.still is None
-        words += f": {open_too[-1]} on one log only, so it keeps an undo row." if is_ahead else "."
-        beat = self.film.beat(2.2 if is_ahead else 1.6, words)
+        words = f"The storage server applies {'both' if len(found) == 2 else f'batch {found[0][1]}'}"
+        words += f". Log 1 lacks batch {open_too[-1]}, so an undo row is kept." if is_ahead else "."
+        beat = self.film.beat(2.4 if is_ahead else 1.5, words)
         for version, number in found:
             is_open = version > after["floor"]
             index = len(self.film.things)
@@ -182,24 +183,25 @@ class Drawn:
             shown, since, _, start, end = self.film.things[index]
             self.film.things[index] = (shown, since, beat, start, end)
         self.open["rows"] = len(self.film.things)
-        text = f'<text class="said" x="{WIDE - 132}" y="{ROWS["storage"] + 18}">{escape(rows_text(after))}</text>'
+        text = f'<text class="said" x="{WIDE - 32}" y="{ROWS["storage"] + 18}" text-anchor="end">{escape(rows_text(after))}</text>'
         self.film.thing(text, beat)
 
     def recovery(self, *_):
-        self.film.beat(1.6, "The sequencer fails. A recovery begins, and locks the logs.")
+        self.film.beat(1.5, "The sequencer fails. A recovery begins, and locks the logs.")
 
     def locked(self, _, what):
         place, durable = what
         beat = self.film.beat(2.4, f"Log {place[1]} replies: it holds through version {durable}. More was never acknowledged.")
         lock = '<path class="lock" d="M0 7h12v9h-12zM3 7v-3a3 3 0 0 1 6 0v3"/>'
-        self.film.thing(at(LEFT - 40, ROWS[place] + 3, lock), beat)
+        self.film.thing(at(LEFT - 22, ROWS[place] + 3, lock), beat)
         x = column(durable) + TOKEN + (COLUMN - TOKEN) / 2
         cut = f'<path class="cut" d="M{x:g} {ROWS[257, 0] - 8}V{ROWS[257, 1] + TALL + 8}"/>'
         hatch = f'<rect x="{x:g}" y="{ROWS[257, 0] - 5}" width="{COLUMN}" height="66" fill="url(#hatch)"/>'
-        self.film.thing(hatch + cut, beat)
+        self.film.under.append((hatch, beat, None, (0, 0), (0, 0, 0)))
+        self.film.thing(cut, beat)
 
     def seeded(self, found, place):
-        beat = self.film.beat(0.9, "Epoch 2 takes over through version 2: that is copied.")
+        beat = self.film.beat(0.8, "Epoch 2 takes over through version 2: that is copied.")
         for version, number in found:
             start = (0, ROWS[257, 1] - ROWS[place])
             self.film.thing(at(column(version), ROWS[place], token(number)), beat, start=start)
@@ -248,8 +250,9 @@ def keyframes(name, spans, total, start, end, fade=0.35):
             points += [(since, f"opacity:0;{place(*start)}"), (since + 0.12, f"opacity:1;{place(*start)}" if any(start) else here)]
         points += [(since + (0.12 + fade * 1.4 if comes else 0), here), (until, here)]
         if goes:
-            slow = 1.3 if any(end) else fade
-            points += [(until + slow, f"opacity:0;{place(*end)}"), (until + slow + 0.01, "opacity:0")]
+            # (words, which have no end, make room at once)
+            slow = 0.05 if end is None else 1.3 if any(end) else fade
+            points += [(until + slow, f"opacity:0;{place(*(end or (0, 0)))}"), (until + slow + 0.01, "opacity:0")]
     if points[0][0] > 0:
         points.insert(0, (0, "opacity:0"))
     said = "".join(f"{100 * min(when, total) / total:.2f}%{{{how}}}" for when, how in points if when <= total + 0.001)
@@ -267,8 +270,8 @@ def rollback():
         clock += seconds
     total = clock
     css, shown = [], []
-    words = [(said(text, kind), at_beat, at_beat + 1, (0, 0), (0, 0, 0)) for at_beat, (_, text, kind) in enumerate(film.beats)]
-    for number, (what, since, until, start, end) in enumerate(film.things + words):
+    words = [(said(text, kind), at_beat, at_beat + 1, (0, 0), None) for at_beat, (_, text, kind) in enumerate(film.beats)]
+    for number, (what, since, until, start, end) in enumerate(film.under + film.things + words):
         is_still = since <= drawn.still and (until is None or until > drawn.still)
         begin, stop = starts[since], starts[until] if until is not None and until < len(starts) else total
         spans = [(0, hold - 0.3, False, True)] if is_still else []
